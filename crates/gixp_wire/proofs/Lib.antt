@@ -1,0 +1,7 @@
+mod FrameLemmas
+mod WindowLemmas
+mod PacketLemmas
+mod AdvanceLemmas
+mod GrammarLemmas
+mod ItemLemmas
+mod RunLemmas

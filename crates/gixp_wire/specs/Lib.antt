@@ -1,1 +1,11 @@
 pub mod ObjectId
+pub mod FrameKind
+pub mod Frames
+pub mod Grammar
+pub mod Pieces
+pub mod Items
+pub mod Lines
+pub mod Reading
+pub mod Window
+pub mod Packets
+pub mod LineReader

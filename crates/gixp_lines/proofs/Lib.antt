@@ -1,0 +1,4 @@
+mod CutLemmas
+mod AnswerLemmas
+mod RunLemmas
+mod RefsLemmas

@@ -1,0 +1,136 @@
+-- Refs of lines that come one at a time.
+use Rattle.std.proofs.Common.{◌≡◌, ℕ, ◌⊎◌, inl, inr, List, [], ◌∷◌, ◌++◌, map, refl, sym, ap, subst, ◌∙◌, Option, Some, None, IfSome, Result, Ok, Err, append-nil, append_assoc}
+use Rattle.std.proofs.lemmas.List.{map-append}
+use Rattle.gixp_wire.specs.Pieces.{Refusal, Pieces}
+use Rattle.gixp_wire.specs.Lines.{Ending, stop, refusal, Lines, before, lines_to}
+use Rattle.gixp_wire.specs.Reading.{Reading, TakesLine, AtStop, Fails, refusal_of, lines_ahead}
+use Rattle.gixp_wire.specs.declared.read.Error.{Error as ReadError}
+use Rattle.gixp_lines.specs.declared.handshake.Ref.{Ref}
+use Rattle.gixp_lines.specs.declared.handshake.refs.parse.Error.{Error}
+use Rattle.gixp_lines.specs.declared.handshake.refs.parse.Error.TheVariants.{Memory}
+use Rattle.gixp_lines.specs.Ref.{RefValue, ref_value}
+use Rattle.gixp_lines.specs.RefLine.{RefsRefusal, refusal_from, v2_line}
+use Rattle.gixp_lines.specs.ParseError.{Answers, IsRefusal, parse_refusal}
+use Rattle.gixp_lines.specs.Runs.{SoFar}
+use Rattle.gixp_lines.specs.Refs.{with_ref, refs_from, v2_refs, AreRefs, ReadsRefs, LineRefused, ReaderRefused, RefsFail, RefsSoFar}
+use Rattle.gixp_lines.proofs.RunLemmas.{so_far-start, so_far-line, so_far-at_stop, so_far-refuses}
+
+-- these values in front of those of the rest
+abbrev behind : List RefValue → Result (List RefValue) RefsRefusal → Result (List RefValue) RefsRefusal
+behind vs (Ok ws) = Ok (vs ++ ws)
+behind vs (Err e) = Err e
+
+with_ref-behind : (v : RefValue) (vs : List RefValue) (r : Result (List RefValue) RefsRefusal) → with_ref (Ok v) (behind vs r) ≡ behind (v ∷ vs) r
+with_ref-behind v vs (Ok ws) = refl
+with_ref-behind v vs (Err e) = refl
+
+none_behind : (r : Result (List RefValue) RefsRefusal) → r ≡ behind [] r
+none_behind (Ok ws) = refl
+none_behind (Err e) = refl
+
+-- lines that stand for values go first
+refs_behind : (ts rest : List (List ℕ)) (vs : List RefValue) (ending : Ending) → AreRefs ts vs → refs_from (ts ++ rest) ending ≡ behind vs (refs_from rest ending)
+refs_behind [] rest [] ending h = none_behind (refs_from rest ending)
+refs_behind [] rest (v ∷ vs) ending h = absurd h
+refs_behind (t ∷ ts) rest [] ending h = absurd h
+refs_behind (t ∷ ts) rest (v ∷ vs) ending h =
+    let one : v2_line t ≡ Ok v = h.0 in
+    rw (one, refs_behind ts rest vs ending h.1) (with_ref-behind v vs (refs_from rest ending))
+
+AreRefs-push : (ts : List (List ℕ)) (vs : List RefValue) (t : List ℕ) (v : RefValue) → AreRefs ts vs → v2_line t ≡ Ok v → AreRefs (ts ++ t ∷ []) (vs ++ v ∷ [])
+AreRefs-push [] [] t v h e = (e, tt)
+AreRefs-push [] (w ∷ vs) t v h e = absurd h
+AreRefs-push (s ∷ ts) [] t v h e = absurd h
+AreRefs-push (s ∷ ts) (w ∷ vs) t v h e = (h.0, AreRefs-push ts vs t v h.1 e)
+
+-- lines that stand for values, and then an ending
+refs_all : (texts : List (List ℕ)) (vs : List RefValue) (ending : Ending) → AreRefs texts vs → v2_refs (lines_to texts ending) ≡ behind vs (refs_from [] ending)
+refs_all texts vs ending h = ap (λ l. refs_from l ending) (sym (append-nil texts)) ∙ refs_behind texts [] vs ending h
+
+all_known : (r : Reading) (o n : Option Pieces) (texts : List (List ℕ)) (vs : List RefValue) (kind : _) → AreRefs texts vs
+    → IfSome o (λ p. (q : Pieces) × (n ≡ Some q) × (lines_ahead r p ≡ lines_to texts (stop kind q))) → IfSome o (λ p. v2_refs (lines_ahead r p) ≡ Ok vs)
+all_known r None n texts vs kind h k = tt
+all_known r (Some p) n texts vs kind h k = ap v2_refs k.2 ∙ refs_all texts vs (stop kind k.0) h ∙ ap Ok (append-nil vs)
+
+-- before the first call there are none
+pub refs-start : (r : Reading) → RefsSoFar r r []
+refs-start r = record { texts = []; read = so_far-start r; refs = tt }
+
+-- at the stop these are all
+pub refs-stop : (old mid new : Reading) (refs : List Ref) → RefsSoFar old mid (map ref_value refs) → AtStop mid new → ReadsRefs old new refs
+refs-stop old mid new refs h k =
+    let all = so_far-at_stop old mid new h.texts h.read k in
+    record {
+      kind = all.kind;
+      texts = h.texts;
+      lines = all.lines;
+      value = all_known old old.to_come new.to_come h.texts (map ref_value refs) all.kind h.refs all.lines;
+      stopped = all.stopped;
+      version = all.version;
+      failures = all.failures;
+    }
+
+line_refused : (r s : Reading) (o n : Option Pieces) (texts : List (List ℕ)) (t : List ℕ) (vs : List RefValue) (e : RefsRefusal) → AreRefs texts vs → v2_line t ≡ Err e
+    → IfSome o (λ p. (q : Pieces) × (n ≡ Some q) × (lines_ahead r p ≡ before (texts ++ t ∷ []) (lines_ahead s q)))
+    → IfSome o (λ p. v2_refs (lines_ahead r p) ≡ Err e)
+line_refused r s None n texts t vs e h is a = tt
+line_refused r s (Some p) n texts t vs e h is a =
+    let rest = lines_ahead s a.0 in
+    ap v2_refs a.2 ∙ ap (λ l. refs_from l rest.ending) (append_assoc texts (t ∷ []) rest.lines)
+    ∙ refs_behind texts (t ∷ rest.lines) vs rest.ending h ∙ (rw is refl)
+
+-- a line that is refused is the first refusal
+pub refs-refused : (old mid new : Reading) (vs : List RefValue) (e : Error) (o : Result RefValue RefsRefusal) → RefsSoFar old mid vs → TakesLine mid new
+    → v2_line new.line ≡ o → Answers ref_value o (Err e) → RefsFail old new e
+refs-refused old mid new vs e (Ok v) h k is a =
+    inr (inr (inr (record { texts = h.texts ++ new.line ∷ []; read = so_far-line old mid new h.texts h.read k; error = a })))
+refs-refused old mid new vs e (Err r) h k is a =
+    let read = so_far-line old mid new h.texts h.read k in
+    inl (record {
+      texts = h.texts;
+      text = new.line;
+      read = read;
+      refusal = r;
+      line = is;
+      first = line_refused old new old.to_come new.to_come h.texts new.line vs r h.refs is read.next;
+      error = a;
+    })
+
+reader_known : (r : Reading) (o : Option Pieces) (texts : List (List ℕ)) (vs : List RefValue) (e : Refusal) → AreRefs texts vs
+    → IfSome o (λ p. lines_ahead r p ≡ lines_to texts (refusal e)) → IfSome o (λ p. v2_refs (lines_ahead r p) ≡ Err (refusal_from e))
+reader_known r None texts vs e h a = tt
+reader_known r (Some p) texts vs e h a = ap v2_refs a ∙ refs_all texts vs (refusal e) h
+
+-- the reader's refusal is the first, or something came from outside
+pub refs-reader : (old mid new : Reading) (vs : List RefValue) (r : ReadError) (e : Error) → RefsSoFar old mid vs → Fails mid new (refusal_of r)
+    → parse_refusal e ≡ refusal_from (refusal_of r) → RefsFail old new e
+refs-reader old mid new vs r e h (inl k) is =
+    inr (inl (record {
+      refusal = refusal_of r;
+      first = reader_known old old.to_come h.texts vs (refusal_of r) h.refs (so_far-refuses old mid new h.texts (refusal_of r) h.read k);
+      refused = k.refused;
+      error = is;
+    }))
+refs-reader old mid new vs r e h (inr k) is =
+    inr (inr (inl (record { texts = h.texts; now = mid; read = h.read; refusal = refusal_of r; failed = k; error = is })))
+
+map_push : (refs more : List Ref) (r : Ref) → more ≡ refs ++ r ∷ [] → map ref_value more ≡ map ref_value refs ++ ref_value r ∷ []
+map_push refs more r e = rw e (map-append ref_value refs (r ∷ []))
+
+-- one more ref
+pub refs-pushed : (old mid new : Reading) (refs more : List Ref) (r : Ref) (o : Result RefValue RefsRefusal) → RefsSoFar old mid (map ref_value refs) → TakesLine mid new
+    → v2_line new.line ≡ o → Answers ref_value o (Ok r) → more ≡ refs ++ r ∷ [] → RefsSoFar old new (map ref_value more)
+refs-pushed old mid new refs more r (Ok v) h k is a e =
+    let same : v2_line new.line ≡ Ok (ref_value r) = is ∙ ap Ok (sym a) in
+    subst (RefsSoFar old new) (sym (map_push refs more r e))
+    (record {
+      texts = h.texts ++ new.line ∷ [];
+      read = so_far-line old mid new h.texts h.read k;
+      refs = AreRefs-push h.texts (map ref_value refs) new.line (ref_value r) h.refs same;
+    })
+refs-pushed old mid new refs more r (Err x) h k is a e = absurd a
+
+-- memory ran out behind a line
+pub refs-memory : (old mid new : Reading) (vs : List RefValue) → RefsSoFar old mid vs → TakesLine mid new → RefsFail old new Memory
+refs-memory old mid new vs h k =
+    inr (inr (inr (record { texts = h.texts ++ new.line ∷ []; read = so_far-line old mid new h.texts h.read k; error = refl })))

@@ -1,0 +1,44 @@
+-- What the readers of refs answer.
+use Rattle.std.specs.Prelude.{◌≡◌, ℕ, ⊤, List, Option, Result, Ok, Err}
+use Rattle.std.specs.Option.{option_map, option_copied}
+use Rattle.bstr.specs.Owned.{bstring_bytes}
+use Rattle.gixp_wire.specs.declared.object_id.ObjectId.{ObjectId}
+use Rattle.gixp_wire.specs.Reading.{refusal_of}
+use Rattle.gixp_lines.specs.declared.handshake.refs.line.Attributes.{Attributes}
+use Rattle.gixp_lines.specs.declared.handshake.refs.parse.Error.{Error}
+use Rattle.gixp_lines.specs.declared.handshake.refs.parse.Error.TheVariants.{Io, DecodePacketline, Id, MalformedSymref, MalformedV1RefLine, MalformedV2RefLine, UnknownAttribute, InvariantViolation, UploadPack, Reader, Memory}
+use Rattle.gixp_lines.specs.RefLine.{RefsRefusal, io_failed, bad_frame, bad_id, malformed_symref, malformed_v1, malformed_v2, unknown_attribute, invariant, upload_pack, by_reader, no_memory, AttributeValues}
+
+-- the refusal that an error is
+abbrev pub parse_refusal : Error → RefsRefusal
+parse_refusal (Io kind) = io_failed kind
+parse_refusal (DecodePacketline e) = bad_frame e
+parse_refusal (Id e) = bad_id e
+parse_refusal (MalformedSymref symref) = malformed_symref (bstring_bytes symref)
+parse_refusal (MalformedV1RefLine line) = malformed_v1 (bstring_bytes line)
+parse_refusal (MalformedV2RefLine line) = malformed_v2 (bstring_bytes line)
+parse_refusal (UnknownAttribute attribute line) = unknown_attribute (bstring_bytes attribute) (bstring_bytes line)
+parse_refusal (InvariantViolation message) = invariant message.now
+parse_refusal (UploadPack message) = upload_pack (bstring_bytes message)
+parse_refusal (Reader e) = by_reader (refusal_of e)
+parse_refusal Memory = no_memory
+
+-- the bytes of an id, where there is one
+abbrev pub object_of : Option ObjectId → Option (List ℕ)
+object_of o = option_map (λ (id : ObjectId). id.bytes) o
+
+-- what the attributes of a line say
+abbrev pub attribute_values : Attributes → AttributeValues
+attribute_values a = record { target = option_copied a.symref_target; peeled = object_of a.peeled }
+
+-- a refusal is that of the definition, unless memory ran out
+abbrev pub IsRefusal : Error → RefsRefusal → Type 0
+IsRefusal Memory r = ⊤
+IsRefusal e r = parse_refusal e ≡ r
+
+-- the value that the definition has, or its refusal; but for memory
+abbrev pub Answers : {A B : Type 0} → (A → B) → Result B RefsRefusal → Result A Error → Type 0
+Answers view (Ok value) (Ok x) = view x ≡ value
+Answers view (Ok value) (Err e) = e ≡ Memory
+Answers view (Err refusal) (Ok x) = ⊥
+Answers view (Err refusal) (Err e) = IsRefusal e refusal

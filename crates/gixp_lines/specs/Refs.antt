@@ -1,0 +1,87 @@
+-- The refs of an `ls-refs` answer, and what their reader does (gitprotocol-v2, "ls-refs").
+use Rattle.std.specs.Prelude.{◌≡◌, ℕ, ◌⊎◌, ⊤, Some, IfSome, List, [], ◌∷◌, ◌++◌, map, Result, Ok, Err}
+use Rattle.gixp_wire.specs.declared.protocol.MessageKind.{MessageKind}
+use Rattle.gixp_wire.specs.Pieces.{Refusal, Pieces}
+use Rattle.gixp_wire.specs.Lines.{Ending, stop, refusal, Lines, lines_to}
+use Rattle.gixp_wire.specs.Reading.{Reading, IsOutside, lines_ahead}
+use Rattle.gixp_lines.specs.declared.handshake.Ref.{Ref}
+use Rattle.gixp_lines.specs.declared.handshake.refs.parse.Error.{Error}
+use Rattle.gixp_lines.specs.declared.handshake.refs.parse.Error.TheVariants.{Memory}
+use Rattle.gixp_lines.specs.Ref.{RefValue, ref_value}
+use Rattle.gixp_lines.specs.RefLine.{RefsRefusal, refusal_from, v2_line}
+use Rattle.gixp_lines.specs.ParseError.{parse_refusal, IsRefusal}
+use Rattle.gixp_lines.specs.Runs.{SoFar}
+
+-- a line's value in front of the others, or its refusal before theirs
+abbrev pub with_ref : Result RefValue RefsRefusal → Result (List RefValue) RefsRefusal → Result (List RefValue) RefsRefusal
+with_ref (Err e) rest = Err e
+with_ref (Ok v) (Ok vs) = Ok (v ∷ vs)
+with_ref (Ok v) (Err e) = Err e
+
+abbrev pub refs_from : List (List ℕ) → Ending → Result (List RefValue) RefsRefusal
+refs_from [] (stop kind rest) = Ok []
+refs_from [] (refusal e) = Err (refusal_from e)
+refs_from (text ∷ texts) ending = with_ref (v2_line text) (refs_from texts ending)
+
+-- the values of the lines up to a stop, or the first refusal
+abbrev pub v2_refs : Lines → Result (List RefValue) RefsRefusal
+v2_refs l = refs_from l.lines l.ending
+
+-- each line stands for its value
+abbrev pub AreRefs : List (List ℕ) → List RefValue → Type 0
+AreRefs [] [] = ⊤
+AreRefs [] (v ∷ vs) = ⊥
+AreRefs (t ∷ ts) [] = ⊥
+AreRefs (t ∷ ts) (v ∷ vs) = (v2_line t ≡ Ok v) × AreRefs ts vs
+
+-- the lines to come up to a stop, each a ref, and the reader is at that stop
+pub record ReadsRefs (old new : Reading) (refs : List Ref) : Type 0 where
+  pub kind : MessageKind
+  pub texts : List (List ℕ)
+  pub lines : IfSome old.to_come (λ p. (q : Pieces) × (new.to_come ≡ Some q) × (lines_ahead old p ≡ lines_to texts (stop kind q)))
+  pub value : IfSome old.to_come (λ p. v2_refs (lines_ahead old p) ≡ Ok (map ref_value refs))
+  pub stopped : new.stopped ≡ Some kind
+  pub version : new.version ≡ old.version
+  pub failures : new.failures ≡ old.failures
+
+-- the first refusal was a line's, and it and the lines before it are taken
+pub record LineRefused (old new : Reading) (e : Error) : Type 0 where
+  pub texts : List (List ℕ)
+  pub text : List ℕ
+  pub read : SoFar old new (texts ++ text ∷ [])
+  pub refusal : RefsRefusal
+  pub line : v2_line text ≡ Err refusal
+  pub first : IfSome old.to_come (λ p. v2_refs (lines_ahead old p) ≡ Err refusal)
+  pub error : IsRefusal e refusal
+
+-- the first refusal was the reader's, which it answers from then on
+pub record ReaderRefused (old new : Reading) (e : Error) : Type 0 where
+  pub refusal : Refusal
+  pub first : IfSome old.to_come (λ p. v2_refs (lines_ahead old p) ≡ Err (refusal_from refusal))
+  pub refused : new.refused ≡ Some refusal
+  pub error : parse_refusal e ≡ refusal_from refusal
+
+-- something came from outside behind some lines: a device that failed, an interrupt, or want of memory
+pub record ReaderFailed (old new : Reading) (e : Error) : Type 0 where
+  pub texts : List (List ℕ)
+  pub now : Reading
+  pub read : SoFar old now texts
+  pub refusal : Refusal
+  pub failed : IsOutside now new refusal
+  pub error : parse_refusal e ≡ refusal_from refusal
+
+-- there was no memory for a ref of the lines taken
+pub record NoMemory (old new : Reading) (e : Error) : Type 0 where
+  pub texts : List (List ℕ)
+  pub read : SoFar old new texts
+  pub error : e ≡ Memory
+
+-- the first refusal of the lines to come, or something from outside
+abbrev pub RefsFail : Reading → Reading → Error → Type 0
+RefsFail old new e = LineRefused old new e ⊎ ReaderRefused old new e ⊎ ReaderFailed old new e ⊎ NoMemory old new e
+
+-- these refs were read so far
+pub record RefsSoFar (old now : Reading) (values : List RefValue) : Type 0 where
+  pub texts : List (List ℕ)
+  pub read : SoFar old now texts
+  pub refs : AreRefs texts values

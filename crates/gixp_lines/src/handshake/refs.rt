@@ -1,0 +1,45 @@
+//! The refs of a server's answer.
+ghost use Rattle.std.specs.Prelude.{◌≡◌, MatchResult};
+ghost use Rattle.gixp_lines.specs.Refs.{ReadsRefs, RefsFail};
+
+use crate::handshake::Ref;
+use gixp_wire::ExtendedBufRead;
+use std::alloc::Global;
+
+mod line;
+pub mod parse;
+
+/// The refs of an `ls-refs` answer: of the lines up to the stop, in their order (gitprotocol-v2,
+/// "ls-refs").
+///
+/// The reader is then at the stop. A reader that is at one already gives no refs.
+///
+/// # Errors
+///
+/// The first refusal, of a line or of the reader behind the lines, with what [`parse::Error`] says
+/// of it. Beside one no ref is given.
+pub fn from_v2_refs<R: ExtendedBufRead>(
+    alloc: Global,
+    in_refs: &mut R,
+) -> Result<Vec<Ref>, parse::Error>
+    ensures { MatchResult result
+        (λ refs. ReadsRefs (R.reading in_refs.old) (R.reading in_refs.new) refs.items)
+        (RefsFail (R.reading in_refs.old) (R.reading in_refs.new)) }
+{
+    let mut refs = Vec::new(alloc);
+    loop {
+        match in_refs.next_line() {
+            Ok(true) => {}
+            Ok(false) => return Ok(refs),
+            Err(e) => return Err(parse::Error::from(e)),
+        }
+        match line::parse_v2(alloc, in_refs.line()) {
+            Ok(found) => {
+                if refs.push(found).is_err() {
+                    return Err(parse::Error::Memory);
+                }
+            }
+            Err(e) => return Err(e),
+        }
+    }
+}

@@ -1,0 +1,5 @@
+//! The lines of git's fetch protocol: from lines to values, and back.
+#![tactic(auto)]
+
+mod cut;
+pub mod handshake;

@@ -1,0 +1,25 @@
+//! Laws of the definitions, each a function without a body whose contract is the law.
+ghost use Rattle.std.specs.Prelude.{◌≡◌, ℕ, List};
+ghost use Rattle.gixp_wire.specs.Frames.{Frame, End, frames_of};
+ghost use Rattle.gixp_wire.specs.Grammar.{AreFrames};
+ghost use Rattle.gixp_wire.specs.Pieces.{Pieces};
+ghost use Rattle.gixp_wire.specs.Items.{plain, items_of, first_lines};
+ghost use Rattle.gixp_wire.specs.Lines.{lines_of, as_first};
+ghost use Rattle.gixp_wire.specs.declared.protocol.Protocol.{Protocol};
+
+/// The frames of some bytes are those of the grammar.
+pub fn frames_are_grammar()
+    ensures { (bytes : List ℕ) → AreFrames bytes (frames_of bytes).list (frames_of bytes).end }
+{}
+
+/// No other frames are, so that it doesn't matter how a list of frames was found.
+pub fn no_other_frames_are()
+    ensures { (bytes : List ℕ) (frames : List Frame) (end : End) → AreFrames bytes frames end → frames_of bytes ≡ record { list = frames; end = end } }
+{
+}
+
+/// The lines that a reader gives next are those among the stream's items before their first stop.
+pub fn lines_are_of_items()
+    ensures { (version : Protocol) (ps : Pieces) → as_first version (lines_of version ps) ≡ first_lines (items_of version plain ps) }
+{
+}
