@@ -14,7 +14,7 @@ use Rattle.gixp_lines.specs.declared.handshake.refs.line.Attributes.{Attributes}
 -- memory may run out at any step
 pub memory_answers : {A B : Type 0} (view : A → B) (o : Result B RefsRefusal) (e : Error) → e ≡ Memory → Answers view o (Err e)
 memory_answers view (Ok x) e h = h
-memory_answers view (Err r) e h = subst (λ k. IsRefusal k r) (sym h) tt
+memory_answers view (Err r) e h = subst (λ k. IsRefusal k r) (sym h) (λ n. cc)
 
 pub refusal_answers : {A B : Type 0} (view : A → B) (o : Result B RefsRefusal) (r : RefsRefusal) (e : Error) → o ≡ Err r → IsRefusal e r → Answers view o (Err e)
 refusal_answers view o r e h k = subst (λ x. Answers view x (Err e)) (sym h) k

@@ -1,9 +1,9 @@
 -- Refs of lines that come one at a time.
-use Rattle.std.proofs.Common.{◌≡◌, ℕ, ◌⊎◌, inl, inr, List, [], ◌∷◌, ◌++◌, map, refl, sym, ap, subst, ◌∙◌, Option, Some, None, IfSome, Result, Ok, Err, append-nil, append_assoc}
+use Rattle.std.proofs.Common.{◌≡◌, ℕ, ◌⊎◌, inl, inr, Bool, true, List, [], ◌∷◌, ◌++◌, map, refl, sym, ap, subst, ◌∙◌, Option, Some, None, IfSome, Result, Ok, Err, append-nil, append_assoc}
 use Rattle.std.proofs.lemmas.List.{map-append}
 use Rattle.gixp_wire.specs.Pieces.{Refusal, Pieces}
 use Rattle.gixp_wire.specs.Lines.{Ending, stop, refusal, Lines, before, lines_to}
-use Rattle.gixp_wire.specs.Reading.{Reading, TakesLine, AtStop, Fails, refusal_of, lines_ahead}
+use Rattle.gixp_wire.specs.Reading.{Reading, TakesLine, AtStop, Fails, IsPlain, refusal_of, lines_ahead}
 use Rattle.gixp_wire.specs.declared.read.Error.{Error as ReadError}
 use Rattle.gixp_lines.specs.declared.handshake.Ref.{Ref}
 use Rattle.gixp_lines.specs.declared.handshake.refs.parse.Error.{Error}
@@ -80,11 +80,11 @@ line_refused r s (Some p) n texts t vs e h is a =
     ∙ refs_behind texts (t ∷ rest.lines) vs rest.ending h ∙ (rw is refl)
 
 -- a line that is refused is the first refusal
-pub refs-refused : (old mid new : Reading) (vs : List RefValue) (e : Error) (o : Result RefValue RefsRefusal) → RefsSoFar old mid vs → TakesLine mid new
-    → v2_line new.line ≡ o → Answers ref_value o (Err e) → RefsFail old new e
-refs-refused old mid new vs e (Ok v) h k is a =
+pub refs-refused : (plain : Bool) (old mid new : Reading) (vs : List RefValue) (e : Error) (o : Result RefValue RefsRefusal) → RefsSoFar old mid vs → TakesLine mid new
+    → v2_line new.line ≡ o → Answers ref_value o (Err e) → RefsFail plain old new e
+refs-refused plain old mid new vs e (Ok v) h k is a =
     inr (inr (inr (record { texts = h.texts ++ new.line ∷ []; read = so_far-line old mid new h.texts h.read k; error = a })))
-refs-refused old mid new vs e (Err r) h k is a =
+refs-refused plain old mid new vs e (Err r) h k is a =
     let read = so_far-line old mid new h.texts h.read k in
     inl (record {
       texts = h.texts;
@@ -102,17 +102,17 @@ reader_known r None texts vs e h a = tt
 reader_known r (Some p) texts vs e h a = ap v2_refs a ∙ refs_all texts vs (refusal e) h
 
 -- the reader's refusal is the first, or something came from outside
-pub refs-reader : (old mid new : Reading) (vs : List RefValue) (r : ReadError) (e : Error) → RefsSoFar old mid vs → Fails mid new (refusal_of r)
-    → parse_refusal e ≡ refusal_from (refusal_of r) → RefsFail old new e
-refs-reader old mid new vs r e h (inl k) is =
+pub refs-reader : (plain : Bool) (old mid new : Reading) (vs : List RefValue) (r : ReadError) (e : Error) → RefsSoFar old mid vs → Fails mid new (refusal_of r)
+    → (plain ≡ true → IsPlain new (refusal_of r)) → parse_refusal e ≡ refusal_from (refusal_of r) → RefsFail plain old new e
+refs-reader plain old mid new vs r e h (inl k) p is =
     inr (inl (record {
       refusal = refusal_of r;
       first = reader_known old old.to_come h.texts vs (refusal_of r) h.refs (so_far-refuses old mid new h.texts (refusal_of r) h.read k);
       refused = k.refused;
       error = is;
     }))
-refs-reader old mid new vs r e h (inr k) is =
-    inr (inr (inl (record { texts = h.texts; now = mid; read = h.read; refusal = refusal_of r; failed = k; error = is })))
+refs-reader plain old mid new vs r e h (inr k) p is =
+    inr (inr (inl (record { texts = h.texts; now = mid; read = h.read; refusal = refusal_of r; failed = k; is_plain = p; error = is })))
 
 map_push : (refs more : List Ref) (r : Ref) → more ≡ refs ++ r ∷ [] → map ref_value more ≡ map ref_value refs ++ ref_value r ∷ []
 map_push refs more r e = rw e (map-append ref_value refs (r ∷ []))
@@ -131,6 +131,6 @@ refs-pushed old mid new refs more r (Ok v) h k is a e =
 refs-pushed old mid new refs more r (Err x) h k is a e = absurd a
 
 -- memory ran out behind a line
-pub refs-memory : (old mid new : Reading) (vs : List RefValue) → RefsSoFar old mid vs → TakesLine mid new → RefsFail old new Memory
-refs-memory old mid new vs h k =
+pub refs-memory : (plain : Bool) (old mid new : Reading) (vs : List RefValue) → RefsSoFar old mid vs → TakesLine mid new → RefsFail plain old new Memory
+refs-memory plain old mid new vs h k =
     inr (inr (inr (record { texts = h.texts ++ new.line ∷ []; read = so_far-line old mid new h.texts h.read k; error = refl })))

@@ -1,4 +1,10 @@
+pub use Rattle.gixp_wire.specs.Hex
+pub use Rattle.gixp_wire.specs.Frames
+pub use Rattle.gixp_wire.specs.Items
+pub use Rattle.gixp_wire.specs.Lines
 pub use Rattle.gixp_wire.specs.ObjectId
+pub use Rattle.gixp_wire.specs.Pieces
+pub use Rattle.gixp_wire.specs.Reading
 pub mod Cut
 pub mod Ref
 pub mod RefLine

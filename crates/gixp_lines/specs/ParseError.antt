@@ -1,5 +1,5 @@
 -- What the readers of refs answer.
-use Rattle.std.specs.Prelude.{◌≡◌, ℕ, ⊤, List, Option, Result, Ok, Err}
+use Rattle.std.specs.Prelude.{◌≡◌, ℕ, Bool, true, false, List, Option, Result, Ok, Err}
 use Rattle.std.specs.Option.{option_map, option_copied}
 use Rattle.bstr.specs.Owned.{bstring_bytes}
 use Rattle.gixp_wire.specs.declared.object_id.ObjectId.{ObjectId}
@@ -31,10 +31,24 @@ object_of o = option_map (λ (id : ObjectId). id.bytes) o
 abbrev pub attribute_values : Attributes → AttributeValues
 attribute_values a = record { target = option_copied a.symref_target; peeled = object_of a.peeled }
 
+-- whether it is want of memory
+abbrev pub is_no_memory : RefsRefusal → Bool
+is_no_memory no_memory = true
+is_no_memory _ = false
+
+-- whether it is that of a device that failed, or want of memory
+abbrev pub is_outside : RefsRefusal → Bool
+is_outside (io_failed kind) = true
+is_outside no_memory = true
+is_outside _ = false
+
 -- a refusal is that of the definition, unless memory ran out
 abbrev pub IsRefusal : Error → RefsRefusal → Type 0
-IsRefusal Memory r = ⊤
-IsRefusal e r = parse_refusal e ≡ r
+IsRefusal e r = is_no_memory (parse_refusal e) ≡ false → parse_refusal e ≡ r
+
+-- the error of a device that failed, or of want of memory
+abbrev pub IsFromOutside : Error → Type 0
+IsFromOutside e = is_outside (parse_refusal e) ≡ true
 
 -- the value that the definition has, or its refusal; but for memory
 abbrev pub Answers : {A B : Type 0} → (A → B) → Result B RefsRefusal → Result A Error → Type 0

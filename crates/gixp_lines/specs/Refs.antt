@@ -1,9 +1,10 @@
 -- The refs of an `ls-refs` answer, and what their reader does (gitprotocol-v2, "ls-refs").
-use Rattle.std.specs.Prelude.{◌≡◌, ℕ, ◌⊎◌, ⊤, Some, IfSome, List, [], ◌∷◌, ◌++◌, map, Result, Ok, Err}
+use Rattle.std.specs.Prelude.{◌≡◌, ℕ, ◌⊎◌, ⊤, Bool, true, Some, IfSome, List, [], ◌∷◌, ◌++◌, map, Result, Ok, Err}
 use Rattle.gixp_wire.specs.declared.protocol.MessageKind.{MessageKind}
-use Rattle.gixp_wire.specs.Pieces.{Refusal, Pieces}
-use Rattle.gixp_wire.specs.Lines.{Ending, stop, refusal, Lines, lines_to}
-use Rattle.gixp_wire.specs.Reading.{Reading, IsOutside, lines_ahead}
+use Rattle.gixp_wire.specs.declared.protocol.Protocol.TheVariants.{V2}
+use Rattle.gixp_wire.specs.Pieces.{Refusal, Pieces, stream_pieces}
+use Rattle.gixp_wire.specs.Lines.{Ending, stop, refusal, Lines, lines_of, lines_to}
+use Rattle.gixp_wire.specs.Reading.{Reading, IsOutside, IsPlain, lines_ahead}
 use Rattle.gixp_lines.specs.declared.handshake.Ref.{Ref}
 use Rattle.gixp_lines.specs.declared.handshake.refs.parse.Error.{Error}
 use Rattle.gixp_lines.specs.declared.handshake.refs.parse.Error.TheVariants.{Memory}
@@ -26,6 +27,10 @@ refs_from (text ∷ texts) ending = with_ref (v2_line text) (refs_from texts end
 -- the values of the lines up to a stop, or the first refusal
 abbrev pub v2_refs : Lines → Result (List RefValue) RefsRefusal
 v2_refs l = refs_from l.lines l.ending
+
+-- the refs of a stream under version 2, or its first refusal
+abbrev pub stream_refs : List ℕ → Result (List RefValue) RefsRefusal
+stream_refs bytes = v2_refs (lines_of V2 (stream_pieces bytes))
 
 -- each line stands for its value
 abbrev pub AreRefs : List (List ℕ) → List RefValue → Type 0
@@ -62,12 +67,13 @@ pub record ReaderRefused (old new : Reading) (e : Error) : Type 0 where
   pub error : parse_refusal e ≡ refusal_from refusal
 
 -- something came from outside behind some lines: a device that failed, an interrupt, or want of memory
-pub record ReaderFailed (old new : Reading) (e : Error) : Type 0 where
+pub record ReaderFailed (plain : Bool) (old new : Reading) (e : Error) : Type 0 where
   pub texts : List (List ℕ)
   pub now : Reading
   pub read : SoFar old now texts
   pub refusal : Refusal
   pub failed : IsOutside now new refusal
+  pub is_plain : plain ≡ true → IsPlain new refusal
   pub error : parse_refusal e ≡ refusal_from refusal
 
 -- there was no memory for a ref of the lines taken
@@ -76,9 +82,9 @@ pub record NoMemory (old new : Reading) (e : Error) : Type 0 where
   pub read : SoFar old new texts
   pub error : e ≡ Memory
 
--- the first refusal of the lines to come, or something from outside
-abbrev pub RefsFail : Reading → Reading → Error → Type 0
-RefsFail old new e = LineRefused old new e ⊎ ReaderRefused old new e ⊎ ReaderFailed old new e ⊎ NoMemory old new e
+-- the first refusal of the lines to come, or something from outside, which a plain reader has less of
+abbrev pub RefsFail : Bool → Reading → Reading → Error → Type 0
+RefsFail plain old new e = LineRefused old new e ⊎ ReaderRefused old new e ⊎ ReaderFailed plain old new e ⊎ NoMemory old new e
 
 -- these refs were read so far
 pub record RefsSoFar (old now : Reading) (values : List RefValue) : Type 0 where

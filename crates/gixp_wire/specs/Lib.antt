@@ -1,3 +1,4 @@
+pub use Rattle.hex.specs.Hex
 pub mod ObjectId
 pub mod FrameKind
 pub mod Frames

@@ -24,7 +24,7 @@ pub fn from_v2_refs<R: ExtendedBufRead>(
 ) -> Result<Vec<Ref>, parse::Error>
     ensures { MatchResult result
         (λ refs. ReadsRefs (R.reading in_refs.old) (R.reading in_refs.new) refs.items)
-        (RefsFail (R.reading in_refs.old) (R.reading in_refs.new)) }
+        (RefsFail R.is_plain (R.reading in_refs.old) (R.reading in_refs.new)) }
 {
     let mut refs = Vec::new(alloc);
     loop {

@@ -9,12 +9,12 @@ returns-in-Ok-false g c =
     refs-stop _ _ _ c.loop-refs.refs.items c.loop-refs.invariant k
 
 pub returns-in-Err : goal.returns-in-Err
-returns-in-Err g c = refs-reader _ _ _ _ c.in-Err.e _ c.loop-refs.invariant c.in-Err.ensures.reads c.from.ensures
+returns-in-Err g c = refs-reader _ _ _ _ _ c.in-Err.e _ c.loop-refs.invariant c.in-Err.ensures.reads c.in-Err.ensures.plain c.from.ensures
 
 pub returns-in-Err-parse_v2 : goal.returns-in-Err-parse_v2
 returns-in-Err-parse_v2 g c =
     let k = rw c.in-Ok-true.field-0-test at c.in-Ok-true.ensures.reads in
-    refs-refused _ _ _ _ c.in-Err-parse_v2.e _ c.loop-refs.invariant k (ap v2_line (sym c.line.ensures)) c.in-Err-parse_v2.ensures
+    refs-refused _ _ _ _ _ c.in-Err-parse_v2.e _ c.loop-refs.invariant k (ap v2_line (sym c.line.ensures)) c.in-Err-parse_v2.ensures
 
 pub loop-refs-preserved : goal.loop-refs-preserved
 loop-refs-preserved g c =
@@ -26,4 +26,4 @@ loop-refs-preserved g c =
 pub returns-then-is_err : goal.returns-then-is_err
 returns-then-is_err g c =
     let k = rw c.in-Ok-true.field-0-test at c.in-Ok-true.ensures.reads in
-    refs-memory _ _ _ _ c.loop-refs.invariant k
+    refs-memory _ _ _ _ _ c.loop-refs.invariant k

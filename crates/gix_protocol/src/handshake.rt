@@ -1,0 +1,2 @@
+//! What a server says first.
+pub use gixp_lines::handshake::{Ref, refs};
