@@ -1,3 +1,4 @@
+mod DigitLemmas
 mod FrameLemmas
 mod WindowLemmas
 mod PacketLemmas

@@ -1,5 +1,6 @@
 pub use Rattle.hex.specs.Hex
 pub mod ObjectId
+pub mod Digits
 pub mod FrameKind
 pub mod Frames
 pub mod Grammar

@@ -5,6 +5,7 @@
 #![tactic(auto)]
 
 pub mod decode;
+mod digits;
 mod kind;
 pub mod laws;
 mod line_reader;

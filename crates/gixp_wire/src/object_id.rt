@@ -4,6 +4,7 @@ ghost use Rattle.hex.specs.Hex.{encode_lower};
 ghost use Rattle.gixp_wire.specs.ObjectId.{id_of, IsIdRefusal};
 
 use crate::decode;
+use crate::digits;
 use hex;
 
 /// The name of an object: the 20 bytes of its SHA-1 (gitprotocol-common, "ABNF Notation", `obj-id`).
@@ -22,14 +23,17 @@ impl ObjectId {
     ///
     /// `InvalidLength` where the text doesn't have 40 bytes, else `InvalidDigit` where one of them
     /// is no hexadecimal digit.
-    pub fn from_hex(digits: &[u8]) -> Result<ObjectId, decode::Error>
-        ensures { MatchResult result (λ id. id_of digits.now ≡ Some id.bytes) (IsIdRefusal digits.now) }
+    pub fn from_hex(text: &[u8]) -> Result<ObjectId, decode::Error>
+        ensures { MatchResult result (λ id. id_of text.now ≡ Some id.bytes) (IsIdRefusal text.now) }
     {
-        if digits.len() != 40 {
-            return Err(decode::Error::InvalidLength(digits.len()));
+        if text.len() != 40 {
+            return Err(decode::Error::InvalidLength(text.len()));
+        }
+        if let Some(bytes) = digits::decode(text) {
+            return Ok(ObjectId { bytes });
         }
         let mut bytes = [0; 20];
-        match hex::decode_to_slice(digits, &mut bytes) {
+        match hex::decode_to_slice(text, &mut bytes) {
             Ok(()) => Ok(ObjectId { bytes }),
             Err(_) => Err(decode::Error::InvalidDigit),
         }
@@ -53,9 +57,7 @@ impl ObjectId {
     pub fn to_hex(&self) -> [u8; 40]
         ensures { result ≡ encode_lower self.now.bytes }
     {
-        let mut digits = [0; 40];
-        let _ = hex::encode_to_slice(self.bytes.as_slice(), &mut digits);
-        digits
+        digits::encode(&self.bytes)
     }
 
     /// The 20 bytes.

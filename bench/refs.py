@@ -1,0 +1,90 @@
+#!/usr/bin/env python3
+"""Times `gixp_plan refs` against `git ls-remote` and against reading the file alone, all on the same bytes.
+
+Usage: refs.py PROGRAM [REFS] [RUNS]
+
+PROGRAM is the built gixp_plan (`rt run` in crates/gixp_plan leaves it in out/). The answer is a version 2
+`ls-refs` answer of REFS refs behind a symbolic HEAD. git reads it from a script given as its --upload-pack,
+which prints a version 2 advertisement and then the answer. Each is run RUNS times in turn, and the best time
+of each counts.
+"""
+import hashlib
+import os
+import sys
+import tempfile
+import time
+
+
+def packet(text):
+    line = text + "\n"
+    return f"{len(line) + 4:04x}{line}"
+
+
+def write_answer(path, refs):
+    with open(path, "w") as out:
+        head = hashlib.sha1(b"0").hexdigest()
+        out.write(packet(f"{head} HEAD symref-target:refs/heads/branch/name-of-ref-0000000"))
+        for i in range(refs):
+            name = hashlib.sha1(str(i).encode()).hexdigest()
+            out.write(packet(f"{name} refs/heads/branch/name-of-ref-{i:07}"))
+        out.write("0000")
+
+
+def write_server(path, answer):
+    capabilities = ["version 2", "agent=git/2.39.5", "ls-refs=unborn", "fetch=shallow", "object-format=sha1"]
+    advertisement = path + ".advertisement"
+    with open(advertisement, "w") as out:
+        out.write("".join(packet(c) for c in capabilities) + "0000")
+    with open(path, "w") as out:
+        out.write(f'#!/bin/sh\ncat "{advertisement}" "{answer}"\ncat > /dev/null\n')
+    os.chmod(path, 0o755)
+
+
+def run(words, environment):
+    """Seconds of wall time, and the most memory in KiB, of one run with its output thrown away."""
+    start = time.perf_counter()
+    child = os.fork()
+    if child == 0:
+        null = os.open(os.devnull, os.O_WRONLY)
+        os.dup2(null, 1)
+        os.execvpe(words[0], words, environment)
+    _, status, usage = os.wait4(child, 0)
+    seconds = time.perf_counter() - start
+    if status != 0:
+        sys.exit(f"{words[0]} ended with {status}")
+    return seconds, usage.ru_maxrss
+
+
+def main():
+    program = os.path.abspath(sys.argv[1])
+    refs = int(sys.argv[2]) if len(sys.argv) > 2 else 1_000_000
+    runs = int(sys.argv[3]) if len(sys.argv) > 3 else 3
+    with tempfile.TemporaryDirectory() as folder:
+        answer = os.path.join(folder, "answer.ls")
+        server = os.path.join(folder, "server")
+        repository = os.path.join(folder, "repository")
+        write_answer(answer, refs)
+        write_server(server, answer)
+        environment = dict(os.environ, HOME=folder, GIT_CONFIG_NOSYSTEM="1", GIT_TRACE="0")
+        run(["git", "init", "-q", repository], environment)
+        commands = {
+            "gixp_plan refs": [program, "refs", answer],
+            "reading the file": ["cat", answer],
+            "git ls-remote": ["git", "-c", "protocol.version=2", "ls-remote", f"--upload-pack={server}", repository],
+        }
+        best = {name: (float("inf"), 0) for name in commands}
+        for _ in range(runs):
+            for name, words in commands.items():
+                seconds, memory = run(words, environment)
+                best[name] = (min(best[name][0], seconds), max(best[name][1], memory))
+        size = os.path.getsize(answer)
+    count = refs + 1
+    print(f"{count} refs, {size} bytes, best of {runs} runs each")
+    for name, (seconds, memory) in best.items():
+        print(f"{name}: {seconds:.3f} s, {size / seconds / 1e6:.0f} MB/s, {memory} KiB at most, {memory * 1024 / count:.0f} bytes a ref")
+    ours = best["gixp_plan refs"][0]
+    print(f"gixp_plan refs / git ls-remote: {ours / best['git ls-remote'][0]:.3f}")
+    print(f"gixp_plan refs / reading the file: {ours / best['reading the file'][0]:.2f}")
+
+
+main()
