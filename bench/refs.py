@@ -20,13 +20,18 @@ def packet(text):
     return f"{len(line) + 4:04x}{line}"
 
 
+def object_id(number):
+    return hashlib.sha1(str(number).encode()).hexdigest()
+
+
 def write_answer(path, refs):
     with open(path, "w") as out:
-        head = hashlib.sha1(b"0").hexdigest()
-        out.write(packet(f"{head} HEAD symref-target:refs/heads/branch/name-of-ref-0000000"))
-        for i in range(refs):
-            name = hashlib.sha1(str(i).encode()).hexdigest()
-            out.write(packet(f"{name} refs/heads/branch/name-of-ref-{i:07}"))
+        branches = refs - refs // 4
+        out.write(packet(f"{object_id(0)} HEAD symref-target:refs/heads/topic-0000000"))
+        for i in range(branches):
+            out.write(packet(f"{object_id(i)} refs/heads/topic-{i:07}"))
+        for i in range(refs // 4):
+            out.write(packet(f"{object_id(-i - 1)} refs/tags/v{i:07} peeled:{object_id(i)}"))
         out.write("0000")
 
 

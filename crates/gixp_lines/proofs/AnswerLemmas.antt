@@ -75,7 +75,7 @@ pub named-empty : (line rest name : List ℕ) (object behind : Option (List ℕ)
     → IsRefusal e (malformed_v2 line) → Answers ref_value (named line object (cut 32 rest)) (Err e)
 named-empty line rest name object behind e c z h =
     refusal_answers ref_value (named line object (cut 32 rest)) (malformed_v2 line) e
-      (ap (λ (x : List ℕ × Option (List ℕ)). named line object x) c ∙ named_none line name object behind z) h
+    (ap (λ (x : List ℕ × Option (List ℕ)). named line object x) c ∙ named_none line name object behind z) h
 
 pub named-err : (line rest name : List ℕ) (object behind : Option (List ℕ)) (e : Error) → cut 32 rest ≡ (name, behind) → (length name ≡ 0 → ⊥)
     → Answers attribute_values (attributes_of line behind) (Err e) → Answers ref_value (named line object (cut 32 rest)) (Err e)

@@ -3,3 +3,5 @@
 
 mod cut;
 pub mod handshake;
+#[cfg(test)]
+mod tests;

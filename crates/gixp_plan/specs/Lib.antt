@@ -1,1 +1,2 @@
+pub mod ErrorName
 pub mod List

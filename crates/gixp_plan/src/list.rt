@@ -2,6 +2,8 @@
 ghost use Rattle.std.specs.Prelude.{◌≡◌, OnOk, IfErr, IfSome};
 ghost use Rattle.std.specs.Io.KnownBytes.{Keeps};
 ghost use Rattle.gix_protocol.specs.Refs.{stream_refs};
+ghost use Rattle.gix_protocol.specs.ParseError.{parse_refusal};
+ghost use Rattle.gixp_plan.specs.ErrorName.{error_name, list_error_name};
 ghost use Rattle.gixp_plan.specs.List.{Prints, RefusesList, IsParse};
 
 use crate::print::write_refs;
@@ -24,7 +26,9 @@ pub enum ListError {
 
 impl ListError {
     /// The name of the variant, and of `Parse` that of the error in it.
-    pub fn variant(&self) -> &'static str {
+    pub fn variant(&self) -> &'static str
+        ensures { result.now ≡ list_error_name self.now }
+    {
         match self {
             ListError::Parse(e) => variant_of(e),
             ListError::Io(_) => "Io",
@@ -32,7 +36,9 @@ impl ListError {
     }
 }
 
-fn variant_of(error: &parse::Error) -> &'static str {
+fn variant_of(error: &parse::Error) -> &'static str
+    ensures { result.now ≡ error_name (parse_refusal error.now) }
+{
     match error {
         parse::Error::Io(_) => "Io",
         parse::Error::DecodePacketline(_) => "DecodePacketline",
@@ -76,7 +82,7 @@ pub fn list_refs<R: Read, W: Write>(
         Ok(refs) => refs,
         Err(e) => return Err(ListError::Parse(e)),
     };
-    match write_refs(writer, refs.as_slice()) {
+    match write_refs(writer, refs) {
         Ok(()) => Ok(()),
         Err(e) => Err(ListError::Io(e.kind())),
     }

@@ -7,7 +7,6 @@ mod print;
 mod tests;
 
 pub use list::{ListError, list_refs};
-
 use std::alloc::AllocError;
 use std::fs::File;
 use std::io::BufWriter;

@@ -107,13 +107,14 @@ fn write_ref<W: Write>(writer: &mut W, found: &Ref) -> io::Result<()>
     }
 }
 
-// A line for each ref, and no byte of them left in the writer.
-pub(crate) fn write_refs<W: Write>(writer: &mut W, refs: &[Ref]) -> io::Result<()>
+// A line for each ref, and no byte of them left in the writer. Each ref is dropped once it is
+// written, while it is at hand in the processor's cache.
+pub(crate) fn write_refs<W: Write>(writer: &mut W, refs: Vec<Ref>) -> io::Result<()>
     ensures { OnOk result (Appends (W.contents writer.old) (W.contents writer.new)
-        (flat_map ref_line (map ref_value refs.now))) }
+        (flat_map ref_line (map ref_value refs.items))) }
 {
     for found in refs {
-        write_ref(writer, found)?;
+        write_ref(writer, &found)?;
     }
     writer.flush()
 }

@@ -1,1 +1,291 @@
+//! Listed answers: rows with known lines, answers of real servers beside what git prints of them,
+//! and devices that fail or give less than was asked for.
+use crate::{ListError, list_refs};
+use std::alloc::Global;
+use std::io::{ErrorKind, Read, Write};
 use std::test::Fail;
+use std::{fs, io};
+
+// Bytes of which each read gives at most `step`. The read of number `fails` fails with `kind`.
+#[derive(Drop)]
+struct Source<'a> {
+    bytes: &'a [u8],
+    step: usize,
+    fails: usize,
+    kind: ErrorKind,
+}
+
+impl Read for Source<'_> {
+    fn read(&mut self, buf: &mut [u8]) -> io::Result<usize> {
+        if self.fails == 0 {
+            return Err(io::Error::from(self.kind));
+        }
+        self.fails -= 1;
+        let amount = self.step.min(self.bytes.len()).min(buf.len());
+        let (front, rest) = self.bytes.split_at(amount);
+        buf[..amount].copy_from_slice(front);
+        self.bytes = rest;
+        Ok(amount)
+    }
+}
+
+// Keeps what is written, at most `step` bytes a write. The write of number `fails` fails.
+#[derive(Drop)]
+struct Sink {
+    text: Vec<u8>,
+    step: usize,
+    fails: usize,
+}
+
+impl Write for Sink {
+    fn write(&mut self, buf: &[u8]) -> io::Result<usize> {
+        if self.fails == 0 {
+            return Err(io::Error::from(ErrorKind::BrokenPipe));
+        }
+        self.fails -= 1;
+        let amount = self.step.min(buf.len());
+        self.text.extend_from_slice(&buf[..amount])?;
+        Ok(amount)
+    }
+
+    fn flush(&mut self) -> io::Result<()> {
+        Ok(())
+    }
+}
+
+fn steady(bytes: &[u8], step: usize) -> Source<'_> {
+    Source {
+        bytes,
+        step,
+        fails: usize::MAX,
+        kind: ErrorKind::Other,
+    }
+}
+
+fn collecting(alloc: Global) -> Sink {
+    Sink {
+        text: Vec::new(alloc),
+        step: usize::MAX,
+        fails: usize::MAX,
+    }
+}
+
+// What was written, and the name of a refusal behind it.
+fn listed(alloc: Global, mut from: Source<'_>, mut to: Sink) -> Result<Vec<u8>, Fail> {
+    if let Err(e) = list_refs(alloc, &mut from, &mut to) {
+        to.text.extend_from_slice(e.variant().as_bytes())?;
+    }
+    Ok(to.text)
+}
+
+// `$`, `%` and `&` of a row stand for three ids.
+fn spelled(alloc: Global, row: &str) -> Result<String, Fail> {
+    let mut text = String::new(alloc);
+    for letter in row.chars() {
+        match letter {
+            '$' => text.push_str("0123456789012345678901234567890123456789")?,
+            '%' => text.push_str("bbbbbbbbbbbbbbbbbbbbbbbbbbbbbbbbbbbbbbbb")?,
+            '&' => text.push_str("cccccccccccccccccccccccccccccccccccccccc")?,
+            letter => text.push(letter)?,
+        }
+    }
+    Ok(text)
+}
+
+#[test]
+fn lists_or_refuses(rt: HostRuntime) -> Result<(), Fail> {
+    let a = rt.alloc();
+    for (row, want) in [
+        ("003d$ refs/heads/main\n0000", "$ refs/heads/main\n"),
+        ("003D$ refs/heads/main\n0000", "$ refs/heads/main\n"),
+        ("003d$ refs/heads/main\n0001", "$ refs/heads/main\n"),
+        ("003d$ refs/heads/main\n00000004", "$ refs/heads/main\n"),
+        ("0000", ""),
+        (
+            "006a% refs/tags/v1 peeled:&\n0000",
+            "% refs/tags/v1 peeled:&\n",
+        ),
+        (
+            "0050$ HEAD symref-target:refs/heads/main\n0000",
+            "$ HEAD symref-target:refs/heads/main\n",
+        ),
+        (
+            "007d% HEAD peeled:& symref-target:refs/tags/v1\n0000",
+            "% HEAD symref-target:refs/tags/v1 peeled:&\n",
+        ),
+        (
+            "002eunborn HEAD symref-target:refs/heads/main\n0000",
+            "unborn HEAD symref-target:refs/heads/main\n",
+        ),
+        ("0010unborn HEAD\n", "InvariantViolation"),
+        ("002c$", "MalformedV2RefLine"),
+        ("0034$ x foo:1\n", "UnknownAttribute"),
+        ("0008x y\n", "Id"),
+        ("0011ERR no access", "UploadPack"),
+        ("0002", "Reader"),
+        ("0003", "DecodePacketline"),
+        ("0004", "DecodePacketline"),
+        ("00g1", "DecodePacketline"),
+        ("fff1", "DecodePacketline"),
+        ("", "Io"),
+        ("00", "Io"),
+        ("003d", "Io"),
+        ("003d$ refs/heads/main\n", "Io"),
+        ("003d$ refs/heads/main\n002c$", "MalformedV2RefLine"),
+    ] {
+        let bytes = spelled(a, row)?;
+        let wanted = spelled(a, want)?;
+        for step in [1, 7, usize::MAX] {
+            let got = listed(a, steady(bytes.as_bytes(), step), collecting(a))?;
+            assert_eq!(rt; got.as_slice(), wanted.as_bytes(), "of {row} by {step}");
+        }
+    }
+    Ok(())
+}
+
+// What `git ls-remote --symref` prints of the listed lines.
+fn as_git(alloc: Global, lines: &[u8]) -> Result<Vec<u8>, Fail> {
+    let mut text = Vec::new(alloc);
+    for line in lines.split(|byte| *byte == b'\n') {
+        let mut words = line.split(|byte| *byte == b' ');
+        let (Some(id), Some(name)) = (words.next(), words.next()) else {
+            continue;
+        };
+        let mut peeled = None;
+        for word in words {
+            if let Some(target) = word.strip_prefix(b"symref-target:") {
+                if id != b"unborn".as_slice() {
+                    push_line(&mut text, &[b"ref: ", target, b"\t", name])?;
+                }
+            } else {
+                peeled = word.strip_prefix(b"peeled:");
+            }
+        }
+        if id != b"unborn".as_slice() {
+            push_line(&mut text, &[id, b"\t", name])?;
+        }
+        if let Some(object) = peeled {
+            push_line(&mut text, &[object, b"\t", name, b"^{}"])?;
+        }
+    }
+    Ok(text)
+}
+
+fn push_line(text: &mut Vec<u8>, parts: &[&[u8]]) -> Result<(), Fail> {
+    for part in parts {
+        text.extend_from_slice(part)?;
+    }
+    text.push(b'\n')?;
+    Ok(())
+}
+
+// The answers were recorded from git 2.39.5, each beside what `git ls-remote --symref` printed of
+// the same repository.
+#[test]
+fn lists_what_git_lists(rt: HostRuntime) -> Result<(), Fail> {
+    let a = rt.alloc();
+    for name in ["plain", "tagged", "unborn", "detached", "shallow", "many"] {
+        let answer = fs::read(&rt, format!(in a; "{name}.ls")?)?;
+        let refs = fs::read(&rt, format!(in a; "{name}.refs")?)?;
+        for step in [1, 1000, usize::MAX] {
+            let got = listed(a, steady(answer.as_slice(), step), collecting(a))?;
+            assert!(rt;
+                as_git(a, got.as_slice())?.as_slice() == refs.as_slice(),
+                "of {name} by {step}"
+            );
+        }
+    }
+    let spaced = fs::read(&rt, "spaced.ls")?;
+    let want =
+        "7257effbd41e1233eaae5744e614c5c728e3c979 HEAD\n7257effbd41e1233eaae5744e614c5c728e3c979 HEAD\n7257effbd41e1233eaae5744e614c5c728e3c979 refs/heads/main\n";
+    let got = listed(a, steady(spaced.as_slice(), 5), collecting(a))?;
+    assert_eq!(rt; got.as_slice(), want.as_bytes());
+    Ok(())
+}
+
+#[test]
+fn refuses_every_beginning_and_takes_every_cut(rt: HostRuntime) -> Result<(), Fail> {
+    let a = rt.alloc();
+    let answer = fs::read(&rt, "tagged.ls")?;
+    assert!(rt; answer.len() > 900);
+    let whole = listed(a, steady(answer.as_slice(), usize::MAX), collecting(a))?;
+    for end in 0..answer.len() {
+        let got = listed(a, steady(&answer[..end], usize::MAX), collecting(a))?;
+        assert_eq!(rt; got.as_slice(), b"Io".as_slice(), "of {end} bytes");
+        let got = listed(
+            a,
+            steady(answer.as_slice(), end.saturating_add(1)),
+            collecting(a),
+        )?;
+        assert!(rt; got.as_slice() == whole.as_slice(), "by {end} and one");
+    }
+    Ok(())
+}
+
+#[test]
+fn tells_of_devices_that_fail(rt: HostRuntime) -> Result<(), Fail> {
+    let a = rt.alloc();
+    let bytes = b"003d0123456789012345678901234567890123456789 refs/heads/main\n0000";
+    for fails in 0..13 {
+        for kind in [ErrorKind::Interrupted, ErrorKind::ConnectionReset] {
+            let from = Source {
+                bytes,
+                step: 5,
+                fails,
+                kind,
+            };
+            let got = listed(a, from, collecting(a))?;
+            assert_eq!(rt; got.as_slice(), b"Io".as_slice(), "at read {fails}");
+        }
+    }
+    for fails in 0..4 {
+        let mut to = Sink {
+            text: Vec::new(a),
+            step: usize::MAX,
+            fails,
+        };
+        let answer = list_refs(a, &mut steady(bytes, usize::MAX), &mut to);
+        assert!(rt;
+            matches!(answer, Err(ListError::Io(ErrorKind::BrokenPipe))),
+            "at write {fails}"
+        );
+        assert!(rt;
+            bytes[4..61].starts_with(to.text.as_slice()),
+            "at write {fails}"
+        );
+    }
+    let short = Sink {
+        text: Vec::new(a),
+        step: 3,
+        fails: usize::MAX,
+    };
+    let got = listed(a, steady(bytes, usize::MAX), short)?;
+    assert_eq!(rt; got.as_slice(), &bytes[4..61]);
+    Ok(())
+}
+
+#[test]
+fn names_each_refusal(rt: HostRuntime) -> Result<(), Fail> {
+    use gix_protocol::handshake::refs::parse::Error;
+    use gix_protocol::transport::PacketError;
+    let a = rt.alloc();
+    for (error, text, variant) in [
+        (ListError::Io(ErrorKind::Other), "Io", "Io"),
+        (ListError::Parse(Error::Io(ErrorKind::Other)), "Io", "Io"),
+        (ListError::Parse(Error::Memory), "Memory", "Memory"),
+        (
+            ListError::Parse(Error::DecodePacketline(PacketError::HexDecode)),
+            "HexDecode",
+            "DecodePacketline",
+        ),
+        (
+            ListError::Parse(Error::InvariantViolation { message: "no" }),
+            "no",
+            "InvariantViolation",
+        ),
+    ] {
+        assert_eq!(rt; format!(in a; "{error}")?.as_str(), text);
+        assert_eq!(rt; error.variant(), variant);
+    }
+    Ok(())
+}

@@ -177,7 +177,7 @@ frame_front text rest (payload p) h =
     let fits : size ≤ length (text ++ rest) = omega (arith, length-append text rest) in
     let count : length (text ++ rest) ≡ length (digits ++ (p ++ rest)) = ap length all in
     let head : head_of (text ++ rest) ≡ Data size =
-      ap head_of all ∙ four_head digits (p ++ rest) (Some size) four h.1.1 ∙ data_head size (length (digits ++ (p ++ rest))) (omega (arith, h.3)) (omega (arith, h.4)) (omega arith) in
+    ap head_of all ∙ four_head digits (p ++ rest) (Some size) four h.1.1 ∙ data_head size (length (digits ++ (p ++ rest))) (omega (arith, h.3)) (omega (arith, h.4)) (omega arith) in
     let front : drop 4 (take size (text ++ rest)) ≡ p = ap (drop 4) (take_front text rest size len ∙ whole) ∙ drop_front digits p 4 four in
     by_front (text ++ rest) (Data size) head ∙ (rw (front, drop_front text rest size len) refl)
 frame_front text rest (special Flush) h = special_front text rest Flush 0 h (λ m. refl)

@@ -22,6 +22,10 @@ impl Kind {
     pub fn from_name(name: &[u8]) -> Option<Kind>
         ensures { IsSome result ↔ (name.now ≡ codes "sha1") }
     {
-        if name == b"sha1".as_slice() { Some(Kind::Sha1) } else { None }
+        if name == b"sha1".as_slice() {
+            Some(Kind::Sha1)
+        } else {
+            None
+        }
     }
 }

@@ -15,11 +15,9 @@ pub fn frames_are_grammar()
 /// No other frames are, so that it doesn't matter how a list of frames was found.
 pub fn no_other_frames_are()
     ensures { (bytes : List ℕ) (frames : List Frame) (end : End) → AreFrames bytes frames end → frames_of bytes ≡ record { list = frames; end = end } }
-{
-}
+{}
 
 /// The lines that a reader gives next are those among the stream's items before their first stop.
 pub fn lines_are_of_items()
     ensures { (version : Protocol) (ps : Pieces) → as_first version (lines_of version ps) ≡ first_lines (items_of version plain ps) }
-{
-}
+{}

@@ -3,8 +3,7 @@ ghost use Rattle.std.specs.Prelude.{◌≡◌, ◌↔◌, IsTrue, MatchResult, r
 ghost use Rattle.hex.specs.Hex.{encode_lower};
 ghost use Rattle.gixp_wire.specs.ObjectId.{id_of, IsIdRefusal};
 
-use crate::decode;
-use crate::digits;
+use crate::{decode, digits};
 use hex;
 
 /// The name of an object: the 20 bytes of its SHA-1 (gitprotocol-common, "ABNF Notation", `obj-id`).

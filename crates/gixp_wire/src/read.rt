@@ -97,7 +97,8 @@ pub trait ExtendedBufRead {
     fn peek_data_line(&mut self) -> Result<Option<&[u8]>, Error>
         ensures answers { (new : Reading) × PeeksLent (reading self.old) new result × PlainIf is_plain new result }
     {
-        match self.peek_line() {
+        let shown = self.peek_line();
+        match shown {
             Ok(true) => Ok(Some(self.line())),
             Ok(false) => Ok(None),
             Err(e) => Err(e),
@@ -112,7 +113,8 @@ pub trait ExtendedBufRead {
     fn readline(&mut self) -> Result<Option<&[u8]>, Error>
         ensures answers { (new : Reading) × ReadsLent (reading self.old) new result × PlainIf is_plain new result }
     {
-        match self.next_line() {
+        let taken = self.next_line();
+        match taken {
             Ok(true) => Ok(Some(self.line())),
             Ok(false) => Ok(None),
             Err(e) => Err(e),

@@ -1,5 +1,5 @@
 //! A line of an `ls-refs` answer (gitprotocol-v2, "ls-refs").
-ghost use Rattle.std.specs.Prelude.{◌≡◌, None, Some};
+ghost use Rattle.std.specs.Prelude.{◌≡◌, None, Some, codes};
 ghost use Rattle.std.specs.Option.{option_copied};
 ghost use Rattle.bstr.specs.Owned.{bstring_bytes};
 ghost use Rattle.gixp_wire.specs.declared.object_id.ObjectId.{ObjectId};
@@ -27,6 +27,13 @@ fn is_same(text: &[u8], word: &[u8]) -> bool
     text == word
 }
 
+// Whether a target is the word for none.
+fn is_null(target: &[u8]) -> bool
+    ensures { result ≡ is_text target.now (codes "(null)") }
+{
+    is_same(target, b"(null)")
+}
+
 fn read_id(text: &[u8]) -> Result<ObjectId, Error>
     ensures { Answers (λ (id : ObjectId). id.bytes) (id_value text.now) result }
 {
@@ -48,7 +55,10 @@ fn malformed(alloc: Global, line: &[u8]) -> Error
 fn unknown_attribute(alloc: Global, attribute: &[u8], line: &[u8]) -> Error
     ensures { IsRefusal result (unknown_attribute attribute.now line.now) }
 {
-    match (BString::from_slice(alloc, attribute), BString::from_slice(alloc, line)) {
+    match (
+        BString::from_slice(alloc, attribute),
+        BString::from_slice(alloc, line),
+    ) {
         (Ok(attribute), Ok(line)) => Error::UnknownAttribute { attribute, line },
         _ => Error::Memory,
     }
@@ -139,16 +149,11 @@ fn make_born(
     ensures { Answers ref_value (value_of (Some object.bytes) (bstring_bytes full_ref_name) (attribute_values had.entry)) result }
 {
     let target = match had.symref_target {
-        Some(target) => {
-            if is_same(target, b"(null)") {
-                None
-            } else {
-                match BString::from_slice(alloc, target) {
-                    Ok(target) => Some(target),
-                    Err(_) => return Err(Error::Memory),
-                }
-            }
-        }
+        Some(target) if is_null(target) => None,
+        Some(target) => match BString::from_slice(alloc, target) {
+            Ok(target) => Some(target),
+            Err(_) => return Err(Error::Memory),
+        },
         None => None,
     };
     match (target, had.peeled) {
@@ -176,38 +181,25 @@ fn make_born(
     }
 }
 
-// The ref of a name without an id.
-fn make_unborn(
-    alloc: Global,
-    full_ref_name: BString,
-    had: Attributes<'_>,
-) -> Result<Ref, Error>
+// The ref of a name without an id, which needs a target and no more.
+fn make_unborn(alloc: Global, full_ref_name: BString, had: Attributes<'_>) -> Result<Ref, Error>
     ensures { Answers ref_value (value_of None (bstring_bytes full_ref_name) (attribute_values had.entry)) result }
 {
-    match had.symref_target {
-        Some(target) => {
-            if is_same(target, b"(null)") {
-                return Err(Error::InvariantViolation {
-                    message: "got 'unborn' while (null) was a symref target",
-                });
-            }
-            match BString::from_slice(alloc, target) {
-                Ok(target) => Ok(Ref::Unborn {
+    let message = match (had.symref_target, had.peeled) {
+        (Some(target), _) if is_null(target) => "got 'unborn' while (null) was a symref target",
+        (Some(target), _) => match BString::from_slice(alloc, target) {
+            Ok(target) => {
+                return Ok(Ref::Unborn {
                     full_ref_name,
                     target,
-                }),
-                Err(_) => Err(Error::Memory),
+                });
             }
-        }
-        None => match had.peeled {
-            Some(_) => Err(Error::InvariantViolation {
-                message: "got 'unborn' as tag target",
-            }),
-            None => Err(Error::InvariantViolation {
-                message: "got 'unborn' as object name of direct reference",
-            }),
+            Err(_) => return Err(Error::Memory),
         },
-    }
+        (None, Some(_)) => "got 'unborn' as tag target",
+        (None, None) => "got 'unborn' as object name of direct reference",
+    };
+    Err(Error::InvariantViolation { message })
 }
 
 // The ref of a line, or its first refusal.

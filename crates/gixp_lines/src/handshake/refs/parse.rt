@@ -31,9 +31,7 @@ pub enum Error {
     #[error("{0:?} could not be parsed. A V1 ref line should be '<hex-hash> <path>'.")]
     MalformedV1RefLine(BString),
     /// A version 2 ref line lacks its name, or has an attribute without a value.
-    #[error(
-        "{0:?} could not be parsed. A V2 ref line should be '<hex-hash> <path>[ (peeled|symref-target):<value>'."
-    )]
+    #[error("{0:?} could not be parsed. A V2 ref line should be '<hex-hash> <path>[ (peeled|symref-target):<value>'.")]
     MalformedV2RefLine(BString),
     /// A version 2 ref line has an attribute other than `peeled` and `symref-target`.
     #[error("The ref attribute {attribute:?} is unknown. Found in line {line:?}")]

@@ -10,13 +10,13 @@ pub returns-then-is_empty : goal.returns-then-is_empty
 returns-then-is_empty c =
     let whole = rw c.in-Some.is at c.cut.ensures in
     rw (← c.trim_end-line.ensures) (line-then _ _ c.in-Some.rest.now c.in-Ok.object _ whole c.in-Ok.ensures
-      (named-empty _ c.in-Some.rest.now _ _ _ _ c.cut-2.ensures (eqb-true _ _ (sym c.if-is_empty.ensures)) c.malformed-then-is_empty.ensures))
+    (named-empty _ c.in-Some.rest.now _ _ _ _ c.cut-2.ensures (eqb-true _ _ (sym c.if-is_empty.ensures)) c.malformed-then-is_empty.ensures))
 
 pub returns-in-Err-read_attributes : goal.returns-in-Err-read_attributes
 returns-in-Err-read_attributes c =
     let whole = rw c.in-Some.is at c.cut.ensures in
     rw (← c.trim_end-line.ensures) (line-then _ _ c.in-Some.rest.now c.in-Ok.object _ whole c.in-Ok.ensures
-      (named-err _ c.in-Some.rest.now _ _ _ _ c.cut-2.ensures (not_empty _ c.if-is_empty.ensures) c.in-Err-read_attributes.ensures))
+    (named-err _ c.in-Some.rest.now _ _ _ _ c.cut-2.ensures (not_empty _ c.if-is_empty.ensures) c.in-Err-read_attributes.ensures))
 
 pub returns-in-Some-object : goal.returns-in-Some-object
 returns-in-Some-object c =
@@ -26,7 +26,7 @@ returns-in-Some-object c =
     let object = Some c.in-Some-object.object in
     let made = subst (λ (n : List ℕ). Answers ref_value (value_of (object_of object) n had) c.make_born.result) c.in-Ok-from_slice.ensures c.make_born.ensures in
     rw (← c.trim_end-line.ensures) (line-then _ _ c.in-Some.rest.now (Some c.in-Some-object.object) c.make_born.result whole first
-      (named-then _ c.in-Some.rest.now _ (object_of object) _ c.in-Ok-read_attributes.had c.make_born.result c.cut-2.ensures (not_empty _ c.if-is_empty.ensures) c.in-Ok-read_attributes.ensures made))
+    (named-then _ c.in-Some.rest.now _ (object_of object) _ c.in-Ok-read_attributes.had c.make_born.result c.cut-2.ensures (not_empty _ c.if-is_empty.ensures) c.in-Ok-read_attributes.ensures made))
 
 pub returns-in-None-object : goal.returns-in-None-object
 returns-in-None-object c =
@@ -35,4 +35,4 @@ returns-in-None-object c =
     let had = attribute_values c.in-Ok-read_attributes.had in
     let made = subst (λ (n : List ℕ). Answers ref_value (value_of (object_of None) n had) c.make_unborn.result) c.in-Ok-from_slice.ensures c.make_unborn.ensures in
     rw (← c.trim_end-line.ensures) (line-then _ _ c.in-Some.rest.now None c.make_unborn.result whole first
-      (named-then _ c.in-Some.rest.now _ (object_of None) _ c.in-Ok-read_attributes.had c.make_unborn.result c.cut-2.ensures (not_empty _ c.if-is_empty.ensures) c.in-Ok-read_attributes.ensures made))
+    (named-then _ c.in-Some.rest.now _ (object_of None) _ c.in-Ok-read_attributes.had c.make_unborn.result c.cut-2.ensures (not_empty _ c.if-is_empty.ensures) c.in-Ok-read_attributes.ensures made))

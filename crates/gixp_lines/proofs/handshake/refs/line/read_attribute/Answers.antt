@@ -9,5 +9,5 @@ returns-else-is_same-2 c =
     let value = c.in-Some.value.now in
     let whole = rw c.in-Some.is at c.cut.ensures in
     refusal_answers attribute_values _ _ _
-      (unknown_is c.args.line.now c.args.piece.now c.cut.result.0.now value (attribute_values c.args.had) whole (λ z. let t = eq-eqb (length value) 0 z in let f = c.if-is_empty.ensures in cc) (sym c.if-is_same.ensures) (sym c.if-is_same-2.ensures))
-      c.unknown_attribute.ensures
+    (unknown_is c.args.line.now c.args.piece.now c.cut.result.0.now value (attribute_values c.args.had) whole (λ z. let t = eq-eqb (length value) 0 z in let f = c.if-is_empty.ensures in cc) (sym c.if-is_same.ensures) (sym c.if-is_same-2.ensures))
+    c.unknown_attribute.ensures
