@@ -1,8 +1,8 @@
 -- Refs of lines that come one at a time.
-use Rattle.std.proofs.Common.{◌≡◌, ℕ, ◌⊎◌, inl, inr, Bool, true, List, [], ◌∷◌, ◌++◌, map, refl, sym, ap, subst, ◌∙◌, Option, Some, None, IfSome, Result, Ok, Err, append-nil, append_assoc}
+use Rattle.std.proofs.Common.{◌≡◌, ℕ, inl, inr, Bool, true, List, [], ◌∷◌, ◌++◌, map, refl, sym, ap, subst, ◌∙◌, Option, Some, None, IfSome, Result, Ok, Err, append-nil, append_assoc}
 use Rattle.std.proofs.lemmas.List.{map-append}
 use Rattle.gixp_wire.specs.Pieces.{Refusal, Pieces}
-use Rattle.gixp_wire.specs.Lines.{Ending, stop, refusal, Lines, before, lines_to}
+use Rattle.gixp_wire.specs.Lines.{Ending, stop, refusal, before, lines_to}
 use Rattle.gixp_wire.specs.Reading.{Reading, TakesLine, AtStop, Fails, IsPlain, refusal_of, lines_ahead}
 use Rattle.gixp_wire.specs.declared.read.Error.{Error as ReadError}
 use Rattle.gixp_lines.specs.declared.handshake.Ref.{Ref}
@@ -10,9 +10,8 @@ use Rattle.gixp_lines.specs.declared.handshake.refs.parse.Error.{Error}
 use Rattle.gixp_lines.specs.declared.handshake.refs.parse.Error.TheVariants.{Memory}
 use Rattle.gixp_lines.specs.Ref.{RefValue, ref_value}
 use Rattle.gixp_lines.specs.RefLine.{RefsRefusal, refusal_from, v2_line}
-use Rattle.gixp_lines.specs.ParseError.{Answers, IsRefusal, parse_refusal}
-use Rattle.gixp_lines.specs.Runs.{SoFar}
-use Rattle.gixp_lines.specs.Refs.{with_ref, refs_from, v2_refs, AreRefs, ReadsRefs, LineRefused, ReaderRefused, RefsFail, RefsSoFar}
+use Rattle.gixp_lines.specs.ParseError.{Answers, parse_refusal}
+use Rattle.gixp_lines.specs.Refs.{with_ref, refs_from, v2_refs, AreRefs, ReadsRefs, RefsFail, RefsSoFar}
 use Rattle.gixp_lines.proofs.RunLemmas.{so_far-start, so_far-line, so_far-at_stop, so_far-refuses}
 
 -- these values in front of those of the rest

@@ -1,8 +1,8 @@
 -- What a fresh reader of lines says of the stream it reads.
-use Rattle.std.proofs.Common.{◌≡◌, ℕ, ◌⊎◌, inl, inr, Bool, true, false, List, Option, Some, None, IfSome, refl, sym, ap, subst, ◌∙◌, Result, Ok, Err}
+use Rattle.std.proofs.Common.{◌≡◌, ℕ, inl, inr, true, List, Option, Some, None, IfSome, refl, sym, ap, subst, ◌∙◌, Result, Err}
 use Rattle.std.specs.Option.{option_map}
 use Rattle.gix_protocol.specs.Pieces.{Refusal, io, decode, server, unexpected_frame, not_utf8, bad_band, interrupted, memory, stream_pieces}
-use Rattle.gix_protocol.specs.Reading.{Reading, IsFresh, IsOutside, IsPlain, IsFault, lines_ahead, lines_from_stop}
+use Rattle.gix_protocol.specs.Reading.{Reading, IsFresh, IsOutside, IsPlain, lines_ahead, lines_from_stop}
 use Rattle.gix_protocol.specs.RefLine.{RefsRefusal, refusal_from}
 use Rattle.gix_protocol.specs.Ref.{RefValue}
 use Rattle.gix_protocol.specs.ParseError.{parse_refusal, is_outside, IsRefusal}

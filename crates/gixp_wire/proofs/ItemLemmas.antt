@@ -3,8 +3,8 @@ use Rattle.std.proofs.Common.{◌≡◌, ℕ, Bool, true, false, cond, List, [],
 use Rattle.gixp_wire.specs.declared.protocol.Protocol.{Protocol}
 use Rattle.gixp_wire.specs.declared.protocol.MessageKind.{MessageKind}
 use Rattle.gixp_wire.specs.Pieces.{Refusal, unexpected_frame, Piece, line, mark, Pieces}
-use Rattle.gixp_wire.specs.Items.{is_stop, plain, items_of, Items, Item, with_item, no_items, stop_item, first_lines, FirstLines}
-use Rattle.gixp_wire.specs.Lines.{Lines, lines_from, no_lines, stop, refusal, as_first}
+use Rattle.gixp_wire.specs.Items.{is_stop, plain, items_of, with_item, no_items, stop_item, first_lines, FirstLines}
+use Rattle.gixp_wire.specs.Lines.{lines_from, no_lines, stop, refusal, as_first}
 
 -- one more line in front
 abbrev with_line : List ℕ → FirstLines → FirstLines

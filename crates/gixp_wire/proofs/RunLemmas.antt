@@ -1,11 +1,10 @@
 -- Calls of a reader of lines in a row.
-use Rattle.std.proofs.Common.{◌≡◌, ℕ, Bool, true, false, cond, List, [], ◌∷◌, ◌++◌, Option, Some, None, IfSome, refl, sym, ap, ◌∙◌, append_assoc, append-nil, arith, inl, inr, is_some, Result, Ok, Err}
+use Rattle.std.proofs.Common.{◌≡◌, ℕ, Bool, true, false, cond, List, Option, Some, None, IfSome, refl, ◌∙◌, arith, inl, inr, Result, Ok, Err}
 use Rattle.gixp_wire.specs.declared.protocol.Protocol.{Protocol}
 use Rattle.gixp_wire.specs.declared.protocol.MessageKind.{MessageKind}
-use Rattle.gixp_wire.specs.Pieces.{Refusal, Piece, line, mark, Pieces, no_pieces, unexpected_frame, not_utf8}
-use Rattle.gixp_wire.specs.Lines.{gives, stops, refuses, next_from, next_of, Lines, Ending, stop, refusal, lines_from, lines_of, no_lines}
-use Rattle.gixp_wire.specs.Items.{is_stop}
-use Rattle.gixp_wire.specs.Reading.{Reading, TakesLine, ShowsLine, TakesStop, AtStop, Fails, Reads, ReadsText, refusal_of}
+use Rattle.gixp_wire.specs.Pieces.{Refusal, Pieces, not_utf8}
+use Rattle.gixp_wire.specs.Lines.{gives, stops, refuses, next_of}
+use Rattle.gixp_wire.specs.Reading.{Reading, TakesLine, ShowsLine, Fails, Reads, ReadsText, refusal_of}
 use Rattle.gixp_wire.specs.declared.read.Error.{Error}
 use Rattle.gixp_wire.specs.declared.read.Error.TheVariants.{Io, Decode, Server, UnexpectedFrame, NotUtf8, BadBand, Interrupted, Memory}
 

@@ -1,8 +1,10 @@
-//! The hexadecimal digits of ids, read and written without a branch for each: the digits of an id
-//! are as good as random, so every such branch would be guessed wrong half of the time.
+//! Hexadecimal digits, read and written without a branch for each: those of an id are as good as
+//! random, so every such branch would be guessed wrong half of the time. The functions are inlined,
+//! so that an id isn't handed on through memory at each step.
 ghost use Rattle.std.specs.Prelude.{◌≡◌, ◌<◌, ◌+◌, ◌*◌, length, slice_index, IfSome};
 ghost use Rattle.hex.specs.Hex.{hex_digit_value, lower_digits, encode_lower, decode_of};
 ghost use Rattle.gixp_wire.specs.Digits.{AreValues};
+ghost use Rattle.gixp_wire.specs.Frames.{size_of};
 
 // The value of a hexadecimal digit of either case, or 255.
 fn digit_value(digit: u8) -> u8
@@ -29,6 +31,7 @@ fn digit_of(value: u8) -> u8
 }
 
 // The values of 40 digits, or none where one is no digit.
+#[inline(always)]
 fn values_of(digits: &[u8]) -> Option<[u8; 40]>
     requires { length digits.now ≡ 40 }
     ensures { IfSome result (AreValues digits.now) }
@@ -44,6 +47,7 @@ fn values_of(digits: &[u8]) -> Option<[u8; 40]>
 }
 
 // The bytes of 40 digits, or none where one is no digit.
+#[inline(always)]
 pub(crate) fn decode(digits: &[u8]) -> Option<[u8; 20]>
     requires { length digits.now ≡ 40 }
     ensures { IfSome result (λ bytes. decode_of digits.now ≡ Ok bytes) }
@@ -56,7 +60,26 @@ pub(crate) fn decode(digits: &[u8]) -> Option<[u8; 20]>
     Some(bytes)
 }
 
+// The number of four digits, or none where one is no digit.
+#[inline(always)]
+pub(crate) fn number(digits: &[u8]) -> Option<usize>
+    requires { length digits.now ≡ 4 }
+    ensures { IfSome result (λ n. size_of digits.now ≡ Some n) }
+{
+    let a = digit_value(digits[0]);
+    let b = digit_value(digits[1]);
+    let c = digit_value(digits[2]);
+    let d = digit_value(digits[3]);
+    if a.max(b).max(c).max(d) < 16 {
+        let high = usize::from(a) * 16 + usize::from(b);
+        Some(high * 256 + usize::from(c) * 16 + usize::from(d))
+    } else {
+        None
+    }
+}
+
 // The lower-case digits of 20 bytes.
+#[inline(always)]
 pub(crate) fn encode(bytes: &[u8; 20]) -> [u8; 40]
     ensures { result ≡ encode_lower bytes.now }
 {

@@ -22,6 +22,7 @@ impl ObjectId {
     ///
     /// `InvalidLength` where the text doesn't have 40 bytes, else `InvalidDigit` where one of them
     /// is no hexadecimal digit.
+    #[inline(always)]
     pub fn from_hex(text: &[u8]) -> Result<ObjectId, decode::Error>
         ensures { MatchResult result (λ id. id_of text.now ≡ Some id.bytes) (IsIdRefusal text.now) }
     {

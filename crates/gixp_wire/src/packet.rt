@@ -1,8 +1,9 @@
 //! Frames: four hexadecimal digits, and then the payload that they count.
-ghost use Rattle.std.specs.Prelude.{◌≡◌};
+ghost use Rattle.std.specs.Prelude.{◌≡◌, length};
 ghost use Rattle.gixp_wire.specs.Frames.{head_of, size_of};
 ghost use Rattle.gixp_wire.specs.FrameKind.{kind_of};
 
+use crate::digits;
 use crate::protocol::MessageKind;
 use hex;
 use thiserror::Error;
@@ -70,9 +71,14 @@ pub(crate) enum Head {
 }
 
 // The number of four digits.
+#[inline(always)]
 fn size_of_digits(digits: &[u8]) -> Option<usize>
+    requires { length digits.now ≡ 4 }
     ensures { result ≡ size_of digits.now }
 {
+    if let Some(size) = digits::number(digits) {
+        return Some(size);
+    }
     let mut pair = [0; 2];
     match hex::decode_to_slice(digits, &mut pair) {
         Ok(()) => {

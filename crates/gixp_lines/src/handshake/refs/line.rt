@@ -34,6 +34,7 @@ fn is_null(target: &[u8]) -> bool
     is_same(target, b"(null)")
 }
 
+#[inline(always)]
 fn read_id(text: &[u8]) -> Result<ObjectId, Error>
     ensures { Answers (λ (id : ObjectId). id.bytes) (id_value text.now) result }
 {
@@ -127,6 +128,7 @@ fn read_attributes<'a>(
 }
 
 // An id, or none for `unborn`.
+#[inline(always)]
 fn read_first(text: &[u8]) -> Result<Option<ObjectId>, Error>
     ensures { Answers object_of (first_piece text.now) result }
 {
@@ -140,6 +142,7 @@ fn read_first(text: &[u8]) -> Result<Option<ObjectId>, Error>
 }
 
 // The ref of an id, a name and attributes.
+#[inline(always)]
 fn make_born(
     alloc: Global,
     object: ObjectId,
@@ -203,6 +206,7 @@ fn make_unborn(alloc: Global, full_ref_name: BString, had: Attributes<'_>) -> Re
 }
 
 // The ref of a line, or its first refusal.
+#[inline(always)]
 pub(crate) fn parse_v2(alloc: Global, line: &[u8]) -> Result<Ref, Error>
     ensures { Answers ref_value (v2_line line.now) result }
 {

@@ -1,5 +1,4 @@
-use Rattle.std.proofs.Common.{sym, ap, subst, ◌∙◌, ◌≡◌, eqb-true, length, Some, None, List, ℕ, Option, Result}
-use Rattle.std.specs.Option.{option_copied}
+use Rattle.std.proofs.Common.{sym, subst, eqb-true, Some, None, List, ℕ}
 use Rattle.gixp_lines.specs.ParseError.{Answers, attribute_values, object_of}
 use Rattle.gixp_lines.specs.Ref.{ref_value}
 use Rattle.gixp_lines.specs.RefLine.{value_of}

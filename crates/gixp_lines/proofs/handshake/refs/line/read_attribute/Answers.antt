@@ -1,5 +1,4 @@
-use Rattle.std.proofs.Common.{refl, sym, ap, ◌∙◌, arith, ◌≡◌, length, eq-eqb, Some, false, true, rules}
-use Rattle.std.specs.Option.{option_copied}
+use Rattle.std.proofs.Common.{sym, length, eq-eqb}
 use Rattle.gixp_lines.specs.ParseError.{attribute_values}
 use Rattle.gixp_lines.proofs.AnswerLemmas.{refusal_answers, unknown_is}
 use Rattle.gixp_lines.proofs.handshake.refs.line.read_attribute.Goals as goal

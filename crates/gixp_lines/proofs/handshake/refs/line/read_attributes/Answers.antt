@@ -1,4 +1,3 @@
-use Rattle.std.proofs.Common.{sym}
 use Rattle.gixp_lines.proofs.AnswerLemmas.{attributes-err, attributes-two}
 use Rattle.gixp_lines.proofs.handshake.refs.line.read_attributes.Goals as goal
 
