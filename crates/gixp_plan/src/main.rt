@@ -7,9 +7,9 @@ mod print;
 mod tests;
 
 pub use list::{ListError, list_refs};
-use std::alloc::AllocError;
+use std::env::Args;
 use std::fs::File;
-use std::io::BufWriter;
+use std::io::{BufWriter, ErrorKind};
 use std::process::ExitCode;
 use std::{env, io};
 
@@ -18,9 +18,17 @@ const BUFFER: usize = 65536;
 
 const USAGE: &str = "usage: gixp_plan refs FILE";
 
-// The file of `refs FILE`, or none for other words, also for such as are no text.
-fn file_of_words(rt: &HostRuntime) -> Option<String> {
-    let mut words = env::args(rt).ok()?;
+// Why the program ends without a list.
+#[derive(Drop)]
+enum Failure {
+    // The words aren't those of the usage, or no text.
+    Usage,
+    // What was refused, by its name.
+    Refused(&'static str),
+}
+
+// The file of `refs FILE`, or none for other words.
+fn file_of_words(mut words: Args) -> Option<String> {
     let _program = words.next()?;
     if words.next()?.as_str() != "refs" {
         return None;
@@ -32,26 +40,30 @@ fn file_of_words(rt: &HostRuntime) -> Option<String> {
     }
 }
 
-// Lists the refs of the file on standard output, or answers the name of what was refused.
-fn list_file(rt: &HostRuntime, path: &str) -> Result<(), &'static str> {
-    let alloc = rt.alloc();
-    let Ok(mut file) = File::open(rt, path) else {
-        return Err("Io");
+// Lists the refs of the file that the words name on standard output.
+fn run(rt: &HostRuntime) -> Result<(), Failure> {
+    let words = env::args(rt).map_err(|e| match e.kind() {
+        ErrorKind::OutOfMemory => Failure::Refused("Memory"),
+        _ => Failure::Usage,
+    })?;
+    let path = file_of_words(words).ok_or(Failure::Usage)?;
+    let Ok(mut file) = File::open(rt, path.as_str()) else {
+        return Err(Failure::Refused("Io"));
     };
-    let Ok(mut writer) = BufWriter::with_capacity(alloc, BUFFER, io::writer(rt)) else {
-        return Err("Memory");
+    let Ok(mut writer) = BufWriter::with_capacity(rt.alloc(), BUFFER, io::writer(rt)) else {
+        return Err(Failure::Refused("Memory"));
     };
-    list_refs(alloc, &mut file, &mut writer).map_err(|e| e.variant())
+    list_refs(rt.alloc(), &mut file, &mut writer).map_err(|e| Failure::Refused(e.variant()))
 }
 
 fn main(rt: HostRuntime) -> ExitCode {
-    let Some(path) = file_of_words(&rt) else {
-        let _ = eprintln!(rt; "{USAGE}");
-        return ExitCode::from(2);
-    };
-    match list_file(&rt, path.as_str()) {
+    match run(&rt) {
         Ok(()) => ExitCode::SUCCESS,
-        Err(variant) => {
+        Err(Failure::Usage) => {
+            let _ = eprintln!(rt; "{USAGE}");
+            ExitCode::from(2)
+        }
+        Err(Failure::Refused(variant)) => {
             let _ = eprintln!(rt; "{variant}");
             ExitCode::FAILURE
         }
