@@ -5,9 +5,10 @@ mod list;
 mod print;
 #[cfg(test)]
 mod tests;
+mod words;
 
+use crate::words::file_of;
 pub use list::{ListError, list_refs};
-use std::env::Args;
 use std::fs::File;
 use std::io::{BufWriter, ErrorKind};
 use std::process::ExitCode;
@@ -27,27 +28,17 @@ enum Failure {
     Refused(&'static str),
 }
 
-// The file of `refs FILE`, or none for other words.
-fn file_of_words(mut words: Args) -> Option<String> {
-    let _program = words.next()?;
-    if words.next()?.as_str() != "refs" {
-        return None;
-    }
-    let file = words.next()?;
-    match words.next() {
-        Some(_) => None,
-        None => Some(file),
-    }
-}
-
 // Lists the refs of the file that the words name on standard output.
 fn run(rt: &HostRuntime) -> Result<(), Failure> {
     let words = env::args(rt).map_err(|e| match e.kind() {
         ErrorKind::OutOfMemory => Failure::Refused("Memory"),
         _ => Failure::Usage,
     })?;
-    let path = file_of_words(words).ok_or(Failure::Usage)?;
-    let Ok(mut file) = File::open(rt, path.as_str()) else {
+    let Ok(words) = words.collect::<Vec<String>>(rt.alloc()) else {
+        return Err(Failure::Refused("Memory"));
+    };
+    let path = file_of(words.as_slice()).ok_or(Failure::Usage)?;
+    let Ok(mut file) = File::open(rt, path) else {
         return Err(Failure::Refused("Io"));
     };
     let Ok(mut writer) = BufWriter::with_capacity(rt.alloc(), BUFFER, io::writer(rt)) else {

@@ -1,5 +1,6 @@
 //! Listed answers: rows with known lines, answers of real servers beside what git prints of them,
 //! and devices that fail or give less than was asked for.
+use crate::words::file_of;
 use crate::{ListError, list_refs};
 use std::alloc::Global;
 use std::io::{ErrorKind, Read, Write};
@@ -261,6 +262,26 @@ fn tells_of_devices_that_fail(rt: HostRuntime) -> Result<(), Fail> {
     };
     let got = listed(a, steady(bytes, usize::MAX), short)?;
     assert_eq!(rt; got.as_slice(), &bytes[4..61]);
+    Ok(())
+}
+
+#[test]
+fn takes_refs_and_a_file(rt: HostRuntime) -> Result<(), Fail> {
+    let a = rt.alloc();
+    for (line, want) in [
+        ("gixp_plan refs x y", None),
+        ("gixp_plan refs x", Some("x")),
+        ("gixp_plan refs", None),
+        ("gixp_plan plan x", None),
+        ("gixp_plan Refs x", None),
+        ("gixp_plan", None),
+    ] {
+        let mut words = Vec::new(a);
+        for word in line.split(' ') {
+            words.push(String::from_str(a, word)?)?;
+        }
+        assert_eq!(rt; file_of(words.as_slice()), want, "of {line}");
+    }
     Ok(())
 }
 
