@@ -8,8 +8,7 @@ use Rattle.gix_protocol.specs.Ref.{RefValue}
 use Rattle.gix_protocol.specs.ParseError.{parse_refusal, is_outside, IsRefusal}
 use Rattle.gix_protocol.specs.RefsError.{Error}
 use Rattle.gix_protocol.specs.Refs.{v2_refs, stream_refs, RefsFail}
-use Rattle.gixp_plan.specs.declared.list.ListError.TheVariants.{Parse}
-use Rattle.gixp_plan.specs.List.{RefusesList}
+use Rattle.gixp_plan.specs.List.{RefusesRefs}
 
 -- what the lines of a fresh reader make is what the stream makes
 fresh_refs : (known : Option (List ℕ)) (r : Reading) (answer : Result (List RefValue) RefsRefusal) → IsFresh known r
@@ -39,16 +38,16 @@ outside_is (bad_band b) now new h p = absurd p
 outside_is interrupted now new h p = absurd p
 
 -- a refusal of the refs is the stream's first, or it came from outside
-pub refuses_list : (known : Option (List ℕ)) (old new : Reading) (e : Error) → IsFresh known old → RefsFail true old new e → RefusesList known (Parse e)
-refuses_list known old new e fresh (inl h) = inl (both known (fresh_refs known old (Err h.refusal) fresh h.first))
+pub refuses_refs : (known : Option (List ℕ)) (old new : Reading) (e : Error) → IsFresh known old → RefsFail true old new e → RefusesRefs known e
+refuses_refs known old new e fresh (inl h) = inl (both known (fresh_refs known old (Err h.refusal) fresh h.first))
   where
     both : (o : Option (List ℕ)) → IfSome o (λ bytes. stream_refs bytes ≡ Err h.refusal) → IfSome o (λ bytes. (r : RefsRefusal) × (stream_refs bytes ≡ Err r) × IsRefusal e r)
     both None k = tt
     both (Some bytes) k = (h.refusal, k, h.error)
-refuses_list known old new e fresh (inr (inl h)) = inl (both known (fresh_refs known old (Err (refusal_from h.refusal)) fresh h.first))
+refuses_refs known old new e fresh (inr (inl h)) = inl (both known (fresh_refs known old (Err (refusal_from h.refusal)) fresh h.first))
   where
     both : (o : Option (List ℕ)) → IfSome o (λ bytes. stream_refs bytes ≡ Err (refusal_from h.refusal)) → IfSome o (λ bytes. (r : RefsRefusal) × (stream_refs bytes ≡ Err r) × IsRefusal e r)
     both None k = tt
     both (Some bytes) k = (refusal_from h.refusal, k, λ _. h.error)
-refuses_list known old new e fresh (inr (inr (inl h))) = inr (ap is_outside h.error ∙ outside_is h.refusal h.now new h.failed (h.is_plain refl))
-refuses_list known old new e fresh (inr (inr (inr h))) = inr (ap (λ x. is_outside (parse_refusal x)) h.error)
+refuses_refs known old new e fresh (inr (inr (inl h))) = inr (ap is_outside h.error ∙ outside_is h.refusal h.now new h.failed (h.is_plain refl))
+refuses_refs known old new e fresh (inr (inr (inr h))) = inr (ap (λ x. is_outside (parse_refusal x)) h.error)

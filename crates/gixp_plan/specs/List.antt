@@ -6,6 +6,7 @@ use Rattle.gix_protocol.specs.Ref.{RefValue, peeled, direct, symbolic, unborn}
 use Rattle.gix_protocol.specs.RefLine.{RefsRefusal}
 use Rattle.gix_protocol.specs.ParseError.{IsRefusal, IsFromOutside}
 use Rattle.gix_protocol.specs.Refs.{stream_refs}
+use Rattle.gix_protocol.specs.RefsError.{Error}
 use Rattle.gixp_plan.specs.declared.list.ListError.{ListError}
 use Rattle.gixp_plan.specs.declared.list.ListError.TheVariants.{Parse, Io}
 
@@ -36,7 +37,11 @@ abbrev pub IsParse : ListError → Type 0
 IsParse (Parse e) = ⊤
 IsParse (Io kind) = ⊥
 
--- what is refused is the stream's first refusal, unless it came from outside; a write fails for a stream that isn't refused
+-- what is refused is the stream's first refusal, unless it came from outside
+abbrev pub RefusesRefs : Option (List ℕ) → Error → Type 0
+RefusesRefs known e = IfSome known (λ bytes. (r : RefsRefusal) × (stream_refs bytes ≡ Err r) × IsRefusal e r) ⊎ IsFromOutside e
+
+-- the refs are refused, or a write failed for a stream that isn't refused
 abbrev pub RefusesList : Option (List ℕ) → ListError → Type 0
-RefusesList known (Parse e) = IfSome known (λ bytes. (r : RefsRefusal) × (stream_refs bytes ≡ Err r) × IsRefusal e r) ⊎ IsFromOutside e
+RefusesList known (Parse e) = RefusesRefs known e
 RefusesList known (Io kind) = IfSome known (λ bytes. IsOk (stream_refs bytes))

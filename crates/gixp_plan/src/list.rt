@@ -1,12 +1,14 @@
 //! Listing the refs of a recorded `ls-refs` answer.
-ghost use Rattle.std.specs.Prelude.{◌≡◌, OnOk, IfErr, IfSome};
+ghost use Rattle.std.specs.Prelude.{◌≡◌, Ok, OnOk, IfErr, IfSome, MatchResult, map};
 ghost use Rattle.std.specs.Io.KnownBytes.{Keeps};
+ghost use Rattle.gix_protocol.specs.Ref.{ref_value};
 ghost use Rattle.gix_protocol.specs.Refs.{stream_refs};
 ghost use Rattle.gix_protocol.specs.ParseError.{parse_refusal};
 ghost use Rattle.gixp_plan.specs.ErrorName.{error_name, list_error_name};
-ghost use Rattle.gixp_plan.specs.List.{Prints, RefusesList, IsParse};
+ghost use Rattle.gixp_plan.specs.List.{Prints, RefusesRefs, RefusesList, IsParse};
 
 use crate::print::write_refs;
+use gix_protocol::handshake::Ref;
 use gix_protocol::handshake::refs::{from_v2_refs, parse};
 use gix_protocol::transport::LineReader;
 use std::alloc::Global;
@@ -54,6 +56,18 @@ fn variant_of(error: &parse::Error) -> &'static str
     }
 }
 
+// The refs of the answer. The reader's buffer is given back before the refs are, since to give back
+// so large a piece of memory behind many small ones costs a walk over all of these.
+fn read_refs<R: Read>(alloc: Global, reader: &mut R) -> Result<Vec<Ref>, parse::Error>
+    ensures { MatchResult result
+        (λ refs. IfSome (R.remaining reader.old) (λ bytes. stream_refs bytes ≡ Ok (map ref_value refs.items)))
+        (RefusesRefs (R.remaining reader.old)) }
+{
+    let mut lines = LineReader::new(alloc, reader)?;
+    let refs = from_v2_refs(alloc, &mut lines)?;
+    Ok(refs)
+}
+
 /// Reads a version 2 `ls-refs` answer up to its stop, and writes a line for each of its refs
 /// (gitprotocol-v2, "ls-refs"). What follows the stop is ignored.
 ///
@@ -74,11 +88,7 @@ pub fn list_refs<R: Read, W: Write>(
     ensures refused { IfErr result (RefusesList (R.remaining reader.old)) }
     ensures nothing { IfErr result (λ e. IsParse e → Keeps (W.contents writer.old) (W.contents writer.new)) }
 {
-    let mut lines = match LineReader::new(alloc, reader) {
-        Ok(lines) => lines,
-        Err(_) => return Err(ListError::Parse(parse::Error::Memory)),
-    };
-    let refs = match from_v2_refs(alloc, &mut lines) {
+    let refs = match read_refs(alloc, reader) {
         Ok(refs) => refs,
         Err(e) => return Err(ListError::Parse(e)),
     };

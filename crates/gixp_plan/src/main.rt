@@ -15,7 +15,7 @@ use std::process::ExitCode;
 use std::{env, io};
 
 // The number of bytes that are gathered before they are written.
-const BUFFER: usize = 65536;
+const BUFFER: usize = 32768;
 
 const USAGE: &str = "usage: gixp_plan refs FILE";
 
