@@ -1,6 +1,8 @@
 //! The client side of git's fetch protocol, under the paths of the Rust crate `gix-protocol`.
 #![tactic(auto)]
 
+pub mod fetch;
 pub mod handshake;
 
+pub use gixp_refspec as refspec;
 pub use gixp_wire as transport;

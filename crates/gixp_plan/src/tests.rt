@@ -2,10 +2,12 @@
 //! and devices that fail or give less than was asked for.
 use crate::words::file_of;
 use crate::{ListError, list_refs};
-use std::alloc::Global;
+use std::alloc::{AllocError, Global};
+use std::io;
 use std::io::{ErrorKind, Read, Write};
 use std::test::Fail;
-use std::{fs, io};
+
+mod recorded;
 
 // Bytes of which each read gives at most `step`. The read of number `fails` fails with `kind`.
 #[derive(Drop)]
@@ -73,8 +75,11 @@ fn collecting(alloc: Global) -> Sink {
 
 // What was written, and the name of a refusal behind it.
 fn listed(alloc: Global, mut from: Source<'_>, mut to: Sink) -> Result<Vec<u8>, Fail> {
-    if let Err(e) = list_refs(alloc, &mut from, &mut to) {
-        to.text.extend_from_slice(e.variant().as_bytes())?;
+    match list_refs(alloc, &mut from, &mut to) {
+        Ok(()) => {}
+        // The sink had no memory.
+        Err(ListError::Io(ErrorKind::OutOfMemory)) => return Err(Fail::from(AllocError)),
+        Err(e) => to.text.extend_from_slice(e.variant().as_bytes())?,
     }
     Ok(to.text)
 }
@@ -180,45 +185,63 @@ fn push_line(text: &mut Vec<u8>, parts: &[&[u8]]) -> Result<(), Fail> {
     Ok(())
 }
 
-// The answers were recorded from git 2.39.5, each beside what `git ls-remote --symref` printed of
-// the same repository.
 #[test]
 fn lists_what_git_lists(rt: HostRuntime) -> Result<(), Fail> {
     let a = rt.alloc();
-    for name in ["plain", "tagged", "unborn", "detached", "shallow", "many"] {
-        let answer = fs::read(&rt, format!(in a; "{name}.ls")?)?;
-        let refs = fs::read(&rt, format!(in a; "{name}.refs")?)?;
+    for (answer, refs) in [
+        recorded::PLAIN,
+        recorded::TAGGED,
+        recorded::UNBORN,
+        recorded::DETACHED,
+        recorded::SHALLOW,
+    ] {
         for step in [1, 1000, usize::MAX] {
-            let got = listed(a, steady(answer.as_slice(), step), collecting(a))?;
-            assert!(rt;
-                as_git(a, got.as_slice())?.as_slice() == refs.as_slice(),
-                "of {name} by {step}"
-            );
+            let got = listed(a, steady(answer, step), collecting(a))?;
+            assert!(rt; !got.ends_with(b"Memory"), "Memory");
+            assert_eq!(rt; as_git(a, got.as_slice())?.as_slice(), refs, "by {step}");
         }
     }
-    let spaced = fs::read(&rt, "spaced.ls")?;
     let want =
         "7257effbd41e1233eaae5744e614c5c728e3c979 HEAD\n7257effbd41e1233eaae5744e614c5c728e3c979 HEAD\n7257effbd41e1233eaae5744e614c5c728e3c979 refs/heads/main\n";
-    let got = listed(a, steady(spaced.as_slice(), 5), collecting(a))?;
+    let got = listed(a, steady(recorded::SPACED, 5), collecting(a))?;
     assert_eq!(rt; got.as_slice(), want.as_bytes());
+    Ok(())
+}
+
+// 2,000 refs are more than the reader's buffer holds.
+#[test]
+fn lists_more_than_a_buffer(rt: HostRuntime) -> Result<(), Fail> {
+    let a = rt.alloc();
+    let mut answer = String::new(a);
+    let mut want = String::new(a);
+    for number in 0..2000 {
+        let line = format!(in a;
+            "0123456789012345678901234567890123456789 refs/heads/{number:04}\n"
+        )?;
+        answer.push_str("003d")?;
+        answer.push_str(line.as_str())?;
+        want.push_str(line.as_str())?;
+    }
+    answer.push_str("0000")?;
+    for step in [7, 4096, usize::MAX] {
+        let got = listed(a, steady(answer.as_bytes(), step), collecting(a))?;
+        assert!(rt; !got.ends_with(b"Memory"), "Memory");
+        assert!(rt; got.as_slice() == want.as_bytes(), "by {step}");
+    }
     Ok(())
 }
 
 #[test]
 fn refuses_every_beginning_and_takes_every_cut(rt: HostRuntime) -> Result<(), Fail> {
     let a = rt.alloc();
-    let answer = fs::read(&rt, "tagged.ls")?;
-    assert!(rt; answer.len() > 900);
-    let whole = listed(a, steady(answer.as_slice(), usize::MAX), collecting(a))?;
+    let (answer, _) = recorded::TAGGED;
+    assert_eq!(rt; answer.len(), 912);
+    let whole = listed(a, steady(answer, usize::MAX), collecting(a))?;
     for end in 0..answer.len() {
         let got = listed(a, steady(&answer[..end], usize::MAX), collecting(a))?;
         assert_eq!(rt; got.as_slice(), b"Io".as_slice(), "of {end} bytes");
-        let got = listed(
-            a,
-            steady(answer.as_slice(), end.saturating_add(1)),
-            collecting(a),
-        )?;
-        assert!(rt; got.as_slice() == whole.as_slice(), "by {end} and one");
+        let got = listed(a, steady(answer, end.saturating_add(1)), collecting(a))?;
+        assert_eq!(rt; got.as_slice(), whole.as_slice(), "by {end} and one");
     }
     Ok(())
 }

@@ -157,7 +157,8 @@ fn gives_the_message_of_a_server(rt: HostRuntime) -> Result<(), Fail> {
                     message.as_bytes(),
                     want.as_bytes()
                 ),
-                _ => assert!(rt; false, "of {bytes}"),
+                Err(e) => assert!(rt; false, "{e:?} of {bytes}"),
+                Ok(_) => assert!(rt; false, "a line of {bytes}"),
             }
         }
     }
@@ -227,7 +228,7 @@ fn loses_nothing_behind_a_failed_read(rt: HostRuntime) -> Result<(), Fail> {
                 match reader.readline_str(&mut lines) {
                     Ok(_) => {}
                     Err(e) => {
-                        assert!(rt; matches!(e, Error::Io(k) if k == kind));
+                        assert!(rt; matches!(e, Error::Io(k) if k == kind), "{e:?}");
                         failed = failed.saturating_add(1);
                     }
                 }

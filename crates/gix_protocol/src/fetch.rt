@@ -1,0 +1,2 @@
+//! The fetch of a pack.
+pub mod negotiate;

@@ -1,0 +1,5 @@
+//! Which commits both sides have.
+pub use gixp_graph::{
+    CommitData, Flags, Graph, Negotiator, NegotiatorError, ObjectError, ObjectKind, Objects,
+    RefStore, RefStoreError,
+};

@@ -1,0 +1,72 @@
+-- Commits as nodes of a map, and as a finite map.
+use Rattle.std.proofs.Common.{ℤ, ◌≡◌, ℕ, ◌∙◌, cond, List, Option, Some, None, refl, sym, ap}
+use Rattle.std.specs.Prelude.{option_map}
+use Rattle.std.specs.Option.{option_or}
+use Rattle.std.specs.Cmp.{IsTotalOrder}
+use Rattle.std.specs.Cmp.Lexicographic.{nat_list_cmp_total}
+use Rattle.std.proofs.lemmas.Cmp.{on_total}
+use Rattle.std.proofs.lemmas.Map.Lookups.{CmpEqualImpliesEq, exact_bytes}
+use Rattle.std.specs.declared.cmp.Ordering.{Ordering}
+use Rattle.std.specs.declared.cmp.Ordering.TheVariants.{Less, Equal, Greater}
+use Rattle.std.specs.Ordering.{is_eq}
+use Rattle.std.specs.FinMap as finite
+use Rattle.std.specs.FinMap.{get-insert, same_map}
+use Rattle.gixp_wire.specs.declared.object_id.ObjectId.{ObjectId}
+use Rattle.gixp_graph.specs.declared.flags.Flags.{Flags}
+use Rattle.gixp_wire.specs.ObjectId.{id_cmp}
+use Rattle.gixp_graph.specs.Object.{Commit, commit_at}
+use Rattle.gixp_graph.specs.Held.{Held, shown, Commits, GraphData, found_in, looked_up, flagged, with_flags, unmarked, put}
+
+-- ids that compare alike are one
+pub ids_exact : CmpEqualImpliesEq id_cmp
+ids_exact a b h = ap (λ (bytes : List ℕ). record { bytes = bytes }) (exact_bytes a.bytes b.bytes h)
+
+-- the order of ids is total
+pub ids_total : IsTotalOrder id_cmp
+ids_total = on_total (λ d. d.bytes) nat_list_cmp_total
+
+-- what is found, by whether it is held
+pub found_held : (g : GraphData) (id : ObjectId) (h : Held) → finite.get g.held id ≡ Some h → found_in g id ≡ Some h
+found_held g id h is = ap (λ o. option_or o (option_map unmarked (commit_at g.objects id))) is
+
+-- or by the objects
+pub found_new : (g : GraphData) (id : ObjectId) (o : Option Commit) → finite.get g.held id ≡ None → o ≡ commit_at g.objects id → found_in g id ≡ option_map unmarked o
+found_new g id o is c = ap (λ o. option_or o (option_map unmarked (commit_at g.objects id))) is ∙ ap (option_map unmarked) (sym c)
+
+-- to put what is there changes nothing
+pub put_same : (m : Commits) (id : ObjectId) (h : Held) → finite.get m id ≡ Some h → finite.insert m id h ≡ m
+put_same m id h is = same_map ids_total ids_exact _ _ (λ q. get-insert ids_total m id h q ∙ at q (id_cmp q id) refl)
+  where
+    at : (q : ObjectId) (o : Ordering) → id_cmp q id ≡ o → cond (is_eq o) (Some h) (finite.get m q) ≡ finite.get m q
+    at q Less e = refl
+    at q Equal e = sym (ap (finite.get m) (ids_exact q id e) ∙ is)
+    at q Greater e = refl
+
+-- a look-up of a commit that is held changes nothing
+pub looked_up_held : (g : GraphData) (id : ObjectId) (h : Held) → finite.get g.held id ≡ Some h → looked_up g id ≡ g.held
+looked_up_held g id h is = ap (put g.held id) (found_held g id h is) ∙ put_same g.held id h is
+
+-- marks are added to a commit that is held
+pub flagged_held : (m : Commits) (id : ObjectId) (flags : Flags) (h : Held) → finite.get m id ≡ Some h → flagged m id flags ≡ finite.insert m id (with_flags flags h)
+flagged_held m id flags h is = ap (λ o. put m id (option_map (with_flags flags) o)) is
+
+-- and to no other
+pub flagged_none : (m : Commits) (id : ObjectId) (flags : Flags) → finite.get m id ≡ None → flagged m id flags ≡ m
+flagged_none m id flags is = ap (λ o. put m id (option_map (with_flags flags) o)) is
+
+-- where a commit is held
+pub known_looked_up : (g : GraphData) (id : ObjectId) (r : ℤ × Flags) → ◌≡◌ {A = Option (ℤ × Flags)} (Some r) (option_map shown (finite.get g.held id)) → looked_up g id ≡ g.held
+known_looked_up g id r e = at (finite.get g.held id) refl e
+  where
+    at : (o : Option Held) → finite.get g.held id ≡ o → ◌≡◌ {A = Option (ℤ × Flags)} (Some r) (option_map shown o) → looked_up g id ≡ g.held
+    at None is e = cc
+    at (Some h) is e = looked_up_held g id h is
+
+-- what shows nothing is nothing
+pub none_shown : (o : Option Held) → ◌≡◌ {A = Option (ℤ × Flags)} None (option_map shown o) → o ≡ None
+none_shown None e = refl
+none_shown (Some h) e = cc
+
+-- where none is
+pub unknown : (m : Commits) (id : ObjectId) → ◌≡◌ {A = Option (ℤ × Flags)} None (option_map shown (finite.get m id)) → finite.get m id ≡ None
+unknown m id e = none_shown (finite.get m id) e

@@ -1,0 +1,17 @@
+pub mod EachLemmas
+pub mod ExactLemmas
+pub mod FaithfulLemmas
+pub mod GrowLemmas
+pub mod HeldLemmas
+pub mod LeftLemmas
+pub mod ListedLemmas
+pub mod MarkLemmas
+pub mod NewestLemmas
+pub mod NodeLemmas
+pub mod QueueLemmas
+pub mod RunLemmas
+pub mod SlowLemmas
+pub mod StepLemmas
+pub mod TableLemmas
+pub mod WaitingLemmas
+pub mod WalkLemmas

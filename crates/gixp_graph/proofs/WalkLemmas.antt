@@ -1,0 +1,160 @@
+-- Walks: how they begin, drop what was seen to, and end.
+use Rattle.std.proofs.Common.{◌≡◌, ℕ, ℤ, ◌<◌, ◌∙◌, inl, inr, ⊎_elim, true, false, List, [], ◌∷◌, ◌++◌, length, map, Option, Some, None, refl, sym, ap, subst, append-nil, get_or, arith}
+use Rattle.std.specs.Prelude.{option_map, IsSome, Contains, All, ◌≤ℤ◌, unwrap_or}
+use Rattle.std.specs.Option.{option_or, option_map_or}
+use lib.Signed.{◌<ℤ◌}
+use Rattle.std.proofs.lemmas.Int.{ints}
+use Rattle.std.specs.List.{flat_map}
+use Rattle.std.specs.Ordering.{eq_by_cmp}
+use Rattle.std.specs.List.Sorted.{IsPermutation}
+use Rattle.std.proofs.lemmas.List.Sorted.{All-permutation, list_any-IsPermutation}
+use Rattle.std.proofs.lemmas.List.Elements.{All-nil, All-cons, All-head, All-tail, All-append, All-contains, Contains-get_or}
+use Rattle.std.proofs.lemmas.Bool.{or_cases}
+use Rattle.std.specs.FinMap as finite
+use Rattle.gixp_wire.specs.declared.object_id.ObjectId.{ObjectId}
+use Rattle.gixp_wire.specs.ObjectId.{id_cmp}
+use Rattle.gixp_graph.specs.Object.{Commit, commit_at}
+use Rattle.gixp_graph.specs.Held.{Held, Commits, GraphData, commit_in, as_read, unmarked, parents_in, is_complete, is_marked, OnlyMarks, HasNoMarks}
+use Rattle.gixp_graph.specs.Complete.{IsComplete}
+use Rattle.gixp_graph.specs.Table.{id_at, ids_at}
+use Rattle.gixp_graph.specs.Queue.{entry_at}
+use Rattle.gixp_graph.specs.Waiting.{Waiting, waiting_in}
+use Rattle.gixp_graph.specs.Walk.{waits, IsExpanded, IsMarking, IsQueued, IsWalk, AreDue, AreMarked}
+use Rattle.gixp_graph.proofs.MarkLemmas.{same_from}
+use Rattle.gixp_graph.proofs.StepLemmas.{reads}
+
+-- what a walk begins with
+pub marking_start : (g : GraphData) (ids : List ObjectId) (cutoff : Option ℤ) → IsMarking g ids cutoff g.held
+marking_start g ids cutoff = record { only_marks = λ q. inl refl; sound = λ q m. inl m }
+
+-- and a walk where nothing waits
+pub walk_start : (g : GraphData) (ids : List ObjectId) (cutoff : Option ℤ) → IsWalk g ids cutoff g.held []
+walk_start g ids cutoff = record { marking = marking_start g ids cutoff; queued = All-nil (IsQueued g ids cutoff g.held); closed = λ q m. inl m }
+
+-- the order in which they wait is free
+pub walk_permuted : (g : GraphData) (ids : List ObjectId) (cutoff : Option ℤ) (held : Commits) (queue queue' : List Waiting) → IsWalk g ids cutoff held queue → IsPermutation queue queue' → IsWalk g ids cutoff held queue'
+walk_permuted g ids cutoff held queue queue' w p = record {
+  marking = w.marking;
+  queued = All-permutation (IsQueued g ids cutoff held) queue queue' p w.queued;
+  closed = λ q m. ⊎_elim (λ a. inl a) (λ a. inr (⊎_elim
+      (λ d. inl (sym (list_any-IsPermutation (λ (y : Waiting). eq_by_cmp id_cmp q y.id) queue queue' p) ∙ d)) (λ d. inr d) a)) (w.closed q m);
+}
+
+module _ (g : GraphData) (ids : List ObjectId) (cutoff : Option ℤ) (held : Commits) where
+  -- a commit whose parents are marked need not wait
+  pub walk_seen : (x : Waiting) (queue : List Waiting) → IsWalk g ids cutoff held (x ∷ queue) → IsExpanded g cutoff held x.id → IsWalk g ids cutoff held queue
+  walk_seen x queue w e = record {
+    marking = w.marking;
+    queued = All-tail (IsQueued g ids cutoff held) x queue w.queued;
+    closed = λ q m. ⊎_elim (λ a. inl a) (λ a. inr (⊎_elim
+        (λ d. ⊎_elim (λ s. inr (subst (IsExpanded g cutoff held) (sym (same_from q x.id s)) e)) (λ s. inl s) (or_cases (eq_by_cmp id_cmp q x.id) (waits queue q) d))
+        (λ d. inr d) a)) (w.closed q m);
+  }
+
+  -- nor need several
+  pub walk_dropped : (others queue : List Waiting) → IsWalk g ids cutoff held (others ++ queue) → All (λ (x : Waiting). IsExpanded g cutoff held x.id) others → IsWalk g ids cutoff held queue
+  walk_dropped [] queue w h = w
+  walk_dropped (x ∷ xs) queue w h = walk_dropped xs queue (walk_seen x (xs ++ queue) w (All-head (λ (x : Waiting). IsExpanded g cutoff held x.id) x xs h)) (All-tail (λ (x : Waiting). IsExpanded g cutoff held x.id) x xs h)
+
+  -- where each commit that waits has its parents marked, where they have to be, all that is complete is marked
+  pub complete_marked : HasNoMarks g.held → (queue : List Waiting) → IsWalk g ids cutoff held queue → All (λ (x : Waiting). IsExpanded g cutoff held x.id) queue
+      → AreMarked g held ids → (q : ObjectId) → IsComplete (commit_in g) ids cutoff q → is_marked held q ≡ true
+  complete_marked none queue w rest tips q (IsComplete.tip i f) = All-contains (λ p. IsSome (commit_in g p) → is_marked held p ≡ true) ids q tips i f
+  complete_marked none queue w rest tips q (IsComplete.parent {id} {p} {c} {least} k r t l i f) =
+      let m : is_marked held id ≡ true = complete_marked none queue w rest tips id k in
+      let all : IsWalk g ids cutoff held [] = walk_dropped queue [] (subst (IsWalk g ids cutoff held) (sym (append-nil queue)) w) rest in
+      ⊎_elim (λ a. absurd (let n : is_marked g.held id ≡ false = none id in cc)) (λ a. ⊎_elim (λ b. absurd (cc)) (λ d. d c least p r t l i f) a) (all.closed id m)
+
+-- ---- the parents of a commit that waits
+
+-- what is known while the parents of x are being marked
+record IsOpened (g : GraphData) (x : Waiting) (parents : List ObjectId) : Type 0 where
+  pub commit : Commit
+  pub reads : commit_in g x.id ≡ Some commit
+  pub time : commit.time ≡ x.time
+  pub parents_are : commit.parents ≡ parents
+
+-- the same, by what is held
+opened_at : (g : GraphData) (x : Waiting) (o : Option Held) → option_map_or is_complete o false ≡ true → option_map as_read (option_or o (option_map unmarked (commit_at g.objects x.id))) ≡ commit_in g x.id
+    → option_map (λ (c : Commit). c.time) (commit_in g x.id) ≡ Some x.time → IsOpened g x (unwrap_or (option_map (λ (h : Held). h.parents) o) [])
+opened_at g x None m r t = cc
+opened_at g x (Some h) m r t = record {
+  commit = as_read h;
+  reads = sym r;
+  time = (let e : Some h.time ≡ Some x.time = ap (option_map (λ (c : Commit). c.time)) r ∙ t in cc);
+  parents_are = refl;
+}
+
+-- the commit of one that waits
+opened : (g : GraphData) (ids : List ObjectId) (cutoff : Option ℤ) (held : Commits) → OnlyMarks g held → (x : Waiting) → IsQueued g ids cutoff held x → (parents : List ObjectId) → parents ≡ unwrap_or (option_map (λ (h : Held). h.parents) (finite.get held x.id)) [] → IsOpened g x parents
+opened g ids cutoff held only x k parents e = subst (IsOpened g x) (sym e) (opened_at g x (finite.get held x.id) k.marked (reads g held only x.id) k.timed)
+
+-- a parent that is found is complete
+due_parent : (g : GraphData) (ids : List ObjectId) (cutoff : Option ℤ) (held : Commits) (x : Waiting) → IsComplete (commit_in g) ids cutoff x.id → (parents : List ObjectId) → IsOpened g x parents → (least : ℤ) → cutoff ≡ Some least → least ≤ℤ x.time
+    → (p : ObjectId) → Contains parents p → IsSome (commit_in g p) → IsComplete (commit_in g) ids cutoff p
+due_parent g ids cutoff held x k parents o least l t p i f =
+    IsComplete.parent k o.reads l (subst (λ (z : ℤ). least ≤ℤ z) (sym o.time) t) (subst (λ ps. Contains ps p) (sym o.parents_are) i) f
+
+-- all parents were marked
+expanded_all : (g : GraphData) (cutoff : Option ℤ) (held : Commits) (x : Waiting) (parents : List ObjectId) → IsOpened g x parents → ((k : ℕ) (d : ObjectId) → k < length parents → IsSome (commit_in g (get_or parents k d)) → is_marked held (get_or parents k d) ≡ true) → IsExpanded g cutoff held x.id
+expanded_all g cutoff held x parents o all c least p r l t i f =
+    let e : o.commit ≡ c = (let s : Some o.commit ≡ Some c = sym o.reads ∙ r in cc) in
+    let j : Contains parents p = subst (λ ps. Contains ps p) (ap (λ (c : Commit). c.parents) (sym e) ∙ o.parents_are) i in
+    subst (λ q. IsSome (commit_in g q) → is_marked held q ≡ true) j.2 (all j.0 p j.1) f
+
+-- a commit before the cutoff has no parents that have to be marked
+pub expanded_before : (g : GraphData) (ids : List ObjectId) (cutoff : Option ℤ) (held : Commits) (x : Waiting) → IsQueued g ids cutoff held x → (least : ℤ) → cutoff ≡ Some least → x.time <ℤ least → IsExpanded g cutoff held x.id
+expanded_before g ids cutoff held x k least l b c most p r m t i f =
+    let same : most ≡ least = (let s : Some most ≡ Some least = sym m ∙ l in cc) in
+    let time : c.time ≡ x.time = (let s : Some c.time ≡ Some x.time = ap (option_map (λ (c : Commit). c.time)) (sym r) ∙ k.timed in cc) in
+    let a : least ≤ℤ x.time = subst (λ (z : ℤ). z ≤ℤ x.time) same (subst (λ (z : ℤ). most ≤ℤ z) time t) in
+    absurd (omega (arith, ints))
+
+-- ---- the commits of one time
+
+-- a list has what its two halves have
+pub all_left : {X : Type 0} (P : X → Type 0) (xs ys : List X) → All P (xs ++ ys) → All P xs
+all_left P [] ys h = All-nil P
+all_left P (x ∷ xs) ys h = All-cons P x xs (All-head P x (xs ++ ys) h) (all_left P xs ys (All-tail P x (xs ++ ys) h))
+
+-- and so has the second
+pub all_right : {X : Type 0} (P : X → Type 0) (xs ys : List X) → All P (xs ++ ys) → All P ys
+all_right P [] ys h = h
+all_right P (x ∷ xs) ys h = all_right P xs ys (All-tail P x (xs ++ ys) h)
+
+module _ (g : GraphData) (ids : List ObjectId) (cutoff : Option ℤ) (names : List ObjectId) (t : ℤ) where
+  -- where they are queued and their time is at least the cutoff, their parents that are found are complete
+  pub due_parents : (held : Commits) → OnlyMarks g held → (least : ℤ) → cutoff ≡ Some least → least ≤ℤ t → (numbers : List ℕ) → All (IsQueued g ids cutoff held) (waiting_in names (map (entry_at t) numbers))
+      → AreDue g ids cutoff (flat_map (parents_in held) (ids_at names numbers))
+  due_parents held only least l b [] q = All-nil (λ id. IsSome (commit_in g id) → IsComplete (commit_in g) ids cutoff id)
+  due_parents held only least l b (n ∷ ns) q =
+      let x : Waiting = record { time = t; id = id_at names n } in
+      let first : IsQueued g ids cutoff held x = All-head (IsQueued g ids cutoff held) x (waiting_in names (map (entry_at t) ns)) q in
+      let ps : List ObjectId = parents_in held x.id in
+      All-append (λ id. IsSome (commit_in g id) → IsComplete (commit_in g) ids cutoff id) ps (flat_map (parents_in held) (ids_at names ns))
+      (λ k d i. due_parent g ids cutoff held x first.complete ps (opened g ids cutoff held only x first ps refl) least l b _ (Contains-get_or ps k d i))
+      (due_parents held only least l b ns (All-tail (IsQueued g ids cutoff held) x (waiting_in names (map (entry_at t) ns)) q))
+
+  -- once those are marked, they need not wait
+  pub expanded_each : (held held' : Commits) → OnlyMarks g held → (numbers : List ℕ) → All (IsQueued g ids cutoff held) (waiting_in names (map (entry_at t) numbers))
+      → AreMarked g held' (flat_map (parents_in held) (ids_at names numbers)) → All (λ (x : Waiting). IsExpanded g cutoff held' x.id) (waiting_in names (map (entry_at t) numbers))
+  expanded_each held held' only [] q m = All-nil (λ (x : Waiting). IsExpanded g cutoff held' x.id)
+  expanded_each held held' only (n ∷ ns) q m =
+      let x : Waiting = record { time = t; id = id_at names n } in
+      let first : IsQueued g ids cutoff held x = All-head (IsQueued g ids cutoff held) x (waiting_in names (map (entry_at t) ns)) q in
+      let ps : List ObjectId = parents_in held x.id in
+      let P : ObjectId → Type 0 = λ id. IsSome (commit_in g id) → is_marked held' id ≡ true in
+      All-cons (λ (x : Waiting). IsExpanded g cutoff held' x.id) x (waiting_in names (map (entry_at t) ns))
+      (expanded_all g cutoff held' x ps (opened g ids cutoff held only x first ps refl) (λ k d i. all_left P ps (flat_map (parents_in held) (ids_at names ns)) m k d i))
+      (expanded_each held held' only ns (All-tail (IsQueued g ids cutoff held) x (waiting_in names (map (entry_at t) ns)) q) (all_right P ps (flat_map (parents_in held) (ids_at names ns)) m))
+
+-- commits whose times are before the cutoff have no parents that have to be marked
+pub expanded_older : (g : GraphData) (ids : List ObjectId) (cutoff : Option ℤ) (held : Commits) (t least : ℤ) → cutoff ≡ Some least → t <ℤ least → (queue : List Waiting) → All (λ (x : Waiting). x.time ≤ℤ t) queue → All (IsQueued g ids cutoff held) queue
+    → All (λ (x : Waiting). IsExpanded g cutoff held x.id) queue
+expanded_older g ids cutoff held t least l b queue u a k d i =
+    let no_newer = u k d i in
+    expanded_before g ids cutoff held _ (a k d i) least l (omega (arith, ints))
+
+-- with no cutoff none has
+pub expanded_never : (g : GraphData) (cutoff : Option ℤ) (held : Commits) (queue : List Waiting) → cutoff ≡ None → All (λ (x : Waiting). IsExpanded g cutoff held x.id) queue
+expanded_never g cutoff held queue none k d i c least p r l t j f = cc

@@ -1,0 +1,9 @@
+-- The commits that a repository has for certain, from some ids and a cutoff.
+use Rattle.std.specs.Prelude.{◌≡◌, ℤ, ◌≤ℤ◌, List, Option, Some, IsSome, Contains}
+use Rattle.gixp_wire.specs.declared.object_id.ObjectId.{ObjectId}
+use Rattle.gixp_graph.specs.Object.{Commit}
+
+-- the least set that holds the ids that are found and, where there is a cutoff, the parents that are found of each member whose own time is at least the cutoff
+pub data IsComplete (read : ObjectId → Option Commit) (ids : List ObjectId) (cutoff : Option ℤ) : ObjectId → Type 0 where
+  tip : {id : ObjectId} → Contains ids id → IsSome (read id) → IsComplete read ids cutoff id
+  parent : {id p : ObjectId} {c : Commit} {least : ℤ} → IsComplete read ids cutoff id → read id ≡ Some c → cutoff ≡ Some least → least ≤ℤ c.time → Contains c.parents p → IsSome (read p) → IsComplete read ids cutoff p

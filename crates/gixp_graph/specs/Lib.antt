@@ -1,0 +1,14 @@
+pub mod Complete
+pub mod Held
+pub mod Listed
+pub mod Negotiation
+pub mod Node
+pub mod Object
+pub mod Queue
+pub mod Run
+pub mod Slow
+pub mod Table
+pub mod Waiting
+pub mod Walk
+pub use Rattle.gixp_wire.specs.ObjectId
+pub use Rattle.bstr.specs.BStr

@@ -1,0 +1,62 @@
+-- Commits as numbered nodes.
+use Rattle.std.specs.Prelude.{◌≡◌, ℕ, ◌-◌, ◌<◌, ◌≤◌, List, Option, Some, None, map, take, drop, length, if◌then◌else◌, All, [], pos, false}
+use Rattle.std.specs.List.{filter_map}
+use Rattle.std.specs.Map.{lookup}
+use Rattle.std.specs.BTreeMap.{is_at}
+use Rattle.std.specs.FinMap as finite
+use Rattle.gixp_wire.specs.declared.object_id.ObjectId.{ObjectId}
+use Rattle.gixp_graph.specs.declared.commits.Node.{Node}
+use Rattle.gixp_wire.specs.ObjectId.{id_cmp}
+use Rattle.gixp_graph.specs.Held.{Held, Commits}
+use Rattle.gixp_graph.specs.Table.{id_at, ids_at, AllNamed}
+
+-- the ids of the nodes, by number
+abbrev pub ids_of : List Node → List ObjectId
+ids_of nodes = map (λ (x : Node). x.id) nodes
+
+-- the number of an id
+abbrev pub number_at : List (ObjectId × ℕ) → ObjectId → Option ℕ
+number_at numbers id = lookup (is_at (id_cmp id)) numbers
+
+-- a node's range is one of parents
+abbrev pub IsInRange : List ℕ → Node → Type 0
+IsInRange parents x = (x.first ≤ x.end) × (x.end ≤ length parents)
+
+-- the numbers in a node's range
+abbrev pub range_of : List ℕ → Node → List ℕ
+range_of parents x = take (x.end - x.first) (drop x.first parents)
+
+-- the numbers of a node's parents, none where it wasn't found
+abbrev pub parent_numbers_of : List ℕ → Node → List ℕ
+parent_numbers_of parents x = if x.is_found then range_of parents x else []
+
+-- the ids in a node's range
+abbrev pub parents_of : List ObjectId → List ℕ → Node → List ObjectId
+parents_of ids parents x = ids_at ids (range_of parents x)
+
+-- a node in a contract
+abbrev pub held_of : List ObjectId → List ℕ → Node → Held
+held_of ids parents x = record { time = x.time; parents = parents_of ids parents x; flags = x.flags }
+
+-- where it was found
+abbrev pub entry_of : List ObjectId → List ℕ → Node → Option (ObjectId × Held)
+entry_of ids parents x = if x.is_found then Some (x.id, held_of ids parents x) else None
+
+-- the commits held
+abbrev pub held_in : List Node → List ℕ → Commits
+held_in nodes parents = finite.from_entries (filter_map (entry_of (ids_of nodes) parents) nodes)
+
+-- each id has one number, which the map has under it
+pub record IsNumbered (ids : List ObjectId) (numbers : List (ObjectId × ℕ)) : Type 0 where
+  pub named : (id : ObjectId) (n : ℕ) → number_at numbers id ≡ Some n → (n < length ids) × (id_at ids n ≡ id)
+  pub numbered : (n : ℕ) → n < length ids → number_at numbers (id_at ids n) ≡ Some n
+
+-- the nodes are numbered, each parent's number names one, and each range is one
+pub record IsTable (nodes : List Node) (numbers : List (ObjectId × ℕ)) (parents : List ℕ) : Type 0 where
+  pub numbering : IsNumbered (ids_of nodes) numbers
+  pub names : AllNamed (ids_of nodes) parents
+  pub ranged : All (IsInRange parents) nodes
+
+-- the node of an id that wasn't looked up
+abbrev pub blank : ObjectId → Node
+blank id = record { id = id; time = pos 0; flags = record { 0 = 0 }; is_found = false; first = 0; end = 0 }

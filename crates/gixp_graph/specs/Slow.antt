@@ -1,0 +1,22 @@
+-- One more commit, and no more, by the definition of the complete commits.
+use Rattle.std.specs.Prelude.{◌≡◌, ℤ, ◌≤ℤ◌, List, Option, Some, IsSome, Contains, All}
+use Rattle.gixp_wire.specs.declared.object_id.ObjectId.{ObjectId}
+use Rattle.gixp_graph.specs.Object.{Commit}
+use Rattle.gixp_graph.specs.Complete.{IsComplete}
+
+-- those of some ids that are found are known
+abbrev pub AreKnown : (ObjectId → Option Commit) → List ObjectId → List ObjectId → Type 0
+AreKnown read known ids = All (λ id. IsSome (read id) → Contains known id) ids
+
+-- a commit that is found, isn't known, and is complete if the known ones are
+abbrev pub IsMissing : (ObjectId → Option Commit) → List ObjectId → Option ℤ → List ObjectId → ObjectId → Type 0
+IsMissing read tips cutoff known id = IsSome (read id) × ¬ (Contains known id) × (All (IsComplete read tips cutoff) known → IsComplete read tips cutoff id)
+
+-- the parents of a commit from the cutoff on are known, those that are found
+abbrev pub ParentsAreKnown : (ObjectId → Option Commit) → ℤ → List ObjectId → ObjectId → Type 0
+ParentsAreKnown read least known id = (c : Commit) → read id ≡ Some c → least ≤ℤ c.time → AreKnown read known c.parents
+
+-- no commit is missing
+pub record IsClosed (read : ObjectId → Option Commit) (tips : List ObjectId) (cutoff : Option ℤ) (known : List ObjectId) : Type 0 where
+  pub tips_known : AreKnown read known tips
+  pub parents_known : (least : ℤ) → cutoff ≡ Some least → All (ParentsAreKnown read least known) known

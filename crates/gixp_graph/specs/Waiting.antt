@@ -1,0 +1,29 @@
+-- Commits that wait for their parents to be marked.
+use Rattle.std.specs.Prelude.{◌≡◌, ℤ, ◌<◌, List, ◌∷◌, map, length, All, Option, Some, None}
+use Rattle.std.specs.List.Sorted.{IsPermutation}
+use Rattle.gixp_wire.specs.declared.object_id.ObjectId.{ObjectId}
+use Rattle.gixp_graph.specs.Held.{Held}
+use Rattle.gixp_graph.specs.Table.{id_at}
+use Rattle.gixp_graph.specs.Queue.{Entry}
+
+-- a commit that waits, with its time
+pub record Waiting : Type 0 where
+  pub time : ℤ
+  pub id : ObjectId
+
+-- the commit of an entry
+abbrev pub waiting_of : List ObjectId → Entry → Waiting
+waiting_of ids e = record { time = e.time; id = id_at ids e.number }
+
+-- the commits of a queue
+abbrev pub waiting_in : List ObjectId → List Entry → List Waiting
+waiting_in ids queue = map (waiting_of ids) queue
+
+-- each number in a queue names an id
+abbrev pub AllQueuedNamed : List ObjectId → List Entry → Type 0
+AllQueuedNamed ids queue = All (λ (e : Entry). e.number < length ids) queue
+
+-- the commits that wait gain one that is new, and where there is none stay
+abbrev pub Queues : Option Held → ObjectId → List Waiting → List Waiting → Type 0
+Queues None id old new = new ≡ old
+Queues (Some h) id old new = IsPermutation (record { time = h.time; id = id } ∷ old) new

@@ -1,0 +1,326 @@
+//! The commits that were looked up, with their marks, as numbered nodes.
+ghost use Rattle.std.specs.Prelude.{◌≡◌, ◌≤◌, ◌<◌, ◌⊎◌, ◌↔◌, IfOk, IfErr, IfSome, IfNone, OnOk, OnErr, option_map, IsSome, IsTrue, unwrap_or, [], ◌∷◌, ◌++◌, length, Some, None, map, take, drop, ◌-◌};
+ghost use Rattle.std.specs.List.{flat_map};
+ghost use Rattle.std.specs.FinMap as finite;
+ghost use Rattle.gixp_graph.specs.declared.objects.ObjectError.TheVariants.{Memory};
+ghost use Rattle.gixp_graph.specs.Object.{HasRisen};
+ghost use Rattle.gixp_graph.specs.Held.{shown, graph_of, found_in, looked_up, flagged, parents_in};
+ghost use Rattle.gixp_graph.specs.Table.{id_at, ids_at, AllNamed, KeepsNumbers};
+ghost use Rattle.gixp_graph.specs.Node.{IsNumbered, ids_of, number_at, parent_numbers_of, IsInRange, blank};
+
+use crate::flags::Flags;
+use crate::objects::{ObjectError, Objects};
+use bitflags::Flags as _;
+use gixp_wire::ObjectId;
+use std::alloc::{AllocError, Global};
+use std::collections::BTreeMap;
+use std::marker::Model;
+
+/// A commit, or the name of one that wasn't looked up.
+#[derive(Clone, Copy)]
+pub(crate) struct Node {
+    id: ObjectId,
+    flags: Flags,
+    is_found: bool,
+    time: i64,
+    first: usize,
+    end: usize,
+}
+
+/// The number of an id, which gets one if it has none.
+fn number_of(
+    nodes: &mut Vec<Node>,
+    numbers: &mut BTreeMap<ObjectId, usize>,
+    id: &ObjectId,
+) -> Result<usize, AllocError>
+    requires { IsNumbered (ids_of nodes.old.items) numbers.old.entries }
+    ensures numbered { IsNumbered (ids_of nodes.new.items) numbers.new.entries }
+    ensures named { IfOk result (λ n. number_at numbers.new.entries id.now ≡ Some n) }
+    ensures grown { (nodes.new.items ≡ nodes.old.items) ⊎ (nodes.new.items ≡ nodes.old.items ++ blank id.now ∷ []) }
+{
+    if let Some(&number) = numbers.get(id) {
+        return Ok(number);
+    }
+    let number = nodes.len();
+    nodes.push(Node {
+        id: *id,
+        flags: Flags(0),
+        is_found: false,
+        time: 0,
+        first: 0,
+        end: 0,
+    })?;
+    match numbers.insert(*id, number) {
+        Ok(_) => Ok(number),
+        Err(_) => {
+            nodes.pop();
+            Err(AllocError)
+        }
+    }
+}
+
+/// The numbers of a node's parents, none where it wasn't found.
+fn parents_of<'a>(node: &Node, parents: &'a [usize]) -> &'a [usize]
+    requires { IsInRange parents.now node.now }
+    ensures { result.now ≡ parent_numbers_of parents.now node.now }
+{
+    if node.is_found {
+        &parents[node.first..node.end]
+    } else {
+        &parents[..0]
+    }
+}
+
+/// The ids that some numbers name.
+fn ids_named(alloc: Global, nodes: &[Node], numbers: &[usize]) -> Result<Vec<ObjectId>, AllocError>
+    requires { AllNamed (ids_of nodes.now) numbers.now }
+    ensures { IfOk result (λ ids. ids.items ≡ ids_at (ids_of nodes.now) numbers.now) }
+{
+    let mut ids = Vec::new(alloc);
+    for &number in numbers {
+        ids.push(nodes[number].id)?;
+    }
+    Ok(ids)
+}
+
+/// Commits by their ids, with their marks.
+#[derive(Drop)]
+pub(crate) struct Commits {
+    nodes: Vec<Node>,
+    numbers: BTreeMap<ObjectId, usize>,
+    parents: Vec<usize>,
+}
+
+impl Model for Commits {
+    ghost use Rattle.gixp_graph.specs.Table.{Table, coded_table};
+
+    ghost Value = { Table };
+
+    ghost coded = { coded_table };
+
+    ghost use Rattle.gixp_graph.specs.Node.{held_in, ids_of, IsTable};
+
+    ghost view = { λ a. record { held = held_in a.nodes.items a.parents.items; ids = ids_of a.nodes.items } };
+
+    ghost invariant = { λ a. IsTable a.nodes.items a.numbers.entries a.parents.items };
+}
+
+impl Commits {
+    /// No commits.
+    pub fn new(alloc: Global) -> Self
+        ensures { result ≡ record { held = finite.empty; ids = [] } }
+    {
+        Commits {
+            nodes: Vec::new(alloc),
+            numbers: BTreeMap::new(alloc),
+            parents: Vec::new(alloc),
+        }
+    }
+
+    /// The number of an id, if it has one. An id that has none isn't held.
+    fn find(&self, id: &ObjectId) -> Option<usize>
+        ensures some { IfSome result (λ n. (n < length self.now.ids) × (id_at self.now.ids n ≡ id.now)) }
+        ensures none { IfNone result (finite.get self.now.held id.now ≡ None) }
+    {
+        self.numbers.get(id).copied()
+    }
+
+    /// The number of an id, which gets one if it has none.
+    pub fn number(&mut self, id: &ObjectId) -> Result<usize, AllocError>
+        ensures named { IfOk result (λ n. (n < length self.new.ids) × (id_at self.new.ids n ≡ id.now)) }
+        ensures held { self.new.held ≡ self.old.held }
+        ensures kept { KeepsNumbers self.old.ids self.new.ids }
+    {
+        number_of(&mut self.nodes, &mut self.numbers, id)
+    }
+
+    /// The numbers of some ids, each of which gets one if it has none.
+    pub fn numbers(&mut self, alloc: Global, ids: &[ObjectId]) -> Result<Vec<usize>, AllocError>
+        ensures named { IfOk result (λ numbers. AllNamed self.new.ids numbers.items × (ids_at self.new.ids numbers.items ≡ ids.now)) }
+        ensures held { self.new.held ≡ self.old.held }
+        ensures kept { KeepsNumbers self.old.ids self.new.ids }
+    {
+        let mut numbers = Vec::new(alloc);
+        for id in ids {
+            let number = self.number(id)?;
+            numbers.push(number)?;
+        }
+        Ok(numbers)
+    }
+
+    /// The time and the marks of the commit of a number, where it is held.
+    fn get_at(&self, number: usize) -> Option<(i64, Flags)>
+        requires { number < length self.now.ids }
+        ensures { result ≡ option_map shown (finite.get self.now.held (id_at self.now.ids number)) }
+    {
+        let node = self.nodes[number];
+        if node.is_found {
+            Some((node.time, node.flags))
+        } else {
+            None
+        }
+    }
+
+    /// The time and the marks of a commit that is held.
+    pub fn get(&self, id: &ObjectId) -> Option<(i64, Flags)>
+        ensures { result ≡ option_map shown (finite.get self.now.held id.now) }
+    {
+        match self.find(id) {
+            Some(number) => self.get_at(number),
+            None => None,
+        }
+    }
+
+    /// The id of a number.
+    fn id(&self, number: usize) -> ObjectId
+        requires { number < length self.now.ids }
+        ensures { result ≡ id_at self.now.ids number }
+    {
+        self.nodes[number].id
+    }
+
+    /// Holds the commit of a number with no marks.
+    fn hold(&mut self, number: usize, time: i64, parents: &[ObjectId]) -> Result<(), AllocError>
+        requires { number < length self.old.ids }
+        ensures ok { OnOk result (self.new.held ≡ finite.insert self.old.held (id_at self.old.ids number) (record { time = time; parents = parents.now; flags = record { 0 = 0 } })) }
+        ensures err { OnErr result (self.new.held ≡ self.old.held) }
+        ensures kept { KeepsNumbers self.old.ids self.new.ids }
+    {
+        let first = self.parents.len();
+        for id in parents {
+            let parent = number_of(&mut self.nodes, &mut self.numbers, id)?;
+            self.parents.push(parent)?;
+        }
+        let end = self.parents.len();
+        self.nodes[number] = Node {
+            id: self.nodes[number].id,
+            flags: Flags(0),
+            is_found: true,
+            time,
+            first,
+            end,
+        };
+        Ok(())
+    }
+
+    /// The time and the marks of a commit, after a look at the objects if need be. A commit that is
+    /// found is held from then on.
+    pub fn lookup<O: Objects>(
+        &mut self,
+        alloc: Global,
+        objects: &mut O,
+        id: &ObjectId,
+    ) -> Result<Option<(i64, Flags)>, ObjectError>
+        ensures found { IfOk result (λ found. found ≡ option_map shown (found_in (graph_of (O.contents objects.old) self.old.held) id.now)) }
+        ensures ok { OnOk result (self.new.held ≡ looked_up (graph_of (O.contents objects.old) self.old.held) id.now) }
+        ensures err { OnErr result (self.new.held ≡ self.old.held) }
+        ensures contents { O.contents objects.new ≡ O.contents objects.old }
+        ensures failures { O.failures objects.old ≤ O.failures objects.new }
+        ensures failed { IfErr result (λ e. (e ≡ Memory) ⊎ HasRisen (O.failures objects.old) (O.failures objects.new)) }
+    {
+        if let Some(known) = self.get(id) {
+            return Ok(Some(known));
+        }
+        let Some(found) = objects.commit(alloc, id)? else {
+            return Ok(None);
+        };
+        let Ok(number) = self.number(id) else {
+            return Err(ObjectError::Memory);
+        };
+        let time = found.time;
+        match self.hold(number, time, found.parents.as_slice()) {
+            Ok(()) => Ok(Some((time, Flags(0)))),
+            Err(_) => Err(ObjectError::Memory),
+        }
+    }
+
+    /// The same for the commit of a number.
+    pub fn lookup_at<O: Objects>(
+        &mut self,
+        alloc: Global,
+        objects: &mut O,
+        number: usize,
+    ) -> Result<Option<(i64, Flags)>, ObjectError>
+        requires { number < length self.old.ids }
+        ensures found { IfOk result (λ found. found ≡ option_map shown (found_in (graph_of (O.contents objects.old) self.old.held) (id_at self.old.ids number))) }
+        ensures ok { OnOk result (self.new.held ≡ looked_up (graph_of (O.contents objects.old) self.old.held) (id_at self.old.ids number)) }
+        ensures err { OnErr result (self.new.held ≡ self.old.held) }
+        ensures kept { KeepsNumbers self.old.ids self.new.ids }
+        ensures contents { O.contents objects.new ≡ O.contents objects.old }
+        ensures failures { O.failures objects.old ≤ O.failures objects.new }
+        ensures failed { IfErr result (λ e. (e ≡ Memory) ⊎ HasRisen (O.failures objects.old) (O.failures objects.new)) }
+    {
+        if let Some(known) = self.get_at(number) {
+            return Ok(Some(known));
+        }
+        let id = self.id(number);
+        let Some(found) = objects.commit(alloc, &id)? else {
+            return Ok(None);
+        };
+        let time = found.time;
+        match self.hold(number, time, found.parents.as_slice()) {
+            Ok(()) => Ok(Some((time, Flags(0)))),
+            Err(_) => Err(ObjectError::Memory),
+        }
+    }
+
+    /// The parents of a commit, none where it isn't held.
+    pub fn parents(&self, alloc: Global, id: &ObjectId) -> Result<Vec<ObjectId>, AllocError>
+        ensures { IfOk result (λ parents. parents.items ≡ parents_in self.now.held id.now) }
+    {
+        match self.find(id) {
+            Some(number) => self.parents_at(alloc, number),
+            None => Ok(Vec::new(alloc)),
+        }
+    }
+
+    /// The same for the commit of a number.
+    fn parents_at(&self, alloc: Global, number: usize) -> Result<Vec<ObjectId>, AllocError>
+        requires { number < length self.now.ids }
+        ensures { IfOk result (λ parents. parents.items ≡ parents_in self.now.held (id_at self.now.ids number)) }
+    {
+        let parents = parents_of(&self.nodes[number], self.parents.as_slice());
+        ids_named(alloc, self.nodes.as_slice(), parents)
+    }
+
+    /// The numbers of the parents of all commits of some numbers.
+    pub fn parent_numbers(&self, alloc: Global, numbers: &[usize]) -> Result<Vec<usize>, AllocError>
+        requires { AllNamed self.now.ids numbers.now }
+        ensures named { IfOk result (λ parents. AllNamed self.now.ids parents.items) }
+        ensures parents { IfOk result (λ parents. ids_at self.now.ids parents.items ≡ flat_map (parents_in self.now.held) (ids_at self.now.ids numbers.now)) }
+    {
+        let mut all = Vec::new(alloc);
+        for &number in numbers {
+            all.extend_from_slice(parents_of(&self.nodes[number], self.parents.as_slice()))?;
+        }
+        Ok(all)
+    }
+
+    /// Adds marks to a commit that is held.
+    pub fn insert_flags(&mut self, id: &ObjectId, flags: Flags) -> bool
+        ensures held { IsTrue result ↔ IsSome (finite.get self.old.held id.now) }
+        ensures flagged { self.new.held ≡ flagged self.old.held id.now flags }
+    {
+        match self.find(id) {
+            Some(number) => self.insert_flags_at(number, flags),
+            None => false,
+        }
+    }
+
+    /// The same for the commit of a number.
+    pub fn insert_flags_at(&mut self, number: usize, flags: Flags) -> bool
+        requires { number < length self.old.ids }
+        ensures held { IsTrue result ↔ IsSome (finite.get self.old.held (id_at self.old.ids number)) }
+        ensures flagged { self.new.held ≡ flagged self.old.held (id_at self.old.ids number) flags }
+        ensures ids { self.new.ids ≡ self.old.ids }
+    {
+        let mut node = self.nodes[number];
+        if node.is_found {
+            node.flags.insert(flags);
+            self.nodes[number] = node;
+            true
+        } else {
+            false
+        }
+    }
+}

@@ -1,0 +1,19 @@
+//! The commit graph of a negotiation: commits held, their marks, and the walk that marks what is complete.
+#![tactic(auto)]
+
+mod commits;
+pub mod flags;
+pub mod graph;
+pub mod negotiator;
+pub mod objects;
+mod queue;
+pub mod refs;
+#[cfg(test)]
+mod tests;
+mod walk;
+
+pub use flags::Flags;
+pub use graph::Graph;
+pub use negotiator::{Negotiator, NegotiatorError};
+pub use objects::{CommitData, ObjectError, ObjectKind, Objects};
+pub use refs::{RefStore, RefStoreError};

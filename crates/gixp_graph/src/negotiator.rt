@@ -1,0 +1,122 @@
+//! What a negotiation asks of the one who chooses the haves.
+ghost use Rattle.std.specs.Prelude.{◌≡◌, ℕ, ◌≤◌, ◌<◌, Option, Some, None, IfOk, IfErr, OnOk, OnErr, IfSome, IfNone};
+ghost use Rattle.gixp_wire.specs.declared.object_id.ObjectId.{ObjectId};
+ghost use Rattle.gixp_graph.specs.Held.{GraphData};
+ghost use Rattle.gixp_graph.specs.Negotiation.{IsRefusal};
+
+use crate::graph::Graph;
+use crate::objects::{ObjectError, Objects};
+use gixp_wire::ObjectId;
+use thiserror::Error;
+
+/// Why a negotiator can't go on.
+#[derive(Clone, Copy, Debug, PartialEq, Eq, Drop, Error)]
+pub enum NegotiatorError {
+    /// A commit can't be looked up.
+    #[error("Lookup")]
+    Lookup(ObjectError),
+    /// No memory was left.
+    #[error("Memory")]
+    Memory,
+}
+
+/// Chooses the commits to offer as haves (gitprotocol-pack, "Packfile Negotiation").
+///
+/// Each call says what it does as a relation of the negotiator and the graph before and after it, in
+/// which a graph stands as plain data. No call changes what the graph's objects mean.
+///
+/// The law: there is a count of the haves that it may still offer, which each offer lowers, and which
+/// neither `in_common_with_remote` nor a `next_have` with no offer raises.
+pub trait Negotiator {
+    /// How many haves it may still offer, with this graph.
+    ghost count: { Self → GraphData → ℕ };
+
+    /// How many calls have failed so far.
+    ghost failures: { Self → ℕ };
+
+    /// What `known_common` does.
+    ghost knows: { Self → GraphData → ObjectId → Self → GraphData → Type 0 };
+
+    /// What `add_tip` does.
+    ghost adds: { Self → GraphData → ObjectId → Self → GraphData → Type 0 };
+
+    /// What `in_common_with_remote` does.
+    ghost learns: { Self → GraphData → ObjectId → Self → GraphData → Type 0 };
+
+    /// What `next_have` does, by its offer.
+    ghost offers: { Self → GraphData → Option ObjectId → Self → GraphData → Type 0 };
+
+    /// Tells it of a commit that both sides have, before the first have.
+    ///
+    /// # Errors
+    ///
+    /// Why it can't go on. What it and the graph are then is left open.
+    fn known_common<O: Objects>(
+        &mut self,
+        id: ObjectId,
+        graph: &mut Graph<O>,
+    ) -> Result<(), NegotiatorError>
+        ensures told { OnOk result (knows self.old graph.old.graph id self.new graph.new.graph) }
+        ensures objects { graph.new.graph.objects ≡ graph.old.graph.objects }
+        ensures failures { failures self.old ≤ failures self.new }
+        ensures graph_failures { graph.old.failures ≤ graph.new.failures }
+        ensures failed { IfErr result (IsRefusal (failures self.old) (failures self.new) graph.old.failures graph.new.failures) };
+
+    /// Adds a commit to begin from.
+    ///
+    /// # Errors
+    ///
+    /// Why it can't go on. What it and the graph are then is left open.
+    fn add_tip<O: Objects>(
+        &mut self,
+        id: ObjectId,
+        graph: &mut Graph<O>,
+    ) -> Result<(), NegotiatorError>
+        ensures added { OnOk result (adds self.old graph.old.graph id self.new graph.new.graph) }
+        ensures objects { graph.new.graph.objects ≡ graph.old.graph.objects }
+        ensures failures { failures self.old ≤ failures self.new }
+        ensures graph_failures { graph.old.failures ≤ graph.new.failures }
+        ensures failed { IfErr result (IsRefusal (failures self.old) (failures self.new) graph.old.failures graph.new.failures) };
+
+    /// Tells it of a have that the server has too.
+    ///
+    /// # Errors
+    ///
+    /// Why it can't go on. The count isn't raised then either.
+    fn in_common_with_remote<O: Objects>(
+        &mut self,
+        id: ObjectId,
+        graph: &mut Graph<O>,
+    ) -> Result<(), NegotiatorError>
+        ensures learnt { OnOk result (learns self.old graph.old.graph id self.new graph.new.graph) }
+        ensures refused { OnErr result (count self.new graph.new.graph ≤ count self.old graph.old.graph) }
+        ensures objects { graph.new.graph.objects ≡ graph.old.graph.objects }
+        ensures failures { failures self.old ≤ failures self.new }
+        ensures graph_failures { graph.old.failures ≤ graph.new.failures }
+        ensures failed { IfErr result (IsRefusal (failures self.old) (failures self.new) graph.old.failures graph.new.failures) };
+
+    /// The next commit to offer, none where it has no more.
+    ///
+    /// # Errors
+    ///
+    /// Why it can't go on. What it and the graph are then is left open.
+    fn next_have<O: Objects>(
+        &mut self,
+        graph: &mut Graph<O>,
+    ) -> Option<Result<ObjectId, NegotiatorError>>
+        ensures offered { IfSome result (λ have. IfOk have (λ id. offers self.old graph.old.graph (Some id) self.new graph.new.graph)) }
+        ensures none { IfNone result (offers self.old graph.old.graph None self.new graph.new.graph) }
+        ensures objects { graph.new.graph.objects ≡ graph.old.graph.objects }
+        ensures failures { failures self.old ≤ failures self.new }
+        ensures graph_failures { graph.old.failures ≤ graph.new.failures }
+        ensures failed { IfSome result (λ have. IfErr have (IsRefusal (failures self.old) (failures self.new) graph.old.failures graph.new.failures)) };
+
+    /// Each offer lowers the count.
+    ghost offer_lowers: { (n : Self) (g : GraphData) (id : ObjectId) (m : Self) (h : GraphData) → offers n g (Some id) m h → count m h < count n g };
+
+    /// Where there is no offer, it isn't raised.
+    ghost none_keeps: { (n : Self) (g : GraphData) (m : Self) (h : GraphData) → offers n g None m h → count m h ≤ count n g };
+
+    /// Nor is it by what the server has.
+    ghost learning_keeps: { (n : Self) (g : GraphData) (id : ObjectId) (m : Self) (h : GraphData) → learns n g id m h → count m h ≤ count n g };
+}

@@ -1,0 +1,100 @@
+//! What a repository hands in: its objects.
+ghost use Rattle.std.specs.Prelude.{◌≡◌, ℕ, ◌≤◌, ◌⊎◌, IfOk, IfErr, option_map};
+ghost use Rattle.std.specs.FinMap as map;
+ghost use Rattle.gixp_graph.specs.declared.objects.ObjectError.TheVariants.{Memory};
+ghost use Rattle.gixp_graph.specs.Object.{Objects as ObjectMap, kind_at, commit_at, commit_of, HasRisen};
+
+use gixp_wire::ObjectId;
+use std::alloc::{AllocError, Global};
+use std::io;
+use thiserror::Error;
+
+/// The type of an object (git-cat-file, `-t`).
+#[derive(Clone, Copy, Debug, PartialEq, Eq)]
+pub enum ObjectKind {
+    Commit,
+    Tree,
+    Blob,
+    Tag,
+}
+
+/// What the graph reads of a commit.
+#[derive(Debug, Drop)]
+pub struct CommitData {
+    /// Seconds since the epoch by the committer's clock. Clocks may run backwards from parent to child.
+    pub time: i64,
+    /// The ids of the parents, in the order of the commit.
+    pub parents: Vec<ObjectId>,
+}
+
+/// Why an object can't be read. Nothing that a graph holds is lost by it.
+#[derive(Clone, Copy, Debug, PartialEq, Eq, Drop, Error)]
+pub enum ObjectError {
+    /// The device failed.
+    #[error("Io")]
+    Io(io::ErrorKind),
+    /// The object isn't what its name or its kind says.
+    #[error("Corrupt")]
+    Corrupt,
+    /// No memory was left.
+    #[error("Memory")]
+    Memory,
+}
+
+impl From<AllocError> for ObjectError {
+    ghost from_gives = { λ _ e. e ≡ Memory };
+
+    fn from(_error: AllocError) -> ObjectError {
+        ObjectError::Memory
+    }
+}
+
+/// The objects of a repository: a finite map from ids to objects, which no call changes.
+///
+/// A call may fail, and then raises a count of failures, unless it ran out of memory.
+pub trait Objects {
+    /// The map.
+    ghost contents: { Self → ObjectMap };
+
+    /// How many calls have failed so far.
+    ghost failures: { Self → ℕ };
+
+    /// Whether there is an object of this name.
+    fn exists(&self, id: &ObjectId) -> bool
+        ensures { result ≡ map.contains_key (contents self.now) id.now };
+
+    /// The kind of the object of this name: none where there is no such object, or where its kind
+    /// can't be told.
+    fn kind(&self, id: &ObjectId) -> Option<ObjectKind>
+        ensures { result ≡ kind_at (contents self.now) id.now };
+
+    /// The commit of this name: none where there is no such object, or where it is no commit.
+    ///
+    /// # Errors
+    ///
+    /// Why it can't be read. A later call may succeed.
+    fn commit(&mut self, alloc: Global, id: &ObjectId) -> Result<Option<CommitData>, ObjectError>
+        ensures found { IfOk result (λ found. option_map commit_of found ≡ commit_at (contents self.old) id.now) }
+        ensures contents { contents self.new ≡ contents self.old }
+        ensures failures { failures self.old ≤ failures self.new }
+        ensures failed { IfErr result (λ e. (e ≡ Memory) ⊎ HasRisen (failures self.old) (failures self.new)) };
+}
+
+/// Boxed objects: each call goes to those inside.
+impl Objects for Box<dyn Objects + Drop> {
+    ghost contents = { λ b. (Objects-box b).contents b.value };
+
+    ghost failures = { λ b. (Objects-box b).failures b.value };
+
+    fn exists(&self, id: &ObjectId) -> bool {
+        (**self).exists(id)
+    }
+
+    fn kind(&self, id: &ObjectId) -> Option<ObjectKind> {
+        (**self).kind(id)
+    }
+
+    fn commit(&mut self, alloc: Global, id: &ObjectId) -> Result<Option<CommitData>, ObjectError> {
+        (**self).commit(alloc, id)
+    }
+}

@@ -1,0 +1,67 @@
+//! What a repository hands in: its refs.
+ghost use Rattle.std.specs.Prelude.{◌≡◌, ℕ, ◌≤◌, ◌⊎◌, List, IfOk, IfErr};
+ghost use Rattle.std.specs.Ordering.{nat_cmp};
+ghost use Rattle.std.specs.Cmp.Lexicographic.{slice_cmp};
+ghost use Rattle.std.specs.FinMap as map;
+ghost use Rattle.bstr.specs.BStr.{bstr_bytes};
+ghost use Rattle.gixp_wire.specs.declared.object_id.ObjectId.{ObjectId};
+ghost use Rattle.gixp_graph.specs.declared.refs.RefStoreError.TheVariants.{Memory};
+ghost use Rattle.gixp_graph.specs.Object.{HasRisen};
+
+use bstr::BStr;
+use gixp_wire::ObjectId;
+use std::alloc::Global;
+use std::io;
+use thiserror::Error;
+
+/// Why the refs can't be read. No ref is changed by it.
+#[derive(Clone, Copy, Debug, PartialEq, Eq, Drop, Error)]
+pub enum RefStoreError {
+    /// The file of packed refs can't be opened (git-pack-refs).
+    #[error("OpenPackedRefsBuffer")]
+    OpenPackedRefsBuffer,
+    /// The refs can't be listed.
+    #[error("Iter")]
+    Iter,
+    /// A ref can't be followed to an object that is no tag.
+    #[error("Peel")]
+    Peel,
+    /// The device failed.
+    #[error("Io")]
+    Io(io::ErrorKind),
+    /// No memory was left.
+    #[error("Memory")]
+    Memory,
+}
+
+/// The refs of a repository: a finite map from full names to ids, and the list of what all refs
+/// peel to. No call changes either.
+///
+/// A call may fail, and then raises a count of failures, unless it ran out of memory.
+pub trait RefStore {
+    /// The refs that hold an id, by their full names.
+    ghost refs: { Self → map.FinMap (slice_cmp nat_cmp) ObjectId };
+
+    /// What the refs peel to, in the order of their listing.
+    ghost targets: { Self → List ObjectId };
+
+    /// How many calls have failed so far.
+    ghost failures: { Self → ℕ };
+
+    /// The id that the ref of this full name holds: none where there is no such ref, or where it
+    /// holds the name of another.
+    fn find(&self, name: BStr<'_>) -> Option<ObjectId>
+        ensures { result ≡ map.get (refs self.now) (bstr_bytes name.entry) };
+
+    /// The ids of the objects that the refs lead to behind all tags, in the order of their listing.
+    ///
+    /// # Errors
+    ///
+    /// Why they can't be read. A later call may succeed.
+    fn peeled(&mut self, alloc: Global) -> Result<Vec<ObjectId>, RefStoreError>
+        ensures peeled { IfOk result (λ ids. ids.items ≡ targets self.old) }
+        ensures refs { refs self.new ≡ refs self.old }
+        ensures targets { targets self.new ≡ targets self.old }
+        ensures failures { failures self.old ≤ failures self.new }
+        ensures failed { IfErr result (λ e. (e ≡ Memory) ⊎ HasRisen (failures self.old) (failures self.new)) };
+}

@@ -1,0 +1,20 @@
+-- Lemmas.
+pub mod NameLemmas
+pub mod SpecLemmas
+pub mod TextLemmas
+pub mod MatchLemmas
+pub mod NeedleLemmas
+pub mod PairLemmas
+pub mod ListLemmas
+pub mod WalkLemmas
+pub mod FirstLemmas
+pub mod KeyLemmas
+pub mod GroupLemmas
+pub mod PrefixLemmas
+pub mod CoverLemmas
+pub mod LeavingLemmas
+pub mod SameValidationLemmas
+pub mod LawLemmas
+pub mod SortedLemmas
+pub mod DifferLemmas
+pub mod UniqueLemmas

@@ -1,0 +1,59 @@
+-- Each name that a refspec matches begins with one of its prefixes.
+use Rattle.std.proofs.Common.{◌≡◌, ℕ, Bool, true, false, List, [], ◌++◌, nat_eq, Option, Some, None, Result, ap, subst, sym, ◌∙◌, refl}
+use Rattle.std.specs.Prelude.{is_some}
+use Rattle.std.specs.List.{starts_with}
+use Rattle.std.specs.Str.{bytes_eq}
+use Rattle.std.proofs.lemmas.Bool.{or_right, or_left, cond-false, false≢true}
+use Rattle.std.proofs.lemmas.Bool.Decides.{Decides-eqb}
+use Rattle.std.proofs.lemmas.List.{append-nil}
+use Rattle.std.proofs.lemmas.List.Folds.{list_any-append}
+use Rattle.std.proofs.lemmas.Slice.Eq.{starts_is, bytes_eq-Decides}
+use Rattle.gixp_refspec.specs.Spec.{Spec, is_negative}
+use Rattle.gixp_refspec.specs.Matching.{Kind, Id, Pattern, Exact, Short, kind_of, middle_by, middle_of, where_true, between, before_star, after_star, candidates, prefixes_by, prefixes_of, matches, is_covered}
+use Rattle.std.specs.Borrow.{Bor}
+use Rattle.std.specs.declared.alloc.AllocError.{AllocError}
+use Rattle.gixp_refspec.specs.declared.match_group.needle.Needle.TheVariants.{Short as the_short}
+use Rattle.gixp_refspec.specs.Needle.{IsNeedle}
+use Rattle.gixp_refspec.specs.Texts.{AddsSome}
+use Rattle.gixp_refspec.proofs.ListLemmas.{any_weaker}
+use Rattle.gixp_refspec.proofs.MatchLemmas.{between_some}
+
+-- a name that is front and rest begins with front
+starts : (name front rest : List ℕ) → name ≡ front ++ rest → starts_with nat_eq name front ≡ true
+starts name front rest e = (starts_is Decides-eqb name front (starts_with nat_eq name front) refl).1 rest e
+
+-- a name begins with itself
+starts_itself : (name text : List ℕ) → bytes_eq name text ≡ true → starts_with nat_eq name text ≡ true
+starts_itself name text h = starts name text [] ((bytes_eq-Decides name text).0 h ∙ sym (append-nil text))
+
+-- there is a middle exactly where the test holds
+where_is_some : (b : Bool) → is_some (where_true b) ≡ true → b ≡ true
+where_is_some true h = refl
+where_is_some false h = h
+
+-- a name with a middle begins with the front
+between_starts : (front back name : List ℕ) (found : Option (List ℕ)) → between front back name ≡ found → is_some found ≡ true → starts_with nat_eq name front ≡ true
+between_starts front back name None e h = absurd (false≢true h)
+between_starts front back name (Some middle) e h = starts name front (middle ++ back) (between_some front back name middle e)
+
+-- by its kind, each name that a source matches is covered
+covered_by : (kind : Kind) (source name : List ℕ) → is_some (middle_by kind source name) ≡ true → is_covered (prefixes_by kind source) name ≡ true
+covered_by Id source name h = h
+covered_by Pattern source name h = or_left _ _ (between_starts (before_star source) (after_star source) name _ refl h)
+covered_by Exact source name h = or_left _ _ (starts_itself name source (where_is_some _ h))
+covered_by Short source name h = any_weaker (λ candidate. bytes_eq name candidate) (λ prefix. starts_with nat_eq name prefix) (λ candidate. starts_itself name candidate) (candidates source) (where_is_some _ h)
+
+-- what each candidate of a short name adds
+pub adds_short : (source : List ℕ) (text : Bor (List ℕ)) (r : Result Unit AllocError) (old new : List (List ℕ)) → IsNeedle source (the_short text) → AddsSome r old (candidates text.now) new → AddsSome r old (prefixes_by (kind_of source) source) new
+adds_short source text r old new h adds =
+    let P : List (List ℕ) → Type 0 = λ more. AddsSome r old more new in
+    subst P (ap candidates h.1 ∙ ap (λ k. prefixes_by k source) (sym h.0)) adds
+
+-- each name that a positive refspec matches begins with one of its prefixes
+pub matched_is_covered : (s : Spec) (name : List ℕ) → is_negative s.sign ≡ false → matches s name ≡ true → is_covered (prefixes_of s) name ≡ true
+unfolding prefixes_of middle_of
+matched_is_covered s name positive h = ap (λ l. is_covered l name) (cond-false _ [] (prefixes_by (kind_of s.source) s.source) positive) ∙ covered_by (kind_of s.source) s.source name h
+
+-- prefixes behind others cover what they cover
+pub covered_behind : (old more : List (List ℕ)) (name : List ℕ) → is_covered more name ≡ true → is_covered (old ++ more) name ≡ true
+covered_behind old more name h = list_any-append (λ prefix. starts_with nat_eq name prefix) old more ∙ or_right _ _ h

@@ -1,0 +1,34 @@
+-- Steps of loops that append what a function makes of each place and element.
+use Rattle.std.proofs.Common.{◌≡◌, ℕ, ◌+◌, ◌<◌, List, [], ◌∷◌, ◌++◌, length, drop, map, get_or, ap, sym, ◌∙◌, append_assoc}
+use Rattle.std.specs.List.{flat_map, enumerate_from}
+use Rattle.std.proofs.lemmas.List.{get_or-map, length-map, append-nil, drop_more}
+use Rattle.std.proofs.Math.Seq.{drop-length}
+
+-- the next place and element
+enumerate-drop : {A B : Type 0} (h : A → B) (xs : List A) (i : ℕ) (d : A) → i < length xs → enumerate_from i (drop i (map h xs)) ≡ (i, h (get_or xs i d)) ∷ enumerate_from (i + 1) (drop (i + 1) (map h xs))
+enumerate-drop h xs i d l =
+    let within : i < length (map h xs) = rw length-map l in
+    ap (enumerate_from i) (drop_more (map h xs) i (h d) within) ∙ ap (λ y. (i, y) ∷ enumerate_from (i + 1) (drop (i + 1) (map h xs))) (get_or-map h xs i d (h d) l)
+
+-- one step: what was made, and what is still to be made, are all together
+pub walked : {A B C : Type 0} (h : A → B) (f : ℕ × B → List C) (all now new : List C) (xs : List A) (i : ℕ) (d : A) → i < length xs
+    → now ++ flat_map f (enumerate_from i (drop i (map h xs))) ≡ all → new ≡ now ++ f (i, h (get_or xs i d))
+    → new ++ flat_map f (enumerate_from (i + 1) (drop (i + 1) (map h xs))) ≡ all
+walked h f all now new xs i d l kept step =
+    let rest = flat_map f (enumerate_from (i + 1) (drop (i + 1) (map h xs))) in
+    ap (λ z. z ++ rest) step ∙ append_assoc now (f (i, h (get_or xs i d))) rest
+    ∙ ap (λ e. now ++ flat_map f e) (sym (enumerate-drop h xs i d l)) ∙ kept
+
+-- the same, where the element was read as x
+pub walked_at : {A B C : Type 0} (h : A → B) (f : ℕ × B → List C) (all now new : List C) (xs : List A) (i : ℕ) (x : A) → x ≡ get_or xs i x → i < length xs
+    → now ++ flat_map f (enumerate_from i (drop i (map h xs))) ≡ all → new ≡ now ++ f (i, h x)
+    → new ++ flat_map f (enumerate_from (i + 1) (drop (i + 1) (map h xs))) ≡ all
+walked_at h f all now new xs i x e l kept step = walked h f all now new xs i x l kept (step ∙ ap (λ y. now ++ f (i, h y)) e)
+
+-- after the last
+pub walked_all : {A B C : Type 0} (h : A → B) (f : ℕ × B → List C) (all now : List C) (xs : List A) (i : ℕ) → i ≡ length xs
+    → now ++ flat_map f (enumerate_from i (drop i (map h xs))) ≡ all → now ≡ all
+walked_all h f all now xs i e kept =
+    let same : i ≡ length (map h xs) = rw length-map e in
+    let none : drop i (map h xs) ≡ [] = ap (λ n. drop n (map h xs)) same ∙ drop-length (map h xs) in
+    sym (append-nil now) ∙ ap (λ ys. now ++ flat_map f (enumerate_from i ys)) (sym none) ∙ kept

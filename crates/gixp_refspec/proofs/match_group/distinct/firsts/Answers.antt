@@ -1,0 +1,11 @@
+-- What the flags keep is the first of equal ones.
+use Rattle.std.proofs.lemmas.Result.{IfOk-weaker}
+use Rattle.gixp_refspec.specs.MatchGroup.{mapped_of}
+use Rattle.gixp_refspec.proofs.FirstLemmas.{firsts_from_flags}
+use Rattle.gixp_refspec.proofs.match_group.distinct.firsts.Goals as goal
+
+pub returns : goal.returns
+returns c =
+    IfOk-weaker c.flagged.result _ _
+    (λ kept h. firsts_from_flags mapped_of c.args.mappings.items kept.items _ c.in_ok-flags.flags.items c.deref.ensures.value c.in_ok-flags.ensures h)
+    c.flagged.ensures

@@ -1,0 +1,12 @@
+-- Each part between slashes passes the test.
+use Rattle.std.proofs.Common.{rules, tests}
+use Rattle.std.proofs.lemmas.Iterator.Search.{all_from_yields_List}
+use Rattle.std.proofs.lemmas.Iterator.Splits.{YieldsList-from_slice_split}
+use Rattle.gixp_refspec.specs.Name.{is_component}
+use Rattle.gixp_refspec.proofs.name.has_components.Goals as goal
+
+pub returns : goal.returns
+returns c =
+    all_from_yields_List is_component _ _ _ c.all.ensures.ran
+    (YieldsList-from_slice_split _ _ c.args.name.now c.split.ensures.rest c.split.ensures.done c.split.ensures.closure (λ x r q k. search (rules, tests)))
+    (λ x b q k. search (rules, tests))

@@ -1,0 +1,114 @@
+-- Which names a refspec matches, the local name of each, and the prefixes that cover them.
+use Rattle.std.specs.Prelude.{ℕ, ◌≡◌, ◌+◌, ◌-◌, ◌==◌, nat_eq, nat_lt, Bool, true, false, ◌||◌, if◌then◌else◌, List, [], ◌∷◌, ◌++◌, length, take, drop, map, codes, Option, Some, None, is_some, option_map}
+use Rattle.std.specs.List.{list_any, starts_with, before_first, after_first}
+use Rattle.std.specs.Str.{bytes_eq}
+use Rattle.std.specs.Borrow.{Bor}
+use Rattle.gixp_refspec.specs.Spec.{Spec, stars, is_id, is_full, is_negative}
+
+-- an asterisk
+abbrev pub is_star : ℕ → Bool
+is_star b = b == 42
+
+-- what stands before and after the asterisk of a pattern
+abbrev pub before_star : List ℕ → List ℕ
+before_star text = before_first is_star text
+
+-- what stands behind the asterisk
+abbrev pub after_star : List ℕ → List ℕ
+after_star text = after_first is_star text
+
+-- the text has an asterisk
+abbrev pub is_pattern : List ℕ → Bool
+is_pattern text = nat_lt 0 (stars text)
+
+-- what a source is: an object id, a pattern, an exact name or a short one
+pub data Kind : Type 0 where
+  Id : Kind
+  Pattern : Kind
+  Exact : Kind
+  Short : Kind
+
+-- an id before all, then a text with an asterisk, then `HEAD` and what begins with `refs/`
+unfoldable pub kind_of : List ℕ → Kind
+kind_of source = if is_id source then Id else if is_pattern source then Pattern else if is_full source then Exact else Short
+
+-- what stands around a short name in each of its candidates
+abbrev pub rules : List (List ℕ × List ℕ)
+rules =
+    ([], []) ∷ (codes "refs/", []) ∷ (codes "refs/tags/", []) ∷ (codes "refs/heads/", []) ∷ (codes "refs/remotes/", [])
+    ∷ (codes "refs/remotes/", codes "/HEAD") ∷ []
+
+-- a short name with what a rule puts around it
+abbrev pub joined : List ℕ → List ℕ × List ℕ → List ℕ
+joined name rule = rule.0 ++ (name ++ rule.1)
+
+-- a rule of the code, as two texts
+abbrev pub rule_of : Bor (List ℕ) × Bor (List ℕ) → List ℕ × List ℕ
+rule_of rule = (rule.0.now, rule.1.now)
+
+-- the six names that a short name may stand for
+unfoldable pub candidates : List ℕ → List (List ℕ)
+candidates name = map (joined name) rules
+
+-- what is left of the name between front and back, for any text
+abbrev pub inner : List ℕ → List ℕ → List ℕ → List ℕ
+inner front back name = take (length name - (length front + length back)) (drop (length front) name)
+
+-- the middle, where the name is front, middle, back
+unfoldable pub between : List ℕ → List ℕ → List ℕ → Option (List ℕ)
+between front back name = if bytes_eq name (front ++ (inner front back name ++ back)) then Some (inner front back name) else None
+
+-- the empty middle, where the test holds
+abbrev pub where_true : Bool → Option (List ℕ)
+where_true b = if b then Some [] else None
+
+-- the middle of a name, by the kind of the source
+abbrev pub middle_by : Kind → List ℕ → List ℕ → Option (List ℕ)
+middle_by Id source name = None
+middle_by Pattern source name = between (before_star source) (after_star source) name
+middle_by Exact source name = where_true (bytes_eq name source)
+middle_by Short source name = where_true (list_any (λ candidate. bytes_eq name candidate) (candidates source))
+
+-- the middle of a name that the source matches, which is empty for a source that is no pattern
+unfoldable pub middle_of : List ℕ → List ℕ → Option (List ℕ)
+middle_of source name = middle_by (kind_of source) source name
+
+-- the refspec's source matches the name
+abbrev pub matches : Spec → List ℕ → Bool
+matches s name = is_some (middle_of s.source name)
+
+-- a destination that is no pattern, as the whole name of a ref
+unfoldable pub full_local : List ℕ → List ℕ
+full_local destination =
+    if starts_with nat_eq destination (codes "refs/") then destination
+    else if starts_with nat_eq destination (codes "heads/") || starts_with nat_eq destination (codes "tags/")
+    || starts_with nat_eq destination (codes "remotes/") then codes "refs/" ++ destination
+    else codes "refs/heads/" ++ destination
+
+-- the local name of a destination, for a middle
+unfoldable pub local_in : List ℕ → List ℕ → List ℕ
+local_in middle destination =
+    if is_pattern destination then before_star destination ++ (middle ++ after_star destination) else full_local destination
+
+-- the local name, if there is a destination
+abbrev pub local_of : Spec → List ℕ → Option (List ℕ)
+local_of s middle = option_map (local_in middle) s.destination
+
+-- the prefixes of a source, by its kind
+abbrev pub prefixes_by : Kind → List ℕ → List (List ℕ)
+prefixes_by Id source = []
+prefixes_by Pattern source = before_star source ∷ []
+prefixes_by Exact source = source ∷ []
+prefixes_by Short source = candidates source
+
+-- the prefixes of a refspec, one of which each name that it matches begins with
+unfoldable pub prefixes_of : Spec → List (List ℕ)
+prefixes_of s = if is_negative s.sign then [] else prefixes_by (kind_of s.source) s.source
+
+-- the name begins with one of the prefixes
+abbrev pub is_covered : List (List ℕ) → List ℕ → Bool
+is_covered prefixes name = list_any (λ prefix. starts_with nat_eq name prefix) prefixes
+
+-- each name that a positive refspec matches begins with one of the prefixes
+abbrev pub Covers : List (List ℕ) → Spec → Type 0
+Covers prefixes s = (name : List ℕ) → is_negative s.sign ≡ false → matches s name ≡ true → is_covered prefixes name ≡ true

@@ -1,0 +1,59 @@
+//! Of equal mappings the first.
+ghost use Rattle.std.specs.Prelude.{◌≡◌, ◌||◌, not, IfOk, OnOk, [], map};
+ghost use Rattle.gixp_refspec.specs.Mappings.{Mapped, is_same, firsts};
+ghost use Rattle.gixp_refspec.specs.Firsts.{first_flags, flagged};
+ghost use Rattle.gixp_refspec.specs.MatchGroup.{mapped_of, mapped_in, is_marked};
+
+use crate::match_group::{Mapping, SourceRef};
+use bstr::BString;
+use std::alloc::{AllocError, Global};
+use std::collections::HashSet;
+
+/// Remembers the source and the local name of a mapping, and answers whether they are new.
+fn mark<'a>(
+    seen: &mut HashSet<(&'a SourceRef, &'a Option<BString>)>,
+    mapping: &'a Mapping,
+) -> Result<bool, AllocError>
+    ensures fresh { IfOk result (λ is_new. is_new ≡ not (is_marked seen.old.keys (mapped_of mapping.now))) }
+    ensures marked { OnOk result ((m : Mapped) → is_marked seen.new.keys m ≡ (is_marked seen.old.keys m || is_same (mapped_of mapping.now) m)) }
+{
+    let is_new = seen.insert((&mapping.lhs, &mapping.rhs))?;
+    Ok(is_new)
+}
+
+/// For each mapping, whether it is the first of its source and local name.
+fn first_flags(alloc: Global, mappings: &[Mapping]) -> Result<Vec<bool>, AllocError>
+    ensures { IfOk result (λ flags. flags.items ≡ first_flags [] (map mapped_of mappings.now)) }
+{
+    let mut seen = HashSet::new(alloc);
+    let mut flags = Vec::new(alloc);
+    'mappings: for mapping in mappings {
+        let is_first = mark(&mut seen, mapping)?;
+        flags.push(is_first)?;
+    }
+    Ok(flags)
+}
+
+/// The mappings whose flag is true.
+fn flagged(
+    alloc: Global,
+    mappings: Vec<Mapping>,
+    flags: Vec<bool>,
+) -> Result<Vec<Mapping>, AllocError>
+    ensures { IfOk result (λ kept. kept.items ≡ flagged mappings.items flags.items) }
+{
+    mappings
+        .into_iter()
+        .zip(flags)
+        .filter(|(_, is_first)| *is_first)
+        .map(|(mapping, _)| mapping)
+        .collect(alloc)
+}
+
+/// Of mappings with equal source and local name the first.
+pub(crate) fn firsts(alloc: Global, mappings: Vec<Mapping>) -> Result<Vec<Mapping>, AllocError>
+    ensures { IfOk result (λ kept. mapped_in kept ≡ firsts (mapped_in mappings)) }
+{
+    let flags = first_flags(alloc, &mappings)?;
+    flagged(alloc, mappings, flags)
+}
