@@ -6,6 +6,7 @@ ghost use Rattle.gixp_lines.specs.Cut.{cut};
 use bstr::ByteSlice;
 
 // What stands before the first such byte, and what stands behind it.
+#[inline(always)]
 pub(crate) fn cut(text: &[u8], byte: u8) -> (&[u8], Option<&[u8]>)
     ensures { cut byte text.now ≡ (result.0.now, option_copied result.1) }
 {

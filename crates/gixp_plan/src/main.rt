@@ -14,8 +14,9 @@ use std::io::{BufWriter, ErrorKind};
 use std::process::ExitCode;
 use std::{env, io};
 
-// The number of bytes that are gathered before they are written.
-const BUFFER: usize = 32768;
+// The number of bytes that are gathered before they are written. So large a piece is taken from the
+// system and given back to it alone: beside many small ones, to give it back costs a walk over these.
+const BUFFER: usize = 131072;
 
 const USAGE: &str = "usage: gixp_plan refs FILE";
 
@@ -28,8 +29,8 @@ enum Failure {
     Refused(&'static str),
 }
 
-// Lists the refs of the file that the words name on standard output.
-fn run(rt: &HostRuntime) -> Result<(), Failure> {
+// Opens the file that the words name.
+fn open_answer(rt: &HostRuntime) -> Result<File, Failure> {
     let words = env::args(rt).map_err(|e| match e.kind() {
         ErrorKind::OutOfMemory => Failure::Refused("Memory"),
         _ => Failure::Usage,
@@ -38,9 +39,12 @@ fn run(rt: &HostRuntime) -> Result<(), Failure> {
         return Err(Failure::Refused("Memory"));
     };
     let path = file_of(words.as_slice()).ok_or(Failure::Usage)?;
-    let Ok(mut file) = File::open(rt, path) else {
-        return Err(Failure::Refused("Io"));
-    };
+    File::open(rt, path).map_err(|_| Failure::Refused("Io"))
+}
+
+// Lists the refs of the file that the words name on standard output.
+fn run(rt: &HostRuntime) -> Result<(), Failure> {
+    let mut file = open_answer(rt)?;
     let Ok(mut writer) = BufWriter::with_capacity(rt.alloc(), BUFFER, io::writer(rt)) else {
         return Err(Failure::Refused("Memory"));
     };
