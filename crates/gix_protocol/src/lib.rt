@@ -4,5 +4,6 @@
 pub mod fetch;
 pub mod handshake;
 
+pub use gixp_lines::{Command, agent, command};
 pub use gixp_refspec as refspec;
 pub use gixp_wire as transport;

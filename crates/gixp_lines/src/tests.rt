@@ -1,4 +1,6 @@
 //! Lines of refs as the table of refs has them, and the texts of errors.
+mod requests;
+
 use crate::handshake::Ref;
 use crate::handshake::refs::{from_v2_refs, parse};
 use bstr::BString;
@@ -6,6 +8,10 @@ use gixp_wire::{ExtendedBufRead, LineReader, ObjectId, PacketError, Protocol, de
 use std::alloc::Global;
 use std::io::{ErrorKind, Read};
 use std::test::Fail;
+
+mod advertisement;
+mod answers;
+mod recorded_answers;
 
 const A: &[u8] = b"0123456789012345678901234567890123456789";
 

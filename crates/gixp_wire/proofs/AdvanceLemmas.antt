@@ -240,6 +240,7 @@ module _ {R : Type 0} where
         peeked = ap is_peeked op2;
         failures = h.failures;
         left = let a = k.left in let b = fits.0 in let c = fits.1 in let d = length-drop size mid.window.pending in omega arith;
+        held = refl;
       }
 
   pub takes_stop : (rem : R → Option (List ℕ)) (old mid : Packets R) (kind : MessageKind) → Settled rem old mid (Special kind) → old.place ≡ Open → is_stop mid.version kind ≡ true → TakesStop (packets_reading rem old) (packets_reading rem (stopped_by mid kind)) kind
@@ -263,6 +264,7 @@ module _ {R : Type 0} where
         peeked = refl;
         failures = h.failures;
         left = let a = k.left in let d = length-drop 4 mid.window.pending in omega arith;
+        held = refl;
       }
 
   -- a refusal that stands at the front of what was kept
@@ -287,6 +289,7 @@ module _ {R : Type 0} where
         peeked = ap is_peeked op2;
         failures = fails;
         left = k.left;
+        held = refl;
       }
 
   pub refuses_bad : (rem : R → Option (List ℕ)) (old mid : Packets R) (x : PacketError) → Settled rem old mid (Bad x) → old.place ≡ Open → Refuses (packets_reading rem old) (packets_reading rem mid) (decode x)
@@ -319,6 +322,7 @@ module _ {R : Type 0} where
         unpeeked = ap is_peeked op;
         peeked = ap is_peeked op2;
         left = k.left;
+        held = refl;
       }
 
   -- memory ran out for the text of an error
@@ -359,6 +363,7 @@ module _ {R : Type 0} where
         peeked = ap is_peeked op2;
         failures = b.failures;
         left = b.left;
+        held = refl;
       }
 
   pub fails_settling : (rem : R → Option (List ℕ)) (old mid : Packets R) (e : Error) → SettledEnd rem old mid e ⊎ SettledFault rem old mid e ⊎ SettledBreak old mid e → old.place ≡ Open → Fails (packets_reading rem old) (packets_reading rem mid) (refusal_of e)
@@ -413,6 +418,7 @@ module _ {R : Type 0} where
         peeked = refl;
         failures = h.failures;
         left = let a = k.left in omega arith;
+        held = refl;
       }
 
   -- to peek is to take and to put back
@@ -435,6 +441,7 @@ module _ {R : Type 0} where
             let a = h.left in
             let b : cond {A = ℕ} (is_peeked new.place) 1 0 ≡ 0 = rw op refl in
             omega arith;
+        held = h.held;
       }
 
   -- to peek again changes nothing
@@ -453,4 +460,5 @@ module _ {R : Type 0} where
         peeked = rw at refl;
         failures = refl;
         left = omega arith;
+        held = refl;
       }

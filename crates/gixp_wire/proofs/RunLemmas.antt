@@ -45,6 +45,7 @@ shows-takes old mid new h k =
       peeked = k.peeked;
       failures = k.failures ∙ h.failures;
       left = let a = k.left in let b = h.left in omega arith;
+      held = k.held ∙ h.held;
     }
 
 not_utf8-fails : (old new : Reading) → Fails old new not_utf8 → ⊥

@@ -13,6 +13,7 @@ use Rattle.gixp_wire.specs.declared.packets.Place.{Place}
 use Rattle.gixp_wire.specs.declared.packets.Place.TheVariants.{Open, Peeked, Stopped, Refused}
 use Rattle.gixp_wire.specs.Frames.{head_of}
 use Rattle.gixp_wire.specs.Pieces.{Refusal, io, decode, server, unexpected_frame, line, Pieces, no_pieces, with_piece, stream_pieces, is_error, error_message}
+use Rattle.gixp_wire.specs.Held.{nothing_held}
 use Rattle.gixp_wire.specs.Reading.{Reading, Rose, is_end}
 
 -- the refusal of the frame at the front, or of what the stream ended in
@@ -83,6 +84,7 @@ module _ {R : Type 0} where
     peeked = is_peeked p.place;
     failures = p.failures;
     left = lines_left p;
+    held = nothing_held;
   }
 
   -- no byte was lost, and only the window, the reader, the failures and the reads that are left changed, and perhaps that the stream ended

@@ -14,6 +14,7 @@ use Rattle.gixp_wire.specs.declared.read.Error.TheVariants.{Io, Decode, Server, 
 use Rattle.gixp_wire.specs.Pieces.{Refusal, io, decode, server, unexpected_frame, not_utf8, bad_band, interrupted, memory, Pieces, no_pieces, stream_pieces}
 use Rattle.gixp_wire.specs.Lines.{gives, stops, refuses, next_of, Lines, lines_of, no_lines, stop}
 use Rattle.gixp_wire.specs.Items.{is_stop}
+use Rattle.gixp_wire.specs.Held.{Held, nothing_held}
 
 -- what a reader means
 pub record Reading : Type 0 where
@@ -33,6 +34,8 @@ pub record Reading : Type 0 where
   pub failures : ℕ
   -- a bound on the lines that may still come
   pub left : ℕ
+  -- what it holds beside the lines
+  pub held : Held
 
 -- behind the stop, if it is at one, under the stops of this version
 abbrev pub reset_to : Protocol → Reading → Reading
@@ -56,6 +59,7 @@ pub record IsFresh (known : Option (List ℕ)) (r : Reading) : Type 0 where
   pub line : r.line ≡ []
   pub peeked : r.peeked ≡ false
   pub failures : r.failures ≡ 0
+  pub held : r.held ≡ nothing_held
 
 -- the refusal that an error is
 abbrev pub refusal_of : Error → Refusal
@@ -77,6 +81,7 @@ pub record Stays (old new : Reading) : Type 0 where
   pub unpeeked : old.peeked ≡ false
   pub peeked : new.peeked ≡ false
   pub left : new.left ≤ old.left
+  pub held : new.held ≡ old.held
 
 -- a line came next, and was taken
 pub record TakesLine (old new : Reading) : Type 0 where
@@ -89,6 +94,7 @@ pub record TakesLine (old new : Reading) : Type 0 where
   pub peeked : new.peeked ≡ false
   pub failures : new.failures ≡ old.failures
   pub left : new.left < old.left
+  pub held : new.held ≡ old.held
 
 -- a line came next, and is still to come
 pub record ShowsLine (old new : Reading) : Type 0 where
@@ -102,6 +108,7 @@ pub record ShowsLine (old new : Reading) : Type 0 where
   pub peeked : new.peeked ≡ true
   pub failures : new.failures ≡ old.failures
   pub left : new.left ≤ old.left
+  pub held : new.held ≡ old.held
 
 -- a stop came next, and was taken
 pub record TakesStop (old new : Reading) (kind : MessageKind) : Type 0 where
@@ -115,6 +122,7 @@ pub record TakesStop (old new : Reading) (kind : MessageKind) : Type 0 where
   pub peeked : new.peeked ≡ false
   pub failures : new.failures ≡ old.failures
   pub left : new.left ≤ old.left
+  pub held : new.held ≡ old.held
 
 -- the reader was at a stop
 pub record WasStopped (old new : Reading) : Type 0 where
@@ -148,6 +156,7 @@ pub record Refuses (old new : Reading) (e : Refusal) : Type 0 where
   pub peeked : new.peeked ≡ false
   pub failures : new.failures ≡ old.failures
   pub left : new.left ≤ old.left
+  pub held : new.held ≡ old.held
 
 -- one more, up to the greatest value
 abbrev pub Rose : ℕ → ℕ → Type 0
@@ -184,6 +193,7 @@ pub record BreaksOff (old new : Reading) (e : Refusal) : Type 0 where
   pub peeked : new.peeked ≡ false
   pub failures : Rose old.failures new.failures
   pub left : new.left ≤ old.left
+  pub held : new.held ≡ old.held
 
 -- something came from outside: a device that failed, an interrupt, or want of memory
 abbrev pub IsOutside : Reading → Reading → Refusal → Type 0

@@ -5,6 +5,7 @@ ghost use Rattle.std.specs.Prelude.{◌≡◌, ◌<◌, ◌+◌, ◌*◌, length
 ghost use Rattle.hex.specs.Hex.{hex_digit_value, lower_digits, encode_lower, decode_of};
 ghost use Rattle.gixp_wire.specs.Digits.{AreValues};
 ghost use Rattle.gixp_wire.specs.Frames.{size_of};
+ghost use Rattle.gixp_wire.specs.FrameText.{digits_of};
 
 // The value of a hexadecimal digit of either case, or 255.
 fn digit_value(digit: u8) -> u8
@@ -76,6 +77,21 @@ pub(crate) fn number(digits: &[u8]) -> Option<usize>
     } else {
         None
     }
+}
+
+// The four lower-case digits of a number.
+pub(crate) fn encode_number(number: usize) -> [u8; 4]
+    requires { number < 65536 }
+    ensures { result ≡ digits_of number }
+{
+    let high = (number / 256) as u8;
+    let low = (number % 256) as u8;
+    [
+        digit_of(high / 16),
+        digit_of(high % 16),
+        digit_of(low / 16),
+        digit_of(low % 16),
+    ]
 }
 
 // The lower-case digits of 20 bytes.

@@ -4,23 +4,47 @@
 //! reader of lines gives the payloads up to a stop, whatever the pieces in which the bytes come.
 #![tactic(auto)]
 
+mod advertisement;
+mod bodies;
+mod capabilities;
+pub mod client;
+mod command;
+mod connection;
+mod cut;
 pub mod decode;
 mod digits;
+mod frame_text;
+mod greeting;
 mod kind;
 pub mod laws;
 mod line_reader;
+mod message;
 mod object_id;
 mod packet;
 mod packets;
+mod progress;
 mod protocol;
 pub mod read;
+mod service;
+mod sidebands;
+mod spurious;
 #[cfg(test)]
 mod tests;
+mod transport;
 mod window;
 
+pub use bodies::{Bodies, Body};
+pub use capabilities::{Capabilities, Capability, CapabilityIter};
+pub use connection::Connection;
 pub use kind::Kind;
 pub use line_reader::LineReader;
+pub use message::{MAX_LINE, Message, fits_line};
 pub use object_id::ObjectId;
 pub use packet::{Frame, PacketError};
+pub use progress::{NestedProgress, Progress};
 pub use protocol::{MessageKind, Protocol};
 pub use read::ExtendedBufRead;
+pub use service::{Account, Opening, Service, SetServiceResponse};
+pub use sidebands::{BandText, Interrupt, InterruptFlag, NeverInterrupt, WithSidebands};
+pub use spurious::IsSpuriousError;
+pub use transport::Transport;

@@ -1,5 +1,5 @@
 //! Packets over a reader, through one buffer.
-ghost use Rattle.std.specs.Prelude.{◌≡◌, false, length, Some, None, Ok, [], IfOk, true, ◌⊎◌};
+ghost use Rattle.std.specs.Prelude.{◌≡◌, ◌≤◌, false, length, take, Some, None, Ok, [], IfOk, true, ◌⊎◌};
 ghost use Rattle.gixp_wire.specs.declared.packet.Head.TheVariants.{Partial};
 ghost use Rattle.gixp_wire.specs.Frames.{head_of};
 ghost use Rattle.gixp_wire.specs.Reading.{IsFresh, Rose, Reads, PlainIf, refusal_of, is_end};
@@ -63,8 +63,42 @@ impl<R: Read + Drop> Packets<R> {
     }
 }
 
+impl<R: Read + Drop> Packets<R> {
+    /// Reads from this reader from here on, under the same version. What was read of the one before
+    /// is gone.
+    pub(crate) fn restart(&mut self, reader: R)
+        ensures { self.new ≡ record self.old {
+          reader = reader;
+          window = record { pending = []; lent = [] };
+          place = Open;
+          ended = false;
+        } }
+    {
+        self.reader = reader;
+        self.window.clear();
+        self.place = Place::Open;
+        self.ended = false;
+    }
+}
+
 impl<R: Read> Packets<R> {
-    fn note_failure(&mut self)
+    /// Lends only the first bytes of the line that it lends.
+    pub(crate) fn shorten_line(&mut self, len: usize)
+        requires { len ≤ length self.old.window.lent }
+        ensures { self.new ≡ record self.old { window = record self.old.window { lent = take len self.old.window.lent } } }
+    {
+        self.window.shorten(len);
+    }
+
+    /// Whose stops it knows.
+    pub(crate) fn version(&self) -> Protocol
+        ensures { result ≡ self.now.version }
+    {
+        self.version
+    }
+
+    /// Counts one more failure of a device, up to the greatest value of the count.
+    pub(crate) fn note_failure(&mut self)
         ensures rose { Rose self.old.failures self.new.failures }
         ensures rest { self.new ≡ record self.old { failures = self.new.failures } }
     {

@@ -1,4 +1,10 @@
 //! Streams in memory, read in every way, and devices that fail.
+mod bands;
+mod capabilities;
+mod progress;
+mod recorded;
+mod transport;
+
 use crate::read::{Error, ExtendedBufRead};
 use crate::{Frame, Kind, LineReader, MessageKind, ObjectId, PacketError, Protocol, decode, read};
 use std::alloc::Global;

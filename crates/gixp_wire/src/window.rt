@@ -77,6 +77,24 @@ impl Window {
         &self.bytes[self.line_start..self.line_end]
     }
 
+    // Holds nothing from here on.
+    pub(crate) fn clear(&mut self)
+        ensures { self.new ≡ record { pending = []; lent = [] } }
+    {
+        self.start = 0;
+        self.end = 0;
+        self.line_start = 0;
+        self.line_end = 0;
+    }
+
+    // Lends only the first bytes of what it lends.
+    pub(crate) fn shorten(&mut self, len: usize)
+        requires { len ≤ length self.old.lent }
+        ensures { self.new ≡ record self.old { lent = take len self.old.lent } }
+    {
+        self.line_end = self.line_start + len;
+    }
+
     // Takes the first bytes.
     pub(crate) fn skip(&mut self, amount: usize)
         requires { amount ≤ length self.old.pending }

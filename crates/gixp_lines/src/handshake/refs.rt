@@ -6,8 +6,14 @@ use crate::handshake::Ref;
 use gixp_wire::ExtendedBufRead;
 use std::alloc::Global;
 
+mod advertisement;
 mod line;
 pub mod parse;
+mod symrefs;
+mod v1;
+
+pub use advertisement::from_v1_refs_received_as_part_of_handshake_and_capabilities;
+pub use symrefs::from_capabilities;
 
 /// The refs of an `ls-refs` answer: of the lines up to the stop, in their order (gitprotocol-v2,
 /// "ls-refs").

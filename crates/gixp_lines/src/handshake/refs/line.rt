@@ -21,21 +21,21 @@ pub(crate) struct Attributes<'a> {
     peeled: Option<ObjectId>,
 }
 
-fn is_same(text: &[u8], word: &[u8]) -> bool
+pub(super) fn is_same(text: &[u8], word: &[u8]) -> bool
     ensures { result ≡ is_text text.now word.now }
 {
     text == word
 }
 
 // Whether a target is the word for none.
-fn is_null(target: &[u8]) -> bool
+pub(super) fn is_null(target: &[u8]) -> bool
     ensures { result ≡ is_text target.now (codes "(null)") }
 {
     is_same(target, b"(null)")
 }
 
 #[inline(always)]
-fn read_id(text: &[u8]) -> Result<ObjectId, Error>
+pub(super) fn read_id(text: &[u8]) -> Result<ObjectId, Error>
     ensures { Answers (λ (id : ObjectId). id.bytes) (id_value text.now) result }
 {
     match ObjectId::from_hex(text) {

@@ -1,0 +1,26 @@
+-- An answer under versions 0 and 1 as a relation: a beginning that ends one, and no shorter one does (gitprotocol-pack, "Packfile Negotiation").
+use Rattle.std.specs.Prelude.{◌≡◌, Bool, List, [], ◌∷◌, ◌++◌, Option, Some, None}
+use Rattle.gixp_wire.specs.declared.protocol.Protocol.{Protocol}
+use Rattle.gixp_wire.specs.Lines.{next_of}
+use Rattle.gixp_wire.specs.Pieces.{Piece, line, mark, Pieces}
+use Rattle.gixp_lines.specs.Answer.{AnswerValue, front}
+use Rattle.gixp_lines.specs.Beginnings.{Item, line_item, stopped, Asked, ends, said_in}
+
+-- the items of a beginning behind those before it, the last one first
+abbrev pub items_behind : List Piece → List Item → List Item
+items_behind [] before = before
+items_behind (line text ∷ ps) before = items_behind ps (line_item text ∷ before)
+items_behind (mark kind ∷ ps) before = items_behind ps (stopped ∷ before)
+
+-- whether an answer ends behind these pieces, in front of those, and then whether a pack follows it
+abbrev pub ends_behind : Protocol → Asked → List Piece → Pieces → Option Bool
+ends_behind version a taken rest = ends a (items_behind taken []) (next_of version rest)
+
+-- a beginning that ends an answer, what it says, and that none of its own beginnings ends one
+pub record IsShortest (version : Protocol) (a : Asked) (p : Pieces) (value : AnswerValue) (rest : Pieces) : Type 0 where
+  pub taken : List Piece
+  pub pack : Bool
+  pub split : p ≡ front taken rest
+  pub ended : ends_behind version a taken rest ≡ Some pack
+  pub said : value ≡ said_in (items_behind taken []) pack
+  pub shortest : (shorter : List Piece) (next : Piece) (more : List Piece) → taken ≡ shorter ++ next ∷ more → ends_behind version a shorter (front (next ∷ more) rest) ≡ None

@@ -1,0 +1,105 @@
+-- What the reading of an answer does to its reader.
+use Rattle.std.specs.Prelude.{◌≡◌, ◌⊎◌, Bool, true, Some, None, IfSome, List, Result, Ok, Err}
+use Rattle.std.specs.declared.io.ErrorKind.TheVariants.{UnexpectedEof}
+use Rattle.gixp_wire.specs.declared.protocol.Protocol.{Protocol}
+use Rattle.gixp_wire.specs.declared.protocol.Protocol.TheVariants.{V0, V1, V2}
+use Rattle.gixp_wire.specs.Pieces.{Refusal, io, Piece, Pieces, no_pieces}
+use Rattle.gixp_wire.specs.Reading.{Reading, IsLasting, IsOutside, IsPlain, BreaksOff, Rose}
+use Rattle.gixp_lines.specs.declared.fetch.response.error.Error.{Error}
+use Rattle.gixp_lines.specs.declared.fetch.response.error.Error.TheVariants.{Memory}
+use Rattle.gixp_lines.specs.ResponseError.{AnswerRefusal, answer_refusal, from_reader, IsRefusal}
+use Rattle.gixp_lines.specs.Answer.{AnswerValue, Found, whole, refused, front, is_of_line, both}
+use Rattle.gixp_lines.specs.Sections.{v2_answer}
+use Rattle.gixp_lines.specs.Beginnings.{Asked, v1_answer}
+
+-- the answer in some pieces under a version
+abbrev pub answer_of : Protocol → Asked → Pieces → Found
+answer_of V2 asked p = v2_answer p
+answer_of V1 asked p = v1_answer V1 asked p
+answer_of V0 asked p = v1_answer V0 asked p
+
+-- a line's item was added, or why not
+abbrev pub Adds : Result AnswerValue AnswerRefusal → AnswerValue → AnswerValue → Result Unit Error → Type 0
+Adds (Ok item) old new (Ok x) = new ≡ both old.pack old item
+Adds (Ok item) old new (Err e) = e ≡ Memory
+Adds (Err r) old new (Ok x) = ⊥
+Adds (Err r) old new (Err e) = IsRefusal e r
+
+-- these pieces were taken, and nothing else is known to have happened
+abbrev pub Took : List Piece → Reading → Reading → Type 0
+Took taken old now = IfSome old.to_come (λ p. (q : Pieces) × (now.to_come ≡ Some q) × (p ≡ front taken q))
+
+-- the answer in the pieces to come was read, and what stands behind it is still to come
+pub record ReadsAnswer (found : Pieces → Found) (under : Protocol) (old new : Reading) (value : AnswerValue) : Type 0 where
+  pub answer : IfSome old.to_come (λ p. (q : Pieces) × (new.to_come ≡ Some q) × (found p ≡ whole value q))
+  pub running : value.pack ≡ true → new.stopped ≡ None
+  pub version : new.version ≡ under
+  pub failures : new.failures ≡ old.failures
+
+-- the device broke off as at the stream's end behind some pieces, which are then the answer
+pub record BrokeOff (found : Pieces → Found) (under : Protocol) (old new : Reading) (value : AnswerValue) : Type 0 where
+  pub taken : List Piece
+  pub now : Reading
+  pub took : Took taken old now
+  pub broke : BreaksOff now new (io UnexpectedEof)
+  pub answer : found (record { list = taken; end = io UnexpectedEof }) ≡ whole value (no_pieces (io UnexpectedEof))
+  pub stopped : new.stopped ≡ None
+  pub version : new.version ≡ under
+  pub failures : Rose old.failures new.failures
+
+abbrev pub Answered : (Pieces → Found) → Protocol → Reading → Reading → AnswerValue → Type 0
+Answered found version old new value = ReadsAnswer found version old new value ⊎ BrokeOff found version old new value
+
+-- the first refusal was a line's, or that of a stop in its place; it and what stands before it are taken
+pub record LineRefused (found : Pieces → Found) (old new : Reading) (e : Error) : Type 0 where
+  pub taken : List Piece
+  pub took : Took taken old new
+  pub refusal : AnswerRefusal
+  pub of_line : is_of_line refusal ≡ true
+  pub first : IfSome old.to_come (λ p. found p ≡ refused refusal)
+  pub error : IsRefusal e refusal
+  pub failures : new.failures ≡ old.failures
+
+-- the first refusal was the reader's, which it answers from then on
+pub record ReaderRefused (found : Pieces → Found) (old new : Reading) (e : Error) : Type 0 where
+  pub refusal : Refusal
+  pub lasting : IsLasting refusal
+  pub first : IfSome old.to_come (λ p. found p ≡ refused (from_reader refusal))
+  pub refused : new.refused ≡ Some refusal
+  pub error : answer_refusal e ≡ from_reader refusal
+  pub failures : new.failures ≡ old.failures
+
+-- something came from outside behind some pieces: a device that failed, an interrupt, or want of memory
+pub record ReaderFailed (plain : Bool) (old new : Reading) (e : Error) : Type 0 where
+  pub taken : List Piece
+  pub now : Reading
+  pub took : Took taken old now
+  pub failures : now.failures ≡ old.failures
+  pub refusal : Refusal
+  pub failed : IsOutside now new refusal
+  pub is_plain : plain ≡ true → IsPlain new refusal
+  pub error : answer_refusal e ≡ from_reader refusal
+
+-- there was no memory for what the pieces taken say
+pub record NoMemory (old new : Reading) (e : Error) : Type 0 where
+  pub taken : List Piece
+  pub took : Took taken old new
+  pub error : e ≡ Memory
+  pub failures : new.failures ≡ old.failures
+
+-- the first refusal of what is to come, or something from outside, which a plain reader has less of
+abbrev pub AnswerFails : (Pieces → Found) → Bool → Reading → Reading → Error → Type 0
+AnswerFails found plain old new e = LineRefused found old new e ⊎ ReaderRefused found old new e ⊎ ReaderFailed plain old new e ⊎ NoMemory old new e
+
+-- how far an answer was read: what was taken of it, and what is left of it to be found
+pub record Going (found rest : Pieces → Found) (old now : Reading) : Type 0 where
+  pub taken : List Piece
+  pub took : Took taken old now
+  pub same : (q : Pieces) → found (front taken q) ≡ rest q
+  pub failures : now.failures ≡ old.failures
+  pub held : now.held ≡ old.held
+
+-- a reader that isn't at a stop, under this version
+pub record IsRunning (under : Protocol) (now : Reading) : Type 0 where
+  pub stopped : now.stopped ≡ None
+  pub version : now.version ≡ under

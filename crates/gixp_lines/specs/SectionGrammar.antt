@@ -1,0 +1,59 @@
+-- A version 2 answer as a grammar: which pieces are a list of sections, and what they say (gitprotocol-v2, "fetch").
+use Rattle.std.specs.Prelude.{◌≡◌, ℕ, ⊤, true, false, List, [], ◌∷◌, ◌++◌, map, Ok}
+use Rattle.gixp_wire.specs.declared.protocol.MessageKind.{MessageKind}
+use Rattle.gixp_wire.specs.declared.protocol.MessageKind.TheVariants.{Flush, Delimiter}
+use Rattle.gixp_wire.specs.Pieces.{Piece, line, mark}
+use Rattle.gixp_lines.specs.declared.fetch.response.sections.Section.{Section}
+use Rattle.gixp_lines.specs.declared.fetch.response.sections.Header.TheVariants.{Of, Packfile}
+use Rattle.gixp_lines.specs.Answer.{AnswerValue, no_more, both}
+use Rattle.gixp_lines.specs.Sections.{read_header, read_item}
+
+-- a section: the line of its header, its kind, its lines, and what each of them says
+pub record SectionText : Type 0 where
+  pub header : List ℕ
+  pub kind : Section
+  pub lines : List (List ℕ)
+  pub items : List AnswerValue
+
+-- each line is an item of a section of this kind
+abbrev pub AreItems : Section → List (List ℕ) → List AnswerValue → Type 0
+AreItems kind [] [] = ⊤
+AreItems kind [] (v ∷ vs) = ⊥
+AreItems kind (t ∷ ts) [] = ⊥
+AreItems kind (t ∷ ts) (v ∷ vs) = (read_item kind t ≡ Ok v) × AreItems kind ts vs
+
+-- a header of its kind, and lines that are its items
+abbrev pub IsSection : SectionText → Type 0
+IsSection s = (read_header s.header ≡ Ok (Of s.kind)) × AreItems s.kind s.lines s.items
+
+-- lines, a stop, and what stands behind them
+abbrev pub lines_to_stop : List (List ℕ) → MessageKind → List Piece → List Piece
+lines_to_stop texts stop rest = map line texts ++ mark stop ∷ rest
+
+-- header, lines and stop
+abbrev pub section_text : SectionText → MessageKind → List Piece → List Piece
+section_text s stop rest = line s.header ∷ lines_to_stop s.lines stop rest
+
+-- the end of an answer: the header of a pack, or a section that a flush ends
+pub data Last : Type 0 where
+  pack_behind : List ℕ → Last
+  flushed : SectionText → Last
+
+-- the pieces are these sections, each with a delimiter behind it, and then this end
+abbrev pub AreSections : List Piece → List SectionText → Last → List Piece → Type 0
+AreSections ps [] (pack_behind header) rest = (read_header header ≡ Ok Packfile) × (ps ≡ line header ∷ rest)
+AreSections ps [] (flushed s) rest = IsSection s × (ps ≡ section_text s Flush rest)
+AreSections ps (s ∷ ss) last rest = IsSection s × (more : List Piece) × (ps ≡ section_text s Delimiter more) × AreSections more ss last rest
+
+-- the items of the sections in order, those of each kind by themselves
+abbrev pub said_before : List AnswerValue → AnswerValue → AnswerValue
+said_before [] rest = rest
+said_before (v ∷ vs) rest = let more = said_before vs rest in both more.pack v more
+
+abbrev pub said_at : Last → AnswerValue
+said_at (pack_behind header) = no_more true
+said_at (flushed s) = said_before s.items (no_more false)
+
+abbrev pub said_by : List SectionText → Last → AnswerValue
+said_by [] last = said_at last
+said_by (s ∷ ss) last = said_before s.items (said_by ss last)

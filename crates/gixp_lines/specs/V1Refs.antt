@@ -1,0 +1,77 @@
+-- What the reader of a version 0 or 1 advertisement has done (gitprotocol-pack, "Reference Discovery").
+use Rattle.std.specs.Prelude.{◌≡◌, ℕ, ◌⊎◌, Bool, None, Some, IfSome, List, [], ◌∷◌, ◌++◌, map, Option, Ok, Err}
+use Rattle.std.specs.Option.{option_map}
+use Rattle.bstr.specs.Owned.{bstring_bytes}
+use Rattle.bstr.specs.declared.bstring.BString.{BString}
+use Rattle.gixp_wire.specs.declared.protocol.MessageKind.{MessageKind}
+use Rattle.gixp_wire.specs.Pieces.{Refusal, Pieces}
+use Rattle.gixp_wire.specs.Lines.{stop, lines_to}
+use Rattle.gixp_wire.specs.Capabilities.{CapabilityValue}
+use Rattle.gixp_wire.specs.Reading.{Reading, AtStop, lines_ahead}
+use Rattle.gixp_lines.specs.declared.handshake.Ref.{Ref}
+use Rattle.gixp_lines.specs.declared.fetch.response.line.ShallowUpdate.{ShallowUpdate}
+use Rattle.gixp_lines.specs.declared.handshake.refs.parse.Error.{Error}
+use Rattle.gixp_lines.specs.declared.handshake.refs.parse.Error.TheVariants.{Memory}
+use Rattle.gixp_lines.specs.Ref.{RefValue, ref_value}
+use Rattle.gixp_lines.specs.RefLine.{RefsRefusal, refusal_from}
+use Rattle.gixp_lines.specs.ParseError.{Answers, parse_refusal, IsRefusal}
+use Rattle.gixp_lines.specs.Runs.{SoFar}
+use Rattle.gixp_lines.specs.Refs.{ReaderFailed}
+use Rattle.gixp_lines.specs.Advertisement.{Symref, symref_table, groups, v1_refs, v1_updates}
+
+-- a symref as plain data
+abbrev pub symref_value : BString × Option BString → Symref
+symref_value s = record { name = bstring_bytes s.0; target = option_map bstring_bytes s.1 }
+
+abbrev pub symref_values : List (BString × Option BString) → List Symref
+symref_values ss = map symref_value ss
+
+-- the lines to come up to a stop: the refs of their groups, their shallow updates, and the reader is at that stop
+pub record ReadsV1 (t : List Symref) (old new : Reading) (refs : List Ref) (updates : List ShallowUpdate) : Type 0 where
+  pub kind : MessageKind
+  pub texts : List (List ℕ)
+  pub lines : IfSome old.to_come (λ p. (q : Pieces) × (new.to_come ≡ Some q) × (lines_ahead old p ≡ lines_to texts (stop kind q)))
+  pub values : groups texts None t None ≡ Ok (map ref_value refs)
+  pub shallow : updates ≡ v1_updates texts
+  pub stopped : new.stopped ≡ Some kind
+  pub version : new.version ≡ old.version
+  pub failures : new.failures ≡ old.failures
+
+-- the first refusal was at a line, and it and the lines before it are taken; those were none to refuse
+pub record V1LineRefused (t : List Symref) (old new : Reading) (e : Error) : Type 0 where
+  pub texts : List (List ℕ)
+  pub text : List ℕ
+  pub read : SoFar old new (texts ++ text ∷ [])
+  pub before : (values : List RefValue) × (groups texts None t None ≡ Ok values)
+  pub refusal : RefsRefusal
+  pub line : groups (texts ++ text ∷ []) None t None ≡ Err refusal
+  pub first : IfSome old.to_come (λ p. v1_refs t (lines_ahead old p) ≡ Err refusal)
+  pub error : IsRefusal e refusal
+
+-- the first refusal was the reader's, which it answers from then on
+pub record V1ReaderRefused (t : List Symref) (old new : Reading) (e : Error) : Type 0 where
+  pub refusal : Refusal
+  pub first : IfSome old.to_come (λ p. v1_refs t (lines_ahead old p) ≡ Err (refusal_from refusal))
+  pub refused : new.refused ≡ Some refusal
+  pub error : parse_refusal e ≡ refusal_from refusal
+
+-- there was no memory for a ref of the lines taken, perhaps behind the stop
+pub record V1NoMemory (old new : Reading) (e : Error) : Type 0 where
+  pub texts : List (List ℕ)
+  pub now : Reading
+  pub read : SoFar old now texts
+  pub behind : (new ≡ now) ⊎ AtStop now new
+  pub error : e ≡ Memory
+
+-- the first refusal of the lines to come, or something from outside
+abbrev pub V1Fails : List Symref → Bool → Reading → Reading → Error → Type 0
+V1Fails t plain old new e = V1LineRefused t old new e ⊎ V1ReaderRefused t old new e ⊎ ReaderFailed plain old new e ⊎ V1NoMemory old new e
+
+-- the symrefs are read before the first line, and then the lines
+abbrev pub GivesAdvertisement : List CapabilityValue → Reading → Reading → List Ref → List ShallowUpdate → Type 0
+GivesAdvertisement caps old new refs updates = (t : List Symref) × (symref_table caps ≡ Ok t) × ReadsV1 t old new refs updates
+
+-- before the first line it was the symrefs' refusal or want of memory, and nothing was read
+abbrev pub AdvertisementFails : List CapabilityValue → Bool → Reading → Reading → Error → Type 0
+AdvertisementFails caps plain old new e =
+    ((new ≡ old) × Answers symref_values (symref_table caps) (Err e)) ⊎ ((t : List Symref) × (symref_table caps ≡ Ok t) × V1Fails t plain old new e)

@@ -1,0 +1,11 @@
+//! Answers to a fetch, and their lines (gitprotocol-v2, "fetch"; gitprotocol-pack, "Packfile
+//! Negotiation").
+
+pub(crate) mod answer;
+mod beginnings;
+mod error;
+mod line;
+mod sections;
+
+pub use error::Error;
+pub use line::{Acknowledgement, ShallowUpdate, WantedRef, shallow_update_from_line};

@@ -1,0 +1,83 @@
+//! Why there is no answer.
+ghost use Rattle.std.specs.Prelude.{◌≡◌};
+
+use bstr::BString;
+use gixp_wire::{client, read};
+use std::alloc::AllocError;
+use std::io::ErrorKind;
+use thiserror::Error as DeriveError;
+
+/// Why an answer, or a line of one, isn't there. Nothing of the answer is given beside one.
+///
+/// What stands behind each of a reader's errors is what `read::Error` says of it. After an error of
+/// a line, that line and those before it are taken. A line that an error carries stands in it as it
+/// was handed in, its LF included.
+#[derive(Debug, Drop, DeriveError)]
+pub enum Error {
+    /// A read failed with this kind, or the stream ended too early, also by a stop where a section's
+    /// header is due (`UnexpectedEof`).
+    #[error("Failed to read from line reader")]
+    Io(ErrorKind),
+    /// The server answered an error, with this message.
+    #[error("{message}")]
+    UploadPack { message: BString },
+    /// A call that speaks to the server was refused.
+    #[error("{0}")]
+    Transport(client::Error),
+    /// The server has no such feature, which is needed.
+    #[error("Currently we require feature {feature:?}, which is not supported by the server")]
+    MissingServerCapability { feature: &'static str },
+    /// A line that has no place where it stands.
+    #[error("Encountered an unknown line prefix in {line:?}")]
+    UnknownLineType { line: String },
+    /// A section of another kind, as `packfile-uris`.
+    #[error("Unknown or unsupported header: {header:?}")]
+    UnknownSectionHeader { header: String },
+    /// The reader was refused otherwise: `Decode`, `UnexpectedFrame`, `NotUtf8`, `BadBand` or
+    /// `Interrupted`.
+    #[error("Reader")]
+    Reader(read::Error),
+    /// There was no memory.
+    #[error("Memory")]
+    Memory,
+}
+
+impl From<client::Error> for Error {
+    ghost use Rattle.gixp_wire.specs.Client.{client_refusal};
+    ghost use Rattle.gixp_lines.specs.ResponseError.{answer_refusal, from_transport};
+
+    ghost from_gives = { λ e error. answer_refusal error ≡ from_transport (client_refusal e) };
+
+    fn from(e: client::Error) -> Error {
+        match e {
+            client::Error::Memory => Error::Memory,
+            other => Error::Transport(other),
+        }
+    }
+}
+
+impl From<read::Error> for Error {
+    ghost use Rattle.gixp_wire.specs.Reading.{refusal_of};
+    ghost use Rattle.gixp_lines.specs.ResponseError.{answer_refusal, from_reader};
+
+    ghost from_gives = { λ e error. answer_refusal error ≡ from_reader (refusal_of e) };
+
+    fn from(e: read::Error) -> Error {
+        match e {
+            read::Error::Io(kind) => Error::Io(kind),
+            read::Error::Server { message } => Error::UploadPack { message },
+            read::Error::Memory => Error::Memory,
+            other => Error::Reader(other),
+        }
+    }
+}
+
+impl From<AllocError> for Error {
+    ghost use Rattle.gixp_lines.specs.declared.fetch.response.error.Error.TheVariants.{Memory};
+
+    ghost from_gives = { λ _ error. error ≡ Memory };
+
+    fn from(_e: AllocError) -> Error {
+        Error::Memory
+    }
+}

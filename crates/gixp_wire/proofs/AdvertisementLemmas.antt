@@ -1,0 +1,404 @@
+-- What a server says first, read one step at a time.
+use Rattle.std.proofs.Common.{◌≡◌, ℕ, ◌≤◌, ◌<◌, ◌⊎◌, inl, inr, Bool, true, false, List, [], ◌∷◌, ◌++◌, take, length, map, Option, Some, None, IfSome, Result, Ok, Err, refl, sym, ap, subst, ◌∙◌, arith, append_assoc, append-nil}
+use Rattle.std.specs.Prelude.{position, ◌==◌}
+use Rattle.std.proofs.lemmas.List.{map-append}
+use Rattle.std.proofs.lemmas.List.Quantifiers.{position-Some}
+use Rattle.std.specs.Option.{option_map}
+use Rattle.std.specs.declared.io.ErrorKind.{ErrorKind}
+use Rattle.std.specs.declared.io.ErrorKind.TheVariants.{UnexpectedEof}
+use Rattle.gixp_wire.specs.declared.protocol.Protocol.{Protocol}
+use Rattle.gixp_wire.specs.declared.protocol.Protocol.TheVariants.{V0, V2}
+use Rattle.gixp_wire.specs.declared.protocol.MessageKind.{MessageKind}
+use Rattle.gixp_wire.specs.declared.read.Error.{Error as ReadError}
+use Rattle.gixp_wire.specs.declared.client.Error.{Error}
+use Rattle.gixp_wire.specs.declared.client.Error.TheVariants.{Io, Read, LineTooLong, AuthenticationUnsupported, UnsupportedProtocolVersion, MissingDelimitingNullByte, Memory}
+use Rattle.gixp_wire.specs.declared.service.SetServiceResponse.{SetServiceResponse}
+use Rattle.gixp_wire.specs.Pieces.{Refusal, io, decode, server, unexpected_frame, not_utf8, bad_band, interrupted, memory, Piece, line, mark, Pieces, no_pieces, with_piece, stream_pieces}
+use Rattle.gixp_wire.specs.Lines.{Next, gives, stops, refuses, next_of, Lines, Ending, stop, refusal, lines_of, before, lines_to, no_lines}
+use Rattle.gixp_wire.specs.declared.packets.Place.{Place}
+use Rattle.gixp_wire.specs.declared.packets.Place.TheVariants.{Open, Peeked, Stopped, Refused}
+use Rattle.gixp_wire.specs.declared.packets.Packets.{Packets}
+use Rattle.gixp_wire.specs.Packets.{is_peeked, place_stop, known, packets_reading}
+use Rattle.gixp_wire.specs.Capabilities.{CapabilityValue, capability_of_line, capabilities_of_line, capabilities_of_lines, capabilities_behind, IsOfLine}
+use Rattle.gixp_wire.specs.Client.{ClientRefusal, failed, reader, no_memory, no_null_byte, unsupported_version, client_refusal, client_from}
+use Rattle.gixp_wire.specs.Reading.{Reading, Rose, refusal_of, reset_to, ShowsLine, TakesLine, TakesStop, WasStopped, AtStop, Refuses, Faults, BreaksOff, IsPlain, IsOutside, Fails as Failing}
+use Rattle.gixp_wire.specs.Advertisement.{Advertised, Named, another, unnamed, version_named, trimmed, no_refs, ref_line, from_ref_line, by_version, by_first, advertisement, by_lines, from_capability_lines, Answers, Reads, Fails, IsFromDevice, Advertises}
+use Rattle.gixp_wire.proofs.LineLemmas.{gives_line, stops_here, refuses_here}
+
+-- what one says of known pieces, the other says of those that are left
+abbrev pub Turns : (Pieces → Result Advertised ClientRefusal) → (Pieces → Result Advertised ClientRefusal) → Option Pieces → Option Pieces → Type 0
+Turns said then old new = IfSome old (λ p. (q : Pieces) × (new ≡ Some q) × (said p ≡ then q))
+
+-- nothing but lines went
+pub record Steps (said then : Pieces → Result Advertised ClientRefusal) (old new : Reading) : Type 0 where
+  pub turns : Turns said then old.to_come new.to_come
+  pub failures : new.failures ≡ old.failures
+  pub left : new.left ≤ old.left
+  pub held : new.held ≡ old.held
+
+turned_value : (said then : Pieces → Result Advertised ClientRefusal) (a b : Option Pieces) (P : Advertised → Type 0) → Turns said then a b
+    → IfSome b (λ q. (x : Advertised) × (then q ≡ Ok x) × P x) → IfSome a (λ p. (x : Advertised) × (said p ≡ Ok x) × P x)
+turned_value said then None b P t h = tt
+turned_value said then (Some p) None P t h = absurd (let e = t.1 in cc)
+turned_value said then (Some p) (Some q) P t h =
+    let e : q ≡ t.0 = let e = t.1 in cc in
+    (h.0, t.2 ∙ ap then (sym e) ∙ h.1, h.2)
+
+turned_refusal : (said then : Pieces → Result Advertised ClientRefusal) (a b : Option Pieces) (x : ClientRefusal) → Turns said then a b
+    → IfSome b (λ q. then q ≡ Err x) → IfSome a (λ p. said p ≡ Err x)
+turned_refusal said then None b x t h = tt
+turned_refusal said then (Some p) None x t h = absurd (let e = t.1 in cc)
+turned_refusal said then (Some p) (Some q) x t h =
+    let e : q ≡ t.0 = let e = t.1 in cc in
+    t.2 ∙ ap then (sym e) ∙ h
+
+from_device : (old mid new : Reading) (e : Error) → mid.failures ≡ old.failures → IsFromDevice mid new e → IsFromDevice old new e
+from_device old mid new (Io kind) s h = rw s at h
+from_device old mid new Memory s h = h ∙ s
+from_device old mid new (Read e) s h = h
+from_device old mid new LineTooLong s h = h
+from_device old mid new AuthenticationUnsupported s h = h
+from_device old mid new (UnsupportedProtocolVersion t) s h = h
+from_device old mid new MissingDelimitingNullByte s h = h
+
+-- behind such steps
+pub advertises-then : (said then : Pieces → Result Advertised ClientRefusal) (old mid new : Reading) (r : Result SetServiceResponse Error) → Steps said then old mid
+    → Advertises then mid new r → Advertises said old new r
+advertises-then said then old mid new (Ok found) s h = record {
+  value = turned_value said then old.to_come mid.to_come (λ a. Answers a new found) s.turns h.value;
+  version = h.version;
+  failures = h.failures ∙ s.failures;
+  left = let a = h.left in let b = s.left in omega arith;
+  held = h.held ∙ s.held;
+}
+advertises-then said then old mid new (Err e) s h = record {
+  why = why h.why;
+  left = let a = h.left in let b = s.left in omega arith;
+  held = h.held ∙ s.held;
+}
+  where
+    why : (IfSome mid.to_come (λ q. then q ≡ Err (client_refusal e)) × (new.failures ≡ mid.failures)) ⊎ IsFromDevice mid new e
+        → (IfSome old.to_come (λ p. said p ≡ Err (client_refusal e)) × (new.failures ≡ old.failures)) ⊎ IsFromDevice old new e
+    why (inl k) = inl (turned_refusal said then old.to_come mid.to_come (client_refusal e) s.turns k.0, k.1 ∙ s.failures)
+    why (inr k) = inr (from_device old mid new e s.failures k)
+
+-- the errors that a device and memory bring
+is_io : (e : Error) (kind : ErrorKind) → client_refusal e ≡ failed kind → e ≡ Io kind
+is_io (Io k) kind h = let same : k ≡ kind = cc in ap Io same
+is_io (Read e) kind h = absurd (cc)
+is_io LineTooLong kind h = absurd (cc)
+is_io AuthenticationUnsupported kind h = absurd (cc)
+is_io (UnsupportedProtocolVersion t) kind h = absurd (cc)
+is_io MissingDelimitingNullByte kind h = absurd (cc)
+is_io Memory kind h = absurd (cc)
+
+is_memory : (e : Error) → client_refusal e ≡ no_memory → e ≡ Memory
+is_memory (Io k) h = absurd (cc)
+is_memory (Read e) h = absurd (cc)
+is_memory LineTooLong h = absurd (cc)
+is_memory AuthenticationUnsupported h = absurd (cc)
+is_memory (UnsupportedProtocolVersion t) h = absurd (cc)
+is_memory MissingDelimitingNullByte h = absurd (cc)
+is_memory Memory h = refl
+
+outside : (old new : Reading) (x : Refusal) (e : Error) → IsOutside old new x → IsPlain new x → client_refusal e ≡ client_from x → IsFromDevice old new e
+outside old new (io kind) e (inl h) p is = subst (IsFromDevice old new) (sym (is_io e kind is)) h.fault.2
+outside old new (io kind) e (inr h) p is = subst (IsFromDevice old new) (sym (is_io e kind is)) h.failures
+outside old new memory e (inl h) p is = subst (IsFromDevice old new) (sym (is_memory e is)) h.fault
+outside old new memory e (inr h) p is = absurd (let e = h.refusal in cc)
+outside old new interrupted e h p is = absurd p
+outside old new (bad_band b) e h p is = absurd p
+outside old new (decode y) e (inl h) p is = absurd h.fault
+outside old new (decode y) e (inr h) p is = absurd (let e = h.refusal in cc)
+outside old new (server m) e (inl h) p is = absurd h.fault
+outside old new (server m) e (inr h) p is = absurd (let e = h.refusal in cc)
+outside old new unexpected_frame e (inl h) p is = absurd h.fault
+outside old new unexpected_frame e (inr h) p is = absurd (let e = h.refusal in cc)
+outside old new not_utf8 e (inl h) p is = absurd h.fault
+outside old new not_utf8 e (inr h) p is = absurd (let e = h.refusal in cc)
+
+refused_known : (said : Pieces → Result Advertised ClientRefusal) (o : Option Pieces) (v : Protocol) (x : Refusal) (y : ClientRefusal) (Q : Pieces → Type 0)
+    → ((p : Pieces) → next_of v p ≡ refuses x → said p ≡ Err y) → IfSome o (λ p. Q p × (next_of v p ≡ refuses x)) → IfSome o (λ p. said p ≡ Err y)
+refused_known said None v x y Q f h = tt
+refused_known said (Some p) v x y Q f h = f p h.1
+
+-- a reader that is refused refuses what was said
+pub fails-reading : (said : Pieces → Result Advertised ClientRefusal) (old new : Reading) (x : Refusal) (e : Error) → Failing old new x → IsPlain new x
+    → client_refusal e ≡ client_from x → ((p : Pieces) → next_of old.version p ≡ refuses x → said p ≡ Err (client_from x)) → Fails said old new e
+fails-reading said old new x e (inl k) p is f = record {
+  why = inl (refused_known said old.to_come old.version x (client_refusal e) _ (λ q n. f q n ∙ ap Err (sym is)) k.next, k.failures);
+  left = k.left;
+  held = k.held;
+}
+fails-reading said old new x e (inr (inl k)) p is f = record { why = inr (outside old new x e (inl k) p is); left = k.stays.left; held = k.stays.held }
+fails-reading said old new x e (inr (inr k)) p is f = record { why = inr (outside old new x e (inr k) p is); left = k.left; held = k.held }
+
+-- a reader that isn't at a stop and comes to one takes it
+pub takes-stop : (old new : Reading) → old.stopped ≡ None → AtStop old new → (kind : MessageKind) × TakesStop old new kind
+takes-stop old new run (inl k) = absurd (let e = rw run at k.was in cc)
+takes-stop old new run (inr k) = k
+
+stopped_known : (said : Pieces → Result Advertised ClientRefusal) (a b : Option Pieces) (v : Protocol) (kind : MessageKind) (found : Pieces → Advertised) (P : Advertised → Type 0)
+    → ((p q : Pieces) → next_of v p ≡ stops kind q → said p ≡ Ok (found q)) → ((q : Pieces) → b ≡ Some q → P (found q))
+    → IfSome a (λ p. (q : Pieces) × (b ≡ Some q) × (next_of v p ≡ stops kind q)) → IfSome a (λ p. (x : Advertised) × (said p ≡ Ok x) × P x)
+stopped_known said None b v kind found P f g h = tt
+stopped_known said (Some p) b v kind found P f g h = (found h.0, f p h.0 h.2, g h.0 h.1)
+
+-- a stop in place of the first ref line
+pub reads-no_refs : (said : Pieces → Result Advertised ClientRefusal) (v : Protocol) (old new : Reading) (kind : MessageKind) (found : SetServiceResponse)
+    → old.version ≡ v → found ≡ record { actual_protocol = v; capabilities = []; has_refs = true } → TakesStop old new kind
+    → ((p q : Pieces) → next_of v p ≡ stops kind q → said p ≡ Ok (no_refs v kind q)) → Reads said old new found
+reads-no_refs said v old new kind found version is k f = record {
+  value = stopped_known said old.to_come new.to_come old.version kind (no_refs v kind) (λ a. Answers a new found)
+      (λ p q n. f p q (ap (λ w. next_of w p) (sym version) ∙ n))
+      (λ q at. rw is (record { version = refl; capabilities = refl; has_refs = refl; rest = at; stopped = k.stopped }))
+      k.next;
+  version = k.version ∙ version ∙ (rw is refl);
+  failures = k.failures;
+  left = k.left;
+  held = k.held;
+}
+
+-- these lines were read of those that come first
+pub record Gathers (old now : Reading) (texts : List (List ℕ)) : Type 0 where
+  pub next : IfSome old.to_come (λ p. (q : Pieces) × (now.to_come ≡ Some q) × (lines_of V2 p ≡ before texts (lines_of V2 q)))
+  pub running : now.stopped ≡ None
+  pub version : now.version ≡ V2
+  pub failures : now.failures ≡ old.failures
+  pub left : now.left ≤ old.left
+  pub held : now.held ≡ old.held
+
+pub gathers-none : (r : Reading) → r.stopped ≡ None → r.version ≡ V2 → Gathers r r []
+gathers-none r run v = record { next = at r.to_come; running = run; version = v; failures = refl; left = omega arith; held = refl }
+  where
+    at : (o : Option Pieces) → IfSome o (λ p. (q : Pieces) × (o ≡ Some q) × (lines_of V2 p ≡ before [] (lines_of V2 q)))
+    at None = tt
+    at (Some p) = (p, refl, refl)
+
+behind_line : (a b c : Option Pieces) (texts : List (List ℕ)) (text : List ℕ) (w : Protocol) → w ≡ V2
+    → IfSome a (λ p. (q : Pieces) × (b ≡ Some q) × (lines_of V2 p ≡ before texts (lines_of V2 q)))
+    → IfSome b (λ p. (q : Pieces) × (c ≡ Some q) × (next_of w p ≡ gives text q))
+    → IfSome a (λ p. (q : Pieces) × (c ≡ Some q) × (lines_of V2 p ≡ before (texts ++ text ∷ []) (lines_of V2 q)))
+behind_line None b c texts text w v h k = tt
+behind_line (Some p) None c texts text w v h k = absurd (let e = h.1 in cc)
+behind_line (Some p) (Some q) c texts text w v h k =
+    let same : h.0 ≡ q = let e = h.1 in cc in
+    let next : next_of V2 q ≡ gives text k.0 = rw v at k.2 in
+    (k.0, k.1, h.2 ∙ ap (λ x. before texts (lines_of V2 x)) same ∙ ap (before texts) (gives_line V2 q.list q.end text k.0 next) ∙ (rw append_assoc refl))
+
+-- one more line
+pub gathers-line : (old mid new : Reading) (texts : List (List ℕ)) → Gathers old mid texts → TakesLine mid new → Gathers old new (texts ++ new.line ∷ [])
+gathers-line old mid new texts h k = record {
+  next = behind_line old.to_come mid.to_come new.to_come texts new.line mid.version h.version h.next k.next;
+  running = k.stopped;
+  version = k.version ∙ h.version;
+  failures = k.failures ∙ h.failures;
+  left = let a = h.left in let b = k.left in omega arith;
+  held = k.held ∙ h.held;
+}
+
+-- behind these lines the rest is read as they and the others
+abbrev said_behind : List (List ℕ) → Pieces → Result Advertised ClientRefusal
+said_behind texts p = let l = lines_of V2 p in by_lines (texts ++ l.lines) l.ending
+
+gathers-steps : (old mid : Reading) (texts : List (List ℕ)) → Gathers old mid texts → Steps from_capability_lines (said_behind texts) old mid
+gathers-steps old mid texts h = record { turns = at old.to_come mid.to_come h.next; failures = h.failures; left = h.left; held = h.held }
+  where
+    at : (a b : Option Pieces) → IfSome a (λ p. (q : Pieces) × (b ≡ Some q) × (lines_of V2 p ≡ before texts (lines_of V2 q))) → Turns from_capability_lines (said_behind texts) a b
+    at None b k = tt
+    at (Some p) b k = (k.0, k.1, ap (λ (l : Lines). by_lines l.lines l.ending) k.2)
+
+-- the capability lines up to the stop
+pub reads-lines : (old mid new : Reading) (texts : List (List ℕ)) (found : SetServiceResponse) → Gathers old mid texts → AtStop mid new
+    → found ≡ record { actual_protocol = V2; capabilities = capabilities_of_lines texts; has_refs = false } → Reads from_capability_lines old new found
+reads-lines old mid new texts found h at is =
+    let stop = takes-stop mid new h.running at in
+    let kind = stop.0 in
+    let k = stop.1 in
+    let said : Pieces → Advertised = λ q. record { version = V2; capabilities = capabilities_of_lines texts; has_refs = false; rest = q; stopped = Some kind } in
+    advertises-then from_capability_lines (said_behind texts) old mid new (Ok found) (gathers-steps old mid texts h) (record {
+      value = stopped_known (said_behind texts) mid.to_come new.to_come mid.version kind said (λ a. Answers a new found)
+          (λ p q n. let next : next_of V2 p ≡ stops kind q = ap (λ v. next_of v p) (sym h.version) ∙ n in rw (stops_here V2 p.list p.end kind q next, append-nil) refl)
+          (λ q e. rw is (record { version = refl; capabilities = refl; has_refs = refl; rest = e; stopped = k.stopped }))
+          k.next;
+      version = k.version ∙ h.version ∙ (rw is refl);
+      failures = k.failures;
+      left = k.left;
+      held = k.held;
+    })
+
+-- a refusal among them
+pub fails-lines : (old mid new : Reading) (texts : List (List ℕ)) (x : Refusal) (e : Error) → Gathers old mid texts → Failing mid new x → IsPlain new x
+    → client_refusal e ≡ client_from x → Fails from_capability_lines old new e
+fails-lines old mid new texts x e h k p is =
+    advertises-then from_capability_lines (said_behind texts) old mid new (Err e) (gathers-steps old mid texts h)
+    (fails-reading (said_behind texts) mid new x e k p is
+    (λ q n. let next : next_of V2 q ≡ refuses x = ap (λ v. next_of v q) (sym h.version) ∙ n in rw (refuses_here V2 q.list q.end x next) refl))
+
+-- no memory for one of them
+pub fails-memory : (old mid new : Reading) (texts : List (List ℕ)) → Gathers old mid texts → TakesLine mid new → Fails from_capability_lines old new Memory
+fails-memory old mid new texts h k = record { why = inr (k.failures ∙ h.failures); left = let a = h.left in let b = k.left in omega arith; held = k.held ∙ h.held }
+
+-- the capabilities of one more line
+pub capabilities-push : (texts : List (List ℕ)) (text : List ℕ) → capabilities_of_lines texts ++ capability_of_line text ∷ [] ≡ capabilities_of_lines (texts ++ text ∷ [])
+capabilities-push texts text = sym (map-append capability_of_line texts (text ∷ []))
+
+-- reading under another version leaves the pieces where they are
+pub reset-steps : (said : Pieces → Result Advertised ClientRefusal) (r : Reading) (v : Protocol) → Steps said said r (reset_to v r)
+reset-steps said r v = record { turns = at r.to_come; failures = refl; left = omega arith; held = refl }
+  where
+    at : (o : Option Pieces) → Turns said said o o
+    at None = tt
+    at (Some p) = (p, refl, refl)
+
+-- to peek leaves them too
+pub shows-steps : (said : Pieces → Result Advertised ClientRefusal) (old new : Reading) → ShowsLine old new → Steps said said old new
+shows-steps said old new k = record { turns = at old.to_come new.to_come k.next; failures = k.failures; left = k.left; held = k.held }
+  where
+    at : (a b : Option Pieces) → IfSome a (λ p. (q : Pieces) × (b ≡ Some p) × (next_of old.version p ≡ gives new.line q)) → Turns said said a b
+    at None b h = tt
+    at (Some p) b h = (p, h.1, refl)
+
+-- behind a line that was taken, where what was said turns on it
+pub takes-steps : (said then : Pieces → Result Advertised ClientRefusal) (old new : Reading) → TakesLine old new
+    → ((p q : Pieces) → next_of old.version p ≡ gives new.line q → said p ≡ then q) → Steps said then old new
+takes-steps said then old new k f = record { turns = at old.to_come new.to_come k.next; failures = k.failures; left = let a = k.left in omega arith; held = k.held }
+  where
+    at : (a b : Option Pieces) → IfSome a (λ p. (q : Pieces) × (b ≡ Some q) × (next_of old.version p ≡ gives new.line q)) → Turns said then a b
+    at None b h = tt
+    at (Some p) b h = (h.0, h.1, f p h.0 h.2)
+
+-- a place that is peeked at
+pub peeked-place : (place : Place) → is_peeked place ≡ true → place ≡ Peeked
+peeked-place Open h = cc
+peeked-place Peeked h = refl
+peeked-place (Stopped kind) h = cc
+peeked-place Refused h = cc
+
+abbrev place_of : Option (List CapabilityValue × ℕ) → ℕ
+place_of None = 0
+place_of (Some found) = found.1
+
+-- what was found is the definition's
+pub found-is : (o : Option (List CapabilityValue × ℕ)) (found : List CapabilityValue × ℕ) → IsOfLine o (Ok found) → o ≡ Some found
+found-is None found h = absurd h
+found-is (Some x) found h = ap Some (sym h)
+
+-- a line with a NUL is as long as its place
+pub place-within : (text : List ℕ) (cs : List CapabilityValue) (place : ℕ) → capabilities_of_line text ≡ Some (cs, place) → place < length text
+place-within text cs place h = at (position (λ b. b == 0) text) refl h
+  where
+    at : (o : Option ℕ) → position (λ b. b == 0) text ≡ o → capabilities_behind text o ≡ Some (cs, place) → place < length text
+    at None e k = cc
+    at (Some i) e k =
+        let same : i ≡ place = ap place_of k in
+        let within = (position-Some (λ b. b == 0) text i 0 e).0 in
+        rw same at within
+
+module _ {R : Type 0} where
+  -- the line that it lends, cut
+  abbrev pub shortened : Packets R → ℕ → Packets R
+  shortened p n = record p { window = record p.window { lent = take n p.window.lent } }
+
+  to_come-peeked : (rem : R → Option (List ℕ)) (p : Packets R) → p.place ≡ Peeked
+      → (packets_reading rem p).to_come ≡ option_map (with_piece (line p.window.lent)) (option_map stream_pieces (known rem p))
+  to_come-peeked rem p e = rw e refl
+
+  -- the first ref line was cut before its NUL
+  pub reads-cut : (rem : R → Option (List ℕ)) (p : Packets R) (v : Protocol) (cs : List CapabilityValue) (n : ℕ) → p.place ≡ Peeked → p.version ≡ v
+      → capabilities_of_line p.window.lent ≡ Some (cs, n)
+      → Reads (from_ref_line v) (packets_reading rem p) (packets_reading rem (shortened p n)) (record { actual_protocol = v; capabilities = cs; has_refs = true })
+  reads-cut rem p v cs n e version is =
+      let new = shortened p n in
+      let found : SetServiceResponse = record { actual_protocol = v; capabilities = cs; has_refs = true } in
+      let P : Option Pieces → Type 0 = λ c. IfSome c (λ q. (a : Advertised) × (from_ref_line v q ≡ Ok a) × Answers a (packets_reading rem new) found) in
+      record {
+        value = subst P (sym (to_come-peeked rem p e)) (at (option_map stream_pieces (known rem p)) refl);
+        version = version;
+        failures = refl;
+        left = omega arith;
+        held = refl;
+      }
+    where
+      at : (o : Option Pieces) → option_map stream_pieces (known rem p) ≡ o
+          → IfSome (option_map (with_piece (line p.window.lent)) o) (λ q. (a : Advertised) × (from_ref_line v q ≡ Ok a)
+          × Answers a (packets_reading rem (shortened p n)) (record { actual_protocol = v; capabilities = cs; has_refs = true }))
+      at None k = tt
+      at (Some q) k = (
+        record { version = v; capabilities = cs; has_refs = true; rest = with_piece (line (take n p.window.lent)) q; stopped = None },
+        ap (ref_line v p.window.lent q) is,
+        record {
+          version = refl;
+          capabilities = refl;
+          has_refs = refl;
+          rest = to_come-peeked rem (shortened p n) e ∙ ap (option_map (with_piece (line (take n p.window.lent)))) k;
+          stopped = ap place_stop e;
+        },
+      )
+
+  -- it has no NUL
+  pub fails-cut : (rem : R → Option (List ℕ)) (p : Packets R) (v : Protocol) (e : Error) → p.place ≡ Peeked
+      → IsOfLine (capabilities_of_line p.window.lent) (Err e) → Fails (from_ref_line v) (packets_reading rem p) (packets_reading rem p) e
+  fails-cut rem p v e peeked h = by (capabilities_of_line p.window.lent) refl h
+    where
+      none : (o : Option Pieces) → capabilities_of_line p.window.lent ≡ None → IfSome (option_map (with_piece (line p.window.lent)) o) (λ q. from_ref_line v q ≡ Err no_null_byte)
+      none None k = tt
+      none (Some q) k = ap (ref_line v p.window.lent q) k
+
+      by : (o : Option (List CapabilityValue × ℕ)) → capabilities_of_line p.window.lent ≡ o → IsOfLine o (Err e) → Fails (from_ref_line v) (packets_reading rem p) (packets_reading rem p) e
+      by None k i =
+          let P : Option Pieces → Type 0 = λ c. IfSome c (λ q. from_ref_line v q ≡ Err (client_refusal e)) in
+          let refused : client_refusal e ≡ no_null_byte = ap client_refusal i in
+          let Q : ClientRefusal → Type 0 = λ x. IfSome (option_map (with_piece (line p.window.lent)) (option_map stream_pieces (known rem p))) (λ q. from_ref_line v q ≡ Err x) in
+          record {
+            why = inl (subst P (sym (to_come-peeked rem p peeked)) (subst Q (sym refused) (none (option_map stream_pieces (known rem p)) k)), refl);
+            left = omega arith;
+            held = refl;
+          }
+      by (Some found) k i = record { why = inr (subst (IsFromDevice (packets_reading rem p) (packets_reading rem p)) (sym i) refl); left = omega arith; held = refl }
+
+  peeked_known : (rem : R → Option (List ℕ)) (p : Packets R) (P : Option Pieces → Type 0) → p.place ≡ Peeked
+      → ((o : Option Pieces) → P (option_map (with_piece (line p.window.lent)) o)) → P (packets_reading rem p).to_come
+  peeked_known rem p P e f = subst P (sym (to_come-peeked rem p e)) (f (option_map stream_pieces (known rem p)))
+
+  -- a first line that names no version is the first ref line
+  pub unnamed-steps : (rem : R → Option (List ℕ)) (p : Packets R) → p.place ≡ Peeked → version_named p.window.lent ≡ unnamed
+      → Steps advertisement (from_ref_line V0) (packets_reading rem p) (packets_reading rem p)
+  unnamed-steps rem p e is = record { turns = peeked_known rem p (λ o. Turns advertisement (from_ref_line V0) o o) e at; failures = refl; left = omega arith; held = refl }
+    where
+      at : (o : Option Pieces) → Turns advertisement (from_ref_line V0) (option_map (with_piece (line p.window.lent)) o) (option_map (with_piece (line p.window.lent)) o)
+      at None = tt
+      at (Some q) = (with_piece (line p.window.lent) q, refl, ap (λ n. by_version n (with_piece (line p.window.lent) q) q) is)
+
+  -- one that names another version is refused
+  pub fails-another : (rem : R → Option (List ℕ)) (p : Packets R) (e : Error) → p.place ≡ Peeked → version_named p.window.lent ≡ another (trimmed p.window.lent)
+      → (client_refusal e ≡ unsupported_version (trimmed p.window.lent)) ⊎ (e ≡ Memory) → Fails advertisement (packets_reading rem p) (packets_reading rem p) e
+  fails-another rem p e peeked is (inl refused) = record {
+    why = inl (peeked_known rem p (λ o. IfSome o (λ q. advertisement q ≡ Err (client_refusal e))) peeked at, refl);
+    left = omega arith;
+    held = refl;
+  }
+    where
+      at : (o : Option Pieces) → IfSome (option_map (with_piece (line p.window.lent)) o) (λ q. advertisement q ≡ Err (client_refusal e))
+      at None = tt
+      at (Some q) = ap (λ n. by_version n (with_piece (line p.window.lent) q) q) is ∙ ap Err (sym refused)
+  fails-another rem p e peeked is (inr full) = record {
+    why = inr (subst (IsFromDevice (packets_reading rem p) (packets_reading rem p)) (sym full) refl);
+    left = omega arith;
+    held = refl;
+  }
+
+-- behind a line that names a version, which was peeked at and taken, and the version
+pub named-steps : (then : Pieces → Result Advertised ClientRefusal) (named : Named) (v : Protocol) (old mid new : Reading) (text : List ℕ) → old.version ≡ V0 → old.peeked ≡ true
+    → old.line ≡ text → version_named text ≡ named → ((p q : Pieces) → by_version named p q ≡ then q) → TakesLine old mid → new ≡ reset_to v mid → Steps advertisement then old new
+named-steps then named v old mid new text version peeked is names turns k reset =
+    let lines : mid.line ≡ text = k.again peeked ∙ is in
+    let taken = takes-steps advertisement then old mid k (λ p q n.
+    let next : next_of V0 p ≡ gives mid.line q = ap (λ w. next_of w p) (sym version) ∙ n in
+    ap (by_first p) next ∙ ap (λ t. by_version (version_named t) p q) lines ∙ ap (λ m. by_version m p q) names ∙ turns p q) in
+    subst (Steps advertisement then old) (sym reset) (record {
+      turns = taken.turns;
+      failures = taken.failures;
+      left = taken.left;
+      held = taken.held;
+    })

@@ -1,0 +1,109 @@
+-- What a call that reads does, beside whatever is held.
+use Rattle.std.proofs.Common.{◌≡◌, ℕ, Bool, true, false, ◌⊎◌, inl, inr, refl, Option, Some, None, IfSome, Result, Ok, Err}
+use Rattle.gixp_wire.specs.declared.read.Error.{Error}
+use Rattle.gixp_wire.specs.declared.protocol.MessageKind.{MessageKind}
+use Rattle.gixp_wire.specs.Pieces.{Refusal, io, decode, server, unexpected_frame, not_utf8, bad_band, interrupted, memory, Pieces}
+use Rattle.gixp_wire.specs.declared.client.Error.{Error as ClientError}
+use Rattle.gixp_wire.specs.declared.client.Error.TheVariants.{Io as ClientIo, Read as ClientRead, LineTooLong, AuthenticationUnsupported, UnsupportedProtocolVersion, MissingDelimitingNullByte, Memory as ClientMemory}
+use Rattle.gixp_wire.specs.declared.service.SetServiceResponse.{SetServiceResponse}
+use Rattle.gixp_wire.specs.Client.{ClientRefusal, client_refusal}
+use Rattle.gixp_wire.specs.Advertisement.{Advertised, Answers, IsFromDevice, Advertises}
+use Rattle.gixp_wire.specs.Held.{Held}
+use Rattle.gixp_wire.specs.Reading.{Reading, refusal_of, Stays, TakesLine, ShowsLine, TakesStop, WasStopped, AtStop, Refuses, Faults, IsFault, BreaksOff, IsOutside, Fails, IsPlain, PlainIf, Reads, Peeks}
+
+module _ (h : Held) (a b : Reading) where
+  abbrev A : Reading
+  A = record a { held = h }
+
+  abbrev B : Reading
+  B = record b { held = h }
+
+  stays : Stays a b → Stays A B
+  stays k = record { to_come = k.to_come; refused = k.refused; stopped = k.stopped; version = k.version; unpeeked = k.unpeeked; peeked = k.peeked; left = k.left; held = refl }
+
+  takes_line : TakesLine a b → TakesLine A B
+  takes_line k = record { running = k.running; sound = k.sound; again = k.again; next = k.next; stopped = k.stopped; version = k.version; peeked = k.peeked; failures = k.failures; left = k.left; held = refl }
+
+  shows_line : ShowsLine a b → ShowsLine A B
+  shows_line k = record { running = k.running; sound = k.sound; again = k.again; next = k.next; refused = k.refused; stopped = k.stopped; version = k.version; peeked = k.peeked; failures = k.failures; left = k.left; held = refl }
+
+  takes_stop : (kind : MessageKind) → TakesStop a b kind → TakesStop A B kind
+  takes_stop kind k = record { running = k.running; sound = k.sound; unpeeked = k.unpeeked; is_stop = k.is_stop; next = k.next; stopped = k.stopped; version = k.version; peeked = k.peeked; failures = k.failures; left = k.left; held = refl }
+
+  at_stop : AtStop a b → AtStop A B
+  at_stop (inl k) = inl (record { was = k.was; stays = stays k.stays; failures = k.failures })
+  at_stop (inr (kind, k)) = inr (kind, takes_stop kind k)
+
+  refuses : (e : Refusal) → Refuses a b e → Refuses A B e
+  refuses e k = record { running = k.running; lasting = k.lasting; unpeeked = k.unpeeked; same = k.same; next = k.next; refused = k.refused; stopped = k.stopped; version = k.version; peeked = k.peeked; failures = k.failures; left = k.left; held = refl }
+
+  is_fault : (e : Refusal) → IsFault a b e → IsFault A B e
+  is_fault (io kind) k = k
+  is_fault (decode e) k = k
+  is_fault (server m) k = k
+  is_fault unexpected_frame k = k
+  is_fault not_utf8 k = k
+  is_fault (bad_band n) k = k
+  is_fault interrupted k = k
+  is_fault memory k = k
+
+  fails : (e : Refusal) → Fails a b e → Fails A B e
+  fails e (inl k) = inl (refuses e k)
+  fails e (inr (inl k)) = inr (inl (record { running = k.running; fault = is_fault e k.fault; stays = stays k.stays }))
+  fails e (inr (inr k)) = inr (inr (record { running = k.running; sound = k.sound; unpeeked = k.unpeeked; refusal = k.refusal; to_come = k.to_come; refused = k.refused; stopped = k.stopped; version = k.version; peeked = k.peeked; failures = k.failures; left = k.left; held = refl }))
+
+  pub reads : (r : Result Bool Error) → Reads a b r → Reads A B r
+  reads (Ok true) k = takes_line k
+  reads (Ok false) k = at_stop k
+  reads (Err e) k = fails (refusal_of e) k
+
+  pub peeks : (r : Result Bool Error) → Peeks a b r → Peeks A B r
+  peeks (Ok true) k = shows_line k
+  peeks (Ok false) k = at_stop k
+  peeks (Err e) k = fails (refusal_of e) k
+
+  is_plain : (e : Refusal) → IsPlain b e → IsPlain B e
+  is_plain (io kind) k = k
+  is_plain (decode e) k = k
+  is_plain (server m) k = k
+  is_plain unexpected_frame k = k
+  is_plain not_utf8 k = k
+  is_plain (bad_band n) k = k
+  is_plain interrupted k = k
+  is_plain memory k = k
+
+  pub plain : (r : Result Bool Error) → PlainIf true b r → PlainIf true B r
+  plain (Ok x) k = k
+  plain (Err e) k = λ t. is_plain (refusal_of e) (k t)
+
+  from_device : (e : ClientError) → IsFromDevice a b e → IsFromDevice A B e
+  from_device (ClientIo kind) k = k
+  from_device (ClientRead e) k = k
+  from_device LineTooLong k = k
+  from_device AuthenticationUnsupported k = k
+  from_device (UnsupportedProtocolVersion t) k = k
+  from_device MissingDelimitingNullByte k = k
+  from_device ClientMemory k = k
+
+  answers_held : (x : Advertised) (found : SetServiceResponse) → Answers x b found → Answers x B found
+  answers_held x found k = record { version = k.version; capabilities = k.capabilities; has_refs = k.has_refs; rest = k.rest; stopped = k.stopped }
+
+  value_held : (said : Pieces → Result Advertised ClientRefusal) (found : SetServiceResponse) (o : Option Pieces)
+      → IfSome o (λ p. (x : Advertised) × (said p ≡ Ok x) × Answers x b found) → IfSome o (λ p. (x : Advertised) × (said p ≡ Ok x) × Answers x B found)
+  value_held said found None k = tt
+  value_held said found (Some p) k = (k.0, k.1, answers_held k.0 found k.2)
+
+  pub advertises : (said : Pieces → Result Advertised ClientRefusal) (r : Result SetServiceResponse ClientError) → Advertises said a b r → Advertises said A B r
+  advertises said (Ok found) k = record {
+    value = value_held said found a.to_come k.value;
+    version = k.version;
+    failures = k.failures;
+    left = k.left;
+    held = refl;
+  }
+  advertises said (Err e) k = record { why = why k.why; left = k.left; held = refl }
+    where
+      why : (IfSome a.to_come (λ p. said p ≡ Err (client_refusal e)) × (b.failures ≡ a.failures)) ⊎ IsFromDevice a b e
+          → (IfSome a.to_come (λ p. said p ≡ Err (client_refusal e)) × (b.failures ≡ a.failures)) ⊎ IsFromDevice A B e
+      why (inl k) = inl k
+      why (inr k) = inr (from_device e k)

@@ -1,0 +1,16 @@
+use Rattle.std.proofs.Common.{inr}
+use Rattle.gixp_wire.specs.Connection.{connection_held, connection_reading}
+use Rattle.gixp_wire.specs.Advertisement.{advertisement}
+use Rattle.gixp_wire.proofs.HeldLemmas.{advertises}
+use Rattle.gixp_wire.proofs.connection.ConnectionTransport.handshake.Goals as goal
+
+pub returns-in-Ok : goal.returns-in-Ok
+returns-in-Ok g c =
+    let mid = c.greet.new.self in
+    record {
+      handshakes = inr (
+        connection_reading g.R.Read.remaining g.W.Write.contents mid,
+        c.in-Ok.ensures,
+        advertises (connection_held g.W.Write.contents mid) _ _ advertisement _ c.advertisement.ensures,
+      );
+    }

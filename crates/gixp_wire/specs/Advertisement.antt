@@ -1,0 +1,123 @@
+-- What a server says first: its version, its capabilities, and under versions 0 and 1 its refs (gitprotocol-pack, "Reference Discovery" and "Extra Parameters"; gitprotocol-v2, "Capability Advertisement").
+use Rattle.std.specs.Prelude.{◌≡◌, ℕ, ◌≤◌, ◌⊎◌, Bool, true, false, nat_eq, List, [], length, take, codes, if◌then◌else◌, Option, Some, None, Result, Ok, Err, IfSome}
+use Rattle.std.specs.Char.{is_whitespace}
+use Rattle.bstr.specs.Trim.{trim_end_by}
+use Rattle.std.specs.List.{starts_with}
+use Rattle.std.specs.Cmp.Lexicographic.{pointwise}
+use Rattle.std.specs.declared.io.ErrorKind.{ErrorKind}
+use Rattle.gixp_wire.specs.declared.protocol.Protocol.{Protocol}
+use Rattle.gixp_wire.specs.declared.protocol.Protocol.TheVariants.{V0, V1, V2}
+use Rattle.gixp_wire.specs.declared.protocol.MessageKind.{MessageKind}
+use Rattle.gixp_wire.specs.declared.client.Error.{Error}
+use Rattle.gixp_wire.specs.declared.client.Error.TheVariants.{Io, Read, LineTooLong, AuthenticationUnsupported, UnsupportedProtocolVersion, MissingDelimitingNullByte, Memory}
+use Rattle.gixp_wire.specs.declared.service.SetServiceResponse.{SetServiceResponse}
+use Rattle.gixp_wire.specs.Pieces.{Refusal, line, Pieces, with_piece}
+use Rattle.gixp_wire.specs.Lines.{Next, gives, stops, refuses, next_of, Lines, Ending, stop, refusal, lines_of}
+use Rattle.gixp_wire.specs.Capabilities.{CapabilityValue, capabilities_of_line, capabilities_of_lines}
+use Rattle.gixp_wire.specs.Client.{ClientRefusal, client_refusal, client_from, no_null_byte, unsupported_version}
+use Rattle.gixp_wire.specs.Reading.{Reading, Rose}
+
+-- what a server said, and where its reader then is
+pub record Advertised : Type 0 where
+  pub version : Protocol
+  pub capabilities : List CapabilityValue
+  -- whether its refs are the lines that come next
+  pub has_refs : Bool
+  -- the pieces behind it
+  pub rest : Pieces
+  -- the stop that the reader is at
+  pub stopped : Option MessageKind
+
+-- which version a first line names, if it names one; another one is the line's text
+pub data Named : Type 0 where
+  one : Named
+  two : Named
+  another : List ℕ → Named
+  unnamed : Named
+
+-- a line without the white space at its end
+abbrev pub trimmed : List ℕ → List ℕ
+trimmed text = trim_end_by is_whitespace text
+
+abbrev pub version_named : List ℕ → Named
+version_named text =
+    if pointwise nat_eq (trimmed text) (codes "version 1") then one
+    else if pointwise nat_eq (trimmed text) (codes "version 2") then two
+    else if starts_with nat_eq text (codes "version ") then another (trimmed text)
+    else unnamed
+
+-- a stop in place of the first ref line: no refs, and no capabilities
+abbrev pub no_refs : Protocol → MessageKind → Pieces → Advertised
+no_refs version kind rest = record { version = version; capabilities = []; has_refs = true; rest = rest; stopped = Some kind }
+
+-- the first ref line is still to come, cut before its NUL; the capabilities stand behind that
+abbrev pub ref_line : Protocol → List ℕ → Pieces → Option (List CapabilityValue × ℕ) → Result Advertised ClientRefusal
+ref_line version text rest None = Err no_null_byte
+ref_line version text rest (Some found) =
+    Ok (record { version = version; capabilities = found.0; has_refs = true; rest = with_piece (line (take found.1 text)) rest; stopped = None })
+
+abbrev pub by_ref_line : Protocol → Next → Result Advertised ClientRefusal
+by_ref_line version (gives text rest) = ref_line version text rest (capabilities_of_line text)
+by_ref_line version (stops kind rest) = Ok (no_refs version kind rest)
+by_ref_line version (refuses e) = Err (client_from e)
+
+-- the first ref line of version 0 or 1
+abbrev pub from_ref_line : Protocol → Pieces → Result Advertised ClientRefusal
+from_ref_line version p = by_ref_line version (next_of version p)
+
+abbrev pub by_lines : List (List ℕ) → Ending → Result Advertised ClientRefusal
+by_lines texts (stop kind rest) = Ok (record { version = V2; capabilities = capabilities_of_lines texts; has_refs = false; rest = rest; stopped = Some kind })
+by_lines texts (refusal e) = Err (client_from e)
+
+-- the capability lines of version 2, up to the stop
+abbrev pub from_capability_lines : Pieces → Result Advertised ClientRefusal
+from_capability_lines p = let l = lines_of V2 p in by_lines l.lines l.ending
+
+-- what stands behind a first line that names a version; one that names none is the first ref line of version 0
+abbrev pub by_version : Named → Pieces → Pieces → Result Advertised ClientRefusal
+by_version one all rest = from_ref_line V1 rest
+by_version two all rest = from_capability_lines rest
+by_version (another text) all rest = Err (unsupported_version text)
+by_version unnamed all rest = from_ref_line V0 all
+
+abbrev pub by_first : Pieces → Next → Result Advertised ClientRefusal
+by_first all (gives text rest) = by_version (version_named text) all rest
+by_first all (stops kind rest) = Ok (no_refs V0 kind rest)
+by_first all (refuses e) = Err (client_from e)
+
+-- what a server says first, read under the stops of version 0 up to where a version is named
+abbrev pub advertisement : Pieces → Result Advertised ClientRefusal
+advertisement p = by_first p (next_of V0 p)
+
+-- the answer says what the server said
+pub record Answers (a : Advertised) (new : Reading) (found : SetServiceResponse) : Type 0 where
+  pub version : found.actual_protocol ≡ a.version
+  pub capabilities : found.capabilities ≡ a.capabilities
+  pub has_refs : found.has_refs ≡ a.has_refs
+  pub rest : new.to_come ≡ Some a.rest
+  pub stopped : new.stopped ≡ a.stopped
+
+-- what was said was read
+pub record Reads (said : Pieces → Result Advertised ClientRefusal) (old new : Reading) (found : SetServiceResponse) : Type 0 where
+  pub value : IfSome old.to_come (λ p. (a : Advertised) × (said p ≡ Ok a) × Answers a new found)
+  pub version : new.version ≡ found.actual_protocol
+  pub failures : new.failures ≡ old.failures
+  pub left : new.left ≤ old.left
+  pub held : new.held ≡ old.held
+
+-- a device failed, or there was no memory
+abbrev pub IsFromDevice : Reading → Reading → Error → Type 0
+IsFromDevice old new (Io kind) = Rose old.failures new.failures
+IsFromDevice old new Memory = new.failures ≡ old.failures
+IsFromDevice old new _ = ⊥
+
+-- the first refusal of what was said, or that of a device or of memory
+pub record Fails (said : Pieces → Result Advertised ClientRefusal) (old new : Reading) (e : Error) : Type 0 where
+  pub why : (IfSome old.to_come (λ p. said p ≡ Err (client_refusal e)) × (new.failures ≡ old.failures)) ⊎ IsFromDevice old new e
+  pub left : new.left ≤ old.left
+  pub held : new.held ≡ old.held
+
+-- a call that reads what a server says first
+abbrev pub Advertises : (Pieces → Result Advertised ClientRefusal) → Reading → Reading → Result SetServiceResponse Error → Type 0
+Advertises said old new (Ok found) = Reads said old new found
+Advertises said old new (Err e) = Fails said old new e

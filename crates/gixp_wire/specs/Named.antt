@@ -1,0 +1,11 @@
+-- Which version a line names, as the code finds it.
+use Rattle.std.specs.Prelude.{ℕ, List}
+use Rattle.gixp_wire.specs.declared.advertisement.Named.{Named as Found}
+use Rattle.gixp_wire.specs.declared.advertisement.Named.TheVariants.{One, Two, Another, Unnamed}
+use Rattle.gixp_wire.specs.Advertisement.{Named, one, two, another, unnamed, trimmed}
+
+abbrev pub named_value : List ℕ → Found → Named
+named_value line One = one
+named_value line Two = two
+named_value line Another = another (trimmed line)
+named_value line Unnamed = unnamed

@@ -1,0 +1,15 @@
+-- What progress is told (git's progress lines are one such telling: gitprotocol-pack, "Packfile Data", band 2).
+use Rattle.std.specs.Prelude.{ℕ, List, [], ◌∷◌, Option, ◌≡◌}
+
+-- a call, with what it hands over
+pub data ProgressCall : Type 0 where
+  init : Option ℕ → List ℕ → ProgressCall
+  step : ProgressCall
+  set : ℕ → ProgressCall
+  set_name : List ℕ → ProgressCall
+  fail : List ℕ → ProgressCall
+
+-- these calls, one behind another, and nothing else
+abbrev pub Told : {P : Type 0} → (P → ProgressCall → P → Type 0) → P → List ProgressCall → P → Type 0
+Told told old [] new = new ≡ old
+Told {P} told old (c ∷ cs) new = (now : P) × told old c now × Told told now cs new

@@ -1,0 +1,155 @@
+-- What the calls of a transport do (gitprotocol-pack, "Packfile Negotiation"; gitprotocol-v2, "Command Request").
+use Rattle.std.specs.Prelude.{◌≡◌, ◌≢◌, ℕ, ◌+◌, ◌≤◌, nat_le, ◌⊎◌, ⊤, Bool, true, false, if◌then◌else◌, List, [], ◌∷◌, ◌++◌, length, map, reverse, Option, Some, None, Result, Ok, Err, IfSome, unwrap_or}
+use Rattle.std.specs.Io.KnownBytes.{Appends, Keeps}
+use Rattle.std.specs.declared.io.ErrorKind.{ErrorKind}
+use Rattle.std.specs.declared.io.ErrorKind.TheVariants.{UnexpectedEof}
+use Rattle.gixp_wire.specs.declared.protocol.Protocol.{Protocol}
+use Rattle.gixp_wire.specs.declared.protocol.MessageKind.{MessageKind}
+use Rattle.gixp_wire.specs.declared.client.Error.{Error}
+use Rattle.gixp_wire.specs.declared.client.Error.TheVariants.{Io, LineTooLong, AuthenticationUnsupported, Memory}
+use Rattle.gixp_wire.specs.Frames.{Frame, payload, special}
+use Rattle.gixp_wire.specs.Pieces.{io, Pieces, no_pieces}
+use Rattle.gixp_wire.specs.Held.{Held, Answer, body, fails}
+use Rattle.gixp_wire.specs.Reading.{Reading, Rose}
+
+-- with these bytes written
+abbrev pub with_written : Reading → Option (List ℕ) → Reading
+with_written r bytes = record r { held = record r.held { written = bytes } }
+
+-- nothing of the next request is written
+abbrev pub begun : Reading → Reading
+begun r = if r.held.persists then r else with_written r (Some [])
+
+-- these bytes were written, and nothing else changed
+pub record Wrote (old new : Reading) (bytes : List ℕ) : Type 0 where
+  pub whole : old.held.broken ≡ None
+  pub written : Appends old.held.written new.held.written bytes
+  pub rest : new ≡ with_written old new.held.written
+
+-- a write failed, now or before: nothing is said of what went out, and every later request answers this kind
+pub record Broke (old new : Reading) (kind : ErrorKind) : Type 0 where
+  pub persists : old.held.persists ≡ true
+  pub same : IfSome old.held.broken (λ k. kind ≡ k)
+  pub failures : Rose old.failures new.failures
+  pub rest : new ≡ record old { failures = new.failures; held = record old.held { written = new.held.written; broken = Some kind } }
+
+-- the error of a write that failed with this kind
+pub record IsBroken (old new : Reading) (kind : ErrorKind) (e : Error) : Type 0 where
+  pub error : e ≡ Io kind
+  pub failures : Rose old.failures new.failures
+  pub rest : new ≡ record old { failures = new.failures; held = record old.held { broken = Some kind } }
+
+-- memory ran out, and nothing changed
+pub record Unwritten (old new : Reading) : Type 0 where
+  pub alone : old.held.persists ≡ false
+  pub rest : new ≡ old
+
+-- a call that begins a request
+abbrev pub Begins : Reading → Reading → Result (Unit {0}) Error → Type 0
+Begins old new (Ok _) = (old.held.broken ≡ None) × (new ≡ begun old)
+Begins old new (Err (Io kind)) = Broke old new kind
+Begins old new (Err _) = ⊥
+
+-- a call that writes these bytes
+abbrev pub Writes : Reading → Reading → List ℕ → Result (Unit {0}) Error → Type 0
+Writes old new bytes (Ok _) = Wrote old new bytes
+Writes old new bytes (Err (Io kind)) = Broke old new kind
+Writes old new bytes (Err Memory) = Unwritten old new
+Writes old new bytes (Err _) = ⊥
+
+-- some bytes may have been written, of a request that isn't ended
+pub record Unfinished (old new : Reading) : Type 0 where
+  pub alone : old.held.persists ≡ false
+  pub rest : new ≡ with_written old new.held.written
+
+-- calls that write these bytes
+abbrev pub WritesAll : Reading → Reading → List ℕ → Result (Unit {0}) Error → Type 0
+WritesAll old new bytes (Ok _) = Wrote old new bytes
+WritesAll old new bytes (Err (Io kind)) = Broke old new kind
+WritesAll old new bytes (Err Memory) = Unfinished old new
+WritesAll old new bytes (Err _) = ⊥
+
+-- the first answer that is to come; one that is missing reads as empty
+abbrev pub first_answer : List Answer → Answer
+first_answer [] = body (no_pieces (io UnexpectedEof))
+first_answer (a ∷ more) = a
+
+abbrev pub later_answers : List Answer → List Answer
+later_answers [] = []
+later_answers (a ∷ more) = more
+
+-- what an answer reads as; one that fails is empty
+abbrev pub answer_pieces : Answer → Pieces
+answer_pieces (body p) = p
+answer_pieces (fails kind) = no_pieces (io UnexpectedEof)
+
+-- the kind with which it fails
+abbrev pub answer_failure : Answer → Option ErrorKind
+answer_failure (body p) = None
+answer_failure (fails kind) = Some kind
+
+-- the next answer was taken, and what was left of the one before is gone
+pub record TakesAnswer (old new : Reading) : Type 0 where
+  pub to_come : new.to_come ≡ Some (answer_pieces (first_answer old.held.answers))
+  pub refused : new.refused ≡ None
+  pub stopped : new.stopped ≡ None
+  pub version : new.version ≡ old.version
+  pub peeked : new.peeked ≡ false
+  pub left : new.left ≤ old.left
+  pub held : new.held ≡ record old.held { answers = later_answers old.held.answers }
+
+-- as the call that takes it answers: with the kind of one that fails
+abbrev pub ByAnswer : Reading → Reading → Option ErrorKind → Type 0
+ByAnswer old new None = (answer_failure (first_answer old.held.answers) ≡ None) × (new.failures ≡ old.failures)
+ByAnswer old new (Some kind) = (answer_failure (first_answer old.held.answers) ≡ Some kind) × Rose old.failures new.failures
+
+-- a call that takes the next answer
+abbrev pub TakesBody : Reading → Reading → Result (Unit {0}) Error → Type 0
+TakesBody old new (Ok _) = TakesAnswer old new × ByAnswer old new None
+TakesBody old new (Err (Io kind)) = TakesAnswer old new × ByAnswer old new (Some kind)
+TakesBody old new (Err _) = ⊥
+
+-- the request that was written has its own entry
+abbrev pub entered : Reading → Reading
+entered r = record r { held = record r.held { sent = r.held.sent ++ unwrap_or r.held.written [] ∷ []; written = Some [] } }
+
+-- the answer stands behind what was read
+pub record GoesOn (old new : Reading) : Type 0 where
+  pub whole : old.held.broken ≡ None
+  pub written : Keeps old.held.written new.held.written
+  pub rest : new ≡ record old { stopped = None; held = record old.held { written = new.held.written } }
+
+-- a call that ends a request, over a connection and otherwise
+abbrev pub EndsBy : Bool → Reading → Reading → Result (Unit {0}) Error → Type 0
+EndsBy true old new (Ok _) = GoesOn old new
+EndsBy true old new (Err (Io kind)) = Broke old new kind
+EndsBy false old new (Ok _) = TakesAnswer (entered old) new × ByAnswer old new None
+EndsBy false old new (Err (Io kind)) = TakesAnswer (entered old) new × ByAnswer old new (Some kind)
+EndsBy false old new (Err Memory) = new ≡ old
+EndsBy _ old new (Err _) = ⊥
+
+-- a call that ends a request
+abbrev pub Ends : Reading → Reading → Result (Unit {0}) Error → Type 0
+Ends old new r = EndsBy old.held.persists old new r
+
+-- a whole request of these bytes was written: its answer stands behind what was read, or is the next one
+abbrev pub SentBy : Bool → Reading → Reading → List ℕ → Type 0
+SentBy true old new bytes = (mid : Reading) × Wrote old mid bytes × GoesOn mid new
+SentBy false old new bytes = TakesAnswer (entered (with_written old (Some bytes))) new × ByAnswer old new None
+
+-- nothing of a request counts: over a connection nothing was written
+abbrev pub Unsent : Reading → Reading → Type 0
+Unsent old new = (new ≡ with_written old new.held.written) × (old.held.persists ≡ true → new ≡ old)
+
+-- a request that a device refused: over a connection nothing is said of what went out, and else its answer is one that fails
+abbrev pub FailsBy : Bool → Reading → Reading → List ℕ → ErrorKind → Type 0
+FailsBy true old new bytes kind = Broke old new kind
+FailsBy false old new bytes kind = TakesAnswer (entered (with_written old (Some bytes))) new × ByAnswer old new (Some kind)
+
+-- a call that sends a request of these bytes, whose lines fit or don't; a line too long is found before anything is written
+abbrev pub Sends : Reading → Reading → Bool → List ℕ → Result (Unit {0}) Error → Type 0
+Sends old new fit bytes (Ok _) = (fit ≡ true) × SentBy old.held.persists old new bytes
+Sends old new fit bytes (Err (Io kind)) = (fit ≡ true) × FailsBy old.held.persists old new bytes kind
+Sends old new fit bytes (Err LineTooLong) = (fit ≡ false) × (new ≡ old)
+Sends old new fit bytes (Err Memory) = Unsent old new
+Sends old new fit bytes (Err _) = ⊥

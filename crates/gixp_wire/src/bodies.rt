@@ -1,0 +1,203 @@
+//! A transport over memory.
+ghost use Rattle.std.specs.Prelude.{◌≡◌, IfOk, map, true, vec_items};
+ghost use Rattle.std.specs.Option.{option_map};
+ghost use Rattle.bstr.specs.Owned.{bstring_bytes};
+ghost use Rattle.gixp_wire.specs.Transport.{TakesBody};
+ghost use Rattle.gixp_wire.specs.Handshake.{account_value};
+
+use crate::client::Error;
+use crate::packets::Packets;
+use crate::protocol::{MessageKind, Protocol};
+use crate::read::ExtendedBufRead;
+use crate::service::{Account, Service, SetServiceResponse};
+use crate::transport::Transport;
+use crate::{frame_text, read};
+use bstr::{BStr, BString};
+use std::alloc::{AllocError, Global};
+use std::io::{Cursor, ErrorKind};
+use std::mem;
+
+/// The answer to one handshake or request.
+#[derive(Debug, Drop)]
+pub enum Body {
+    /// The bytes that the server sends.
+    Bytes(Vec<u8>),
+    /// The call that takes it fails with this kind, and it reads as empty.
+    Fail(ErrorKind),
+}
+
+/// A transport over memory, for tests and recorded answers: each handshake and each request has a
+/// body of its own, and what was left of the one before is dropped. It doesn't persist.
+///
+/// Before the first handshake it reads as empty, and so does a body that is missing. Its stops are
+/// those of version 2 until a `handshake` or `reset`.
+#[derive(Drop)]
+pub struct Bodies {
+    alloc: Global,
+    packets: Packets<Cursor<Vec<u8>>>,
+    // The bodies to come, the next one last.
+    later: Vec<Body>,
+    // The requests that are ended.
+    sent: Vec<Vec<u8>>,
+    // The request that is being written.
+    request: Vec<u8>,
+    url: BString,
+    accepted: Vec<Protocol>,
+    identity: Option<Account>,
+}
+
+impl Bodies {
+    ghost use Rattle.gixp_wire.specs.Bodies.{bodies_reading, IsNewBodies};
+
+    /// A transport that answers with these bodies, in their order, as if it spoke to this URL and
+    /// accepted these versions. It takes one buffer of 65,520 bytes.
+    ///
+    /// # Errors
+    ///
+    /// There was no memory for the buffer. What was handed in is dropped.
+    pub fn new(
+        alloc: Global,
+        mut bodies: Vec<Body>,
+        url: BString,
+        accepted: Vec<Protocol>,
+    ) -> Result<Bodies, AllocError>
+        ensures { IfOk result (IsNewBodies bodies.items (bstring_bytes url) accepted.items) }
+    {
+        bodies.reverse();
+        let packets = Packets::new(alloc, Cursor::new(Vec::new(alloc)))?;
+        Ok(Bodies {
+            alloc,
+            packets,
+            later: bodies,
+            sent: Vec::new(alloc),
+            request: Vec::new(alloc),
+            url,
+            accepted,
+            identity: None,
+        })
+    }
+
+    /// The requests that were sent, each as its bytes.
+    pub fn sent(&self) -> &[Vec<u8>]
+        ensures { map vec_items result.now ≡ (bodies_reading self.now).held.sent }
+    {
+        &self.sent
+    }
+
+    /// The account that it was given last.
+    pub fn identity(&self) -> Option<&Account>
+        ensures { option_map (λ a. account_value a.now) result ≡ (bodies_reading self.now).held.identity }
+    {
+        self.identity.as_ref()
+    }
+
+    // Answers from the next body from here on.
+    fn take_answer(&mut self) -> Result<(), Error>
+        ensures { TakesBody (bodies_reading self.old) (bodies_reading self.new) result }
+    {
+        match self.later.pop() {
+            Some(Body::Bytes(bytes)) => {
+                self.packets.restart(Cursor::new(bytes));
+                Ok(())
+            }
+            Some(Body::Fail(kind)) => {
+                self.packets.restart(Cursor::new(Vec::new(self.alloc)));
+                self.packets.note_failure();
+                Err(Error::Io(kind))
+            }
+            None => {
+                self.packets.restart(Cursor::new(Vec::new(self.alloc)));
+                Ok(())
+            }
+        }
+    }
+}
+
+impl ExtendedBufRead for Bodies {
+    ghost use Rattle.gixp_wire.specs.Bodies.{bodies_reading};
+
+    ghost reading = { bodies_reading };
+
+    ghost is_plain = { true };
+
+    fn next_line(&mut self) -> Result<bool, read::Error> {
+        self.packets.next_line()
+    }
+
+    fn peek_line(&mut self) -> Result<bool, read::Error> {
+        self.packets.peek_line()
+    }
+
+    fn line(&self) -> &[u8] {
+        self.packets.line()
+    }
+
+    fn stopped_at(&self) -> Option<MessageKind> {
+        self.packets.stopped_at()
+    }
+
+    fn reset(&mut self, version: Protocol) {
+        self.packets.reset(version);
+    }
+}
+
+impl Transport for Bodies {
+    fn connection_persists_across_multiple_requests(&self) -> bool {
+        false
+    }
+
+    fn to_url(&self) -> BStr<'_> {
+        self.url.as_bstr()
+    }
+
+    fn supported_protocol_versions(&self) -> &[Protocol] {
+        &self.accepted
+    }
+
+    fn set_identity(&mut self, account: Account) -> Result<(), Error> {
+        self.identity = Some(account);
+        Ok(())
+    }
+
+    fn handshake(
+        &mut self,
+        alloc: Global,
+        _service: Service,
+        _extra_parameters: &[(String, Option<String>)],
+    ) -> Result<SetServiceResponse, Error> {
+        match self.take_answer() {
+            Ok(()) => self.packets.advertisement(alloc),
+            Err(e) => Err(e),
+        }
+    }
+
+    fn begin_request(&mut self) -> Result<(), Error> {
+        self.request.clear();
+        Ok(())
+    }
+
+    fn write_text(&mut self, line: &[u8]) -> Result<(), Error> {
+        match frame_text::append_line(&mut self.request, line) {
+            Ok(()) => Ok(()),
+            Err(_) => Err(Error::Memory),
+        }
+    }
+
+    fn write_message(&mut self, kind: MessageKind) -> Result<(), Error> {
+        match self.request.extend_from_slice(frame_text::of_message(kind)) {
+            Ok(()) => Ok(()),
+            Err(_) => Err(Error::Memory),
+        }
+    }
+
+    fn end_request(&mut self) -> Result<(), Error> {
+        let request = mem::replace(&mut self.request, Vec::new(self.alloc));
+        match self.sent.push(request) {
+            Ok(()) => self.take_answer(),
+            Err(failed) => {
+                self.request = failed.value;
+                Err(Error::Memory)
+            }
+        }
+    }
+}

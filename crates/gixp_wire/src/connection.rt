@@ -1,0 +1,248 @@
+//! A transport over a reader and a writer.
+ghost use Rattle.std.specs.Prelude.{◌≡◌, ◌≤◌, IfOk, true, length};
+ghost use Rattle.bstr.specs.Owned.{bstring_bytes};
+ghost use Rattle.gixp_wire.specs.FrameText.{payload_text};
+ghost use Rattle.gixp_wire.specs.Greeting.{parameters_of};
+ghost use Rattle.gixp_wire.specs.Handshake.{Greets};
+ghost use Rattle.gixp_wire.specs.Transport.{Writes, EndsBy, IsBroken};
+
+use crate::client::Error;
+use crate::greeting::{MAX_PAYLOAD, greeting};
+use crate::packets::Packets;
+use crate::protocol::{MessageKind, Protocol};
+use crate::read::ExtendedBufRead;
+use crate::service::{Account, Opening, Service, SetServiceResponse};
+use crate::transport::Transport;
+use crate::{frame_text, read};
+use bstr::{BStr, BString};
+use std::alloc::{AllocError, Global};
+use std::io::{ErrorKind, Read, Write};
+
+/// A transport over a reader and a writer, as a socket or the two ends of a program (gitprotocol-pack,
+/// "Transports"). It persists: requests go out one behind another, and so come their answers.
+///
+/// A line is written in three pieces, and the writer is flushed at the end of each request: a
+/// buffered writer saves calls of the system. After a failed write nothing is said of what went
+/// out, and every later request answers the same fault.
+#[derive(Drop)]
+pub struct Connection<R, W> {
+    packets: Packets<R>,
+    writer: W,
+    url: BString,
+    // The version that is asked for.
+    version: Protocol,
+    // The versions that are accepted.
+    accepted: Vec<Protocol>,
+    // What is said first.
+    opening: Option<Opening>,
+    // The fault of a write.
+    broken: Option<ErrorKind>,
+}
+
+impl<R: Read + Drop, W: Write + Drop> Connection<R, W> {
+    ghost use Rattle.gixp_wire.specs.Connection.{connection_reading, IsNewConnection};
+
+    /// A transport over these two, at this URL. Its handshake begins with the opening, if there is
+    /// one, and asks for this version; these versions are accepted, or all where none is named. It
+    /// takes one buffer of 65,520 bytes, and reads and writes nothing yet.
+    ///
+    /// # Errors
+    ///
+    /// There was no memory for the buffer. What was handed in is dropped.
+    pub fn new(
+        alloc: Global,
+        reader: R,
+        writer: W,
+        url: BString,
+        version: Protocol,
+        accepted: Vec<Protocol>,
+        opening: Option<Opening>,
+    ) -> Result<Connection<R, W>, AllocError>
+        ensures { IfOk result (λ c. IsNewConnection (R.remaining reader) (W.contents writer) (bstring_bytes url) version accepted.items opening
+            (connection_reading R.remaining W.contents c)) }
+    {
+        let packets = Packets::new(alloc, reader)?;
+        Ok(Connection {
+            packets,
+            writer,
+            url,
+            version,
+            accepted,
+            opening,
+            broken: None,
+        })
+    }
+}
+
+impl<R: Read, W: Write> Connection<R, W> {
+    ghost use Rattle.gixp_wire.specs.Connection.{connection_reading};
+
+    /// The writer, with all that was written.
+    pub fn writer(&self) -> &W
+        ensures { W.contents result.now ≡ (connection_reading R.remaining W.contents self.now).held.written }
+    {
+        &self.writer
+    }
+
+    // Notes that a write failed with this kind.
+    fn break_off(&mut self, kind: ErrorKind) -> Error
+        ensures { IsBroken (connection_reading R.remaining W.contents self.old) (connection_reading R.remaining W.contents self.new) kind result }
+    {
+        self.packets.note_failure();
+        self.broken = Some(kind);
+        Error::Io(kind)
+    }
+
+    // Writes these bytes, unless a write failed before.
+    fn write_bytes(&mut self, bytes: &[u8]) -> Result<(), Error>
+        ensures { Writes (connection_reading R.remaining W.contents self.old) (connection_reading R.remaining W.contents self.new) bytes.now result }
+    {
+        if let Some(kind) = self.broken {
+            return Err(self.break_off(kind));
+        }
+        match self.writer.write_all(bytes) {
+            Ok(()) => Ok(()),
+            Err(e) => Err(self.break_off(e.kind())),
+        }
+    }
+
+    // Flushes the writer, and goes on behind the stop.
+    fn go_on(&mut self) -> Result<(), Error>
+        ensures { EndsBy true (connection_reading R.remaining W.contents self.old) (connection_reading R.remaining W.contents self.new) result }
+    {
+        if let Some(kind) = self.broken {
+            return Err(self.break_off(kind));
+        }
+        match self.writer.flush() {
+            Ok(()) => {
+                let version = self.packets.version();
+                self.packets.reset(version);
+                Ok(())
+            }
+            Err(e) => Err(self.break_off(e.kind())),
+        }
+    }
+
+    // Writes a payload as a frame.
+    fn write_payload(&mut self, payload: &[u8]) -> Result<(), Error>
+        requires { length payload.now ≤ 65516 }
+        ensures { Writes (connection_reading R.remaining W.contents self.old) (connection_reading R.remaining W.contents self.new) (payload_text payload.now) result }
+    {
+        match self.write_bytes(&frame_text::payload_digits(payload.len())) {
+            Ok(()) => {}
+            Err(e) => return Err(e),
+        }
+        self.write_bytes(payload)
+    }
+
+    // Says what is said first, if anything is.
+    fn greet(
+        &mut self,
+        alloc: Global,
+        service: Service,
+        extra_parameters: &[(String, Option<String>)],
+    ) -> Result<(), Error>
+        ensures { Greets service (parameters_of extra_parameters.now)
+            (connection_reading R.remaining W.contents self.old) (connection_reading R.remaining W.contents self.new) result }
+    {
+        let Some(opening) = &self.opening else {
+            return self.go_on();
+        };
+        let Ok(payload) = greeting(alloc, opening, service, self.version, extra_parameters) else {
+            return Err(Error::Memory);
+        };
+        if payload.len() > MAX_PAYLOAD {
+            return Err(Error::LineTooLong);
+        }
+        match self.write_payload(&payload) {
+            Ok(()) => {}
+            Err(e) => return Err(e),
+        }
+        self.go_on()
+    }
+}
+
+impl<R: Read, W: Write> ExtendedBufRead for Connection<R, W> {
+    ghost use Rattle.gixp_wire.specs.Connection.{connection_reading};
+
+    ghost reading = { connection_reading R.remaining W.contents };
+
+    ghost is_plain = { true };
+
+    fn next_line(&mut self) -> Result<bool, read::Error> {
+        self.packets.next_line()
+    }
+
+    fn peek_line(&mut self) -> Result<bool, read::Error> {
+        self.packets.peek_line()
+    }
+
+    fn line(&self) -> &[u8] {
+        self.packets.line()
+    }
+
+    fn stopped_at(&self) -> Option<MessageKind> {
+        self.packets.stopped_at()
+    }
+
+    fn reset(&mut self, version: Protocol) {
+        self.packets.reset(version);
+    }
+}
+
+impl<R: Read, W: Write> Transport for Connection<R, W> {
+    fn connection_persists_across_multiple_requests(&self) -> bool {
+        true
+    }
+
+    fn to_url(&self) -> BStr<'_> {
+        self.url.as_bstr()
+    }
+
+    fn supported_protocol_versions(&self) -> &[Protocol] {
+        &self.accepted
+    }
+
+    fn set_identity(&mut self, _account: Account) -> Result<(), Error> {
+        Err(Error::AuthenticationUnsupported)
+    }
+
+    fn handshake(
+        &mut self,
+        alloc: Global,
+        service: Service,
+        extra_parameters: &[(String, Option<String>)],
+    ) -> Result<SetServiceResponse, Error> {
+        match self.greet(alloc, service, extra_parameters) {
+            Ok(()) => self.packets.advertisement(alloc),
+            Err(e) => Err(e),
+        }
+    }
+
+    fn begin_request(&mut self) -> Result<(), Error> {
+        if let Some(kind) = self.broken {
+            return Err(self.break_off(kind));
+        }
+        Ok(())
+    }
+
+    fn write_text(&mut self, line: &[u8]) -> Result<(), Error> {
+        match self.write_bytes(&frame_text::line_digits(line.len())) {
+            Ok(()) => {}
+            Err(e) => return Err(e),
+        }
+        match self.write_bytes(line) {
+            Ok(()) => {}
+            Err(e) => return Err(e),
+        }
+        self.write_bytes(b"\n")
+    }
+
+    fn write_message(&mut self, kind: MessageKind) -> Result<(), Error> {
+        self.write_bytes(frame_text::of_message(kind))
+    }
+
+    fn end_request(&mut self) -> Result<(), Error> {
+        self.go_on()
+    }
+}

@@ -1,0 +1,57 @@
+//! Errors that may pass when the same is tried again.
+ghost use Rattle.std.specs.Prelude.{◌≡◌, Bool};
+ghost use Rattle.gixp_wire.specs.Spurious.{is_spurious_kind, is_spurious_read, is_spurious_client};
+
+use crate::{client, read};
+use std::io::ErrorKind;
+
+/// An error that may come from a connection that will be there again.
+pub trait IsSpuriousError {
+    /// Whether it may.
+    ghost spurious: { Self → Bool };
+
+    /// Whether to try again makes sense: for a read or write that failed as one over a network does.
+    fn is_spurious(&self) -> bool
+        ensures { result ≡ spurious self.now };
+}
+
+impl IsSpuriousError for ErrorKind {
+    ghost spurious = { is_spurious_kind };
+
+    fn is_spurious(&self) -> bool {
+        match self {
+            ErrorKind::Interrupted
+            | ErrorKind::UnexpectedEof
+            | ErrorKind::TimedOut
+            | ErrorKind::BrokenPipe
+            | ErrorKind::AddrInUse
+            | ErrorKind::ConnectionAborted
+            | ErrorKind::ConnectionReset
+            | ErrorKind::ConnectionRefused => true,
+            _ => false,
+        }
+    }
+}
+
+impl IsSpuriousError for read::Error {
+    ghost spurious = { is_spurious_read };
+
+    fn is_spurious(&self) -> bool {
+        match self {
+            read::Error::Io(kind) => kind.is_spurious(),
+            _ => false,
+        }
+    }
+}
+
+impl IsSpuriousError for client::Error {
+    ghost spurious = { is_spurious_client };
+
+    fn is_spurious(&self) -> bool {
+        match self {
+            client::Error::Io(kind) => kind.is_spurious(),
+            client::Error::Read(e) => e.is_spurious(),
+            _ => false,
+        }
+    }
+}
