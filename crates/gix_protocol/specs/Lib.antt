@@ -13,13 +13,13 @@ pub use Rattle.gixp_wire.specs.Client
 pub use Rattle.gixp_wire.specs.Message
 pub use Rattle.gixp_wire.specs.Transport
 pub use Rattle.gixp_lines.specs.AnswerLine
-pub use Rattle.gixp_lines.specs.Arguments
+pub use Rattle.gixp_requests.specs.Arguments
 pub use Rattle.gixp_lines.specs.Beginnings
-pub use Rattle.gixp_lines.specs.Command
+pub use Rattle.gixp_requests.specs.Command
 pub use Rattle.gixp_lines.specs.ParseError
 pub use Rattle.gixp_lines.specs.Ref
 pub use Rattle.gixp_lines.specs.RefLine
 pub use Rattle.gixp_lines.specs.Refs
-pub use Rattle.gixp_lines.specs.Request
+pub use Rattle.gixp_requests.specs.Request
 pub use Rattle.gixp_lines.specs.Sections
 pub use Rattle.gixp_lines.specs.declared.handshake.refs.parse.Error as RefsError

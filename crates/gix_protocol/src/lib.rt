@@ -3,7 +3,7 @@
 
 pub mod fetch;
 pub mod handshake;
+pub mod transport;
 
-pub use gixp_lines::{Command, agent, command};
 pub use gixp_refspec as refspec;
-pub use gixp_wire as transport;
+pub use gixp_requests::{Command, agent, command};

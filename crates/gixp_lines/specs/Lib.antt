@@ -1,7 +1,6 @@
 pub use Rattle.gixp_wire.specs.Capabilities
 pub use Rattle.gixp_wire.specs.Hex
 pub use Rattle.gixp_wire.specs.Client
-pub use Rattle.gixp_wire.specs.Capabilities
 pub use Rattle.gixp_wire.specs.Frames
 pub use Rattle.gixp_wire.specs.FrameText
 pub use Rattle.gixp_wire.specs.Held
@@ -26,11 +25,6 @@ pub mod Beginnings
 pub mod Reads
 pub mod Features
 pub mod SectionGrammar
-pub mod Feature
-pub mod Command
-pub mod Arguments
-pub mod Request
-pub mod Offers
 pub mod Advertisement
 pub mod V1Refs
 pub mod V1Line

@@ -1,8 +1,5 @@
-//! Asking for a pack, and what the server answers (gitprotocol-v2, "fetch"; gitprotocol-pack,
+//! What the server answers to one who asks for a pack (gitprotocol-v2, "fetch"; gitprotocol-pack,
 //! "Packfile Negotiation").
-
-pub mod arguments;
 pub mod response;
 
-pub use arguments::Arguments;
 pub use response::answer::Response;

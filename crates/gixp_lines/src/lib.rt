@@ -1,14 +1,7 @@
-//! The lines of git's fetch protocol: from lines to values, and back.
+//! The answers of git's fetch protocol: from lines to refs and to what stands before a pack.
 #![tactic(auto)]
 
-pub mod command;
 mod cut;
 pub mod fetch;
 pub mod handshake;
 pub mod laws;
-#[cfg(test)]
-mod tests;
-mod util;
-
-pub use command::Command;
-pub use util::agent;

@@ -15,7 +15,3 @@ mod HeldLemmas
 mod BodiesLemmas
 mod CutLemmas
 mod CapabilityLemmas
-mod BandLemmas
-mod ContentLemmas
-mod TellLemmas
-mod BandItemLemmas

@@ -28,6 +28,3 @@ pub mod Advertisement
 pub mod Named
 pub mod Greeting
 pub mod Handshake
-pub mod Bands
-pub mod Telling
-pub mod Sidebands

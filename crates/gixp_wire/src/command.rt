@@ -4,7 +4,7 @@ ghost use Rattle.std.specs.Option.{option_map};
 ghost use Rattle.bstr.specs.Owned.{bstring_bytes};
 ghost use Rattle.gixp_wire.specs.Message.{text, message_value, feature_line, feature_lines, command_lines, argument_values, flush};
 
-use crate::message::Message;
+use crate::message::{Feature, Message};
 use bstr::BString;
 use std::alloc::{AllocError, Global};
 
@@ -24,7 +24,7 @@ fn feature_line(alloc: Global, name: &str, value: &Option<String>) -> Result<BSt
 pub(crate) fn command_lines(
     alloc: Global,
     command: &str,
-    features: &[(&'static str, Option<String>)],
+    features: &[Feature],
 ) -> Result<Vec<BString>, AllocError>
     ensures { IfOk result (λ lines. map bstring_bytes lines.items ≡ command_lines command.now (feature_lines features.now)) }
 {

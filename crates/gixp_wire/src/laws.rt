@@ -4,8 +4,7 @@ ghost use Rattle.gixp_wire.specs.Frames.{Frame, End, ended, frames_of};
 ghost use Rattle.gixp_wire.specs.FrameText.{texts_of, AreLawful};
 ghost use Rattle.gixp_wire.specs.Grammar.{AreFrames};
 ghost use Rattle.gixp_wire.specs.Pieces.{Pieces};
-ghost use Rattle.gixp_wire.specs.Items.{plain, banded, items_of, first_lines};
-ghost use Rattle.gixp_wire.specs.Bands.{unband, content_of, messages_of, joined, heard, first_texts};
+ghost use Rattle.gixp_wire.specs.Items.{plain, items_of, first_lines};
 ghost use Rattle.gixp_wire.specs.Lines.{lines_of, as_first};
 ghost use Rattle.gixp_wire.specs.declared.protocol.Protocol.{Protocol};
 
@@ -27,20 +26,4 @@ pub fn texts_read_back()
 /// The lines that a reader gives next are those among the stream's items before their first stop.
 pub fn lines_are_of_items()
     ensures { (version : Protocol) (ps : Pieces) → as_first version (lines_of version ps) ≡ first_lines (items_of version plain ps) }
-{}
-
-/// The lines of the content are those among the stream's banded items before their first stop.
-pub fn content_lines_are_of_items()
-    ensures { (version : Protocol) (ps : Pieces) → (lines_of version (unband ps)).lines ≡ (first_lines (items_of version banded ps)).lines }
-{}
-
-/// The bytes of the content are those lines, joined.
-pub fn content_is_of_items()
-    ensures { (version : Protocol) (ps : Pieces) → content_of ps ≡ joined (first_lines (items_of version banded ps)).lines }
-{}
-
-/// The messages of bands 2 and 3 that are heard are the texts among the stream's banded items
-/// before their first stop.
-pub fn messages_are_of_items()
-    ensures { (version : Protocol) (ps : Pieces) → heard (messages_of ps) ≡ first_texts (items_of version banded ps).list }
 {}

@@ -26,10 +26,7 @@ mod progress;
 mod protocol;
 pub mod read;
 mod service;
-mod sidebands;
 mod spurious;
-#[cfg(test)]
-mod tests;
 mod transport;
 mod window;
 
@@ -38,13 +35,12 @@ pub use capabilities::{Capabilities, Capability, CapabilityIter};
 pub use connection::Connection;
 pub use kind::Kind;
 pub use line_reader::LineReader;
-pub use message::{MAX_LINE, Message, fits_line};
+pub use message::{Feature, MAX_LINE, Message, fits_line};
 pub use object_id::ObjectId;
 pub use packet::{Frame, PacketError};
 pub use progress::{NestedProgress, Progress};
 pub use protocol::{MessageKind, Protocol};
 pub use read::ExtendedBufRead;
 pub use service::{Account, Opening, Service, SetServiceResponse};
-pub use sidebands::{BandText, Interrupt, InterruptFlag, NeverInterrupt, WithSidebands};
 pub use spurious::IsSpuriousError;
 pub use transport::Transport;

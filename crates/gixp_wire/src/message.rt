@@ -13,6 +13,9 @@ pub fn fits_line(line: &[u8]) -> bool
     line.len() <= MAX_LINE
 }
 
+/// A capability that a request asks for: its name, and perhaps a value.
+pub type Feature = (&'static str, Option<String>);
+
 /// One message of a request (gitprotocol-common, "pkt-line Format"; gitprotocol-v2, "Packet-Line
 /// Framing").
 #[derive(Clone, Copy, Debug)]

@@ -10,7 +10,7 @@ ghost use Rattle.gixp_wire.specs.Transport.{Begins, Writes, WritesAll, Ends, Sen
 
 use crate::client::Error;
 use crate::command::{command_lines, command_messages};
-use crate::message::{MAX_LINE, Message, all_fit};
+use crate::message::{Feature, MAX_LINE, Message, all_fit};
 use crate::protocol::{MessageKind, Protocol};
 use crate::read::ExtendedBufRead;
 use crate::service::{Account, Service, SetServiceResponse};
@@ -176,7 +176,7 @@ pub trait Transport: ExtendedBufRead {
         &mut self,
         alloc: Global,
         command: &str,
-        features: &[(&'static str, Option<String>)],
+        features: &[Feature],
         arguments: &[BString],
     ) -> Result<(), Error>
     where

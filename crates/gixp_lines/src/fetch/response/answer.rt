@@ -7,12 +7,11 @@ ghost use Rattle.gixp_lines.specs.Reads.{answer_of, Answered, AnswerFails};
 ghost use Rattle.gixp_lines.specs.RefLine.{is_text};
 ghost use Rattle.gixp_lines.specs.Features.{feature_name, has_name, missing_feature, Misses};
 
-use crate::command::Feature;
 use crate::fetch::response::beginnings::read_beginning;
 use crate::fetch::response::error::Error;
 use crate::fetch::response::line::{Acknowledgement, ShallowUpdate, WantedRef};
 use crate::fetch::response::sections::read_sections;
-use gixp_wire::{ExtendedBufRead, Protocol};
+use gixp_wire::{ExtendedBufRead, Feature, Protocol};
 use std::alloc::{AllocError, Global};
 use std::marker::Model;
 

@@ -1,7 +1,0 @@
--- The words so far.
-use Rattle.std.proofs.Common.{◌≡◌, take}
-use Rattle.gixp_lines.specs.Command.{texts, words_of}
-use Rattle.gixp_lines.proofs.command.table.copies.Given as goal
-
-abbrev pub invariant-loop-word : goal.invariant-loop-word
-invariant-loop-word l = texts l.lines ≡ take l.word-index (words_of l.words)

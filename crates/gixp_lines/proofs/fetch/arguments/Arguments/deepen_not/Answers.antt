@@ -1,5 +1,0 @@
--- The line of the path.
-use Rattle.gixp_lines.proofs.fetch.arguments.Arguments.deepen_not.Goals as goal
-
-pub returns : goal.returns
-returns c = rw c.as_bytes.ensures at c.push_joined.ensures

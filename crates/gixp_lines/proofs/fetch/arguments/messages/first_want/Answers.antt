@@ -1,9 +1,0 @@
--- The place of the test of what the lines are.
-use Rattle.std.proofs.Common.{sym, ◌∙◌}
-use Rattle.bstr.specs.Owned.{bstring_bytes}
-use Rattle.gixp_lines.specs.Arguments.{is_want}
-use Rattle.gixp_lines.proofs.RequestLemmas.{position-map}
-use Rattle.gixp_lines.proofs.fetch.arguments.messages.first_want.Goals as goal
-
-pub returns-clause-place : goal.returns-clause-place
-returns-clause-place c = c.want_at.ensures.place ∙ sym (position-map is_want bstring_bytes c.args.lines.now)

@@ -1,9 +1,0 @@
--- The features so far.
-use Rattle.std.proofs.Common.{◌≡◌, take}
-use Rattle.gixp_lines.specs.Feature.{feature_values}
-use Rattle.gixp_lines.specs.Command.{texts}
-use Rattle.gixp_lines.specs.Request.{sent_features}
-use Rattle.gixp_lines.proofs.fetch.arguments.messages.sent_features.Given as goal
-
-abbrev pub invariant-loop-feature : goal.invariant-loop-feature
-invariant-loop-feature l = texts l.lines ≡ sent_features (take l.feature-index (feature_values l.features))

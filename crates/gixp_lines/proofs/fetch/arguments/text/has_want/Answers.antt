@@ -1,9 +1,0 @@
--- The test of what the lines are.
-use Rattle.std.proofs.Common.{sym, ◌∙◌}
-use Rattle.bstr.specs.Owned.{bstring_bytes}
-use Rattle.gixp_lines.specs.Arguments.{is_want}
-use Rattle.gixp_lines.proofs.AppendLemmas.{any_of_map}
-use Rattle.gixp_lines.proofs.fetch.arguments.text.has_want.Goals as goal
-
-pub returns : goal.returns
-returns c = c.any_want.ensures ∙ sym (any_of_map is_want bstring_bytes c.args.lines.now)

@@ -1,9 +1,0 @@
--- The features so far.
-use Rattle.std.proofs.Common.{◌≡◌, ◌++◌, take}
-use Rattle.gixp_lines.specs.Feature.{feature_values}
-use Rattle.gixp_lines.specs.Arguments.{spaced, texts_on}
-use Rattle.gixp_lines.proofs.fetch.arguments.text.push_on.Given as goal
-
-abbrev pub invariant-loop-feature : goal.invariant-loop-feature
-invariant-loop-feature l =
-    l.line.items ≡ l.initial.line.items ++ spaced (texts_on l.include_tag l.deepen_relative (take l.feature-index (feature_values l.features)))

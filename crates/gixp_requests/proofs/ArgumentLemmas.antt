@@ -1,0 +1,43 @@
+-- The texts of features, each behind a blank or joined by blanks.
+use Rattle.std.proofs.Common.{◌≡◌, ℕ, ◌+◌, Bool, true, false, List, [], ◌∷◌, ◌++◌, length, map, refl, sym, ap, ◌∙◌, append_assoc, arith}
+use Rattle.std.specs.Prelude.{◌==◌, filter}
+use Rattle.std.proofs.lemmas.Bool.Decides.{nat_tests}
+use Rattle.std.proofs.lemmas.List.{map-append, append-nil}
+use Rattle.std.proofs.lemmas.List.Elements.{filter-append}
+use Rattle.gixp_requests.specs.Feature.{FeatureValue, feature_text}
+use Rattle.gixp_requests.specs.Arguments.{is_on, texts_on, spaced, behind_blank}
+
+pub spaced-append : (xs ys : List (List ℕ)) → spaced (xs ++ ys) ≡ spaced xs ++ spaced ys
+spaced-append [] ys = refl
+spaced-append (x ∷ xs) ys = ap (λ z. 32 ∷ x ++ z) (spaced-append xs ys) ∙ ap (λ z. 32 ∷ z) (sym (append_assoc x (spaced xs) (spaced ys)))
+
+-- the features that are on, each behind a blank
+abbrev pub spaced_on : Bool → Bool → List FeatureValue → List ℕ
+spaced_on include_tag deepen_relative features = spaced (texts_on include_tag deepen_relative features)
+
+pub spaced_on-append : (include_tag deepen_relative : Bool) (xs ys : List FeatureValue)
+    → spaced_on include_tag deepen_relative (xs ++ ys) ≡ spaced_on include_tag deepen_relative xs ++ spaced_on include_tag deepen_relative ys
+spaced_on-append i d xs ys =
+    ap (λ z. spaced (map feature_text z)) (filter-append (is_on i d) xs ys)
+    ∙ ap spaced (map-append feature_text (filter (is_on i d) xs) (filter (is_on i d) ys))
+    ∙ spaced-append (texts_on i d xs) (texts_on i d ys)
+
+-- joined by blanks behind a blank is each behind a blank, where there is any
+pub spaced_joined : (x : List ℕ) (xs : List (List ℕ)) → spaced (x ∷ xs) ≡ behind_blank (x ∷ xs)
+spaced_joined x [] = ap (λ z. 32 ∷ z) (append-nil x)
+spaced_joined x (y ∷ ys) = ap (λ z. 32 ∷ x ++ z) (spaced_joined y ys)
+
+-- a blank alone, where no text is there
+pub blank_alone : (xs : List (List ℕ)) (text : List ℕ) (n : ℕ) → n ≡ length text → true ≡ (n == 0) → text ≡ spaced xs → 32 ∷ [] ≡ behind_blank xs
+blank_alone [] text n len h e = refl
+blank_alone (x ∷ xs) text n len h e =
+    let more : n ≡ length (x ++ spaced xs) + 1 = len ∙ ap length e ∙ omega arith in
+    grind (arith, nat_tests)
+
+-- else each text stands behind its blank
+pub blanks_joined : (xs : List (List ℕ)) (text : List ℕ) (n : ℕ) → n ≡ length text → false ≡ (n == 0) → text ≡ spaced xs → text ≡ behind_blank xs
+blanks_joined [] text n len h e =
+    let none : n ≡ 0 = len ∙ ap length e in
+    let t : (n == 0) ≡ true = ap (λ m. m == 0) none in
+    absurd (cc)
+blanks_joined (x ∷ xs) text n len h e = e ∙ spaced_joined x xs

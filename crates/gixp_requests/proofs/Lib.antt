@@ -1,0 +1,4 @@
+mod AppendLemmas
+mod ArgumentLemmas
+mod RequestLemmas
+mod OfferLemmas

@@ -1,0 +1,107 @@
+-- The commands of version 2, and what a client asks for of a server by itself (gitprotocol-v2, "Command Request", "ls-refs", "fetch"; gitprotocol-capabilities).
+use Rattle.std.specs.Prelude.{ℕ, Bool, true, if◌then◌else◌, List, [], ◌∷◌, ◌++◌, Option, Some, None, Vec, map, filter, nat_eq, codes}
+use Rattle.std.specs.Option.{option_copied}
+use Rattle.std.specs.Borrow.{Bor}
+use Rattle.std.specs.List.{starts_with}
+use Rattle.std.specs.declared.alloc.Global.{Global}
+use Rattle.bstr.specs.declared.bstring.BString.{BString}
+use Rattle.bstr.specs.Owned.{bstring_bytes}
+use Rattle.gixp_requests.specs.declared.command.Command.{Command}
+use Rattle.gixp_requests.specs.declared.command.Command.TheVariants.{LsRefs, Fetch}
+use Rattle.gixp_requests.specs.declared.command.table.CommandTable.{CommandTable}
+use Rattle.gixp_requests.specs.Feature.{FeatureValue, has_feature}
+
+abbrev pub command_name : Command → List ℕ
+command_name LsRefs = codes "ls-refs"
+command_name Fetch = codes "fetch"
+
+-- the bytes of a list of lines
+abbrev pub texts : Vec BString Global → List (List ℕ)
+texts v = map bstring_bytes v.items
+
+-- a word, and the name of what decides whether it is taken, if there is one
+pub record Entry : Type 0 where
+  pub word : List ℕ
+  pub other : Option (List ℕ)
+
+abbrev pub entry_of : Bor (List ℕ) × Option (Bor (List ℕ)) → Entry
+entry_of e = record { word = e.0.now; other = option_copied e.1 }
+
+abbrev pub entries_of : List (Bor (List ℕ) × Option (Bor (List ℕ))) → List Entry
+entries_of = map entry_of
+
+abbrev pub words_of : List (Bor (List ℕ)) → List (List ℕ)
+words_of = map (λ w. w.now)
+
+-- a command table as plain data
+pub record Table : Type 0 where
+  pub v1_fetch : List Entry
+  pub v2_fetch : List (List ℕ)
+  pub v2_ls_refs : List (List ℕ)
+  pub fetch_arguments : List Entry
+  pub ls_refs_arguments : List (List ℕ)
+  pub fetch_prefixes : List (List ℕ)
+  pub ls_refs_prefixes : List (List ℕ)
+
+abbrev pub table_of : CommandTable → Table
+table_of t = record {
+  v1_fetch = entries_of t.v1_fetch.now;
+  v2_fetch = words_of t.v2_fetch.now;
+  v2_ls_refs = words_of t.v2_ls_refs.now;
+  fetch_arguments = entries_of t.fetch_arguments.now;
+  ls_refs_arguments = words_of t.ls_refs_arguments.now;
+  fetch_prefixes = words_of t.fetch_prefixes.now;
+  ls_refs_prefixes = words_of t.ls_refs_prefixes.now;
+}
+
+abbrev pub always : List ℕ → Entry
+always word = record { word = word; other = None }
+
+abbrev pub by : List ℕ → List ℕ → Entry
+by other word = record { word = word; other = Some other }
+
+-- what git's own client asks for, as far as this one does
+abbrev pub git_table : Table
+git_table = record {
+  v1_fetch =
+      by (codes "multi_ack_detailed") (codes "multi_ack")
+      ∷ always (codes "thin-pack")
+      ∷ by (codes "side-band-64k") (codes "side-band")
+      ∷ always (codes "side-band-64k")
+      ∷ always (codes "ofs-delta")
+      ∷ always (codes "shallow")
+      ∷ always (codes "deepen-since")
+      ∷ always (codes "deepen-not")
+      ∷ always (codes "deepen-relative")
+      ∷ always (codes "include-tag")
+      ∷ always (codes "multi_ack_detailed")
+      ∷ always (codes "filter")
+      ∷ [];
+  v2_fetch = codes "shallow" ∷ codes "filter" ∷ codes "ref-in-want" ∷ codes "sideband-all" ∷ [];
+  v2_ls_refs = [];
+  fetch_arguments = always (codes "thin-pack") ∷ always (codes "ofs-delta") ∷ by (codes "sideband-all") (codes "sideband-all") ∷ [];
+  ls_refs_arguments = codes "symrefs" ∷ codes "peel" ∷ [];
+  fetch_prefixes =
+      codes "want " ∷ codes "have " ∷ codes "done" ∷ codes "thin-pack" ∷ codes "no-progress" ∷ codes "include-tag" ∷ codes "ofs-delta"
+      ∷ codes "shallow " ∷ codes "deepen " ∷ codes "deepen-relative" ∷ codes "deepen-since " ∷ codes "deepen-not " ∷ codes "filter "
+      ∷ codes "want-ref " ∷ codes "sideband-all" ∷ [];
+  ls_refs_prefixes = codes "symrefs" ∷ codes "peel" ∷ codes "ref-prefix " ∷ codes "unborn" ∷ [];
+}
+
+-- whether a line goes with these features
+abbrev pub goes_with : List FeatureValue → Option (List ℕ) → Bool
+goes_with features None = true
+goes_with features (Some name) = has_feature name features
+
+-- the words of the entries that go with these features, in their order
+abbrev pub lines_with : List FeatureValue → List Entry → List (List ℕ)
+lines_with features entries = map (λ (e : Entry). e.word) (filter (λ e. goes_with features e.other) entries)
+
+-- the arguments that a request of version 2 begins with
+abbrev pub initial_arguments : Table → Command → List FeatureValue → List (List ℕ)
+initial_arguments table LsRefs features = table.ls_refs_arguments
+initial_arguments table Fetch features = lines_with features table.fetch_arguments
+
+-- `git/` stands before a name that doesn't begin with it
+abbrev pub agent_of : List ℕ → List ℕ
+agent_of name = if starts_with nat_eq name (codes "git/") then name else codes "git/" ++ name

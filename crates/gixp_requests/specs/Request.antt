@@ -1,0 +1,63 @@
+-- The frames of a request for a pack (gitprotocol-v2, "Command Request", "fetch"; gitprotocol-pack, "Packfile Negotiation").
+use Rattle.std.specs.Prelude.{ℕ, Bool, if◌then◌else◌, List, [], ◌∷◌, ◌++◌, map, filter, position, Option, Some, None, is_some, codes}
+use Rattle.std.specs.List.{list_all, swap}
+use Rattle.gixp_wire.specs.Frames.{Frame}
+use Rattle.gixp_wire.specs.Message.{MessageValue, text, flush, value_frame, value_fits, command_values}
+use Rattle.gixp_requests.specs.Feature.{FeatureValue, feature_text}
+use Rattle.gixp_requests.specs.Arguments.{Asked, is_want, is_v2}
+
+-- under version 2 only features with a value are sent
+abbrev pub has_value : FeatureValue → Bool
+has_value f = is_some f.value
+
+abbrev pub sent_features : List FeatureValue → List (List ℕ)
+sent_features features = map feature_text (filter has_value features)
+
+abbrev pub done_line : List ℕ
+done_line = codes "done"
+
+abbrev pub done_lines : Bool → List (List ℕ)
+done_lines done = if done then done_line ∷ [] else []
+
+-- the arguments of a fetch of version 2
+abbrev pub fetch_arguments : List (List ℕ) → List (List ℕ) → Bool → List (List ℕ)
+fetch_arguments lines haves done = lines ++ (haves ++ done_lines done)
+
+-- under versions 0 and 1 the first want changes places with the first line
+abbrev pub exchanged : List (List ℕ) → Option ℕ → List (List ℕ)
+exchanged lines None = lines
+exchanged lines (Some i) = swap lines 0 i
+
+abbrev pub want_first : List (List ℕ) → List (List ℕ)
+want_first lines = exchanged lines (position is_want lines)
+
+-- a flush stands behind the lines, if there are any
+abbrev pub flush_behind : List (List ℕ) → List MessageValue
+flush_behind [] = []
+flush_behind (line ∷ lines) = flush ∷ []
+
+-- the end of what is asked for, or of a part of it
+abbrev pub done_value : Bool → MessageValue
+done_value done = if done then text done_line else flush
+
+-- the lines, a flush behind any, the haves, and `done` or a flush
+abbrev pub upload_values : List (List ℕ) → List (List ℕ) → Bool → List MessageValue
+upload_values lines haves done = map text (want_first lines) ++ (flush_behind lines ++ (map text haves ++ done_value done ∷ []))
+
+-- the messages of a request for a pack
+abbrev pub request_values : Asked → Bool → List MessageValue
+request_values a done =
+    if is_v2 a.version then command_values (codes "fetch") (sent_features a.features) (fetch_arguments a.lines a.haves done)
+    else upload_values a.lines a.haves done
+
+-- its frames
+abbrev pub request : Asked → Bool → List Frame
+request a done = map value_frame (request_values a done)
+
+-- whether each of its lines fits into a frame
+abbrev pub request_fits : Asked → Bool → Bool
+request_fits a done = list_all value_fits (request_values a done)
+
+-- what is left to ask for behind a request: no have, and the lines where they are to be said again
+abbrev pub sent_off : Bool → Asked → Asked
+sent_off persists a = record a { lines = (if is_v2 a.version then a.lines else if persists then [] else a.lines); haves = [] }

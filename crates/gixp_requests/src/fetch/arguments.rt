@@ -1,0 +1,431 @@
+//! What a request for a pack asks for.
+ghost use Rattle.std.specs.Prelude.{◌≡◌, ◌↔◌, ◌<◌, ◌++◌, ◌||◌, true, false, length, codes, IsTrue, IfOk, OnOk, OnErr};
+ghost use Rattle.bstr.specs.BStr.{bstr_bytes};
+ghost use Rattle.bstr.specs.Owned.{bstring_bytes};
+ghost use Rattle.gixp_requests.specs.Feature.{feature_values};
+ghost use Rattle.gixp_requests.specs.Command.{table_of, texts};
+
+use crate::command::table::has_feature;
+use crate::command::{Command, CommandTable, Feature};
+use bstr::{BStr, BString};
+use gixp_wire::client::Error;
+use gixp_wire::{ObjectId, Protocol, Transport};
+use std::alloc::{AllocError, Global};
+use std::marker::Model;
+
+mod messages;
+mod text;
+
+use messages::{command_messages, request, sent_features, upload_messages};
+use text::{features_text, has_want, joined, push_text, want_line};
+
+/// What the next request for a pack asks for: argument lines, and the objects that are there
+/// already (gitprotocol-v2, "fetch"; gitprotocol-pack, "Packfile Negotiation").
+///
+/// A call that adds a line, and is refused for want of memory, changes nothing.
+#[derive(Debug, Drop)]
+pub struct Arguments {
+    alloc: Global,
+    version: Protocol,
+    features: Vec<Feature>,
+    include_tag: bool,
+    deepen_relative: bool,
+    added: Vec<BString>,
+    wanted: bool,
+    lines: Vec<BString>,
+    haves: Vec<BString>,
+}
+
+impl Model for Arguments {
+    ghost use Rattle.gixp_requests.specs.Arguments.{Asked};
+
+    ghost Value = { Asked };
+
+    ghost use Rattle.gixp_requests.specs.Feature.{feature_values};
+    ghost use Rattle.gixp_requests.specs.Command.{texts};
+
+    ghost view = { λ a. record { version = a.version; features = feature_values a.features.items; include_tag = a.include_tag; deepen_relative = a.deepen_relative; added = texts a.added; wanted = a.wanted; lines = texts a.lines; haves = texts a.haves } };
+}
+
+impl Arguments {
+    ghost use Rattle.gixp_requests.specs.Arguments.{Becomes, is_v2, id_text, asks_nothing, with_line, asks_want, asks_want_ref, asks_have, asks_shallow, asks_deepen, asks_deepen_since, asks_deepen_not, asks_filter, asks_deepen_relative, asks_include_tag, asks_feature, can_use, can_use_deepening, can_use_include_tag, may_add_feature, is_empty, want_line};
+    ghost use Rattle.gixp_requests.specs.Request.{request, request_fits, sent_off};
+    ghost use Rattle.gixp_wire.specs.FrameText.{texts_of};
+    ghost use Rattle.gixp_wire.specs.Transport.{Sends};
+
+    /// Nothing yet, but for the lines of the table that go with the features under version 2.
+    ///
+    /// The features are what the server offers and the caller wants of it.
+    ///
+    /// # Errors
+    ///
+    /// Only where memory runs out.
+    pub fn new(
+        alloc: Global,
+        table: &CommandTable,
+        version: Protocol,
+        features: Vec<Feature>,
+    ) -> Result<Arguments, AllocError>
+        ensures { IfOk result (λ asked. asked ≡ asks_nothing (table_of table.now) version (feature_values features.entry.items)) }
+    {
+        let lines = if version == Protocol::V2 {
+            table.initial_v2_arguments(alloc, Command::Fetch, &features)?
+        } else {
+            Vec::new(alloc)
+        };
+        Ok(Arguments {
+            alloc,
+            version,
+            features,
+            include_tag: false,
+            deepen_relative: false,
+            added: Vec::new(alloc),
+            wanted: false,
+            lines,
+            haves: Vec::new(alloc),
+        })
+    }
+
+    // One more line.
+    fn push_line(&mut self, line: BString) -> Result<(), AllocError>
+        ensures { Becomes result self.old (with_line (bstring_bytes line) self.old) self.new }
+    {
+        push_text(&mut self.lines, line)
+    }
+
+    // One more line of two parts.
+    fn push_joined(&mut self, front: &[u8], back: &[u8]) -> Result<(), AllocError>
+        ensures { Becomes result self.old (with_line (front.now ++ back.now) self.old) self.new }
+    {
+        let line = joined(self.alloc, front, back)?;
+        self.push_line(line)
+    }
+
+    // The line of a want.
+    fn want_line(&self, id: &ObjectId) -> Result<BString, AllocError>
+        ensures { IfOk result (λ line. bstring_bytes line ≡ want_line (id_text id.now) self.now) }
+    {
+        if self.version == Protocol::V2 || self.wanted {
+            return want_line(self.alloc, id, b"");
+        }
+        let behind = features_text(
+            self.alloc,
+            &self.features,
+            self.include_tag,
+            self.deepen_relative,
+            &self.added,
+        )?;
+        want_line(self.alloc, id, &behind)
+    }
+
+    /// Asks for an object, by the line `want <id>`.
+    ///
+    /// Under versions 0 and 1 the first such line also has the features, behind a blank each:
+    /// those that were handed in, but `include-tag` and `deepen-relative` only where they were
+    /// turned on, and those that were added.
+    ///
+    /// # Errors
+    ///
+    /// Only where memory runs out.
+    pub fn want(&mut self, id: &ObjectId) -> Result<(), AllocError>
+        ensures { Becomes result self.old (asks_want (id_text id.now) self.old) self.new }
+    {
+        let line = self.want_line(id)?;
+        push_text(&mut self.lines, line)?;
+        self.wanted = true;
+        Ok(())
+    }
+
+    /// Asks for the object of a ref, by the line `want-ref <path>`.
+    ///
+    /// # Errors
+    ///
+    /// Only where memory runs out.
+    pub fn want_ref(&mut self, path: BStr<'_>) -> Result<(), AllocError>
+        ensures { Becomes result self.old (asks_want_ref (bstr_bytes path.entry) self.old) self.new }
+    {
+        self.push_joined(b"want-ref ", path.as_bytes())
+    }
+
+    /// Says that an object is there already, by the line `have <id>` of the next request alone.
+    ///
+    /// # Errors
+    ///
+    /// Only where memory runs out.
+    pub fn have(&mut self, id: &ObjectId) -> Result<(), AllocError>
+        ensures { Becomes result self.old (asks_have (id_text id.now) self.old) self.new }
+    {
+        let line = joined(self.alloc, b"have ", &id.to_hex())?;
+        push_text(&mut self.haves, line)
+    }
+
+    /// Says that a commit's parents aren't there, by the line `shallow <id>`.
+    ///
+    /// # Errors
+    ///
+    /// Only where memory runs out.
+    pub fn shallow(&mut self, id: &ObjectId) -> Result<(), AllocError>
+        requires { can_use (codes "shallow") self.old ≡ true }
+        ensures { Becomes result self.old (asks_shallow (id_text id.now) self.old) self.new }
+    {
+        self.push_joined(b"shallow ", &id.to_hex())
+    }
+
+    /// Asks for this many commits from each ref on, by the line `deepen <depth>`.
+    ///
+    /// # Errors
+    ///
+    /// Only where memory runs out.
+    pub fn deepen(&mut self, depth: usize) -> Result<(), AllocError>
+        requires { can_use (codes "shallow") self.old ≡ true }
+        ensures { Becomes result self.old (asks_deepen depth self.old) self.new }
+    {
+        let depth = depth.to_string(self.alloc)?;
+        self.push_joined(b"deepen ", depth.as_bytes())
+    }
+
+    /// Asks for commits no older than a time, in seconds since 1970-01-01 00:00:00 UTC, by the line
+    /// `deepen-since <seconds>`.
+    ///
+    /// # Errors
+    ///
+    /// Only where memory runs out.
+    pub fn deepen_since(&mut self, seconds: i64) -> Result<(), AllocError>
+        requires { can_use_deepening (codes "deepen-since") self.old ≡ true }
+        ensures { Becomes result self.old (asks_deepen_since seconds self.old) self.new }
+    {
+        let seconds = seconds.to_string(self.alloc)?;
+        self.push_joined(b"deepen-since ", seconds.as_bytes())
+    }
+
+    /// Asks for no commit that a ref leads to, by the line `deepen-not <ref>`.
+    ///
+    /// # Errors
+    ///
+    /// Only where memory runs out.
+    pub fn deepen_not(&mut self, ref_path: BStr<'_>) -> Result<(), AllocError>
+        requires { can_use_deepening (codes "deepen-not") self.old ≡ true }
+        ensures { Becomes result self.old (asks_deepen_not (bstr_bytes ref_path.entry) self.old) self.new }
+    {
+        self.push_joined(b"deepen-not ", ref_path.as_bytes())
+    }
+
+    /// Lets the depth count from the boundary that is there already.
+    ///
+    /// Under version 2 this is the line `deepen-relative`, once for each call; under versions 0 and
+    /// 1 a feature of the first want, behind which it has no effect.
+    ///
+    /// # Errors
+    ///
+    /// Only where memory runs out.
+    pub fn deepen_relative(&mut self) -> Result<(), AllocError>
+        requires { can_use_deepening (codes "deepen-relative") self.old ≡ true }
+        ensures { Becomes result self.old (asks_deepen_relative self.old) self.new }
+    {
+        if self.version == Protocol::V2 {
+            return self.push_joined(b"deepen-relative", b"");
+        }
+        self.deepen_relative = true;
+        Ok(())
+    }
+
+    /// Leaves out objects by a filter, by the line `filter <spec>`.
+    ///
+    /// # Errors
+    ///
+    /// Only where memory runs out.
+    pub fn filter(&mut self, spec: &str) -> Result<(), AllocError>
+        requires { can_use (codes "filter") self.old ≡ true }
+        ensures { Becomes result self.old (asks_filter spec.now self.old) self.new }
+    {
+        self.push_joined(b"filter ", spec.as_bytes())
+    }
+
+    /// Lets the server send tags that lead to what it sends.
+    ///
+    /// Under version 2 this is the line `include-tag`, once for each call; under versions 0 and 1 a
+    /// feature of the first want, behind which it has no effect.
+    ///
+    /// # Errors
+    ///
+    /// Only where memory runs out.
+    pub fn use_include_tag(&mut self) -> Result<(), AllocError>
+        requires { can_use_include_tag self.old ≡ true }
+        ensures { Becomes result self.old (asks_include_tag self.old) self.new }
+    {
+        if self.version == Protocol::V2 {
+            return self.push_joined(b"include-tag", b"");
+        }
+        self.include_tag = true;
+        Ok(())
+    }
+
+    /// Adds a feature as it stands: under version 2 an argument line, else one more feature of the
+    /// first want.
+    ///
+    /// # Errors
+    ///
+    /// Only where memory runs out.
+    pub fn add_feature(&mut self, feature: &str) -> Result<(), AllocError>
+        requires { may_add_feature self.old ≡ true }
+        ensures { Becomes result self.old (asks_feature feature.now self.old) self.new }
+    {
+        let text = BString::from_slice(self.alloc, feature)?;
+        if self.version == Protocol::V2 {
+            push_text(&mut self.lines, text)
+        } else {
+            push_text(&mut self.added, text)
+        }
+    }
+
+    /// Whether objects can be left out by a filter.
+    pub fn can_use_filter(&self) -> bool
+        ensures { result ≡ can_use (codes "filter") self.now }
+    {
+        has_feature(&self.features, "filter")
+    }
+
+    /// Whether commits can be told whose parents aren't there.
+    pub fn can_use_shallow(&self) -> bool
+        ensures { result ≡ can_use (codes "shallow") self.now }
+    {
+        has_feature(&self.features, "shallow")
+    }
+
+    /// Whether a depth can be asked for.
+    pub fn can_use_deepen(&self) -> bool
+        ensures { result ≡ can_use (codes "shallow") self.now }
+    {
+        self.can_use_shallow()
+    }
+
+    // By the feature of this name, under version 2 by `shallow`.
+    fn can_deepen(&self, name: &str) -> bool
+        ensures { result ≡ can_use_deepening name.now self.now }
+    {
+        if self.version == Protocol::V2 {
+            return self.can_use_shallow();
+        }
+        has_feature(&self.features, name)
+    }
+
+    /// Whether the age of commits can be limited.
+    pub fn can_use_deepen_since(&self) -> bool
+        ensures { result ≡ can_use_deepening (codes "deepen-since") self.now }
+    {
+        self.can_deepen("deepen-since")
+    }
+
+    /// Whether commits can be left out that a ref leads to.
+    pub fn can_use_deepen_not(&self) -> bool
+        ensures { result ≡ can_use_deepening (codes "deepen-not") self.now }
+    {
+        self.can_deepen("deepen-not")
+    }
+
+    /// Whether a depth can count from the boundary that is there.
+    pub fn can_use_deepen_relative(&self) -> bool
+        ensures { result ≡ can_use_deepening (codes "deepen-relative") self.now }
+    {
+        self.can_deepen("deepen-relative")
+    }
+
+    /// Whether refs can be asked for by their names.
+    pub fn can_use_ref_in_want(&self) -> bool
+        ensures { result ≡ can_use (codes "ref-in-want") self.now }
+    {
+        has_feature(&self.features, "ref-in-want")
+    }
+
+    /// Whether the server can send tags that lead to what it sends.
+    pub fn can_use_include_tag(&self) -> bool
+        ensures { result ≡ can_use_include_tag self.now }
+    {
+        self.version == Protocol::V2 || has_feature(&self.features, "include-tag")
+    }
+
+    /// Whether a feature can be added: under versions 0 and 1 only until the first want.
+    pub fn may_add_feature(&self) -> bool
+        ensures { result ≡ may_add_feature self.now }
+    {
+        self.version == Protocol::V2 || !self.wanted
+    }
+
+    /// Whether each request has to say again what the ones before it said: where the transport
+    /// keeps nothing, and under version 2.
+    pub fn is_stateless(&self, transport_is_stateless: bool) -> bool
+        ensures { result ≡ (transport_is_stateless || is_v2 self.now.version) }
+    {
+        transport_is_stateless || self.version == Protocol::V2
+    }
+
+    /// Whether there is no have and no `want `. Refs that are wanted by name don't count.
+    pub fn is_empty(&self) -> bool
+        ensures { result ≡ is_empty self.now }
+    {
+        self.haves.is_empty() && !has_want(&self.lines)
+    }
+
+    /// Whether there is a have.
+    pub fn has_haves(&self) -> bool
+        ensures { IsTrue result ↔ (0 < length self.now.haves) }
+    {
+        !self.haves.is_empty()
+    }
+
+    // Sends the request, with no memory of it here.
+    fn transmit<T: Transport>(&self, transport: &mut T, done: bool) -> Result<(), Error>
+        requires { done ≡ false → 0 < length self.now.haves }
+        ensures { Sends (T.reading transport.old) (T.reading transport.new) (request_fits self.now done) (texts_of (request self.now done)) result }
+    {
+        if self.version == Protocol::V2 {
+            let features = match sent_features(self.alloc, &self.features) {
+                Ok(features) => features,
+                Err(_) => return Err(Error::Memory),
+            };
+            return match command_messages(self.alloc, &features, &self.lines, &self.haves, done) {
+                Ok(messages) => request(transport, &messages),
+                Err(_) => Err(Error::Memory),
+            };
+        }
+        match upload_messages(self.alloc, &self.lines, &self.haves, done) {
+            Ok(messages) => request(transport, &messages),
+            Err(_) => Err(Error::Memory),
+        }
+    }
+
+    /// Sends the next request, with the line `done` where it is asked for (gitprotocol-v2,
+    /// "Command Request"; gitprotocol-pack, "Packfile Negotiation").
+    ///
+    /// Afterwards there are no haves. The argument lines stay, but under versions 0 and 1 over a
+    /// transport that persists, whose server keeps them. Under versions 0 and 1 the first want
+    /// changes places with the first line, in what is sent alone.
+    ///
+    /// # Errors
+    ///
+    /// `LineTooLong` where a line, or under version 2 a feature, has more than 65,515 bytes; nothing
+    /// is written then. `Memory` where it runs out, and `Io` of the transport. Whatever the error,
+    /// what is asked for stays as it was.
+    pub fn send<T: Transport>(
+        &mut self,
+        transport: &mut T,
+        add_done_argument: bool,
+    ) -> Result<(), Error>
+        requires { add_done_argument ≡ false → 0 < length self.old.haves }
+        ensures sent { Sends (T.reading transport.old) (T.reading transport.new)
+            (request_fits self.old add_done_argument) (texts_of (request self.old add_done_argument)) result }
+        ensures ok { OnOk result (self.new ≡ sent_off (T.reading transport.old).held.persists self.old) }
+        ensures err { OnErr result (self.new ≡ self.old) }
+    {
+        let persists = transport.connection_persists_across_multiple_requests();
+        match self.transmit(transport, add_done_argument) {
+            Ok(()) => {}
+            Err(e) => return Err(e),
+        }
+        self.haves.clear();
+        if persists && self.version != Protocol::V2 {
+            self.lines.clear();
+        }
+        Ok(())
+    }
+}

@@ -1,0 +1,9 @@
+//! The requests of git's fetch protocol: what a client can ask for, and its lines.
+#![tactic(auto)]
+
+pub mod command;
+pub mod fetch;
+mod util;
+
+pub use command::Command;
+pub use util::agent;

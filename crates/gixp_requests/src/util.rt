@@ -1,0 +1,21 @@
+//! How a client names itself.
+ghost use Rattle.std.specs.Prelude.{◌≡◌, IfOk};
+ghost use Rattle.std.specs.String.{string_bytes};
+ghost use Rattle.gixp_requests.specs.Command.{agent_of};
+
+use std::alloc::{AllocError, Global};
+
+/// The name of a client as servers know it: `git/` stands before a name that doesn't begin with it
+/// (gitprotocol-capabilities, "agent").
+///
+/// # Errors
+///
+/// Only where memory runs out.
+pub fn agent(alloc: Global, name: &str) -> Result<String, AllocError>
+    ensures { IfOk result (λ text. string_bytes text ≡ agent_of name.now) }
+{
+    if name.as_bytes().starts_with(b"git/") {
+        return String::from_str(alloc, name);
+    }
+    format!(in alloc; "git/{name}")
+}

@@ -1,0 +1,250 @@
+-- Bytes of band 1 that are handed out.
+use Rattle.std.proofs.Common.{◌≡◌, ℕ, ◌+◌, ◌-◌, ◌<◌, ◌≤◌, ◌⊎◌, Bool, true, false, List, [], ◌∷◌, ◌++◌, length, drop, take, refl, sym, ap, ◌∙◌, arith, Option, Some, None, IfSome, Ok, min, inl, inr, subst, length-append, take-append-drop, take_all, length-drop}
+use Rattle.std.specs.Prelude.{◌&&◌, nat_lt, is_some}
+use Rattle.std.proofs.lemmas.List.{drop-drop, take-append-le, drop-append-le, length-take-le}
+use Rattle.std.specs.Option.{option_map}
+use Rattle.gixp_wire.specs.Held.{Held}
+use Rattle.std.proofs.lemmas.Bool.{ltb-true}
+use Rattle.gixp_wire.specs.declared.protocol.Protocol.{Protocol}
+use Rattle.gixp_wire.specs.declared.protocol.MessageKind.{MessageKind}
+use Rattle.gixp_sidebands.specs.declared.sidebands.band.Band.{Band}
+use Rattle.gixp_sidebands.specs.declared.sidebands.band.Band.TheVariants.{Empty, Content, Text, Unknown}
+use Rattle.gixp_wire.specs.Pieces.{Refusal, unexpected_frame, Piece, line, mark, Pieces}
+use Rattle.gixp_wire.specs.Items.{is_stop}
+use Rattle.gixp_wire.specs.Lines.{gives, stops, next_from, next_of}
+use Rattle.gixp_wire.specs.Reading.{Reading, TakesLine, ShowsLine, AtStop, Peeks}
+use Rattle.gixp_sidebands.specs.Bands.{band_of, is_content, unband_line, unband_from, unband, content_from, content_of, Message, messages_line, messages_from, messages_of, is_held, front_line, shown, content_left, messages_left, HandsOut, Side, side_reading, banded_reading, side_content, IsFirstOf, ShowsContent, EndsContent, ShowsFirst, ReadsBytes, Fills, place_after}
+use Rattle.gixp_sidebands.proofs.PieceLemmas.{mark_not_gives}
+
+pub both_true : (a b : Bool) → (a && b) ≡ true → (a ≡ true) × (b ≡ true)
+both_true true b h = (refl, h)
+both_true false b h = absurd (let x = h in cc)
+
+pub content_is : (k : Band) → is_content k ≡ true → k ≡ Content
+content_is Content h = refl
+content_is (Unknown b) h = cc
+content_is Empty h = cc
+content_is (Text b) h = cc
+
+-- what a place says of the line that is peeked at
+pub record HoldsLine (n : ℕ) (r : Reading) : Type 0 where
+  pub peeked : r.peeked ≡ true
+  pub content : band_of r.line ≡ Content
+  pub more : n + 1 < length r.line
+
+pub holds_line : (n : ℕ) (r : Reading) → is_held (Some n) r ≡ true → HoldsLine n r
+holds_line n r h =
+    let a = both_true r.peeked (is_content (band_of r.line) && nat_lt (n + 1) (length r.line)) h in
+    let b = both_true (is_content (band_of r.line)) (nat_lt (n + 1) (length r.line)) a.1 in
+    record { peeked = a.0; content = content_is (band_of r.line) b.0; more = ltb-true (n + 1) (length r.line) b.1 }
+
+content_line : (k : Band) (text : List ℕ) (rest : Pieces) → k ≡ Content → content_from (unband_line k text rest).list ≡ drop 1 text ++ content_from rest.list
+content_line k text rest e = ap (λ x. content_from (unband_line x text rest).list) e
+
+messages_skip : (k : Band) (text : List ℕ) (rest : List Message) → k ≡ Content → messages_line k text rest ≡ rest
+messages_skip k text rest e = ap (λ x. messages_line x text rest) e
+
+-- content at the front is that line's and what is behind it
+content_front : (list : List Piece) (end : Refusal) (text : List ℕ) → front_line list ≡ text → band_of text ≡ Content
+    → (rest : List ℕ) × (content_from (unband_from list end).list ≡ drop 1 text ++ rest)
+content_front [] end text f k = absurd (let e : Empty ≡ Content = ap band_of f ∙ k in cc)
+content_front (mark kind ∷ ps) end text f k = absurd (let e : Empty ≡ Content = ap band_of f ∙ k in cc)
+content_front (line t ∷ ps) end text f k =
+    (content_from (unband_from ps end).list, content_line (band_of t) t (unband_from ps end) (ap band_of f ∙ k) ∙ ap (λ x. drop 1 x ++ content_from (unband_from ps end).list) f)
+
+-- and that of pieces whose first is that line
+pub content_gives : (v : Protocol) (list : List Piece) (end : Refusal) (text : List ℕ) (q : Pieces) → next_from v list end ≡ gives text q → band_of text ≡ Content
+    → (content_from (unband_from list end).list ≡ drop 1 text ++ content_of q) × (messages_from list ≡ messages_of q)
+content_gives v [] end text q h k = cc
+content_gives v (mark kind ∷ ps) end text q h k = absurd (mark_not_gives (is_stop v kind) kind (record { list = ps; end = end }) q unexpected_frame text h)
+content_gives v (line t ∷ ps) end text q h k =
+    let p : Pieces = record { list = ps; end = end } in
+    let e1 : t ≡ text = cc in
+    let e2 : p ≡ q = cc in (
+      content_line (band_of t) t (unband_from ps end) (ap band_of e1 ∙ k) ∙ ap (λ x. drop 1 x ++ content_of p) e1 ∙ ap (λ x. drop 1 text ++ content_of x) e2,
+      messages_skip (band_of t) t (messages_from ps) (ap band_of e1 ∙ k) ∙ ap messages_of e2,
+    )
+
+-- a part of a front is handed out
+split_front : (all xs rest : List ℕ) (n k : ℕ) → all ≡ xs ++ rest → n + k ≤ length xs → drop n all ≡ take k (drop n xs) ++ drop (n + k) all
+split_front all xs rest n k e h =
+    let a : drop n all ≡ drop n xs ++ rest = ap (drop n) e ∙ drop-append-le n xs rest (omega arith) in
+    let b : take k (drop n all) ≡ take k (drop n xs) = ap (take k) a ∙ take-append-le k (drop n xs) rest (omega (arith, length-drop n xs)) in
+    sym (take-append-drop k (drop n all)) ∙ ap (λ x. x ++ drop k (drop n all)) b ∙ ap (λ x. take k (drop n xs) ++ x) (drop-drop k n all)
+
+-- all of a front is handed out
+whole_front : (all xs rest : List ℕ) (n k : ℕ) → all ≡ xs ++ rest → n ≤ length xs → length xs ≤ n + k → drop n all ≡ take k (drop n xs) ++ rest
+whole_front all xs rest n k e h more =
+    ap (drop n) e ∙ drop-append-le n xs rest h ∙ ap (λ x. x ++ rest) (sym (take_all k (drop n xs) (omega (arith, length-drop n xs))))
+
+tail_of : (n : ℕ) (text : List ℕ) → drop n (drop 1 text) ≡ drop (n + 1) text
+tail_of n text = drop-drop n 1 text ∙ ap (λ i. drop i text) (omega arith)
+
+-- fewer than all bytes at hand
+pub hands_part : (n k : ℕ) (r : Reading) → is_held (Some n) r ≡ true → k < length r.line - n - 1
+    → HandsOut (Some n) r (take k (shown (Some n) r)) (Some (n + k)) r
+hands_part n k r held less =
+    record {
+      content = at r.to_come;
+      messages = same r.to_come;
+      stopped = refl;
+      version = refl;
+      failures = refl;
+      left = omega arith;
+      held = refl;
+    }
+  where
+    same : (o : Option Pieces) → IfSome o (λ p. (q : Pieces) × (o ≡ Some q) × (messages_left r.stopped q ≡ messages_left r.stopped p))
+    same None = tt
+    same (Some p) = (p, refl, refl)
+
+    at : (o : Option Pieces) → IfSome o (λ p. front_line p.list ≡ r.line
+        → (q : Pieces) × (o ≡ Some q) × (front_line q.list ≡ r.line) × (drop n (content_of p) ≡ take k (drop (n + 1) r.line) ++ drop (n + k) (content_of q)))
+    at None = tt
+    at (Some p) = λ f.
+        let h = holds_line n r held in
+        let c = content_front p.list p.end r.line f h.content in
+        (p, refl, f, split_front (content_of p) (drop 1 r.line) c.0 n k c.1 (omega (arith, length-drop 1 r.line, h.more)) ∙ ap (λ x. take k x ++ drop (n + k) (content_of p)) (tail_of n r.line))
+
+-- all bytes at hand
+pub hands_all : (n k : ℕ) (r new : Reading) → is_held (Some n) r ≡ true → length r.line - n - 1 ≤ k → TakesLine r new
+    → HandsOut (Some n) r (take k (shown (Some n) r)) None new
+hands_all n k r new held more t =
+    record {
+      content = content r.to_come new.to_come new.stopped t.stopped t.next;
+      messages = messages r.to_come new.to_come r.stopped new.stopped t.running t.stopped t.next;
+      stopped = t.stopped ∙ sym t.running;
+      version = t.version;
+      failures = t.failures;
+      left = let a = t.left in omega arith;
+      held = t.held;
+    }
+  where
+    content : (a b : Option Pieces) (s : Option MessageKind) → s ≡ None → IfSome a (λ p. (q : Pieces) × (b ≡ Some q) × (next_of r.version p ≡ gives new.line q))
+        → IfSome a (λ p. front_line p.list ≡ r.line → (q : Pieces) × (b ≡ Some q) × Unit {0} × (drop n (content_of p) ≡ take k (drop (n + 1) r.line) ++ content_left None s q))
+    content None b s e m = tt
+    content (Some p) b s e m = λ f.
+        let h = holds_line n r held in
+        let same : new.line ≡ r.line = t.again h.peeked in
+        let c = content_gives r.version p.list p.end new.line m.0 m.2 (ap band_of same ∙ h.content) in
+        let d : content_of p ≡ drop 1 r.line ++ content_of m.0 = c.0 ∙ ap (λ x. drop 1 x ++ content_of m.0) same in
+        rw e (
+          m.0,
+          m.1,
+          tt,
+          whole_front (content_of p) (drop 1 r.line) (content_of m.0) n k d (omega (arith, length-drop 1 r.line, h.more)) (omega (arith, length-drop 1 r.line, h.more))
+              ∙ ap (λ x. take k x ++ content_of m.0) (tail_of n r.line),
+        )
+
+    messages : (a b : Option Pieces) (s s' : Option MessageKind) → s ≡ None → s' ≡ None → IfSome a (λ p. (q : Pieces) × (b ≡ Some q) × (next_of r.version p ≡ gives new.line q))
+        → IfSome a (λ p. (q : Pieces) × (b ≡ Some q) × (messages_left s' q ≡ messages_left s p))
+    messages None b s s' e e' m = tt
+    messages (Some p) b s s' e e' m =
+        let h = holds_line n r held in
+        let c = content_gives r.version p.list p.end new.line m.0 m.2 (ap band_of (t.again h.peeked) ∙ h.content) in
+        rw (e, e') (m.0, m.1, sym c.1)
+
+pub hands_part_at : (place : Option ℕ) (n k len : ℕ) (r : Reading) → place ≡ Some n → is_held place r ≡ true → len ≡ length r.line → k < len - n - 1
+    → HandsOut place r (take k (shown place r)) (Some (n + k)) r
+hands_part_at place n k len r e held l less = rw e (hands_part n k r (rw e at held) (omega arith))
+
+pub hands_all_at : (place : Option ℕ) (n k len : ℕ) (r new : Reading) → place ≡ Some n → is_held place r ≡ true → len ≡ length r.line → len - n - 1 ≤ k → TakesLine r new
+    → HandsOut place r (take k (shown place r)) None new
+hands_all_at place n k len r new e held l more t = rw e (hands_all n k r new (rw e at held) (omega arith) t)
+
+first_gives : (v : Protocol) (list : List Piece) (end : Refusal) (text : List ℕ) (q : Pieces) → next_from v list end ≡ gives text q → front_line list ≡ text
+first_gives v [] end text q h = cc
+first_gives v (line t ∷ ps) end text q h = cc
+first_gives v (mark kind ∷ ps) end text q h = absurd (mark_not_gives (is_stop v kind) kind (record { list = ps; end = end }) q unexpected_frame text h)
+
+-- what was peeked at is the first of what is to come
+pub shows_first : (o : Option Pieces) (now new : Reading) → IfSome o (λ p. (q : Pieces) × (now.to_come ≡ Some q)) → ShowsLine now new
+    → IfSome o (λ p. (q : Pieces) × (new.to_come ≡ Some q) × (front_line q.list ≡ new.line))
+shows_first None now new h s = tt
+shows_first (Some p) now new h s = at now.to_come h.1 s.next
+  where
+    at : (x : Option Pieces) → x ≡ Some h.0 → IfSome x (λ p. (q : Pieces) × (new.to_come ≡ Some p) × (next_of now.version p ≡ gives new.line q))
+        → (q : Pieces) × (new.to_come ≡ Some q) × (front_line q.list ≡ new.line)
+    at None e n = absurd (let x = e in cc)
+    at (Some y) e n = (y, n.1, first_gives now.version y.list y.end new.line n.0 n.2)
+
+stops_empty : (v : Protocol) (list : List Piece) (end : Refusal) (kind : MessageKind) (q : Pieces) → next_from v list end ≡ stops kind q → content_from list ≡ []
+stops_empty v [] end kind q h = refl
+stops_empty v (line t ∷ ps) end kind q h = cc
+stops_empty v (mark k ∷ ps) end kind q h = refl
+
+-- a line of content that is peeked at, as bytes at hand
+shows_content_at : (old new : Side) → old.place ≡ None → new.place ≡ Some 0 → new.fault ≡ None → is_held new.place new.reading ≡ true
+    → ShowsFirst old.reading new.reading (Ok true) → ShowsLine (banded_reading false old.name old.reading) (banded_reading false new.name new.reading) → ShowsContent old new
+shows_content_at old new o n f held first h =
+    record {
+      content = rw (o, n) (content old.reading.to_come new.reading.to_come old.reading.stopped h.running first h.next);
+      some = rw n (let l = holds_line 0 new.reading (rw n at held) in omega (arith, length-drop 1 new.reading.line, l.more));
+      version = h.version;
+      failures = h.failures;
+      left = h.left;
+      held = h.held;
+      fault = f;
+    }
+  where
+    content : (a b : Option Pieces) (s : Option MessageKind) → s ≡ None → IfSome a (λ p. (q : Pieces) × (b ≡ Some q) × (front_line q.list ≡ new.reading.line))
+        → IfSome (option_map unband a) (λ p. (q : Pieces) × (option_map unband b ≡ Some p) × (next_of old.reading.version p ≡ gives (drop 1 new.reading.line) q))
+        → IfSome a (λ p. Unit {0} → (q : Pieces) × (b ≡ Some q) × (front_line q.list ≡ new.reading.line) × (drop 0 (content_of q) ≡ content_left None s p))
+    content None b s e k m = tt
+    content (Some p) b s e k m = λ _.
+        let u : unband k.0 ≡ unband p = let x : Some (unband k.0) ≡ Some (unband p) = sym (ap (option_map unband) k.1) ∙ m.1 in cc in
+        rw e (k.0, k.1, k.2, ap (λ x. content_from x.list) u)
+
+ends_content_at : (old new : Side) → old.place ≡ None → new.place ≡ None → new.fault ≡ None → AtStop (side_reading old) (side_reading new) → EndsContent old new
+ends_content_at old new o n f h = record { at_stop = h; content = rw o (content old.reading.to_come old.reading.stopped (rw o at h)); place = n; fault = f }
+  where
+    content : (a : Option Pieces) (s : Option MessageKind) → AtStop (record (banded_reading false old.name old.reading) { to_come = option_map unband a; stopped = s }) (side_reading new) → IfSome a (λ p. content_left None s p ≡ [])
+    content None s h = tt
+    content (Some p) None (inl h) = absurd (let x = h.was in cc)
+    content (Some p) None (inr h) = let n = h.1.next in stops_empty old.reading.version (unband p).list (unband p).end h.0 n.0 n.2
+    content (Some p) (Some k) h = refl
+
+-- a call for lines, as one that sees to it that content is at hand
+pub fills_by : (old new : Side) (more : Bool) → old.place ≡ None → new.place ≡ place_after (Ok more) → new.fault ≡ None → is_held new.place new.reading ≡ true
+    → ShowsFirst old.reading new.reading (Ok more) → Peeks (side_reading old) (side_reading new) (Ok more) → Fills old new (Ok more)
+fills_by old new true o n f held first h = shows_content_at old new o n f held first (rw (o, n) at h)
+fills_by old new false o n f held first h = ends_content_at old new o n f h
+
+-- content that was at hand is handed out
+pub reads_bytes : (old mid new : Side) (n : ℕ) (rest buf buf' : List ℕ) → ShowsContent old mid → HandsOut mid.place mid.reading (take n (shown mid.place mid.reading)) new.place new.reading
+    → new.name ≡ mid.name → new.fault ≡ mid.fault → rest ≡ shown mid.place mid.reading → n ≡ min (length rest) (length buf) → buf' ≡ take n rest ++ drop n buf
+    → ReadsBytes old new (take n buf') × (n ≡ 0 → length buf' ≡ 0)
+reads_bytes old mid new n rest buf buf' s h name fault r m b =
+    let part : length (take n rest) ≡ n = length-take-le n rest (omega arith) in
+    let got : take n buf' ≡ take n (shown mid.place mid.reading) =
+    ap (take n) b ∙ take-append-le n (take n rest) (drop n buf) (omega arith) ∙ take_all n (take n rest) (omega arith) ∙ ap (take n) r in (
+      record {
+        content = rw got (content old.reading.to_come mid.reading.to_come s.content h.content);
+        version = h.version ∙ s.version;
+        failures = h.failures ∙ s.failures;
+        left = let a = h.left in let c = s.left in omega arith;
+        held = ap (λ (x : Held). record x { names = new.name ∷ x.names }) h.held ∙ ap (λ k. record mid.reading.held { names = k ∷ mid.reading.held.names }) name ∙ s.held;
+        fault = fault ∙ s.fault;
+      },
+      λ z. let some = s.some in let l = ap length r in omega (arith, ap length b, length-append (take n rest) (drop n buf), length-drop n buf),
+    )
+  where
+    content : (a b : Option Pieces)
+        → IfSome a (λ p. IsFirstOf old p → (q : Pieces) × (b ≡ Some q) × IsFirstOf mid q × (side_content mid q ≡ side_content old p))
+        → IfSome b (λ p. IsFirstOf mid p → (q : Pieces) × (new.reading.to_come ≡ Some q) × IsFirstOf new q × (side_content mid p ≡ take n (shown mid.place mid.reading) ++ side_content new q))
+        → IfSome a (λ p. IsFirstOf old p → (q : Pieces) × (new.reading.to_come ≡ Some q) × IsFirstOf new q × (side_content old p ≡ take n (shown mid.place mid.reading) ++ side_content new q))
+    content None b f k = tt
+    content (Some p) None f k = λ z. absurd (let x = (f z).1 in cc)
+    content (Some p) (Some y) f k = λ z.
+        let m = f z in
+        let e : y ≡ m.0 = let x = m.1 in cc in
+        let w = k (subst (IsFirstOf mid) (sym e) m.2) in
+        (w.0, w.1, w.2, sym m.3 ∙ ap (side_content mid) (sym e) ∙ w.3)
+
+pub none_of : (o : Option ℕ) → is_some o ≡ false → o ≡ None
+none_of None e = refl
+none_of (Some n) e = absurd (let x = e in cc)
+
+pub fills_either : (old new : Side) (more : Bool) → Fills old new (Ok more) → ShowsContent old new ⊎ EndsContent old new
+fills_either old new true h = inl h
+fills_either old new false h = inr h

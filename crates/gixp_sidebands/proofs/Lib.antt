@@ -1,0 +1,5 @@
+mod PieceLemmas
+mod BandLemmas
+mod ContentLemmas
+mod TellLemmas
+mod BandItemLemmas

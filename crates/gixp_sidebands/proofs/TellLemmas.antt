@@ -1,0 +1,295 @@
+-- What bands 2 and 3 tell, call by call.
+use Rattle.std.proofs.Common.{◌≡◌, ℕ, inl, inr, Bool, true, false, List, [], ◌∷◌, ◌++◌, refl, sym, ap, subst, ◌∙◌, Option, Some, None, IfSome, IsSome, Err, append_assoc}
+use Rattle.std.specs.declared.io.ErrorKind.{ErrorKind}
+use Rattle.std.specs.declared.io.ErrorKind.TheVariants.{UnexpectedEof}
+use Rattle.gixp_wire.specs.declared.protocol.Protocol.{Protocol}
+use Rattle.gixp_wire.specs.declared.protocol.MessageKind.{MessageKind}
+use Rattle.gixp_sidebands.specs.declared.sidebands.band.Band.TheVariants.{Empty, Content, Text}
+use Rattle.gixp_wire.specs.declared.read.Error.{Error}
+use Rattle.gixp_wire.specs.declared.read.Error.TheVariants.{Io, Decode, Server, UnexpectedFrame, NotUtf8, BadBand, Interrupted, Memory}
+use Rattle.gixp_wire.specs.Pieces.{Refusal, io, decode, server, unexpected_frame, not_utf8, bad_band, interrupted, memory, Piece, line, mark, Pieces, no_pieces}
+use Rattle.gixp_wire.specs.Items.{is_stop}
+use Rattle.gixp_wire.specs.Lines.{gives, stops, refuses, next_from, next_of}
+use Rattle.gixp_wire.specs.Reading.{Reading, TakesLine, ShowsLine, AtStop, Refuses, Fails, Stays, IsPlain, refusal_of, is_end}
+use Rattle.gixp_sidebands.specs.Bands.{band_of, Message, message_in, messages_line, messages_from, messages_of, messages_left, is_held, is_begun}
+use Rattle.gixp_sidebands.specs.Telling.{Listener, TellsThen, Tells, ToldTo, ToldUnless, ToldBy, Told, TellsPacket}
+use Rattle.gixp_sidebands.proofs.PieceLemmas.{mark_not_gives}
+use Rattle.gixp_sidebands.proofs.ContentLemmas.{holds_line, content_gives}
+
+-- the messages by what comes next
+messages_gives : (v : Protocol) (list : List Piece) (end : Refusal) (text : List ℕ) (q : Pieces) → next_from v list end ≡ gives text q
+    → messages_from list ≡ messages_line (band_of text) text (messages_of q)
+messages_gives v [] end text q h = cc
+messages_gives v (line t ∷ ps) end text q h =
+    let p : Pieces = record { list = ps; end = end } in
+    let e1 : t ≡ text = cc in
+    let e2 : p ≡ q = cc in
+    rw (← e1, ← e2) refl
+messages_gives v (mark kind ∷ ps) end text q h = absurd (mark_not_gives (is_stop v kind) kind (record { list = ps; end = end }) q unexpected_frame text h)
+
+messages_stops : (v : Protocol) (list : List Piece) (end : Refusal) (kind : MessageKind) (q : Pieces) → next_from v list end ≡ stops kind q → messages_from list ≡ []
+messages_stops v [] end kind q h = refl
+messages_stops v (line t ∷ ps) end kind q h = cc
+messages_stops v (mark k ∷ ps) end kind q h = refl
+
+messages_refuses : (v : Protocol) (list : List Piece) (end : Refusal) (e : Refusal) → next_from v list end ≡ refuses e → messages_from list ≡ []
+messages_refuses v [] end e h = refl
+messages_refuses v (line t ∷ ps) end e h = cc
+messages_refuses v (mark k ∷ ps) end e h = refl
+
+at_none : (s : Option MessageKind) (p : Pieces) → s ≡ None → messages_left s p ≡ messages_of p
+at_none s p e = ap (λ x. messages_left x p) e
+
+at_some : (s : Option MessageKind) (kind : MessageKind) (p : Pieces) → s ≡ Some kind → messages_left s p ≡ []
+at_some s kind p e = ap (λ x. messages_left x p) e
+
+at_stop : (s : Option MessageKind) (p : Pieces) → IsSome s → messages_left s p ≡ []
+at_stop None p h = absurd (let x = h in cc)
+at_stop (Some kind) p h = refl
+
+-- what is known of a value behind an option that is known
+known_at : (o : Option Pieces) (q : Pieces) (P : Pieces → Type 0) → o ≡ Some q → IfSome o P → P q
+known_at None q P e h = absurd (let x = e in cc)
+known_at (Some p) q P e h = let same : p ≡ q = cc in subst P same h
+
+module _ {P I : Type 0} (hears : P → Bool → List ℕ → P → Type 0) (says : I → Bool → I → Type 0) where
+  tells-more : (ms : List Message) (m : Message) (a b c : Listener P I) → Tells hears says ms a b → TellsThen hears says m false b c → Tells hears says (ms ++ m ∷ []) a c
+  tells-more [] m a b c h t = (c, subst (λ (x : Listener P I). TellsThen hears says m false x c) h t, refl)
+  tells-more (n ∷ ms) m a b c h t = (h.0, h.1, tells-more ms m h.0 b c h.2 t)
+
+  -- what was told so far, and is still to come from `now`, is so from `new`
+  step : (o now new : Reading) (a b c : Listener P I) → Told hears says true None o now a b
+      → ((p q : Pieces) → ToldTo hears says o now a b p q → (r : Pieces) × ToldTo hears says o new a c p r)
+      → Told hears says true None o new a c
+  step o now new a b c h f = at o.to_come h
+    where
+      at : (x : Option Pieces) → IfSome x (ToldBy hears says true None o now a b) → IfSome x (ToldBy hears says true None o new a c)
+      at None k = tt
+      at (Some p) k = f p k.0 k.1
+
+  pub told-start : (r : Reading) (a : Listener P I) → Told hears says true None r r a a
+  told-start r a = at r.to_come refl
+    where
+      at : (x : Option Pieces) → r.to_come ≡ x → IfSome x (ToldBy hears says true None r r a a)
+      at None e = tt
+      at (Some p) e = (p, record { to_come = e; told = []; messages = refl; tells = refl })
+
+  -- behind a packet of content
+  told-behind : (r new : Reading) (a : Listener P I) → band_of r.line ≡ Content → r.peeked ≡ true → TakesLine r new → Told hears says true None r new a a
+  told-behind r new a k p t = at r.to_come t.next
+    where
+      at : (x : Option Pieces) → IfSome x (λ p. (q : Pieces) × (new.to_come ≡ Some q) × (next_of r.version p ≡ gives new.line q)) → IfSome x (ToldBy hears says true None r new a a)
+      at None n = tt
+      at (Some y) n =
+          let c = content_gives r.version y.list y.end new.line n.0 n.2 (ap band_of (t.again p) ∙ k) in
+          (n.0, record { to_come = n.1; told = []; messages = at_none r.stopped y t.running ∙ c.1 ∙ sym (at_none new.stopped n.0 t.stopped); tells = refl })
+
+  -- at the start of a call
+  pub told-init : (place : Option ℕ) (r new : Reading) (a b : Listener P I) → b ≡ a → is_held place r ≡ true → (is_begun place ≡ true → TakesLine r new) → (is_begun place ≡ false → new ≡ r)
+      → Told hears says true None r new a b
+  told-init place r new a b same held begun fresh = subst (λ (x : Listener P I). Told hears says true None r new a x) (sym same) (at place held begun fresh)
+    where
+      stays : new ≡ r → Told hears says true None r new a a
+      stays e = subst (λ (x : Reading). Told hears says true None r x a a) (sym e) (told-start r a)
+
+      at : (place : Option ℕ) → is_held place r ≡ true → (is_begun place ≡ true → TakesLine r new) → (is_begun place ≡ false → new ≡ r) → Told hears says true None r new a a
+      at None h t f = stays (f refl)
+      at (Some n) h t f = by (is_begun (Some n)) refl
+        where
+          by : (b : Bool) → is_begun (Some n) ≡ b → Told hears says true None r new a a
+          by false e = stays (f e)
+          by true e = let l = holds_line n r h in told-behind r new a l.content l.peeked (t e)
+
+  -- a line is peeked at
+  pub told-shown : (o now new : Reading) (a b : Listener P I) → Told hears says true None o now a b → ShowsLine now new → Told hears says true None o new a b
+  told-shown o now new a b h s = step o now new a b b h (λ p q k. (
+    q,
+    record {
+      to_come = (known_at now.to_come q (λ p. (r : Pieces) × (new.to_come ≡ Some p) × (next_of now.version p ≡ gives new.line r)) k.to_come s.next).1;
+      told = k.told;
+      messages = k.messages ∙ ap (λ x. k.told ++ messages_left x q) (s.running ∙ sym s.stopped);
+      tells = k.tells;
+    },
+  ))
+
+  -- a line is taken
+  told-taken : (o now mid new : Reading) (p q : Pieces) → now.to_come ≡ Some q → ShowsLine now mid → TakesLine mid new
+      → (r : Pieces) × (new.to_come ≡ Some r) × (messages_left now.stopped q ≡ messages_line (band_of mid.line) mid.line (messages_left new.stopped r))
+  told-taken o now mid new p q e s t =
+      let m = known_at now.to_come q (λ p. (r : Pieces) × (mid.to_come ≡ Some p) × (next_of now.version p ≡ gives mid.line r)) e s.next in
+      let n = known_at mid.to_come q (λ p. (r : Pieces) × (new.to_come ≡ Some r) × (next_of mid.version p ≡ gives new.line r)) m.1 t.next in
+      let same : new.line ≡ mid.line = t.again s.peeked in (
+        n.0,
+        n.1,
+        at_none now.stopped q s.running ∙ messages_gives mid.version q.list q.end new.line n.0 n.2
+            ∙ ap (λ l. messages_line (band_of l) l (messages_of n.0)) same ∙ ap (messages_line (band_of mid.line) mid.line) (sym (at_none new.stopped n.0 t.stopped)),
+      )
+
+  -- a line that tells nothing is taken
+  pub told-empty : (o now mid new : Reading) (a b : Listener P I) → Told hears says true None o now a b → ShowsLine now mid → band_of mid.line ≡ Empty → TakesLine mid new
+      → Told hears says true None o new a b
+  told-empty o now mid new a b h s k t = step o now new a b b h (λ p q w.
+      let n = told-taken o now mid new p q w.to_come s t in
+      (n.0, record { to_come = n.1; told = w.told; messages = w.messages ∙ ap (λ x. w.told ++ x) (n.2 ∙ ap (λ k. messages_line k mid.line (messages_left new.stopped n.0)) k); tells = w.tells }))
+
+  -- a message is told and its packet taken
+  pub told-text : (o now mid new : Reading) (a b c : Listener P I) (is_error : Bool) → Told hears says true None o now a b → ShowsLine now mid → band_of mid.line ≡ Text is_error → TakesLine mid new
+      → TellsThen hears says (message_in is_error mid.line) false b c → Told hears says true None o new a c
+  told-text o now mid new a b c is_error h s k t w = step o now new a b c h (λ p q v.
+      let n = told-taken o now mid new p q v.to_come s t in
+      let m = message_in is_error mid.line in
+      let rest = messages_left new.stopped n.0 in (
+        n.0,
+        record {
+          to_come = n.1;
+          told = v.told ++ m ∷ [];
+          messages = v.messages ∙ ap (λ x. v.told ++ x) (n.2 ∙ ap (λ k. messages_line k mid.line rest) k) ∙ sym (append_assoc v.told (m ∷ []) rest);
+          tells = tells-more v.told m a b c v.tells w;
+        },
+      ))
+
+  -- a message is told, its packet taken, and the interrupt says to stop
+  told-until : (plain : Bool) (o now mid new : Reading) (a b c : Listener P I) (is_error : Bool) → Told hears says true None o now a b → ShowsLine now mid → band_of mid.line ≡ Text is_error → TakesLine mid new
+      → TellsThen hears says (message_in is_error mid.line) true b c → Told hears says plain (Some interrupted) o new a c
+  told-until plain o now mid new a b c is_error h s k t w = at o.to_come h
+    where
+      at : (x : Option Pieces) → IfSome x (ToldBy hears says true None o now a b) → IfSome x (ToldBy hears says plain (Some interrupted) o new a c)
+      at None h = tt
+      at (Some p) h =
+          let v = h.1 in
+          let n = told-taken o now mid new p h.0 v.to_come s t in
+          let rest = messages_left new.stopped n.0 in (
+            n.0,
+            inl (record {
+              to_come = n.1;
+              told = v.told;
+              last = message_in is_error mid.line;
+              messages = v.messages ∙ ap (λ x. v.told ++ x) (n.2 ∙ ap (λ k. messages_line k mid.line rest) k);
+              before = b;
+              tells = v.tells;
+              stops = w;
+            }),
+          )
+
+  -- memory ran out for a text
+  told-but : (plain : Bool) (o now : Reading) (a b c : Listener P I) → Told hears says true None o now a b → c.interrupt ≡ b.interrupt → Told hears says plain (Some memory) o now a c
+  told-but plain o now a b c h e = at o.to_come h
+    where
+      at : (x : Option Pieces) → IfSome x (ToldBy hears says true None o now a b) → IfSome x (ToldBy hears says plain (Some memory) o now a c)
+      at None h = tt
+      at (Some p) h = (h.0, record { before = b; told = h.1; interrupt = e })
+
+  -- a packet was told or not
+  pub told-tell : (X : Type 0) (plain : Bool) (o now mid new : Reading) (a b c : Listener P I) (is_error : Bool) (e : Error) → Told hears says true None o now a b → ShowsLine now mid → band_of mid.line ≡ Text is_error
+      → TellsPacket hears says {X = X} (message_in is_error mid.line) mid new b c (Err e) → Told hears says plain (Some (refusal_of e)) o new a c
+  told-tell X plain o now mid new a b c is_error Interrupted h s k t = told-until plain o now mid new a b c is_error h s k t.0 t.1
+  told-tell X plain o now mid new a b c is_error Memory h s k t =
+      subst (λ (r : Reading). Told hears says plain (Some memory) o r a c) (sym t.0) (told-but plain o mid a b c (told-shown o now mid a b h s) t.1)
+  told-tell X plain o now mid new a b c is_error (Io kind) h s k t = absurd t
+  told-tell X plain o now mid new a b c is_error (Decode x) h s k t = absurd t
+  told-tell X plain o now mid new a b c is_error (Server x) h s k t = absurd t
+  told-tell X plain o now mid new a b c is_error UnexpectedFrame h s k t = absurd t
+  told-tell X plain o now mid new a b c is_error NotUtf8 h s k t = absurd t
+  told-tell X plain o now mid new a b c is_error (BadBand x) h s k t = absurd t
+
+  -- nothing is lost
+  told-stays : (o now new : Reading) (a b : Listener P I) → Told hears says true None o now a b → Stays now new → Told hears says true None o new a b
+  told-stays o now new a b h s = step o now new a b b h (λ p q k. (
+    q,
+    record {
+      to_come = known_at now.to_come q (λ p. new.to_come ≡ Some p) k.to_come s.to_come;
+      told = k.told;
+      messages = k.messages ∙ ap (λ x. k.told ++ messages_left x q) (sym s.stopped);
+      tells = k.tells;
+    },
+  ))
+
+  -- a stop is told
+  pub told-stop : (o now new : Reading) (a b : Listener P I) → Told hears says true None o now a b → AtStop now new → Told hears says true None o new a b
+  told-stop o now new a b h (inl s) = told-stays o now new a b h s.stays
+  told-stop o now new a b h (inr s) = step o now new a b b h (λ p q k.
+      let t = s.1 in
+      let n = known_at now.to_come q (λ p. (r : Pieces) × (new.to_come ≡ Some r) × (next_of now.version p ≡ stops s.0 r)) k.to_come t.next in (
+        n.0,
+        record {
+          to_come = n.1;
+          told = k.told;
+          messages = k.messages ∙ ap (λ x. k.told ++ x) (at_none now.stopped q t.running ∙ messages_stops now.version q.list q.end s.0 n.0 n.2 ∙ sym (at_some new.stopped s.0 n.0 t.stopped));
+          tells = k.tells;
+        },
+      ))
+
+  told-refuses : (o now new : Reading) (a b : Listener P I) (e : Refusal) → Told hears says true None o now a b → Refuses now new e → Told hears says true None o new a b
+  told-refuses o now new a b e h r = step o now new a b b h (λ p q k.
+      let n = known_at now.to_come q (λ p. (new.to_come ≡ Some (no_pieces e)) × (next_of now.version p ≡ refuses e)) k.to_come r.next in (
+        no_pieces e,
+        record {
+          to_come = n.0;
+          told = k.told;
+          messages = k.messages ∙ ap (λ x. k.told ++ x) (at_none now.stopped q r.running ∙ messages_refuses now.version q.list q.end e n.1 ∙ sym (at_none new.stopped (no_pieces e) r.stopped));
+          tells = k.tells;
+        },
+      ))
+
+  -- whatever the refusal is that left what is to come
+  whole : (plain : Bool) (e : Refusal) (o new : Reading) (a b : Listener P I) → (e ≡ interrupted → plain ≡ false) → Told hears says true None o new a b → Told hears says plain (Some e) o new a b
+  whole plain e o new a b f h = at o.to_come h
+    where
+      unless : (c : Bool) (p : Pieces) → (q : Pieces) × ToldTo hears says o new a b p q → ToldUnless hears says c o new a b p
+      unless false p k = k
+      unless true p k = record { told = k.1.told; rest = messages_left new.stopped k.0; messages = k.1.messages; tells = k.1.tells }
+
+      by : (e : Refusal) → (e ≡ interrupted → plain ≡ false) → (p : Pieces) → (q : Pieces) × ToldTo hears says o new a b p q → ToldBy hears says plain (Some e) o new a b p
+      by (io kind) f p k = unless (is_end kind) p k
+      by interrupted f p k = (k.0, inr (f refl, k.1))
+      by memory f p k = (k.0, record { before = b; told = k.1; interrupt = refl })
+      by (decode x) f p k = k
+      by (server m) f p k = k
+      by unexpected_frame f p k = k
+      by not_utf8 f p k = k
+      by (bad_band x) f p k = k
+
+      at : (x : Option Pieces) → IfSome x (ToldBy hears says true None o new a b) → IfSome x (ToldBy hears says plain (Some e) o new a b)
+      at None h = tt
+      at (Some p) h = by e f p h
+
+  -- the stream broke off
+  broken : (plain : Bool) (kind : ErrorKind) (o now new : Reading) (a b : Listener P I) → is_end kind ≡ true → Told hears says true None o now a b → Told hears says plain (Some (io kind)) o new a b
+  broken plain kind o now new a b e h = at o.to_come h
+    where
+      at : (x : Option Pieces) → IfSome x (ToldBy hears says true None o now a b) → IfSome x (ToldBy hears says plain (Some (io kind)) o new a b)
+      at None h = tt
+      at (Some p) h = rw e (record { told = h.1.told; rest = messages_left now.stopped h.0; messages = h.1.messages; tells = h.1.tells })
+
+  not_plain : (plain : Bool) (new : Reading) (e : Refusal) → (plain ≡ true → IsPlain new e) → e ≡ interrupted → plain ≡ false
+  not_plain false new e f i = refl
+  not_plain true new e f i = absurd (subst (IsPlain new) i (f refl))
+
+  -- the reader below was refused
+  pub told-fails : (plain : Bool) (e : Refusal) (o now new : Reading) (a b : Listener P I) → Told hears says true None o now a b → Fails now new e → (plain ≡ true → IsPlain new e)
+      → Told hears says plain (Some e) o new a b
+  told-fails plain e o now new a b h (inl r) f = whole plain e o new a b (not_plain plain new e f) (told-refuses o now new a b e h r)
+  told-fails plain e o now new a b h (inr (inl r)) f = whole plain e o new a b (not_plain plain new e f) (told-stays o now new a b h r.stays)
+  told-fails plain e o now new a b h (inr (inr r)) f = at e r.refusal
+    where
+      at : (e : Refusal) → e ≡ io UnexpectedEof → Told hears says plain (Some e) o new a b
+      at (io kind) i = broken plain kind o now new a b (let k : kind ≡ UnexpectedEof = cc in ap is_end k) h
+      at (decode x) i = absurd (let j = i in cc)
+      at (server x) i = absurd (let j = i in cc)
+      at unexpected_frame i = absurd (let j = i in cc)
+      at not_utf8 i = absurd (let j = i in cc)
+      at (bad_band x) i = absurd (let j = i in cc)
+      at interrupted i = absurd (let j = i in cc)
+      at memory i = absurd (let j = i in cc)
+
+  -- a band that there isn't
+  pub told-band : (plain : Bool) (band : ℕ) (o now new : Reading) (a b : Listener P I) → Told hears says true None o now a b → ShowsLine now new → Told hears says plain (Some (bad_band band)) o new a b
+  told-band plain band o now new a b h s = whole plain (bad_band band) o new a b (λ e. absurd (let i = e in cc)) (told-shown o now new a b h s)
+
+  -- what is to come is known where it was
+  pub told-known : (o now : Reading) (a b : Listener P I) → Told hears says true None o now a b → IfSome o.to_come (λ p. (q : Pieces) × (now.to_come ≡ Some q))
+  told-known o now a b h = at o.to_come h
+    where
+      at : (x : Option Pieces) → IfSome x (ToldBy hears says true None o now a b) → IfSome x (λ p. (q : Pieces) × (now.to_come ≡ Some q))
+      at None h = tt
+      at (Some p) h = (h.0, h.1.to_come)

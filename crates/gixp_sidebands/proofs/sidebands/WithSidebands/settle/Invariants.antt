@@ -1,0 +1,20 @@
+use Rattle.std.proofs.Common.{◌≡◌, None}
+use Rattle.gixp_sidebands.specs.Telling.{Told}
+use Rattle.gixp_sidebands.specs.Sidebands.{sidebands_reading, listener}
+use Rattle.gixp_sidebands.proofs.BandLemmas.{Skipping}
+use Rattle.gixp_sidebands.proofs.sidebands.WithSidebands.settle.Given as goal
+
+abbrev pub invariant-packets : goal.invariant-packets
+invariant-packets g l =
+    let reading = g.T.ExtendedBufRead.reading in
+    record {
+      skips : Skipping (sidebands_reading reading l.fn.self) l.self.front.at.ghost_name (reading l.self.front.at.now);
+      told : Told g.P.BandText.hears g.I.Interrupt.says g.T.ExtendedBufRead.is_plain None (reading l.fn.self.front.at.now) (reading l.self.front.at.now) (listener l.fn.self) (listener l.self);
+      same : l.self.front.at.ghost_name ≡ l.fn.self.front.at.ghost_name;
+      interrupt : l.self.interrupt.ghost_name ≡ l.fn.self.interrupt.ghost_name;
+      fault : l.self.fault ≡ l.fn.self.fault;
+      place : l.self.front.place ≡ None;
+    }
+
+abbrev pub decreases-packets : goal.decreases-packets
+decreases-packets g l = (g.T.ExtendedBufRead.reading l.self.front.at.now).left

@@ -1,0 +1,8 @@
+pub use Rattle.gixp_wire.specs.Held
+pub use Rattle.gixp_wire.specs.Items
+pub use Rattle.gixp_wire.specs.Lines
+pub use Rattle.gixp_wire.specs.Pieces
+pub use Rattle.gixp_wire.specs.Reading
+pub mod Bands
+pub mod Telling
+pub mod Sidebands

@@ -1,0 +1,86 @@
+-- To whom bands 2 and 3 are told, and who is asked behind each of their packets (gitprotocol-pack, "Packfile Data").
+use Rattle.std.specs.Prelude.{◌≡◌, ℕ, ◌⊎◌, Bool, true, false, List, [], ◌∷◌, ◌++◌, Option, Some, None, IfSome, Result, Ok, Err}
+use Rattle.gixp_wire.specs.declared.read.Error.{Error}
+use Rattle.gixp_wire.specs.declared.read.Error.TheVariants.{Interrupted, Memory}
+use Rattle.gixp_wire.specs.Pieces.{Refusal, io, memory, interrupted, Pieces}
+use Rattle.gixp_wire.specs.Reading.{Reading, TakesLine, refusal_of, is_end}
+use Rattle.gixp_sidebands.specs.Bands.{Message, messages_left}
+
+-- the listener and the interrupt, as a call leaves them
+pub record Listener (P I : Type 0) : Type 0 where
+  pub progress : P
+  pub interrupt : I
+
+module _ {P I : Type 0} (hears : P → Bool → List ℕ → P → Type 0) (says : I → Bool → I → Type 0) where
+  -- a text is handed on unless it is empty
+  abbrev pub TellsText : Bool → List ℕ → P → P → Type 0
+  TellsText is_error [] p q = q ≡ p
+  TellsText is_error (x ∷ xs) p q = hears p is_error (x ∷ xs) q
+
+  -- a message is told, and then the interrupt answers this
+  abbrev pub TellsThen : Message → Bool → Listener P I → Listener P I → Type 0
+  TellsThen m answer a b = TellsText m.is_error m.text a.progress b.progress × says a.interrupt answer b.interrupt
+
+  -- these messages are told in a row, and behind each the interrupt says to go on
+  abbrev pub Tells : List Message → Listener P I → Listener P I → Type 0
+  Tells [] a b = b ≡ a
+  Tells (m ∷ ms) a c = (b : Listener P I) × TellsThen m false a b × Tells ms b c
+
+  -- the messages up to what is left were told
+  pub record ToldTo (old new : Reading) (a b : Listener P I) (p q : Pieces) : Type 0 where
+    pub to_come : new.to_come ≡ Some q
+    pub told : List Message
+    pub messages : messages_left old.stopped p ≡ told ++ messages_left new.stopped q
+    pub tells : Tells told a b
+
+  -- and one more, behind which the interrupt said to stop
+  pub record ToldUntil (old new : Reading) (a c : Listener P I) (p q : Pieces) : Type 0 where
+    pub to_come : new.to_come ≡ Some q
+    pub told : List Message
+    pub last : Message
+    pub messages : messages_left old.stopped p ≡ told ++ last ∷ messages_left new.stopped q
+    pub before : Listener P I
+    pub tells : Tells told a before
+    pub stops : TellsThen last true before c
+
+  -- the messages up to what is left were told, and what the next made of the listener isn't known: it is still to come
+  pub record ToldBut (old new : Reading) (a c : Listener P I) (p q : Pieces) : Type 0 where
+    pub before : Listener P I
+    pub told : ToldTo old new a before p q
+    pub interrupt : c.interrupt ≡ before.interrupt
+
+  -- some of the messages were told
+  pub record ToldSome (old : Reading) (a b : Listener P I) (p : Pieces) : Type 0 where
+    pub told : List Message
+    pub rest : List Message
+    pub messages : messages_left old.stopped p ≡ told ++ rest
+    pub tells : Tells told a b
+
+  -- the messages up to what is left were told, or only some where the stream broke off
+  abbrev pub ToldUnless : Bool → Reading → Reading → Listener P I → Listener P I → Pieces → Type 0
+  ToldUnless true old new a b p = ToldSome old a b p
+  ToldUnless false old new a b p = (q : Pieces) × ToldTo old new a b p q
+
+  -- what a call told, by its refusal; a reader below that isn't plain may itself be interrupted
+  abbrev pub ToldBy : Bool → Option Refusal → Reading → Reading → Listener P I → Listener P I → Pieces → Type 0
+  ToldBy plain None old new a b p = (q : Pieces) × ToldTo old new a b p q
+  ToldBy plain (Some interrupted) old new a b p = (q : Pieces) × (ToldUntil old new a b p q ⊎ ((plain ≡ false) × ToldTo old new a b p q))
+  ToldBy plain (Some memory) old new a b p = (q : Pieces) × ToldBut old new a b p q
+  ToldBy plain (Some (io kind)) old new a b p = ToldUnless (is_end kind) old new a b p
+  ToldBy plain (Some e) old new a b p = (q : Pieces) × ToldTo old new a b p q
+
+  -- the same, where the pieces to come are known
+  abbrev pub Told : Bool → Option Refusal → Reading → Reading → Listener P I → Listener P I → Type 0
+  Told plain refusal old new a b = IfSome old.to_come (ToldBy plain refusal old new a b)
+
+  -- the packet that is peeked at was told and taken, or is still to come
+  abbrev pub TellsPacket : {X : Type 0} → Message → Reading → Reading → Listener P I → Listener P I → Result X Error → Type 0
+  TellsPacket m old new a b (Ok x) = TakesLine old new × TellsThen m false a b
+  TellsPacket m old new a b (Err Interrupted) = TakesLine old new × TellsThen m true a b
+  TellsPacket m old new a b (Err Memory) = (new ≡ old) × (b.interrupt ≡ a.interrupt)
+  TellsPacket m old new a b (Err e) = ⊥
+
+-- the refusal of a result
+abbrev pub refusal_in : {X : Type 0} → Result X Error → Option Refusal
+refusal_in (Ok x) = None
+refusal_in (Err e) = Some (refusal_of e)

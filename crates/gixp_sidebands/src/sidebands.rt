@@ -1,0 +1,352 @@
+//! The bands of a stream: content, and the texts of progress and errors.
+ghost use Rattle.std.specs.Prelude.{◌≡◌, ℕ, Bool, List, true, false, Option, None, Some, Result, Ok, OnOk, IfOk, IfSome, [], ◌++◌, drop, take, length, min};
+ghost use Rattle.std.specs.Option.{option_map};
+ghost use Rattle.std.specs.Io.{ReadsAtMost, StartsWith};
+ghost use Rattle.std.specs.Io.KnownBytes.{ReadConsumes};
+ghost use Rattle.std.specs.Io.BufRead.{DropsConsumable, FillKeeps, Rests};
+ghost use types.Logic.{sem};
+ghost use mir.Syntax.{named};
+ghost use Rattle.gixp_wire.specs.Reading.{Reads, Peeks, PlainIf, TakesLine, refusal_of, reset_to};
+ghost use Rattle.gixp_sidebands.specs.Bands.{Side, Fills, FillsLent, ShowsFirst, ReadsContent, ReadsBytes, is_begun, place_after, shown, message_in, io_kind};
+ghost use Rattle.gixp_sidebands.specs.Telling.{Told, TellsPacket, refusal_in};
+
+mod band;
+mod front;
+mod interrupt;
+
+use band::{Band, band_of, without_line_end};
+use front::Front;
+use gixp_wire::read::{Error, ExtendedBufRead};
+use gixp_wire::{MessageKind, Protocol};
+pub use interrupt::{Interrupt, InterruptFlag, NeverInterrupt};
+use std::alloc::AllocError;
+use std::io;
+use std::io::{BufRead, ErrorKind, Read};
+
+/// Takes the texts of bands 2 and 3 (gitprotocol-pack, "Packfile Data").
+pub trait BandText {
+    // What a listener was, and is after it took a text.
+    ghost hears: { Self → Bool → List ℕ → Self → Type 0 };
+
+    /// Takes the text of an error (band 3) or of progress (band 2), without one ending LF and
+    /// never empty.
+    ///
+    /// # Errors
+    ///
+    /// There was no memory. The same text comes again, so what was kept of it should go.
+    fn band_text(&mut self, is_error: bool, text: &[u8]) -> Result<(), AllocError>
+        ensures { OnOk result (hears self.old is_error text.now self.new) };
+}
+
+/// The content of a banded stream, and its texts on the way (gitprotocol-pack, "Packfile Data").
+///
+/// The first byte of each packet is its band: 1 for content, 2 for progress, 3 for the text of an
+/// error, which doesn't end the reading. It reads content as lines, as bytes, or both. A text goes to
+/// the listener, without one ending LF, unless it is empty; then its packet is taken, and the
+/// interrupt is asked. A packet of band 1 with nothing in it adds nothing.
+///
+/// `Read` and `BufRead` end at the stop and only there. A packet of content is taken from the
+/// transport once a byte of it was handed out; then its rest goes with the reader, whether that is
+/// dropped or gives the transport back, and a call for lines goes on behind it.
+///
+/// Beside the refusals of the transport there are `BadBand`, at a packet of no band, which is never
+/// taken, so that every reader over this transport answers the same; `Interrupted`, where the
+/// interrupt said so, after which the text isn't told again; and `Memory`, where the listener had
+/// none, after which the same text is told again.
+pub struct WithSidebands<'a, T: ExtendedBufRead, P, I> {
+    front: Front<'a, T>,
+    progress: P,
+    interrupt: &'a mut I,
+    // The refusal of the latest call of `Read` or `BufRead`.
+    fault: Option<Error>,
+}
+
+impl<'a, T: ExtendedBufRead, P: Drop, I> WithSidebands<'a, T, P, I> {
+    ghost use Rattle.gixp_sidebands.specs.Sidebands.{side};
+
+    /// Gives the transport back. A packet that was begun is taken.
+    pub fn into_transport(self) -> &'a mut T
+        ensures same { result.ghost_name ≡ (side T.reading self.entry).name }
+        ensures begun { is_begun (side T.reading self.entry).place ≡ true → TakesLine (side T.reading self.entry).reading (T.reading result.now) }
+        ensures fresh { is_begun (side T.reading self.entry).place ≡ false → result.now ≡ self.entry.front.at.now }
+    {
+        let WithSidebands {
+            front,
+            progress: _progress,
+            interrupt: _interrupt,
+            fault: _fault,
+        } = self;
+        front.into_inner()
+    }
+}
+
+impl<T: ExtendedBufRead, P: Drop, I> Drop for WithSidebands<'_, T, P, I> {
+    // A packet that was begun is taken.
+    fn drop(self) {
+        let WithSidebands {
+            front,
+            progress: _progress,
+            interrupt: _interrupt,
+            fault: _fault,
+        } = self;
+        let _ = front.into_inner();
+    }
+}
+
+impl<'a, T: ExtendedBufRead, P: BandText + Drop, I: Interrupt> WithSidebands<'a, T, P, I> {
+    ghost use Rattle.gixp_sidebands.specs.Sidebands.{side, sidebands_reading, listener};
+
+    /// Reads what is to come of a banded stream. It takes no memory, and reads nothing yet.
+    pub fn new(transport: &'a mut T, progress: P, interrupt: &'a mut I) -> Self
+        ensures side { side T.reading result ≡ record { place = None; name = transport.entry.ghost_name; reading = T.reading transport.old; fault = None } }
+        ensures transport { result.front.at.now ≡ transport.old }
+        ensures listener { listener result ≡ record { progress = progress; interrupt = interrupt.old } }
+        ensures interrupt { result.interrupt.ghost_name ≡ interrupt.entry.ghost_name }
+    {
+        WithSidebands {
+            front: Front::new(transport),
+            progress,
+            interrupt,
+            fault: None,
+        }
+    }
+
+    /// Asks the interrupt, for the one who reads.
+    pub fn interrupted(&mut self) -> bool
+        ensures says { I.says (listener self.old).interrupt result (listener self.new).interrupt }
+        ensures side { side T.reading self.new ≡ side T.reading self.old }
+        ensures progress { (listener self.new).progress ≡ (listener self.old).progress }
+        ensures interrupt { self.new.interrupt.ghost_name ≡ self.old.interrupt.ghost_name }
+    {
+        self.interrupt.is_interrupted()
+    }
+
+    /// The refusal of the latest call of `Read` or `BufRead`: none where that one succeeded, or
+    /// where there was none.
+    pub fn fault(&self) -> Option<&Error>
+        ensures { option_map (λ e. refusal_of e.now) result ≡ (side T.reading self.now).fault }
+    {
+        self.fault.as_ref()
+    }
+
+    /// Sees to it that bytes of content are at hand, which `buffer` then lends, and answers true; at
+    /// a stop false. Of content it takes nothing.
+    ///
+    /// # Errors
+    ///
+    /// Those of the transport and of the type, with `Io(kind)` as `kind`, `Memory` as `OutOfMemory`,
+    /// `Interrupted` as `Other` and all else as `InvalidData`. `fault` has the refusal itself.
+    pub fn fill(&mut self) -> io::Result<bool>
+        ensures fills { Fills (side T.reading self.old) (side T.reading self.new) result }
+        ensures told { Told P.hears I.says T.is_plain (side T.reading self.new).fault (side T.reading self.old).reading (side T.reading self.new).reading
+            (listener self.old) (listener self.new) }
+        ensures interrupt { self.new.interrupt.ghost_name ≡ self.old.interrupt.ghost_name }
+    {
+        self.fault = None;
+        if self.front.is_open() {
+            return Ok(true);
+        }
+        match self.settle() {
+            Ok(more) => Ok(more),
+            Err(e) => {
+                let error = io::Error::from(io_kind(&e));
+                self.fault = Some(e);
+                Err(error)
+            }
+        }
+    }
+
+    /// The bytes of content at hand, as `fill` and `fill_buf` leave them.
+    pub fn buffer(&self) -> &[u8]
+        ensures { result.now ≡ shown (side T.reading self.now).place (side T.reading self.now).reading }
+    {
+        self.front.rest()
+    }
+
+    // Tells the text of the packet that is peeked at, takes the packet, and asks the interrupt.
+    fn tell(&mut self, is_error: bool) -> Result<(), Error>
+        requires peeked { (T.reading self.old.front.at.now).peeked ≡ true }
+        requires nowhere { self.old.front.place ≡ None }
+        ensures tells { TellsPacket P.hears I.says (message_in is_error (T.reading self.old.front.at.now).line)
+            (T.reading self.old.front.at.now) (T.reading self.new.front.at.now) (listener self.old) (listener self.new) result }
+        ensures same { self.new.front.at.ghost_name ≡ self.old.front.at.ghost_name }
+        ensures interrupt { self.new.interrupt.ghost_name ≡ self.old.interrupt.ghost_name }
+        ensures fault { self.new.fault ≡ self.old.fault }
+        ensures place { self.new.front.place ≡ None }
+    {
+        let line = self.front.line();
+        let text = match line {
+            [_, text @ ..] => text,
+            [] => line,
+        };
+        let text = without_line_end(text);
+        if !text.is_empty() && self.progress.band_text(is_error, text).is_err() {
+            return Err(Error::Memory);
+        }
+        self.front.take();
+        if self.interrupt.is_interrupted() {
+            return Err(Error::Interrupted);
+        }
+        Ok(())
+    }
+
+    // Tells what stands before the next content, which is then peeked at.
+    fn settle(&mut self) -> Result<bool, Error>
+        ensures peeks { Peeks (sidebands_reading T.reading self.old) (sidebands_reading T.reading self.new) result }
+        ensures told { Told P.hears I.says T.is_plain (refusal_in result) (T.reading self.old.front.at.now) (T.reading self.new.front.at.now)
+            (listener self.old) (listener self.new) }
+        ensures same { self.new.front.at.ghost_name ≡ self.old.front.at.ghost_name }
+        ensures interrupt { self.new.interrupt.ghost_name ≡ self.old.interrupt.ghost_name }
+        ensures first { ShowsFirst (side T.reading self.old).reading (side T.reading self.new).reading result }
+        ensures fault { self.new.fault ≡ self.old.fault }
+        ensures place { self.new.front.place ≡ place_after result }
+    {
+        self.front.leave();
+        'packets: loop {
+            match self.front.peek() {
+                Ok(true) => {}
+                Ok(false) => return Ok(false),
+                Err(e) => return Err(e),
+            }
+            match band_of(self.front.line()) {
+                Band::Content => {
+                    self.front.open();
+                    return Ok(true);
+                }
+                Band::Unknown(band) => return Err(Error::BadBand(band)),
+                Band::Empty => self.front.take(),
+                Band::Text(is_error) => match self.tell(is_error) {
+                    Ok(()) => {}
+                    Err(e) => return Err(e),
+                },
+            }
+        }
+    }
+}
+
+impl<'a, T: ExtendedBufRead, P: BandText + Drop, I: Interrupt> ExtendedBufRead
+    for WithSidebands<'a, T, P, I> {
+    ghost use Rattle.gixp_sidebands.specs.Sidebands.{side, sidebands_reading, listener};
+
+    ghost reading = { sidebands_reading T.reading };
+
+    ghost is_plain = { false };
+
+    fn next_line(&mut self) -> Result<bool, Error>
+        ensures reads { Reads (sidebands_reading T.reading self.old) (sidebands_reading T.reading self.new) result }
+        ensures plain { PlainIf false (sidebands_reading T.reading self.new) result }
+        ensures told { Told P.hears I.says T.is_plain (refusal_in result) (side T.reading self.old).reading (side T.reading self.new).reading
+            (listener self.old) (listener self.new) }
+        ensures fault { (side T.reading self.new).fault ≡ (side T.reading self.old).fault }
+        ensures interrupt { self.new.interrupt.ghost_name ≡ self.old.interrupt.ghost_name }
+    {
+        match self.settle() {
+            Ok(true) => self.front.take(),
+            Ok(false) => return Ok(false),
+            Err(e) => return Err(e),
+        }
+        Ok(true)
+    }
+
+    fn peek_line(&mut self) -> Result<bool, Error>
+        ensures peeks { Peeks (sidebands_reading T.reading self.old) (sidebands_reading T.reading self.new) result }
+        ensures plain { PlainIf false (sidebands_reading T.reading self.new) result }
+        ensures told { Told P.hears I.says T.is_plain (refusal_in result) (side T.reading self.old).reading (side T.reading self.new).reading
+            (listener self.old) (listener self.new) }
+        ensures first { ShowsFirst (side T.reading self.old).reading (side T.reading self.new).reading result }
+        ensures place { (side T.reading self.new).place ≡ place_after result }
+        ensures fault { (side T.reading self.new).fault ≡ (side T.reading self.old).fault }
+        ensures interrupt { self.new.interrupt.ghost_name ≡ self.old.interrupt.ghost_name }
+    {
+        self.settle()
+    }
+
+    fn line(&self) -> &[u8] {
+        let line = self.front.line();
+        match line {
+            [_, content @ ..] => content,
+            [] => line,
+        }
+    }
+
+    fn stopped_at(&self) -> Option<MessageKind> {
+        self.front.stopped_at()
+    }
+
+    fn reset(&mut self, version: Protocol) {
+        self.front.reset(version);
+    }
+}
+
+impl<'a, T: ExtendedBufRead, P: BandText + Drop, I: Interrupt> Read for WithSidebands<'a, T, P, I> {
+    ghost use Rattle.gixp_sidebands.specs.Sidebands.{side, listener};
+
+    fn read(&mut self, buf: &mut [u8]) -> io::Result<usize>
+        ensures bound { ReadsAtMost result buf.new }
+        ensures bytes { ReadConsumes None None result buf.new }
+        ensures content { ReadsContent (side T.reading self.old) (side T.reading self.new) result buf.new }
+        ensures told { Told P.hears I.says T.is_plain (side T.reading self.new).fault (side T.reading self.old).reading (side T.reading self.new).reading
+            (listener self.old) (listener self.new) }
+        ensures interrupt { self.new.interrupt.ghost_name ≡ self.old.interrupt.ghost_name }
+    {
+        match self.fill() {
+            Ok(true) => {}
+            Ok(false) => return Ok(0),
+            Err(e) => return Err(e),
+        }
+        let count = copy_front(self.front.rest(), buf);
+        self.front.advance(count);
+        Ok(count)
+    }
+}
+
+impl<'a, T: ExtendedBufRead, P: BandText + Drop, I: Interrupt> BufRead
+    for WithSidebands<'a, T, P, I> {
+    ghost use Rattle.gixp_sidebands.specs.Sidebands.{side, listener};
+    ghost use Rattle.gixp_sidebands.specs.contracts.sidebands.WithSidebands.{the_row};
+
+    fn fill_buf(&mut self) -> io::Result<&[u8]>
+        ensures front { IfSome None (λ (xs : List ℕ). IfOk result (λ s. StartsWith xs s.now)) }
+        ensures end { IfSome None (λ (xs : List ℕ). IfOk result (λ s. length s.now ≡ 0 → xs ≡ [])) }
+        ensures* after_borrow { sem 𝓛 (Rests (the_row (record { mir = named 1; lft = [] }) T.row P.row I.row T.ExtendedBufRead) self.entry (λ new.
+            FillKeeps None None None result)) }
+        ensures shown { (new : Side) × FillsLent (side T.reading self.old) new result }
+    {
+        match self.fill() {
+            Ok(_) => Ok(self.front.rest()),
+            Err(e) => Err(e),
+        }
+    }
+
+    fn consume(&mut self, amount: usize)
+        ensures bytes { DropsConsumable None None None amount }
+        ensures content { ReadsBytes (side T.reading self.old) (side T.reading self.new) (take amount (shown (side T.reading self.old).place (side T.reading self.old).reading)) }
+        ensures told { listener self.new ≡ listener self.old }
+        ensures interrupt { self.new.interrupt.ghost_name ≡ self.old.interrupt.ghost_name }
+    {
+        self.fault = None;
+        self.front.advance(amount);
+    }
+}
+
+// Copies as many bytes as both have.
+fn copy_front(from: &[u8], to: &mut [u8]) -> usize
+    ensures count { result ≡ min (length from.now) (length to.old) }
+    ensures copied { to.new ≡ take result from.now ++ drop result to.old }
+{
+    let count = from.len().min(to.len());
+    to[..count].copy_from_slice(&from[..count]);
+    count
+}
+
+// The kind with which `Read` and `BufRead` answer a refusal.
+fn io_kind(e: &Error) -> ErrorKind
+    ensures { result ≡ io_kind (refusal_of e.now) }
+{
+    match e {
+        Error::Io(kind) => *kind,
+        Error::Memory => ErrorKind::OutOfMemory,
+        Error::Interrupted => ErrorKind::Other,
+        _ => ErrorKind::InvalidData,
+    }
+}

@@ -1,0 +1,40 @@
+//! What a banded line is.
+ghost use Rattle.std.specs.Prelude.{◌≡◌};
+ghost use Rattle.std.specs.Io.BufRead.{strip_last};
+ghost use Rattle.gixp_sidebands.specs.Bands.{band_of};
+
+/// What a line is to a reader of bands.
+#[derive(Clone, Copy, Debug, PartialEq, Eq, Drop)]
+pub(crate) enum Band {
+    /// Nothing, or band 1 with nothing behind it.
+    Empty,
+    /// Band 1 with bytes behind it.
+    Content,
+    /// Band 2, or band 3, which holds the text of an error.
+    Text(bool),
+    /// A first byte that is no band.
+    Unknown(u8),
+}
+
+/// What a line is, by its first byte.
+pub(crate) fn band_of(line: &[u8]) -> Band
+    ensures { result ≡ band_of line.now }
+{
+    match line {
+        [] | [1] => Band::Empty,
+        [1, ..] => Band::Content,
+        [2, ..] => Band::Text(false),
+        [3, ..] => Band::Text(true),
+        [band, ..] => Band::Unknown(*band),
+    }
+}
+
+/// The text without one ending LF.
+pub(crate) fn without_line_end(text: &[u8]) -> &[u8]
+    ensures { result.now ≡ strip_last 10 text.now }
+{
+    match text {
+        [front @ .., b'\n'] => front,
+        _ => text,
+    }
+}

@@ -1,5 +1,0 @@
-use Rattle.gixp_wire.proofs.BandItemLemmas.{content_items}
-use Rattle.gixp_wire.proofs.laws.content_is_of_items.Goals as goal
-
-pub returns : goal.returns
-returns c = λ v ps. content_items v ps.list ps.end

@@ -1,5 +1,0 @@
-use Rattle.gixp_wire.proofs.BandItemLemmas.{messages_items}
-use Rattle.gixp_wire.proofs.laws.messages_are_of_items.Goals as goal
-
-pub returns : goal.returns
-returns c = λ v ps. messages_items v ps.list ps.end

@@ -1,8 +1,0 @@
-use Rattle.std.proofs.Common.{refl}
-use Rattle.gixp_wire.proofs.ContentLemmas.{fills_either}
-use Rattle.gixp_wire.proofs.sidebands.WithSidebandsBufRead.fill_buf.Goals as goal
-
-pub returns-in-Ok : goal.returns-in-Ok
-returns-in-Ok g c =
-    let h = fills_either _ _ c.in-Ok.field-0 c.in-Ok.ensures.fills in
-    ((refl, λ _. tt, (tt, tt)), record { front = tt; end = tt; after_borrow = tt; shown = (_, (c.rest.ensures, h)) })

@@ -1,8 +1,0 @@
-use Rattle.std.proofs.Common.{refl, inl}
-use Rattle.gixp_wire.proofs.ContentLemmas.{reads_bytes}
-use Rattle.gixp_wire.proofs.sidebands.WithSidebandsRead.read.Goals as goal
-
-pub returns-clause-content : goal.returns-clause-content
-returns-clause-content g c =
-    let h = rw c.in-Ok-true.field-0-test at c.in-Ok-true.ensures.fills in
-    inl (reads_bytes _ _ _ c.copy_front-count.result c.rest.result.now c.args.buf.now _ h c.advance.ensures.hands_out c.advance.ensures.same refl c.rest.ensures c.copy_front-count.ensures.count c.copy_front-count.ensures.copied)
