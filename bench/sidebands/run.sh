@@ -1,5 +1,5 @@
 #!/bin/sh
-# Builds the benchmark beside a copy of the wire crate, in a temporary folder, proves it, and runs it.
+# Builds the benchmark beside a copy of the crates below it, in a temporary folder, proves it, and runs it.
 # Each run prints five lines; the smallest time of each kind is what counts.
 set -eu
 here=$(cd "$(dirname "$0")" && pwd)
@@ -8,9 +8,9 @@ room=$(mktemp -d)
 trap 'rm -rf "$room"' EXIT
 mkdir -p "$room/crates/sidebands_bench/src" "$room/crates/sidebands_bench/specs" "$room/crates/sidebands_bench/proofs"
 cp "$top/HANDLES" "$room/"
-grep -E '^gixp_wire:' "$top/crates.txt" > "$room/crates.txt"
-echo 'sidebands_bench: gixp_wire anyhow' >> "$room/crates.txt"
-cp -r "$top/crates/gixp_wire" "$room/crates/"
+grep -E '^gixp_(wire|sidebands):' "$top/crates.txt" > "$room/crates.txt"
+echo 'sidebands_bench: gixp_wire gixp_sidebands anyhow' >> "$room/crates.txt"
+cp -r "$top/crates/gixp_wire" "$top/crates/gixp_sidebands" "$room/crates/"
 cp "$here/main.rt.in" "$room/crates/sidebands_bench/src/main.rt"
 : > "$room/crates/sidebands_bench/specs/Lib.antt"
 : > "$room/crates/sidebands_bench/proofs/Lib.antt"

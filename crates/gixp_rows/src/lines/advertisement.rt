@@ -5,8 +5,9 @@ use gixp_lines::handshake::Ref;
 use gixp_lines::handshake::refs::{
     from_capabilities, from_v1_refs_received_as_part_of_handshake_and_capabilities, parse,
 };
-use gixp_wire::{Capabilities, ExtendedBufRead, LineReader, Protocol};
+use gixp_wire::{Bodies, Body, Capabilities, ExtendedBufRead, LineReader, Protocol, Service, Transport};
 use std::alloc::Global;
+use std::io::Read;
 use std::test::Fail;
 
 const A: &[u8] = b"0123456789012345678901234567890123456789";
@@ -66,22 +67,14 @@ const TAGGED_REFS: &[u8] =
 
 // A line, whose `$`, `%` and `&` stand for the ids A, B and C, as a frame.
 fn push_frame(alloc: Global, stream: &mut Vec<u8>, line: &[u8]) -> Result<(), Fail> {
-    let mut payload = Vec::new(alloc);
-    for byte in line {
-        match *byte {
-            b'$' => payload.extend_from_slice(A)?,
-            b'%' => payload.extend_from_slice(B)?,
-            b'&' => payload.extend_from_slice(C)?,
-            byte => payload.push(byte)?,
-        }
-    }
+    let payload = expanded(alloc, line)?;
     let digits = format!(in alloc; "{:04x}", payload.len().saturating_add(4))?;
     stream.extend_from_slice(digits.as_bytes())?;
-    stream.extend_from_slice(payload.as_slice())?;
+    stream.extend_from_slice(payload.as_bytes())?;
     Ok(())
 }
 
-fn push_ref(alloc: Global, text: &mut Vec<u8>, found: &Ref) -> Result<(), Fail> {
+fn push_ref(text: &mut Vec<u8>, found: &Ref) -> Result<(), Fail> {
     if let Ref::Symbolic { target, .. } = found {
         text.extend_from_slice(b"ref: ")?;
         text.extend_from_slice(target.as_bytes())?;
@@ -99,15 +92,17 @@ fn push_ref(alloc: Global, text: &mut Vec<u8>, found: &Ref) -> Result<(), Fail> 
             text.push(b'\n')?;
         }
     }
-    let _ = alloc;
     Ok(())
 }
 
 type Answer = Result<(Vec<Ref>, Vec<ShallowUpdate>), parse::Error>;
 
-fn read_stream(alloc: Global, stream: &[u8], capabilities: &Capabilities) -> Result<Answer, Fail> {
-    let mut bytes = stream;
-    let mut reader = LineReader::new(alloc, &mut bytes)?;
+fn read_from<R: Read>(
+    alloc: Global,
+    stream: &mut R,
+    capabilities: &Capabilities,
+) -> Result<Answer, Fail> {
+    let mut reader = LineReader::new(alloc, stream)?;
     reader.reset(Protocol::V1);
     Ok(from_v1_refs_received_as_part_of_handshake_and_capabilities(
         alloc,
@@ -129,7 +124,7 @@ fn shown(alloc: Global, answer: Answer) -> Result<BString, Fail> {
     match answer {
         Ok((refs, updates)) => {
             for found in &refs {
-                push_ref(alloc, &mut text, found)?;
+                push_ref(&mut text, found)?;
             }
             for update in &updates {
                 if let ShallowUpdate::Shallow(id) = update {
@@ -157,14 +152,16 @@ fn expanded(alloc: Global, text: &[u8]) -> Result<BString, Fail> {
     Ok(BString::new(out))
 }
 
-fn answer_to(alloc: Global, capabilities: &[u8], lines: &[&[u8]]) -> Result<BString, Fail> {
+// The answer to lines that `|` parts.
+fn answer_to(alloc: Global, capabilities: &str, lines: &str) -> Result<BString, Fail> {
     let mut stream = Vec::new(alloc);
-    for line in lines {
-        push_frame(alloc, &mut stream, line)?;
+    for line in lines.split('|') {
+        push_frame(alloc, &mut stream, line.as_bytes())?;
     }
     stream.extend_from_slice(b"0000")?;
-    let capabilities = capabilities_in(alloc, capabilities)?;
-    shown(alloc, read_stream(alloc, stream.as_slice(), &capabilities)?)
+    let capabilities = capabilities_in(alloc, capabilities.as_bytes())?;
+    let mut bytes = stream.as_slice();
+    shown(alloc, read_from(alloc, &mut bytes, &capabilities)?)
 }
 
 #[test]
@@ -172,125 +169,60 @@ fn reads_refs_and_updates(rt: HostRuntime) -> Result<(), Fail> {
     let a = rt.alloc();
     for (capabilities, lines, want) in [
         (
-            b"symref=HEAD:refs/heads/main symref=X:refs/heads/y".as_slice(),
-            [
-                b"$ HEAD".as_slice(),
-                b"$ refs/heads/main",
-                b"% refs/tags/v1",
-                b"& refs/tags/v1^{}",
-                b"shallow &",
-            ]
-            .as_slice(),
-            b"ref: refs/heads/main\tHEAD\n$\tHEAD\n$\trefs/heads/main\n%\trefs/tags/v1\n&\trefs/tags/v1^{}\nshallow &\n".as_slice(),
+            "symref=HEAD:refs/heads/main symref=X:refs/heads/y",
+            "$ HEAD|$ refs/heads/main|% refs/tags/v1|& refs/tags/v1^{}|shallow &",
+            "ref: refs/heads/main\tHEAD\n$\tHEAD\n$\trefs/heads/main\n%\trefs/tags/v1\n&\trefs/tags/v1^{}\nshallow &\n",
         ),
         (
-            b"symref=HEAD:refs/heads/main",
-            [b"$ HEAD\n".as_slice(), b"$ refs/heads/main\n"].as_slice(),
-            b"ref: refs/heads/main\tHEAD\n$\tHEAD\n$\trefs/heads/main\n",
+            "symref=HEAD:refs/heads/main",
+            "$ HEAD\n|$ refs/heads/main\n",
+            "ref: refs/heads/main\tHEAD\n$\tHEAD\n$\trefs/heads/main\n",
         ),
         (
-            b"symref=HEAD:refs/heads/a symref=HEAD:refs/heads/b symref=X:refs/heads/y",
-            [b"$ HEAD".as_slice(), b"% HEAD"].as_slice(),
-            b"ref: refs/heads/a\tHEAD\n$\tHEAD\nref: refs/heads/a\tHEAD\n%\tHEAD\n",
+            "symref=HEAD:refs/heads/a symref=HEAD:refs/heads/b symref=X:refs/heads/y",
+            "$ HEAD|% HEAD",
+            "ref: refs/heads/a\tHEAD\n$\tHEAD\nref: refs/heads/a\tHEAD\n%\tHEAD\n",
         ),
+        ("symref=HEAD:(null)", "$ HEAD", "$\tHEAD\n"),
         (
-            b"symref=HEAD:(null)",
-            [b"$ HEAD".as_slice()].as_slice(),
-            b"$\tHEAD\n",
+            "",
+            "% refs/tags/v1|shallow $|0000000000000000000000000000000000000000 capabilities^{}|& refs/tags/v1^{}",
+            "%\trefs/tags/v1\n&\trefs/tags/v1^{}\nshallow $\n",
         ),
-        (
-            b"",
-            [
-                b"% refs/tags/v1".as_slice(),
-                b"shallow $",
-                b"0000000000000000000000000000000000000000 capabilities^{}",
-                b"& refs/tags/v1^{}",
-            ]
-            .as_slice(),
-            b"%\trefs/tags/v1\n&\trefs/tags/v1^{}\nshallow $\n",
-        ),
-        (b"", [b"0 capabilities^{}".as_slice()].as_slice(), b""),
-        (b"", [b" capabilities^{}".as_slice()].as_slice(), b""),
+        ("", "0 capabilities^{}", ""),
+        ("", " capabilities^{}", ""),
     ] {
-        assert_eq!(rt; answer_to(a, capabilities, lines)?, expanded(a, want)?);
+        let want = expanded(a, want.as_bytes())?;
+        assert_eq!(rt; answer_to(a, capabilities, lines)?, want);
     }
     Ok(())
 }
+
+const NO_DIRECT_REF: &str =
+    "InvariantViolation { message: \"Expecting peeled refs to be preceded by direct refs\" }";
+
+const OTHER_BASE: &str = "InvariantViolation { message: \"Expecting peeled refs to have the same base path as the previous, unpeeled one\" }";
 
 #[test]
 fn refuses_at_the_earliest_line(rt: HostRuntime) -> Result<(), Fail> {
     let a = rt.alloc();
     for (capabilities, lines, want) in [
-        (
-            b"symref=HEAD:refs/heads/main".as_slice(),
-            [b"$ HEAD".as_slice(), b"$ HEAD^{}"].as_slice(),
-            "InvariantViolation { message: \"Expecting peeled refs to be preceded by direct refs\" }",
-        ),
-        (
-            b"symref=HEAD:(null)",
-            [b"$ HEAD".as_slice(), b"$ HEAD^{}"].as_slice(),
-            "InvariantViolation { message: \"Expecting peeled refs to be preceded by direct refs\" }",
-        ),
-        (
-            b"",
-            [b"$ a".as_slice(), b"% a^{}", b"% a^{}"].as_slice(),
-            "InvariantViolation { message: \"Expecting peeled refs to be preceded by direct refs\" }",
-        ),
-        (
-            b"",
-            [b"x a^{}".as_slice()].as_slice(),
-            "InvariantViolation { message: \"Expecting peeled refs to be preceded by direct refs\" }",
-        ),
-        (
-            b"",
-            [b"$ a".as_slice(), b"x b^{}", b"y"].as_slice(),
-            "InvariantViolation { message: \"Expecting peeled refs to have the same base path as the previous, unpeeled one\" }",
-        ),
-        (
-            b"",
-            [b"$ a".as_slice(), b"x a^{}"].as_slice(),
-            "Id(InvalidLength(1))",
-        ),
-        (
-            b"",
-            [b"y \n".as_slice()].as_slice(),
-            "MalformedV1RefLine(\"y\")",
-        ),
-        (
-            b"",
-            [b"\n".as_slice()].as_slice(),
-            "MalformedV1RefLine(\"\")",
-        ),
-        (
-            b"",
-            [b"shallow x".as_slice()].as_slice(),
-            "Id(InvalidLength(1))",
-        ),
-        (
-            b"",
-            [b"unborn x".as_slice()].as_slice(),
-            "Id(InvalidLength(6))",
-        ),
-        (
-            b"symref=HEAD:",
-            [b"y".as_slice()].as_slice(),
-            "MalformedSymref { symref: \"HEAD:\" }",
-        ),
-        (
-            b"symref=:x",
-            [b"y".as_slice()].as_slice(),
-            "MalformedSymref { symref: \":x\" }",
-        ),
-        (
-            b"symref=x symref=",
-            [b"y".as_slice()].as_slice(),
-            "MalformedSymref { symref: \"x\" }",
-        ),
+        ("symref=HEAD:refs/heads/main", "$ HEAD|$ HEAD^{}", NO_DIRECT_REF),
+        ("symref=HEAD:(null)", "$ HEAD|$ HEAD^{}", NO_DIRECT_REF),
+        ("", "$ a|% a^{}|% a^{}", NO_DIRECT_REF),
+        ("", "x a^{}", NO_DIRECT_REF),
+        ("", "$ a|x b^{}|y", OTHER_BASE),
+        ("", "$ a|x a^{}", "Id(InvalidLength(1))"),
+        ("", "y \n", "MalformedV1RefLine(\"y\")"),
+        ("", "\n", "MalformedV1RefLine(\"\")"),
+        ("", "shallow x", "Id(InvalidLength(1))"),
+        ("", "unborn x", "Id(InvalidLength(6))"),
+        ("symref=HEAD:", "y", "MalformedSymref { symref: \"HEAD:\" }"),
+        ("symref=:x", "y", "MalformedSymref { symref: \":x\" }"),
+        ("symref=x symref=", "y", "MalformedSymref { symref: \"x\" }"),
     ] {
-        assert_eq!(rt;
-            answer_to(a, capabilities, lines)?,
-            BString::from_slice(a, want)?
-        );
+        let want = BString::from_slice(a, want.as_bytes())?;
+        assert_eq!(rt; answer_to(a, capabilities, lines)?, want);
     }
     Ok(())
 }
@@ -319,31 +251,19 @@ fn reads_symrefs(rt: HostRuntime) -> Result<(), Fail> {
     Ok(())
 }
 
-// The refs of a recorded advertisement: its first ref line carries the capabilities behind a NUL.
+// The refs of a recorded advertisement, read behind its handshake.
 fn recorded(alloc: Global, advertisement: &[u8]) -> Result<BString, Fail> {
-    let mut capabilities = Capabilities::empty(alloc);
-    let mut stream = Vec::new(alloc);
-    let mut bytes = advertisement;
-    let mut reader = LineReader::new(alloc, &mut bytes)?;
-    reader.reset(Protocol::V1);
-    for _ in 0..u64::MAX {
-        if !reader.next_line()? {
-            break;
-        }
-        let line = reader.line();
-        if line.starts_with(b"version ") {
-            continue;
-        }
-        match Capabilities::from_bytes(alloc, line) {
-            Ok((found, place)) => {
-                capabilities = found;
-                push_frame(alloc, &mut stream, line.get(..place).ok_or("place")?)?;
-            }
-            Err(_) => push_frame(alloc, &mut stream, line)?,
-        }
-    }
-    stream.extend_from_slice(b"0000")?;
-    shown(alloc, read_stream(alloc, stream.as_slice(), &capabilities)?)
+    let mut bodies = Vec::new(alloc);
+    bodies.push(Body::Bytes(advertisement.to_vec(alloc)?))?;
+    let url = BString::new(Vec::new(alloc));
+    let mut server = Bodies::new(alloc, bodies, url, Vec::new(alloc))?;
+    let greeting = server.handshake(alloc, Service::UploadPack, &[])?;
+    let answer = from_v1_refs_received_as_part_of_handshake_and_capabilities(
+        alloc,
+        &mut server,
+        &greeting.capabilities,
+    );
+    shown(alloc, answer)
 }
 
 #[test]
