@@ -5,7 +5,9 @@ use gixp_lines::handshake::Ref;
 use gixp_lines::handshake::refs::{
     from_capabilities, from_v1_refs_received_as_part_of_handshake_and_capabilities, parse,
 };
-use gixp_wire::{Bodies, Body, Capabilities, ExtendedBufRead, LineReader, Protocol, Service, Transport};
+use gixp_wire::{
+    Bodies, Body, Capabilities, ExtendedBufRead, LineReader, Protocol, Service, Transport,
+};
 use std::alloc::Global;
 use std::io::Read;
 use std::test::Fail;
@@ -201,13 +203,18 @@ fn reads_refs_and_updates(rt: HostRuntime) -> Result<(), Fail> {
 const NO_DIRECT_REF: &str =
     "InvariantViolation { message: \"Expecting peeled refs to be preceded by direct refs\" }";
 
-const OTHER_BASE: &str = "InvariantViolation { message: \"Expecting peeled refs to have the same base path as the previous, unpeeled one\" }";
+const OTHER_BASE: &str =
+    "InvariantViolation { message: \"Expecting peeled refs to have the same base path as the previous, unpeeled one\" }";
 
 #[test]
 fn refuses_at_the_earliest_line(rt: HostRuntime) -> Result<(), Fail> {
     let a = rt.alloc();
     for (capabilities, lines, want) in [
-        ("symref=HEAD:refs/heads/main", "$ HEAD|$ HEAD^{}", NO_DIRECT_REF),
+        (
+            "symref=HEAD:refs/heads/main",
+            "$ HEAD|$ HEAD^{}",
+            NO_DIRECT_REF,
+        ),
         ("symref=HEAD:(null)", "$ HEAD|$ HEAD^{}", NO_DIRECT_REF),
         ("", "$ a|% a^{}|% a^{}", NO_DIRECT_REF),
         ("", "x a^{}", NO_DIRECT_REF),
