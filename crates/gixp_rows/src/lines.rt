@@ -2,7 +2,9 @@
 mod advertisement;
 mod answers;
 mod recorded_answers;
+mod recorded_sessions;
 mod requests;
+mod sessions;
 
 use bstr::BString;
 use gixp_lines::handshake::Ref;

@@ -10,6 +10,7 @@ use gixp_wire::{
 };
 use std::alloc::Global;
 use std::io::Read;
+use std::process::Abort;
 use std::test::Fail;
 
 const A: &[u8] = b"0123456789012345678901234567890123456789";
@@ -18,10 +19,10 @@ const B: &[u8] = b"bbbbbbbbbbbbbbbbbbbbbbbbbbbbbbbbbbbbbbbb";
 
 const C: &[u8] = b"cccccccccccccccccccccccccccccccccccccccc";
 
-const PLAIN_0: &[u8] =
+pub(super) const PLAIN_0: &[u8] =
     b"010b7257effbd41e1233eaae5744e614c5c728e3c979 HEAD\0multi_ack thin-pack side-band side-band-64k ofs-delta shallow deepen-since deepen-not deepen-relative no-progress include-tag multi_ack_detailed no-done symref=HEAD:refs/heads/main object-format=sha1 agent=git/2.39.5\n003d7257effbd41e1233eaae5744e614c5c728e3c979 refs/heads/main\n0000";
 
-const PLAIN_1: &[u8] =
+pub(super) const PLAIN_1: &[u8] =
     b"000eversion 1\n010b7257effbd41e1233eaae5744e614c5c728e3c979 HEAD\0multi_ack thin-pack side-band side-band-64k ofs-delta shallow deepen-since deepen-not deepen-relative no-progress include-tag multi_ack_detailed no-done symref=HEAD:refs/heads/main object-format=sha1 agent=git/2.39.5\n003d7257effbd41e1233eaae5744e614c5c728e3c979 refs/heads/main\n0000";
 
 const DETACHED_0: &[u8] =
@@ -258,19 +259,18 @@ fn reads_symrefs(rt: HostRuntime) -> Result<(), Fail> {
     Ok(())
 }
 
-// The refs of a recorded advertisement, read behind its handshake.
-fn recorded(alloc: Global, advertisement: &[u8]) -> Result<BString, Fail> {
+// What an advertisement says, read behind its handshake.
+fn greeted(alloc: Global, advertisement: Vec<u8>) -> Result<Answer, Fail> {
     let mut bodies = Vec::new(alloc);
-    bodies.push(Body::Bytes(advertisement.to_vec(alloc)?))?;
-    let url = BString::new(Vec::new(alloc));
-    let mut server = Bodies::new(alloc, bodies, url, Vec::new(alloc))?;
-    let greeting = server.handshake(alloc, Service::UploadPack, &[])?;
-    let answer = from_v1_refs_received_as_part_of_handshake_and_capabilities(
+    bodies.push(Body::Bytes(advertisement))?;
+    let url = BString::from(Vec::new(alloc));
+    let mut transport = Bodies::new(alloc, bodies, url, Vec::new(alloc))?;
+    let found = transport.handshake(alloc, Service::UploadPack, &[])?;
+    Ok(from_v1_refs_received_as_part_of_handshake_and_capabilities(
         alloc,
-        &mut server,
-        &greeting.capabilities,
-    );
-    shown(alloc, answer)
+        &mut transport,
+        &found.capabilities,
+    ))
 }
 
 #[test]
@@ -288,7 +288,77 @@ fn reads_what_git_sent(rt: HostRuntime) -> Result<(), Fail> {
         (TAGGED_0, TAGGED_REFS),
         (TAGGED_1, TAGGED_REFS),
     ] {
-        assert_eq!(rt; recorded(a, advertisement)?, BString::from_slice(a, want)?);
+        let answer = greeted(a, advertisement.to_vec(a)?)?;
+        assert_eq!(rt; shown(a, answer)?, BString::from_slice(a, want)?);
+    }
+    Ok(())
+}
+
+// The commits of the plain repository, the newest first.
+const COMMITS: [&str; 3] = [
+    "7257effbd41e1233eaae5744e614c5c728e3c979",
+    "31466deb7450b8bb34a4f02f598e41e4e0f2408d",
+    "4f79d49e911d3ce89ca2b79cc37104da473efcc8",
+];
+
+// What git sent of the plain repository with 1,500 branches more: behind the lines of the plain one a line for
+// each branch, at the three commits by turns. The recorded bytes follow this rule to the last.
+fn many(alloc: Global, plain: &[u8]) -> Result<Vec<u8>, Fail> {
+    let lines = plain.strip_suffix(b"0000").ok_or("a flush")?;
+    let mut bytes = Vec::from_slice(alloc, lines)?;
+    for number in 0..1500usize {
+        let id = COMMITS[number % 3];
+        let line = format!(in alloc; "0043{id} refs/heads/topic-{number:04}\n")?;
+        bytes.extend_from_slice(line.as_bytes())?;
+    }
+    bytes.extend_from_slice(b"0000")?;
+    Ok(bytes)
+}
+
+// The ref at a place is this one, as it is listed.
+fn expect_ref(
+    rt: &impl Abort,
+    alloc: Global,
+    refs: &[Ref],
+    place: usize,
+    want: &[u8],
+) -> Result<(), Fail> {
+    let mut text = Vec::new(alloc);
+    push_ref(&mut text, refs.get(place).ok_or("a ref")?)?;
+    assert_eq!(rt; BStr::new(text.as_slice()), BStr::new(want));
+    Ok(())
+}
+
+#[test]
+fn reads_many_refs(rt: HostRuntime) -> Result<(), Fail> {
+    let a = rt.alloc();
+    for plain in [PLAIN_0, PLAIN_1] {
+        let (refs, _) = greeted(a, many(a, plain)?)??;
+        assert_eq!(rt; refs.len(), 1502);
+        for (place, want) in [
+            (
+                0usize,
+                b"ref: refs/heads/main\tHEAD\n7257effbd41e1233eaae5744e614c5c728e3c979\tHEAD\n".as_slice(),
+            ),
+            (
+                1,
+                b"7257effbd41e1233eaae5744e614c5c728e3c979\trefs/heads/main\n",
+            ),
+            (
+                2,
+                b"7257effbd41e1233eaae5744e614c5c728e3c979\trefs/heads/topic-0000\n",
+            ),
+            (
+                753,
+                b"31466deb7450b8bb34a4f02f598e41e4e0f2408d\trefs/heads/topic-0751\n",
+            ),
+            (
+                1501,
+                b"4f79d49e911d3ce89ca2b79cc37104da473efcc8\trefs/heads/topic-1499\n",
+            ),
+        ] {
+            expect_ref(&rt, a, &refs, place, want)?;
+        }
     }
     Ok(())
 }

@@ -31,7 +31,12 @@ pub(super) const NEGOTIATE_V2: &[u8] = b"0014acknowledgments\n\
     0031ACK 4f79d49e911d3ce89ca2b79cc37104da473efcc8\n\
     000aready\n0001000dpackfile\n0023\x02Enumerating objects: 2, done.\n";
 
+pub(super) const NEGOTIATED_V2: &[u8] = b"000dpackfile\n0023\x02Enumerating objects: 2, done.\n";
+
 pub(super) const UNKNOWN_HAVE_V2: &[u8] = b"0014acknowledgments\n0008NAK\n0000";
+
+pub(super) const UNKNOWN_HAVE_DONE_V2: &[u8] =
+    b"000dpackfile\n0023\x02Enumerating objects: 4, done.\n";
 
 pub(super) const WANT_REF_V2: &[u8] = b"0010wanted-refs\n\
     003d7257effbd41e1233eaae5744e614c5c728e3c979 refs/heads/main\n\

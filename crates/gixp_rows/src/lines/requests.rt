@@ -3,9 +3,10 @@ use bstr::{BStr, BString};
 use gixp_requests::command::{CommandTable, Feature, validate_argument_prefixes};
 use gixp_requests::fetch::Arguments;
 use gixp_requests::{Command, agent};
-use gixp_wire::{Bodies, Body, Capabilities, ObjectId, Protocol};
+use gixp_wire::{Bodies, Body, Capabilities, Connection, ObjectId, Protocol};
 use std::alloc::{AllocError, Global};
-use std::io::ErrorKind;
+use std::io;
+use std::io::{ErrorKind, Write};
 use std::process::Abort;
 use std::test::Fail;
 
@@ -386,6 +387,118 @@ fn keeps_all_where_the_answer_fails(rt: HostRuntime) -> Result<(), Fail> {
         &transport,
         "0033want % \n00000032have $\n0009done\n",
     )?;
+    Ok(())
+}
+
+// A connection over which nothing is read.
+fn connection<W: Write + Drop>(
+    alloc: Global,
+    version: Protocol,
+    writer: W,
+) -> Result<Connection<&'static [u8], W>, AllocError> {
+    let url = BString::from(Vec::new(alloc));
+    Connection::new(alloc, b"", writer, url, version, Vec::new(alloc), None)
+}
+
+// What was written from this place on is this text.
+fn assert_written(
+    rt: &impl Abort,
+    alloc: Global,
+    over: &Connection<&'static [u8], Vec<u8>>,
+    start: usize,
+    text: &str,
+) -> Result<usize, Fail> {
+    let written = over.writer();
+    let request = written.get(start..).ok_or("a request")?;
+    assert_eq!(rt; request, bytes(alloc, text)?.as_slice(), "of {text}");
+    Ok(written.len())
+}
+
+#[test]
+fn a_connection_keeps_the_lines_of_version_one(rt: HostRuntime) -> Result<(), Fail> {
+    let a = rt.alloc();
+    for version in [Protocol::V0, Protocol::V1] {
+        let mut over = connection(a, version, Vec::new(a))?;
+        let mut asked = asked(
+            a,
+            version,
+            &["multi_ack_detailed", "side-band-64k", "shallow"],
+        )?;
+        assert!(rt; asked.can_use_shallow());
+        asked.shallow(&ObjectId::from_hex(A)?)?;
+        asked.deepen(1)?;
+        asked.want(&ObjectId::from_hex(B)?)?;
+        asked.have(&ObjectId::from_hex(A)?)?;
+        asked.send(&mut over, false)?;
+        let text =
+            "005bwant % multi_ack_detailed side-band-64k shallow\n000ddeepen 1\n0035shallow $\n00000032have $\n0000";
+        let end = assert_written(&rt, a, &over, 0, text)?;
+        assert!(rt; asked.is_empty());
+        // The server has the lines, so the second request has no more than a have.
+        asked.have(&ObjectId::from_hex(C)?)?;
+        asked.send(&mut over, true)?;
+        let end = assert_written(&rt, a, &over, end, "0032have &\n0009done\n")?;
+        // A want behind it has no features.
+        asked.want(&ObjectId::from_hex(A)?)?;
+        asked.send(&mut over, true)?;
+        let end = assert_written(&rt, a, &over, end, "0032want $\n00000009done\n")?;
+        asked.send(&mut over, true)?;
+        assert_written(&rt, a, &over, end, "0009done\n")?;
+    }
+    Ok(())
+}
+
+#[test]
+fn a_connection_repeats_the_lines_of_version_two(rt: HostRuntime) -> Result<(), Fail> {
+    let a = rt.alloc();
+    let mut over = connection(a, Protocol::V2, Vec::new(a))?;
+    let mut asked = asked_by_name(a)?;
+    asked.want(&ObjectId::from_hex(C)?)?;
+    asked.have(&ObjectId::from_hex(A)?)?;
+    asked.send(&mut over, false)?;
+    let front = "0012command=fetch\n0014agent=git/oxide\n0001000ethin-pack\n000eofs-delta\n";
+    let text = format!(in a; "{front}0032want &\n0032have $\n0000")?;
+    let end = assert_written(&rt, a, &over, 0, text.as_str())?;
+    assert!(rt; !asked.has_haves());
+    assert!(rt; !asked.is_empty());
+    asked.have(&ObjectId::from_hex(B)?)?;
+    asked.send(&mut over, true)?;
+    let text = format!(in a; "{front}0032want &\n0032have %\n0009done\n0000")?;
+    assert_written(&rt, a, &over, end, text.as_str())?;
+    Ok(())
+}
+
+// A writer whose other end is closed.
+#[derive(Drop)]
+struct Closed;
+
+impl Write for Closed {
+    fn write(&mut self, _buf: &[u8]) -> io::Result<usize> {
+        Err(io::Error::from(ErrorKind::BrokenPipe))
+    }
+
+    fn flush(&mut self) -> io::Result<()> {
+        Ok(())
+    }
+}
+
+#[test]
+fn keeps_all_where_a_write_fails(rt: HostRuntime) -> Result<(), Fail> {
+    let a = rt.alloc();
+    let mut broken = connection(a, Protocol::V1, Closed)?;
+    let mut asked = asked(a, Protocol::V1, &[])?;
+    asked.want(&ObjectId::from_hex(B)?)?;
+    asked.have(&ObjectId::from_hex(A)?)?;
+    for _ in 0..2 {
+        let Err(e) = asked.send(&mut broken, true) else {
+            return Err("no failure".into());
+        };
+        assert_eq!(rt; format!(in a; "{e:?}")?.as_str(), "Io(BrokenPipe)");
+    }
+    let mut over = connection(a, Protocol::V1, Vec::new(a))?;
+    asked.send(&mut over, true)?;
+    let text = "0033want % \n00000032have $\n0009done\n";
+    assert_written(&rt, a, &over, 0, text)?;
     Ok(())
 }
 
