@@ -1,7 +1,7 @@
 -- The groups of lines that come one at a time.
 use Rattle.std.proofs.Common.{◌≡◌, ℕ, inl, inr, Bool, true, List, [], ◌∷◌, ◌++◌, map, refl, sym, ap, subst, ◌∙◌, Option, Some, None, IfSome, MatchResult, Result, Ok, Err, append-nil, append_assoc}
 use Rattle.gixp_wire.specs.Pieces.{Refusal, Pieces}
-use Rattle.gixp_wire.specs.Lines.{stop, refusal, before, lines_to}
+use Rattle.gixp_wire.specs.Lines.{refusal, before, lines_to}
 use Rattle.gixp_wire.specs.Reading.{Reading, TakesLine, AtStop, Fails, IsPlain, refusal_of, lines_ahead}
 use Rattle.gixp_wire.specs.declared.read.Error.{Error as ReadError}
 use Rattle.gixp_lines.specs.declared.handshake.Ref.{Ref}

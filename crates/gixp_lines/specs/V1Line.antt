@@ -1,8 +1,7 @@
 -- A line of a version 0 or 1 advertisement as it is lent, and what is kept of the lines so far.
-use Rattle.std.specs.Prelude.{◌≡◌, ℕ, List, [], ◌∷◌, ◌++◌, map, Option, Some, None, Result, Ok, Err}
+use Rattle.std.specs.Prelude.{ℕ, List, [], ◌∷◌, ◌++◌, map, Option, Some, None, Result, Ok, Err}
 use Rattle.std.specs.Option.{option_map}
 use Rattle.bstr.specs.Owned.{bstring_bytes}
-use Rattle.gixp_wire.specs.declared.object_id.ObjectId.{ObjectId}
 use Rattle.gixp_lines.specs.declared.fetch.response.line.ShallowUpdate.{ShallowUpdate}
 use Rattle.gixp_lines.specs.declared.fetch.response.line.ShallowUpdate.TheVariants.{Shallow}
 use Rattle.gixp_lines.specs.declared.handshake.refs.v1.Line.{Line}

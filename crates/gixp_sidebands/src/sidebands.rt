@@ -6,7 +6,7 @@ ghost use Rattle.std.specs.Io.KnownBytes.{ReadConsumes};
 ghost use Rattle.std.specs.Io.BufRead.{DropsConsumable, FillKeeps, Rests};
 ghost use types.Logic.{sem};
 ghost use mir.Syntax.{named};
-ghost use Rattle.gixp_wire.specs.Reading.{Reads, Peeks, PlainIf, TakesLine, refusal_of, reset_to};
+ghost use Rattle.gixp_wire.specs.Reading.{Reads, Peeks, PlainIf, TakesLine, refusal_of};
 ghost use Rattle.gixp_sidebands.specs.Bands.{Side, Fills, FillsLent, ShowsFirst, ReadsContent, ReadsBytes, is_begun, place_after, shown, message_in, io_kind};
 ghost use Rattle.gixp_sidebands.specs.Telling.{Told, TellsPacket, refusal_in};
 

@@ -1,27 +1,25 @@
 -- What a server says first, read one step at a time.
-use Rattle.std.proofs.Common.{◌≡◌, ℕ, ◌≤◌, ◌<◌, ◌⊎◌, inl, inr, Bool, true, false, List, [], ◌∷◌, ◌++◌, take, length, map, Option, Some, None, IfSome, Result, Ok, Err, refl, sym, ap, subst, ◌∙◌, arith, append_assoc, append-nil}
+use Rattle.std.proofs.Common.{◌≡◌, ℕ, ◌≤◌, ◌<◌, ◌⊎◌, inl, inr, true, false, List, [], ◌∷◌, ◌++◌, take, length, Option, Some, None, IfSome, Result, Ok, Err, refl, sym, ap, subst, ◌∙◌, arith, append_assoc, append-nil}
 use Rattle.std.specs.Prelude.{position, ◌==◌}
 use Rattle.std.proofs.lemmas.List.{map-append}
 use Rattle.std.proofs.lemmas.List.Quantifiers.{position-Some}
 use Rattle.std.specs.Option.{option_map}
 use Rattle.std.specs.declared.io.ErrorKind.{ErrorKind}
-use Rattle.std.specs.declared.io.ErrorKind.TheVariants.{UnexpectedEof}
 use Rattle.gixp_wire.specs.declared.protocol.Protocol.{Protocol}
 use Rattle.gixp_wire.specs.declared.protocol.Protocol.TheVariants.{V0, V2}
 use Rattle.gixp_wire.specs.declared.protocol.MessageKind.{MessageKind}
-use Rattle.gixp_wire.specs.declared.read.Error.{Error as ReadError}
 use Rattle.gixp_wire.specs.declared.client.Error.{Error}
 use Rattle.gixp_wire.specs.declared.client.Error.TheVariants.{Io, Read, LineTooLong, AuthenticationUnsupported, UnsupportedProtocolVersion, MissingDelimitingNullByte, Memory}
 use Rattle.gixp_wire.specs.declared.service.SetServiceResponse.{SetServiceResponse}
-use Rattle.gixp_wire.specs.Pieces.{Refusal, io, decode, server, unexpected_frame, not_utf8, bad_band, interrupted, memory, Piece, line, mark, Pieces, no_pieces, with_piece, stream_pieces}
-use Rattle.gixp_wire.specs.Lines.{Next, gives, stops, refuses, next_of, Lines, Ending, stop, refusal, lines_of, before, lines_to, no_lines}
+use Rattle.gixp_wire.specs.Pieces.{Refusal, io, decode, server, unexpected_frame, not_utf8, bad_band, interrupted, memory, line, Pieces, with_piece, stream_pieces}
+use Rattle.gixp_wire.specs.Lines.{gives, stops, refuses, next_of, Lines, stop, refusal, lines_of, before}
 use Rattle.gixp_wire.specs.declared.packets.Place.{Place}
 use Rattle.gixp_wire.specs.declared.packets.Place.TheVariants.{Open, Peeked, Stopped, Refused}
 use Rattle.gixp_wire.specs.declared.packets.Packets.{Packets}
 use Rattle.gixp_wire.specs.Packets.{is_peeked, place_stop, known, packets_reading}
 use Rattle.gixp_wire.specs.Capabilities.{CapabilityValue, capability_of_line, capabilities_of_line, capabilities_of_lines, capabilities_behind, IsOfLine}
-use Rattle.gixp_wire.specs.Client.{ClientRefusal, failed, reader, no_memory, no_null_byte, unsupported_version, client_refusal, client_from}
-use Rattle.gixp_wire.specs.Reading.{Reading, Rose, refusal_of, reset_to, ShowsLine, TakesLine, TakesStop, WasStopped, AtStop, Refuses, Faults, BreaksOff, IsPlain, IsOutside, Fails as Failing}
+use Rattle.gixp_wire.specs.Client.{ClientRefusal, failed, no_memory, no_null_byte, unsupported_version, client_refusal, client_from}
+use Rattle.gixp_wire.specs.Reading.{Reading, reset_to, ShowsLine, TakesLine, TakesStop, AtStop, IsPlain, IsOutside, Fails as Failing}
 use Rattle.gixp_wire.specs.Advertisement.{Advertised, Named, another, unnamed, version_named, trimmed, no_refs, ref_line, from_ref_line, by_version, by_first, advertisement, by_lines, from_capability_lines, Answers, Reads, Fails, IsFromDevice, Advertises}
 use Rattle.gixp_wire.proofs.LineLemmas.{gives_line, stops_here, refuses_here}
 

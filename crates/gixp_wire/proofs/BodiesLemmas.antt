@@ -1,5 +1,5 @@
 -- What a transport over memory reads behind the body that it took.
-use Rattle.std.proofs.Common.{◌≡◌, ℕ, ◌+◌, ◌*◌, ◌≤◌, true, false, List, [], ◌∷◌, ◌++◌, length, drop, map, reverse, Option, Some, None, Vec, refl, sym, ap, subst, ◌∙◌, arith}
+use Rattle.std.proofs.Common.{◌≡◌, ℕ, ◌+◌, false, List, [], ◌∷◌, ◌++◌, length, map, reverse, Some, Vec, refl, sym, ap, subst, arith}
 use Rattle.std.proofs.lemmas.List.{reverse-append}
 use Rattle.std.specs.declared.alloc.Global.{Global}
 use Rattle.std.specs.declared.io.impls.Cursor.{Cursor}
@@ -10,10 +10,7 @@ use Rattle.gixp_wire.specs.declared.packets.Packets.{Packets}
 use Rattle.gixp_wire.specs.declared.packets.Place.TheVariants.{Open}
 use Rattle.gixp_wire.specs.Frames.{frames_of, frames_within}
 use Rattle.gixp_wire.specs.Pieces.{io, no_pieces, stream_pieces}
-use Rattle.gixp_wire.specs.Held.{Answer}
-use Rattle.gixp_wire.specs.Reading.{Reading}
-use Rattle.gixp_wire.specs.Packets.{packets_reading}
-use Rattle.gixp_wire.specs.Bodies.{answer_of, memory_remaining, bodies_held, bodies_reading}
+use Rattle.gixp_wire.specs.Bodies.{answer_of, bodies_held, bodies_reading}
 use Rattle.gixp_wire.specs.Transport.{TakesAnswer, answer_pieces, first_answer, later_answers}
 
 -- no bytes are a stream that ends at once

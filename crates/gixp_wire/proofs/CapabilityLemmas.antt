@@ -1,15 +1,15 @@
 -- Texts between blanks, as a loop that cuts them off finds them.
-use Rattle.std.proofs.Common.{◌≡◌, ℕ, ◌+◌, ◌<◌, ◌≤◌, ◌==◌, ◌⊎◌, inl, inr, Bool, true, false, List, [], ◌∷◌, ◌++◌, length, take, drop, get_or, map, refl, ap, sym, subst, ◌∙◌, arith, Option, Some, None, append_assoc, append-nil, length-drop, cond, nat_lt}
-use Rattle.std.specs.Prelude.{position, filter}
+use Rattle.std.proofs.Common.{◌≡◌, ℕ, ◌+◌, ◌<◌, ◌≤◌, ◌==◌, ◌⊎◌, inl, inr, Bool, true, false, List, [], ◌∷◌, ◌++◌, length, drop, map, refl, ap, sym, ◌∙◌, arith, Option, Some, None, append_assoc, length-drop, nat_lt}
+use Rattle.std.specs.Prelude.{filter}
 use Rattle.std.specs.Option.{option_copied}
 use Rattle.std.specs.Borrow.{Bor}
-use Rattle.std.specs.List.{position_or_len, slice_split, All, before_first, after_first}
+use Rattle.std.specs.List.{position_or_len, slice_split}
 use Rattle.std.proofs.lemmas.Bool.{lt-ltb, ltb-true, eqb-true, false_from_ne_true, cases_lt}
 use Rattle.std.proofs.lemmas.List.Elements.{All-from_get_or}
 use Rattle.std.proofs.lemmas.List.Splits.{slice_split_none, slice_split_first}
 use Rattle.std.proofs.lemmas.List.Sums.{fails_before_first}
-use Rattle.gixp_wire.specs.Cut.{cut, parts_at}
-use Rattle.gixp_wire.specs.Capabilities.{CapabilityValue, capability_of, capabilities_of_words, words_of, has_bytes}
+use Rattle.gixp_wire.specs.Cut.{cut}
+use Rattle.gixp_wire.specs.Capabilities.{CapabilityValue, capability_of, capabilities_of_words, has_bytes}
 
 -- the parts behind the first one
 abbrev pub parts_behind : ℕ → Option (List ℕ) → List (List ℕ)

@@ -1,5 +1,5 @@
 -- The texts of frames read back as these frames.
-use Rattle.std.proofs.Common.{◌≡◌, ℕ, zero, suc, ◌+◌, ◌/◌, ◌%◌, ◌<◌, inl, List, [], ◌∷◌, length, slice_index, Some, refl, ap, ◌∙◌, arith}
+use Rattle.std.proofs.Common.{ℕ, zero, suc, ◌+◌, ◌/◌, ◌%◌, ◌<◌, inl, List, [], ◌∷◌, length, Some, refl, ap, ◌∙◌, arith}
 use Rattle.hex.specs.Hex.{lower_digits, decode_pairs, IsBytes}
 use Rattle.hex.proofs.HexLemmas.{length-encode_with, decode_sized-encode_lower}
 use Rattle.gixp_wire.specs.declared.protocol.MessageKind.TheVariants.{Flush, Delimiter, ResponseEnd, Text}

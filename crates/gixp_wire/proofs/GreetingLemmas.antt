@@ -1,5 +1,5 @@
 -- What is said first over a connection.
-use Rattle.std.proofs.Common.{◌≡◌, ℕ, ◌≤◌, true, false, nat_le, List, [], ◌∷◌, ◌++◌, length, Option, Some, None, refl, sym, ap, subst, ◌∙◌, append-nil, Result, Ok, Err}
+use Rattle.std.proofs.Common.{◌≡◌, ℕ, true, List, Some, None, refl, sym, subst, ◌∙◌, append-nil, Result, Ok, Err}
 use Rattle.gixp_wire.specs.declared.client.Error.{Error}
 use Rattle.gixp_wire.specs.declared.client.Error.TheVariants.{Io, Read, LineTooLong, AuthenticationUnsupported, UnsupportedProtocolVersion, MissingDelimitingNullByte, Memory}
 use Rattle.gixp_wire.specs.declared.service.Service.{Service}
@@ -8,7 +8,7 @@ use Rattle.gixp_wire.specs.Held.{Greeting}
 use Rattle.gixp_wire.specs.Reading.{Reading}
 use Rattle.gixp_wire.specs.Greeting.{Parameter, greeting_text, greeting_fits}
 use Rattle.gixp_wire.specs.Handshake.{GreetsBy}
-use Rattle.gixp_wire.specs.Transport.{Wrote, Broke, Writes, EndsBy, GoesOn}
+use Rattle.gixp_wire.specs.Transport.{Wrote, Writes, EndsBy}
 use Rattle.gixp_wire.proofs.TransportLemmas.{wrote_nothing, broke_then}
 
 -- nothing is said

@@ -1,5 +1,5 @@
 -- What a call that reads does, beside whatever is held.
-use Rattle.std.proofs.Common.{◌≡◌, ℕ, Bool, true, false, ◌⊎◌, inl, inr, refl, Option, Some, None, IfSome, Result, Ok, Err}
+use Rattle.std.proofs.Common.{◌≡◌, Bool, true, false, ◌⊎◌, inl, inr, refl, Option, Some, None, IfSome, Result, Ok, Err}
 use Rattle.gixp_wire.specs.declared.read.Error.{Error}
 use Rattle.gixp_wire.specs.declared.protocol.MessageKind.{MessageKind}
 use Rattle.gixp_wire.specs.Pieces.{Refusal, io, decode, server, unexpected_frame, not_utf8, bad_band, interrupted, memory, Pieces}
@@ -9,7 +9,7 @@ use Rattle.gixp_wire.specs.declared.service.SetServiceResponse.{SetServiceRespon
 use Rattle.gixp_wire.specs.Client.{ClientRefusal, client_refusal}
 use Rattle.gixp_wire.specs.Advertisement.{Advertised, Answers, IsFromDevice, Advertises}
 use Rattle.gixp_wire.specs.Held.{Held}
-use Rattle.gixp_wire.specs.Reading.{Reading, refusal_of, Stays, TakesLine, ShowsLine, TakesStop, WasStopped, AtStop, Refuses, Faults, IsFault, BreaksOff, IsOutside, Fails, IsPlain, PlainIf, Reads, Peeks}
+use Rattle.gixp_wire.specs.Reading.{Reading, refusal_of, Stays, TakesLine, ShowsLine, TakesStop, AtStop, Refuses, IsFault, Fails, IsPlain, PlainIf, Reads, Peeks}
 
 module _ (h : Held) (a b : Reading) where
   abbrev A : Reading

@@ -1,7 +1,7 @@
 -- Writes one behind another.
-use Rattle.std.proofs.Common.{◌≡◌, ℕ, Bool, true, false, List, [], ◌∷◌, ◌++◌, Option, Some, None, IfSome, refl, sym, ap, subst, ◌∙◌, append_assoc, append-nil, Ok, Err, Result, map, ◌&&◌}
+use Rattle.std.proofs.Common.{◌≡◌, ℕ, List, [], ◌∷◌, ◌++◌, Option, Some, None, IfSome, refl, sym, ap, subst, ◌∙◌, append_assoc, append-nil, Err, Result, map, ◌&&◌}
 use Rattle.std.specs.List.{list_all}
-use Rattle.std.specs.Io.KnownBytes.{Appends, Keeps}
+use Rattle.std.specs.Io.KnownBytes.{Appends}
 use Rattle.std.specs.declared.io.ErrorKind.{ErrorKind}
 use Rattle.gixp_wire.specs.declared.client.Error.{Error}
 use Rattle.gixp_wire.specs.declared.client.Error.TheVariants.{Io, Read, LineTooLong, AuthenticationUnsupported, UnsupportedProtocolVersion, MissingDelimitingNullByte, Memory}
@@ -9,7 +9,7 @@ use Rattle.gixp_wire.specs.declared.message.Message.{Message}
 use Rattle.gixp_wire.specs.FrameText.{texts_of}
 use Rattle.gixp_wire.specs.Message.{MessageValue, value_frame, value_fits, message_value, message_frame, message_fits, request_frames, all_fit}
 use Rattle.gixp_wire.specs.Reading.{Reading}
-use Rattle.gixp_wire.specs.Transport.{with_written, begun, Wrote, Broke, Unwritten, Unfinished, Begins, Writes, WritesAll, Ends, EndsBy, GoesOn, SentBy, Sends, FailsBy}
+use Rattle.gixp_wire.specs.Transport.{with_written, Wrote, Broke, Unwritten, Unfinished, Writes, WritesAll, Sends}
 
 appends_none : (o : Option (List ℕ)) → Appends o o []
 appends_none None = tt

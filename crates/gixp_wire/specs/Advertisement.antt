@@ -1,18 +1,17 @@
 -- What a server says first: its version, its capabilities, and under versions 0 and 1 its refs (gitprotocol-pack, "Reference Discovery" and "Extra Parameters"; gitprotocol-v2, "Capability Advertisement").
-use Rattle.std.specs.Prelude.{◌≡◌, ℕ, ◌≤◌, ◌⊎◌, Bool, true, false, nat_eq, List, [], length, take, codes, if◌then◌else◌, Option, Some, None, Result, Ok, Err, IfSome}
+use Rattle.std.specs.Prelude.{◌≡◌, ℕ, ◌≤◌, ◌⊎◌, Bool, true, false, nat_eq, List, [], take, codes, if◌then◌else◌, Option, Some, None, Result, Ok, Err, IfSome}
 use Rattle.std.specs.Char.{is_whitespace}
 use Rattle.bstr.specs.Trim.{trim_end_by}
 use Rattle.std.specs.List.{starts_with}
 use Rattle.std.specs.Cmp.Lexicographic.{pointwise}
-use Rattle.std.specs.declared.io.ErrorKind.{ErrorKind}
 use Rattle.gixp_wire.specs.declared.protocol.Protocol.{Protocol}
 use Rattle.gixp_wire.specs.declared.protocol.Protocol.TheVariants.{V0, V1, V2}
 use Rattle.gixp_wire.specs.declared.protocol.MessageKind.{MessageKind}
 use Rattle.gixp_wire.specs.declared.client.Error.{Error}
-use Rattle.gixp_wire.specs.declared.client.Error.TheVariants.{Io, Read, LineTooLong, AuthenticationUnsupported, UnsupportedProtocolVersion, MissingDelimitingNullByte, Memory}
+use Rattle.gixp_wire.specs.declared.client.Error.TheVariants.{Io, Memory}
 use Rattle.gixp_wire.specs.declared.service.SetServiceResponse.{SetServiceResponse}
-use Rattle.gixp_wire.specs.Pieces.{Refusal, line, Pieces, with_piece}
-use Rattle.gixp_wire.specs.Lines.{Next, gives, stops, refuses, next_of, Lines, Ending, stop, refusal, lines_of}
+use Rattle.gixp_wire.specs.Pieces.{line, Pieces, with_piece}
+use Rattle.gixp_wire.specs.Lines.{Next, gives, stops, refuses, next_of, Ending, stop, refusal, lines_of}
 use Rattle.gixp_wire.specs.Capabilities.{CapabilityValue, capabilities_of_line, capabilities_of_lines}
 use Rattle.gixp_wire.specs.Client.{ClientRefusal, client_refusal, client_from, no_null_byte, unsupported_version}
 use Rattle.gixp_wire.specs.Reading.{Reading, Rose}

@@ -5,7 +5,6 @@ use Rattle.bstr.specs.Owned.{bstring_bytes}
 use Rattle.std.specs.declared.alloc.Global.{Global}
 use Rattle.std.specs.Io.Cursor.{cursor_remaining}
 use Rattle.std.specs.declared.io.impls.Cursor.{Cursor}
-use Rattle.std.specs.declared.io.ErrorKind.{ErrorKind}
 use Rattle.std.specs.declared.io.ErrorKind.TheVariants.{UnexpectedEof}
 use Rattle.gixp_wire.specs.declared.bodies.Body.{Body}
 use Rattle.gixp_wire.specs.declared.bodies.Body.TheVariants.{Bytes, Fail}

@@ -1,10 +1,10 @@
 -- What a call that speaks to a server may answer in place of a value.
-use Rattle.std.specs.Prelude.{◌≡◌, ℕ, List}
+use Rattle.std.specs.Prelude.{ℕ, List}
 use Rattle.std.specs.declared.io.ErrorKind.{ErrorKind}
 use Rattle.bstr.specs.Owned.{bstring_bytes}
 use Rattle.gixp_wire.specs.declared.client.Error.{Error}
 use Rattle.gixp_wire.specs.declared.client.Error.TheVariants.{Io, Read, LineTooLong, AuthenticationUnsupported, UnsupportedProtocolVersion, MissingDelimitingNullByte, Memory}
-use Rattle.gixp_wire.specs.Pieces.{Refusal, io, decode, server, unexpected_frame, not_utf8, bad_band, interrupted, memory}
+use Rattle.gixp_wire.specs.Pieces.{Refusal, io, memory}
 use Rattle.gixp_wire.specs.Reading.{refusal_of}
 
 -- a refusal, as it is compared

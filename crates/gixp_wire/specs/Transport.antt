@@ -1,15 +1,12 @@
 -- What the calls of a transport do (gitprotocol-pack, "Packfile Negotiation"; gitprotocol-v2, "Command Request").
-use Rattle.std.specs.Prelude.{◌≡◌, ◌≢◌, ℕ, ◌+◌, ◌≤◌, nat_le, ◌⊎◌, ⊤, Bool, true, false, if◌then◌else◌, List, [], ◌∷◌, ◌++◌, length, map, reverse, Option, Some, None, Result, Ok, Err, IfSome, unwrap_or}
+use Rattle.std.specs.Prelude.{◌≡◌, ℕ, ◌+◌, ◌≤◌, Bool, true, false, if◌then◌else◌, List, [], ◌∷◌, ◌++◌, Option, Some, None, Result, Ok, Err, IfSome, unwrap_or}
 use Rattle.std.specs.Io.KnownBytes.{Appends, Keeps}
 use Rattle.std.specs.declared.io.ErrorKind.{ErrorKind}
 use Rattle.std.specs.declared.io.ErrorKind.TheVariants.{UnexpectedEof}
-use Rattle.gixp_wire.specs.declared.protocol.Protocol.{Protocol}
-use Rattle.gixp_wire.specs.declared.protocol.MessageKind.{MessageKind}
 use Rattle.gixp_wire.specs.declared.client.Error.{Error}
-use Rattle.gixp_wire.specs.declared.client.Error.TheVariants.{Io, LineTooLong, AuthenticationUnsupported, Memory}
-use Rattle.gixp_wire.specs.Frames.{Frame, payload, special}
+use Rattle.gixp_wire.specs.declared.client.Error.TheVariants.{Io, LineTooLong, Memory}
 use Rattle.gixp_wire.specs.Pieces.{io, Pieces, no_pieces}
-use Rattle.gixp_wire.specs.Held.{Held, Answer, body, fails}
+use Rattle.gixp_wire.specs.Held.{Answer, body, fails}
 use Rattle.gixp_wire.specs.Reading.{Reading, Rose}
 
 -- with these bytes written

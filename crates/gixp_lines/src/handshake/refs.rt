@@ -1,5 +1,5 @@
 //! The refs of a server's answer.
-ghost use Rattle.std.specs.Prelude.{◌≡◌, MatchResult};
+ghost use Rattle.std.specs.Prelude.{MatchResult};
 ghost use Rattle.gixp_lines.specs.Refs.{ReadsRefs, RefsFail};
 
 use crate::handshake::Ref;

@@ -1,5 +1,5 @@
 //! Whether a server offers what a request asks for.
-ghost use Rattle.std.specs.Prelude.{◌≡◌, not, map, find, nat_eq};
+ghost use Rattle.std.specs.Prelude.{◌≡◌, map, find, nat_eq};
 ghost use Rattle.std.specs.List.{list_any, starts_with};
 ghost use Rattle.std.specs.Option.{option_copied, option_map};
 ghost use Rattle.bstr.specs.Owned.{bstring_bytes};

@@ -1,5 +1,5 @@
 //! An answer to a fetch.
-ghost use Rattle.std.specs.Prelude.{◌≡◌, MatchResult, IfOk, OnErr, OnOk, [], ◌∷◌, ◌++◌, map, true, false};
+ghost use Rattle.std.specs.Prelude.{◌≡◌, MatchResult, OnErr, OnOk, [], ◌∷◌, ◌++◌, map, true, false};
 ghost use Rattle.gixp_lines.specs.AnswerLine.{wanted_value};
 ghost use Rattle.gixp_lines.specs.Answer.{no_more, update_items};
 ghost use Rattle.gixp_lines.specs.Beginnings.{asked};

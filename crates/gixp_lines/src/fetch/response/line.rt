@@ -1,8 +1,8 @@
 //! Lines of answers (gitprotocol-v2, "fetch"; gitprotocol-pack, "Packfile Negotiation").
-ghost use Rattle.std.specs.Prelude.{◌≡◌, Some, None, take, drop, Option};
-ghost use Rattle.std.specs.Option.{option_copied, option_map};
+ghost use Rattle.std.specs.Prelude.{◌≡◌, Some, None, Option};
+ghost use Rattle.std.specs.Option.{option_copied};
 ghost use Rattle.gixp_lines.specs.RefLine.{is_text};
-ghost use Rattle.gixp_lines.specs.AnswerLine.{behind, is_word, described, acknowledged, acknowledgement_line, acknowledgement_of, trimmed, common_id, update_with, shallow_update_of, wanted_ref_of, shallow_update_line, wanted_ref_line, wanted_value};
+ghost use Rattle.gixp_lines.specs.AnswerLine.{behind, is_word, described, acknowledged, acknowledgement_line, common_id, shallow_update_line, wanted_ref_line, wanted_value};
 ghost use Rattle.gixp_lines.specs.ResponseError.{IsRefusal, unknown_line, ReadsLine, ReadsOwned};
 
 use crate::cut::cut;

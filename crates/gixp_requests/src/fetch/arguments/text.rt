@@ -1,7 +1,6 @@
 //! The texts of argument lines.
 ghost use Rattle.std.specs.Prelude.{◌≡◌, [], ◌∷◌, ◌++◌, map, OnOk, OnErr, IfOk, codes};
 ghost use Rattle.std.specs.List.{list_any};
-ghost use Rattle.std.specs.Option.{option_copied};
 ghost use Rattle.bstr.specs.Owned.{bstring_bytes};
 ghost use Rattle.gixp_requests.specs.Feature.{feature_value, feature_values, feature_text};
 ghost use Rattle.gixp_requests.specs.Command.{texts};

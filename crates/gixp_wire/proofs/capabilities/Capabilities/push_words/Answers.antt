@@ -1,6 +1,6 @@
 -- A piece is appended unless it is empty.
 use Rattle.std.proofs.Common.{rules, tests}
-use Rattle.gixp_wire.proofs.CapabilityLemmas.{word_more, word_none, rest_shorter}
+use Rattle.gixp_wire.proofs.CapabilityLemmas.{word_more, word_none}
 use Rattle.gixp_wire.proofs.capabilities.Capabilities.push_words.Goals as goal
 
 pub loop-rest-preserved-in_ok-push : goal.loop-rest-preserved-in_ok-push

@@ -1,9 +1,9 @@
-use Rattle.std.proofs.Common.{◌≡◌, ◌≤◌, ℕ, List, length, true, nat_le, Option, Some, Ok, Err, refl, sym, ap, subst, ◌∙◌, rules}
+use Rattle.std.proofs.Common.{◌≡◌, ◌≤◌, ℕ, List, length, true, nat_le, Option, Err, refl, sym, subst, ◌∙◌, rules}
 use Rattle.std.specs.Option.{option_map}
 use Rattle.std.proofs.lemmas.Bool.{le-leb}
 use Rattle.gixp_wire.specs.declared.service.Opening.{Opening}
 use Rattle.gixp_wire.specs.FrameText.{payload_text}
-use Rattle.gixp_wire.specs.Greeting.{parameters_of, greeting_text, greeting_fits}
+use Rattle.gixp_wire.specs.Greeting.{parameters_of, greeting_text}
 use Rattle.gixp_wire.specs.Handshake.{GreetsBy}
 use Rattle.gixp_wire.specs.Connection.{greeting_of, connection_reading}
 use Rattle.gixp_wire.specs.Transport.{Wrote}

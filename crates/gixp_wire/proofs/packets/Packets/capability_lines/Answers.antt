@@ -1,4 +1,4 @@
-use Rattle.std.proofs.Common.{[], refl, ap, sym, ◌∙◌}
+use Rattle.std.proofs.Common.{[], refl, ◌∙◌}
 use Rattle.gixp_wire.proofs.AdvertisementLemmas.{gathers-none, gathers-line, reads-lines, fails-lines, fails-memory, capabilities-push}
 use Rattle.gixp_wire.proofs.packets.Packets.capability_lines.Goals as goal
 

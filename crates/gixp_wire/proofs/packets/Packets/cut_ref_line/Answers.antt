@@ -1,7 +1,3 @@
-use Rattle.std.proofs.Common.{refl}
-use Rattle.gixp_wire.specs.Capabilities.{capabilities_of_line, IsOfLine}
-use Rattle.gixp_wire.specs.Packets.{packets_reading}
-use Rattle.gixp_wire.specs.Advertisement.{Reads, from_ref_line}
 use Rattle.gixp_wire.proofs.AdvertisementLemmas.{peeked-place, reads-cut, fails-cut, found-is}
 use Rattle.gixp_wire.proofs.packets.Packets.cut_ref_line.Goals as goal
 

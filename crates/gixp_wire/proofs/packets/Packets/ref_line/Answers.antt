@@ -1,4 +1,4 @@
-use Rattle.std.proofs.Common.{refl, ap, sym, ◌∙◌, ◌≡◌, Ok, Err}
+use Rattle.std.proofs.Common.{refl, ap, sym, ◌∙◌}
 use Rattle.gixp_wire.specs.Lines.{next_of}
 use Rattle.gixp_wire.specs.Advertisement.{from_ref_line, by_ref_line}
 use Rattle.gixp_wire.proofs.AdvertisementLemmas.{shows-steps, advertises-then, reads-no_refs, takes-stop, fails-reading}
