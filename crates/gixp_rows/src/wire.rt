@@ -1,6 +1,7 @@
 //! Streams in memory, read in every way, and devices that fail.
 mod bands;
 mod capabilities;
+mod pieces;
 mod progress;
 mod recorded;
 mod transport;

@@ -23,7 +23,7 @@ const A: &str = "0123456789012345678901234567890123456789";
 
 // A writer of which each write takes at most `step` bytes. The write of number `fails` fails with `kind`.
 #[derive(Drop)]
-struct Paper {
+pub(super) struct Paper {
     bytes: Vec<u8>,
     step: usize,
     fails: usize,
@@ -32,7 +32,7 @@ struct Paper {
 }
 
 impl Paper {
-    fn sound(alloc: Global, step: usize) -> Paper {
+    pub(super) fn sound(alloc: Global, step: usize) -> Paper {
         Paper {
             bytes: Vec::new(alloc),
             step,
@@ -93,7 +93,7 @@ fn bodies(alloc: Global, answers: &[&[u8]]) -> Result<Bodies, AllocError> {
 
 // What a handshake and the calls behind it answer: the version, the number of capabilities, whether refs come, and
 // the length of each line up to the stop.
-fn greeted<T: Transport>(alloc: Global, transport: &mut T) -> Result<String, Fail> {
+pub(super) fn greeted<T: Transport>(alloc: Global, transport: &mut T) -> Result<String, Fail> {
     match transport.handshake(alloc, Service::UploadPack, &[]) {
         Ok(found) => {
             let mut said = String::new(alloc);
@@ -131,7 +131,7 @@ fn greeted_over(alloc: Global, bytes: &[u8], step: usize) -> Result<String, Fail
     greeted(alloc, &mut over)
 }
 
-fn greeted_in_memory(alloc: Global, bytes: &[u8]) -> Result<String, Fail> {
+pub(super) fn greeted_in_memory(alloc: Global, bytes: &[u8]) -> Result<String, Fail> {
     let mut over = bodies(alloc, &[bytes])?;
     greeted(alloc, &mut over)
 }
@@ -193,23 +193,6 @@ fn reads_recorded_advertisements(rt: HostRuntime) -> Result<(), Fail> {
             assert_eq!(rt; greeted_over(a, bytes, step)?.as_str(), *want);
         }
         assert_eq!(rt; greeted_in_memory(a, bytes)?.as_str(), *want);
-    }
-    Ok(())
-}
-
-#[test]
-fn ends_with_each_beginning(rt: HostRuntime) -> Result<(), Fail> {
-    let a = rt.alloc();
-    for (bytes, _) in &ADVERTISEMENTS[..3] {
-        for len in 0..bytes.len() {
-            let (front, _) = bytes.split_at(len);
-            let got = greeted_in_memory(a, front)?;
-            assert!(rt;
-                got.as_str().ends_with("Io(UnexpectedEof)"),
-                "{len} {}",
-                got.as_str()
-            );
-        }
     }
     Ok(())
 }
