@@ -22,7 +22,7 @@ use gixp_requests::{Command, agent};
 use gixp_sidebands::{BandText, NeverInterrupt, WithSidebands};
 use gixp_wire::{Bodies, Body, ExtendedBufRead, ObjectId, Protocol, Service, Transport};
 use std::alloc::{AllocError, Global};
-use std::io::Read;
+use std::io::{ErrorKind, Read};
 use std::process::Abort;
 use std::test::Fail;
 
@@ -384,18 +384,21 @@ struct Banded {
     said: Vec<u8>,
 }
 
-// The answer and the pack, unless one of them is refused.
+// The answer and the pack, unless one of them is refused for another reason than want of memory.
 fn read_parts<R: ExtendedBufRead + Read>(
     alloc: Global,
     reader: &mut R,
-) -> Option<(Response, Vec<u8>)> {
-    let Ok(answer) = Response::from_line_reader(alloc, Protocol::V2, reader, false, true) else {
-        return None;
+) -> Result<Option<(Response, Vec<u8>)>, AllocError> {
+    let answer = match Response::from_line_reader(alloc, Protocol::V2, reader, false, true) {
+        Ok(answer) => answer,
+        Err(Error::Memory) => return Err(AllocError),
+        Err(_) => return Ok(None),
     };
     let mut pack = Vec::new(alloc);
     match reader.read_to_end(&mut pack) {
-        Ok(_) => Some((answer, pack)),
-        Err(_) => None,
+        Ok(_) => Ok(Some((answer, pack))),
+        Err(e) if e.kind() == ErrorKind::OutOfMemory => Err(AllocError),
+        Err(_) => Ok(None),
     }
 }
 
@@ -409,7 +412,7 @@ fn read_banded<T: ExtendedBufRead>(
     let mut reader = WithSidebands::new(transport, notes, never);
     let parts = read_parts(alloc, &mut reader);
     drop(reader);
-    let (answer, pack) = parts.ok_or("an answer")?;
+    let (answer, pack) = parts?.ok_or("an answer")?;
     Ok(Banded { answer, pack, said })
 }
 
