@@ -6,6 +6,8 @@ mod recorded_sessions;
 mod requests;
 mod sessions;
 
+use crate::lines::recorded_sessions::REFS;
+use crate::wire::Device;
 use bstr::BString;
 use gixp_lines::handshake::Ref;
 use gixp_lines::handshake::refs::{from_v2_refs, parse};
@@ -45,6 +47,27 @@ fn refs_from<R: Read>(
 ) -> Result<Result<Vec<Ref>, parse::Error>, Fail> {
     let mut reader = LineReader::new(alloc, stream)?;
     Ok(from_v2_refs(alloc, &mut reader))
+}
+
+// The refusal of refs whose read of number `fails` fails, of 11 bytes each.
+fn refusal_where_it_fails(alloc: Global, fails: usize) -> Result<String, Fail> {
+    let mut device = Device::sound(REFS, 11);
+    device.fails = fails;
+    device.kind = ErrorKind::TimedOut;
+    match refs_from(alloc, &mut device)? {
+        Ok(_) => Ok(String::new(alloc)),
+        Err(e) => Ok(format!(in alloc; "{e:?}")?),
+    }
+}
+
+#[test]
+fn tells_of_each_read_that_fails(rt: HostRuntime) -> Result<(), Fail> {
+    let a = rt.alloc();
+    for fails in 0..REFS.len().div_ceil(11) {
+        let got = refusal_where_it_fails(a, fails)?;
+        assert_eq!(rt; got.as_str(), "Io(TimedOut)", "{fails}");
+    }
+    Ok(())
 }
 
 fn one_ref(alloc: Global, line: &str) -> Result<Ref, Fail> {

@@ -17,15 +17,15 @@ use std::test::Fail;
 
 // Bytes of which each read gives at most `step`. The read of number `fails` fails with `kind`.
 #[derive(Drop)]
-struct Device<'a> {
+pub(crate) struct Device<'a> {
     bytes: &'a [u8],
     step: usize,
-    fails: usize,
-    kind: ErrorKind,
+    pub(crate) fails: usize,
+    pub(crate) kind: ErrorKind,
 }
 
 impl<'a> Device<'a> {
-    fn sound(bytes: &'a [u8], step: usize) -> Device<'a> {
+    pub(crate) fn sound(bytes: &'a [u8], step: usize) -> Device<'a> {
         Device {
             bytes,
             step,

@@ -4,6 +4,7 @@ use crate::lines::recorded_answers::{
     CLONE, CLONE_V2, DEPTH, DEPTH_V2, NEGOTIATE, NEGOTIATE_V2, NEGOTIATED, NEWEST, OLDEST,
     REFUSED_V2, UNKNOWN_HAVE_V2, WANT_REF_V2,
 };
+use crate::wire::Device;
 use bstr::BString;
 use gixp_lines::fetch::Response;
 use gixp_lines::fetch::response::{
@@ -412,6 +413,40 @@ fn reads_recorded_answers(rt: HostRuntime) -> Result<(), Fail> {
     assert_eq!(rt; wanted[0].id, newest);
     assert_eq!(rt; wanted[0].path.as_bytes(), b"refs/heads/main".as_slice());
     assert_eq!(rt; answer.has_pack(), true);
+    Ok(())
+}
+
+// The refusal of an answer whose read of number `fails` fails, of 11 bytes each.
+fn refusal_where_it_fails(
+    alloc: Global,
+    version: Protocol,
+    bytes: &[u8],
+    fails: usize,
+) -> Result<String, Fail> {
+    let mut device = Device::sound(bytes, 11);
+    device.fails = fails;
+    device.kind = ErrorKind::TimedOut;
+    let read = read_from(alloc, version, &mut device, true, false)?;
+    refusal(alloc, read)
+}
+
+#[test]
+fn tells_of_each_read_that_fails(rt: HostRuntime) -> Result<(), Fail> {
+    let a = rt.alloc();
+    for (version, bytes) in [
+        (Protocol::V0, DEPTH),
+        (Protocol::V1, NEGOTIATED),
+        (Protocol::V2, DEPTH_V2),
+        (Protocol::V2, NEGOTIATE_V2),
+        (Protocol::V2, WANT_REF_V2),
+    ] {
+        // The packet behind the answer has 35 bytes at most.
+        let reads = bytes.len().saturating_sub(35).div_ceil(11);
+        for fails in 0..reads {
+            let got = refusal_where_it_fails(a, version, bytes, fails)?;
+            assert_eq!(rt; got.as_str(), "Io(TimedOut)", "{fails}");
+        }
+    }
     Ok(())
 }
 
