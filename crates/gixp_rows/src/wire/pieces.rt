@@ -58,7 +58,10 @@ fn ends_with_each_beginning(rt: HostRuntime) -> Result<(), Fail> {
         for len in 0..bytes.len() {
             let (front, _) = bytes.split_at(len);
             let got = greeted_in_memory(a, front)?;
-            assert!(rt; got.as_str().ends_with("Io(UnexpectedEof)"), "{len}");
+            assert!(rt;
+                got.as_str().ends_with("Io(UnexpectedEof)"),
+                "{got} at {len}"
+            );
         }
     }
     Ok(())
@@ -83,9 +86,12 @@ fn tells_of_each_read_that_fails(rt: HostRuntime) -> Result<(), Fail> {
     for (bytes, _) in ADVERTISEMENTS {
         for fails in 0..bytes.len().div_ceil(97) {
             let got = greeted_failing(a, bytes, fails, ErrorKind::TimedOut)?;
-            assert!(rt; got.as_str().ends_with("Io(TimedOut)"), "{fails}");
+            assert!(rt; got.as_str().ends_with("Io(TimedOut)"), "{got} at {fails}");
             let got = greeted_failing(a, bytes, fails, ErrorKind::Interrupted)?;
-            assert!(rt; got.as_str().ends_with("Io(Interrupted)"), "{fails}");
+            assert!(rt;
+                got.as_str().ends_with("Io(Interrupted)"),
+                "{got} at {fails}"
+            );
         }
     }
     Ok(())
