@@ -65,7 +65,7 @@ same_source_is (ObjectId a) (FullName b) h = cc
 same_source_is (ObjectId a) (ObjectId b) h = ap (λ x. let s : Source = ObjectId x in s) ((bytes_eq-Decides a b).0 h)
 
 -- equal local names are one value
-same_local_is : (a b : Option (List ℕ)) → local_eq a b ≡ true → a ≡ b
+pub same_local_is : (a b : Option (List ℕ)) → local_eq a b ≡ true → a ≡ b
 same_local_is None None h = refl
 same_local_is None (Some b) h = cc
 same_local_is (Some a) None h = cc
@@ -83,14 +83,14 @@ key_eq source local m sources locals keys = any_same _ _ (λ key.
     ∙ ap (λ b. source_eq (source_of key.0.now) m.source && b) (local_eq-bytes local key.1.now ∙ local_eq-turned (option_map bstring_bytes local) (option_map bstring_bytes key.1.now) ∙ ap (λ l. local_eq (option_map bstring_bytes key.1.now) l) (sym locals))) keys
 
 -- one or the other, the other way round
-or_turned : (a b : Bool) → (a || b) ≡ (b || a)
+pub or_turned : (a b : Bool) → (a || b) ≡ (b || a)
 or_turned true true = refl
 or_turned true false = refl
 or_turned false true = refl
 or_turned false false = refl
 
 -- what implies the other adds nothing to it
-or_known : (a b : Bool) → (b ≡ true → a ≡ true) → a ≡ (a || b)
+pub or_known : (a b : Bool) → (b ≡ true → a ≡ true) → a ≡ (a || b)
 or_known true b h = refl
 or_known false true h = h refl
 or_known false false h = refl

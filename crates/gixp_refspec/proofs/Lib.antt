@@ -18,3 +18,4 @@ pub mod LawLemmas
 pub mod SortedLemmas
 pub mod DifferLemmas
 pub mod UniqueLemmas
+pub mod ApartLemmas

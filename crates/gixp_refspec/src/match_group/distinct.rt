@@ -1,5 +1,6 @@
 //! Of equal mappings the first.
 ghost use Rattle.std.specs.Prelude.{◌≡◌, ◌||◌, not, IfOk, OnOk, [], map};
+ghost use Rattle.std.specs.List.{list_all};
 ghost use Rattle.gixp_refspec.specs.Mappings.{Mapped, is_same, firsts};
 ghost use Rattle.gixp_refspec.specs.Firsts.{first_flags, flagged};
 ghost use Rattle.gixp_refspec.specs.MatchGroup.{mapped_of, mapped_in, is_marked};
@@ -25,13 +26,20 @@ fn mark<'a>(
 fn first_flags(alloc: Global, mappings: &[Mapping]) -> Result<Vec<bool>, AllocError>
     ensures { IfOk result (λ flags. flags.items ≡ first_flags [] (map mapped_of mappings.now)) }
 {
-    let mut seen = HashSet::new(alloc);
-    let mut flags = Vec::new(alloc);
+    let mut seen = HashSet::with_capacity(alloc, mappings.len())?;
+    let mut flags = Vec::with_capacity(alloc, mappings.len())?;
     'mappings: for mapping in mappings {
         let is_first = mark(&mut seen, mapping)?;
         flags.push(is_first)?;
     }
     Ok(flags)
+}
+
+/// Whether all flags are true.
+fn are_all_true(flags: &[bool]) -> bool
+    ensures { result ≡ list_all (λ flag. flag) flags.now }
+{
+    flags.iter().all(|flag| *flag)
 }
 
 /// The mappings whose flag is true.
@@ -50,10 +58,13 @@ fn flagged(
         .collect(alloc)
 }
 
-/// Of mappings with equal source and local name the first.
+/// Of mappings with equal source and local name the first. Mostly no two are equal, and then none is moved.
 pub(crate) fn firsts(alloc: Global, mappings: Vec<Mapping>) -> Result<Vec<Mapping>, AllocError>
     ensures { IfOk result (λ kept. mapped_in kept ≡ firsts (mapped_in mappings)) }
 {
     let flags = first_flags(alloc, &mappings)?;
+    if are_all_true(&flags) {
+        return Ok(mappings);
+    }
     flagged(alloc, mappings, flags)
 }
