@@ -2,7 +2,6 @@
 use Rattle.std.proofs.Common.{◌≡◌, ℕ, ◌+◌, ◌<◌, length, take, drop, get_or, append_assoc, Bool, true, false, cond, List, [], ◌∷◌, ◌++◌, map, Option, Some, None, ap, sym, ◌∙◌, refl, inl, inr}
 use Rattle.std.specs.Prelude.{filter, not, ◌&&◌, ◌||◌}
 use Rattle.std.specs.Bool.{MatchBool}
-use Rattle.std.specs.Borrow.{Bor}
 use Rattle.std.specs.List.{list_any, flat_map}
 use Rattle.std.specs.List.Sorted.{IsPermutation}
 use Rattle.std.specs.Option.{option_map_or}
@@ -14,10 +13,10 @@ use Rattle.std.proofs.lemmas.List.Folds.{list_any-append}
 use Rattle.std.proofs.lemmas.List.Sorted.{list_any-IsPermutation}
 use Rattle.std.proofs.lemmas.Slice.Eq.{bytes_eq-Decides}
 use Rattle.std.proofs.Math.Seq.{drop-length}
-use Rattle.bstr.specs.declared.bstring.BString.{BString}
-use Rattle.bstr.specs.Owned.{bstring_bytes}
+use Rattle.gixp_refspec.specs.declared.match_group.key.KeyBytes.{KeyBytes}
 use Rattle.gixp_refspec.specs.Spec.{Spec}
 use Rattle.gixp_refspec.specs.Mappings.{Mapped}
+use Rattle.gixp_refspec.specs.MatchGroup.{key_bytes}
 use Rattle.gixp_refspec.specs.Apart.{has_name, is_named, is_taken, are_apart_from, are_apart}
 use Rattle.gixp_refspec.specs.Validation.{has_local, of_local, differ, conflict_over, conflicts, local_names}
 use Rattle.gixp_refspec.proofs.DifferLemmas.{differ-first}
@@ -71,33 +70,33 @@ no_conflicts specs ms apart =
     sym (none_made (λ name. conflict_over specs name (of_local name ms)) (local_names ms) (λ name. cond-false _ _ _ (one_source name [] ms refl apart)))
 
 -- a table with one more name, or with the same names where the name was there
-pub named_more : (key : Bor BString) (old new : List (Bor BString)) (b : Bool) (local : List ℕ) → bstring_bytes key.now ≡ local
+pub named_more : (key : KeyBytes) (old new : List KeyBytes) (b : Bool) (local : List ℕ) → key_bytes key ≡ local
     → MatchBool b (IsPermutation (key ∷ old) new) (new ≡ old) → b ≡ not (has_name old local) → (name : List ℕ) → has_name new name ≡ (has_name old name || bytes_eq local name)
 named_more key old new true local is put fresh name =
-    sym (list_any-IsPermutation (λ other. bytes_eq (bstring_bytes other.now) name) (key ∷ old) new put)
+    sym (list_any-IsPermutation (λ other. bytes_eq (key_bytes other) name) (key ∷ old) new put)
     ∙ or_turned _ (has_name old name) ∙ ap (λ bytes. has_name old name || bytes_eq bytes name) is
 named_more key old new false local is put fresh name =
     ap (λ keys. has_name keys name) put
     ∙ or_known (has_name old name) (bytes_eq local name) (λ same. ap (has_name old) (sym ((bytes_eq-Decides local name).0 same)) ∙ not-false _ (sym fresh))
 
 -- the table's equality, the other way round
-pub named_eq : (local : List ℕ) (keys : List (Bor BString)) → list_any (λ key. bytes_eq local (bstring_bytes key.now)) keys ≡ has_name keys local
-named_eq local keys = any_same _ _ (λ key. bytes_eq-turned local (bstring_bytes key.now)) keys
+pub named_eq : (local : List ℕ) (keys : List KeyBytes) → list_any (λ key. bytes_eq local (key_bytes key)) keys ≡ has_name keys local
+named_eq local keys = any_same _ _ (λ key. bytes_eq-turned local (key_bytes key)) keys
 
 -- behind i mappings: those to come decide, and a table has the names so far
-pub record IsApartSoFar (ms : List Mapped) (i : ℕ) (names : List (Bor BString)) : Type 0 where
+pub record IsApartSoFar (ms : List Mapped) (i : ℕ) (names : List KeyBytes) : Type 0 where
   pub rest_decides : are_apart_from (take i ms) (drop i ms) ≡ are_apart ms
   pub has_them : (name : List ℕ) → has_name names name ≡ list_any (has_local name) (take i ms)
 
 -- the table has the mapping's name where an earlier mapping has it
-named_taken : (m : Mapped) (earlier : List Mapped) (names : List (Bor BString)) → ((name : List ℕ) → has_name names name ≡ list_any (has_local name) earlier) → is_named names m ≡ is_taken earlier m
+named_taken : (m : Mapped) (earlier : List Mapped) (names : List KeyBytes) → ((name : List ℕ) → has_name names name ≡ list_any (has_local name) earlier) → is_named names m ≡ is_taken earlier m
 named_taken m earlier names h = at m.local where
   at : (local : Option (List ℕ)) → option_map_or (has_name names) local false ≡ option_map_or (λ name. list_any (has_local name) earlier) local false
   at None = refl
   at (Some name) = h name
 
 -- what the next mapping decides
-next_decides : {A : Type 0} (h : A → Mapped) (xs : List A) (i : ℕ) (x : A) (b : Bool) (names : List (Bor BString)) → x ≡ get_or xs i x → i < length xs
+next_decides : {A : Type 0} (h : A → Mapped) (xs : List A) (i : ℕ) (x : A) (b : Bool) (names : List KeyBytes) → x ≡ get_or xs i x → i < length xs
     → IsApartSoFar (map h xs) i names → b ≡ is_named names (h x) → (not b && are_apart_from (take i (map h xs) ++ h x ∷ []) (drop (i + 1) (map h xs))) ≡ are_apart (map h xs)
 next_decides h xs i x b names e l kept named =
     let within : i < length (map h xs) = rw length-map l in
@@ -107,13 +106,13 @@ next_decides h xs i x b names e l kept named =
     ∙ ap (are_apart_from (take i (map h xs))) (sym back) ∙ kept.rest_decides
 
 -- a name that is taken decides
-pub apart_taken : {A : Type 0} (h : A → Mapped) (xs : List A) (i : ℕ) (x : A) (b : Bool) (names : List (Bor BString)) → x ≡ get_or xs i x → i < length xs
+pub apart_taken : {A : Type 0} (h : A → Mapped) (xs : List A) (i : ℕ) (x : A) (b : Bool) (names : List KeyBytes) → x ≡ get_or xs i x → i < length xs
     → IsApartSoFar (map h xs) i names → b ≡ is_named names (h x) → b ≡ true → false ≡ are_apart (map h xs)
 apart_taken h xs i x b names e l kept named t =
     ap (λ c. not c && are_apart_from (take i (map h xs) ++ h x ∷ []) (drop (i + 1) (map h xs))) (sym t) ∙ next_decides h xs i x b names e l kept named
 
 -- one more, whose name is not taken
-pub apart_more : {A : Type 0} (h : A → Mapped) (xs : List A) (i : ℕ) (x : A) (b : Bool) (names new : List (Bor BString)) → x ≡ get_or xs i x → i < length xs
+pub apart_more : {A : Type 0} (h : A → Mapped) (xs : List A) (i : ℕ) (x : A) (b : Bool) (names new : List KeyBytes) → x ≡ get_or xs i x → i < length xs
     → IsApartSoFar (map h xs) i names → b ≡ is_named names (h x) → b ≡ false → ((name : List ℕ) → has_name new name ≡ (has_name names name || has_local name (h x)))
     → IsApartSoFar (map h xs) (i + 1) new
 apart_more h xs i x b names new e l kept named f marked =
@@ -130,7 +129,7 @@ apart_more h xs i x b names new e l kept named f marked =
     }
 
 -- behind the last
-pub apart_all : {A : Type 0} (h : A → Mapped) (xs : List A) (i : ℕ) (names : List (Bor BString)) → i ≡ length xs → IsApartSoFar (map h xs) i names → true ≡ are_apart (map h xs)
+pub apart_all : {A : Type 0} (h : A → Mapped) (xs : List A) (i : ℕ) (names : List KeyBytes) → i ≡ length xs → IsApartSoFar (map h xs) i names → true ≡ are_apart (map h xs)
 apart_all h xs i names e kept =
     let same : i ≡ length (map h xs) = rw length-map e in
     let none : drop i (map h xs) ≡ [] = ap (λ n. drop n (map h xs)) same ∙ drop-length (map h xs) in

@@ -1,20 +1,19 @@
 -- Mappings whose local names are all different.
 use Rattle.std.specs.Prelude.{ℕ, Bool, true, false, not, ◌&&◌, List, [], ◌∷◌, ◌++◌}
-use Rattle.std.specs.Borrow.{Bor}
 use Rattle.std.specs.List.{list_any}
 use Rattle.std.specs.Option.{option_map_or}
 use Rattle.std.specs.Str.{bytes_eq}
-use Rattle.bstr.specs.declared.bstring.BString.{BString}
-use Rattle.bstr.specs.Owned.{bstring_bytes}
+use Rattle.gixp_refspec.specs.declared.match_group.key.KeyBytes.{KeyBytes}
 use Rattle.gixp_refspec.specs.Mappings.{Mapped}
+use Rattle.gixp_refspec.specs.MatchGroup.{key_bytes}
 use Rattle.gixp_refspec.specs.Validation.{has_local}
 
 -- one of the names is this one
-abbrev pub has_name : List (Bor BString) → List ℕ → Bool
-has_name names name = list_any (λ other. bytes_eq (bstring_bytes other.now) name) names
+abbrev pub has_name : List KeyBytes → List ℕ → Bool
+has_name names name = list_any (λ other. bytes_eq (key_bytes other) name) names
 
 -- the mapping has a local name, and it is one of the names
-abbrev pub is_named : List (Bor BString) → Mapped → Bool
+abbrev pub is_named : List KeyBytes → Mapped → Bool
 is_named names m = option_map_or (has_name names) m.local false
 
 -- the mapping has a local name, and one of the earlier mappings has it too

@@ -5,20 +5,20 @@ ghost use Rattle.gixp_refspec.specs.Mappings.{Mapped, is_same, firsts};
 ghost use Rattle.gixp_refspec.specs.Firsts.{first_flags, flagged};
 ghost use Rattle.gixp_refspec.specs.MatchGroup.{mapped_of, mapped_in, is_marked};
 
-use crate::match_group::{Mapping, SourceRef};
-use bstr::BString;
+use crate::match_group::Mapping;
+use crate::match_group::key::{KeyBytes, KeySource, local_key, source_key};
 use std::alloc::{AllocError, Global};
 use std::collections::HashSet;
 
 /// Remembers the source and the local name of a mapping, and answers whether they are new.
 fn mark<'a>(
-    seen: &mut HashSet<(&'a SourceRef, &'a Option<BString>)>,
+    seen: &mut HashSet<(KeySource<'a>, Option<KeyBytes<'a>>)>,
     mapping: &'a Mapping,
 ) -> Result<bool, AllocError>
     ensures fresh { IfOk result (λ is_new. is_new ≡ not (is_marked seen.old.keys (mapped_of mapping.now))) }
     ensures marked { OnOk result ((m : Mapped) → is_marked seen.new.keys m ≡ (is_marked seen.old.keys m || is_same (mapped_of mapping.now) m)) }
 {
-    let is_new = seen.insert((&mapping.lhs, &mapping.rhs))?;
+    let is_new = seen.insert((source_key(&mapping.lhs), local_key(&mapping.rhs)))?;
     Ok(is_new)
 }
 
