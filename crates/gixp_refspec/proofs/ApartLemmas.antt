@@ -1,12 +1,12 @@
 -- Mappings whose local names are all different have no conflicts.
-use Rattle.std.proofs.Common.{◌≡◌, ℕ, ◌+◌, ◌<◌, length, take, drop, get_or, append_assoc, Bool, true, false, cond, List, [], ◌∷◌, ◌++◌, map, Option, Some, None, ap, sym, ◌∙◌, refl, inl, inr}
-use Rattle.std.specs.Prelude.{filter, not, ◌&&◌, ◌||◌}
+use Rattle.std.proofs.Common.{◌≡◌, ℕ, ◌+◌, ◌<◌, length, take, drop, get_or, append_assoc, Bool, true, false, List, [], ◌∷◌, ◌++◌, map, Option, Some, None, ap, sym, ◌∙◌, refl, inl, inr}
+use Rattle.std.specs.Prelude.{not, ◌&&◌, ◌||◌}
 use Rattle.std.specs.Bool.{MatchBool}
 use Rattle.std.specs.List.{list_any, flat_map}
 use Rattle.std.specs.List.Sorted.{IsPermutation}
 use Rattle.std.specs.Option.{option_map_or}
 use Rattle.std.specs.Str.{bytes_eq}
-use Rattle.std.proofs.lemmas.Bool.{cases_Bool, cond-true, cond-false, and_parts, not-false, or_parts, or_right}
+use Rattle.std.proofs.lemmas.Bool.{cases_Bool, cond-true, cond-false, and_parts, not-false}
 use Rattle.std.proofs.lemmas.List.{take_more, drop_more, get_or-map, length-map, append-nil}
 use Rattle.std.proofs.lemmas.List.Elements.{filter-append}
 use Rattle.std.proofs.lemmas.List.Folds.{list_any-append}
@@ -22,17 +22,13 @@ use Rattle.gixp_refspec.specs.Validation.{has_local, of_local, differ, conflict_
 use Rattle.gixp_refspec.proofs.DifferLemmas.{differ-first}
 use Rattle.gixp_refspec.proofs.FirstLemmas.{or_none}
 use Rattle.gixp_refspec.proofs.KeyLemmas.{bytes_eq-turned, or_turned, or_known, same_local_is}
-use Rattle.gixp_refspec.proofs.ListLemmas.{any_weaker, any_same}
+use Rattle.gixp_refspec.proofs.KeptLemmas.{none_kept}
+use Rattle.gixp_refspec.proofs.ListLemmas.{any_same}
 
 -- what is not true is false
 not_true : (b : Bool) → not b ≡ true → b ≡ false
 not_true true h = sym h
 not_true false h = refl
-
--- nothing is kept where nothing passes
-none_kept : (p : Mapped → Bool) (ms : List Mapped) → list_any p ms ≡ false → filter p ms ≡ []
-none_kept p [] h = refl
-none_kept p (m ∷ ms) h = let both = or_parts (p m) (list_any p ms) h in cond-false _ _ _ both.0 ∙ none_kept p ms both.1
 
 -- a local name that the mapping has is not taken where no earlier mapping has it
 none_earlier : (name : List ℕ) (earlier : List Mapped) (m : Mapped) → has_local name m ≡ true → not (is_taken earlier m) ≡ true → of_local name earlier ≡ []

@@ -10,24 +10,14 @@ use Rattle.std.proofs.lemmas.Bool.{and_parts, not-false}
 use Rattle.std.proofs.lemmas.Bool.Decides.{same_from_decides}
 use Rattle.std.proofs.lemmas.List.Sorted.{list_any-IsPermutation}
 use Rattle.std.proofs.lemmas.Slice.Eq.{bytes_eq-Decides}
-use Rattle.gixp_refspec.specs.contracts.match_group.SourceRefPartialEq.TheImpl as same_source
 use Rattle.gixp_refspec.specs.contracts.match_group.key.KeyBytesPartialEq.TheImpl as same_key
 use Rattle.gixp_refspec.specs.contracts.match_group.key.KeySourcePartialEq.TheImpl as same_key_source
 use Rattle.gixp_refspec.specs.declared.match_group.key.KeyBytes.{KeyBytes}
 use Rattle.gixp_refspec.specs.declared.match_group.key.KeySource.{KeySource}
 use Rattle.gixp_refspec.specs.declared.match_group.key.KeySource.TheVariants.{FullName as the_name_key, ObjectId as the_id_key}
-use Rattle.gixp_refspec.specs.declared.match_group.SourceRef.{SourceRef}
-use Rattle.gixp_refspec.specs.declared.match_group.SourceRef.TheVariants.{FullName as the_name, ObjectId as the_id}
 use Rattle.gixp_refspec.specs.Mappings.{Source, FullName, ObjectId, Mapped, source_eq, local_eq, is_same}
-use Rattle.gixp_refspec.specs.MatchGroup.{source_of, key_bytes, key_source, is_marked}
+use Rattle.gixp_refspec.specs.MatchGroup.{key_bytes, key_source, is_marked}
 use Rattle.gixp_refspec.proofs.ListLemmas.{any_weaker, any_same}
-
--- two sources are equal where they are one value
-pub source_eq-source_of : (a b : SourceRef) → (same_source.ghosts).eq a b ≡ source_eq (source_of a) (source_of b)
-source_eq-source_of (the_name a) (the_name b) = refl
-source_eq-source_of (the_name a) (the_id b) = refl
-source_eq-source_of (the_id a) (the_name b) = refl
-source_eq-source_of (the_id a) (the_id b) = refl
 
 -- two keys are equal where their sources are
 source_eq-key_source : (a b : KeySource) → (same_key_source.ghosts).eq a b ≡ source_eq (key_source a) (key_source b)

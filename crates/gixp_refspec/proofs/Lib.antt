@@ -19,3 +19,4 @@ pub mod SortedLemmas
 pub mod DifferLemmas
 pub mod UniqueLemmas
 pub mod ApartLemmas
+pub mod KeptLemmas

@@ -1,8 +1,6 @@
 -- What a clause reads of a match group, its items and its outcome.
 use Rattle.std.specs.Prelude.{ℕ, Bool, ◌&&◌, List, map, Option, Vec}
-use Rattle.std.specs.Borrow.{Bor}
 use Rattle.std.specs.List.{list_any}
-use Rattle.bstr.specs.declared.bstring.BString.{BString}
 use Rattle.std.specs.Option.{option_map}
 use Rattle.std.specs.declared.alloc.Global.{Global}
 use Rattle.bstr.specs.BStr.{bstr_bytes}

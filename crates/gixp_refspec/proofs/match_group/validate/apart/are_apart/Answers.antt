@@ -1,6 +1,6 @@
 -- A name that is taken decides, and else the table grows by one.
 use Rattle.gixp_refspec.specs.MatchGroup.{mapped_of}
-use Rattle.gixp_refspec.proofs.ApartLemmas.{apart_taken, apart_more, apart_all}
+use Rattle.gixp_refspec.proofs.ApartLemmas.{apart_taken, apart_more}
 use Rattle.gixp_refspec.proofs.match_group.validate.apart.are_apart.Goals as goal
 
 pub returns-then-branch : goal.returns-then-branch

@@ -1,10 +1,9 @@
 -- The table answers for names, and has one more.
-use Rattle.std.proofs.Common.{◌∙◌, ap, sym, refl}
+use Rattle.std.proofs.Common.{◌∙◌, ap, refl}
 use Rattle.std.specs.Prelude.{◌||◌, not}
-use Rattle.std.specs.Option.{option_map}
 use Rattle.bstr.specs.Owned.{bstring_bytes}
 use Rattle.gixp_refspec.specs.Apart.{has_name}
-use Rattle.gixp_refspec.specs.MatchGroup.{mapped_of, key_bytes}
+use Rattle.gixp_refspec.specs.MatchGroup.{key_bytes}
 use Rattle.gixp_refspec.proofs.ApartLemmas.{named_more, named_eq}
 use Rattle.gixp_refspec.proofs.GroupLemmas.{local_at}
 use Rattle.gixp_refspec.proofs.match_group.validate.apart.mark.Goals as goal
