@@ -18,3 +18,5 @@ pub mod LawLemmas
 pub mod SortedLemmas
 pub mod DifferLemmas
 pub mod UniqueLemmas
+pub mod ApartLemmas
+pub mod KeptLemmas

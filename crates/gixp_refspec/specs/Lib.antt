@@ -10,6 +10,7 @@ pub mod Mappings
 pub mod Firsts
 pub mod MatchGroup
 pub mod Validation
+pub mod Apart
 pub mod Groups
 pub mod Validate
 pub mod Leaving

@@ -1,8 +1,6 @@
 -- What a clause reads of a match group, its items and its outcome.
 use Rattle.std.specs.Prelude.{ℕ, Bool, ◌&&◌, List, map, Option, Vec}
-use Rattle.std.specs.Borrow.{Bor}
 use Rattle.std.specs.List.{list_any}
-use Rattle.bstr.specs.declared.bstring.BString.{BString}
 use Rattle.std.specs.Option.{option_map}
 use Rattle.std.specs.declared.alloc.Global.{Global}
 use Rattle.bstr.specs.BStr.{bstr_bytes}
@@ -11,6 +9,9 @@ use Rattle.gixp_refspec.specs.declared.match_group.Item.{Item}
 use Rattle.gixp_refspec.specs.declared.match_group.SourceRef.{SourceRef}
 use Rattle.gixp_refspec.specs.declared.match_group.SourceRef.TheVariants.{FullName as the_name, ObjectId as the_id}
 use Rattle.gixp_refspec.specs.declared.match_group.Mapping.{Mapping}
+use Rattle.gixp_refspec.specs.declared.match_group.key.KeyBytes.{KeyBytes}
+use Rattle.gixp_refspec.specs.declared.match_group.key.KeySource.{KeySource}
+use Rattle.gixp_refspec.specs.declared.match_group.key.KeySource.TheVariants.{FullName as the_name_key, ObjectId as the_id_key}
 use Rattle.gixp_refspec.specs.declared.match_group.Outcome.{Outcome}
 use Rattle.gixp_refspec.specs.declared.match_group.MatchGroup.{MatchGroup}
 use Rattle.gixp_refspec.specs.declared.spec.RefSpecRef.{RefSpecRef}
@@ -31,9 +32,18 @@ mapped_of m = mapped m.item_index (source_of m.lhs) (option_map bstring_bytes m.
 abbrev pub mapped_in : Vec Mapping Global → List Mapped
 mapped_in v = map mapped_of v.items
 
+-- the bytes of a key
+abbrev pub key_bytes : KeyBytes → List ℕ
+key_bytes key = key.bytes.now
+
+-- the source that a key is of
+abbrev pub key_source : KeySource → Source
+key_source (the_name_key name) = FullName (key_bytes name)
+key_source (the_id_key id) = IdOf (key_bytes id)
+
 -- the table of sources and local names has those of the mapping
-abbrev pub is_marked : List (Bor SourceRef × Bor (Option (BString))) → Mapped → Bool
-is_marked keys m = list_any (λ key. source_eq (source_of key.0.now) m.source && local_eq (option_map bstring_bytes key.1.now) m.local) keys
+abbrev pub is_marked : List (KeySource × Option KeyBytes) → Mapped → Bool
+is_marked keys m = list_any (λ key. source_eq (key_source key.0) m.source && local_eq (option_map key_bytes key.1) m.local) keys
 
 -- the values of refspecs
 abbrev pub values : List RefSpecRef → List Spec

@@ -5,6 +5,7 @@ ghost use Rattle.gixp_refspec.specs.Leaving.{AnswersAll};
 ghost use Rattle.gixp_refspec.specs.MatchGroup.{source_of, mapped_of, mapped_in, values, names, group_specs, outcome_specs};
 
 mod distinct;
+pub(crate) mod key;
 mod local;
 pub(crate) mod needle;
 mod pairs;
@@ -14,7 +15,7 @@ use crate::match_group::distinct::firsts;
 use crate::match_group::pairs::{push_ids, push_pairs};
 use crate::match_group::validate::Fix;
 use crate::match_group::validate::conflicts::conflicts_of;
-use crate::match_group::validate::fixes::{fixes_of, keep_whole};
+use crate::match_group::validate::fixes::take_out_partial;
 use crate::spec::RefSpecRef;
 use bstr::{BStr, BString};
 use gixp_wire::ObjectId;
@@ -158,8 +159,7 @@ impl<'s> Outcome<'s> {
         if !issues.is_empty() {
             return Ok(Err(validate::Error { issues }));
         }
-        let found = fixes_of(alloc, specs, &mappings)?;
-        keep_whole(&mut mappings);
+        let found = take_out_partial(alloc, specs, &mut mappings)?;
         Ok(Ok((Outcome { mappings, specs }, found)))
     }
 }

@@ -2,6 +2,7 @@
 ghost use Rattle.std.specs.Prelude.{◌≡◌};
 ghost use Rattle.gixp_refspec.specs.Validate.{removed_of};
 
+mod apart;
 pub(crate) mod conflicts;
 pub(crate) mod fixes;
 mod groups;

@@ -9,6 +9,7 @@ ghost use Rattle.gixp_refspec.specs.Validate.{sources_in, conflict_of, conflicts
 ghost use Rattle.gixp_refspec.specs.Validation.{differ, spec_text, the_conflict, conflict_over, conflicts};
 
 use crate::match_group::validate::Issue;
+use crate::match_group::validate::apart::are_apart;
 use crate::match_group::validate::fixes::spec_text;
 use crate::match_group::validate::groups::groups_of;
 use crate::match_group::{Mapping, SourceRef};
@@ -115,8 +116,8 @@ fn push_conflict(
     Ok(())
 }
 
-/// The conflicts, in byte order of the local names.
-pub(crate) fn conflicts_of(
+/// The conflicts, in byte order of the local names, by the mappings of each name.
+fn conflicts_by_name(
     alloc: Global,
     specs: &[RefSpecRef<'_>],
     mappings: &[Mapping],
@@ -129,4 +130,19 @@ pub(crate) fn conflicts_of(
         push_conflict(alloc, specs, name, group, &mut issues)?;
     }
     Ok(issues)
+}
+
+/// The conflicts, in byte order of the local names. Mostly all local names are different, which is seen faster than
+/// the mappings of each name are put in order.
+pub(crate) fn conflicts_of(
+    alloc: Global,
+    specs: &[RefSpecRef<'_>],
+    mappings: &[Mapping],
+) -> Result<Vec<Issue>, AllocError>
+    ensures { IfOk result (λ v. conflicts_in v ≡ conflicts (values specs.now) (map mapped_of mappings.now)) }
+{
+    if are_apart(alloc, mappings)? {
+        return Ok(Vec::new(alloc));
+    }
+    conflicts_by_name(alloc, specs, mappings)
 }

@@ -1,5 +1,6 @@
 //! Mappings whose local name is no whole name of a ref.
 ghost use Rattle.std.specs.Prelude.{◌≡◌, [], ◌∷◌, ◌++◌, IfOk, OnOk, filter, map};
+ghost use Rattle.std.specs.List.{list_any};
 ghost use Rattle.bstr.specs.Owned.{bstring_bytes};
 ghost use Rattle.gixp_refspec.specs.MatchGroup.{mapped_of, mapped_in, values};
 ghost use Rattle.gixp_refspec.specs.Validation.{spec_text, is_partial, removed_at, fixes, kept};
@@ -36,6 +37,13 @@ fn is_partial(mapping: &Mapping) -> bool
     }
 }
 
+/// Whether some mapping has a local name that is no whole name of a ref.
+fn has_partial(mappings: &[Mapping]) -> bool
+    ensures { result ≡ list_any (λ mapping. is_partial (mapped_of mapping)) mappings.now }
+{
+    mappings.iter().any(|mapping| is_partial(mapping))
+}
+
 /// Appends the note on a mapping that is taken out.
 fn push_fix(
     alloc: Global,
@@ -61,7 +69,7 @@ fn push_fix(
 
 /// The notes on the mappings that are taken out.
 #[tactic(auto, unfolding(crate::specs::Validation::fixes))]
-pub(crate) fn fixes_of(
+fn fixes_of(
     alloc: Global,
     specs: &[RefSpecRef<'_>],
     mappings: &[Mapping],
@@ -77,8 +85,26 @@ pub(crate) fn fixes_of(
 
 /// Keeps the mappings whose local name is a whole name of a ref, or that have none.
 #[tactic(auto, unfolding(crate::specs::Validation::kept))]
-pub(crate) fn keep_whole(mappings: &mut Vec<Mapping>)
+fn keep_whole(mappings: &mut Vec<Mapping>)
     ensures { mapped_in mappings.new ≡ kept (mapped_in mappings.old) }
 {
     mappings.retain(|mapping| !is_partial(mapping));
+}
+
+/// Takes out the mappings whose local name is no whole name of a ref, and notes each. Mostly there is none, which one
+/// look at each local name tells.
+pub(crate) fn take_out_partial(
+    alloc: Global,
+    specs: &[RefSpecRef<'_>],
+    mappings: &mut Vec<Mapping>,
+) -> Result<Vec<Fix>, AllocError>
+    ensures noted { IfOk result (λ v. fixes_in v ≡ fixes (values specs.now) (mapped_in mappings.old)) }
+    ensures kept { OnOk result (mapped_in mappings.new ≡ kept (mapped_in mappings.old)) }
+{
+    if !has_partial(mappings) {
+        return Ok(Vec::new(alloc));
+    }
+    let found = fixes_of(alloc, specs, mappings)?;
+    keep_whole(mappings);
+    Ok(found)
 }

@@ -5,7 +5,7 @@ use Rattle.gixp_refspec.specs.Groups.{mapped_behind}
 use Rattle.gixp_refspec.specs.MatchGroup.{values}
 use Rattle.gixp_refspec.specs.Validate.{conflicts_in}
 use Rattle.gixp_refspec.specs.Validation.{conflict_over}
-use Rattle.gixp_refspec.proofs.match_group.validate.conflicts.conflicts_of.Given as goal
+use Rattle.gixp_refspec.proofs.match_group.validate.conflicts.conflicts_by_name.Given as goal
 
 abbrev pub invariant-names : goal.invariant-names
 invariant-names l = conflicts_in l.issues ≡ flat_map (λ p. conflict_over (values l.specs) p.0.now.now (mapped_behind p.1.now.items)) l.yielded
