@@ -6,8 +6,8 @@ use Rattle.std.specs.Io.KnownBytes.{Appends}
 use Rattle.gix_protocol.specs.Pieces.{Refusal, Pieces, io, decode, server, unexpected_frame, not_utf8, bad_band, interrupted, memory, stream_pieces}
 use Rattle.gix_protocol.specs.Reading.{Reading, IsFresh, IsOutside, IsPlain, lines_ahead, lines_from_stop}
 use Rattle.gix_protocol.specs.RefLine.{RefsRefusal, refusal_from}
-use Rattle.gix_protocol.specs.Ref.{RefValue, ref_value}
-use Rattle.gix_protocol.specs.ParseError.{parse_refusal, is_outside, IsRefusal, IsFromOutside}
+use Rattle.gix_protocol.specs.Ref.{RefValue}
+use Rattle.gix_protocol.specs.ParseError.{parse_refusal, is_outside, IsRefusal}
 use Rattle.gix_protocol.specs.RefsError.{Error}
 use Rattle.gix_protocol.specs.Refs.{with_ref, v2_refs, stream_refs, ReadsRefs, RefsFail}
 use Rattle.gixp_plan.specs.List.{ref_line, Prints, PrintsAhead, RefusesAhead, RefusesRefs}

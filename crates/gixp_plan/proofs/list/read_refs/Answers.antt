@@ -1,6 +1,6 @@
 use Rattle.std.proofs.Common.{Err, ap, ◌∙◌}
 use Rattle.std.proofs.lemmas.Result.{err_from_is_err_and}
-use Rattle.gixp_plan.proofs.ListLemmas.{stream_prints, stream_refuses}
+use Rattle.gixp_plan.proofs.ListLemmas.{stream_refuses}
 use Rattle.gixp_plan.proofs.list.read_refs.Goals as goal
 
 pub returns-in_err-text : goal.returns-in_err-text
