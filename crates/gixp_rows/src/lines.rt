@@ -244,15 +244,10 @@ fn next_name<R: Read>(alloc: Global, reader: &mut LineReader<'_, R>) -> Result<S
 #[test]
 fn reads_ref_by_ref(rt: HostRuntime) -> Result<(), Fail> {
     let a = rt.alloc();
-    let mut stream: &[u8] = b"00320123456789012345678901234567890123456789 HEAD\n0008x y\n003d0123456789012345678901234567890123456789 refs/heads/main\n0000";
+    let mut stream: &[u8] =
+        b"00320123456789012345678901234567890123456789 HEAD\n0008x y\n003d0123456789012345678901234567890123456789 refs/heads/main\n0000";
     let mut reader = LineReader::new(a, &mut stream)?;
-    for want in [
-        "HEAD",
-        "Id(InvalidLength(1))",
-        "refs/heads/main",
-        "",
-        "",
-    ] {
+    for want in ["HEAD", "Id(InvalidLength(1))", "refs/heads/main", "", ""] {
         assert_eq!(rt; next_name(a, &mut reader)?.as_str(), want);
     }
     reader.reset(Protocol::V2);
