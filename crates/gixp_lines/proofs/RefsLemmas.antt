@@ -3,15 +3,14 @@ use Rattle.std.proofs.Common.{◌≡◌, ℕ, inl, inr, Bool, true, List, [], �
 use Rattle.std.proofs.lemmas.List.{map-append}
 use Rattle.gixp_wire.specs.Pieces.{Refusal, Pieces}
 use Rattle.gixp_wire.specs.Lines.{Ending, stop, refusal, before, lines_to}
-use Rattle.gixp_wire.specs.Reading.{Reading, TakesLine, AtStop, Fails, IsPlain, refusal_of, lines_ahead}
-use Rattle.gixp_wire.specs.declared.read.Error.{Error as ReadError}
+use Rattle.gixp_wire.specs.Reading.{Reading, TakesLine, AtStop, Fails, IsPlain, lines_ahead}
 use Rattle.gixp_lines.specs.declared.handshake.Ref.{Ref}
 use Rattle.gixp_lines.specs.declared.handshake.refs.parse.Error.{Error}
 use Rattle.gixp_lines.specs.declared.handshake.refs.parse.Error.TheVariants.{Memory}
 use Rattle.gixp_lines.specs.Ref.{RefValue, ref_value}
 use Rattle.gixp_lines.specs.RefLine.{RefsRefusal, refusal_from, v2_line}
 use Rattle.gixp_lines.specs.ParseError.{Answers, parse_refusal}
-use Rattle.gixp_lines.specs.Refs.{with_ref, refs_from, v2_refs, AreRefs, ReadsRefs, RefsFail, RefsSoFar}
+use Rattle.gixp_lines.specs.Refs.{with_ref, refs_from, v2_refs, AreRefs, ReadsRefs, RefsFail, RefsSoFar, NextRef, NextOfRefs}
 use Rattle.gixp_lines.proofs.RunLemmas.{so_far-start, so_far-line, so_far-at_stop, so_far-refuses}
 
 -- these values in front of those of the rest
@@ -101,17 +100,17 @@ reader_known r None texts vs e h a = tt
 reader_known r (Some p) texts vs e h a = ap v2_refs a ∙ refs_all texts vs (refusal e) h
 
 -- the reader's refusal is the first, or something came from outside
-pub refs-reader : (plain : Bool) (old mid new : Reading) (vs : List RefValue) (r : ReadError) (e : Error) → RefsSoFar old mid vs → Fails mid new (refusal_of r)
-    → (plain ≡ true → IsPlain new (refusal_of r)) → parse_refusal e ≡ refusal_from (refusal_of r) → RefsFail plain old new e
+pub refs-reader : (plain : Bool) (old mid new : Reading) (vs : List RefValue) (r : Refusal) (e : Error) → RefsSoFar old mid vs → Fails mid new r
+    → (plain ≡ true → IsPlain new r) → parse_refusal e ≡ refusal_from r → RefsFail plain old new e
 refs-reader plain old mid new vs r e h (inl k) p is =
     inr (inl (record {
-      refusal = refusal_of r;
-      first = reader_known old old.to_come h.texts vs (refusal_of r) h.refs (so_far-refuses old mid new h.texts (refusal_of r) h.read k);
+      refusal = r;
+      first = reader_known old old.to_come h.texts vs r h.refs (so_far-refuses old mid new h.texts r h.read k);
       refused = k.refused;
       error = is;
     }))
 refs-reader plain old mid new vs r e h (inr k) p is =
-    inr (inr (inl (record { texts = h.texts; now = mid; read = h.read; refusal = refusal_of r; failed = k; is_plain = p; error = is })))
+    inr (inr (inl (record { texts = h.texts; now = mid; read = h.read; refusal = r; failed = k; is_plain = p; error = is })))
 
 map_push : (refs more : List Ref) (r : Ref) → more ≡ refs ++ r ∷ [] → map ref_value more ≡ map ref_value refs ++ ref_value r ∷ []
 map_push refs more r e = rw e (map-append ref_value refs (r ∷ []))
@@ -133,3 +132,30 @@ refs-pushed old mid new refs more r (Err x) h k is a e = absurd a
 pub refs-memory : (plain : Bool) (old mid new : Reading) (vs : List RefValue) → RefsSoFar old mid vs → TakesLine mid new → RefsFail plain old new Memory
 refs-memory plain old mid new vs h k =
     inr (inr (inr (record { texts = h.texts ++ new.line ∷ []; read = so_far-line old mid new h.texts h.read k; error = refl })))
+
+first_known : (r s : Reading) (o n : Option Pieces) (t : List ℕ) (v : RefValue) → v2_line t ≡ Ok v
+    → IfSome o (λ p. (q : Pieces) × (n ≡ Some q) × (lines_ahead r p ≡ before (t ∷ []) (lines_ahead s q)))
+    → IfSome o (λ p. (q : Pieces) × (n ≡ Some q) × (v2_refs (lines_ahead r p) ≡ with_ref (Ok v) (v2_refs (lines_ahead s q))))
+first_known r s None n t v is a = tt
+first_known r s (Some p) n t v is a = (a.0, a.1, ap v2_refs a.2 ∙ (rw is refl))
+
+-- the ref of a line is the first of those to come
+pub next-found : (plain : Bool) (old new : Reading) (r : Ref) (o : Result RefValue RefsRefusal) → TakesLine old new → v2_line new.line ≡ o → Answers ref_value o (Ok r)
+    → NextOfRefs plain old new (Ok (Some r))
+next-found plain old new r (Ok v) k is a =
+    first_known old new old.to_come new.to_come new.line (ref_value r) (is ∙ ap Ok (sym a)) (so_far-line old old new [] (so_far-start old) k).next
+next-found plain old new r (Err x) k is a = absurd a
+
+-- at the stop there are none
+pub next-none : (plain : Bool) (old new : Reading) → AtStop old new → NextOfRefs plain old new (Ok None)
+next-none plain old new k = refs-stop old old new [] (refs-start old) k
+
+-- one refusal is that of all
+pub next-refused : (plain : Bool) (old mid new : Reading) (vs : List RefValue) (e : Error) → RefsSoFar old mid vs → NextRef plain mid new (Err e) → RefsFail plain old new e
+next-refused plain old mid new vs e h (inl k) = refs-refused plain old mid new vs e (v2_line new.line) h k.0 refl k.1
+next-refused plain old mid new vs e h (inr k) = refs-reader plain old mid new vs k.refusal e h k.failed k.is_plain k.error
+
+-- one more ref, as the call for it tells
+pub next-pushed : (plain : Bool) (old mid new : Reading) (refs more : List Ref) (r : Ref) → RefsSoFar old mid (map ref_value refs) → NextRef plain mid new (Ok (Some r)) → more ≡ refs ++ r ∷ []
+    → RefsSoFar old new (map ref_value more)
+next-pushed plain old mid new refs more r h k e = refs-pushed old mid new refs more r (v2_line new.line) h k.0 refl k.1 e

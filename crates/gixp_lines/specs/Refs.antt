@@ -1,16 +1,16 @@
 -- The refs of an `ls-refs` answer, and what their reader does (gitprotocol-v2, "ls-refs").
-use Rattle.std.specs.Prelude.{◌≡◌, ℕ, ◌⊎◌, ⊤, Bool, true, Some, IfSome, List, [], ◌∷◌, ◌++◌, map, Result, Ok, Err}
+use Rattle.std.specs.Prelude.{◌≡◌, ℕ, ◌⊎◌, ⊤, Bool, true, Option, Some, None, IfSome, List, [], ◌∷◌, ◌++◌, map, Result, Ok, Err}
 use Rattle.gixp_wire.specs.declared.protocol.MessageKind.{MessageKind}
 use Rattle.gixp_wire.specs.declared.protocol.Protocol.TheVariants.{V2}
 use Rattle.gixp_wire.specs.Pieces.{Refusal, Pieces, stream_pieces}
 use Rattle.gixp_wire.specs.Lines.{Ending, stop, refusal, Lines, lines_of, lines_to}
-use Rattle.gixp_wire.specs.Reading.{Reading, IsOutside, IsPlain, lines_ahead}
+use Rattle.gixp_wire.specs.Reading.{Reading, TakesLine, AtStop, Fails, IsOutside, IsPlain, lines_ahead}
 use Rattle.gixp_lines.specs.declared.handshake.Ref.{Ref}
 use Rattle.gixp_lines.specs.declared.handshake.refs.parse.Error.{Error}
 use Rattle.gixp_lines.specs.declared.handshake.refs.parse.Error.TheVariants.{Memory}
 use Rattle.gixp_lines.specs.Ref.{RefValue, ref_value}
 use Rattle.gixp_lines.specs.RefLine.{RefsRefusal, refusal_from, v2_line}
-use Rattle.gixp_lines.specs.ParseError.{parse_refusal, IsRefusal}
+use Rattle.gixp_lines.specs.ParseError.{Answers, parse_refusal, IsRefusal}
 use Rattle.gixp_lines.specs.Runs.{SoFar}
 
 -- a line's value in front of the others, or its refusal before theirs
@@ -91,3 +91,23 @@ pub record RefsSoFar (old now : Reading) (values : List RefValue) : Type 0 where
   pub texts : List (List ℕ)
   pub read : SoFar old now texts
   pub refs : AreRefs texts values
+
+-- the reader refused what comes next, or something came from outside
+pub record ReaderFails (plain : Bool) (old new : Reading) (e : Error) : Type 0 where
+  pub refusal : Refusal
+  pub failed : Fails old new refusal
+  pub is_plain : plain ≡ true → IsPlain new refusal
+  pub error : parse_refusal e ≡ refusal_from refusal
+
+-- a call for the next ref: of the line that it takes, and none at a stop
+abbrev pub NextRef : Bool → Reading → Reading → Result (Option Ref) Error → Type 0
+NextRef plain old new (Ok (Some found)) = TakesLine old new × Answers ref_value (v2_line new.line) (Ok found)
+NextRef plain old new (Ok None) = AtStop old new
+NextRef plain old new (Err e) = (TakesLine old new × Answers ref_value (v2_line new.line) (Err e)) ⊎ ReaderFails plain old new e
+
+-- what that call says of all refs to come: its ref is the first of them, there are none, or there is no answer
+abbrev pub NextOfRefs : Bool → Reading → Reading → Result (Option Ref) Error → Type 0
+NextOfRefs plain old new (Ok (Some found)) =
+    IfSome old.to_come (λ p. (q : Pieces) × (new.to_come ≡ Some q) × (v2_refs (lines_ahead old p) ≡ with_ref (Ok (ref_value found)) (v2_refs (lines_ahead new q))))
+NextOfRefs plain old new (Ok None) = ReadsRefs old new []
+NextOfRefs plain old new (Err e) = RefsFail plain old new e

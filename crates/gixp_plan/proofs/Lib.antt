@@ -1,2 +1,1 @@
 mod ListLemmas
-mod PrintLemmas

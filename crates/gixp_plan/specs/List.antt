@@ -1,11 +1,12 @@
 -- How the refs of an `ls-refs` answer are listed.
-use Rattle.std.specs.Prelude.{◌≡◌, ℕ, ◌⊎◌, ⊤, List, [], ◌∷◌, flat_map, codes, Option, Some, None, IfSome, Result, Ok, Err, IsOk}
+use Rattle.std.specs.Prelude.{◌≡◌, ℕ, ◌⊎◌, ⊤, Bool, true, List, [], ◌∷◌, flat_map, codes, Option, Some, None, IfSome, Result, Ok, Err, IsOk}
 use Rattle.std.specs.Io.KnownBytes.{Appends}
 use Rattle.gix_protocol.specs.Hex.{encode_lower}
 use Rattle.gix_protocol.specs.Ref.{RefValue, peeled, direct, symbolic, unborn}
 use Rattle.gix_protocol.specs.RefLine.{RefsRefusal}
 use Rattle.gix_protocol.specs.ParseError.{IsRefusal, IsFromOutside}
-use Rattle.gix_protocol.specs.Refs.{stream_refs}
+use Rattle.gix_protocol.specs.Reading.{Reading, lines_ahead}
+use Rattle.gix_protocol.specs.Refs.{v2_refs, stream_refs}
 use Rattle.gix_protocol.specs.RefsError.{Error}
 use Rattle.gixp_plan.specs.declared.list.ListError.{ListError}
 use Rattle.gixp_plan.specs.declared.list.ListError.TheVariants.{Parse, Io}
@@ -31,6 +32,14 @@ ref_line (unborn name target) = joined (codes "unborn " ∷ name ∷ codes " sym
 abbrev pub Prints : Option (List ℕ) → Option (List ℕ) → Result (List RefValue) RefsRefusal → Type 0
 Prints old new (Ok values) = Appends old new (flat_map ref_line values)
 Prints old new (Err e) = ⊥
+
+-- this text is the lines of the refs that a reader gives
+abbrev pub PrintsAhead : Reading → List ℕ → Type 0
+PrintsAhead r text = IfSome r.to_come (λ p. Prints (Some []) (Some text) (v2_refs (lines_ahead r p)))
+
+-- what is refused is their first refusal, unless it came from outside a plain reader
+abbrev pub RefusesAhead : Bool → Reading → Error → Type 0
+RefusesAhead plain r e = IfSome r.to_come (λ p. (x : RefsRefusal) × (v2_refs (lines_ahead r p) ≡ Err x) × IsRefusal e x) ⊎ (plain ≡ true → IsFromOutside e)
 
 -- it is a refusal of the answer
 abbrev pub IsParse : ListError → Type 0

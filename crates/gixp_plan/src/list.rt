@@ -1,17 +1,16 @@
 //! Listing the refs of a recorded `ls-refs` answer.
-ghost use Rattle.std.specs.Prelude.{◌≡◌, Ok, OnOk, IfErr, IfSome, MatchResult, map};
-ghost use Rattle.std.specs.Io.KnownBytes.{Keeps};
-ghost use Rattle.gix_protocol.specs.Ref.{ref_value};
+ghost use Rattle.std.specs.Prelude.{◌≡◌, Some, [], OnOk, IfErr, IfSome, MatchResult};
+ghost use Rattle.std.specs.Io.KnownBytes.{Appends, Keeps};
 ghost use Rattle.gix_protocol.specs.Refs.{stream_refs};
 ghost use Rattle.gix_protocol.specs.ParseError.{parse_refusal};
 ghost use Rattle.gixp_plan.specs.ErrorName.{error_name, list_error_name};
-ghost use Rattle.gixp_plan.specs.List.{Prints, RefusesRefs, RefusesList, IsParse};
+ghost use Rattle.gixp_plan.specs.List.{Prints, PrintsAhead, RefusesAhead, RefusesRefs, RefusesList, IsParse};
 
-use crate::print::write_refs;
-use gix_protocol::handshake::Ref;
-use gix_protocol::handshake::refs::{from_v2_refs, parse};
-use gix_protocol::transport::LineReader;
-use std::alloc::Global;
+use crate::print::print_ref;
+use gix_protocol::handshake::refs::{next_v2_ref, parse};
+use gix_protocol::transport::{ExtendedBufRead, LineReader};
+use std::alloc::{AllocError, Global};
+use std::io;
 use std::io::{ErrorKind, Read, Write};
 use thiserror::Error as DeriveError;
 
@@ -56,23 +55,49 @@ fn variant_of(error: &parse::Error) -> &'static str
     }
 }
 
-// The refs of the answer. The reader's buffer is given back before the refs are, since to give back
-// so large a piece of memory behind many small ones costs a walk over all of these.
-fn read_refs<R: Read>(alloc: Global, reader: &mut R) -> Result<Vec<Ref>, parse::Error>
+// The lines of the refs to come. No ref is held beside its line, which is a third shorter.
+fn print_refs<R: ExtendedBufRead>(alloc: Global, lines: &mut R) -> Result<Vec<u8>, parse::Error>
     ensures { MatchResult result
-        (λ refs. IfSome (R.remaining reader.old) (λ bytes. stream_refs bytes ≡ Ok (map ref_value refs.items)))
+        (λ text. PrintsAhead (R.reading lines.old) text.items)
+        (RefusesAhead R.is_plain (R.reading lines.old)) }
+{
+    let mut text = Vec::new(alloc);
+    loop {
+        match next_v2_ref(alloc, lines) {
+            Ok(Some(found)) => match print_ref(&mut text, found) {
+                Ok(()) => {}
+                Err(AllocError) => return Err(parse::Error::Memory),
+            },
+            Ok(None) => return Ok(text),
+            Err(e) => return Err(e),
+        }
+    }
+}
+
+// The lines of the refs of the answer.
+fn read_refs<R: Read>(alloc: Global, reader: &mut R) -> Result<Vec<u8>, parse::Error>
+    ensures { MatchResult result
+        (λ text. IfSome (R.remaining reader.old) (λ bytes. Prints (Some []) (Some text.items) (stream_refs bytes)))
         (RefusesRefs (R.remaining reader.old)) }
 {
     let mut lines = LineReader::new(alloc, reader)?;
-    let refs = from_v2_refs(alloc, &mut lines)?;
-    Ok(refs)
+    let text = print_refs(alloc, &mut lines)?;
+    Ok(text)
+}
+
+// The text, and no byte of it left in the writer.
+fn write_text<W: Write>(writer: &mut W, text: &[u8]) -> io::Result<()>
+    ensures { OnOk result (Appends (W.contents writer.old) (W.contents writer.new) text.now) }
+{
+    writer.write_all(text)?;
+    writer.flush()
 }
 
 /// Reads a version 2 `ls-refs` answer up to its stop, and writes a line for each of its refs
 /// (gitprotocol-v2, "ls-refs"). What follows the stop is ignored.
 ///
-/// All refs are read before the first byte is written, and the writer is flushed at the end. It is
-/// written to in small pieces, so it should gather them.
+/// All refs are read before the first byte is written. Their lines are then written in one piece, and
+/// the writer is flushed.
 ///
 /// # Errors
 ///
@@ -88,11 +113,11 @@ pub fn list_refs<R: Read, W: Write>(
     ensures refused { IfErr result (RefusesList (R.remaining reader.old)) }
     ensures nothing { IfErr result (λ e. IsParse e → Keeps (W.contents writer.old) (W.contents writer.new)) }
 {
-    let refs = match read_refs(alloc, reader) {
-        Ok(refs) => refs,
+    let text = match read_refs(alloc, reader) {
+        Ok(text) => text,
         Err(e) => return Err(ListError::Parse(e)),
     };
-    match write_refs(writer, refs) {
+    match write_text(writer, text.as_slice()) {
         Ok(()) => Ok(()),
         Err(e) => Err(ListError::Io(e.kind())),
     }

@@ -10,13 +10,9 @@ mod words;
 use crate::words::file_of;
 pub use list::{ListError, list_refs};
 use std::fs::File;
-use std::io::{BufWriter, ErrorKind};
+use std::io::ErrorKind;
 use std::process::ExitCode;
 use std::{env, io};
-
-// The number of bytes that are gathered before they are written. So large a piece is taken from the
-// system and given back to it alone: beside many small ones, to give it back costs a walk over these.
-const BUFFER: usize = 131072;
 
 const USAGE: &str = "usage: gixp_plan refs FILE";
 
@@ -45,9 +41,7 @@ fn open_answer(rt: &HostRuntime) -> Result<File, Failure> {
 // Lists the refs of the file that the words name on standard output.
 fn run(rt: &HostRuntime) -> Result<(), Failure> {
     let mut file = open_answer(rt)?;
-    let Ok(mut writer) = BufWriter::with_capacity(rt.alloc(), BUFFER, io::writer(rt)) else {
-        return Err(Failure::Refused("Memory"));
-    };
+    let mut writer = io::writer(rt);
     list_refs(rt.alloc(), &mut file, &mut writer).map_err(|e| Failure::Refused(e.variant()))
 }
 

@@ -1,43 +1,41 @@
 //! Refs as printed lines.
-ghost use Rattle.std.specs.Prelude.{◌≡◌, OnOk, flat_map, map};
-ghost use Rattle.std.specs.Io.KnownBytes.{Appends};
+ghost use Rattle.std.specs.Prelude.{◌≡◌, ◌++◌, OnOk, flat_map};
 ghost use Rattle.gixp_plan.specs.List.{ref_line, symbolic_line};
 ghost use Rattle.gix_protocol.specs.Ref.{ref_value};
 ghost use Rattle.gix_protocol.specs.ParseError.{object_of};
 
 use gix_protocol::handshake::Ref;
 use gix_protocol::transport::ObjectId;
-use std::io;
-use std::io::Write;
+use std::alloc::AllocError;
 
-// The texts, one behind the other.
-fn write_texts<W: Write>(writer: &mut W, texts: &[&[u8]]) -> io::Result<()>
-    ensures { OnOk result (Appends (W.contents writer.old) (W.contents writer.new) (flat_map (λ text. text.now) texts.now)) }
+// The pieces, one behind the other.
+#[inline(always)]
+fn append(text: &mut Vec<u8>, pieces: &[&[u8]]) -> Result<(), AllocError>
+    ensures { OnOk result (text.new.items ≡ text.old.items ++ flat_map (λ piece. piece.now) pieces.now) }
 {
-    for text in texts {
-        writer.write_all(text)?;
+    for piece in pieces {
+        text.extend_from_slice(piece)?;
     }
     Ok(())
 }
 
-fn write_symbolic<W: Write>(
-    writer: &mut W,
+fn append_symbolic(
+    text: &mut Vec<u8>,
     name: &[u8],
     target: &[u8],
     tag: &Option<ObjectId>,
     object: &ObjectId,
-) -> io::Result<()>
-    ensures { OnOk result (Appends (W.contents writer.old) (W.contents writer.new)
-        (symbolic_line name.now target.now (object_of tag.now) object.now.bytes)) }
+) -> Result<(), AllocError>
+    ensures { OnOk result (text.new.items ≡ text.old.items ++ symbolic_line name.now target.now (object_of tag.now) object.now.bytes) }
 {
     let object = object.to_hex();
     match tag {
-        None => write_texts(
-            writer,
+        None => append(
+            text,
             &[&object, b" ", name, b" symref-target:", target, b"\n"],
         ),
-        Some(tag) => write_texts(
-            writer,
+        Some(tag) => append(
+            text,
             &[
                 &tag.to_hex(),
                 b" ",
@@ -52,24 +50,24 @@ fn write_symbolic<W: Write>(
     }
 }
 
-// A ref as a line.
-fn write_ref<W: Write>(writer: &mut W, found: &Ref) -> io::Result<()>
-    ensures { OnOk result (Appends (W.contents writer.old) (W.contents writer.new) (ref_line (ref_value found.now))) }
+#[inline(always)]
+fn append_ref(text: &mut Vec<u8>, found: &Ref) -> Result<(), AllocError>
+    ensures { OnOk result (text.new.items ≡ text.old.items ++ ref_line (ref_value found.now)) }
 {
     match found {
         Ref::Direct {
             full_ref_name,
             object,
-        } => write_texts(
-            writer,
+        } => append(
+            text,
             &[&object.to_hex(), b" ", full_ref_name.as_bytes(), b"\n"],
         ),
         Ref::Peeled {
             full_ref_name,
             tag,
             object,
-        } => write_texts(
-            writer,
+        } => append(
+            text,
             &[
                 &tag.to_hex(),
                 b" ",
@@ -84,8 +82,8 @@ fn write_ref<W: Write>(writer: &mut W, found: &Ref) -> io::Result<()>
             target,
             tag,
             object,
-        } => write_symbolic(
-            writer,
+        } => append_symbolic(
+            text,
             full_ref_name.as_bytes(),
             target.as_bytes(),
             tag,
@@ -94,8 +92,8 @@ fn write_ref<W: Write>(writer: &mut W, found: &Ref) -> io::Result<()>
         Ref::Unborn {
             full_ref_name,
             target,
-        } => write_texts(
-            writer,
+        } => append(
+            text,
             &[
                 b"unborn ",
                 full_ref_name.as_bytes(),
@@ -107,14 +105,10 @@ fn write_ref<W: Write>(writer: &mut W, found: &Ref) -> io::Result<()>
     }
 }
 
-// A line for each ref, and no byte of them left in the writer. Each ref is dropped once it is
-// written, while it is at hand in the processor's cache.
-pub(crate) fn write_refs<W: Write>(writer: &mut W, refs: Vec<Ref>) -> io::Result<()>
-    ensures { OnOk result (Appends (W.contents writer.old) (W.contents writer.new)
-        (flat_map ref_line (map ref_value refs.items))) }
+// A ref as a line. It is dropped while it is at hand in the processor's cache.
+#[inline(always)]
+pub(crate) fn print_ref(text: &mut Vec<u8>, found: Ref) -> Result<(), AllocError>
+    ensures { OnOk result (text.new.items ≡ text.old.items ++ ref_line (ref_value found)) }
 {
-    for found in refs {
-        write_ref(writer, &found)?;
-    }
-    writer.flush()
+    append_ref(text, &found)
 }

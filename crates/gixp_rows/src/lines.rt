@@ -10,7 +10,7 @@ use crate::lines::recorded_sessions::REFS;
 use crate::wire::Device;
 use bstr::BString;
 use gixp_lines::handshake::Ref;
-use gixp_lines::handshake::refs::{from_v2_refs, parse};
+use gixp_lines::handshake::refs::{from_v2_refs, next_v2_ref, parse};
 use gixp_wire::{ExtendedBufRead, LineReader, ObjectId, PacketError, Protocol, decode, read};
 use std::alloc::Global;
 use std::io::{ErrorKind, Read};
@@ -229,6 +229,29 @@ fn counts<R: Read>(alloc: Global, stream: &mut R) -> Result<[usize; 3], Fail> {
 fn reads_up_to_each_stop(rt: HostRuntime) -> Result<(), Fail> {
     let mut stream: &[u8] = b"000000320123456789012345678901234567890123456789 HEAD\n0001";
     assert_eq!(rt; counts(rt.alloc(), &mut stream)?, [0, 0, 1]);
+    Ok(())
+}
+
+// What a call for the next ref answers: the ref's name, nothing at a stop, or the refusal.
+fn next_name<R: Read>(alloc: Global, reader: &mut LineReader<'_, R>) -> Result<String, Fail> {
+    match next_v2_ref(alloc, reader) {
+        Ok(Some(found)) => Ok(format!(in alloc; "{}", found.unpack().0)?),
+        Ok(None) => Ok(String::new(alloc)),
+        Err(e) => Ok(format!(in alloc; "{e:?}")?),
+    }
+}
+
+#[test]
+fn reads_ref_by_ref(rt: HostRuntime) -> Result<(), Fail> {
+    let a = rt.alloc();
+    let mut stream: &[u8] =
+        b"00320123456789012345678901234567890123456789 HEAD\n0008x y\n003d0123456789012345678901234567890123456789 refs/heads/main\n0000";
+    let mut reader = LineReader::new(a, &mut stream)?;
+    for want in ["HEAD", "Id(InvalidLength(1))", "refs/heads/main", "", ""] {
+        assert_eq!(rt; next_name(a, &mut reader)?.as_str(), want);
+    }
+    reader.reset(Protocol::V2);
+    assert_eq!(rt; next_name(a, &mut reader)?.as_str(), "Io(UnexpectedEof)");
     Ok(())
 }
 

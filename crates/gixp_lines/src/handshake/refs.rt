@@ -1,6 +1,6 @@
 //! The refs of a server's answer.
 ghost use Rattle.std.specs.Prelude.{MatchResult};
-ghost use Rattle.gixp_lines.specs.Refs.{ReadsRefs, RefsFail};
+ghost use Rattle.gixp_lines.specs.Refs.{NextRef, NextOfRefs, ReadsRefs, RefsFail};
 
 use crate::handshake::Ref;
 use gixp_wire::ExtendedBufRead;
@@ -14,6 +14,33 @@ mod v1;
 
 pub use advertisement::from_v1_refs_received_as_part_of_handshake_and_capabilities;
 pub use symrefs::from_capabilities;
+
+/// The next ref of an `ls-refs` answer, and none at the stop, for one who doesn't want to hold all refs
+/// (gitprotocol-v2, "ls-refs").
+///
+/// # Errors
+///
+/// That of the line that came next, which is then taken, or that of the reader, with what
+/// [`parse::Error`] says of it. Behind a line that was refused, or for which there was no memory, the
+/// next call goes on with the line behind it.
+#[inline(always)]
+pub fn next_v2_ref<R: ExtendedBufRead>(
+    alloc: Global,
+    in_refs: &mut R,
+) -> Result<Option<Ref>, parse::Error>
+    ensures next { NextRef R.is_plain (R.reading in_refs.old) (R.reading in_refs.new) result }
+    ensures answer { NextOfRefs R.is_plain (R.reading in_refs.old) (R.reading in_refs.new) result }
+{
+    match in_refs.next_line() {
+        Ok(true) => {}
+        Ok(false) => return Ok(None),
+        Err(e) => return Err(parse::Error::from(e)),
+    }
+    match line::parse_v2(alloc, in_refs.line()) {
+        Ok(found) => Ok(Some(found)),
+        Err(e) => Err(e),
+    }
+}
 
 /// The refs of an `ls-refs` answer: of the lines up to the stop, in their order (gitprotocol-v2,
 /// "ls-refs").
@@ -34,17 +61,13 @@ pub fn from_v2_refs<R: ExtendedBufRead>(
 {
     let mut refs = Vec::new(alloc);
     loop {
-        match in_refs.next_line() {
-            Ok(true) => {}
-            Ok(false) => return Ok(refs),
-            Err(e) => return Err(parse::Error::from(e)),
-        }
-        match line::parse_v2(alloc, in_refs.line()) {
-            Ok(found) => {
+        match next_v2_ref(alloc, in_refs) {
+            Ok(Some(found)) => {
                 if refs.push(found).is_err() {
                     return Err(parse::Error::Memory);
                 }
             }
+            Ok(None) => return Ok(refs),
             Err(e) => return Err(e),
         }
     }

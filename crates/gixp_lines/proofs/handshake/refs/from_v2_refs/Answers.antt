@@ -1,29 +1,23 @@
-use Rattle.std.proofs.Common.{sym, ap, ◌≡◌, true, is_ok, rules}
-use Rattle.gixp_lines.specs.RefLine.{v2_line}
-use Rattle.gixp_lines.proofs.RefsLemmas.{refs-stop, refs-reader, refs-refused, refs-pushed, refs-memory}
+use Rattle.std.proofs.Common.{◌≡◌, true, is_ok, rules}
+use Rattle.gixp_lines.proofs.RefsLemmas.{refs-stop, next-refused, next-pushed, refs-memory}
 use Rattle.gixp_lines.proofs.handshake.refs.from_v2_refs.Goals as goal
 
-pub returns-in-Ok-false : goal.returns-in-Ok-false
-returns-in-Ok-false g c =
-    let k = rw c.in-Ok-false.field-0-test at c.in-Ok-false.ensures.reads in
-    refs-stop _ _ _ c.loop-refs.refs.items c.loop-refs.invariant k
+pub returns-in-Ok-None : goal.returns-in-Ok-None
+returns-in-Ok-None g c =
+    let k = rw c.in-Ok-None.field-0-is at c.in-Ok-None.ensures.next in
+    refs-stop _ _ _ c.loop-found.refs.items c.loop-found.invariant k
 
 pub returns-in-Err : goal.returns-in-Err
-returns-in-Err g c = refs-reader _ _ _ _ _ c.in-Err.e _ c.loop-refs.invariant c.in-Err.ensures.reads c.in-Err.ensures.plain c.from.ensures
+returns-in-Err g c = next-refused _ _ _ _ _ c.in-Err.e c.loop-found.invariant c.in-Err.ensures.next
 
-pub returns-in-Err-parse_v2 : goal.returns-in-Err-parse_v2
-returns-in-Err-parse_v2 g c =
-    let k = rw c.in-Ok-true.field-0-test at c.in-Ok-true.ensures.reads in
-    refs-refused _ _ _ _ _ c.in-Err-parse_v2.e _ c.loop-refs.invariant k (ap v2_line (sym c.line.ensures)) c.in-Err-parse_v2.ensures
-
-pub loop-refs-preserved : goal.loop-refs-preserved
-loop-refs-preserved g c =
-    let k = rw c.in-Ok-true.field-0-test at c.in-Ok-true.ensures.reads in
+pub loop-found-preserved : goal.loop-found-preserved
+loop-found-preserved g c =
     let went : is_ok c.push.result ≡ true = search rules in
     let items = rw went at c.push.ensures.items in
-    refs-pushed _ _ _ _ _ c.in-Ok.found _ c.loop-refs.invariant k (ap v2_line (sym c.line.ensures)) c.in-Ok.ensures items
+    let k = rw c.in-Ok-Some.field-0-is at c.in-Ok-Some.ensures.next in
+    next-pushed g.R.ExtendedBufRead.is_plain _ _ _ _ _ c.in-Ok-Some.found c.loop-found.invariant k items
 
 pub returns-then-is_err : goal.returns-then-is_err
 returns-then-is_err g c =
-    let k = rw c.in-Ok-true.field-0-test at c.in-Ok-true.ensures.reads in
-    refs-memory _ _ _ _ _ c.loop-refs.invariant k
+    let k = rw c.in-Ok-Some.field-0-is at c.in-Ok-Some.ensures.next in
+    refs-memory _ _ _ _ _ c.loop-found.invariant k.0
