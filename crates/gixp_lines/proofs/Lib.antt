@@ -1,4 +1,5 @@
 mod CutLemmas
+mod TrimLemmas
 mod AnswerLemmas
 mod RunLemmas
 mod RefsLemmas

@@ -5,3 +5,4 @@ mod cut;
 pub mod fetch;
 pub mod handshake;
 pub mod laws;
+mod trim;

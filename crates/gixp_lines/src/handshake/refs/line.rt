@@ -10,7 +10,8 @@ ghost use Rattle.gixp_lines.specs.ParseError.{Answers, IsRefusal, attribute_valu
 use crate::cut::cut;
 use crate::handshake::Ref;
 use crate::handshake::refs::parse::Error;
-use bstr::{BString, ByteSlice};
+use crate::trim::trim_end;
+use bstr::BString;
 use gixp_wire::ObjectId;
 use std::alloc::Global;
 
@@ -210,7 +211,7 @@ fn make_unborn(alloc: Global, full_ref_name: BString, had: Attributes<'_>) -> Re
 pub(crate) fn parse_v2(alloc: Global, line: &[u8]) -> Result<Ref, Error>
     ensures { Answers ref_value (v2_line line.now) result }
 {
-    let line = line.trim_end();
+    let line = trim_end(line);
     let (first, rest) = cut(line, b' ');
     let rest = match rest {
         Some(rest) => rest,

@@ -17,7 +17,8 @@ use crate::handshake::Ref;
 use crate::handshake::refs::line::{is_same, read_id};
 use crate::handshake::refs::parse::Error;
 use crate::handshake::refs::symrefs::{Symref, find_symref};
-use bstr::{BString, ByteSlice};
+use crate::trim::trim_end;
+use bstr::BString;
 use gixp_wire::{ObjectId, decode};
 use std::alloc::Global;
 
@@ -96,7 +97,7 @@ fn read_path<'a>(left: &'a [u8], path: &'a [u8]) -> Result<Line<'a>, Error>
 pub(crate) fn read_line(alloc: Global, line: &[u8]) -> Result<Line<'_>, Error>
     ensures { Answers line_of (v1_line line.now) result }
 {
-    let line = line.trim_end();
+    let line = trim_end(line);
     let (left, path) = cut(line, b' ');
     match path {
         Some(path) if !path.is_empty() => read_path(left, path),

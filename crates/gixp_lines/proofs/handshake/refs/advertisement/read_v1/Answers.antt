@@ -1,4 +1,4 @@
-use Rattle.std.proofs.Common.{sym, ap, rules}
+use Rattle.std.proofs.Common.{sym, ap}
 use Rattle.gixp_lines.specs.V1Line.{so_far_value, with_text}
 use Rattle.gixp_lines.specs.V1Refs.{symref_values}
 use Rattle.gixp_lines.proofs.AdvertisementLemmas.{v1-start, v1-line, v1-refused, v1-reader, v1-finish}
