@@ -7,8 +7,9 @@ use Rattle.gixp_wire.specs.declared.object_id.ObjectId.{ObjectId}
 use Rattle.gixp_graph.specs.Object.{commit_at}
 use Rattle.gixp_graph.specs.Held.{Held, Commits, GraphData, commit_in, is_complete, is_marked, OnlyMarks, HasNoMarks, IsFaithful}
 use Rattle.gixp_graph.specs.Complete.{IsComplete}
+use Rattle.gixp_graph.specs.Laws.{faithful_reads}
 use Rattle.gixp_graph.proofs.StepLemmas.{marked_by}
-use Rattle.gixp_graph.proofs.FaithfulLemmas.{faithful_reads, complete_same}
+use Rattle.gixp_graph.proofs.FaithfulLemmas.{complete_same}
 
 module _ (g : GraphData) (new : Commits) (ids : List ObjectId) (cutoff : Option ℤ) (sound : (id : ObjectId) → is_marked new id ≡ true → (is_marked g.held id ≡ true) ⊎ IsComplete (commit_in g) ids cutoff id) (faithful : IsFaithful g) where
   -- what was marked is complete by the objects

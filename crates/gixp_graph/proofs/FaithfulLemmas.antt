@@ -12,18 +12,9 @@ use Rattle.gixp_wire.specs.ObjectId.{id_cmp}
 use Rattle.gixp_graph.specs.Object.{Object, Commit, commit_at}
 use Rattle.gixp_graph.specs.Held.{Held, Commits, GraphData, graph_of, found_in, commit_in, as_read, unmarked, if_unmarked, is_complete, IsFaithful, looked_up, flagged, with_flags, put}
 use Rattle.std.specs.Ordering.{eq_by_cmp}
-use Rattle.gixp_graph.proofs.MarkLemmas.{get_insert_same, same_from, get_insert_other}
+use Rattle.gixp_graph.specs.Laws.{faithful_reads, same_from}
+use Rattle.gixp_graph.proofs.MarkLemmas.{get_insert_same, get_insert_other}
 use Rattle.gixp_graph.specs.Complete.{IsComplete}
-
--- the same, by what is held
-reads_at : (o : Option Held) (p : Option Commit) → ((h : Held) → o ≡ Some h → p ≡ Some (as_read h)) → option_map as_read (option_or o (option_map unmarked p)) ≡ p
-reads_at None None f = refl
-reads_at None (Some c) f = refl
-reads_at (Some h) p f = sym (f h refl)
-
--- then a commit reads as the objects have it
-pub faithful_reads : (g : GraphData) → IsFaithful g → (id : ObjectId) → commit_in g id ≡ commit_at g.objects id
-faithful_reads g f id = reads_at (finite.get g.held id) (commit_at g.objects id) (f id)
 
 -- an empty graph holds nothing else
 pub faithful_empty : (objects : FinMap id_cmp Object) → IsFaithful (graph_of objects finite.empty)

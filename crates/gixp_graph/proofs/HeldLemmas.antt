@@ -16,14 +16,7 @@ use Rattle.gixp_graph.specs.declared.flags.Flags.{Flags}
 use Rattle.gixp_wire.specs.ObjectId.{id_cmp}
 use Rattle.gixp_graph.specs.Object.{Commit, commit_at}
 use Rattle.gixp_graph.specs.Held.{Held, shown, Commits, GraphData, found_in, looked_up, flagged, with_flags, unmarked, put}
-
--- ids that compare alike are one
-pub ids_exact : CmpEqualImpliesEq id_cmp
-ids_exact a b h = ap (λ (bytes : List ℕ). record { bytes = bytes }) (exact_bytes a.bytes b.bytes h)
-
--- the order of ids is total
-pub ids_total : IsTotalOrder id_cmp
-ids_total = on_total (λ d. d.bytes) nat_list_cmp_total
+use Rattle.gixp_graph.specs.Laws.{put_same}
 
 -- what is found, by whether it is held
 pub found_held : (g : GraphData) (id : ObjectId) (h : Held) → finite.get g.held id ≡ Some h → found_in g id ≡ Some h
@@ -32,15 +25,6 @@ found_held g id h is = ap (λ o. option_or o (option_map unmarked (commit_at g.o
 -- or by the objects
 pub found_new : (g : GraphData) (id : ObjectId) (o : Option Commit) → finite.get g.held id ≡ None → o ≡ commit_at g.objects id → found_in g id ≡ option_map unmarked o
 found_new g id o is c = ap (λ o. option_or o (option_map unmarked (commit_at g.objects id))) is ∙ ap (option_map unmarked) (sym c)
-
--- to put what is there changes nothing
-pub put_same : (m : Commits) (id : ObjectId) (h : Held) → finite.get m id ≡ Some h → finite.insert m id h ≡ m
-put_same m id h is = same_map ids_total ids_exact _ _ (λ q. get-insert ids_total m id h q ∙ at q (id_cmp q id) refl)
-  where
-    at : (q : ObjectId) (o : Ordering) → id_cmp q id ≡ o → cond (is_eq o) (Some h) (finite.get m q) ≡ finite.get m q
-    at q Less e = refl
-    at q Equal e = sym (ap (finite.get m) (ids_exact q id e) ∙ is)
-    at q Greater e = refl
 
 -- a look-up of a commit that is held changes nothing
 pub looked_up_held : (g : GraphData) (id : ObjectId) (h : Held) → finite.get g.held id ≡ Some h → looked_up g id ≡ g.held

@@ -14,7 +14,8 @@ use Rattle.gixp_graph.specs.Object.{Objects, Object, Commit, commit_at}
 use Rattle.gixp_graph.specs.Held.{Held, Commits, GraphData, graph_of, commit_in, as_read, unmarked, put, is_marked, completed, new_in, marked_found, OnlyMarks}
 use Rattle.gixp_graph.specs.Waiting.{Waiting, Queues}
 use Rattle.gixp_graph.specs.Walk.{count, all_ids, left}
-use Rattle.gixp_graph.proofs.MarkLemmas.{same_from, true_or_false}
+use Rattle.gixp_graph.specs.Laws.{same_from}
+use Rattle.gixp_graph.proofs.MarkLemmas.{true_or_false}
 use Rattle.gixp_graph.proofs.StepLemmas.{unmarked_from_new, marked_here, marked_still, found_if_new, or_true}
 
 -- a test that follows from another counts no more

@@ -9,7 +9,6 @@ pub mod MarkLemmas
 pub mod NewestLemmas
 pub mod NodeLemmas
 pub mod QueueLemmas
-pub mod RunLemmas
 pub mod SlowLemmas
 pub mod StepLemmas
 pub mod TableLemmas

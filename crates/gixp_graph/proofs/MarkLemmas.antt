@@ -15,7 +15,8 @@ use Rattle.gixp_graph.specs.declared.flags.Flags.{Flags}
 use Rattle.gixp_wire.specs.ObjectId.{id_cmp}
 use Rattle.gixp_graph.specs.Object.{Commit, commit_at}
 use Rattle.gixp_graph.specs.Held.{Held, shown, Commits, GraphData, found_in, looked_up, flagged, unmarked, put, is_complete, completed, if_unmarked, new_in, marked_found}
-use Rattle.gixp_graph.proofs.HeldLemmas.{ids_exact, ids_total, put_same, none_shown}
+use Rattle.gixp_graph.specs.Laws.{ids_exact, ids_total, put_same}
+use Rattle.gixp_graph.proofs.HeldLemmas.{none_shown}
 
 -- an id is itself
 pub same_id : (id : ObjectId) → eq_by_cmp id_cmp id id ≡ true
@@ -104,16 +105,6 @@ new_open g id t f is empty = new_open_at (found_in g id) t f is empty
 pub true_or_false : (b : Bool) → (b ≡ true) ⊎ (b ≡ false)
 true_or_false true = inl refl
 true_or_false false = inr refl
-
--- what ties is equal
-same_at : (o : Ordering) → is_eq o ≡ true → o ≡ Equal
-same_at Less e = cc
-same_at Equal e = refl
-same_at Greater e = cc
-
--- ids that tie are one
-pub same_from : (q id : ObjectId) → eq_by_cmp id_cmp q id ≡ true → q ≡ id
-same_from q id e = ids_exact q id (same_at (id_cmp q id) e)
 
 -- what is put under an id is under no other
 pub get_insert_other : (m : Commits) (id : ObjectId) (h : Held) (q : ObjectId) → eq_by_cmp id_cmp q id ≡ false → finite.get (finite.insert m id h) q ≡ finite.get m q

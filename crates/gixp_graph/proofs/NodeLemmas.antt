@@ -14,8 +14,9 @@ use Rattle.gixp_wire.specs.ObjectId.{id_cmp}
 use Rattle.gixp_graph.specs.Held.{Held, Commits, parents_in, flagged}
 use Rattle.gixp_graph.specs.Table.{id_at, ids_at, AllNamed}
 use Rattle.gixp_graph.specs.Node.{ids_of, number_at, range_of, parent_numbers_of, parents_of, held_of, entry_of, held_in, IsInRange, IsNumbered, IsTable}
-use Rattle.gixp_graph.proofs.HeldLemmas.{ids_exact, ids_total, flagged_held}
-use Rattle.gixp_graph.proofs.MarkLemmas.{same_id, same_from, true_or_false, get_insert_other, get_insert_same}
+use Rattle.gixp_graph.specs.Laws.{ids_exact, ids_total, same_from}
+use Rattle.gixp_graph.proofs.HeldLemmas.{flagged_held}
+use Rattle.gixp_graph.proofs.MarkLemmas.{same_id, true_or_false, get_insert_other, get_insert_same}
 
 -- a node, where it was found
 abbrev pub shown_node : List ObjectId → List ℕ → Node → Option Held

@@ -14,7 +14,8 @@ use Rattle.gixp_graph.specs.Held.{Held, Commits, GraphData, graph_of, found_in, 
 use Rattle.gixp_graph.specs.Complete.{IsComplete}
 use Rattle.gixp_graph.specs.Waiting.{Waiting, Queues}
 use Rattle.gixp_graph.specs.Walk.{waits, IsMarking, IsQueued, IsWalk}
-use Rattle.gixp_graph.proofs.MarkLemmas.{get_insert_same, get_insert_other, same_from, true_or_false, is_complete-completed}
+use Rattle.gixp_graph.specs.Laws.{same_from}
+use Rattle.gixp_graph.proofs.MarkLemmas.{get_insert_same, get_insert_other, true_or_false, is_complete-completed}
 
 -- ---- one commit that is new
 

@@ -20,7 +20,7 @@ use Rattle.gixp_graph.specs.Table.{id_at, ids_at}
 use Rattle.gixp_graph.specs.Queue.{entry_at}
 use Rattle.gixp_graph.specs.Waiting.{Waiting, waiting_in}
 use Rattle.gixp_graph.specs.Walk.{waits, IsExpanded, IsMarking, IsQueued, IsWalk, AreDue, AreMarked}
-use Rattle.gixp_graph.proofs.MarkLemmas.{same_from}
+use Rattle.gixp_graph.specs.Laws.{same_from}
 use Rattle.gixp_graph.proofs.StepLemmas.{reads}
 
 -- what a walk begins with

@@ -51,6 +51,10 @@ unmarked c = record { time = c.time; parents = c.parents; flags = record { 0 = 0
 abbrev pub shown : Held → ℤ × Flags
 shown h = (h.time, h.flags)
 
+-- the time of what a caller sees, where it sees a commit
+abbrev pub shown_time : Option (ℤ × Flags) → Option ℤ
+shown_time found = option_map (λ (x : ℤ × Flags). x.0) found
+
 -- a held commit without its marks
 abbrev pub as_read : Held → Commit
 as_read h = record { time = h.time; parents = h.parents }

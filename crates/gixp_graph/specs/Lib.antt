@@ -1,5 +1,6 @@
 pub mod Complete
 pub mod Held
+pub mod Laws
 pub mod Listed
 pub mod Negotiation
 pub mod Node

@@ -1,5 +1,5 @@
 -- What the objects of a repository mean: a finite map from ids to what is known of them.
-use Rattle.std.specs.Prelude.{ℕ, ◌≡◌, ◌<◌, ◌-◌, ◌^◌, ◌⊎◌, ℤ, List, Option, option_and_then, refl, zero, suc}
+use Rattle.std.specs.Prelude.{ℕ, ◌≡◌, ◌<◌, ◌-◌, ◌^◌, ◌⊎◌, ℤ, List, Option, option_and_then, option_map, refl, zero, suc}
 use Rattle.std.specs.FinMap as finite
 use Rattle.std.specs.FinMap.{FinMap}
 use Rattle.std.specs.Coded.{Coded, code_by, coded×, coded_ℕ, coded_list, coded_ℤ, coded_option}
@@ -30,6 +30,10 @@ kind_at objects id = option_and_then (λ (o : Object). o.kind) (finite.get objec
 -- the commit that an id names
 abbrev pub commit_at : Objects → ObjectId → Option Commit
 commit_at objects id = option_and_then (λ (o : Object). o.commit) (finite.get objects id)
+
+-- the time of the commit that an id names
+abbrev pub time_at : Objects → ObjectId → Option ℤ
+time_at objects id = option_map (λ (c : Commit). c.time) (commit_at objects id)
 
 -- the data of a commit that was read
 abbrev pub commit_of : CommitData → Commit

@@ -3,8 +3,8 @@ ghost use Rattle.std.specs.Prelude.{◌≡◌, ◌≤◌, ◌⊎◌, ◌↔◌, 
 ghost use Rattle.std.specs.FinMap as finite;
 ghost use Rattle.gixp_wire.specs.declared.object_id.ObjectId.{ObjectId};
 ghost use Rattle.gixp_graph.specs.declared.objects.ObjectError.TheVariants.{Memory};
-ghost use Rattle.gixp_graph.specs.Object.{HasRisen, commit_at};
-ghost use Rattle.gixp_graph.specs.Held.{graph_of, shown, parents_in, found_in, looked_up, flagged, is_marked, OnlyMarks, HasNoMarks, IsFaithful};
+ghost use Rattle.gixp_graph.specs.Object.{HasRisen, commit_at, time_at};
+ghost use Rattle.gixp_graph.specs.Held.{graph_of, shown, shown_time, parents_in, found_in, looked_up, flagged, is_marked, OnlyMarks, HasNoMarks, IsFaithful};
 ghost use Rattle.gixp_graph.specs.Complete.{IsComplete};
 
 use crate::commits::Commits;
@@ -66,6 +66,9 @@ impl<O: Objects> Graph<O> {
     /// Why the objects can't be read. The commits held and their marks stay as they were.
     pub fn lookup(&mut self, id: &ObjectId) -> Result<Option<(i64, Flags)>, ObjectError>
         ensures found { IfOk result (λ found. found ≡ option_map shown (found_in self.old.graph id.now)) }
+
+        // Its time is that of the objects' commit, and a commit is found just where they have one.
+        ensures time { IfOk result (λ found. shown_time found ≡ time_at self.old.graph.objects id.now) }
         ensures ok { OnOk result (self.new.graph ≡ graph_of self.old.graph.objects (looked_up self.old.graph id.now)) }
         ensures err { OnErr result (self.new.graph ≡ self.old.graph) }
         ensures faithful { IsFaithful self.old.graph }

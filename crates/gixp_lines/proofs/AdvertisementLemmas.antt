@@ -187,6 +187,9 @@ v1-reader t plain old mid new s r e h (inl k) p is =
       refusal = refusal_of r;
       first = reader_known t old old.to_come h.texts s (refusal_of r) h.lines (so_far-refuses old mid new h.texts (refusal_of r) h.read k);
       refused = k.refused;
+      stopped = k.stopped;
+      version = k.version ∙ h.read.version;
+      held = k.held ∙ h.read.held;
       error = is;
     }))
 v1-reader t plain old mid new s r e h (inr k) p is =
@@ -206,6 +209,7 @@ v1-stop t old mid new s refs updates h k is same =
       stopped = all.stopped;
       version = all.version;
       failures = all.failures;
+      held = all.held;
     }
 
 -- memory ran out behind the stop

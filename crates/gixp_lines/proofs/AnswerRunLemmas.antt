@@ -11,7 +11,7 @@ use Rattle.gixp_lines.specs.declared.fetch.response.error.Error.{Error}
 use Rattle.gixp_lines.specs.declared.fetch.response.error.Error.TheVariants.{Memory}
 use Rattle.gixp_lines.specs.ResponseError.{AnswerRefusal, answer_refusal, from_reader, IsRefusal}
 use Rattle.gixp_lines.specs.Answer.{AnswerValue, Found, whole, refused, front, is_of_line}
-use Rattle.gixp_lines.specs.Reads.{Going, IsRunning, ReadsAnswer, AnswerFails}
+use Rattle.gixp_lines.specs.Reads.{Going, IsRunning, EndsAt, ReadsAnswer, AnswerFails}
 
 -- a mark is no line
 mark_gives : (b : Bool) (kind : MessageKind) (p q : Pieces) (e : Refusal) (text : List ℕ) → cond b (stops kind p) (refuses e) ≡ gives text q → ⊥
@@ -129,12 +129,18 @@ known_found : (found k : Pieces → Found) (taken : List Piece) (a b : Option Pi
 known_found found k taken None b value s w h = tt
 known_found found k taken (Some p) b value s w h = (h.0, h.1, ap found h.2 ∙ s h.0 ∙ w h.0)
 
+-- in front of a pack the reader is at no stop
+pub ends_running : (v : Protocol) (pack : Bool) (at : Option MessageKind) → EndsAt v pack at → pack ≡ true → at ≡ None
+ends_running v true at h e = h
+ends_running v false at h e = cc
+
 -- what was taken is an answer
-pub going-whole : (found k : Pieces → Found) (v : Protocol) (old new : Reading) (value : AnswerValue) → Going found k old new → new.version ≡ v → (value.pack ≡ true → new.stopped ≡ None)
+pub going-whole : (found k : Pieces → Found) (v : Protocol) (old new : Reading) (value : AnswerValue) → Going found k old new → new.version ≡ v → EndsAt v value.pack new.stopped
     → ((q : Pieces) → k q ≡ whole value q) → ReadsAnswer found v old new value
 going-whole found k v old new value h e r w = record {
   answer = known_found found k h.taken old.to_come new.to_come value h.same w h.took;
-  running = r;
+  running = ends_running v value.pack new.stopped r;
+  stopped = r;
   version = e;
   failures = h.failures;
 }

@@ -1,11 +1,13 @@
 -- How an answer under versions 0 and 1 is read piece by piece.
 use Rattle.std.proofs.Common.{◌≡◌, ℕ, Bool, true, false, cond, List, [], ◌∷◌, Option, Some, None, IfSome, Result, Ok, Err, refl, sym, ap, subst, ◌∙◌, append-nil, inl, inr}
-use Rattle.std.specs.Prelude.{not, ◌&&◌, ◌||◌}
+use Rattle.std.specs.Prelude.{not, ◌&&◌, ◌||◌, ◌⊎◌}
 use Rattle.std.specs.List.{list_any}
 use Rattle.std.specs.declared.io.ErrorKind.{ErrorKind}
 use Rattle.std.specs.declared.io.ErrorKind.TheVariants.{UnexpectedEof}
 use Rattle.gixp_wire.specs.declared.protocol.Protocol.{Protocol}
+use Rattle.gixp_wire.specs.declared.protocol.Protocol.TheVariants.{V0, V1}
 use Rattle.gixp_wire.specs.declared.protocol.MessageKind.{MessageKind}
+use Rattle.gixp_wire.specs.declared.protocol.MessageKind.TheVariants.{Flush}
 use Rattle.gixp_wire.specs.declared.read.Error.{Error as ReadError}
 use Rattle.gixp_wire.specs.Items.{is_stop}
 use Rattle.gixp_wire.specs.Lines.{Next, gives, stops, refuses, next_from, next_of}
@@ -18,7 +20,7 @@ use Rattle.gixp_lines.specs.declared.fetch.response.beginnings.Said.TheVariants.
 use Rattle.gixp_lines.specs.ResponseError.{from_reader, by_reader, answer_refusal}
 use Rattle.gixp_lines.specs.Answer.{AnswerValue, no_more, Found, whole, refused, front}
 use Rattle.gixp_lines.specs.Beginnings.{Item, acknowledged, updated, other, stopped, line_item, item_said, is_ready, is_nak, is_stopped, is_other, is_at_end, last_is, last_two_are, Asked, ends_by_nak, ends_before, ends, said_in, said_with, unless_ends, beginnings_from, v1_answer}
-use Rattle.gixp_lines.specs.Reads.{Going, IsRunning, ReadsAnswer, Answered, AnswerFails}
+use Rattle.gixp_lines.specs.Reads.{Going, IsRunning, EndsBare, ReadsAnswer, Answered, AnswerFails}
 use Rattle.gixp_lines.proofs.AnswerRunLemmas.{line_is, going-start, going-turn, going-line, going-stop, going-reset, going-whole, going-memory, going-fails, stop_taken}
 
 -- what is left behind a beginning
@@ -102,16 +104,38 @@ amid-stop v a answer came_ready old mid new last h k e =
 ends_by_stops : (a : Asked) (before : List Item) → true ≡ last_is is_stopped before → (next : Next) → ends a (stopped ∷ before) next ≡ Some false
 ends_by_stops a before e next = rw (← e) refl
 
+-- the versions that answer by beginnings
+abbrev pub IsEarlier : Protocol → Type 0
+IsEarlier v = (v ≡ V1) ⊎ (v ≡ V0)
+
+-- which know one stop
+flush_in_v1 : (kind : MessageKind) → is_stop V1 kind ≡ true → kind ≡ Flush
+flush_in_v1 Flush h = refl
+flush_in_v1 _ h = cc
+
+flush_in_v0 : (kind : MessageKind) → is_stop V0 kind ≡ true → kind ≡ Flush
+flush_in_v0 Flush h = refl
+flush_in_v0 _ h = cc
+
+only_flush : (v : Protocol) → IsEarlier v → (kind : MessageKind) → is_stop v kind ≡ true → kind ≡ Flush
+only_flush v (inl e) kind h = flush_in_v1 kind (subst (λ x. is_stop x kind ≡ true) e h)
+only_flush v (inr e) kind h = flush_in_v0 kind (subst (λ x. is_stop x kind ≡ true) e h)
+
+ends_bare : (v : Protocol) → IsEarlier v → (at : Option MessageKind) → (at ≡ None) ⊎ (at ≡ Some Flush) → EndsBare v at
+ends_bare v (inl e) at h = subst (λ x. EndsBare x at) (sym e) h
+ends_bare v (inr e) at h = subst (λ x. EndsBare x at) (sym e) h
+
 -- a second one ends the answer
-pub amid-stops : (v : Protocol) (a : Asked) (answer : AnswerValue) (came_ready : Bool) (old mid new : Reading) → Amid v a answer came_ready true old mid → AtStop mid new
+pub amid-stops : (v : Protocol) (earlier : IsEarlier v) (a : Asked) (answer : AnswerValue) (came_ready : Bool) (old mid new : Reading) → Amid v a answer came_ready true old mid → AtStop mid new
     → Answered (v1_answer v a) v old new answer
-amid-stops v a answer came_ready old mid new h k =
+amid-stops v earlier a answer came_ready old mid new h k =
     let t = stop_taken v mid new h.read.running k in
     let went = read_stop v a h.before old mid new h.read h.no_nak h.no_stops t in
     let said = ended_is v a in
     inl (subst (ReadsAnswer (v1_answer v a) v old new) (sym h.answer_is)
     (going-whole (v1_answer v a) (longer_of v a (stopped ∷ h.before)) v old new (said_in h.before false) went (t.1.version ∙ h.read.running.version)
-    (λ e. cc) (λ q. ended_is v a q.list q.end (stopped ∷ h.before) false (ends_by_stops a h.before h.stop_is))))
+    (ends_bare v earlier new.stopped (inr (t.1.stopped ∙ ap Some (only_flush v earlier t.0 (subst (λ x. is_stop x t.0 ≡ true) h.read.running.version t.1.is_stop)))))
+    (λ q. ended_is v a q.list q.end (stopped ∷ h.before) false (ends_by_stops a h.before h.stop_is))))
 
 -- the kind of the stream's end
 end_kind : (kind : ErrorKind) → is_at_end (io kind) ≡ true → io kind ≡ io UnexpectedEof
@@ -157,17 +181,18 @@ and_parts false y h = cc
 fault_is_no_end : (old new : Reading) → Faults old new (io UnexpectedEof) → ⊥
 fault_is_no_end old new f = let x = f.fault.0 in cc
 
-end_answers : (v : Protocol) (a : Asked) (before : List Item) (old mid new : Reading) → Read v a before old mid → ends a before (refuses (io UnexpectedEof)) ≡ Some false
+end_answers : (v : Protocol) (earlier : IsEarlier v) (a : Asked) (before : List Item) (old mid new : Reading) → Read v a before old mid → ends a before (refuses (io UnexpectedEof)) ≡ Some false
     → Fails mid new (io UnexpectedEof) → Answered (v1_answer v a) v old new (said_in before false)
-end_answers v a before old mid new h e (inl t) = inl (record {
+end_answers v earlier a before old mid new h e (inl t) = inl (record {
   answer = known_end v mid.version (v1_answer v a) (longer_of v a before) h.going.taken old.to_come mid.to_come new.to_come (said_in before false) (io UnexpectedEof)
       h.running.version h.going.same (λ q n. at_end_is v a before q.list q.end e n) h.going.took t.next;
   running = λ p. cc;
+  stopped = ends_bare v earlier new.stopped (inl t.stopped);
   version = t.version ∙ h.running.version;
   failures = t.failures ∙ h.going.failures;
 })
-end_answers v a before old mid new h e (inr (inl t)) = absurd (fault_is_no_end mid new t)
-end_answers v a before old mid new h e (inr (inr t)) =
+end_answers v earlier a before old mid new h e (inr (inl t)) = absurd (fault_is_no_end mid new t)
+end_answers v earlier a before old mid new h e (inr (inr t)) =
     let nothing : Pieces = no_pieces (io UnexpectedEof) in
     let all : front h.going.taken nothing ≡ record { list = h.going.taken; end = io UnexpectedEof } = rw append-nil refl in
     let left : longer_of v a before nothing ≡ whole (said_in before false) nothing = at_end_is v a before [] (io UnexpectedEof) e refl in
@@ -183,15 +208,15 @@ end_answers v a before old mid new h e (inr (inr t)) =
     })
 
 -- the stream's end, not right behind a stop
-pub amid-end : (v : Protocol) (a : Asked) (answer : AnswerValue) (came_ready behind_stop : Bool) (old mid new : Reading) (r : ReadError) → Amid v a answer came_ready behind_stop old mid
+pub amid-end : (v : Protocol) (earlier : IsEarlier v) (a : Asked) (answer : AnswerValue) (came_ready behind_stop : Bool) (old mid new : Reading) (r : ReadError) → Amid v a answer came_ready behind_stop old mid
     → Fails mid new (refusal_of r) → true ≡ (is_at_end (refusal_of r) && not behind_stop) → Answered (v1_answer v a) v old new answer
-amid-end v a answer came_ready behind_stop old mid new r h f t =
+amid-end v earlier a answer came_ready behind_stop old mid new r h f t =
     let parts = and_parts (is_at_end (refusal_of r)) behind_stop (sym t) in
     let kind = end_is (refusal_of r) parts.0 in
     let fails : Fails mid new (io UnexpectedEof) = subst (λ x. Fails mid new x) kind f in
     let stop : false ≡ last_is is_stopped h.before = sym parts.1 ∙ h.stop_is in
     subst (Answered (v1_answer v a) v old new) (sym h.answer_is)
-    (end_answers v a h.before old mid new h.read (ends_at_end a h.before h.no_nak h.no_stops stop) fails)
+    (end_answers v earlier a h.before old mid new h.read (ends_at_end a h.before h.no_nak h.no_stops stop) fails)
 
 no_end : (x : Bool) (y z : Bool) → z ≡ y → false ≡ (x && not z) → cond (x && not y) (Some false) None ≡ None
 no_end x y z e h = let s : (x && not y) ≡ false = ap (λ w. x && not w) (sym e) ∙ sym h in rw s refl
@@ -283,6 +308,7 @@ amid-pack v a answer came_ready behind_stop old mid new h s o =
       answer = known_pack v mid.version (v1_answer v a) (longer_of v a h.before) h.read.going.taken old.to_come mid.to_come new.to_come (said_in h.before true) new.line
           h.read.running.version h.read.going.same (λ q r n. pack_is v a h.before q.list q.end new.line r h.no_nak h.no_stops o n) h.read.going.took s.next;
       running = λ _. shown.running.stopped;
+      stopped = shown.running.stopped;
       version = shown.running.version;
       failures = shown.going.failures;
     }))
@@ -347,16 +373,17 @@ ends_nak : (a : Asked) (before : List Item) → ends_by_nak a before ≡ true �
 ends_nak a before e next = rw e refl
 
 -- or it ends there
-pub amid-nak : (v : Protocol) (a : Asked) (answer more : AnswerValue) (came_ready behind_stop ready : Bool) (s : Said) (old mid new : Reading) (h : Amid v a answer came_ready behind_stop old mid)
+pub amid-nak : (v : Protocol) (earlier : IsEarlier v) (a : Asked) (answer more : AnswerValue) (came_ready behind_stop ready : Bool) (s : Said) (old mid new : Reading) (h : Amid v a answer came_ready behind_stop old mid)
     → Taken v a s h.before old new → more ≡ said_with answer (item_said (Some s)) → ready ≡ (is_ready (item_said (Some s)) || came_ready)
     → true ≡ ((is_nak (item_said (Some s)) && a.negotiates) && not (a.expects_pack && ready)) → Answered (v1_answer v a) v old new more
-amid-nak v a answer more came_ready behind_stop ready s old mid new h t m r n =
+amid-nak v earlier a answer more came_ready behind_stop ready s old mid new h t m r n =
     let i = item_said (Some s) in
     let came : ready ≡ list_any is_ready (i ∷ h.before) = r ∙ ap (λ x. is_ready i || x) h.ready_is in
     let nak : ends_by_nak a (i ∷ h.before) ≡ true = ap (λ x. (is_nak i && a.negotiates) && not (a.expects_pack && x)) (sym came) ∙ sym n in
     let value : more ≡ said_in (i ∷ h.before) false = m ∙ ap (λ x. said_with x i) h.answer_is ∙ said_more h.before i in
     inl (subst (ReadsAnswer (v1_answer v a) v old new) (sym value)
-    (going-whole (v1_answer v a) (longer_of v a (i ∷ h.before)) v old new (said_in (i ∷ h.before) false) t.read.going t.read.running.version (λ _. t.read.running.stopped)
+    (going-whole (v1_answer v a) (longer_of v a (i ∷ h.before)) v old new (said_in (i ∷ h.before) false) t.read.going t.read.running.version
+    (ends_bare v earlier new.stopped (inl t.read.running.stopped))
     (λ q. ended_is v a q.list q.end (i ∷ h.before) false (ends_nak a (i ∷ h.before) nak))))
 
 -- memory ran out for what it says

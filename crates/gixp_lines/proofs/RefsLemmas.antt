@@ -66,6 +66,7 @@ refs-stop old mid new refs h k =
       stopped = all.stopped;
       version = all.version;
       failures = all.failures;
+      held = all.held;
     }
 
 line_refused : (r s : Reading) (o n : Option Pieces) (texts : List (List ℕ)) (t : List ℕ) (vs : List RefValue) (e : RefsRefusal) → AreRefs texts vs → v2_line t ≡ Err e
@@ -107,6 +108,9 @@ refs-reader plain old mid new vs r e h (inl k) p is =
       refusal = r;
       first = reader_known old old.to_come h.texts vs r h.refs (so_far-refuses old mid new h.texts r h.read k);
       refused = k.refused;
+      stopped = k.stopped;
+      version = k.version ∙ h.read.version;
+      held = k.held ∙ h.read.held;
       error = is;
     }))
 refs-reader plain old mid new vs r e h (inr k) p is =

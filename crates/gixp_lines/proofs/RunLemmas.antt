@@ -5,7 +5,7 @@ use Rattle.gixp_wire.specs.declared.protocol.MessageKind.{MessageKind}
 use Rattle.gixp_wire.specs.Pieces.{Refusal, Piece, line, mark, Pieces, no_pieces, unexpected_frame}
 use Rattle.gixp_wire.specs.Items.{is_stop}
 use Rattle.gixp_wire.specs.Lines.{gives, stops, refuses, next_from, next_of, Lines, Ending, stop, refusal, lines_from, lines_of, no_lines, before, lines_to}
-use Rattle.gixp_wire.specs.Reading.{Reading, TakesLine, TakesStop, WasStopped, AtStop, Refuses, lines_from_stop, lines_ahead}
+use Rattle.gixp_wire.specs.Reading.{Reading, TakesLine, TakesStop, WasStopped, AtStop, Refuses, Fails, lines_from_stop, lines_ahead}
 use Rattle.gixp_lines.specs.Runs.{SoFar}
 
 -- a mark is no line
@@ -89,7 +89,7 @@ start_next r (Some p) = (p, refl, refl)
 
 -- before the first call nothing is read
 pub so_far-start : (r : Reading) → SoFar r r []
-so_far-start r = record { next = start_next r r.to_come; stopped = refl; version = refl; failures = refl }
+so_far-start r = record { next = start_next r r.to_come; stopped = refl; version = refl; failures = refl; held = refl }
 
 append_before : (texts : List (List ℕ)) (text : List ℕ) (rest : Lines) → before texts (before (text ∷ []) rest) ≡ before (texts ++ text ∷ []) rest
 append_before texts text rest = rw append_assoc refl
@@ -109,6 +109,7 @@ so_far-line old mid new texts h k = let text = new.line in record {
   stopped = k.stopped ∙ sym k.running ∙ h.stopped;
   version = k.version ∙ h.version;
   failures = k.failures ∙ h.failures;
+  held = k.held ∙ h.held;
 }
 
 -- lines before an ending behind which nothing stands
@@ -122,6 +123,7 @@ pub record AllRead (old new : Reading) (texts : List (List ℕ)) : Type 0 where
   pub stopped : new.stopped ≡ Some kind
   pub version : new.version ≡ old.version
   pub failures : new.failures ≡ old.failures
+  pub held : new.held ≡ old.held
 
 takes_stop : (old mid new : Reading) (texts : List (List ℕ)) (kind : MessageKind) → SoFar old mid texts → TakesStop mid new kind → AllRead old new texts
 takes_stop old mid new texts kind h k = record {
@@ -135,6 +137,7 @@ takes_stop old mid new texts kind h k = record {
   stopped = k.stopped;
   version = k.version ∙ h.version;
   failures = k.failures ∙ h.failures;
+  held = k.held ∙ h.held;
 }
 
 was_stopped : (old mid new : Reading) (texts : List (List ℕ)) (kind : MessageKind) → mid.stopped ≡ Some kind → SoFar old mid texts → WasStopped mid new → AllRead old new texts
@@ -150,6 +153,7 @@ was_stopped old mid new texts kind at h k = record {
   stopped = k.stays.stopped ∙ at;
   version = k.stays.version ∙ h.version;
   failures = k.failures ∙ h.failures;
+  held = k.stays.held ∙ h.held;
 }
 
 some_kind : (o : Option MessageKind) → IsSome o → (kind : MessageKind) × (o ≡ Some kind)
@@ -176,3 +180,17 @@ refused_next old mid (Some p) (Some q) c texts e run h k =
 pub so_far-refuses : (old mid new : Reading) (texts : List (List ℕ)) (e : Refusal) → SoFar old mid texts → Refuses mid new e
     → IfSome old.to_come (λ p. lines_ahead old p ≡ lines_to texts (refusal e))
 so_far-refuses old mid new texts e h k = refused_next old mid old.to_come mid.to_come new.to_come texts e k.running h.next k.next
+
+-- what no call for a line changes
+pub record Keeps (old new : Reading) : Type 0 where
+  pub version : new.version ≡ old.version
+  pub held : new.held ≡ old.held
+
+pub fails-keep : (old new : Reading) (e : Refusal) → Fails old new e → Keeps old new
+fails-keep old new e (inl k) = record { version = k.version; held = k.held }
+fails-keep old new e (inr (inl k)) = record { version = k.stays.version; held = k.stays.held }
+fails-keep old new e (inr (inr k)) = record { version = k.version; held = k.held }
+
+pub at_stop-keeps : (old new : Reading) → AtStop old new → Keeps old new
+at_stop-keeps old new (inl k) = record { version = k.stays.version; held = k.stays.held }
+at_stop-keeps old new (inr k) = record { version = k.1.version; held = k.1.held }

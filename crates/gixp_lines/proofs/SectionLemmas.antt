@@ -19,7 +19,7 @@ use Rattle.gixp_lines.specs.ResponseError.{AnswerRefusal, io_failed, unknown_lin
 use Rattle.gixp_lines.specs.Answer.{AnswerValue, no_more, both, Found, whole, refused, in_front, is_of_line}
 use Rattle.gixp_lines.specs.Sections.{or_refused, header_of, item_of, read_header, read_item, closed, not_opened, is_flush, sections_from, v2_answer}
 use Rattle.gixp_lines.specs.AnswerLine.{trimmed}
-use Rattle.gixp_lines.specs.Reads.{Adds, Going, IsRunning, ReadsAnswer, AnswerFails}
+use Rattle.gixp_lines.specs.Reads.{Adds, Going, IsRunning, EndsAt, ReadsAnswer, AnswerFails}
 use Rattle.gixp_lines.proofs.AnswerRunLemmas.{going-start, going-turn, going-line, going-stop, going-reset, going-whole, going-refused, going-memory, going-fails, stop_taken}
 
 -- what is left behind these items, in this section or where a header is due
@@ -58,7 +58,7 @@ pub within-pack : (had : AnswerValue) (old mid new : Reading) → Within had Non
     → ReadsAnswer v2_answer V2 old new (record had { pack = true })
 within-pack had old mid new h t is =
     let all = going-line v2_answer (left_of had None) V2 old mid new h.going h.running t in
-    going-whole v2_answer _ V2 old new (record had { pack = true }) all.0 all.1.version (λ _. all.1.stopped) (λ q. rw is (simp append-nil refl))
+    going-whole v2_answer _ V2 old new (record had { pack = true }) all.0 all.1.version all.1.stopped (λ q. rw is (simp append-nil refl))
 
 both_assoc : (a b : AnswerValue) (f : Found) → in_front a (in_front b f) ≡ in_front (both a.pack a b) f
 both_assoc a b (whole v rest) = simp append_assoc refl
@@ -109,6 +109,10 @@ within-delimiter had s old mid new last h a f e =
 had_all : (had : AnswerValue) → had.pack ≡ false → both false had (no_more false) ≡ had
 had_all had e = simp (append-nil, sym e) refl
 
+flush_is : (at : Option MessageKind) → is_flush at ≡ true → at ≡ Some Flush
+flush_is (Some Flush) h = refl
+flush_is _ h = cc
+
 -- a section that a flush ends is the last
 pub within-flush : (had : AnswerValue) (s : Section) (old mid new : Reading) → Within had (Some s) old mid → AtStop mid new → is_flush new.stopped ≡ true
     → ReadsAnswer v2_answer V2 old new had
@@ -116,7 +120,7 @@ within-flush had s old mid new h a f =
     let t = stop_taken V2 mid new h.running a in
     let went = going-stop v2_answer (left_of had (Some s)) V2 old mid new t.0 h.going h.running t.1 in
     let flush : is_flush (Some t.0) ≡ true = subst (λ o. is_flush o ≡ true) t.1.stopped f in
-    going-whole v2_answer _ V2 old new had went (t.1.version ∙ h.running.version) (λ e. absurd (let n = h.no_pack in cc))
+    going-whole v2_answer _ V2 old new had went (t.1.version ∙ h.running.version) (subst (λ b. EndsAt V2 b new.stopped) (sym h.no_pack) (flush_is new.stopped f))
     (λ q. ap (in_front had) (flushed_is t.0 q (sections_from q.list q.end None) flush) ∙ ap (λ v. whole v q) (had_all had h.no_pack))
 
 -- a stop where a header is due

@@ -1,5 +1,5 @@
 -- What the readers of refs answer.
-use Rattle.std.specs.Prelude.{◌≡◌, ℕ, Bool, true, false, List, Option, Result, Ok, Err}
+use Rattle.std.specs.Prelude.{◌≡◌, ℕ, Bool, true, false, List, codes, Option, Result, Ok, Err}
 use Rattle.std.specs.Option.{option_map, option_copied}
 use Rattle.bstr.specs.Owned.{bstring_bytes}
 use Rattle.gixp_wire.specs.declared.object_id.ObjectId.{ObjectId}
@@ -7,7 +7,17 @@ use Rattle.gixp_wire.specs.Reading.{refusal_of}
 use Rattle.gixp_lines.specs.declared.handshake.refs.line.Attributes.{Attributes}
 use Rattle.gixp_lines.specs.declared.handshake.refs.parse.Error.{Error}
 use Rattle.gixp_lines.specs.declared.handshake.refs.parse.Error.TheVariants.{Io, DecodePacketline, Id, MalformedSymref, MalformedV1RefLine, MalformedV2RefLine, UnknownAttribute, InvariantViolation, UploadPack, Reader, Memory}
+use Rattle.gixp_lines.specs.declared.handshake.refs.parse.Invariant.{Invariant}
+use Rattle.gixp_lines.specs.declared.handshake.refs.parse.Invariant.TheVariants.{UnbornObject, UnbornTag, UnbornNullTarget, PeeledAlone, PeeledElsewhere}
 use Rattle.gixp_lines.specs.RefLine.{RefsRefusal, io_failed, bad_frame, bad_id, malformed_symref, malformed_v1, malformed_v2, unknown_attribute, invariant, upload_pack, by_reader, no_memory, AttributeValues}
+
+-- what doesn't go together, as it shows
+abbrev pub invariant_text : Invariant → List ℕ
+invariant_text UnbornObject = codes "got 'unborn' as object name of direct reference"
+invariant_text UnbornTag = codes "got 'unborn' as tag target"
+invariant_text UnbornNullTarget = codes "got 'unborn' while (null) was a symref target"
+invariant_text PeeledAlone = codes "Expecting peeled refs to be preceded by direct refs"
+invariant_text PeeledElsewhere = codes "Expecting peeled refs to have the same base path as the previous, unpeeled one"
 
 -- the refusal that an error is
 abbrev pub parse_refusal : Error → RefsRefusal
@@ -18,7 +28,7 @@ parse_refusal (MalformedSymref symref) = malformed_symref (bstring_bytes symref)
 parse_refusal (MalformedV1RefLine line) = malformed_v1 (bstring_bytes line)
 parse_refusal (MalformedV2RefLine line) = malformed_v2 (bstring_bytes line)
 parse_refusal (UnknownAttribute attribute line) = unknown_attribute (bstring_bytes attribute) (bstring_bytes line)
-parse_refusal (InvariantViolation message) = invariant message.now
+parse_refusal (InvariantViolation message) = invariant (invariant_text message)
 parse_refusal (UploadPack message) = upload_pack (bstring_bytes message)
 parse_refusal (Reader e) = by_reader (refusal_of e)
 parse_refusal Memory = no_memory

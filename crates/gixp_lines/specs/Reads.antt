@@ -1,6 +1,8 @@
 -- What the reading of an answer does to its reader.
-use Rattle.std.specs.Prelude.{◌≡◌, ◌⊎◌, Bool, true, Some, None, IfSome, List, Result, Ok, Err}
+use Rattle.std.specs.Prelude.{◌≡◌, ◌⊎◌, Bool, true, false, Option, Some, None, IfSome, List, Result, Ok, Err}
 use Rattle.std.specs.declared.io.ErrorKind.TheVariants.{UnexpectedEof}
+use Rattle.gixp_wire.specs.declared.protocol.MessageKind.{MessageKind}
+use Rattle.gixp_wire.specs.declared.protocol.MessageKind.TheVariants.{Flush}
 use Rattle.gixp_wire.specs.declared.protocol.Protocol.{Protocol}
 use Rattle.gixp_wire.specs.declared.protocol.Protocol.TheVariants.{V0, V1, V2}
 use Rattle.gixp_wire.specs.Pieces.{Refusal, io, Piece, Pieces, no_pieces}
@@ -29,10 +31,21 @@ Adds (Err r) old new (Err e) = IsRefusal e r
 abbrev pub Took : List Piece → Reading → Reading → Type 0
 Took taken old now = IfSome old.to_come (λ p. (q : Pieces) × (now.to_come ≡ Some q) × (p ≡ front taken q))
 
+-- where an answer without a pack ends: version 2 at a flush, versions 0 and 1 at the second of two flushes, or at no stop
+abbrev pub EndsBare : Protocol → Option MessageKind → Type 0
+EndsBare V2 at = at ≡ Some Flush
+EndsBare _ at = (at ≡ None) ⊎ (at ≡ Some Flush)
+
+-- the stop that the reader is at behind an answer: none in front of a pack
+abbrev pub EndsAt : Protocol → Bool → Option MessageKind → Type 0
+EndsAt under true at = at ≡ None
+EndsAt under false at = EndsBare under at
+
 -- the answer in the pieces to come was read, and what stands behind it is still to come
 pub record ReadsAnswer (found : Pieces → Found) (under : Protocol) (old new : Reading) (value : AnswerValue) : Type 0 where
   pub answer : IfSome old.to_come (λ p. (q : Pieces) × (new.to_come ≡ Some q) × (found p ≡ whole value q))
   pub running : value.pack ≡ true → new.stopped ≡ None
+  pub stopped : EndsAt under value.pack new.stopped
   pub version : new.version ≡ under
   pub failures : new.failures ≡ old.failures
 

@@ -48,6 +48,7 @@ pub record ReadsRefs (old new : Reading) (refs : List Ref) : Type 0 where
   pub stopped : new.stopped ≡ Some kind
   pub version : new.version ≡ old.version
   pub failures : new.failures ≡ old.failures
+  pub held : new.held ≡ old.held
 
 -- the first refusal was a line's, and it and the lines before it are taken
 pub record LineRefused (old new : Reading) (e : Error) : Type 0 where
@@ -64,6 +65,9 @@ pub record ReaderRefused (old new : Reading) (e : Error) : Type 0 where
   pub refusal : Refusal
   pub first : IfSome old.to_come (λ p. v2_refs (lines_ahead old p) ≡ Err (refusal_from refusal))
   pub refused : new.refused ≡ Some refusal
+  pub stopped : new.stopped ≡ None
+  pub version : new.version ≡ old.version
+  pub held : new.held ≡ old.held
   pub error : parse_refusal e ≡ refusal_from refusal
 
 -- something came from outside behind some lines: a device that failed, an interrupt, or want of memory

@@ -1,5 +1,5 @@
 -- Why there is no answer to a fetch, and how errors of lines are compared (gitprotocol-v2, "fetch"; gitprotocol-pack, "Packfile Negotiation").
-use Rattle.std.specs.Prelude.{◌≡◌, ℕ, Bool, true, false, List, Option, Some, None, Result, Ok, Err, string_bytes}
+use Rattle.std.specs.Prelude.{◌≡◌, ℕ, Bool, true, false, List, codes, Option, Some, None, Result, Ok, Err, string_bytes}
 use Rattle.std.specs.declared.io.ErrorKind.{ErrorKind}
 use Rattle.bstr.specs.Owned.{bstring_bytes}
 use Rattle.gixp_wire.specs.Pieces.{Refusal, io, server, memory}
@@ -7,6 +7,13 @@ use Rattle.gixp_wire.specs.Reading.{refusal_of}
 use Rattle.gixp_wire.specs.Client.{ClientRefusal, no_memory as client_no_memory, client_refusal}
 use Rattle.gixp_lines.specs.declared.fetch.response.error.Error.{Error}
 use Rattle.gixp_lines.specs.declared.fetch.response.error.Error.TheVariants.{Io, UploadPack, Transport, MissingServerCapability, UnknownLineType, UnknownSectionHeader, Reader, Memory}
+use Rattle.gixp_lines.specs.declared.fetch.response.error.RequiredFeature.{RequiredFeature}
+use Rattle.gixp_lines.specs.declared.fetch.response.error.RequiredFeature.TheVariants.{MultiAckDetailed, SideBand}
+
+-- the name of a feature that answers need
+abbrev pub required_text : RequiredFeature → List ℕ
+required_text MultiAckDetailed = codes "multi_ack_detailed"
+required_text SideBand = codes "side-band OR side-band-64k"
 
 -- a refusal, as it is compared
 pub data AnswerRefusal : Type 0 where
@@ -24,7 +31,7 @@ abbrev pub answer_refusal : Error → AnswerRefusal
 answer_refusal (Io kind) = io_failed kind
 answer_refusal (UploadPack message) = upload_pack (bstring_bytes message)
 answer_refusal (Transport e) = by_transport (client_refusal e)
-answer_refusal (MissingServerCapability feature) = missing_capability feature.now
+answer_refusal (MissingServerCapability feature) = missing_capability (required_text feature)
 answer_refusal (UnknownLineType line) = unknown_line (string_bytes line)
 answer_refusal (UnknownSectionHeader header) = unknown_header (string_bytes header)
 answer_refusal (Reader e) = by_reader (refusal_of e)

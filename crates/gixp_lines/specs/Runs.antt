@@ -10,3 +10,4 @@ pub record SoFar (old now : Reading) (texts : List (List ℕ)) : Type 0 where
   pub stopped : now.stopped ≡ old.stopped
   pub version : now.version ≡ old.version
   pub failures : now.failures ≡ old.failures
+  pub held : now.held ≡ old.held

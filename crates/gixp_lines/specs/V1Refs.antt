@@ -36,6 +36,7 @@ pub record ReadsV1 (t : List Symref) (old new : Reading) (refs : List Ref) (upda
   pub stopped : new.stopped ≡ Some kind
   pub version : new.version ≡ old.version
   pub failures : new.failures ≡ old.failures
+  pub held : new.held ≡ old.held
 
 -- the first refusal was at a line, and it and the lines before it are taken; those were none to refuse
 pub record V1LineRefused (t : List Symref) (old new : Reading) (e : Error) : Type 0 where
@@ -53,6 +54,9 @@ pub record V1ReaderRefused (t : List Symref) (old new : Reading) (e : Error) : T
   pub refusal : Refusal
   pub first : IfSome old.to_come (λ p. v1_refs t (lines_ahead old p) ≡ Err (refusal_from refusal))
   pub refused : new.refused ≡ Some refusal
+  pub stopped : new.stopped ≡ None
+  pub version : new.version ≡ old.version
+  pub held : new.held ≡ old.held
   pub error : parse_refusal e ≡ refusal_from refusal
 
 -- there was no memory for a ref of the lines taken, perhaps behind the stop

@@ -310,7 +310,7 @@ fn takes_refs_and_a_file(rt: HostRuntime) -> Result<(), Fail> {
 
 #[test]
 fn names_each_refusal(rt: HostRuntime) -> Result<(), Fail> {
-    use gix_protocol::handshake::refs::parse::Error;
+    use gix_protocol::handshake::refs::parse::{Error, Invariant};
     use gix_protocol::transport::PacketError;
     let a = rt.alloc();
     for (error, text, variant) in [
@@ -323,8 +323,10 @@ fn names_each_refusal(rt: HostRuntime) -> Result<(), Fail> {
             "DecodePacketline",
         ),
         (
-            ListError::Parse(Error::InvariantViolation { message: "no" }),
-            "no",
+            ListError::Parse(Error::InvariantViolation {
+                message: Invariant::UnbornTag,
+            }),
+            "got 'unborn' as tag target",
             "InvariantViolation",
         ),
     ] {

@@ -20,3 +20,5 @@ pub mod DifferLemmas
 pub mod UniqueLemmas
 pub mod ApartLemmas
 pub mod KeptLemmas
+pub mod BackedLemmas
+pub mod OriginLemmas

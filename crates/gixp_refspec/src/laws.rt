@@ -1,5 +1,5 @@
 //! Laws of the definitions that contracts cite. The functions do nothing: a caller that cites a law calls one.
-ghost use Rattle.gixp_refspec.specs.Laws.{MatchesMiddle, MatchesOnly, NamesAreLocal, NamesIncrease};
+ghost use Rattle.gixp_refspec.specs.Laws.{MatchesMiddle, MatchesOnly, NamesAreLocal, NamesIncrease, MappingsHaveOrigins};
 ghost use Rattle.gixp_refspec.specs.Leaving.{KeepsAnswers};
 
 /// Leaving out refs whose names begin with none of the prefixes that [`expand_prefixes`] adds for the refspecs, each
@@ -18,4 +18,10 @@ pub fn definitions_mean_what_they_say()
     ensures only { MatchesOnly }
     ensures names { NamesAreLocal }
     ensures increase { NamesIncrease }
+{}
+
+/// Where a mapping comes from: its `spec_index` is the place of one of the refspecs. Its item is the first ref of its
+/// name, and the name begins with a prefix of that refspec; or it has no item, and that refspec names its id.
+pub fn mappings_have_origins()
+    ensures { MappingsHaveOrigins }
 {}

@@ -307,7 +307,12 @@ fn writes_each_error_and_takes_in_others(rt: HostRuntime) -> Result<(), Fail> {
             },
             "The ref attribute \"foo\" is unknown. Found in line \"x y\"",
         ),
-        (parse::Error::InvariantViolation { message: "no" }, "no"),
+        (
+            parse::Error::InvariantViolation {
+                message: parse::Invariant::UnbornTag,
+            },
+            "got 'unborn' as tag target",
+        ),
         (parse::Error::from(read::Error::Io(ErrorKind::Other)), "Io"),
         (
             parse::Error::from(read::Error::Decode(PacketError::DataIsEmpty)),

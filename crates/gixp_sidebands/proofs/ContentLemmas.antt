@@ -9,11 +9,13 @@ use Rattle.gixp_wire.specs.declared.protocol.Protocol.{Protocol}
 use Rattle.gixp_wire.specs.declared.protocol.MessageKind.{MessageKind}
 use Rattle.gixp_sidebands.specs.declared.sidebands.band.Band.{Band}
 use Rattle.gixp_sidebands.specs.declared.sidebands.band.Band.TheVariants.{Empty, Content, Text, Unknown}
-use Rattle.gixp_wire.specs.Pieces.{Refusal, unexpected_frame, Piece, line, mark, Pieces}
+use Rattle.gixp_wire.specs.Pieces.{Refusal, unexpected_frame, Piece, line, mark, Pieces, no_pieces}
 use Rattle.gixp_wire.specs.Items.{is_stop}
-use Rattle.gixp_wire.specs.Lines.{gives, stops, next_from, next_of}
-use Rattle.gixp_wire.specs.Reading.{Reading, TakesLine, ShowsLine, AtStop, Peeks}
-use Rattle.gixp_sidebands.specs.Bands.{band_of, is_content, unband_line, unband_from, unband, content_from, content_of, Message, messages_line, messages_from, messages_of, is_held, front_line, shown, content_left, messages_left, HandsOut, Side, side_reading, banded_reading, side_content, IsFirstOf, ShowsContent, EndsContent, ShowsFirst, ReadsBytes, Fills, place_after}
+use Rattle.gixp_wire.specs.Lines.{gives, stops, refuses, next_from, next_of}
+use Rattle.gixp_wire.specs.Reading.{Reading, TakesLine, ShowsLine, AtStop, Refuses, Faults, Fails, Peeks}
+use Rattle.std.specs.IoError.{error_kind}
+use Rattle.std.specs.declared.io.Error.{Error as io_error}
+use Rattle.gixp_sidebands.specs.Bands.{band_of, is_content, unband_line, unband_from, unband, content_from, content_of, Message, messages_line, messages_from, messages_of, is_held, front_line, shown, content_left, messages_left, HandsOut, Side, side_reading, banded_reading, side_content, IsFirstOf, ShowsContent, EndsContent, ShowsFirst, ReadsBytes, RefusesContent, KeepsContent, Fills, io_kind, place_after}
 use Rattle.gixp_sidebands.proofs.PieceLemmas.{mark_not_gives}
 
 pub both_true : (a b : Bool) → (a && b) ≡ true → (a ≡ true) × (b ≡ true)
@@ -248,3 +250,41 @@ none_of (Some n) e = absurd (let x = e in cc)
 pub fills_either : (old new : Side) (more : Bool) → Fills old new (Ok more) → ShowsContent old new ⊎ EndsContent old new
 fills_either old new true h = inl h
 fills_either old new false h = inr h
+
+refuses_empty : (v : Protocol) (list : List Piece) (end : Refusal) (e : Refusal) → next_from v list end ≡ refuses e → content_from list ≡ []
+refuses_empty v [] end e h = refl
+refuses_empty v (line t ∷ ps) end e h = cc
+refuses_empty v (mark k ∷ ps) end e h = refl
+
+-- a fault leaves the content that is to come
+keeps_at : (old new : Side) (x : Refusal) → old.place ≡ None → new.place ≡ None → Faults (side_reading old) (side_reading new) x → KeepsContent old new
+keeps_at old new x o n f = rw (o, n) (by (rw (o, n) at f))
+  where
+    at : (a b : Option Pieces) (s s' : Option MessageKind) → s ≡ None → s' ≡ None → IfSome (option_map unband a) (λ p. option_map unband b ≡ Some p)
+        → IfSome a (λ p. (q : Pieces) × (b ≡ Some q) × (content_left None s' q ≡ content_left None s p))
+    at None b s s' e g k = tt
+    at (Some p) None s s' e g k = absurd (let y = k in cc)
+    at (Some p) (Some q) s s' e g k =
+        let u : unband q ≡ unband p = let y : Some (unband q) ≡ Some (unband p) = k in cc in
+        rw (e, g) (q, refl, ap (λ y. content_from y.list) u)
+
+    by : Faults (banded_reading false old.name old.reading) (banded_reading false new.name new.reading) x
+        → IfSome old.reading.to_come (λ p. (q : Pieces) × (new.reading.to_come ≡ Some q) × (content_left None new.reading.stopped q ≡ content_left None old.reading.stopped p))
+    by h = at old.reading.to_come new.reading.to_come old.reading.stopped new.reading.stopped h.running (h.stays.stopped ∙ h.running) h.stays.to_come
+
+-- a refusal of the stream stands behind all content
+ends_at : (old new : Side) (x : Refusal) → old.place ≡ None → Refuses (side_reading old) (side_reading new) x → IfSome old.reading.to_come (λ p. side_content old p ≡ [])
+ends_at old new x o r = rw o (by (rw o at r))
+  where
+    at : (a : Option Pieces) (b : Option Pieces) (s : Option MessageKind) → s ≡ None → IfSome (option_map unband a) (λ p. (b ≡ Some (no_pieces x)) × (next_of old.reading.version p ≡ refuses x))
+        → IfSome a (λ p. content_left None s p ≡ [])
+    at None b s e k = tt
+    at (Some p) b s e k = rw e (refuses_empty old.reading.version (unband p).list (unband p).end x k.1)
+
+    by : Refuses (banded_reading false old.name old.reading) (side_reading new) x → IfSome old.reading.to_come (λ p. content_left None old.reading.stopped p ≡ [])
+    by h = at old.reading.to_come (side_reading new).to_come old.reading.stopped h.running h.next
+
+-- a call for lines that is refused, as one that sees to it that content is at hand
+pub refuses_by : (old new : Side) (x : Refusal) (e : io_error) → old.place ≡ None → new.place ≡ None → new.fault ≡ Some x → error_kind e ≡ io_kind x → Fails (side_reading old) (side_reading new) x
+    → RefusesContent old new e
+refuses_by old new x e o n f k h = record { refusal = x; fault = f; kind = k; fails = h; unopened = o; place = n; keeps = keeps_at old new x o n; ends = ends_at old new x o }

@@ -11,7 +11,7 @@ use Rattle.gixp_sidebands.specs.declared.sidebands.band.Band.TheVariants.{Empty,
 use Rattle.gixp_wire.specs.Pieces.{Refusal, io, bad_band, interrupted, memory, Piece, line, mark, Pieces, no_pieces, with_piece}
 use Rattle.gixp_wire.specs.Items.{Item, line_item, text_item, stop_item}
 use Rattle.gixp_wire.specs.declared.read.Error.{Error}
-use Rattle.gixp_wire.specs.Reading.{Reading, AtStop, Fails}
+use Rattle.gixp_wire.specs.Reading.{Reading, AtStop, Refuses, Faults, Fails}
 use Rattle.std.specs.IoError.{error_kind}
 use Rattle.std.specs.declared.io.Error.{Error as io_error}
 
@@ -137,6 +137,10 @@ abbrev pub messages_left : Option MessageKind → Pieces → List Message
 messages_left (Some kind) p = []
 messages_left None p = messages_of p
 
+-- the messages still to be told are what they were
+abbrev pub KeepsMessages : Reading → Reading → Type 0
+KeepsMessages old new = IfSome old.to_come (λ p. (q : Pieces) × (new.to_come ≡ Some q) × (messages_left new.stopped q ≡ messages_left old.stopped p))
+
 -- what a reader of bands means, over what the reader below means and through a reference of this name. A packet that is begun counts as taken
 abbrev pub banded_reading : Bool → GName → Reading → Reading
 banded_reading begun name r = record {
@@ -204,13 +208,20 @@ pub record EndsContent (old new : Side) : Type 0 where
   pub place : new.place ≡ None
   pub fault : new.fault ≡ None
 
--- a refusal, which stands until the next call, and with its kind
+-- the content to come is what it was
+abbrev pub KeepsContent : Side → Side → Type 0
+KeepsContent old new = IfSome old.reading.to_come (λ p. (q : Pieces) × (new.reading.to_come ≡ Some q) × (side_content new q ≡ side_content old p))
+
+-- a refusal, which stands until the next call, and with its kind. It comes only where no packet is at hand; behind one from outside that loses nothing the content to come is what it was, and in front of one of the stream there is none
 pub record RefusesContent (old new : Side) (e : io_error) : Type 0 where
   pub refusal : Refusal
   pub fault : new.fault ≡ Some refusal
   pub kind : error_kind e ≡ io_kind refusal
   pub fails : Fails (side_reading old) (side_reading new) refusal
+  pub unopened : old.place ≡ None
   pub place : new.place ≡ None
+  pub keeps : Faults (side_reading old) (side_reading new) refusal → KeepsContent old new
+  pub ends : Refuses (side_reading old) (side_reading new) refusal → IfSome old.reading.to_come (λ p. side_content old p ≡ [])
 
 -- a call that sees to it that content is at hand: true where it is, false at a stop
 abbrev pub Fills : Side → Side → Result Bool io_error → Type 0

@@ -16,3 +16,7 @@ module _ {T P I : Type 0} {b : _} where
 
   abbrev pub listener : WithSidebands T P I b → Listener P I
   listener s = record { progress = s.progress; interrupt = s.interrupt.now }
+
+  -- the reader below, as it is now
+  abbrev pub transport_of : WithSidebands T P I b → T
+  transport_of s = s.front.at.now

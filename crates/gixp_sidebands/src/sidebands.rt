@@ -7,8 +7,8 @@ ghost use Rattle.std.specs.Io.BufRead.{DropsConsumable, FillKeeps, Rests};
 ghost use types.Logic.{sem};
 ghost use mir.Syntax.{named};
 ghost use Rattle.gixp_wire.specs.Reading.{Reads, Peeks, PlainIf, TakesLine, refusal_of};
-ghost use Rattle.gixp_sidebands.specs.Bands.{Side, Fills, FillsLent, ShowsFirst, ReadsContent, ReadsBytes, is_begun, place_after, shown, message_in, io_kind};
-ghost use Rattle.gixp_sidebands.specs.Telling.{Told, TellsPacket, refusal_in};
+ghost use Rattle.gixp_sidebands.specs.Bands.{Side, Fills, FillsLent, ShowsFirst, ReadsContent, ReadsBytes, KeepsMessages, is_begun, place_after, shown, message_in, io_kind};
+ghost use Rattle.gixp_sidebands.specs.Telling.{Listener, Told, TellsPacket, refusal_in};
 
 mod band;
 mod front;
@@ -62,13 +62,13 @@ pub struct WithSidebands<'a, T: ExtendedBufRead, P, I> {
 }
 
 impl<'a, T: ExtendedBufRead, P: Drop, I> WithSidebands<'a, T, P, I> {
-    ghost use Rattle.gixp_sidebands.specs.Sidebands.{side};
+    ghost use Rattle.gixp_sidebands.specs.Sidebands.{side, transport_of};
 
     /// Gives the transport back. A packet that was begun is taken.
     pub fn into_transport(self) -> &'a mut T
         ensures same { result.ghost_name ≡ (side T.reading self.entry).name }
         ensures begun { is_begun (side T.reading self.entry).place ≡ true → TakesLine (side T.reading self.entry).reading (T.reading result.now) }
-        ensures fresh { is_begun (side T.reading self.entry).place ≡ false → result.now ≡ self.entry.front.at.now }
+        ensures fresh { is_begun (side T.reading self.entry).place ≡ false → result.now ≡ transport_of self.entry }
     {
         let WithSidebands {
             front,
@@ -94,12 +94,12 @@ impl<T: ExtendedBufRead, P: Drop, I> Drop for WithSidebands<'_, T, P, I> {
 }
 
 impl<'a, T: ExtendedBufRead, P: BandText + Drop, I: Interrupt> WithSidebands<'a, T, P, I> {
-    ghost use Rattle.gixp_sidebands.specs.Sidebands.{side, sidebands_reading, listener};
+    ghost use Rattle.gixp_sidebands.specs.Sidebands.{side, sidebands_reading, listener, transport_of};
 
     /// Reads what is to come of a banded stream. It takes no memory, and reads nothing yet.
     pub fn new(transport: &'a mut T, progress: P, interrupt: &'a mut I) -> Self
         ensures side { side T.reading result ≡ record { place = None; name = transport.entry.ghost_name; reading = T.reading transport.old; fault = None } }
-        ensures transport { result.front.at.now ≡ transport.old }
+        ensures transport { transport_of result ≡ transport.old }
         ensures listener { listener result ≡ record { progress = progress; interrupt = interrupt.old } }
         ensures interrupt { result.interrupt.ghost_name ≡ interrupt.entry.ghost_name }
     {
@@ -310,7 +310,8 @@ impl<'a, T: ExtendedBufRead, P: BandText + Drop, I: Interrupt> BufRead
         ensures end { IfSome None (λ (xs : List ℕ). IfOk result (λ s. length s.now ≡ 0 → xs ≡ [])) }
         ensures* after_borrow { sem 𝓛 (Rests (the_row (record { mir = named 1; lft = [] }) T.row P.row I.row T.ExtendedBufRead) self.entry (λ new.
             FillKeeps None None None result)) }
-        ensures shown { (new : Side) × FillsLent (side T.reading self.old) new result }
+        ensures shown { (new : Side) × (heard : Listener P I) × FillsLent (side T.reading self.old) new result
+            × Told P.hears I.says T.is_plain new.fault (side T.reading self.old).reading new.reading (listener self.old) heard }
     {
         match self.fill() {
             Ok(_) => Ok(self.front.rest()),
@@ -322,6 +323,7 @@ impl<'a, T: ExtendedBufRead, P: BandText + Drop, I: Interrupt> BufRead
         ensures bytes { DropsConsumable None None None amount }
         ensures content { ReadsBytes (side T.reading self.old) (side T.reading self.new) (take amount (shown (side T.reading self.old).place (side T.reading self.old).reading)) }
         ensures told { listener self.new ≡ listener self.old }
+        ensures messages { KeepsMessages (side T.reading self.old).reading (side T.reading self.new).reading }
         ensures interrupt { self.new.interrupt.ghost_name ≡ self.old.interrupt.ghost_name }
     {
         self.fault = None;

@@ -1,5 +1,5 @@
 -- What a server says first, read one step at a time.
-use Rattle.std.proofs.Common.{◌≡◌, ℕ, ◌≤◌, ◌<◌, ◌⊎◌, inl, inr, true, false, List, [], ◌∷◌, ◌++◌, take, length, Option, Some, None, IfSome, Result, Ok, Err, refl, sym, ap, subst, ◌∙◌, arith, append_assoc, append-nil}
+use Rattle.std.proofs.Common.{◌≡◌, ℕ, ◌≤◌, ◌<◌, ◌⊎◌, inl, inr, Bool, true, false, List, [], ◌∷◌, ◌++◌, take, length, Option, Some, None, IfSome, Result, Ok, Err, refl, sym, ap, subst, ◌∙◌, arith, append_assoc, append-nil}
 use Rattle.std.specs.Prelude.{position, ◌==◌}
 use Rattle.std.proofs.lemmas.List.{map-append}
 use Rattle.std.proofs.lemmas.List.Quantifiers.{position-Some}
@@ -11,16 +11,20 @@ use Rattle.gixp_wire.specs.declared.protocol.MessageKind.{MessageKind}
 use Rattle.gixp_wire.specs.declared.client.Error.{Error}
 use Rattle.gixp_wire.specs.declared.client.Error.TheVariants.{Io, Read, LineTooLong, AuthenticationUnsupported, UnsupportedProtocolVersion, MissingDelimitingNullByte, Memory}
 use Rattle.gixp_wire.specs.declared.service.SetServiceResponse.{SetServiceResponse}
-use Rattle.gixp_wire.specs.Pieces.{Refusal, io, decode, server, unexpected_frame, not_utf8, bad_band, interrupted, memory, line, Pieces, with_piece, stream_pieces}
-use Rattle.gixp_wire.specs.Lines.{gives, stops, refuses, next_of, Lines, stop, refusal, lines_of, before}
+use Rattle.gixp_wire.specs.Pieces.{Refusal, io, decode, server, unexpected_frame, not_utf8, bad_band, interrupted, memory, Piece, line, mark, Pieces, no_pieces, with_piece, stream_pieces}
+use Rattle.bstr.specs.Owned.{bstring_bytes}
+use Rattle.gixp_wire.specs.Items.{is_stop}
+use Rattle.gixp_wire.specs.declared.read.Error.{Error as ReadError}
+use Rattle.gixp_wire.proofs.RunLemmas.{mark_not_gives}
+use Rattle.gixp_wire.specs.Lines.{gives, stops, refuses, next_from, next_of, Lines, stop, refusal, lines_of, before}
 use Rattle.gixp_wire.specs.declared.packets.Place.{Place}
 use Rattle.gixp_wire.specs.declared.packets.Place.TheVariants.{Open, Peeked, Stopped, Refused}
 use Rattle.gixp_wire.specs.declared.packets.Packets.{Packets}
 use Rattle.gixp_wire.specs.Packets.{is_peeked, place_stop, known, packets_reading}
 use Rattle.gixp_wire.specs.Capabilities.{CapabilityValue, capability_of_line, capabilities_of_line, capabilities_of_lines, capabilities_behind, IsOfLine}
-use Rattle.gixp_wire.specs.Client.{ClientRefusal, failed, no_memory, no_null_byte, unsupported_version, client_refusal, client_from}
-use Rattle.gixp_wire.specs.Reading.{Reading, reset_to, ShowsLine, TakesLine, TakesStop, AtStop, IsPlain, IsOutside, Fails as Failing}
-use Rattle.gixp_wire.specs.Advertisement.{Advertised, Named, another, unnamed, version_named, trimmed, no_refs, ref_line, from_ref_line, by_version, by_first, advertisement, by_lines, from_capability_lines, Answers, Reads, Fails, IsFromDevice, Advertises}
+use Rattle.gixp_wire.specs.Client.{ClientRefusal, failed, reader, no_memory, no_null_byte, unsupported_version, client_refusal, client_from}
+use Rattle.gixp_wire.specs.Reading.{Reading, reset_to, ShowsLine, TakesLine, TakesStop, AtStop, IsPlain, IsLasting, Faults, IsOutside, refusal_of, is_end, Fails as Failing}
+use Rattle.gixp_wire.specs.Advertisement.{Advertised, Named, another, unnamed, version_named, trimmed, no_refs, ref_line, from_ref_line, by_version, by_first, advertisement, by_lines, from_capability_lines, Answers, Reads, Fails, IsFromDevice, LinesTaken, behind_lines, StandsRefused, StandsIo, Stands, Advertises}
 use Rattle.gixp_wire.proofs.LineLemmas.{gives_line, stops_here, refuses_here}
 
 -- what one says of known pieces, the other says of those that are left
@@ -30,6 +34,7 @@ Turns said then old new = IfSome old (λ p. (q : Pieces) × (new ≡ Some q) × 
 -- nothing but lines went
 pub record Steps (said then : Pieces → Result Advertised ClientRefusal) (old new : Reading) : Type 0 where
   pub turns : Turns said then old.to_come new.to_come
+  pub lines : LinesTaken old.to_come new.to_come
   pub failures : new.failures ≡ old.failures
   pub left : new.left ≤ old.left
   pub held : new.held ≡ old.held
@@ -59,6 +64,62 @@ from_device old mid new AuthenticationUnsupported s h = h
 from_device old mid new (UnsupportedProtocolVersion t) s h = h
 from_device old mid new MissingDelimitingNullByte s h = h
 
+behind-append : (xs ys : List (List ℕ)) (p : Pieces) → behind_lines xs (behind_lines ys p) ≡ behind_lines (xs ++ ys) p
+behind-append [] ys p = refl
+behind-append (x ∷ xs) ys p = ap (with_piece (line x)) (behind-append xs ys p)
+
+none-taken : (o : Option Pieces) → LinesTaken o o
+none-taken None = tt
+none-taken (Some p) = ([], p, refl, refl)
+
+taken-then : (a b c : Option Pieces) → LinesTaken a b → LinesTaken b c → LinesTaken a c
+taken-then None b c h k = tt
+taken-then (Some p) None c h k = absurd (let e = h.2 in cc)
+taken-then (Some p) (Some q) c h k =
+    let e : h.1 ≡ q = let e = h.2 in cc in
+    (h.0 ++ k.0, k.1, k.2, h.3 ∙ ap (behind_lines h.0) (e ∙ k.3) ∙ behind-append h.0 k.0 k.1)
+
+gives-is : (v : Protocol) (list : List Piece) (end : Refusal) (text : List ℕ) (q : Pieces) → next_from v list end ≡ gives text q
+    → record { list = list; end = end } ≡ with_piece (line text) q
+gives-is v [] end text q h = cc
+gives-is v (line t ∷ ps) end text q h =
+    let p : Pieces = record { list = ps; end = end } in
+    let e1 : t ≡ text = cc in
+    let e2 : p ≡ q = cc in
+    rw (← e1, ← e2) refl
+gives-is v (mark kind ∷ ps) end text q h = absurd (mark_not_gives (is_stop v kind) kind (record { list = ps; end = end }) q unexpected_frame text h)
+
+one-taken : (a b : Option Pieces) (v : Protocol) (text : List ℕ) → IfSome a (λ p. (q : Pieces) × (b ≡ Some q) × (next_of v p ≡ gives text q)) → LinesTaken a b
+one-taken None b v text h = tt
+one-taken (Some p) b v text h = (text ∷ [], h.0, h.1, gives-is v p.list p.end text h.0 h.2)
+
+shown-taken : (a b : Option Pieces) (v : Protocol) (text : List ℕ) → IfSome a (λ p. (q : Pieces) × (b ≡ Some p) × (next_of v p ≡ gives text q)) → LinesTaken a b
+shown-taken None b v text h = tt
+shown-taken (Some p) b v text h = ([], p, h.1, refl)
+
+stays-taken : (a b : Option Pieces) → IfSome a (λ p. b ≡ Some p) → LinesTaken a b
+stays-taken None b h = tt
+stays-taken (Some p) b h = ([], p, h, refl)
+
+refused-then : (a b : Option Pieces) (P : Type 0) → LinesTaken a b → IfSome b (λ q. P) → IfSome a (λ p. P)
+refused-then None b P h k = tt
+refused-then (Some p) None P h k = absurd (let e = h.2 in cc)
+refused-then (Some p) (Some q) P h k = k
+
+-- what stands behind an error, from before lines were taken
+stands-then : (old mid new : Reading) (e : Error) → LinesTaken old.to_come mid.to_come → Stands mid new e → Stands old new e
+stands-then old mid new (Io kind) h k = by (is_end kind) k
+  where
+    by : (b : Bool) → StandsIo b mid new kind → StandsIo b old new kind
+    by true k = (k.0, refused-then old.to_come mid.to_come _ h k.1)
+    by false k = (k.0, taken-then old.to_come mid.to_come new.to_come h k.1)
+stands-then old mid new (Read x) h k = (k.0, refused-then old.to_come mid.to_come _ h k.1)
+stands-then old mid new LineTooLong h k = k
+stands-then old mid new AuthenticationUnsupported h k = k
+stands-then old mid new (UnsupportedProtocolVersion t) h k = (k.0, k.1, taken-then old.to_come mid.to_come new.to_come h k.2)
+stands-then old mid new MissingDelimitingNullByte h k = (k.0, k.1, taken-then old.to_come mid.to_come new.to_come h k.2)
+stands-then old mid new Memory h k = taken-then old.to_come mid.to_come new.to_come h k
+
 -- behind such steps
 pub advertises-then : (said then : Pieces → Result Advertised ClientRefusal) (old mid new : Reading) (r : Result SetServiceResponse Error) → Steps said then old mid
     → Advertises then mid new r → Advertises said old new r
@@ -71,6 +132,8 @@ advertises-then said then old mid new (Ok found) s h = record {
 }
 advertises-then said then old mid new (Err e) s h = record {
   why = why h.why;
+  stands = stands-then old mid new e s.lines h.stands;
+  stopped = h.stopped;
   left = let a = h.left in let b = s.left in omega arith;
   held = h.held ∙ s.held;
 }
@@ -120,16 +183,66 @@ refused_known : (said : Pieces → Result Advertised ClientRefusal) (o : Option 
 refused_known said None v x y Q f h = tt
 refused_known said (Some p) v x y Q f h = f p h.1
 
+is_reader : (e : Error) (x : Refusal) → client_refusal e ≡ reader x → (P : Error → Type 0) → ((y : ReadError) → refusal_of y ≡ x → P (Read y)) → P e
+is_reader (Io k) x h P f = absurd (cc)
+is_reader (Read y) x h P f = f y (cc)
+is_reader LineTooLong x h P f = absurd (cc)
+is_reader AuthenticationUnsupported x h P f = absurd (cc)
+is_reader (UnsupportedProtocolVersion t) x h P f = absurd (cc)
+is_reader MissingDelimitingNullByte x h P f = absurd (cc)
+is_reader Memory x h P f = absurd (cc)
+
+stood : (old new : Reading) (x : Refusal) (e : Error) → client_refusal e ≡ reader x → StandsRefused old new x → Stands old new e
+stood old new x e is k = is_reader e x is (Stands old new) (λ y h. subst (StandsRefused old new) (sym h) k)
+
+-- the refusal of a stream stands
+stands-lasting : (old new : Reading) (x : Refusal) (e : Error) → IsLasting x → IsPlain new x → client_refusal e ≡ client_from x → StandsRefused old new x → Stands old new e
+stands-lasting old new (io kind) e l p is k =
+    let end : is_end kind ≡ true = ap is_end l in
+    let s : Stands old new (Io kind) = rw end k in
+    subst (Stands old new) (sym (is_io e kind is)) s
+stands-lasting old new (decode y) e l p is k = stood old new (decode y) e is k
+stands-lasting old new (server m) e l p is k = stood old new (server m) e is k
+stands-lasting old new unexpected_frame e l p is k = stood old new unexpected_frame e is k
+stands-lasting old new not_utf8 e l p is k = absurd l
+stands-lasting old new (bad_band b) e l p is k = absurd p
+stands-lasting old new interrupted e l p is k = absurd p
+stands-lasting old new memory e l p is k = absurd l
+
+-- a fault loses nothing
+stands-fault : (old new : Reading) (x : Refusal) (e : Error) → Faults old new x → IsPlain new x → client_refusal e ≡ client_from x → Stands old new e
+stands-fault old new (io kind) e k p is =
+    let on : is_end kind ≡ false = k.fault.0 in
+    let s : Stands old new (Io kind) = rw on (k.stays.peeked, stays-taken old.to_come new.to_come k.stays.to_come) in
+    subst (Stands old new) (sym (is_io e kind is)) s
+stands-fault old new memory e k p is = subst (Stands old new) (sym (is_memory e is)) (stays-taken old.to_come new.to_come k.stays.to_come)
+stands-fault old new interrupted e k p is = absurd p
+stands-fault old new (bad_band b) e k p is = absurd p
+stands-fault old new (decode y) e k p is = absurd k.fault
+stands-fault old new (server m) e k p is = absurd k.fault
+stands-fault old new unexpected_frame e k p is = absurd k.fault
+stands-fault old new not_utf8 e k p is = absurd k.fault
+
+next-stands : (o new : Option Pieces) (v : Protocol) (x : Refusal) → IfSome o (λ p. (new ≡ Some (no_pieces x)) × (next_of v p ≡ refuses x)) → IfSome o (λ p. new ≡ Some (no_pieces x))
+next-stands None new v x h = tt
+next-stands (Some p) new v x h = h.0
+
+always : (o : Option Pieces) (P : Type 0) → P → IfSome o (λ p. P)
+always None P h = tt
+always (Some p) P h = h
+
 -- a reader that is refused refuses what was said
 pub fails-reading : (said : Pieces → Result Advertised ClientRefusal) (old new : Reading) (x : Refusal) (e : Error) → Failing old new x → IsPlain new x
     → client_refusal e ≡ client_from x → ((p : Pieces) → next_of old.version p ≡ refuses x → said p ≡ Err (client_from x)) → Fails said old new e
 fails-reading said old new x e (inl k) p is f = record {
   why = inl (refused_known said old.to_come old.version x (client_refusal e) _ (λ q n. f q n ∙ ap Err (sym is)) k.next, k.failures);
+  stands = stands-lasting old new x e k.lasting p is (k.refused, next-stands old.to_come new.to_come old.version x k.next);
+  stopped = k.stopped;
   left = k.left;
   held = k.held;
 }
-fails-reading said old new x e (inr (inl k)) p is f = record { why = inr (outside old new x e (inl k) p is); left = k.stays.left; held = k.stays.held }
-fails-reading said old new x e (inr (inr k)) p is f = record { why = inr (outside old new x e (inr k) p is); left = k.left; held = k.held }
+fails-reading said old new x e (inr (inl k)) p is f = record { why = inr (outside old new x e (inl k) p is); stands = stands-fault old new x e k p is; stopped = k.stays.stopped ∙ k.running; left = k.stays.left; held = k.stays.held }
+fails-reading said old new x e (inr (inr k)) p is f = record { why = inr (outside old new x e (inr k) p is); stands = stands-lasting old new x e (subst IsLasting (sym k.refusal) refl) p is (k.refused, always old.to_come _ k.to_come); stopped = k.stopped; left = k.left; held = k.held }
 
 -- a reader that isn't at a stop and comes to one takes it
 pub takes-stop : (old new : Reading) → old.stopped ≡ None → AtStop old new → (kind : MessageKind) × TakesStop old new kind
@@ -160,6 +273,7 @@ reads-no_refs said v old new kind found version is k f = record {
 -- these lines were read of those that come first
 pub record Gathers (old now : Reading) (texts : List (List ℕ)) : Type 0 where
   pub next : IfSome old.to_come (λ p. (q : Pieces) × (now.to_come ≡ Some q) × (lines_of V2 p ≡ before texts (lines_of V2 q)))
+  pub lines : LinesTaken old.to_come now.to_come
   pub running : now.stopped ≡ None
   pub version : now.version ≡ V2
   pub failures : now.failures ≡ old.failures
@@ -167,7 +281,7 @@ pub record Gathers (old now : Reading) (texts : List (List ℕ)) : Type 0 where
   pub held : now.held ≡ old.held
 
 pub gathers-none : (r : Reading) → r.stopped ≡ None → r.version ≡ V2 → Gathers r r []
-gathers-none r run v = record { next = at r.to_come; running = run; version = v; failures = refl; left = omega arith; held = refl }
+gathers-none r run v = record { next = at r.to_come; lines = none-taken r.to_come; running = run; version = v; failures = refl; left = omega arith; held = refl }
   where
     at : (o : Option Pieces) → IfSome o (λ p. (q : Pieces) × (o ≡ Some q) × (lines_of V2 p ≡ before [] (lines_of V2 q)))
     at None = tt
@@ -188,6 +302,7 @@ behind_line (Some p) (Some q) c texts text w v h k =
 pub gathers-line : (old mid new : Reading) (texts : List (List ℕ)) → Gathers old mid texts → TakesLine mid new → Gathers old new (texts ++ new.line ∷ [])
 gathers-line old mid new texts h k = record {
   next = behind_line old.to_come mid.to_come new.to_come texts new.line mid.version h.version h.next k.next;
+  lines = taken-then old.to_come mid.to_come new.to_come h.lines (one-taken mid.to_come new.to_come mid.version new.line k.next);
   running = k.stopped;
   version = k.version ∙ h.version;
   failures = k.failures ∙ h.failures;
@@ -200,7 +315,7 @@ abbrev said_behind : List (List ℕ) → Pieces → Result Advertised ClientRefu
 said_behind texts p = let l = lines_of V2 p in by_lines (texts ++ l.lines) l.ending
 
 gathers-steps : (old mid : Reading) (texts : List (List ℕ)) → Gathers old mid texts → Steps from_capability_lines (said_behind texts) old mid
-gathers-steps old mid texts h = record { turns = at old.to_come mid.to_come h.next; failures = h.failures; left = h.left; held = h.held }
+gathers-steps old mid texts h = record { turns = at old.to_come mid.to_come h.next; lines = h.lines; failures = h.failures; left = h.left; held = h.held }
   where
     at : (a b : Option Pieces) → IfSome a (λ p. (q : Pieces) × (b ≡ Some q) × (lines_of V2 p ≡ before texts (lines_of V2 q))) → Turns from_capability_lines (said_behind texts) a b
     at None b k = tt
@@ -235,7 +350,7 @@ fails-lines old mid new texts x e h k p is =
 
 -- no memory for one of them
 pub fails-memory : (old mid new : Reading) (texts : List (List ℕ)) → Gathers old mid texts → TakesLine mid new → Fails from_capability_lines old new Memory
-fails-memory old mid new texts h k = record { why = inr (k.failures ∙ h.failures); left = let a = h.left in let b = k.left in omega arith; held = k.held ∙ h.held }
+fails-memory old mid new texts h k = record { why = inr (k.failures ∙ h.failures); stands = taken-then old.to_come mid.to_come new.to_come h.lines (one-taken mid.to_come new.to_come mid.version new.line k.next); stopped = k.stopped; left = let a = h.left in let b = k.left in omega arith; held = k.held ∙ h.held }
 
 -- the capabilities of one more line
 pub capabilities-push : (texts : List (List ℕ)) (text : List ℕ) → capabilities_of_lines texts ++ capability_of_line text ∷ [] ≡ capabilities_of_lines (texts ++ text ∷ [])
@@ -243,7 +358,7 @@ capabilities-push texts text = sym (map-append capability_of_line texts (text �
 
 -- reading under another version leaves the pieces where they are
 pub reset-steps : (said : Pieces → Result Advertised ClientRefusal) (r : Reading) (v : Protocol) → Steps said said r (reset_to v r)
-reset-steps said r v = record { turns = at r.to_come; failures = refl; left = omega arith; held = refl }
+reset-steps said r v = record { turns = at r.to_come; lines = none-taken r.to_come; failures = refl; left = omega arith; held = refl }
   where
     at : (o : Option Pieces) → Turns said said o o
     at None = tt
@@ -251,7 +366,7 @@ reset-steps said r v = record { turns = at r.to_come; failures = refl; left = om
 
 -- to peek leaves them too
 pub shows-steps : (said : Pieces → Result Advertised ClientRefusal) (old new : Reading) → ShowsLine old new → Steps said said old new
-shows-steps said old new k = record { turns = at old.to_come new.to_come k.next; failures = k.failures; left = k.left; held = k.held }
+shows-steps said old new k = record { turns = at old.to_come new.to_come k.next; lines = shown-taken old.to_come new.to_come old.version new.line k.next; failures = k.failures; left = k.left; held = k.held }
   where
     at : (a b : Option Pieces) → IfSome a (λ p. (q : Pieces) × (b ≡ Some p) × (next_of old.version p ≡ gives new.line q)) → Turns said said a b
     at None b h = tt
@@ -260,7 +375,7 @@ shows-steps said old new k = record { turns = at old.to_come new.to_come k.next;
 -- behind a line that was taken, where what was said turns on it
 pub takes-steps : (said then : Pieces → Result Advertised ClientRefusal) (old new : Reading) → TakesLine old new
     → ((p q : Pieces) → next_of old.version p ≡ gives new.line q → said p ≡ then q) → Steps said then old new
-takes-steps said then old new k f = record { turns = at old.to_come new.to_come k.next; failures = k.failures; left = let a = k.left in omega arith; held = k.held }
+takes-steps said then old new k f = record { turns = at old.to_come new.to_come k.next; lines = one-taken old.to_come new.to_come old.version new.line k.next; failures = k.failures; left = let a = k.left in omega arith; held = k.held }
   where
     at : (a b : Option Pieces) → IfSome a (λ p. (q : Pieces) × (b ≡ Some q) × (next_of old.version p ≡ gives new.line q)) → Turns said then a b
     at None b h = tt
@@ -350,10 +465,12 @@ module _ {R : Type 0} where
           let Q : ClientRefusal → Type 0 = λ x. IfSome (option_map (with_piece (line p.window.lent)) (option_map stream_pieces (known rem p))) (λ q. from_ref_line v q ≡ Err x) in
           record {
             why = inl (subst P (sym (to_come-peeked rem p peeked)) (subst Q (sym refused) (none (option_map stream_pieces (known rem p)) k)), refl);
+            stands = subst (Stands (packets_reading rem p) (packets_reading rem p)) (sym i) (ap is_peeked peeked, k, none-taken (packets_reading rem p).to_come);
+            stopped = ap place_stop peeked;
             left = omega arith;
             held = refl;
           }
-      by (Some found) k i = record { why = inr (subst (IsFromDevice (packets_reading rem p) (packets_reading rem p)) (sym i) refl); left = omega arith; held = refl }
+      by (Some found) k i = record { why = inr (subst (IsFromDevice (packets_reading rem p) (packets_reading rem p)) (sym i) refl); stands = subst (Stands (packets_reading rem p) (packets_reading rem p)) (sym i) (none-taken (packets_reading rem p).to_come); stopped = ap place_stop peeked; left = omega arith; held = refl }
 
   peeked_known : (rem : R → Option (List ℕ)) (p : Packets R) (P : Option Pieces → Type 0) → p.place ≡ Peeked
       → ((o : Option Pieces) → P (option_map (with_piece (line p.window.lent)) o)) → P (packets_reading rem p).to_come
@@ -362,7 +479,7 @@ module _ {R : Type 0} where
   -- a first line that names no version is the first ref line
   pub unnamed-steps : (rem : R → Option (List ℕ)) (p : Packets R) → p.place ≡ Peeked → version_named p.window.lent ≡ unnamed
       → Steps advertisement (from_ref_line V0) (packets_reading rem p) (packets_reading rem p)
-  unnamed-steps rem p e is = record { turns = peeked_known rem p (λ o. Turns advertisement (from_ref_line V0) o o) e at; failures = refl; left = omega arith; held = refl }
+  unnamed-steps rem p e is = record { turns = peeked_known rem p (λ o. Turns advertisement (from_ref_line V0) o o) e at; lines = none-taken (packets_reading rem p).to_come; failures = refl; left = omega arith; held = refl }
     where
       at : (o : Option Pieces) → Turns advertisement (from_ref_line V0) (option_map (with_piece (line p.window.lent)) o) (option_map (with_piece (line p.window.lent)) o)
       at None = tt
@@ -373,6 +490,8 @@ module _ {R : Type 0} where
       → (client_refusal e ≡ unsupported_version (trimmed p.window.lent)) ⊎ (e ≡ Memory) → Fails advertisement (packets_reading rem p) (packets_reading rem p) e
   fails-another rem p e peeked is (inl refused) = record {
     why = inl (peeked_known rem p (λ o. IfSome o (λ q. advertisement q ≡ Err (client_refusal e))) peeked at, refl);
+    stands = named e refused;
+    stopped = ap place_stop peeked;
     left = omega arith;
     held = refl;
   }
@@ -380,8 +499,21 @@ module _ {R : Type 0} where
       at : (o : Option Pieces) → IfSome (option_map (with_piece (line p.window.lent)) o) (λ q. advertisement q ≡ Err (client_refusal e))
       at None = tt
       at (Some q) = ap (λ n. by_version n (with_piece (line p.window.lent) q) q) is ∙ ap Err (sym refused)
+
+      named : (e : Error) → client_refusal e ≡ unsupported_version (trimmed p.window.lent) → Stands (packets_reading rem p) (packets_reading rem p) e
+      named (Io k) h = absurd (cc)
+      named (Read y) h = absurd (cc)
+      named LineTooLong h = absurd (cc)
+      named AuthenticationUnsupported h = absurd (cc)
+      named (UnsupportedProtocolVersion t) h =
+          let same : bstring_bytes t ≡ trimmed p.window.lent = cc in
+          (ap is_peeked peeked, is ∙ ap another (sym same), none-taken (packets_reading rem p).to_come)
+      named MissingDelimitingNullByte h = absurd (cc)
+      named Memory h = absurd (cc)
   fails-another rem p e peeked is (inr full) = record {
     why = inr (subst (IsFromDevice (packets_reading rem p) (packets_reading rem p)) (sym full) refl);
+    stands = subst (Stands (packets_reading rem p) (packets_reading rem p)) (sym full) (none-taken (packets_reading rem p).to_come);
+    stopped = ap place_stop peeked;
     left = omega arith;
     held = refl;
   }
@@ -396,6 +528,7 @@ named-steps then named v old mid new text version peeked is names turns k reset 
     ap (by_first p) next ∙ ap (λ t. by_version (version_named t) p q) lines ∙ ap (λ m. by_version m p q) names ∙ turns p q) in
     subst (Steps advertisement then old) (sym reset) (record {
       turns = taken.turns;
+      lines = taken.lines;
       failures = taken.failures;
       left = taken.left;
       held = taken.held;

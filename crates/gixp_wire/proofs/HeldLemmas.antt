@@ -7,9 +7,10 @@ use Rattle.gixp_wire.specs.declared.client.Error.{Error as ClientError}
 use Rattle.gixp_wire.specs.declared.client.Error.TheVariants.{Io as ClientIo, Read as ClientRead, LineTooLong, AuthenticationUnsupported, UnsupportedProtocolVersion, MissingDelimitingNullByte, Memory as ClientMemory}
 use Rattle.gixp_wire.specs.declared.service.SetServiceResponse.{SetServiceResponse}
 use Rattle.gixp_wire.specs.Client.{ClientRefusal, client_refusal}
-use Rattle.gixp_wire.specs.Advertisement.{Advertised, Answers, IsFromDevice, Advertises}
+use Rattle.gixp_wire.specs.Advertisement.{Advertised, Answers, IsFromDevice, StandsIo, Stands, Advertises}
+use Rattle.std.specs.declared.io.ErrorKind.{ErrorKind}
 use Rattle.gixp_wire.specs.Held.{Held}
-use Rattle.gixp_wire.specs.Reading.{Reading, refusal_of, Stays, TakesLine, ShowsLine, TakesStop, AtStop, Refuses, IsFault, Fails, IsPlain, PlainIf, Reads, Peeks}
+use Rattle.gixp_wire.specs.Reading.{Reading, refusal_of, is_end, Stays, TakesLine, ShowsLine, TakesStop, AtStop, Refuses, IsFault, Fails, IsPlain, PlainIf, Reads, Peeks}
 
 module _ (h : Held) (a b : Reading) where
   abbrev A : Reading
@@ -85,6 +86,19 @@ module _ (h : Held) (a b : Reading) where
   from_device MissingDelimitingNullByte k = k
   from_device ClientMemory k = k
 
+  stands_io : (ends : Bool) (kind : ErrorKind) → StandsIo ends a b kind → StandsIo ends A B kind
+  stands_io true kind k = k
+  stands_io false kind k = k
+
+  stands_held : (e : ClientError) → Stands a b e → Stands A B e
+  stands_held (ClientIo kind) k = stands_io (is_end kind) kind k
+  stands_held (ClientRead e) k = k
+  stands_held LineTooLong k = k
+  stands_held AuthenticationUnsupported k = k
+  stands_held (UnsupportedProtocolVersion t) k = k
+  stands_held MissingDelimitingNullByte k = k
+  stands_held ClientMemory k = k
+
   answers_held : (x : Advertised) (found : SetServiceResponse) → Answers x b found → Answers x B found
   answers_held x found k = record { version = k.version; capabilities = k.capabilities; has_refs = k.has_refs; rest = k.rest; stopped = k.stopped }
 
@@ -101,7 +115,7 @@ module _ (h : Held) (a b : Reading) where
     left = k.left;
     held = refl;
   }
-  advertises said (Err e) k = record { why = why k.why; left = k.left; held = refl }
+  advertises said (Err e) k = record { why = why k.why; stands = stands_held e k.stands; stopped = k.stopped; left = k.left; held = refl }
     where
       why : (IfSome a.to_come (λ p. said p ≡ Err (client_refusal e)) × (b.failures ≡ a.failures)) ⊎ IsFromDevice a b e
           → (IfSome a.to_come (λ p. said p ≡ Err (client_refusal e)) × (b.failures ≡ a.failures)) ⊎ IsFromDevice A B e

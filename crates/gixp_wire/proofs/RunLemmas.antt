@@ -4,7 +4,7 @@ use Rattle.gixp_wire.specs.declared.protocol.Protocol.{Protocol}
 use Rattle.gixp_wire.specs.declared.protocol.MessageKind.{MessageKind}
 use Rattle.gixp_wire.specs.Pieces.{Refusal, Pieces, not_utf8}
 use Rattle.gixp_wire.specs.Lines.{gives, stops, refuses, next_of}
-use Rattle.gixp_wire.specs.Reading.{Reading, TakesLine, ShowsLine, Fails, Reads, ReadsText, refusal_of}
+use Rattle.gixp_wire.specs.Reading.{Reading, TakesLine, ShowsLine, Fails, Reads, ReadsText, IsPlain, PlainText, refusal_of}
 use Rattle.gixp_wire.specs.declared.read.Error.{Error}
 use Rattle.gixp_wire.specs.declared.read.Error.TheVariants.{Io, Decode, Server, UnexpectedFrame, NotUtf8, BadBand, Interrupted, Memory}
 
@@ -63,3 +63,14 @@ fails-text old new NotUtf8 text h = absurd (not_utf8-fails old new h)
 fails-text old new (BadBand b) text h = (h, refl)
 fails-text old new Interrupted text h = (h, refl)
 fails-text old new Memory text h = (inl h, refl)
+
+-- a plain reader that was refused
+pub plain-text : (plain : Bool) (old new : Reading) (e : Error) → (plain ≡ true → IsPlain new (refusal_of e)) → PlainText {X = ℕ} plain old new (Err e)
+plain-text plain old new (Io kind) h = h
+plain-text plain old new (Decode x) h = h
+plain-text plain old new (Server m) h = h
+plain-text plain old new UnexpectedFrame h = h
+plain-text plain old new NotUtf8 h = h
+plain-text plain old new (BadBand b) h = h
+plain-text plain old new Interrupted h = h
+plain-text plain old new Memory h = λ e. inl (h e)

@@ -1,5 +1,5 @@
 -- Parts of a buffer.
-use Rattle.std.proofs.Common.{◌≡◌, ℕ, ◌+◌, ◌-◌, ◌<◌, ◌≤◌, List, ◌++◌, length, take, drop, sym, ap, ◌∙◌, arith, Option, length-append, length-drop}
+use Rattle.std.proofs.Common.{◌≡◌, ℕ, ◌+◌, ◌-◌, ◌<◌, ◌≤◌, List, ◌++◌, length, take, drop, refl, sym, ap, ◌∙◌, arith, Option, length-append, length-drop}
 use Rattle.std.specs.Prelude.{slice_range}
 use Rattle.std.proofs.lemmas.List.{drop-drop, drop-take, take-take, length-take-le}
 use Rattle.std.proofs.lemmas.List.Edits.{take-paste}
@@ -47,17 +47,24 @@ copied_front xs before a n fits moved =
 
 -- what a read put behind the pending bytes
 pub received : (old new : Option (List ℕ)) (xs before after pending : List ℕ) (a b n : ℕ) → a ≤ b → b ≤ length xs → length after ≡ 65520
-    → before ≡ copy_within xs a b 0 → take (b - a) after ≡ take (b - a) before → pending ≡ slice_range xs a b
+    → take (b - a) before ≡ slice_range xs a b → take (b - a) after ≡ take (b - a) before → pending ≡ slice_range xs a b
     → (b - a + n ≤ length after) → Consumes old new (take n (drop (b - a) after)) → (n ≡ 0 → b - a < length after → IsAtEnd new) → length pending < 65520
     → (got : List ℕ) × (slice_range after 0 (b - a + n) ≡ pending ++ got) × (length got ≡ n) × Consumes old new got × (n ≡ 0 → IsAtEnd new) × (length (slice_range after 0 (b - a + n)) ≤ 65520)
 received old new xs before after pending a b n ab bl cap moved front is fits takes end room =
     let len : length pending ≡ b - a = ap length is ∙ length_range xs a b bl in
     let got = take n (drop (b - a) after) in
     let zero : b - a + n - 0 ≡ b - a + n = omega arith in
-    let le : b - a ≤ length (drop a xs) = let e = length-drop a xs in omega arith in
-    let whole_part : b ≡ a + (b - a) = omega arith in
-    let same : take (b - a) after ≡ pending =
-    front ∙ copied_front xs before a (b - a) le (moved ∙ ap (λ k. copy_within xs a k 0) whole_part) ∙ sym is in
+    let same : take (b - a) after ≡ pending = front ∙ moved ∙ sym is in
     let whole : slice_range after 0 (b - a + n) ≡ pending ++ got = rw zero (take-add (b - a) n after ∙ ap (λ l. l ++ got) same) in
     let count : length got ≡ n = length-take-le n (drop (b - a) after) (let e = length-drop (b - a) after in omega arith) in
     (got, whole, count, takes, λ z. end z (omega arith), (let e = ap length whole in let f = length-append pending got in omega arith))
+
+-- a part that was copied to the front stands there
+pub moved_front : (xs before : List ℕ) (a b : ℕ) → a ≤ b → b ≤ length xs → before ≡ copy_within xs a b 0 → take (b - a) before ≡ slice_range xs a b
+moved_front xs before a b ab bl moved =
+    let le : b - a ≤ length (drop a xs) = let e = length-drop a xs in omega arith in
+    let whole_part : b ≡ a + (b - a) = omega arith in
+    copied_front xs before a (b - a) le (moved ∙ ap (λ k. copy_within xs a k 0) whole_part)
+
+pub stands_front : (xs : List ℕ) (a b : ℕ) → a ≡ 0 → take (b - a) xs ≡ slice_range xs a b
+stands_front xs a b e = rw e refl

@@ -1,5 +1,5 @@
 -- What a server says first: its version, its capabilities, and under versions 0 and 1 its refs (gitprotocol-pack, "Reference Discovery" and "Extra Parameters"; gitprotocol-v2, "Capability Advertisement").
-use Rattle.std.specs.Prelude.{◌≡◌, ℕ, ◌≤◌, ◌⊎◌, Bool, true, false, nat_eq, List, [], take, codes, if◌then◌else◌, Option, Some, None, Result, Ok, Err, IfSome}
+use Rattle.std.specs.Prelude.{◌≡◌, ℕ, ◌≤◌, ◌⊎◌, Bool, true, false, nat_eq, List, [], ◌∷◌, take, codes, if◌then◌else◌, Option, Some, None, Result, Ok, Err, IfSome}
 use Rattle.std.specs.Char.{is_whitespace}
 use Rattle.bstr.specs.Trim.{trim_end_by}
 use Rattle.std.specs.List.{starts_with}
@@ -7,14 +7,16 @@ use Rattle.std.specs.Cmp.Lexicographic.{pointwise}
 use Rattle.gixp_wire.specs.declared.protocol.Protocol.{Protocol}
 use Rattle.gixp_wire.specs.declared.protocol.Protocol.TheVariants.{V0, V1, V2}
 use Rattle.gixp_wire.specs.declared.protocol.MessageKind.{MessageKind}
+use Rattle.std.specs.declared.io.ErrorKind.{ErrorKind}
 use Rattle.gixp_wire.specs.declared.client.Error.{Error}
-use Rattle.gixp_wire.specs.declared.client.Error.TheVariants.{Io, Memory}
+use Rattle.gixp_wire.specs.declared.client.Error.TheVariants.{Io, Read, UnsupportedProtocolVersion, MissingDelimitingNullByte, Memory}
+use Rattle.bstr.specs.Owned.{bstring_bytes}
 use Rattle.gixp_wire.specs.declared.service.SetServiceResponse.{SetServiceResponse}
-use Rattle.gixp_wire.specs.Pieces.{line, Pieces, with_piece}
+use Rattle.gixp_wire.specs.Pieces.{Refusal, io, line, Pieces, no_pieces, with_piece}
 use Rattle.gixp_wire.specs.Lines.{Next, gives, stops, refuses, next_of, Ending, stop, refusal, lines_of}
 use Rattle.gixp_wire.specs.Capabilities.{CapabilityValue, capabilities_of_line, capabilities_of_lines}
 use Rattle.gixp_wire.specs.Client.{ClientRefusal, client_refusal, client_from, no_null_byte, unsupported_version}
-use Rattle.gixp_wire.specs.Reading.{Reading, Rose}
+use Rattle.gixp_wire.specs.Reading.{Reading, Rose, refusal_of, is_end}
 
 -- what a server said, and where its reader then is
 pub record Advertised : Type 0 where
@@ -110,9 +112,38 @@ IsFromDevice old new (Io kind) = Rose old.failures new.failures
 IsFromDevice old new Memory = new.failures ≡ old.failures
 IsFromDevice old new _ = ⊥
 
+-- pieces behind these lines
+abbrev pub behind_lines : List (List ℕ) → Pieces → Pieces
+behind_lines [] p = p
+behind_lines (text ∷ texts) p = with_piece (line text) (behind_lines texts p)
+
+-- lines were taken of these pieces, and nothing else
+abbrev pub LinesTaken : Option Pieces → Option Pieces → Type 0
+LinesTaken old new = IfSome old (λ p. (texts : List (List ℕ)) × (q : Pieces) × (new ≡ Some q) × (p ≡ behind_lines texts q))
+
+-- this refusal stands next, and nothing behind it
+abbrev pub StandsRefused : Reading → Reading → Refusal → Type 0
+StandsRefused old new e = (new.refused ≡ Some e) × IfSome old.to_come (λ p. new.to_come ≡ Some (no_pieces e))
+
+-- behind a failure of the device no line is peeked at, and one as at the end of the stream stands
+abbrev pub StandsIo : Bool → Reading → Reading → ErrorKind → Type 0
+StandsIo true old new kind = StandsRefused old new (io kind)
+StandsIo false old new kind = (new.peeked ≡ false) × LinesTaken old.to_come new.to_come
+
+-- what stands behind an error: a refusal of the stream, or what is left behind lines that were taken. The line that names another version, and a first ref line without a NUL, are still to come
+abbrev pub Stands : Reading → Reading → Error → Type 0
+Stands old new (Io kind) = StandsIo (is_end kind) old new kind
+Stands old new (Read e) = StandsRefused old new (refusal_of e)
+Stands old new (UnsupportedProtocolVersion text) = (new.peeked ≡ true) × (version_named new.line ≡ another (bstring_bytes text)) × LinesTaken old.to_come new.to_come
+Stands old new MissingDelimitingNullByte = (new.peeked ≡ true) × (capabilities_of_line new.line ≡ None) × LinesTaken old.to_come new.to_come
+Stands old new Memory = LinesTaken old.to_come new.to_come
+Stands old new _ = ⊥
+
 -- the first refusal of what was said, or that of a device or of memory
 pub record Fails (said : Pieces → Result Advertised ClientRefusal) (old new : Reading) (e : Error) : Type 0 where
   pub why : (IfSome old.to_come (λ p. said p ≡ Err (client_refusal e)) × (new.failures ≡ old.failures)) ⊎ IsFromDevice old new e
+  pub stands : Stands old new e
+  pub stopped : new.stopped ≡ None
   pub left : new.left ≤ old.left
   pub held : new.held ≡ old.held
 

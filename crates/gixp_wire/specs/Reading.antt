@@ -215,6 +215,12 @@ abbrev pub PlainIf : {X : Type 0} → Bool → Reading → Result X Error → Ty
 PlainIf plain new (Ok x) = ⊤
 PlainIf plain new (Err e) = plain ≡ true → IsPlain new (refusal_of e)
 
+-- the errors of a plain reader that appends a line as text are plain, but for memory that the text wanted: then the line is still to come
+abbrev pub PlainText : {X : Type 0} → Bool → Reading → Reading → Result X Error → Type 0
+PlainText plain old new (Ok x) = ⊤
+PlainText plain old new (Err Memory) = plain ≡ true → IsPlain new memory ⊎ ShowsLine old new
+PlainText plain old new (Err e) = plain ≡ true → IsPlain new (refusal_of e)
+
 -- a call that takes what comes next: true at a line, false at a stop
 abbrev pub Reads : Reading → Reading → Result Bool Error → Type 0
 Reads old new (Ok true) = TakesLine old new

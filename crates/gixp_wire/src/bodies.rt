@@ -1,9 +1,9 @@
 //! A transport over memory.
-ghost use Rattle.std.specs.Prelude.{◌≡◌, IfOk, map, true, vec_items};
+ghost use Rattle.std.specs.Prelude.{◌≡◌, IfOk, Ok, map, true, vec_items};
 ghost use Rattle.std.specs.Option.{option_map};
 ghost use Rattle.bstr.specs.Owned.{bstring_bytes};
 ghost use Rattle.gixp_wire.specs.Transport.{TakesBody};
-ghost use Rattle.gixp_wire.specs.Handshake.{account_value};
+ghost use Rattle.gixp_wire.specs.Handshake.{account_value, Identifies};
 
 use crate::client::Error;
 use crate::packets::Packets;
@@ -142,6 +142,8 @@ impl ExtendedBufRead for Bodies {
 }
 
 impl Transport for Bodies {
+    ghost use Rattle.gixp_wire.specs.Bodies.{bodies_reading};
+
     fn connection_persists_across_multiple_requests(&self) -> bool {
         false
     }
@@ -154,7 +156,11 @@ impl Transport for Bodies {
         &self.accepted
     }
 
-    fn set_identity(&mut self, account: Account) -> Result<(), Error> {
+    /// Keeps the account: it is never refused.
+    fn set_identity(&mut self, account: Account) -> Result<(), Error>
+        ensures identifies { Identifies (bodies_reading self.old) (bodies_reading self.new) account result }
+        ensures kept { result ≡ Ok tt }
+    {
         self.identity = Some(account);
         Ok(())
     }

@@ -1,9 +1,10 @@
 //! A transport over a reader and a writer.
-ghost use Rattle.std.specs.Prelude.{◌≡◌, ◌≤◌, IfOk, true, length};
+ghost use Rattle.std.specs.Prelude.{◌≡◌, ◌≤◌, Err, IfOk, true, length};
 ghost use Rattle.bstr.specs.Owned.{bstring_bytes};
 ghost use Rattle.gixp_wire.specs.FrameText.{payload_text};
 ghost use Rattle.gixp_wire.specs.Greeting.{parameters_of};
-ghost use Rattle.gixp_wire.specs.Handshake.{Greets};
+ghost use Rattle.gixp_wire.specs.declared.client.Error.TheVariants.{AuthenticationUnsupported};
+ghost use Rattle.gixp_wire.specs.Handshake.{Greets, Identifies};
 ghost use Rattle.gixp_wire.specs.Transport.{Writes, EndsBy, IsBroken};
 
 use crate::client::Error;
@@ -191,6 +192,8 @@ impl<R: Read, W: Write> ExtendedBufRead for Connection<R, W> {
 }
 
 impl<R: Read, W: Write> Transport for Connection<R, W> {
+    ghost use Rattle.gixp_wire.specs.Connection.{connection_reading};
+
     fn connection_persists_across_multiple_requests(&self) -> bool {
         true
     }
@@ -203,7 +206,16 @@ impl<R: Read, W: Write> Transport for Connection<R, W> {
         &self.accepted
     }
 
-    fn set_identity(&mut self, _account: Account) -> Result<(), Error> {
+    /// Takes no account.
+    ///
+    /// # Errors
+    ///
+    /// `AuthenticationUnsupported`, always.
+    fn set_identity(&mut self, account: Account) -> Result<(), Error>
+        ensures identifies { Identifies (connection_reading R.remaining W.contents self.old) (connection_reading R.remaining W.contents self.new) account result }
+        ensures refused { result ≡ Err AuthenticationUnsupported }
+    {
+        let _ = account;
         Err(Error::AuthenticationUnsupported)
     }
 

@@ -43,7 +43,7 @@ pub trait Progress {
 /// Progress that has parts, each told on its own.
 pub trait NestedProgress: Progress {
     /// A part of it.
-    type SubProgress: Progress;
+    type SubProgress: Progress + Drop;
 
     /// What is done to it, by the name and the id of a new part, and that part as it begins.
     ghost adds: { Self → List ℕ → List ℕ → Self.SubProgress → Self → Type 0 };

@@ -1,6 +1,6 @@
 //! Readers of lines.
 ghost use Rattle.std.specs.Prelude.{◌≡◌, Bool, string_bytes};
-ghost use Rattle.gixp_wire.specs.Reading.{Reading, Reads, Peeks, ReadsLent, PeeksLent, ReadsText, PlainIf, reset_to};
+ghost use Rattle.gixp_wire.specs.Reading.{Reading, Reads, Peeks, ReadsLent, PeeksLent, ReadsText, PlainIf, PlainText, reset_to};
 
 use crate::packet::PacketError;
 use crate::protocol::{MessageKind, Protocol};
@@ -128,7 +128,8 @@ pub trait ExtendedBufRead {
     /// As `next_line`, and `NotUtf8` where the line isn't UTF-8, which is then taken. After
     /// `Memory` for the text the line is still to come. The text is as it was after each.
     fn readline_str(&mut self, text: &mut String) -> Result<usize, Error>
-        ensures { ReadsText (reading self.old) (reading self.new) (string_bytes text.old) (string_bytes text.new) result }
+        ensures text { ReadsText (reading self.old) (reading self.new) (string_bytes text.old) (string_bytes text.new) result }
+        ensures plain { PlainText is_plain (reading self.old) (reading self.new) result }
     {
         match self.peek_line() {
             Ok(true) => {}

@@ -1,7 +1,8 @@
 //! Transports: what speaks to a server.
-ghost use Rattle.std.specs.Prelude.{◌≡◌, ◌≤◌, true, None, length, map};
+ghost use Rattle.std.specs.Prelude.{◌≡◌, ◌≤◌, true, None, Err, length, map};
 ghost use Rattle.bstr.specs.BStr.{bstr_bytes};
 ghost use Rattle.bstr.specs.Owned.{bstring_bytes};
+ghost use Rattle.gixp_wire.specs.declared.client.Error.TheVariants.{Memory};
 ghost use Rattle.gixp_wire.specs.Greeting.{parameters_of};
 ghost use Rattle.gixp_wire.specs.Handshake.{Handshakes, Identifies};
 ghost use Rattle.gixp_wire.specs.FrameText.{frame_text, message_text, texts_of};
@@ -56,8 +57,10 @@ pub trait Transport: ExtendedBufRead {
     /// written. `Io` where a write or read failed, an earlier write failed, the stream ended
     /// (`UnexpectedEof`), or the answer is one that fails. `Read` where the reader is refused
     /// otherwise. `UnsupportedProtocolVersion` for a version other than 1 and 2.
-    /// `MissingDelimitingNullByte` where the first ref line has no NUL. `Memory`. After one of the
-    /// last four the line that it is about is taken or still to come.
+    /// `MissingDelimitingNullByte` where the first ref line has no NUL. `Memory`. After
+    /// `UnsupportedProtocolVersion` and `MissingDelimitingNullByte` the line that it is about is still
+    /// to come. A refusal of the reader stands, and the stream's end: every later read answers it.
+    /// After `Memory`, and `Io` of a read that failed, no more is gone than lines that were taken.
     fn handshake(
         &mut self,
         alloc: Global,
@@ -151,6 +154,7 @@ pub trait Transport: ExtendedBufRead {
     where
         Self: Sized,
         ensures sends { Sends (Self.reading self.old) (Self.reading self.new) (all_fit messages.now) (texts_of (request_frames messages.now)) result }
+        ensures fit { result ≡ Err Memory → all_fit messages.now ≡ true }
     {
         if !all_fit(messages) {
             return Err(Error::LineTooLong);

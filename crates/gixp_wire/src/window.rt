@@ -48,6 +48,19 @@ fn read_behind<R: Read>(
     }
 }
 
+// Moves what stands between these places to the front, unless it stands there.
+fn to_front(buffer: &mut Vec<u8>, start: usize, end: usize)
+    requires in_order { start ≤ end }
+    requires there { end ≤ vec_len buffer.old }
+    ensures len { vec_len buffer.new ≡ vec_len buffer.old }
+    ensures moved { take (end - start) buffer.new.items ≡ slice_range buffer.old.items start end }
+{
+    if start == 0 {
+        return;
+    }
+    buffer.copy_within(start..end, 0);
+}
+
 impl Window {
     // A buffer that holds nothing.
     pub(crate) fn new(alloc: Global) -> Result<Window, AllocError>
@@ -114,12 +127,13 @@ impl Window {
         self.start += amount;
     }
 
-    // One read of all that is free, behind what is pending. What was lent is gone.
+    // One read of all that is free, behind what is pending. What was lent is gone. What is pending
+    // moves only where something stands in front of it.
     pub(crate) fn receive<R: Read>(&mut self, reader: &mut R) -> Result<usize, ErrorKind>
         requires { length self.old.pending < 65520 }
         ensures { Receives (R.remaining reader.old) (R.remaining reader.new) self.old.pending self.new.pending result }
     {
-        self.bytes.copy_within(self.start..self.end, 0);
+        to_front(&mut self.bytes, self.start, self.end);
         self.end -= self.start;
         self.start = 0;
         let received = read_behind(reader, &mut self.bytes, self.end);

@@ -7,5 +7,5 @@ mod error;
 mod line;
 mod sections;
 
-pub use error::Error;
+pub use error::{Error, RequiredFeature};
 pub use line::{Acknowledgement, ShallowUpdate, WantedRef, shallow_update_from_line};

@@ -1,5 +1,5 @@
 //! The refs of a server's answer.
-ghost use Rattle.std.specs.Prelude.{MatchResult};
+ghost use Rattle.std.specs.Prelude.{◌≡◌, MatchResult};
 ghost use Rattle.gixp_lines.specs.Refs.{NextRef, NextOfRefs, ReadsRefs, RefsFail};
 
 use crate::handshake::Ref;
@@ -30,6 +30,8 @@ pub fn next_v2_ref<R: ExtendedBufRead>(
 ) -> Result<Option<Ref>, parse::Error>
     ensures next { NextRef R.is_plain (R.reading in_refs.old) (R.reading in_refs.new) result }
     ensures answer { NextOfRefs R.is_plain (R.reading in_refs.old) (R.reading in_refs.new) result }
+    ensures held { (R.reading in_refs.new).held ≡ (R.reading in_refs.old).held }
+    ensures version { (R.reading in_refs.new).version ≡ (R.reading in_refs.old).version }
 {
     match in_refs.next_line() {
         Ok(true) => {}
@@ -55,9 +57,11 @@ pub fn from_v2_refs<R: ExtendedBufRead>(
     alloc: Global,
     in_refs: &mut R,
 ) -> Result<Vec<Ref>, parse::Error>
-    ensures { MatchResult result
+    ensures answers { MatchResult result
         (λ refs. ReadsRefs (R.reading in_refs.old) (R.reading in_refs.new) refs.items)
         (RefsFail R.is_plain (R.reading in_refs.old) (R.reading in_refs.new)) }
+    ensures held { (R.reading in_refs.new).held ≡ (R.reading in_refs.old).held }
+    ensures version { (R.reading in_refs.new).version ≡ (R.reading in_refs.old).version }
 {
     let mut refs = Vec::new(alloc);
     loop {

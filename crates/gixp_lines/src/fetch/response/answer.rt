@@ -8,7 +8,7 @@ ghost use Rattle.gixp_lines.specs.RefLine.{is_text};
 ghost use Rattle.gixp_lines.specs.Features.{feature_name, has_name, missing_feature, Misses};
 
 use crate::fetch::response::beginnings::read_beginning;
-use crate::fetch::response::error::Error;
+use crate::fetch::response::error::{Error, RequiredFeature};
 use crate::fetch::response::line::{Acknowledgement, ShallowUpdate, WantedRef};
 use crate::fetch::response::sections::read_sections;
 use gixp_wire::{ExtendedBufRead, Feature, Protocol};
@@ -108,12 +108,12 @@ impl Response {
             Protocol::V1 | Protocol::V0 => {
                 if !has_feature(features, "multi_ack_detailed") {
                     return Err(Error::MissingServerCapability {
-                        feature: "multi_ack_detailed",
+                        feature: RequiredFeature::MultiAckDetailed,
                     });
                 }
                 if !has_feature(features, "side-band") && !has_feature(features, "side-band-64k") {
                     return Err(Error::MissingServerCapability {
-                        feature: "side-band OR side-band-64k",
+                        feature: RequiredFeature::SideBand,
                     });
                 }
                 Ok(())

@@ -1,7 +1,8 @@
 //! Answers under versions 0 and 1 (gitprotocol-pack, "Packfile Negotiation").
-ghost use Rattle.std.specs.Prelude.{◌≡◌, MatchResult, OnOk, Some, not, ◌&&◌, ◌||◌};
+ghost use Rattle.std.specs.Prelude.{◌≡◌, ◌⊎◌, MatchResult, OnOk, Some, not, ◌&&◌, ◌||◌};
 ghost use Rattle.std.specs.List.{list_any};
 ghost use Rattle.gixp_wire.specs.Reading.{refusal_of};
+ghost use Rattle.gixp_wire.specs.declared.protocol.Protocol.TheVariants.{V0, V1};
 ghost use Rattle.gixp_lines.specs.Beginnings.{asked, is_at_end, is_ready, is_nak, line_item, item_said, said_with, is_same_common, v1_answer};
 ghost use Rattle.gixp_lines.specs.Reads.{Answered, AnswerFails};
 
@@ -46,6 +47,7 @@ pub(crate) fn read_beginning<R: ExtendedBufRead>(
     expects_pack: bool,
     negotiates: bool,
 ) -> Result<Response, Error>
+    requires { (version ≡ V1) ⊎ (version ≡ V0) }
     ensures answers { MatchResult result
         (Answered (v1_answer version (asked expects_pack negotiates)) version (R.reading reader.old) (R.reading reader.new))
         (AnswerFails (v1_answer version (asked expects_pack negotiates)) R.is_plain (R.reading reader.old) (R.reading reader.new)) }

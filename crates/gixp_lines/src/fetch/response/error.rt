@@ -4,8 +4,46 @@ ghost use Rattle.std.specs.Prelude.{◌≡◌};
 use bstr::BString;
 use gixp_wire::{client, read};
 use std::alloc::AllocError;
+use std::fmt;
 use std::io::ErrorKind;
 use thiserror::Error as DeriveError;
+
+/// What a server must have for its answers to be read under versions 0 and 1. It shows as its name,
+/// also by `Debug`, which quotes it.
+#[derive(Clone, Copy, PartialEq, Eq)]
+pub enum RequiredFeature {
+    /// `multi_ack_detailed`.
+    MultiAckDetailed,
+    /// One of `side-band` and `side-band-64k`.
+    SideBand,
+}
+
+impl RequiredFeature {
+    ghost use Rattle.gixp_lines.specs.ResponseError.{required_text};
+
+    /// The name that it shows as.
+    pub fn as_str(&self) -> &'static str
+        ensures { result.now ≡ required_text self.now }
+    {
+        match self {
+            RequiredFeature::MultiAckDetailed => "multi_ack_detailed",
+            RequiredFeature::SideBand => "side-band OR side-band-64k",
+        }
+    }
+}
+
+impl fmt::Display for RequiredFeature {
+    fn fmt<W: fmt::Write>(&self, f: &mut fmt::Formatter<W>) -> fmt::Result {
+        f.write_str(self.as_str())
+    }
+}
+
+impl fmt::Debug for RequiredFeature {
+    fn fmt<W: fmt::Write>(&self, f: &mut fmt::Formatter<W>) -> fmt::Result {
+        let text = self.as_str();
+        write!(f, "{text:?}")
+    }
+}
 
 /// Why an answer, or a line of one, isn't there. Nothing of the answer is given beside one.
 ///
@@ -26,7 +64,7 @@ pub enum Error {
     Transport(client::Error),
     /// The server has no such feature, which is needed.
     #[error("Currently we require feature {feature:?}, which is not supported by the server")]
-    MissingServerCapability { feature: &'static str },
+    MissingServerCapability { feature: RequiredFeature },
     /// A line that has no place where it stands.
     #[error("Encountered an unknown line prefix in {line:?}")]
     UnknownLineType { line: String },

@@ -1,5 +1,5 @@
 //! The refs that a server says first under versions 0 and 1 (gitprotocol-pack, "Reference Discovery").
-ghost use Rattle.std.specs.Prelude.{MatchResult};
+ghost use Rattle.std.specs.Prelude.{◌≡◌, MatchResult};
 ghost use Rattle.gixp_lines.specs.V1Refs.{symref_values, ReadsV1, V1Fails, GivesAdvertisement, AdvertisementFails};
 
 use crate::fetch::response::ShallowUpdate;
@@ -25,9 +25,11 @@ pub fn from_v1_refs_received_as_part_of_handshake_and_capabilities<R: ExtendedBu
     in_refs: &mut R,
     capabilities: &Capabilities,
 ) -> Result<(Vec<Ref>, Vec<ShallowUpdate>), parse::Error>
-    ensures { MatchResult result
+    ensures answers { MatchResult result
         (λ found. GivesAdvertisement capabilities.now (R.reading in_refs.old) (R.reading in_refs.new) found.0.items found.1.items)
         (AdvertisementFails capabilities.now R.is_plain (R.reading in_refs.old) (R.reading in_refs.new)) }
+    ensures held { (R.reading in_refs.new).held ≡ (R.reading in_refs.old).held }
+    ensures version { (R.reading in_refs.new).version ≡ (R.reading in_refs.old).version }
 {
     match from_capabilities(alloc, capabilities) {
         Ok(symrefs) => read_v1(alloc, in_refs, symrefs.as_slice()),
@@ -41,9 +43,11 @@ fn read_v1<R: ExtendedBufRead>(
     in_refs: &mut R,
     symrefs: &[Symref],
 ) -> Result<(Vec<Ref>, Vec<ShallowUpdate>), parse::Error>
-    ensures { MatchResult result
+    ensures answers { MatchResult result
         (λ found. ReadsV1 (symref_values symrefs.now) (R.reading in_refs.old) (R.reading in_refs.new) found.0.items found.1.items)
         (V1Fails (symref_values symrefs.now) R.is_plain (R.reading in_refs.old) (R.reading in_refs.new)) }
+    ensures held { (R.reading in_refs.new).held ≡ (R.reading in_refs.old).held }
+    ensures version { (R.reading in_refs.new).version ≡ (R.reading in_refs.old).version }
 {
     let mut found = Advertised::new(alloc);
     loop {

@@ -9,7 +9,7 @@ ghost use Rattle.gixp_lines.specs.ParseError.{Answers, IsRefusal, attribute_valu
 
 use crate::cut::cut;
 use crate::handshake::Ref;
-use crate::handshake::refs::parse::Error;
+use crate::handshake::refs::parse::{Error, Invariant};
 use crate::trim::trim_end;
 use bstr::BString;
 use gixp_wire::ObjectId;
@@ -190,7 +190,7 @@ fn make_unborn(alloc: Global, full_ref_name: BString, had: Attributes<'_>) -> Re
     ensures { Answers ref_value (value_of None (bstring_bytes full_ref_name) (attribute_values had.entry)) result }
 {
     let message = match (had.symref_target, had.peeled) {
-        (Some(target), _) if is_null(target) => "got 'unborn' while (null) was a symref target",
+        (Some(target), _) if is_null(target) => Invariant::UnbornNullTarget,
         (Some(target), _) => match BString::from_slice(alloc, target) {
             Ok(target) => {
                 return Ok(Ref::Unborn {
@@ -200,8 +200,8 @@ fn make_unborn(alloc: Global, full_ref_name: BString, had: Attributes<'_>) -> Re
             }
             Err(_) => return Err(Error::Memory),
         },
-        (None, Some(_)) => "got 'unborn' as tag target",
-        (None, None) => "got 'unborn' as object name of direct reference",
+        (None, Some(_)) => Invariant::UnbornTag,
+        (None, None) => Invariant::UnbornObject,
     };
     Err(Error::InvariantViolation { message })
 }

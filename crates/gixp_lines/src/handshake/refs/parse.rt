@@ -5,8 +5,56 @@ ghost use Rattle.gixp_wire.specs.Reading.{refusal_of};
 use bstr::BString;
 use gixp_wire::{PacketError, decode, read};
 use std::alloc::AllocError;
+use std::fmt;
 use std::io::ErrorKind;
 use thiserror::Error as DeriveError;
+
+/// What doesn't go together. It shows as a sentence, also by `Debug`.
+#[derive(Clone, Copy, PartialEq, Eq)]
+pub enum Invariant {
+    /// A version 2 ref line without an id has no target either.
+    UnbornObject,
+    /// A version 2 ref line without an id has a peeled one.
+    UnbornTag,
+    /// The target of a version 2 ref line without an id is `(null)`.
+    UnbornNullTarget,
+    /// A peeled version 1 line stands behind no ref line, or behind that of a symbolic ref.
+    PeeledAlone,
+    /// A peeled version 1 line stands behind the ref line of another path.
+    PeeledElsewhere,
+}
+
+impl Invariant {
+    ghost use Rattle.gixp_lines.specs.ParseError.{invariant_text};
+
+    /// The sentence that it shows as.
+    pub fn as_str(&self) -> &'static str
+        ensures { result.now ≡ invariant_text self.now }
+    {
+        match self {
+            Invariant::UnbornObject => "got 'unborn' as object name of direct reference",
+            Invariant::UnbornTag => "got 'unborn' as tag target",
+            Invariant::UnbornNullTarget => "got 'unborn' while (null) was a symref target",
+            Invariant::PeeledAlone => "Expecting peeled refs to be preceded by direct refs",
+            Invariant::PeeledElsewhere => {
+                "Expecting peeled refs to have the same base path as the previous, unpeeled one"
+            }
+        }
+    }
+}
+
+impl fmt::Display for Invariant {
+    fn fmt<W: fmt::Write>(&self, f: &mut fmt::Formatter<W>) -> fmt::Result {
+        f.write_str(self.as_str())
+    }
+}
+
+impl fmt::Debug for Invariant {
+    fn fmt<W: fmt::Write>(&self, f: &mut fmt::Formatter<W>) -> fmt::Result {
+        let text = self.as_str();
+        write!(f, "{text:?}")
+    }
+}
 
 /// Why an answer has no refs. Nothing of the answer is given beside one.
 ///
@@ -38,7 +86,7 @@ pub enum Error {
     UnknownAttribute { attribute: BString, line: BString },
     /// Lines or attributes don't go together.
     #[error("{message}")]
-    InvariantViolation { message: &'static str },
+    InvariantViolation { message: Invariant },
     /// The server answered an error, with this message.
     #[error("UploadPack")]
     UploadPack { message: BString },

@@ -15,7 +15,7 @@ use crate::cut::cut;
 use crate::fetch::response::ShallowUpdate;
 use crate::handshake::Ref;
 use crate::handshake::refs::line::{is_same, read_id};
-use crate::handshake::refs::parse::Error;
+use crate::handshake::refs::parse::{Error, Invariant};
 use crate::handshake::refs::symrefs::{Symref, find_symref};
 use crate::trim::trim_end;
 use bstr::BString;
@@ -152,12 +152,12 @@ fn make_pair(symrefs: &[Symref], line: RefLine, left: &[u8], base: &[u8]) -> Res
 {
     if find_symref(symrefs, line.name.as_bytes()).is_some() {
         return Err(Error::InvariantViolation {
-            message: "Expecting peeled refs to be preceded by direct refs",
+            message: Invariant::PeeledAlone,
         });
     }
     if !is_same(line.name.as_bytes(), base) {
         return Err(Error::InvariantViolation {
-            message: "Expecting peeled refs to have the same base path as the previous, unpeeled one",
+            message: Invariant::PeeledElsewhere,
         });
     }
     match read_id(left) {
@@ -282,7 +282,7 @@ impl Advertised {
     {
         match self.last.take() {
             None => Err(Error::InvariantViolation {
-                message: "Expecting peeled refs to be preceded by direct refs",
+                message: Invariant::PeeledAlone,
             }),
             Some(line) => match make_pair(symrefs, line, left, base) {
                 Ok(found) => self.push(found),

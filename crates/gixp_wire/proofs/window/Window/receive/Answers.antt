@@ -10,6 +10,6 @@ returns-in-Ok g c =
     let is = ap (λ (s : Shown). s.pending) (sym c.self.view_is) in
     let bytes = rw c.in-Ok.is at b.ensures.bytes in
     let cap : length i.bytes.items ≡ 65520 = omega arith in
-    let cap2 : length b.new.buffer.items ≡ 65520 = omega (arith, b.ensures.len, c.copy_within.ensures.len) in
-    rw c.in-Ok.is (received _ _ i.bytes.items c.copy_within.new.self.items b.new.buffer.items c.args.self.now.pending i.start i.end c.in-Ok.n
-    c.self.invariant.1 (omega arith) cap2 c.copy_within.ensures.items b.ensures.front is bytes.0 bytes.1 bytes.2 c.requires)
+    let cap2 : length b.new.buffer.items ≡ 65520 = omega (arith, b.ensures.len, c.to_front.ensures.len) in
+    rw c.in-Ok.is (received _ _ i.bytes.items c.to_front.new.buffer.items b.new.buffer.items c.args.self.now.pending i.start i.end c.in-Ok.n
+    c.self.invariant.1 (omega arith) cap2 c.to_front.ensures.moved b.ensures.front is bytes.0 bytes.1 bytes.2 c.requires)

@@ -10,7 +10,7 @@ pub returns-then-behind_stop-clause-answers : goal.returns-then-behind_stop-clau
 returns-then-behind_stop-clause-answers g c =
     let k = rw c.in-Ok-false.field-0-test at c.in-Ok-false.ensures.peeks in
     let h = rw c.if-behind_stop.true at c.loop-answer.invariant in
-    amid-stops _ _ _ _ _ _ _ h k
+    amid-stops _ c.requires _ _ _ _ _ _ h k
 
 pub loop-answer-preserved-in-Ok-false : goal.loop-answer-preserved-in-Ok-false
 loop-answer-preserved-in-Ok-false g c =
@@ -19,7 +19,7 @@ loop-answer-preserved-in-Ok-false g c =
     amid-stop _ _ _ _ _ _ _ _ h k c.reset-in-Ok-false.ensures
 
 pub returns-then-ends_answer-clause-answers : goal.returns-then-ends_answer-clause-answers
-returns-then-ends_answer-clause-answers g c = amid-end _ _ _ _ _ _ _ _ c.in-Err.e c.loop-answer.invariant c.in-Err.ensures.peeks c.if-ends_answer.ensures
+returns-then-ends_answer-clause-answers g c = amid-end _ c.requires _ _ _ _ _ _ _ c.in-Err.e c.loop-answer.invariant c.in-Err.ensures.peeks c.if-ends_answer.ensures
 
 pub returns-in-Err-clause-answers : goal.returns-in-Err-clause-answers
 returns-in-Err-clause-answers g c =
@@ -40,7 +40,7 @@ pub returns-then-ends_by_nak-clause-answers : goal.returns-then-ends_by_nak-clau
 returns-then-ends_by_nak-clause-answers g c =
     let k = rw c.in-Ok-true.field-0-test at c.in-Ok-true.ensures.peeks in
     let t = amid-line _ _ _ _ _ c.in-Some.said _ _ _ _ _ c.loop-answer.invariant k (c.in-Some.ensures ∙ ap line_item c.line.ensures) c.next_line.ensures.reads in
-    amid-nak _ _ _ _ _ _ _ c.in-Some.said _ _ _ c.loop-answer.invariant t c.in-Ok.ensures.ok c.ready_by-came_ready.ensures c.if-ends_by_nak.ensures
+    amid-nak _ c.requires _ _ _ _ _ _ c.in-Some.said _ _ _ c.loop-answer.invariant t c.in-Ok.ensures.ok c.ready_by-came_ready.ensures c.if-ends_by_nak.ensures
 
 pub loop-answer-preserved : goal.loop-answer-preserved
 loop-answer-preserved g c =
