@@ -1,0 +1,16 @@
+-- One call more.
+use Rattle.std.proofs.Common.{◌∙◌, subst, sym, take, [], get_or, arith}
+use Rattle.std.proofs.lemmas.List.{take_more}
+use Rattle.gixp_graph.specs.Run.{IsRun}
+use Rattle.gixp_graph.specs.Laws.{run_more}
+use Rattle.gixp_negotiate.proofs.negotiate.mark.add_tips.Goals as goal
+
+pub loop-id-preserved : goal.loop-id-preserved
+loop-id-preserved g c = record {
+  run = subst (λ ids. IsRun g.N.Negotiator.adds ids c.args.negotiator.now c.args.graph.now.graph c.add_tip.new.self c.add_tip.new.graph.graph) (sym (take_more c.args.ids.now c.loop-id.id-index (record { bytes = [] }) c.loop-id-test.true))
+      (run_more g.N.Negotiator.adds (take c.loop-id.id-index c.args.ids.now) (get_or c.args.ids.now c.loop-id.id-index (record { bytes = [] })) c.args.negotiator.now c.loop-id.negotiator c.add_tip.new.self c.args.graph.now.graph c.loop-id.graph.graph c.add_tip.new.graph.graph
+      c.loop-id.invariant.run c.in-Ok.ensures.added);
+  objects = c.add_tip.ensures.objects ∙ c.loop-id.invariant.objects;
+  failures = omega (arith, c.add_tip.ensures.failures, c.loop-id.invariant.failures);
+  graph_failures = omega (arith, c.add_tip.ensures.graph_failures, c.loop-id.invariant.graph_failures);
+}

@@ -1,0 +1,13 @@
+-- One ref more.
+use Rattle.std.proofs.Common.{[], ◌∷◌, ◌++◌, ◌∙◌, ap, map}
+use Rattle.std.proofs.lemmas.List.{map-append}
+use Rattle.gixp_lines.specs.Ref.{ref_value}
+use Rattle.gixp_refspec.specs.MatchGroup.{name_of, names}
+use Rattle.gixp_refmap.proofs.ListLemmas.{mapped_more}
+use Rattle.gixp_refmap.specs.Mapping.{value_name}
+use Rattle.gixp_refmap.proofs.refmap.make.items.Goals as goal
+
+pub refs-preserved : goal.refs-preserved
+refs-preserved c =
+    mapped_more ref_value value_name (names c.refs.items.items) (names c.push.new.self.items) c.args.refs.now c.refs.found-index c.found-item.result c.found-item.is
+    c.refs-test.true c.refs.invariant (ap names c.in_ok-push.ensures.items ∙ map-append name_of c.refs.items.items (c.item.result ∷ []) ∙ ap (λ n. names c.refs.items.items ++ n ∷ []) c.item.ensures)
