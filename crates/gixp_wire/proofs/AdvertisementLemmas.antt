@@ -1,7 +1,7 @@
 -- What a server says first, read one step at a time.
 use Rattle.std.proofs.Common.{◌≡◌, ℕ, ◌≤◌, ◌<◌, ◌⊎◌, inl, inr, Bool, true, false, List, [], ◌∷◌, ◌++◌, take, length, Option, Some, None, IfSome, Result, Ok, Err, refl, sym, ap, subst, ◌∙◌, arith, append_assoc, append-nil}
 use Rattle.std.specs.Prelude.{position, ◌==◌}
-use Rattle.std.proofs.lemmas.List.{map-append}
+use Rattle.std.proofs.lemmas.List.{map-append, length-take-le}
 use Rattle.std.proofs.lemmas.List.Quantifiers.{position-Some}
 use Rattle.std.specs.Option.{option_map}
 use Rattle.std.specs.declared.io.ErrorKind.{ErrorKind}
@@ -429,7 +429,9 @@ module _ {R : Type 0} where
         value = subst P (sym (to_come-peeked rem p e)) (at (option_map stream_pieces (known rem p)) refl);
         version = version;
         failures = refl;
-        left = omega arith;
+        left =
+            let a = place-within p.window.lent cs n is in
+            rw e (omega (arith, length-take-le n p.window.lent (omega arith)));
         held = refl;
       }
     where

@@ -26,7 +26,7 @@ module _ (h : Held) (a b : Reading) where
   takes_line k = record { running = k.running; sound = k.sound; again = k.again; next = k.next; stopped = k.stopped; version = k.version; peeked = k.peeked; failures = k.failures; left = k.left; held = refl }
 
   shows_line : ShowsLine a b → ShowsLine A B
-  shows_line k = record { running = k.running; sound = k.sound; again = k.again; next = k.next; refused = k.refused; stopped = k.stopped; version = k.version; peeked = k.peeked; failures = k.failures; left = k.left; held = refl }
+  shows_line k = record { running = k.running; sound = k.sound; again = k.again; next = k.next; refused = k.refused; stopped = k.stopped; version = k.version; peeked = k.peeked; failures = k.failures; left = k.left; room = k.room; held = refl }
 
   takes_stop : (kind : MessageKind) → TakesStop a b kind → TakesStop A B kind
   takes_stop kind k = record { running = k.running; sound = k.sound; unpeeked = k.unpeeked; is_stop = k.is_stop; next = k.next; stopped = k.stopped; version = k.version; peeked = k.peeked; failures = k.failures; left = k.left; held = refl }
