@@ -52,6 +52,7 @@ pub(crate) fn read_beginning<R: ExtendedBufRead>(
         (Answered (v1_answer version (asked expects_pack negotiates)) version (R.reading reader.old) (R.reading reader.new))
         (AnswerFails (v1_answer version (asked expects_pack negotiates)) R.is_plain (R.reading reader.old) (R.reading reader.new)) }
     ensures held { (R.reading reader.new).held ≡ (R.reading reader.old).held }
+    ensures version { (R.reading reader.new).version ≡ version }
 {
     reader.reset(version);
     let mut answer = Response::empty(alloc);
