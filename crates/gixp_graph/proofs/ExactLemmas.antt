@@ -5,7 +5,7 @@ use Rattle.std.specs.Option.{option_map_or}
 use Rattle.std.specs.FinMap as finite
 use Rattle.gixp_wire.specs.declared.object_id.ObjectId.{ObjectId}
 use Rattle.gixp_graph.specs.Object.{commit_at}
-use Rattle.gixp_graph.specs.Held.{Held, Commits, GraphData, commit_in, is_complete, is_marked, OnlyMarks, HasNoMarks, IsFaithful}
+use Rattle.gixp_graph.specs.Held.{Held, Commits, GraphData, commit_in, is_complete, is_marked, OnlyMarks, IsFaithful}
 use Rattle.gixp_graph.specs.Complete.{IsComplete}
 use Rattle.gixp_graph.specs.Laws.{faithful_reads}
 use Rattle.gixp_graph.proofs.StepLemmas.{marked_by}
@@ -16,11 +16,13 @@ module _ (g : GraphData) (new : Commits) (ids : List ObjectId) (cutoff : Option 
   pub sound_exact : (id : ObjectId) → is_marked new id ≡ true → (is_marked g.held id ≡ true) ⊎ IsComplete (commit_at g.objects) ids cutoff id
   sound_exact id m = ⊎_elim (λ a. inl a) (λ a. inr (complete_same (commit_in g) (commit_at g.objects) (faithful_reads g faithful) ids cutoff id a)) (sound id m)
 
-  -- and where nothing was marked before, just that
-  pub complete_exact : HasNoMarks g.held → ((id : ObjectId) → IsComplete (commit_in g) ids cutoff id → is_marked new id ≡ true) → (id : ObjectId) → IsTrue (is_marked new id) ↔ IsComplete (commit_at g.objects) ids cutoff id
-  complete_exact none all id = (
-    λ m. ⊎_elim (λ a. absurd (let n : is_marked g.held id ≡ false = none id in cc)) (λ a. a) (sound_exact id m),
-    λ k. all id (complete_same (commit_at g.objects) (commit_in g) (λ q. sym (faithful_reads g faithful q)) ids cutoff id k),
+  -- and with what was marked before, just that
+  pub complete_exact : OnlyMarks g new → ((id : ObjectId) → IsComplete (commit_in g) ids cutoff id → is_marked new id ≡ true) → (id : ObjectId) → IsTrue (is_marked new id) ↔ (IsTrue (is_marked g.held id) ⊎ IsComplete (commit_at g.objects) ids cutoff id)
+  complete_exact only all id = (
+    λ m. sound_exact id m,
+    λ k. ⊎_elim
+        (λ m. ⊎_elim (λ e. ap (λ o. option_map_or is_complete o false) e ∙ m) (λ n. marked_by g new only id n.0 n.2) (only id))
+        (λ c. all id (complete_same (commit_at g.objects) (commit_in g) (λ q. sym (faithful_reads g faithful q)) ids cutoff id c)) k,
   )
 
 -- a commit that is marked is held
@@ -35,3 +37,7 @@ held_exact g new ids cutoff only sound faithful id s = ⊎_elim
     (λ e. inl (ap is_some (sym e) ∙ s))
     (λ n. ⊎_elim (λ m. inl (marked_held (finite.get g.held id) m)) (λ k. inr k) (sound_exact g new ids cutoff sound faithful id (marked_by g new only id n.0 n.2)))
     (only id)
+
+-- and each that is complete is
+pub reads_exact : (g : GraphData) (new : Commits) (ids : List ObjectId) (cutoff : Option ℤ) → IsFaithful g → ((id : ObjectId) → IsComplete (commit_in g) ids cutoff id → is_marked new id ≡ true) → (id : ObjectId) → IsComplete (commit_at g.objects) ids cutoff id → IsSome (finite.get new id)
+reads_exact g new ids cutoff faithful all id c = marked_held (finite.get new id) (all id (complete_same (commit_at g.objects) (commit_in g) (λ q. sym (faithful_reads g faithful q)) ids cutoff id c))

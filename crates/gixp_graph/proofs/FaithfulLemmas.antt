@@ -1,7 +1,6 @@
 -- Graphs that hold nothing but what their objects have.
 use Rattle.std.proofs.Common.{◌≡◌, ◌∙◌, Option, Some, None, List, ℤ, sym, ap, subst, refl, false, true, cond}
 use Rattle.std.specs.Prelude.{option_map, is_some, Bool}
-use Rattle.std.specs.Option.{option_or}
 use Rattle.std.proofs.Common.{Result, Ok, Err}
 use Rattle.std.specs.Result.{OnOk, OnErr}
 use Rattle.std.specs.FinMap as finite
@@ -10,7 +9,7 @@ use Rattle.gixp_wire.specs.declared.object_id.ObjectId.{ObjectId}
 use Rattle.gixp_graph.specs.declared.flags.Flags.{Flags}
 use Rattle.gixp_wire.specs.ObjectId.{id_cmp}
 use Rattle.gixp_graph.specs.Object.{Object, Commit, commit_at}
-use Rattle.gixp_graph.specs.Held.{Held, Commits, GraphData, graph_of, found_in, commit_in, as_read, unmarked, if_unmarked, is_complete, IsFaithful, looked_up, flagged, with_flags, put}
+use Rattle.gixp_graph.specs.Held.{Held, Commits, GraphData, graph_of, found_in, as_read, if_unmarked, is_complete, IsFaithful, looked_up, flagged, with_flags, put}
 use Rattle.std.specs.Ordering.{eq_by_cmp}
 use Rattle.gixp_graph.specs.Laws.{faithful_reads, same_from}
 use Rattle.gixp_graph.proofs.MarkLemmas.{get_insert_same, get_insert_other}

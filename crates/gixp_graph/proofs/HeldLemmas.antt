@@ -1,19 +1,10 @@
 -- Commits as nodes of a map, and as a finite map.
-use Rattle.std.proofs.Common.{ℤ, ◌≡◌, ℕ, ◌∙◌, cond, List, Option, Some, None, refl, sym, ap}
+use Rattle.std.proofs.Common.{ℤ, ◌≡◌, ◌∙◌, Option, Some, None, refl, sym, ap}
 use Rattle.std.specs.Prelude.{option_map}
 use Rattle.std.specs.Option.{option_or}
-use Rattle.std.specs.Cmp.{IsTotalOrder}
-use Rattle.std.specs.Cmp.Lexicographic.{nat_list_cmp_total}
-use Rattle.std.proofs.lemmas.Cmp.{on_total}
-use Rattle.std.proofs.lemmas.Map.Lookups.{CmpEqualImpliesEq, exact_bytes}
-use Rattle.std.specs.declared.cmp.Ordering.{Ordering}
-use Rattle.std.specs.declared.cmp.Ordering.TheVariants.{Less, Equal, Greater}
-use Rattle.std.specs.Ordering.{is_eq}
 use Rattle.std.specs.FinMap as finite
-use Rattle.std.specs.FinMap.{get-insert, same_map}
 use Rattle.gixp_wire.specs.declared.object_id.ObjectId.{ObjectId}
 use Rattle.gixp_graph.specs.declared.flags.Flags.{Flags}
-use Rattle.gixp_wire.specs.ObjectId.{id_cmp}
 use Rattle.gixp_graph.specs.Object.{Commit, commit_at}
 use Rattle.gixp_graph.specs.Held.{Held, shown, Commits, GraphData, found_in, looked_up, flagged, with_flags, unmarked, put}
 use Rattle.gixp_graph.specs.Laws.{put_same}

@@ -11,12 +11,12 @@ use Rattle.std.specs.FinMap.{contains_key-keys}
 use Rattle.gixp_wire.specs.declared.object_id.ObjectId.{ObjectId}
 use Rattle.gixp_wire.specs.ObjectId.{id_cmp}
 use Rattle.gixp_graph.specs.Object.{Objects, Object, Commit, commit_at}
-use Rattle.gixp_graph.specs.Held.{Held, Commits, GraphData, graph_of, commit_in, as_read, unmarked, put, is_marked, completed, new_in, marked_found, OnlyMarks}
-use Rattle.gixp_graph.specs.Waiting.{Waiting, Queues}
-use Rattle.gixp_graph.specs.Walk.{count, all_ids, left}
+use Rattle.gixp_graph.specs.Held.{Held, GraphData, graph_of, found_in, commit_in, as_read, unmarked, OnlyMarks}
+use Rattle.gixp_graph.specs.Waiting.{Queues}
+use Rattle.gixp_graph.specs.Walk.{Walk, Visits, count, all_ids, left}
 use Rattle.gixp_graph.specs.Laws.{same_from}
-use Rattle.gixp_graph.proofs.MarkLemmas.{true_or_false}
-use Rattle.gixp_graph.proofs.StepLemmas.{unmarked_from_new, marked_here, marked_still, found_if_new, or_true}
+use Rattle.gixp_graph.proofs.VisitedLemmas.{or_true}
+use Rattle.gixp_graph.proofs.StepLemmas.{visit_keeps, visit_visited, visit_reads}
 
 -- a test that follows from another counts no more
 one_at : (a b : Bool) → (b ≡ true → a ≡ true) → cond b 1 0 ≤ cond a 1 0
@@ -76,25 +76,33 @@ not_true : (b : Bool) → not b ≡ true → b ≡ false
 not_true true e = cc
 not_true false e = refl
 
--- no mark is lost, so none more is left
-fewer : (g : GraphData) (held held' : Commits) → ((q : ObjectId) → is_marked held q ≡ true → is_marked held' q ≡ true) → (q : ObjectId) → not (is_marked held' q) ≡ true → not (is_marked held q) ≡ true
-fewer g held held' k q e = ⊎_elim (λ t. absurd (let a : is_marked held' q ≡ true = k q t in let b : is_marked held' q ≡ false = not_true (is_marked held' q) e in cc)) (λ f. ap not f) (true_or_false (is_marked held q))
+-- what was visited stays so, so none more is left
+fewer : (a b : Bool) → (a ≡ true → b ≡ true) → not b ≡ true → not a ≡ true
+fewer true b k e = absurd (let t : b ≡ true = k refl in let f : b ≡ false = not_true b e in cc)
+fewer false b k e = refl
 
-module _ (g : GraphData) (held : Commits) (objects : Objects) (same : objects ≡ g.objects) (id : ObjectId) (held' : Commits) where
-  -- the same, by what is new
-  less_at : (queue queue' : List Waiting) → OnlyMarks g held → (o : Option Held) → new_in (graph_of objects held) id ≡ o → held' ≡ put held id (option_map completed o) → Queues o id queue queue' → left g held' + length queue' ≤ left g held + length queue
-  less_at queue queue' only None e m q =
-      let a : left g held' ≡ left g held = ap (left g) m in
-      let b : length queue' ≡ length queue = ap length q in omega arith
-  less_at queue queue' only (Some h) e m q =
-      let new : new_in (graph_of g.objects held) id ≡ Some h = ap (λ m. new_in (graph_of m held) id) (sym same) ∙ e in
-      let before : is_marked held id ≡ false = unmarked_from_new (graph_of g.objects held) id h new in
-      let now : is_marked held' id ≡ true = subst (λ m. is_marked m id ≡ true) (sym m) (marked_here held id h) in
-      let keeps : (q : ObjectId) → is_marked held q ≡ true → is_marked held' q ≡ true = λ q t. subst (λ m. is_marked m q ≡ true) (sym m) (marked_still held id h q t) in
-      let a : left g held' + 1 ≤ left g held = count_lt (λ q. not (is_marked held q)) (λ q. not (is_marked held' q)) (fewer g held held' keeps) id (ap not before) (ap not now) (all_ids g) (found_id g id (ap is_some (found_if_new g held only id h new))) in
-      let b : length queue' ≡ suc (length queue) = length_permutation (record { time = h.time; id = id } ∷ queue) queue' q in
-      omega arith
+module _ (g : GraphData) (objects : Objects) (same : objects ≡ g.objects) (id : ObjectId) (old new : Walk) (v : Visits objects id old new) where
+  -- no id more is left
+  left_no_more : left g new.visited ≤ left g old.visited
+  left_no_more = count_le (λ q. not (old.visited q)) (λ q. not (new.visited q)) (λ q. fewer (old.visited q) (new.visited q) (visit_keeps objects id old new v q)) (all_ids g)
 
-  -- a step leaves no more to do
-  pub step_left : (queue queue' : List Waiting) → OnlyMarks g held → held' ≡ marked_found (graph_of objects held) id → Queues (new_in (graph_of objects held) id) id queue queue' → left g held' + length queue' ≤ left g held + length queue
-  step_left queue queue' only m q = less_at queue queue' only (new_in (graph_of objects held) id) refl m q
+  -- where a commit was found, one less is
+  left_less : old.visited id ≡ false → OnlyMarks g old.held → (k : Held) → found_in (graph_of objects old.held) id ≡ Some k → left g new.visited + 1 ≤ left g old.visited
+  left_less u only k e = count_lt (λ q. not (old.visited q)) (λ q. not (new.visited q)) (λ q. fewer (old.visited q) (new.visited q) (visit_keeps objects id old new v q)) id (ap not u) (ap not (visit_visited objects id old new v)) (all_ids g)
+      (found_id g id (ap is_some (visit_reads g objects same id old new only (Some k) e)))
+
+  -- by what is found
+  less_at : old.visited id ≡ false → OnlyMarks g old.held → (o : Option Held) → found_in (graph_of objects old.held) id ≡ o → Queues o id old.waiting new.waiting → left g new.visited + length new.waiting ≤ left g old.visited + length old.waiting
+  less_at u only None e w =
+      let a : length new.waiting ≡ length old.waiting = ap length w in
+      omega (arith, left_no_more)
+  less_at u only (Some k) e w =
+      let a : length new.waiting ≡ suc (length old.waiting) = length_permutation (record { time = k.time; id = id } ∷ old.waiting) new.waiting w in
+      omega (arith, left_less u only k e)
+
+  -- a visit leaves no more to do
+  pub visit_left : OnlyMarks g old.held → left g new.visited + length new.waiting ≤ left g old.visited + length old.waiting
+  visit_left only = elim v as (λ _. left g new.visited + length new.waiting ≤ left g old.visited + length old.waiting) [
+    | Visits.again u h q w ↦ (let a : length new.waiting ≡ length old.waiting = ap length w in omega (arith, left_no_more))
+    | Visits.first u h q w ↦ less_at u only (found_in (graph_of objects old.held) id) refl w
+  ]

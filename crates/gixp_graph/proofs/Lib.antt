@@ -12,5 +12,6 @@ pub mod QueueLemmas
 pub mod SlowLemmas
 pub mod StepLemmas
 pub mod TableLemmas
+pub mod VisitedLemmas
 pub mod WaitingLemmas
 pub mod WalkLemmas

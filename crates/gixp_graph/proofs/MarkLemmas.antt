@@ -2,8 +2,6 @@
 use Rattle.std.proofs.Common.{◌≡◌, ℤ, ◌∙◌, Bool, true, false, cond, Option, Some, None, refl, sym, ap}
 use Rattle.std.specs.Prelude.{option_map, bit_and, ◌==◌}
 use Rattle.std.specs.Option.{option_or}
-use Rattle.std.specs.declared.cmp.Ordering.{Ordering}
-use Rattle.std.specs.declared.cmp.Ordering.TheVariants.{Less, Equal, Greater}
 use Rattle.std.proofs.Common.{◌⊎◌, inl, inr}
 use Rattle.std.specs.Ordering.{is_eq, eq_by_cmp}
 use Rattle.std.proofs.lemmas.Cmp.{tied_itself}
@@ -14,9 +12,8 @@ use Rattle.gixp_wire.specs.declared.object_id.ObjectId.{ObjectId}
 use Rattle.gixp_graph.specs.declared.flags.Flags.{Flags}
 use Rattle.gixp_wire.specs.ObjectId.{id_cmp}
 use Rattle.gixp_graph.specs.Object.{Commit, commit_at}
-use Rattle.gixp_graph.specs.Held.{Held, shown, Commits, GraphData, found_in, looked_up, flagged, unmarked, put, is_complete, completed, if_unmarked, new_in, marked_found}
+use Rattle.gixp_graph.specs.Held.{Held, shown, Commits, GraphData, found_in, looked_up, flagged, unmarked, put, is_complete, completed, if_unmarked, marked_found}
 use Rattle.gixp_graph.specs.Laws.{ids_exact, ids_total, put_same}
-use Rattle.gixp_graph.proofs.HeldLemmas.{none_shown}
 
 -- an id is itself
 pub same_id : (id : ObjectId) → eq_by_cmp id_cmp id id ≡ true
@@ -75,31 +72,15 @@ marks_at m id (Some h) t f is empty =
 pub marked_now : (g : GraphData) (id : ObjectId) (t : ℤ) (f : Flags) → ◌≡◌ {A = Option (ℤ × Flags)} (Some (t, f)) (option_map shown (found_in g id)) → (bit_and f.0 1 == 1) ≡ false → flagged (looked_up g id) id (record { 0 = 1 }) ≡ marked_found g id
 marked_now g id t f is empty = marks_at g.held id (found_in g id) t f is empty
 
--- a commit that isn't found isn't new
-pub new_none : (g : GraphData) (id : ObjectId) → ◌≡◌ {A = Option (ℤ × Flags)} None (option_map shown (found_in g id)) → new_in g id ≡ None
-new_none g id e = ap if_unmarked (none_shown (found_in g id) e)
+-- where no time is shown, nothing is found
+pub none_timed : (o : Option Held) → ◌≡◌ {A = Option ℤ} None (option_map (λ (h : Held). h.time) o) → o ≡ None
+none_timed None e = refl
+none_timed (Some h) e = cc
 
--- the same, by what is found
-new_full_at : (o : Option Held) (t : ℤ) (f : Flags) → ◌≡◌ {A = Option (ℤ × Flags)} (Some (t, f)) (option_map shown o) → (bit_and f.0 1 == 1) ≡ true → if_unmarked o ≡ None
-new_full_at None t f is full = cc
-new_full_at (Some h) t f is full =
-    let both : ◌≡◌ {A = ℤ × Flags} (t, f) (shown h) = cc in
-    ap (λ b. cond b None (Some h)) (ap (λ (p : ℤ × Flags). bit_and p.1.0 1 == 1) (sym both) ∙ full)
-
--- nor is one that is marked
-pub new_full : (g : GraphData) (id : ObjectId) (t : ℤ) (f : Flags) → ◌≡◌ {A = Option (ℤ × Flags)} (Some (t, f)) (option_map shown (found_in g id)) → (bit_and f.0 1 == 1) ≡ true → new_in g id ≡ None
-new_full g id t f is full = new_full_at (found_in g id) t f is full
-
--- the same, by what is found
-new_open_at : (o : Option Held) (t : ℤ) (f : Flags) → ◌≡◌ {A = Option (ℤ × Flags)} (Some (t, f)) (option_map shown o) → (bit_and f.0 1 == 1) ≡ false → (h : Held) × (if_unmarked o ≡ Some h) × (h.time ≡ t)
-new_open_at None t f is empty = cc
-new_open_at (Some h) t f is empty =
-    let both : ◌≡◌ {A = ℤ × Flags} (t, f) (shown h) = cc in
-    (h, ap (λ b. cond b None (Some h)) (ap (λ (p : ℤ × Flags). bit_and p.1.0 1 == 1) (sym both) ∙ empty), ap (λ (p : ℤ × Flags). p.0) (sym both))
-
--- one that is found and isn't marked is
-pub new_open : (g : GraphData) (id : ObjectId) (t : ℤ) (f : Flags) → ◌≡◌ {A = Option (ℤ × Flags)} (Some (t, f)) (option_map shown (found_in g id)) → (bit_and f.0 1 == 1) ≡ false → (h : Held) × (new_in g id ≡ Some h) × (h.time ≡ t)
-new_open g id t f is empty = new_open_at (found_in g id) t f is empty
+-- the time that is shown is that of what is found
+pub some_timed : (o : Option Held) (t : ℤ) → ◌≡◌ {A = Option ℤ} (Some t) (option_map (λ (h : Held). h.time) o) → (h : Held) × (o ≡ Some h) × (h.time ≡ t)
+some_timed None t e = cc
+some_timed (Some h) t e = (h, refl, (let s : t ≡ h.time = cc in sym s))
 
 -- a test holds or fails
 pub true_or_false : (b : Bool) → (b ≡ true) ⊎ (b ≡ false)

@@ -14,6 +14,7 @@ use Rattle.gixp_wire.specs.ObjectId.{id_cmp}
 use Rattle.gixp_graph.specs.Held.{Held, Commits, parents_in, flagged}
 use Rattle.gixp_graph.specs.Table.{id_at, ids_at, AllNamed}
 use Rattle.gixp_graph.specs.Node.{ids_of, number_at, range_of, parent_numbers_of, parents_of, held_of, entry_of, held_in, IsInRange, IsNumbered, IsTable}
+use Rattle.gixp_graph.specs.Visited.{IsOneToOne}
 use Rattle.gixp_graph.specs.Laws.{ids_exact, ids_total, same_from}
 use Rattle.gixp_graph.proofs.HeldLemmas.{flagged_held}
 use Rattle.gixp_graph.proofs.MarkLemmas.{same_id, true_or_false, get_insert_other, get_insert_same}
@@ -222,3 +223,9 @@ module _ (nodes : List Node) (parents : List ℕ) (numbers : List (ObjectId × �
       held_set nodes parents numbers w q n some (with_marks y f) own_id found
       ∙ ap (λ (b : ℕ). finite.insert (held_in nodes parents) q (record { time = y.time; parents = parents_of (ids_of nodes) parents y; flags = record { 0 = b } })) e
       ∙ sym (flagged_held (held_in nodes parents) q flags (held_of (ids_of nodes) parents y) (get_numbered (ids_of nodes) parents nodes numbers w q n some y at ∙ ap (λ b. cond b (Some (held_of (ids_of nodes) parents y)) None) found))
+
+-- no id has two numbers
+pub one_to_one : (ids : List ObjectId) (numbers : List (ObjectId × ℕ)) → IsNumbered ids numbers → IsOneToOne ids
+one_to_one ids numbers w m n a b e =
+    let same : ◌≡◌ {A = Option ℕ} (Some m) (Some n) = sym (w.numbered m a) ∙ ap (number_at numbers) e ∙ w.numbered n b in
+    cc

@@ -1,21 +1,28 @@
 -- One step of the walk: a commit is marked and waits, where it is found and isn't marked yet.
 use Rattle.std.proofs.Common.{◌≡◌, ℤ, ◌∙◌, ◌⊎◌, inl, inr, ⊎_elim, Bool, true, false, cond, ◌||◌, List, ◌∷◌, ◌++◌, Option, Some, None, refl, sym, ap, subst}
-use Rattle.std.specs.Prelude.{option_map, is_some, IsSome}
+use Rattle.std.specs.Prelude.{option_map, is_some, IsSome, All}
 use Rattle.std.specs.Option.{option_or, option_map_or}
 use Rattle.std.specs.Ordering.{eq_by_cmp}
 use Rattle.std.specs.List.Sorted.{IsPermutation}
 use Rattle.std.proofs.lemmas.List.Sorted.{All-permutation, list_any-IsPermutation, IsPermutation-trans, IsPermutation-sym, IsPermutation-middle, IsPermutation-append_right}
 use Rattle.std.proofs.lemmas.List.Elements.{All-cons, All-weaker}
+use Rattle.std.proofs.lemmas.Bool.{or_cases}
 use Rattle.std.specs.FinMap as finite
 use Rattle.gixp_wire.specs.declared.object_id.ObjectId.{ObjectId}
 use Rattle.gixp_wire.specs.ObjectId.{id_cmp}
 use Rattle.gixp_graph.specs.Object.{Objects, Commit, commit_at}
 use Rattle.gixp_graph.specs.Held.{Held, Commits, GraphData, graph_of, found_in, commit_in, as_read, unmarked, put, is_complete, is_marked, completed, if_unmarked, new_in, marked_found, OnlyMarks}
-use Rattle.gixp_graph.specs.Complete.{IsComplete}
+use Rattle.gixp_graph.specs.Complete.{IsComplete, IsDue}
 use Rattle.gixp_graph.specs.Waiting.{Waiting, Queues}
-use Rattle.gixp_graph.specs.Walk.{waits, IsMarking, IsQueued, IsWalk}
+use Rattle.gixp_graph.specs.Walk.{Walk, beside, waits, IsExpanded, IsMarking, IsQueued, IsWalk, Visits}
 use Rattle.gixp_graph.specs.Laws.{same_from}
-use Rattle.gixp_graph.proofs.MarkLemmas.{get_insert_same, get_insert_other, true_or_false, is_complete-completed}
+use Rattle.gixp_graph.proofs.VisitedLemmas.{or_true}
+use Rattle.gixp_graph.proofs.MarkLemmas.{same_id, get_insert_same, get_insert_other, true_or_false, is_complete-completed}
+
+-- an id that is looked for is complete, where its commit is found
+pub due_complete : (read : ObjectId → Option Commit) (ids : List ObjectId) (cutoff : Option ℤ) (id : ObjectId) → IsDue read ids cutoff id → IsSome (read id) → IsComplete read ids cutoff id
+due_complete read ids cutoff id (IsDue.tip c) f = IsComplete.tip c f
+due_complete read ids cutoff id (IsDue.parent k r l t i) f = IsComplete.parent k r l t i f
 
 -- ---- one commit that is new
 
@@ -123,34 +130,8 @@ pub found_if_new : (g : GraphData) (held : Commits) → OnlyMarks g held → (id
 found_if_new g held only id h new = ap (option_map as_read) (found_from_new g id h (new_before g held only id h new)).0
 
 -- who waits behind a push
-waits_pushed : (x : Waiting) (old new : List Waiting) → IsPermutation (x ∷ old) new → (q : ObjectId) → waits new q ≡ (eq_by_cmp id_cmp q x.id || waits old q)
+pub waits_pushed : (x : Waiting) (old new : List Waiting) → IsPermutation (x ∷ old) new → (q : ObjectId) → waits new q ≡ (eq_by_cmp id_cmp q x.id || waits old q)
 waits_pushed x old new p q = sym (list_any-IsPermutation (λ (y : Waiting). eq_by_cmp id_cmp q y.id) (x ∷ old) new p)
-
--- a disjunction holds by its second part
-pub or_true : (a b : Bool) → b ≡ true → (a || b) ≡ true
-or_true true b e = refl
-or_true false b e = e
-
--- where an id's commit is new: it is marked, and waits
-pub walk_insert : (g : GraphData) (ids : List ObjectId) (cutoff : Option ℤ) (held : Commits) (queue : List Waiting) → IsWalk g ids cutoff held queue → (id : ObjectId) (h : Held) → new_in (graph_of g.objects held) id ≡ Some h
-    → (queue' : List Waiting) → IsPermutation (record { time = h.time; id = id } ∷ queue) queue' → IsComplete (commit_in g) ids cutoff id → IsWalk g ids cutoff (finite.insert held id (completed h)) queue'
-walk_insert g ids cutoff held queue w id h new queue' perm due =
-    let held' : Commits = finite.insert held id (completed h) in
-    let x : Waiting = record { time = h.time; id = id } in
-    let P : Waiting → Type 0 = IsQueued g ids cutoff held' in
-    let item : P x = record { complete = due; timed = ap (option_map (λ (c : Commit). c.time)) (found_if_new g held w.marking.only_marks id h new); marked = marked_here held id h } in
-    let still : (y : Waiting) → IsQueued g ids cutoff held y → P y = λ y d. record { complete = d.complete; timed = d.timed; marked = marked_still held id h y.id d.marked } in
-    record {
-      marking = marking_insert g ids cutoff held w.marking id h new due;
-      queued = All-permutation P (x ∷ queue) queue' perm (All-cons P x queue item (All-weaker (IsQueued g ids cutoff held) P still queue w.queued));
-      closed = λ q m. ⊎_elim
-          (λ e. inr (inl (waits_pushed x queue queue' perm q ∙ ap (λ b. b || waits queue q) e)))
-          (λ e. ⊎_elim (λ a. inl a) (λ a. inr (⊎_elim
-          (λ d. inl (waits_pushed x queue queue' perm q ∙ or_true (eq_by_cmp id_cmp q id) (waits queue q) d))
-          (λ d. inr (λ c least p r t l i f. marked_still held id h p (d c least p r t l i f))) a))
-          (w.closed q (sym (marked_apart held id h q e) ∙ m)))
-          (true_or_false (eq_by_cmp id_cmp q id));
-    }
 
 -- ---- a step, as the code makes it
 
@@ -202,19 +183,105 @@ module _ (g : GraphData) (ids : List ObjectId) (cutoff : Option ℤ) (held : Com
   pub marking_step : IsMarking g ids cutoff held → (IsSome (commit_in g id) → IsComplete (commit_in g) ids cutoff id) → (held' ≡ held) ⊎ (held' ≡ marked_found (graph_of objects held) id) → IsMarking g ids cutoff held'
   marking_step w due c = ⊎_elim (λ e. subst (IsMarking g ids cutoff) (sym e) w) (λ e. marking_at w due (new_in (graph_of objects held) id) refl e) c
 
-  -- the same, by what is new
-  walk_at : (queue queue' : List Waiting) → IsWalk g ids cutoff held queue → (IsSome (commit_in g id) → IsComplete (commit_in g) ids cutoff id)
-      → (o : Option Held) → new_in (graph_of objects held) id ≡ o → held' ≡ put held id (option_map completed o) → Queues o id queue queue' → IsWalk g ids cutoff held' queue'
-  walk_at queue queue' w due None e m q = subst (λ m. IsWalk g ids cutoff m queue') (sym m) (subst (λ l. IsWalk g ids cutoff held l) (sym q) w)
-  walk_at queue queue' w due (Some h) e m q = subst (λ m. IsWalk g ids cutoff m queue') (sym m)
-      (walk_insert g ids cutoff held queue w id h (new_same g held objects same id held' (Some h) e) queue' q (due_new w.marking.only_marks due h e))
-
-  -- a walk goes on
-  pub walk_step : (queue queue' : List Waiting) → IsWalk g ids cutoff held queue → (IsSome (commit_in g id) → IsComplete (commit_in g) ids cutoff id)
-      → held' ≡ marked_found (graph_of objects held) id → Queues (new_in (graph_of objects held) id) id queue queue' → IsWalk g ids cutoff held' queue'
-  walk_step queue queue' w due m q = walk_at queue queue' w due (new_in (graph_of objects held) id) refl m q
-
 -- others that wait change nothing
 pub queues_more : (o : Option Held) (id : ObjectId) (others old new : List Waiting) → Queues o id old new → Queues o id (others ++ old) (others ++ new)
 queues_more None id others old new q = ap (λ l. others ++ l) q
 queues_more (Some h) id others old new q = IsPermutation-trans _ _ _ (IsPermutation-sym _ _ (IsPermutation-middle others (record { time = h.time; id = id }) old)) (IsPermutation-append_right others _ _ q)
+
+-- ---- a visit
+
+-- others that wait don't change it
+pub visits_beside : (objects : Objects) (id : ObjectId) (others : List Waiting) (old new : Walk) → Visits objects id old new → Visits objects id (beside others old) (beside others new)
+visits_beside objects id others old new (Visits.again v h q w) = Visits.again v h q (ap (λ l. others ++ l) w)
+visits_beside objects id others old new (Visits.first v h q w) = Visits.first v h q (queues_more (found_in (graph_of objects old.held) id) id others old.waiting new.waiting w)
+
+-- the id was visited
+pub visit_visited : (objects : Objects) (id : ObjectId) (old new : Walk) → Visits objects id old new → new.visited id ≡ true
+visit_visited objects id old new (Visits.again v h q w) = q id ∙ v
+visit_visited objects id old new (Visits.first v h q w) = q id ∙ ap (λ b. b || old.visited id) (same_id id)
+
+-- and so were those before
+pub visit_keeps : (objects : Objects) (id : ObjectId) (old new : Walk) → Visits objects id old new → (q : ObjectId) → old.visited q ≡ true → new.visited q ≡ true
+visit_keeps objects id old new (Visits.again v h q w) x t = q x ∙ t
+visit_keeps objects id old new (Visits.first v h q w) x t = q x ∙ or_true (eq_by_cmp id_cmp x id) (old.visited x) t
+
+module _ (g : GraphData) (objects : Objects) (same : objects ≡ g.objects) (id : ObjectId) (old new : Walk) where
+  -- nothing but marks is changed
+  pub visit_only : Visits objects id old new → OnlyMarks g old.held → OnlyMarks g new.held
+  visit_only (Visits.again v h q w) only = subst (OnlyMarks g) (sym h) only
+  visit_only (Visits.first v h q w) only = step_only g old.held objects same id new.held only h
+
+  -- what is found is what the graph reads
+  pub visit_reads : OnlyMarks g old.held → (o : Option Held) → found_in (graph_of objects old.held) id ≡ o → commit_in g id ≡ option_map as_read o
+  visit_reads only o e = sym (reads g old.held only id) ∙ ap (λ m. commit_in (graph_of m old.held) id) (sym same) ∙ ap (option_map as_read) e
+
+  module _ (ids : List ObjectId) (cutoff : Option ℤ) (due : IsDue (commit_in g) ids cutoff id) (walk : IsWalk g ids cutoff old) where
+    -- the id was visited before
+    walk_again : new.held ≡ old.held → ((q : ObjectId) → new.visited q ≡ old.visited q) → new.waiting ≡ old.waiting → IsWalk g ids cutoff new
+    walk_again h q w = record {
+      marking = subst (IsMarking g ids cutoff) (sym h) walk.marking;
+      queued = subst (λ m. All (IsQueued g ids cutoff m) new.waiting) (sym h) (subst (All (IsQueued g ids cutoff old.held)) (sym w) walk.queued);
+      marked = λ x t s. subst (λ m. is_marked m x ≡ true) (sym h) (walk.marked x (sym (q x) ∙ t) s);
+      closed = λ x t s. ⊎_elim
+          (λ a. inl (ap (λ l. waits l x) w ∙ a))
+          (λ a. inr (λ c least p r l b i. q p ∙ a c least p r l b i))
+          (walk.closed x (sym (q x) ∙ t) s);
+    }
+
+    module _ (h : new.held ≡ marked_found (graph_of objects old.held) id) (adds : (q : ObjectId) → new.visited q ≡ (eq_by_cmp id_cmp q id || old.visited q)) where
+      -- what was marked is complete
+      first_marking : IsMarking g ids cutoff new.held
+      first_marking = marking_step g ids cutoff old.held objects same id new.held walk.marking (due_complete (commit_in g) ids cutoff id due) (inr h)
+
+      -- what waited still does
+      first_queued : (x : Waiting) → IsQueued g ids cutoff old.held x → IsQueued g ids cutoff new.held x
+      first_queued x d = record { complete = d.complete; timed = d.timed; marked = step_keeps old.held objects id new.held h x.id d.marked }
+
+      -- each commit that was visited is marked
+      first_marked : (x : ObjectId) → new.visited x ≡ true → IsSome (commit_in g x) → is_marked new.held x ≡ true
+      first_marked x t s = ⊎_elim
+          (λ e.
+          let one : x ≡ id = same_from x id e in
+          subst (λ y. is_marked new.held y ≡ true) (sym one) (step_marks g old.held objects same id new.held walk.marking.only_marks h (subst (λ y. IsSome (commit_in g y)) one s)))
+          (λ e. step_keeps old.held objects id new.held h x (walk.marked x e s))
+          (or_cases (eq_by_cmp id_cmp x id) (old.visited x) (sym (adds x) ∙ t))
+
+      -- one that was visited before waits as it did, or its parents were visited
+      first_closed : (x : ObjectId) → old.visited x ≡ true → IsSome (commit_in g x) → (waits old.waiting x ≡ true) ⊎ IsExpanded g cutoff new.visited x
+      first_closed x e s = ⊎_elim (λ a. inl a) (λ a. inr (λ c least p r l b i. adds p ∙ or_true (eq_by_cmp id_cmp p id) (old.visited p) (a c least p r l b i))) (walk.closed x e s)
+
+      -- the walk goes on, by what is found
+      walk_first : (o : Option Held) → found_in (graph_of objects old.held) id ≡ o → Queues o id old.waiting new.waiting → IsWalk g ids cutoff new
+      walk_first None e w = record {
+        marking = first_marking;
+        queued = subst (All (IsQueued g ids cutoff new.held)) (sym w) (All-weaker (IsQueued g ids cutoff old.held) (IsQueued g ids cutoff new.held) first_queued old.waiting walk.queued);
+        marked = first_marked;
+        closed = λ x t s. ⊎_elim
+            (λ a. absurd (let n : ◌≡◌ {A = Bool} false true = sym (ap (λ y. is_some (commit_in g y)) (same_from x id a) ∙ ap is_some (visit_reads walk.marking.only_marks None e)) ∙ s in cc))
+            (λ a. ⊎_elim (λ b. inl (ap (λ l. waits l x) w ∙ b)) (λ b. inr b) (first_closed x a s))
+            (or_cases (eq_by_cmp id_cmp x id) (old.visited x) (sym (adds x) ∙ t));
+      }
+      walk_first (Some k) e w =
+          let x : Waiting = record { time = k.time; id = id } in
+          let P : Waiting → Type 0 = IsQueued g ids cutoff new.held in
+          let is : commit_in g id ≡ Some (as_read k) = visit_reads walk.marking.only_marks (Some k) e in
+          let found : IsSome (commit_in g id) = ap is_some is in
+          let item : P x = record {
+            complete = due_complete (commit_in g) ids cutoff id due found;
+            timed = ap (option_map (λ (c : Commit). c.time)) is;
+            marked = step_marks g old.held objects same id new.held walk.marking.only_marks h found;
+          } in
+          record {
+            marking = first_marking;
+            queued = All-permutation P (x ∷ old.waiting) new.waiting w (All-cons P x old.waiting item (All-weaker (IsQueued g ids cutoff old.held) P first_queued old.waiting walk.queued));
+            marked = first_marked;
+            closed = λ y t s. ⊎_elim
+                (λ a. inl (waits_pushed x old.waiting new.waiting w y ∙ ap (λ b. b || waits old.waiting y) a))
+                (λ a. ⊎_elim (λ b. inl (waits_pushed x old.waiting new.waiting w y ∙ or_true (eq_by_cmp id_cmp y id) (waits old.waiting y) b)) (λ b. inr b) (first_closed y a s))
+                (or_cases (eq_by_cmp id_cmp y id) (old.visited y) (sym (adds y) ∙ t));
+          }
+
+    -- a walk goes on
+    pub visit_walk : Visits objects id old new → IsWalk g ids cutoff new
+    visit_walk (Visits.again v h q w) = walk_again h q w
+    visit_walk (Visits.first v h q w) = walk_first h q (found_in (graph_of objects old.held) id) refl w

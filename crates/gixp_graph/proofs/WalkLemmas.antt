@@ -1,6 +1,6 @@
 -- Walks: how they begin, drop what was seen to, and end.
-use Rattle.std.proofs.Common.{◌≡◌, ℕ, ℤ, ◌<◌, ◌∙◌, inl, inr, ⊎_elim, true, false, List, [], ◌∷◌, ◌++◌, length, map, Option, Some, None, refl, sym, ap, subst, append-nil, get_or, arith}
-use Rattle.std.specs.Prelude.{option_map, IsSome, Contains, All, ◌≤ℤ◌, unwrap_or}
+use Rattle.std.proofs.Common.{◌≡◌, ℕ, ℤ, ◌∙◌, inl, inr, ⊎_elim, Bool, true, false, true≢false, List, [], ◌∷◌, ◌++◌, map, Option, Some, None, refl, sym, ap, subst, append-nil, arith}
+use Rattle.std.specs.Prelude.{option_map, is_some, IsSome, Contains, All, ◌≤ℤ◌, unwrap_or}
 use Rattle.std.specs.Option.{option_or, option_map_or}
 use lib.Signed.{◌<ℤ◌}
 use Rattle.std.proofs.lemmas.Int.{ints}
@@ -14,12 +14,12 @@ use Rattle.std.specs.FinMap as finite
 use Rattle.gixp_wire.specs.declared.object_id.ObjectId.{ObjectId}
 use Rattle.gixp_wire.specs.ObjectId.{id_cmp}
 use Rattle.gixp_graph.specs.Object.{Commit, commit_at}
-use Rattle.gixp_graph.specs.Held.{Held, Commits, GraphData, commit_in, as_read, unmarked, parents_in, is_complete, is_marked, OnlyMarks, HasNoMarks}
-use Rattle.gixp_graph.specs.Complete.{IsComplete}
+use Rattle.gixp_graph.specs.Held.{Held, Commits, GraphData, commit_in, as_read, unmarked, parents_in, is_complete, is_marked, OnlyMarks}
+use Rattle.gixp_graph.specs.Complete.{IsComplete, IsDue}
 use Rattle.gixp_graph.specs.Table.{id_at, ids_at}
 use Rattle.gixp_graph.specs.Queue.{entry_at}
 use Rattle.gixp_graph.specs.Waiting.{Waiting, waiting_in}
-use Rattle.gixp_graph.specs.Walk.{waits, IsExpanded, IsMarking, IsQueued, IsWalk, AreDue, AreMarked}
+use Rattle.gixp_graph.specs.Walk.{Walk, waits, IsExpanded, IsMarking, IsQueued, IsWalk, AreDue, AllVisited}
 use Rattle.gixp_graph.specs.Laws.{same_from}
 use Rattle.gixp_graph.proofs.StepLemmas.{reads}
 
@@ -27,43 +27,65 @@ use Rattle.gixp_graph.proofs.StepLemmas.{reads}
 pub marking_start : (g : GraphData) (ids : List ObjectId) (cutoff : Option ℤ) → IsMarking g ids cutoff g.held
 marking_start g ids cutoff = record { only_marks = λ q. inl refl; sound = λ q m. inl m }
 
--- and a walk where nothing waits
-pub walk_start : (g : GraphData) (ids : List ObjectId) (cutoff : Option ℤ) → IsWalk g ids cutoff g.held []
-walk_start g ids cutoff = record { marking = marking_start g ids cutoff; queued = All-nil (IsQueued g ids cutoff g.held); closed = λ q m. inl m }
+-- a walk by its parts
+abbrev pub stands : Commits → (ObjectId → Bool) → List Waiting → Walk
+stands held visited waiting = record { held = held; visited = visited; waiting = waiting }
 
--- the order in which they wait is free
-pub walk_permuted : (g : GraphData) (ids : List ObjectId) (cutoff : Option ℤ) (held : Commits) (queue queue' : List Waiting) → IsWalk g ids cutoff held queue → IsPermutation queue queue' → IsWalk g ids cutoff held queue'
-walk_permuted g ids cutoff held queue queue' w p = record {
-  marking = w.marking;
-  queued = All-permutation (IsQueued g ids cutoff held) queue queue' p w.queued;
-  closed = λ q m. ⊎_elim (λ a. inl a) (λ a. inr (⊎_elim
-      (λ d. inl (sym (list_any-IsPermutation (λ (y : Waiting). eq_by_cmp id_cmp q y.id) queue queue' p) ∙ d)) (λ d. inr d) a)) (w.closed q m);
+-- and a walk where none was visited and nothing waits
+pub walk_start : (g : GraphData) (ids : List ObjectId) (cutoff : Option ℤ) (visited : ObjectId → Bool) → ((q : ObjectId) → visited q ≡ false) → IsWalk g ids cutoff (stands g.held visited [])
+walk_start g ids cutoff visited none = record {
+  marking = marking_start g ids cutoff;
+  queued = All-nil (IsQueued g ids cutoff g.held);
+  marked = λ q t s. absurd (true≢false (sym t ∙ none q));
+  closed = λ q t s. absurd (true≢false (sym t ∙ none q));
 }
 
-module _ (g : GraphData) (ids : List ObjectId) (cutoff : Option ℤ) (held : Commits) where
-  -- a commit whose parents are marked need not wait
-  pub walk_seen : (x : Waiting) (queue : List Waiting) → IsWalk g ids cutoff held (x ∷ queue) → IsExpanded g cutoff held x.id → IsWalk g ids cutoff held queue
+-- the order in which they wait is free
+pub walk_permuted : (g : GraphData) (ids : List ObjectId) (cutoff : Option ℤ) (held : Commits) (visited : ObjectId → Bool) (queue queue' : List Waiting) → IsWalk g ids cutoff (stands held visited queue) → IsPermutation queue queue' → IsWalk g ids cutoff (stands held visited queue')
+walk_permuted g ids cutoff held visited queue queue' w p = record {
+  marking = w.marking;
+  queued = All-permutation (IsQueued g ids cutoff held) queue queue' p w.queued;
+  marked = w.marked;
+  closed = λ q t s. ⊎_elim (λ d. inl (sym (list_any-IsPermutation (λ (y : Waiting). eq_by_cmp id_cmp q y.id) queue queue' p) ∙ d)) (λ d. inr d) (w.closed q t s);
+}
+
+-- a commit that is complete is found
+complete_found : (read : ObjectId → Option Commit) (ids : List ObjectId) (cutoff : Option ℤ) (q : ObjectId) → IsComplete read ids cutoff q → IsSome (read q)
+complete_found read ids cutoff q (IsComplete.tip i f) = f
+complete_found read ids cutoff q (IsComplete.parent k r l t i f) = f
+
+module _ (g : GraphData) (ids : List ObjectId) (cutoff : Option ℤ) (held : Commits) (visited : ObjectId → Bool) where
+  -- a commit whose parents were visited need not wait
+  pub walk_seen : (x : Waiting) (queue : List Waiting) → IsWalk g ids cutoff (stands held visited (x ∷ queue)) → IsExpanded g cutoff visited x.id → IsWalk g ids cutoff (stands held visited queue)
   walk_seen x queue w e = record {
     marking = w.marking;
     queued = All-tail (IsQueued g ids cutoff held) x queue w.queued;
-    closed = λ q m. ⊎_elim (λ a. inl a) (λ a. inr (⊎_elim
-        (λ d. ⊎_elim (λ s. inr (subst (IsExpanded g cutoff held) (sym (same_from q x.id s)) e)) (λ s. inl s) (or_cases (eq_by_cmp id_cmp q x.id) (waits queue q) d))
-        (λ d. inr d) a)) (w.closed q m);
+    marked = w.marked;
+    closed = λ q t s. ⊎_elim
+        (λ d. ⊎_elim (λ a. inr (subst (IsExpanded g cutoff visited) (sym (same_from q x.id a)) e)) (λ a. inl a) (or_cases (eq_by_cmp id_cmp q x.id) (waits queue q) d))
+        (λ d. inr d) (w.closed q t s);
   }
 
   -- nor need several
-  pub walk_dropped : (others queue : List Waiting) → IsWalk g ids cutoff held (others ++ queue) → All (λ (x : Waiting). IsExpanded g cutoff held x.id) others → IsWalk g ids cutoff held queue
+  pub walk_dropped : (others queue : List Waiting) → IsWalk g ids cutoff (stands held visited (others ++ queue)) → All (λ (x : Waiting). IsExpanded g cutoff visited x.id) others → IsWalk g ids cutoff (stands held visited queue)
   walk_dropped [] queue w h = w
-  walk_dropped (x ∷ xs) queue w h = walk_dropped xs queue (walk_seen x (xs ++ queue) w (All-head (λ (x : Waiting). IsExpanded g cutoff held x.id) x xs h)) (All-tail (λ (x : Waiting). IsExpanded g cutoff held x.id) x xs h)
+  walk_dropped (x ∷ xs) queue w h =
+      walk_dropped xs queue (walk_seen x (xs ++ queue) w (All-head (λ (x : Waiting). IsExpanded g cutoff visited x.id) x xs h)) (All-tail (λ (x : Waiting). IsExpanded g cutoff visited x.id) x xs h)
 
-  -- where each commit that waits has its parents marked, where they have to be, all that is complete is marked
-  pub complete_marked : HasNoMarks g.held → (queue : List Waiting) → IsWalk g ids cutoff held queue → All (λ (x : Waiting). IsExpanded g cutoff held x.id) queue
-      → AreMarked g held ids → (q : ObjectId) → IsComplete (commit_in g) ids cutoff q → is_marked held q ≡ true
-  complete_marked none queue w rest tips q (IsComplete.tip i f) = All-contains (λ p. IsSome (commit_in g p) → is_marked held p ≡ true) ids q tips i f
-  complete_marked none queue w rest tips q (IsComplete.parent {id} {p} {c} {least} k r t l i f) =
-      let m : is_marked held id ≡ true = complete_marked none queue w rest tips id k in
-      let all : IsWalk g ids cutoff held [] = walk_dropped queue [] (subst (IsWalk g ids cutoff held) (sym (append-nil queue)) w) rest in
-      ⊎_elim (λ a. absurd (let n : is_marked g.held id ≡ false = none id in cc)) (λ a. ⊎_elim (λ b. absurd (cc)) (λ d. d c least p r t l i f) a) (all.closed id m)
+  module _ (queue : List Waiting) (w : IsWalk g ids cutoff (stands held visited queue)) (rest : All (λ (x : Waiting). IsExpanded g cutoff visited x.id) queue) (tips : AllVisited visited ids) where
+    -- nothing waits any more
+    all_seen : IsWalk g ids cutoff (stands held visited [])
+    all_seen = walk_dropped queue [] (subst (λ l. IsWalk g ids cutoff (stands held visited l)) (sym (append-nil queue)) w) rest
+
+    -- where each commit that waits has its parents visited, where they have to be, all that is complete was visited
+    complete_visited : (q : ObjectId) → IsComplete (commit_in g) ids cutoff q → visited q ≡ true
+    complete_visited q (IsComplete.tip i f) = All-contains (λ p. visited p ≡ true) ids q tips i
+    complete_visited q (IsComplete.parent {id} {p} {c} {least} k r l t i f) =
+        ⊎_elim (λ b. absurd (cc)) (λ d. d c least p r l t i) (all_seen.closed id (complete_visited id k) (ap is_some r))
+
+    -- and so it is marked
+    pub complete_marked : (q : ObjectId) → IsComplete (commit_in g) ids cutoff q → is_marked held q ≡ true
+    complete_marked q k = w.marked q (complete_visited q k) (complete_found (commit_in g) ids cutoff q k)
 
 -- ---- the parents of a commit that waits
 
@@ -89,22 +111,22 @@ opened_at g x (Some h) m r t = record {
 opened : (g : GraphData) (ids : List ObjectId) (cutoff : Option ℤ) (held : Commits) → OnlyMarks g held → (x : Waiting) → IsQueued g ids cutoff held x → (parents : List ObjectId) → parents ≡ unwrap_or (option_map (λ (h : Held). h.parents) (finite.get held x.id)) [] → IsOpened g x parents
 opened g ids cutoff held only x k parents e = subst (IsOpened g x) (sym e) (opened_at g x (finite.get held x.id) k.marked (reads g held only x.id) k.timed)
 
--- a parent that is found is complete
-due_parent : (g : GraphData) (ids : List ObjectId) (cutoff : Option ℤ) (held : Commits) (x : Waiting) → IsComplete (commit_in g) ids cutoff x.id → (parents : List ObjectId) → IsOpened g x parents → (least : ℤ) → cutoff ≡ Some least → least ≤ℤ x.time
-    → (p : ObjectId) → Contains parents p → IsSome (commit_in g p) → IsComplete (commit_in g) ids cutoff p
-due_parent g ids cutoff held x k parents o least l t p i f =
-    IsComplete.parent k o.reads l (subst (λ (z : ℤ). least ≤ℤ z) (sym o.time) t) (subst (λ ps. Contains ps p) (sym o.parents_are) i) f
+-- its parents are looked for
+due_parent : (g : GraphData) (ids : List ObjectId) (cutoff : Option ℤ) (x : Waiting) → IsComplete (commit_in g) ids cutoff x.id → (parents : List ObjectId) → IsOpened g x parents → (least : ℤ) → cutoff ≡ Some least → least ≤ℤ x.time
+    → (p : ObjectId) → Contains parents p → IsDue (commit_in g) ids cutoff p
+due_parent g ids cutoff x k parents o least l t p i =
+    IsDue.parent k o.reads l (subst (λ (z : ℤ). least ≤ℤ z) (sym o.time) t) (subst (λ ps. Contains ps p) (sym o.parents_are) i)
 
--- all parents were marked
-expanded_all : (g : GraphData) (cutoff : Option ℤ) (held : Commits) (x : Waiting) (parents : List ObjectId) → IsOpened g x parents → ((k : ℕ) (d : ObjectId) → k < length parents → IsSome (commit_in g (get_or parents k d)) → is_marked held (get_or parents k d) ≡ true) → IsExpanded g cutoff held x.id
-expanded_all g cutoff held x parents o all c least p r l t i f =
+-- all parents were visited
+expanded_all : (g : GraphData) (cutoff : Option ℤ) (visited : ObjectId → Bool) (x : Waiting) (parents : List ObjectId) → IsOpened g x parents → AllVisited visited parents → IsExpanded g cutoff visited x.id
+expanded_all g cutoff visited x parents o all c least p r l t i =
     let e : o.commit ≡ c = (let s : Some o.commit ≡ Some c = sym o.reads ∙ r in cc) in
     let j : Contains parents p = subst (λ ps. Contains ps p) (ap (λ (c : Commit). c.parents) (sym e) ∙ o.parents_are) i in
-    subst (λ q. IsSome (commit_in g q) → is_marked held q ≡ true) j.2 (all j.0 p j.1) f
+    All-contains (λ q. visited q ≡ true) parents p all j
 
--- a commit before the cutoff has no parents that have to be marked
-pub expanded_before : (g : GraphData) (ids : List ObjectId) (cutoff : Option ℤ) (held : Commits) (x : Waiting) → IsQueued g ids cutoff held x → (least : ℤ) → cutoff ≡ Some least → x.time <ℤ least → IsExpanded g cutoff held x.id
-expanded_before g ids cutoff held x k least l b c most p r m t i f =
+-- a commit before the cutoff has no parents that have to be visited
+pub expanded_before : (g : GraphData) (ids : List ObjectId) (cutoff : Option ℤ) (held : Commits) (visited : ObjectId → Bool) (x : Waiting) → IsQueued g ids cutoff held x → (least : ℤ) → cutoff ≡ Some least → x.time <ℤ least → IsExpanded g cutoff visited x.id
+expanded_before g ids cutoff held visited x k least l b c most p r m t i =
     let same : most ≡ least = (let s : Some most ≡ Some least = sym m ∙ l in cc) in
     let time : c.time ≡ x.time = (let s : Some c.time ≡ Some x.time = ap (option_map (λ (c : Commit). c.time)) (sym r) ∙ k.timed in cc) in
     let a : least ≤ℤ x.time = subst (λ (z : ℤ). z ≤ℤ x.time) same (subst (λ (z : ℤ). most ≤ℤ z) time t) in
@@ -122,39 +144,38 @@ pub all_right : {X : Type 0} (P : X → Type 0) (xs ys : List X) → All P (xs +
 all_right P [] ys h = h
 all_right P (x ∷ xs) ys h = all_right P xs ys (All-tail P x (xs ++ ys) h)
 
-module _ (g : GraphData) (ids : List ObjectId) (cutoff : Option ℤ) (names : List ObjectId) (t : ℤ) where
-  -- where they are queued and their time is at least the cutoff, their parents that are found are complete
-  pub due_parents : (held : Commits) → OnlyMarks g held → (least : ℤ) → cutoff ≡ Some least → least ≤ℤ t → (numbers : List ℕ) → All (IsQueued g ids cutoff held) (waiting_in names (map (entry_at t) numbers))
-      → AreDue g ids cutoff (flat_map (parents_in held) (ids_at names numbers))
-  due_parents held only least l b [] q = All-nil (λ id. IsSome (commit_in g id) → IsComplete (commit_in g) ids cutoff id)
-  due_parents held only least l b (n ∷ ns) q =
+module _ (g : GraphData) (ids : List ObjectId) (cutoff : Option ℤ) (names : List ObjectId) (t : ℤ) (held : Commits) (only : OnlyMarks g held) where
+  -- where they are queued and their time is at least the cutoff, their parents are looked for
+  pub due_parents : (least : ℤ) → cutoff ≡ Some least → least ≤ℤ t → (numbers : List ℕ) → All (IsQueued g ids cutoff held) (waiting_in names (map (entry_at t) numbers)) → AreDue g ids cutoff (flat_map (parents_in held) (ids_at names numbers))
+  due_parents least l b [] q = All-nil (IsDue (commit_in g) ids cutoff)
+  due_parents least l b (n ∷ ns) q =
       let x : Waiting = record { time = t; id = id_at names n } in
       let first : IsQueued g ids cutoff held x = All-head (IsQueued g ids cutoff held) x (waiting_in names (map (entry_at t) ns)) q in
       let ps : List ObjectId = parents_in held x.id in
-      All-append (λ id. IsSome (commit_in g id) → IsComplete (commit_in g) ids cutoff id) ps (flat_map (parents_in held) (ids_at names ns))
-      (λ k d i. due_parent g ids cutoff held x first.complete ps (opened g ids cutoff held only x first ps refl) least l b _ (Contains-get_or ps k d i))
-      (due_parents held only least l b ns (All-tail (IsQueued g ids cutoff held) x (waiting_in names (map (entry_at t) ns)) q))
+      All-append (IsDue (commit_in g) ids cutoff) ps (flat_map (parents_in held) (ids_at names ns))
+      (λ k d i. due_parent g ids cutoff x first.complete ps (opened g ids cutoff held only x first ps refl) least l b _ (Contains-get_or ps k d i))
+      (due_parents least l b ns (All-tail (IsQueued g ids cutoff held) x (waiting_in names (map (entry_at t) ns)) q))
 
-  -- once those are marked, they need not wait
-  pub expanded_each : (held held' : Commits) → OnlyMarks g held → (numbers : List ℕ) → All (IsQueued g ids cutoff held) (waiting_in names (map (entry_at t) numbers))
-      → AreMarked g held' (flat_map (parents_in held) (ids_at names numbers)) → All (λ (x : Waiting). IsExpanded g cutoff held' x.id) (waiting_in names (map (entry_at t) numbers))
-  expanded_each held held' only [] q m = All-nil (λ (x : Waiting). IsExpanded g cutoff held' x.id)
-  expanded_each held held' only (n ∷ ns) q m =
+  -- once those were visited, they need not wait
+  pub expanded_each : (visited : ObjectId → Bool) (numbers : List ℕ) → All (IsQueued g ids cutoff held) (waiting_in names (map (entry_at t) numbers))
+      → AllVisited visited (flat_map (parents_in held) (ids_at names numbers)) → All (λ (x : Waiting). IsExpanded g cutoff visited x.id) (waiting_in names (map (entry_at t) numbers))
+  expanded_each visited [] q m = All-nil (λ (x : Waiting). IsExpanded g cutoff visited x.id)
+  expanded_each visited (n ∷ ns) q m =
       let x : Waiting = record { time = t; id = id_at names n } in
       let first : IsQueued g ids cutoff held x = All-head (IsQueued g ids cutoff held) x (waiting_in names (map (entry_at t) ns)) q in
       let ps : List ObjectId = parents_in held x.id in
-      let P : ObjectId → Type 0 = λ id. IsSome (commit_in g id) → is_marked held' id ≡ true in
-      All-cons (λ (x : Waiting). IsExpanded g cutoff held' x.id) x (waiting_in names (map (entry_at t) ns))
-      (expanded_all g cutoff held' x ps (opened g ids cutoff held only x first ps refl) (λ k d i. all_left P ps (flat_map (parents_in held) (ids_at names ns)) m k d i))
-      (expanded_each held held' only ns (All-tail (IsQueued g ids cutoff held) x (waiting_in names (map (entry_at t) ns)) q) (all_right P ps (flat_map (parents_in held) (ids_at names ns)) m))
+      let P : ObjectId → Type 0 = λ id. visited id ≡ true in
+      All-cons (λ (x : Waiting). IsExpanded g cutoff visited x.id) x (waiting_in names (map (entry_at t) ns))
+      (expanded_all g cutoff visited x ps (opened g ids cutoff held only x first ps refl) (all_left P ps (flat_map (parents_in held) (ids_at names ns)) m))
+      (expanded_each visited ns (All-tail (IsQueued g ids cutoff held) x (waiting_in names (map (entry_at t) ns)) q) (all_right P ps (flat_map (parents_in held) (ids_at names ns)) m))
 
--- commits whose times are before the cutoff have no parents that have to be marked
-pub expanded_older : (g : GraphData) (ids : List ObjectId) (cutoff : Option ℤ) (held : Commits) (t least : ℤ) → cutoff ≡ Some least → t <ℤ least → (queue : List Waiting) → All (λ (x : Waiting). x.time ≤ℤ t) queue → All (IsQueued g ids cutoff held) queue
-    → All (λ (x : Waiting). IsExpanded g cutoff held x.id) queue
-expanded_older g ids cutoff held t least l b queue u a k d i =
+-- commits whose times are before the cutoff have no parents that have to be visited
+pub expanded_older : (g : GraphData) (ids : List ObjectId) (cutoff : Option ℤ) (held : Commits) (visited : ObjectId → Bool) (t least : ℤ) → cutoff ≡ Some least → t <ℤ least → (queue : List Waiting) → All (λ (x : Waiting). x.time ≤ℤ t) queue → All (IsQueued g ids cutoff held) queue
+    → All (λ (x : Waiting). IsExpanded g cutoff visited x.id) queue
+expanded_older g ids cutoff held visited t least l b queue u a k d i =
     let no_newer = u k d i in
-    expanded_before g ids cutoff held _ (a k d i) least l (omega (arith, ints))
+    expanded_before g ids cutoff held visited _ (a k d i) least l (omega (arith, ints))
 
 -- with no cutoff none has
-pub expanded_never : (g : GraphData) (cutoff : Option ℤ) (held : Commits) (queue : List Waiting) → cutoff ≡ None → All (λ (x : Waiting). IsExpanded g cutoff held x.id) queue
-expanded_never g cutoff held queue none k d i c least p r l t j f = cc
+pub expanded_never : (g : GraphData) (cutoff : Option ℤ) (visited : ObjectId → Bool) (queue : List Waiting) → cutoff ≡ None → All (λ (x : Waiting). IsExpanded g cutoff visited x.id) queue
+expanded_never g cutoff visited queue none k d i c least p r l t j = cc

@@ -1,5 +1,5 @@
 -- Laws of look-ups and of runs of calls, for the crates above.
-use Rattle.std.proofs.Common.{◌≡◌, ◌∙◌, ◌⊎◌, inl, inr, ℤ, Bool, true, false, cond, List, [], ◌∷◌, ◌++◌, Option, Some, None, refl, sym, ap, subst, true≢false}
+use Rattle.std.proofs.Common.{◌≡◌, ◌∙◌, ◌⊎◌, inl, inr, Bool, true, false, cond, List, [], ◌∷◌, ◌++◌, Option, Some, None, refl, sym, ap, subst, true≢false}
 use Rattle.std.specs.Prelude.{option_map, IsSome}
 use Rattle.std.specs.Option.{option_or, option_map_or}
 use Rattle.std.specs.declared.cmp.Ordering.{Ordering}
@@ -12,8 +12,7 @@ use Rattle.std.specs.FinMap as finite
 use Rattle.std.specs.FinMap.{get-insert, same_map}
 use Rattle.gixp_wire.specs.declared.object_id.ObjectId.{ObjectId}
 use Rattle.gixp_wire.specs.ObjectId.{id_cmp}
-use Rattle.gixp_graph.specs.declared.flags.Flags.{Flags}
-use Rattle.gixp_graph.specs.Object.{Objects, Commit, commit_at, time_at}
+use Rattle.gixp_graph.specs.Object.{Commit, commit_at, time_at}
 use Rattle.gixp_graph.specs.Held.{Held, Commits, GraphData, found_in, commit_in, as_read, unmarked, shown, shown_time, put, looked_up, is_complete, is_marked, IsFaithful}
 use Rattle.gixp_graph.specs.Run.{Call, IsRun}
 

@@ -9,6 +9,7 @@ pub mod Queue
 pub mod Run
 pub mod Slow
 pub mod Table
+pub mod Visited
 pub mod Waiting
 pub mod Walk
 pub use Rattle.gixp_wire.specs.ObjectId

@@ -1,22 +1,39 @@
 -- The walk: what holds between its steps.
-use Rattle.std.specs.Prelude.{◌≡◌, ◌⊎◌, ℕ, ℤ, ◌+◌, ◌≤◌, ◌≤ℤ◌, Bool, true, not, if◌then◌else◌, List, [], ◌∷◌, ◌++◌, length, Option, Some, option_map, IsSome, Contains, All}
+use Rattle.std.specs.Prelude.{◌≡◌, ◌⊎◌, ℕ, ℤ, ◌+◌, ◌≤◌, ◌≤ℤ◌, Bool, true, false, not, ◌||◌, if◌then◌else◌, List, [], ◌∷◌, ◌++◌, length, Option, Some, option_map, IsSome, Contains, All}
 use Rattle.std.specs.List.{list_any}
 use Rattle.std.specs.Ordering.{eq_by_cmp}
 use Rattle.std.specs.FinMap as finite
 use Rattle.gixp_wire.specs.declared.object_id.ObjectId.{ObjectId}
 use Rattle.gixp_wire.specs.ObjectId.{id_cmp}
 use Rattle.gixp_graph.specs.Object.{Objects, Commit}
-use Rattle.gixp_graph.specs.Held.{Commits, GraphData, commit_in, is_marked, OnlyMarks}
-use Rattle.gixp_graph.specs.Complete.{IsComplete}
-use Rattle.gixp_graph.specs.Waiting.{Waiting}
+use Rattle.gixp_graph.specs.Held.{Commits, GraphData, graph_of, found_in, commit_in, is_marked, marked_found, OnlyMarks}
+use Rattle.gixp_graph.specs.Complete.{IsComplete, IsDue}
+use Rattle.gixp_graph.specs.Table.{Table}
+use Rattle.gixp_graph.specs.Queue.{Entry}
+use Rattle.gixp_graph.specs.Visited.{is_visited}
+use Rattle.gixp_graph.specs.Waiting.{Waiting, waiting_in, Queues}
+
+-- how far a walk has come: the commits held, the ids visited, and the commits that wait for their parents to be visited
+pub record Walk : Type 0 where
+  pub held : Commits
+  pub visited : ObjectId → Bool
+  pub waiting : List Waiting
+
+-- by a table of commits, a set of numbers and a queue
+abbrev pub walk_of : Table → List Bool → List Entry → Walk
+walk_of commits visited queue = record { held = commits.held; visited = is_visited commits.ids visited; waiting = waiting_in commits.ids queue }
+
+-- with others that wait
+abbrev pub beside : List Waiting → Walk → Walk
+beside others w = record { held = w.held; visited = w.visited; waiting = others ++ w.waiting }
 
 -- whether a commit waits
 abbrev pub waits : List Waiting → ObjectId → Bool
 waits queue id = list_any (λ (x : Waiting). eq_by_cmp id_cmp id x.id) queue
 
--- the parents of a commit are marked, where they have to be
-abbrev pub IsExpanded : GraphData → Option ℤ → Commits → ObjectId → Type 0
-IsExpanded g cutoff held id = (c : Commit) (least : ℤ) (p : ObjectId) → commit_in g id ≡ Some c → cutoff ≡ Some least → least ≤ℤ c.time → Contains c.parents p → IsSome (commit_in g p) → is_marked held p ≡ true
+-- the parents of a commit were visited, where they have to be
+abbrev pub IsExpanded : GraphData → Option ℤ → (ObjectId → Bool) → ObjectId → Type 0
+IsExpanded g cutoff visited id = (c : Commit) (least : ℤ) (p : ObjectId) → commit_in g id ≡ Some c → cutoff ≡ Some least → least ≤ℤ c.time → Contains c.parents p → visited p ≡ true
 
 -- what was marked is complete, and nothing else changed
 pub record IsMarking (g : GraphData) (ids : List ObjectId) (cutoff : Option ℤ) (held : Commits) : Type 0 where
@@ -29,19 +46,20 @@ pub record IsQueued (g : GraphData) (ids : List ObjectId) (cutoff : Option ℤ) 
   pub timed : option_map (λ (c : Commit). c.time) (commit_in g x.id) ≡ Some x.time
   pub marked : is_marked held x.id ≡ true
 
--- each commit that was marked waits, or its parents are marked
-pub record IsWalk (g : GraphData) (ids : List ObjectId) (cutoff : Option ℤ) (held : Commits) (queue : List Waiting) : Type 0 where
-  pub marking : IsMarking g ids cutoff held
-  pub queued : All (IsQueued g ids cutoff held) queue
-  pub closed : (id : ObjectId) → is_marked held id ≡ true → (is_marked g.held id ≡ true) ⊎ ((waits queue id ≡ true) ⊎ IsExpanded g cutoff held id)
+-- each commit that was visited is marked, and it waits, or its parents were visited
+pub record IsWalk (g : GraphData) (ids : List ObjectId) (cutoff : Option ℤ) (w : Walk) : Type 0 where
+  pub marking : IsMarking g ids cutoff w.held
+  pub queued : All (IsQueued g ids cutoff w.held) w.waiting
+  pub marked : (id : ObjectId) → w.visited id ≡ true → IsSome (commit_in g id) → is_marked w.held id ≡ true
+  pub closed : (id : ObjectId) → w.visited id ≡ true → IsSome (commit_in g id) → (waits w.waiting id ≡ true) ⊎ IsExpanded g cutoff w.visited id
 
--- those of some ids that are found are complete
+-- each of these ids is looked for
 abbrev pub AreDue : GraphData → List ObjectId → Option ℤ → List ObjectId → Type 0
-AreDue g ids cutoff wanted = All (λ id. IsSome (commit_in g id) → IsComplete (commit_in g) ids cutoff id) wanted
+AreDue g ids cutoff wanted = All (IsDue (commit_in g) ids cutoff) wanted
 
--- those of some ids that are found are marked
-abbrev pub AreMarked : GraphData → Commits → List ObjectId → Type 0
-AreMarked g held wanted = All (λ id. IsSome (commit_in g id) → is_marked held id ≡ true) wanted
+-- each of these ids was visited
+abbrev pub AllVisited : (ObjectId → Bool) → List ObjectId → Type 0
+AllVisited visited wanted = All (λ id. visited id ≡ true) wanted
 
 -- how many ids pass a test
 abbrev pub count : (ObjectId → Bool) → List ObjectId → ℕ
@@ -52,17 +70,23 @@ count p (x ∷ xs) = (if p x then 1 else 0) + count p xs
 abbrev pub all_ids : GraphData → List ObjectId
 all_ids g = finite.keys g.objects ++ finite.keys g.held
 
--- how many of them aren't marked
-abbrev pub left : GraphData → Commits → ℕ
-left g held = count (λ q. not (is_marked held q)) (all_ids g)
+-- how many of them weren't visited
+abbrev pub left : GraphData → (ObjectId → Bool) → ℕ
+left g visited = count (λ q. not (visited q)) (all_ids g)
 
--- to mark some of these ids' commits marks nothing that isn't due
-abbrev pub MarksSome : Objects → List ObjectId → Commits → Commits → Type 0
-MarksSome objects wanted old new = (g : GraphData) (ids : List ObjectId) (cutoff : Option ℤ) → objects ≡ g.objects → AreDue g ids cutoff wanted → IsMarking g ids cutoff old → IsMarking g ids cutoff new
+-- the id was visited before, and nothing changes; or its commit is marked and waits, where it is found
+pub data Visits (objects : Objects) (id : ObjectId) (old new : Walk) : Type 0 where
+  again : old.visited id ≡ true → new.held ≡ old.held → ((q : ObjectId) → new.visited q ≡ old.visited q) → new.waiting ≡ old.waiting → Visits objects id old new
+  first : old.visited id ≡ false → new.held ≡ marked_found (graph_of objects old.held) id → ((q : ObjectId) → new.visited q ≡ (eq_by_cmp id_cmp q id || old.visited q)) → Queues (found_in (graph_of objects old.held) id) id old.waiting new.waiting
+      → Visits objects id old new
 
--- to mark and queue all of them that are found keeps a walk, also beside others that wait; no mark is lost, and each new one is paid for
-pub record MarksEach (objects : Objects) (wanted : List ObjectId) (old new : Commits) (before after : List Waiting) : Type 0 where
-  pub walk : (g : GraphData) (ids : List ObjectId) (cutoff : Option ℤ) (others : List Waiting) → objects ≡ g.objects → AreDue g ids cutoff wanted → IsWalk g ids cutoff old (others ++ before) → IsWalk g ids cutoff new (others ++ after)
-  pub marked : (g : GraphData) → objects ≡ g.objects → OnlyMarks g old → OnlyMarks g new × AreMarked g new wanted
-  pub keeps : (id : ObjectId) → is_marked old id ≡ true → is_marked new id ≡ true
-  pub less : (g : GraphData) → objects ≡ g.objects → OnlyMarks g old → left g new + length after ≤ left g old + length before
+-- to visit some of these ids marks nothing that isn't complete
+abbrev pub VisitsSome : Objects → List ObjectId → Commits → Commits → Type 0
+VisitsSome objects wanted old new = (g : GraphData) (ids : List ObjectId) (cutoff : Option ℤ) → objects ≡ g.objects → AreDue g ids cutoff wanted → IsMarking g ids cutoff old → IsMarking g ids cutoff new
+
+-- to visit all of them keeps a walk, also beside others that wait; each commit that then waits is paid for
+pub record VisitsEach (objects : Objects) (wanted : List ObjectId) (old new : Walk) : Type 0 where
+  pub walk : (g : GraphData) (ids : List ObjectId) (cutoff : Option ℤ) (others : List Waiting) → objects ≡ g.objects → AreDue g ids cutoff wanted → IsWalk g ids cutoff (beside others old) → IsWalk g ids cutoff (beside others new)
+  pub visited : AllVisited new.visited wanted
+  pub keeps : (id : ObjectId) → old.visited id ≡ true → new.visited id ≡ true
+  pub less : (g : GraphData) → objects ≡ g.objects → OnlyMarks g old.held → OnlyMarks g new.held × (left g new.visited + length new.waiting ≤ left g old.visited + length old.waiting)

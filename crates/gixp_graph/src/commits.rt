@@ -6,6 +6,7 @@ ghost use Rattle.gixp_graph.specs.declared.objects.ObjectError.TheVariants.{Memo
 ghost use Rattle.gixp_graph.specs.Object.{HasRisen};
 ghost use Rattle.gixp_graph.specs.Held.{shown, graph_of, found_in, looked_up, flagged, parents_in};
 ghost use Rattle.gixp_graph.specs.Table.{id_at, ids_at, AllNamed, KeepsNumbers};
+ghost use Rattle.gixp_graph.specs.Visited.{IsOneToOne};
 ghost use Rattle.gixp_graph.specs.Node.{IsNumbered, ids_of, number_at, parent_numbers_of, IsInRange, blank};
 
 use crate::flags::Flags;
@@ -151,7 +152,8 @@ impl Commits {
     /// The time and the marks of the commit of a number, where it is held.
     fn get_at(&self, number: usize) -> Option<(i64, Flags)>
         requires { number < length self.now.ids }
-        ensures { result ≡ option_map shown (finite.get self.now.held (id_at self.now.ids number)) }
+        ensures value { result ≡ option_map shown (finite.get self.now.held (id_at self.now.ids number)) }
+        ensures once { IsOneToOne self.now.ids }
     {
         let node = self.nodes[number];
         if node.is_found {
@@ -243,6 +245,7 @@ impl Commits {
     ) -> Result<Option<(i64, Flags)>, ObjectError>
         requires { number < length self.old.ids }
         ensures found { IfOk result (λ found. found ≡ option_map shown (found_in (graph_of (O.contents objects.old) self.old.held) (id_at self.old.ids number))) }
+        ensures once { IsOneToOne self.old.ids }
         ensures ok { OnOk result (self.new.held ≡ looked_up (graph_of (O.contents objects.old) self.old.held) (id_at self.old.ids number)) }
         ensures err { OnErr result (self.new.held ≡ self.old.held) }
         ensures kept { KeepsNumbers self.old.ids self.new.ids }

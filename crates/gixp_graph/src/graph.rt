@@ -4,7 +4,7 @@ ghost use Rattle.std.specs.FinMap as finite;
 ghost use Rattle.gixp_wire.specs.declared.object_id.ObjectId.{ObjectId};
 ghost use Rattle.gixp_graph.specs.declared.objects.ObjectError.TheVariants.{Memory};
 ghost use Rattle.gixp_graph.specs.Object.{HasRisen, commit_at, time_at};
-ghost use Rattle.gixp_graph.specs.Held.{graph_of, shown, shown_time, parents_in, found_in, looked_up, flagged, is_marked, OnlyMarks, HasNoMarks, IsFaithful};
+ghost use Rattle.gixp_graph.specs.Held.{graph_of, shown, shown_time, parents_in, found_in, looked_up, flagged, is_marked, OnlyMarks, IsFaithful};
 ghost use Rattle.gixp_graph.specs.Complete.{IsComplete};
 
 use crate::commits::Commits;
@@ -98,18 +98,22 @@ impl<O: Objects> Graph<O> {
     /// seconds since the epoch), the parents that are found of each commit so marked whose own time
     /// is at least the cutoff. Times may run backwards.
     ///
-    /// Where a commit had the mark before, it isn't walked from.
+    /// A commit that had the mark before keeps it, and is walked through where it is complete: so a
+    /// later call with an earlier cutoff, or one after an error, marks all that is complete.
     ///
     /// # Errors
     ///
-    /// Why the objects can't be read. What was looked up and marked so far stays.
+    /// Why the objects can't be read. What was looked up and marked so far stays, each of it complete.
     pub fn mark_complete(
         &mut self,
         ids: &[ObjectId],
         cutoff: Option<i64>,
     ) -> Result<(), ObjectError>
-        // Where nothing was marked before, just the least such set is.
-        ensures complete { OnOk result (HasNoMarks self.old.graph.held → (id : ObjectId) → IsTrue (is_marked self.new.graph.held id) ↔ IsComplete (commit_at self.old.graph.objects) ids.now cutoff id) }
+        // Just what was marked before and the least such set is marked.
+        ensures complete { OnOk result ((id : ObjectId) → IsTrue (is_marked self.new.graph.held id) ↔ (IsTrue (is_marked self.old.graph.held id) ⊎ IsComplete (commit_at self.old.graph.objects) ids.now cutoff id)) }
+
+        // Each complete commit is held, the ids that are found among them.
+        ensures reads { OnOk result ((id : ObjectId) → IsComplete (commit_at self.old.graph.objects) ids.now cutoff id → IsSome (finite.get self.new.graph.held id)) }
 
         // Also after a refusal, only complete commits are held that weren't before.
         ensures held { (id : ObjectId) → IsSome (finite.get self.new.graph.held id) → IsSome (finite.get self.old.graph.held id) ⊎ IsComplete (commit_at self.old.graph.objects) ids.now cutoff id }

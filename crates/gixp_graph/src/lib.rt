@@ -10,6 +10,7 @@ mod queue;
 pub mod refs;
 #[cfg(test)]
 mod tests;
+mod visited;
 mod walk;
 
 pub use flags::Flags;

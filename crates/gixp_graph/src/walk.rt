@@ -1,34 +1,65 @@
 //! The walk that marks what a repository has for certain.
-ghost use Rattle.std.specs.Prelude.{◌≡◌, ◌≤◌, ◌<◌, ◌⊎◌, IfErr, OnOk, OnErr, IsTrue, length};
+ghost use Rattle.std.specs.Prelude.{◌≡◌, ◌≤◌, ◌<◌, ◌⊎◌, ℤ, IfOk, IfErr, OnOk, OnErr, IsTrue, length, option_map};
 ghost use Rattle.gixp_wire.specs.declared.object_id.ObjectId.{ObjectId};
 ghost use Rattle.gixp_graph.specs.declared.objects.ObjectError.TheVariants.{Memory};
 ghost use Rattle.gixp_graph.specs.Object.{HasRisen};
-ghost use Rattle.gixp_graph.specs.Held.{graph_of, new_in, marked_found, commit_in, is_marked, OnlyMarks, HasNoMarks};
+ghost use Rattle.gixp_graph.specs.Held.{Held, graph_of, found_in, marked_found, commit_in, is_marked, OnlyMarks};
 ghost use Rattle.gixp_graph.specs.Complete.{IsComplete};
 ghost use Rattle.gixp_graph.specs.Table.{id_at, ids_at, AllNamed, KeepsNumbers};
-ghost use Rattle.gixp_graph.specs.Waiting.{waiting_in, AllQueuedNamed, Queues};
-ghost use Rattle.gixp_graph.specs.Walk.{MarksSome, MarksEach};
+ghost use Rattle.gixp_graph.specs.Visited.{AllVisitedNamed, IsOneToOne};
+ghost use Rattle.gixp_graph.specs.Waiting.{AllQueuedNamed};
+ghost use Rattle.gixp_graph.specs.Walk.{walk_of, Visits, VisitsSome, VisitsEach};
 
 use crate::commits::Commits;
 use crate::flags::Flags;
 use crate::objects::{ObjectError, Objects};
 use crate::queue::TimeQueue;
+use crate::visited::Visited;
 use bitflags::Flags as _;
 use gixp_wire::ObjectId;
 use std::alloc::Global;
 
-/// Marks the commit of a number and queues it, where it is found and isn't marked yet.
+/// Marks the commit of a number, where it is found. Returns its time.
 fn mark_found<O: Objects>(
     alloc: Global,
     objects: &mut O,
     commits: &mut Commits,
+    number: usize,
+) -> Result<Option<i64>, ObjectError>
+    requires { number < length commits.old.ids }
+    ensures time { IfOk result (λ time. time ≡ option_map (λ (h : Held). h.time) (found_in (graph_of (O.contents objects.old) commits.old.held) (id_at commits.old.ids number))) }
+    ensures ok { OnOk result (commits.new.held ≡ marked_found (graph_of (O.contents objects.old) commits.old.held) (id_at commits.old.ids number)) }
+    ensures err { OnErr result (commits.new.held ≡ commits.old.held) }
+    ensures once { IsOneToOne commits.old.ids }
+    ensures kept { KeepsNumbers commits.old.ids commits.new.ids }
+    ensures contents { O.contents objects.new ≡ O.contents objects.old }
+    ensures failures { O.failures objects.old ≤ O.failures objects.new }
+    ensures failed { IfErr result (λ e. (e ≡ Memory) ⊎ HasRisen (O.failures objects.old) (O.failures objects.new)) }
+{
+    let Some((time, flags)) = commits.lookup_at(alloc, objects, number)? else {
+        return Ok(None);
+    };
+    if flags.contains(Flags::COMPLETE) {
+        return Ok(Some(time));
+    }
+    commits.insert_flags_at(number, Flags::COMPLETE);
+    Ok(Some(time))
+}
+
+/// Marks the commit of a number and queues it, where it wasn't visited before and is found.
+fn visit<O: Objects>(
+    alloc: Global,
+    objects: &mut O,
+    commits: &mut Commits,
+    visited: &mut Visited,
     queue: &mut TimeQueue,
     number: usize,
 ) -> Result<(), ObjectError>
     requires named { number < length commits.old.ids }
+    requires visited_named { AllVisitedNamed commits.old.ids visited.old }
     requires queue_named { AllQueuedNamed commits.old.ids queue.old }
-    ensures held { OnOk result (commits.new.held ≡ marked_found (graph_of (O.contents objects.old) commits.old.held) (id_at commits.old.ids number)) }
-    ensures queued { OnOk result (Queues (new_in (graph_of (O.contents objects.old) commits.old.held) (id_at commits.old.ids number)) (id_at commits.old.ids number) (waiting_in commits.old.ids queue.old) (waiting_in commits.new.ids queue.new)) }
+    ensures visits { OnOk result (Visits (O.contents objects.old) (id_at commits.old.ids number) (walk_of commits.old visited.old queue.old) (walk_of commits.new visited.new queue.new)) }
+    ensures visited_named { OnOk result (AllVisitedNamed commits.new.ids visited.new) }
     ensures queue_named { OnOk result (AllQueuedNamed commits.new.ids queue.new) }
     ensures err { OnErr result ((commits.new.held ≡ commits.old.held) ⊎ (commits.new.held ≡ marked_found (graph_of (O.contents objects.old) commits.old.held) (id_at commits.old.ids number))) }
     ensures kept { KeepsNumbers commits.old.ids commits.new.ids }
@@ -36,13 +67,14 @@ fn mark_found<O: Objects>(
     ensures failures { O.failures objects.old ≤ O.failures objects.new }
     ensures failed { IfErr result (λ e. (e ≡ Memory) ⊎ HasRisen (O.failures objects.old) (O.failures objects.new)) }
 {
-    let Some((time, flags)) = commits.lookup_at(alloc, objects, number)? else {
+    match visited.insert(number) {
+        Ok(true) => {}
+        Ok(false) => return Ok(()),
+        Err(_) => return Err(ObjectError::Memory),
+    }
+    let Some(time) = mark_found(alloc, objects, commits, number)? else {
         return Ok(());
     };
-    if flags.contains(Flags::COMPLETE) {
-        return Ok(());
-    }
-    commits.insert_flags_at(number, Flags::COMPLETE);
     match queue.push(time, number) {
         Ok(()) => Ok(()),
         Err(_) => Err(ObjectError::Memory),
@@ -50,25 +82,28 @@ fn mark_found<O: Objects>(
 }
 
 /// The same for the commits of some numbers.
-fn mark_each<O: Objects>(
+fn visit_each<O: Objects>(
     alloc: Global,
     objects: &mut O,
     commits: &mut Commits,
+    visited: &mut Visited,
     queue: &mut TimeQueue,
     numbers: &[usize],
 ) -> Result<(), ObjectError>
     requires named { AllNamed commits.old.ids numbers.now }
+    requires visited_named { AllVisitedNamed commits.old.ids visited.old }
     requires queue_named { AllQueuedNamed commits.old.ids queue.old }
-    ensures each { OnOk result (MarksEach (O.contents objects.old) (ids_at commits.old.ids numbers.now) commits.old.held commits.new.held (waiting_in commits.old.ids queue.old) (waiting_in commits.new.ids queue.new)) }
+    ensures each { OnOk result (VisitsEach (O.contents objects.old) (ids_at commits.old.ids numbers.now) (walk_of commits.old visited.old queue.old) (walk_of commits.new visited.new queue.new)) }
+    ensures visited_named { OnOk result (AllVisitedNamed commits.new.ids visited.new) }
     ensures queue_named { OnOk result (AllQueuedNamed commits.new.ids queue.new) }
-    ensures some { MarksSome (O.contents objects.old) (ids_at commits.old.ids numbers.now) commits.old.held commits.new.held }
+    ensures some { VisitsSome (O.contents objects.old) (ids_at commits.old.ids numbers.now) commits.old.held commits.new.held }
     ensures kept { KeepsNumbers commits.old.ids commits.new.ids }
     ensures contents { O.contents objects.new ≡ O.contents objects.old }
     ensures failures { O.failures objects.old ≤ O.failures objects.new }
     ensures failed { IfErr result (λ e. (e ≡ Memory) ⊎ HasRisen (O.failures objects.old) (O.failures objects.new)) }
 {
     for &number in numbers {
-        mark_found(alloc, objects, commits, queue, number)?;
+        visit(alloc, objects, commits, visited, queue, number)?;
     }
     Ok(())
 }
@@ -78,7 +113,8 @@ fn mark_each<O: Objects>(
 ///
 /// The newest commits are taken first, so the walk may stop at the first time before the cutoff: all
 /// that still waits is no newer. A parent that is newer than its child waits under its own time, and is
-/// taken next.
+/// taken next. Commits that had the mark before are walked through: the walk's own set of visited nodes
+/// says where it has been.
 pub(crate) fn mark_complete<O: Objects>(
     alloc: Global,
     objects: &mut O,
@@ -88,16 +124,24 @@ pub(crate) fn mark_complete<O: Objects>(
 ) -> Result<(), ObjectError>
     ensures only_marks { OnlyMarks (graph_of (O.contents objects.old) commits.old.held) commits.new.held }
     ensures sound { (id : ObjectId) → IsTrue (is_marked commits.new.held id) → IsTrue (is_marked commits.old.held id) ⊎ IsComplete (commit_in (graph_of (O.contents objects.old) commits.old.held)) ids.now cutoff id }
-    ensures complete { OnOk result (HasNoMarks commits.old.held → (id : ObjectId) → IsComplete (commit_in (graph_of (O.contents objects.old) commits.old.held)) ids.now cutoff id → IsTrue (is_marked commits.new.held id)) }
+    ensures complete { OnOk result ((id : ObjectId) → IsComplete (commit_in (graph_of (O.contents objects.old) commits.old.held)) ids.now cutoff id → IsTrue (is_marked commits.new.held id)) }
     ensures contents { O.contents objects.new ≡ O.contents objects.old }
     ensures failures { O.failures objects.old ≤ O.failures objects.new }
     ensures failed { IfErr result (λ e. (e ≡ Memory) ⊎ HasRisen (O.failures objects.old) (O.failures objects.new)) }
 {
+    let mut visited = Visited::new(alloc);
     let mut queue = TimeQueue::new(alloc);
     let Ok(tips) = commits.numbers(alloc, ids) else {
         return Err(ObjectError::Memory);
     };
-    mark_each(alloc, objects, commits, &mut queue, tips.as_slice())?;
+    visit_each(
+        alloc,
+        objects,
+        commits,
+        &mut visited,
+        &mut queue,
+        tips.as_slice(),
+    )?;
     let Some(cutoff) = cutoff else {
         return Ok(());
     };
@@ -108,7 +152,14 @@ pub(crate) fn mark_complete<O: Objects>(
         let Ok(parents) = commits.parent_numbers(alloc, newest.as_slice()) else {
             return Err(ObjectError::Memory);
         };
-        mark_each(alloc, objects, commits, &mut queue, parents.as_slice())?;
+        visit_each(
+            alloc,
+            objects,
+            commits,
+            &mut visited,
+            &mut queue,
+            parents.as_slice(),
+        )?;
     }
     Ok(())
 }

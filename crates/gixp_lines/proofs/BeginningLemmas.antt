@@ -1,5 +1,5 @@
 -- How an answer under versions 0 and 1 is read piece by piece.
-use Rattle.std.proofs.Common.{◌≡◌, ℕ, Bool, true, false, cond, List, [], ◌∷◌, Option, Some, None, IfSome, Result, Ok, Err, refl, sym, ap, subst, ◌∙◌, append-nil, inl, inr}
+use Rattle.std.proofs.Common.{◌≡◌, ℕ, Bool, true, false, cond, List, [], ◌∷◌, ◌++◌, Option, Some, None, IfSome, Result, Ok, Err, refl, sym, ap, subst, ◌∙◌, append-nil, inl, inr}
 use Rattle.std.specs.Prelude.{not, ◌&&◌, ◌||◌, ◌⊎◌}
 use Rattle.std.specs.List.{list_any}
 use Rattle.std.specs.declared.io.ErrorKind.{ErrorKind}
@@ -20,17 +20,23 @@ use Rattle.gixp_lines.specs.declared.fetch.response.beginnings.Said.TheVariants.
 use Rattle.gixp_lines.specs.ResponseError.{from_reader, by_reader, answer_refusal}
 use Rattle.gixp_lines.specs.Answer.{AnswerValue, no_more, Found, whole, refused, front}
 use Rattle.gixp_lines.specs.Beginnings.{Item, acknowledged, updated, other, stopped, line_item, item_said, is_ready, is_nak, is_stopped, is_other, is_at_end, last_is, last_two_are, Asked, ends_by_nak, ends_before, ends, said_in, said_with, unless_ends, beginnings_from, v1_answer}
-use Rattle.gixp_lines.specs.Reads.{Going, IsRunning, EndsBare, ReadsAnswer, Answered, AnswerFails}
-use Rattle.gixp_lines.proofs.AnswerRunLemmas.{line_is, going-start, going-turn, going-line, going-stop, going-reset, going-whole, going-memory, going-fails, stop_taken}
+use Rattle.gixp_lines.specs.Reads.{stop_behind, last_stop, Going, IsRunning, EndsBare, ReadsAnswer, Answered, AnswerFails}
+use Rattle.gixp_lines.proofs.AnswerRunLemmas.{line_is, going-start, going-turn, going-line, going-stop, going-reset, going-whole, going-memory, going-fails, stop_taken, stands_last, last_line, last_mark}
 
 -- what is left behind a beginning
 abbrev pub longer_of : Protocol → Asked → List Item → Pieces → Found
 longer_of v a before q = beginnings_from v a q.list q.end before
 
+-- whether the last of some pieces is a stop, as the last of their items is
+abbrev pub SameLast : List Piece → List Item → Type 0
+SameLast taken before = last_is is_stopped before ≡ false → last_stop taken ≡ None
+
 -- a beginning was read
 pub record Read (v : Protocol) (a : Asked) (before : List Item) (old now : Reading) : Type 0 where
-  pub going : Going (v1_answer v a) (longer_of v a before) old now
+  pub taken : List Piece
+  pub going : Going (v1_answer v a) (longer_of v a before) taken old now
   pub running : IsRunning v now
+  pub last : SameLast taken before
 
 -- a beginning was read that ends no answer, with what is known of it
 pub record Amid (v : Protocol) (a : Asked) (answer : AnswerValue) (came_ready behind_stop : Bool) (old now : Reading) : Type 0 where
@@ -48,7 +54,7 @@ amid-start v a old now e =
     let all = going-start (v1_answer v a) v old now e in
     record {
       before = [];
-      read = record { going = all.0; running = all.1 };
+      read = record { taken = []; going = all.0; running = all.1; last = λ _. refl };
       answer_is = refl;
       ready_is = refl;
       stop_is = refl;
@@ -78,22 +84,23 @@ after_stop : (v : Protocol) (a : Asked) (before : List Item) (kind : MessageKind
 after_stop v a before kind q s n t = rw (s, n, t) refl
 
 read_stop : (v : Protocol) (a : Asked) (before : List Item) (old mid new : Reading) (h : Read v a before old mid) → ends_by_nak a before ≡ false → last_two_are is_stopped before ≡ false
-    → (kind : MessageKind) × TakesStop mid new kind → Going (v1_answer v a) (longer_of v a (stopped ∷ before)) old new
+    → (k : (kind : MessageKind) × TakesStop mid new kind) → Going (v1_answer v a) (longer_of v a (stopped ∷ before)) (h.taken ++ mark k.0 ∷ []) old new
 read_stop v a before old mid new h n t k =
     let stop : is_stop v k.0 ≡ true = subst (λ w. is_stop w k.0 ≡ true) h.running.version k.1.is_stop in
-    going-turn (v1_answer v a) _ (longer_of v a (stopped ∷ before)) old new
-    (going-stop (v1_answer v a) (longer_of v a before) v old mid new k.0 h.going h.running k.1)
+    going-turn (v1_answer v a) _ (longer_of v a (stopped ∷ before)) (h.taken ++ mark k.0 ∷ []) old new
+    (going-stop (v1_answer v a) (longer_of v a before) v h.taken old mid new k.0 h.going h.running k.1)
     (λ q. after_stop v a before k.0 q stop n t)
 
 -- a stop is passed over
 pub amid-stop : (v : Protocol) (a : Asked) (answer : AnswerValue) (came_ready : Bool) (old mid new last : Reading) → Amid v a answer came_ready false old mid → AtStop mid new → last ≡ reset_to v new
     → Amid v a answer came_ready true old last
 amid-stop v a answer came_ready old mid new last h k e =
-    let went = read_stop v a h.before old mid new h.read h.no_nak h.no_stops (stop_taken v mid new h.read.running k) in
-    let all = going-reset (v1_answer v a) (longer_of v a (stopped ∷ h.before)) v old new last went e in
+    let t = stop_taken v mid new h.read.running k in
+    let went = read_stop v a h.before old mid new h.read h.no_nak h.no_stops t in
+    let all = going-reset (v1_answer v a) (longer_of v a (stopped ∷ h.before)) v _ old new last went e in
     record {
       before = stopped ∷ h.before;
-      read = record { going = all.0; running = all.1 };
+      read = record { taken = h.read.taken ++ mark t.0 ∷ []; going = all.0; running = all.1; last = λ s. cc };
       answer_is = h.answer_is;
       ready_is = h.ready_is;
       stop_is = refl;
@@ -131,10 +138,10 @@ pub amid-stops : (v : Protocol) (earlier : IsEarlier v) (a : Asked) (answer : An
 amid-stops v earlier a answer came_ready old mid new h k =
     let t = stop_taken v mid new h.read.running k in
     let went = read_stop v a h.before old mid new h.read h.no_nak h.no_stops t in
-    let said = ended_is v a in
     inl (subst (ReadsAnswer (v1_answer v a) v old new) (sym h.answer_is)
-    (going-whole (v1_answer v a) (longer_of v a (stopped ∷ h.before)) v old new (said_in h.before false) went (t.1.version ∙ h.read.running.version)
+    (going-whole (v1_answer v a) (longer_of v a (stopped ∷ h.before)) v _ old new (said_in h.before false) went (t.1.version ∙ h.read.running.version)
     (ends_bare v earlier new.stopped (inr (t.1.stopped ∙ ap Some (only_flush v earlier t.0 (subst (λ x. is_stop x t.0 ≡ true) h.read.running.version t.1.is_stop)))))
+    (last_mark h.read.taken t.0 new.stopped t.1.stopped)
     (λ q. ended_is v a q.list q.end (stopped ∷ h.before) false (ends_by_stops a h.before h.stop_is))))
 
 -- the kind of the stream's end
@@ -162,6 +169,23 @@ at_end_is v a before [] end e h = let s : end ≡ io UnexpectedEof = cc in rw (s
 at_end_is v a before (line t ∷ ps) end e h = cc
 at_end_is v a before (mark kind ∷ ps) end e h = absurd (mark_at_end (is_stop v kind) kind (record { list = ps; end = end }) h)
 
+-- behind pieces of which the stream's end comes next nothing stands
+nothing_left : (v : Protocol) (list : List Piece) (end : Refusal) → next_from v list end ≡ refuses (io UnexpectedEof) → record { list = list; end = end } ≡ no_pieces (io UnexpectedEof)
+nothing_left v [] end h = let s : end ≡ io UnexpectedEof = cc in rw s refl
+nothing_left v (line t ∷ ps) end h = cc
+nothing_left v (mark kind ∷ ps) end h = absurd (mark_at_end (is_stop v kind) kind (record { list = ps; end = end }) h)
+
+took_end : (v w : Protocol) (taken : List Piece) (o m n : Option Pieces) → w ≡ v
+    → IfSome o (λ p. (q : Pieces) × (m ≡ Some q) × (p ≡ front taken q))
+    → IfSome m (λ p. (n ≡ Some (no_pieces (io UnexpectedEof))) × (next_of w p ≡ refuses (io UnexpectedEof)))
+    → IfSome o (λ p. (q : Pieces) × (n ≡ Some q) × (p ≡ front taken q))
+took_end v w taken None m n i h t = tt
+took_end v w taken (Some p) None n i h t = absurd (let x = h.1 in cc)
+took_end v w taken (Some p) (Some q) n i h t =
+    let same : q ≡ h.0 = let x = h.1 in cc in
+    let end : q ≡ no_pieces (io UnexpectedEof) = nothing_left w q.list q.end t.1 in
+    (no_pieces (io UnexpectedEof), t.0, h.2 ∙ ap (front taken) (sym same ∙ end))
+
 known_end : (v w : Protocol) (found k : Pieces → Found) (taken : List Piece) (o m n : Option Pieces) (value : AnswerValue) (r : Refusal) → w ≡ v → ((q : Pieces) → found (front taken q) ≡ k q)
     → ((q : Pieces) → next_of v q ≡ refuses r → k q ≡ whole value (no_pieces r))
     → IfSome o (λ p. (q : Pieces) × (m ≡ Some q) × (p ≡ front taken q))
@@ -182,22 +206,27 @@ fault_is_no_end : (old new : Reading) → Faults old new (io UnexpectedEof) → 
 fault_is_no_end old new f = let x = f.fault.0 in cc
 
 end_answers : (v : Protocol) (earlier : IsEarlier v) (a : Asked) (before : List Item) (old mid new : Reading) → Read v a before old mid → ends a before (refuses (io UnexpectedEof)) ≡ Some false
-    → Fails mid new (io UnexpectedEof) → Answered (v1_answer v a) v old new (said_in before false)
-end_answers v earlier a before old mid new h e (inl t) = inl (record {
-  answer = known_end v mid.version (v1_answer v a) (longer_of v a before) h.going.taken old.to_come mid.to_come new.to_come (said_in before false) (io UnexpectedEof)
+    → last_is is_stopped before ≡ false → Fails mid new (io UnexpectedEof) → Answered (v1_answer v a) v old new (said_in before false)
+end_answers v earlier a before old mid new h e l (inl t) = inl (record {
+  taken = h.taken;
+  took = took_end v mid.version h.taken old.to_come mid.to_come new.to_come h.running.version h.going.took t.next;
+  behind = no_pieces (io UnexpectedEof);
+  said = h.going.same (no_pieces (io UnexpectedEof)) ∙ at_end_is v a before [] (io UnexpectedEof) e refl;
+  at = t.stopped ∙ sym (h.last l);
+  answer = known_end v mid.version (v1_answer v a) (longer_of v a before) h.taken old.to_come mid.to_come new.to_come (said_in before false) (io UnexpectedEof)
       h.running.version h.going.same (λ q n. at_end_is v a before q.list q.end e n) h.going.took t.next;
   running = λ p. cc;
   stopped = ends_bare v earlier new.stopped (inl t.stopped);
   version = t.version ∙ h.running.version;
   failures = t.failures ∙ h.going.failures;
 })
-end_answers v earlier a before old mid new h e (inr (inl t)) = absurd (fault_is_no_end mid new t)
-end_answers v earlier a before old mid new h e (inr (inr t)) =
+end_answers v earlier a before old mid new h e l (inr (inl t)) = absurd (fault_is_no_end mid new t)
+end_answers v earlier a before old mid new h e l (inr (inr t)) =
     let nothing : Pieces = no_pieces (io UnexpectedEof) in
-    let all : front h.going.taken nothing ≡ record { list = h.going.taken; end = io UnexpectedEof } = rw append-nil refl in
+    let all : front h.taken nothing ≡ record { list = h.taken; end = io UnexpectedEof } = rw append-nil refl in
     let left : longer_of v a before nothing ≡ whole (said_in before false) nothing = at_end_is v a before [] (io UnexpectedEof) e refl in
     inr (record {
-      taken = h.going.taken;
+      taken = h.taken;
       now = mid;
       took = h.going.took;
       broke = t;
@@ -216,7 +245,7 @@ amid-end v earlier a answer came_ready behind_stop old mid new r h f t =
     let fails : Fails mid new (io UnexpectedEof) = subst (λ x. Fails mid new x) kind f in
     let stop : false ≡ last_is is_stopped h.before = sym parts.1 ∙ h.stop_is in
     subst (Answered (v1_answer v a) v old new) (sym h.answer_is)
-    (end_answers v earlier a h.before old mid new h.read (ends_at_end a h.before h.no_nak h.no_stops stop) fails)
+    (end_answers v earlier a h.before old mid new h.read (ends_at_end a h.before h.no_nak h.no_stops stop) (sym stop) fails)
 
 no_end : (x : Bool) (y z : Bool) → z ≡ y → false ≡ (x && not z) → cond (x && not y) (Some false) None ≡ None
 no_end x y z e h = let s : (x && not y) ≡ false = ap (λ w. x && not w) (sym e) ∙ sym h in rw s refl
@@ -243,7 +272,7 @@ pub amid-fails : (plain : Bool) (v : Protocol) (a : Asked) (answer : AnswerValue
     → Amid v a answer came_ready behind_stop old mid → Fails mid new (refusal_of r) → false ≡ (is_at_end (refusal_of r) && not behind_stop)
     → (plain ≡ true → IsPlain new (refusal_of r)) → answer_refusal e ≡ from_reader (refusal_of r) → AnswerFails (v1_answer v a) plain old new e
 amid-fails plain v a answer came_ready behind_stop old mid new r e h f t p is =
-    going-fails plain (v1_answer v a) (longer_of v a h.before) v old mid new r e h.read.going h.read.running
+    going-fails plain (v1_answer v a) (longer_of v a h.before) v h.read.taken old mid new r e h.read.going h.read.running
     (λ q n. refused_is v a h.before q.list q.end (refusal_of r) h.no_nak h.no_stops (no_end (is_at_end (refusal_of r)) (last_is is_stopped h.before) behind_stop h.stop_is t) n) f p is
 
 -- a line that was peeked at is still to come
@@ -261,14 +290,15 @@ took_same (Some p) (Some q) n taken h k =
 
 read_shown : (v : Protocol) (a : Asked) (before : List Item) (old mid new : Reading) → Read v a before old mid → ShowsLine mid new → Read v a before old new
 read_shown v a before old mid new h s = record {
+  taken = h.taken;
   going = record {
-    taken = h.going.taken;
-    took = took_same old.to_come mid.to_come new.to_come h.going.taken h.going.took (known_shown mid.to_come new.to_come _ s.next);
+    took = took_same old.to_come mid.to_come new.to_come h.taken h.going.took (known_shown mid.to_come new.to_come _ s.next);
     same = h.going.same;
     failures = s.failures ∙ h.going.failures;
     held = s.held ∙ h.going.held;
   };
   running = record { stopped = s.stopped; version = s.version ∙ h.running.version };
+  last = h.last;
 }
 
 -- a peeked line is taken by the next call
@@ -303,9 +333,16 @@ pub amid-pack : (v : Protocol) (a : Asked) (answer : AnswerValue) (came_ready be
     → line_item new.line ≡ other → Answered (v1_answer v a) v old new (record answer { pack = true })
 amid-pack v a answer came_ready behind_stop old mid new h s o =
     let shown = read_shown v a h.before old mid new h.read s in
+    let begun : Pieces = record { list = line new.line ∷ []; end = io UnexpectedEof } in
     let value : record answer { pack = true } ≡ said_in h.before true = ap (λ (x : AnswerValue). record x { pack = true }) h.answer_is in
     inl (subst (ReadsAnswer (v1_answer v a) v old new) (sym value) (record {
-      answer = known_pack v mid.version (v1_answer v a) (longer_of v a h.before) h.read.going.taken old.to_come mid.to_come new.to_come (said_in h.before true) new.line
+      taken = h.read.taken;
+      took = took_same old.to_come mid.to_come new.to_come h.read.taken h.read.going.took (known_shown mid.to_come new.to_come _ s.next);
+      behind = begun;
+      said = h.read.going.same begun
+          ∙ pack_is v a h.before (line new.line ∷ []) (io UnexpectedEof) new.line (no_pieces (io UnexpectedEof)) h.no_nak h.no_stops o refl;
+      at = shown.running.stopped;
+      answer = known_pack v mid.version (v1_answer v a) (longer_of v a h.before) h.read.taken old.to_come mid.to_come new.to_come (said_in h.before true) new.line
           h.read.running.version h.read.going.same (λ q r n. pack_is v a h.before q.list q.end new.line r h.no_nak h.no_stops o n) h.read.going.took s.next;
       running = λ _. shown.running.stopped;
       stopped = shown.running.stopped;
@@ -329,11 +366,13 @@ after_line v a before text i q n t e o = rw (n, t, e, o) refl
 read_line : (v : Protocol) (a : Asked) (before : List Item) (s : Said) (old mid new : Reading) → Read v a before old mid → ends_by_nak a before ≡ false → last_two_are is_stopped before ≡ false
     → TakesLine mid new → line_item new.line ≡ item_said (Some s) → Read v a (item_said (Some s) ∷ before) old new
 read_line v a before s old mid new h n t k e =
-    let all = going-line (v1_answer v a) (longer_of v a before) v old mid new h.going h.running k in
+    let all = going-line (v1_answer v a) (longer_of v a before) v h.taken old mid new h.going h.running k in
     record {
-      going = going-turn (v1_answer v a) _ (longer_of v a (item_said (Some s) ∷ before)) old new all.0
+      taken = h.taken ++ line new.line ∷ [];
+      going = going-turn (v1_answer v a) _ (longer_of v a (item_said (Some s) ∷ before)) _ old new all.0
           (λ q. after_line v a before new.line (item_said (Some s)) q n t e (said_is_other s));
       running = all.1;
+      last = λ _. stands_last h.taken (line new.line);
     }
 
 -- a line that was peeked at and taken
@@ -382,10 +421,12 @@ amid-nak v earlier a answer more came_ready behind_stop ready s old mid new h t 
     let nak : ends_by_nak a (i ∷ h.before) ≡ true = ap (λ x. (is_nak i && a.negotiates) && not (a.expects_pack && x)) (sym came) ∙ sym n in
     let value : more ≡ said_in (i ∷ h.before) false = m ∙ ap (λ x. said_with x i) h.answer_is ∙ said_more h.before i in
     inl (subst (ReadsAnswer (v1_answer v a) v old new) (sym value)
-    (going-whole (v1_answer v a) (longer_of v a (i ∷ h.before)) v old new (said_in (i ∷ h.before) false) t.read.going t.read.running.version
+    (going-whole (v1_answer v a) (longer_of v a (i ∷ h.before)) v t.read.taken old new (said_in (i ∷ h.before) false) t.read.going t.read.running.version
     (ends_bare v earlier new.stopped (inl t.read.running.stopped))
+    (t.read.running.stopped ∙ sym (t.read.last (said_is_stop s)))
     (λ q. ended_is v a q.list q.end (i ∷ h.before) false (ends_nak a (i ∷ h.before) nak))))
 
 -- memory ran out for what it says
 pub amid-memory : (plain : Bool) (v : Protocol) (a : Asked) (s : Said) (before : List Item) (old new : Reading) → Taken v a s before old new → AnswerFails (v1_answer v a) plain old new Memory
-amid-memory plain v a s before old new t = going-memory plain (v1_answer v a) (longer_of v a (item_said (Some s) ∷ before)) old new t.read.going
+amid-memory plain v a s before old new t =
+    going-memory plain (v1_answer v a) (longer_of v a (item_said (Some s) ∷ before)) t.read.taken old new t.read.going t.read.running.stopped

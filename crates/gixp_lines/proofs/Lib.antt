@@ -6,6 +6,7 @@ mod RefsLemmas
 mod AnswerRunLemmas
 mod SectionLemmas
 mod BeginningLemmas
+mod CommonLemmas
 mod SectionGrammarLemmas
 mod AdvertisementLemmas
 mod SymrefLemmas

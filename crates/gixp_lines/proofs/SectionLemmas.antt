@@ -1,5 +1,5 @@
 -- How a version 2 answer is read piece by piece.
-use Rattle.std.proofs.Common.{◌≡◌, ℕ, Bool, true, false, cond, List, [], ◌∷◌, Option, Some, None, Result, Ok, Err, refl, sym, ap, subst, ◌∙◌, append_assoc, append-nil}
+use Rattle.std.proofs.Common.{◌≡◌, ℕ, Bool, true, false, cond, List, [], ◌∷◌, ◌++◌, Option, Some, None, Result, Ok, Err, refl, sym, ap, subst, ◌∙◌, append_assoc, append-nil}
 use Rattle.std.specs.declared.io.ErrorKind.TheVariants.{UnexpectedEof}
 use Rattle.std.specs.Str.{is_utf8}
 use Rattle.gixp_wire.specs.declared.protocol.Protocol.TheVariants.{V2}
@@ -19,8 +19,8 @@ use Rattle.gixp_lines.specs.ResponseError.{AnswerRefusal, io_failed, unknown_lin
 use Rattle.gixp_lines.specs.Answer.{AnswerValue, no_more, both, Found, whole, refused, in_front, is_of_line}
 use Rattle.gixp_lines.specs.Sections.{or_refused, header_of, item_of, read_header, read_item, closed, not_opened, is_flush, sections_from, v2_answer}
 use Rattle.gixp_lines.specs.AnswerLine.{trimmed}
-use Rattle.gixp_lines.specs.Reads.{Adds, Going, IsRunning, EndsAt, ReadsAnswer, AnswerFails}
-use Rattle.gixp_lines.proofs.AnswerRunLemmas.{going-start, going-turn, going-line, going-stop, going-reset, going-whole, going-refused, going-memory, going-fails, stop_taken}
+use Rattle.gixp_lines.specs.Reads.{stop_behind, Adds, Going, IsRunning, EndsAt, ReadsAnswer, AnswerFails}
+use Rattle.gixp_lines.proofs.AnswerRunLemmas.{going-start, going-turn, going-line, going-stop, going-reset, going-whole, going-refused, going-memory, going-fails, stop_taken, last_line, last_mark}
 
 -- what is left behind these items, in this section or where a header is due
 abbrev pub left_of : AnswerValue → Option Section → Pieces → Found
@@ -28,7 +28,8 @@ left_of had at q = in_front had (sections_from q.list q.end at)
 
 -- an answer of sections is being read
 pub record Within (had : AnswerValue) (at : Option Section) (old now : Reading) : Type 0 where
-  pub going : Going v2_answer (left_of had at) old now
+  pub taken : List Piece
+  pub going : Going v2_answer (left_of had at) taken old now
   pub running : IsRunning V2 now
   pub no_pack : had.pack ≡ false
 
@@ -40,15 +41,16 @@ none_had (refused e) = refl
 pub within-start : (old now : Reading) → now ≡ reset_to V2 old → Within (no_more false) None old now
 within-start old now e =
     let all = going-start v2_answer V2 old now e in
-    record { going = going-turn v2_answer v2_answer (left_of (no_more false) None) old now all.0 (λ q. none_had (v2_answer q)); running = all.1; no_pack = refl }
+    record { taken = []; going = going-turn v2_answer v2_answer (left_of (no_more false) None) [] old now all.0 (λ q. none_had (v2_answer q)); running = all.1; no_pack = refl }
 
 -- a header opens its section
 pub within-header : (had : AnswerValue) (s : Section) (old mid new : Reading) → Within had None old mid → TakesLine mid new → read_header new.line ≡ Ok (Of s)
     → Within had (Some s) old new
 within-header had s old mid new h t is =
-    let all = going-line v2_answer (left_of had None) V2 old mid new h.going h.running t in
+    let all = going-line v2_answer (left_of had None) V2 h.taken old mid new h.going h.running t in
     record {
-      going = going-turn v2_answer _ (left_of had (Some s)) old new all.0 (λ q. rw is refl);
+      taken = h.taken ++ line new.line ∷ [];
+      going = going-turn v2_answer _ (left_of had (Some s)) _ old new all.0 (λ q. rw is refl);
       running = all.1;
       no_pack = h.no_pack;
     }
@@ -57,8 +59,8 @@ within-header had s old mid new h t is =
 pub within-pack : (had : AnswerValue) (old mid new : Reading) → Within had None old mid → TakesLine mid new → read_header new.line ≡ Ok Packfile
     → ReadsAnswer v2_answer V2 old new (record had { pack = true })
 within-pack had old mid new h t is =
-    let all = going-line v2_answer (left_of had None) V2 old mid new h.going h.running t in
-    going-whole v2_answer _ V2 old new (record had { pack = true }) all.0 all.1.version all.1.stopped (λ q. rw is (simp append-nil refl))
+    let all = going-line v2_answer (left_of had None) V2 h.taken old mid new h.going h.running t in
+    going-whole v2_answer _ V2 _ old new (record had { pack = true }) all.0 all.1.version all.1.stopped all.1.stopped (λ q. rw is (simp append-nil refl))
 
 both_assoc : (a b : AnswerValue) (f : Found) → in_front a (in_front b f) ≡ in_front (both a.pack a b) f
 both_assoc a b (whole v rest) = simp append_assoc refl
@@ -68,9 +70,10 @@ both_assoc a b (refused e) = refl
 pub within-item : (had more : AnswerValue) (s : Section) (old mid new : Reading) (item : AnswerValue) → Within had (Some s) old mid → TakesLine mid new
     → read_item s new.line ≡ Ok item → more ≡ both had.pack had item → Within more (Some s) old new
 within-item had more s old mid new item h t is m =
-    let all = going-line v2_answer (left_of had (Some s)) V2 old mid new h.going h.running t in
+    let all = going-line v2_answer (left_of had (Some s)) V2 h.taken old mid new h.going h.running t in
     record {
-      going = going-turn v2_answer _ (left_of more (Some s)) old new all.0 (λ q. rw (is, m) (both_assoc had item (sections_from q.list q.end (Some s))));
+      taken = h.taken ++ line new.line ∷ [];
+      going = going-turn v2_answer _ (left_of more (Some s)) _ old new all.0 (λ q. rw (is, m) (both_assoc had item (sections_from q.list q.end (Some s))));
       running = all.1;
       no_pack = rw m h.no_pack;
     }
@@ -99,12 +102,12 @@ pub within-delimiter : (had : AnswerValue) (s : Section) (old mid new last : Rea
     → Within had None old last
 within-delimiter had s old mid new last h a f e =
     let t = stop_taken V2 mid new h.running a in
-    let went = going-stop v2_answer (left_of had (Some s)) V2 old mid new t.0 h.going h.running t.1 in
+    let went = going-stop v2_answer (left_of had (Some s)) V2 h.taken old mid new t.0 h.going h.running t.1 in
     let stop : is_stop V2 t.0 ≡ true = subst (λ v. is_stop v t.0 ≡ true) h.running.version t.1.is_stop in
     let none : is_flush (Some t.0) ≡ false = subst (λ o. is_flush o ≡ false) t.1.stopped f in
-    let turned = going-turn v2_answer _ (left_of had None) old new went (λ q. ap (in_front had) (closed_is t.0 q (sections_from q.list q.end None) stop none)) in
-    let all = going-reset v2_answer (left_of had None) V2 old new last turned e in
-    record { going = all.0; running = all.1; no_pack = h.no_pack }
+    let turned = going-turn v2_answer _ (left_of had None) _ old new went (λ q. ap (in_front had) (closed_is t.0 q (sections_from q.list q.end None) stop none)) in
+    let all = going-reset v2_answer (left_of had None) V2 _ old new last turned e in
+    record { taken = h.taken ++ mark t.0 ∷ []; going = all.0; running = all.1; no_pack = h.no_pack }
 
 had_all : (had : AnswerValue) → had.pack ≡ false → both false had (no_more false) ≡ had
 had_all had e = simp (append-nil, sym e) refl
@@ -118,18 +121,19 @@ pub within-flush : (had : AnswerValue) (s : Section) (old mid new : Reading) →
     → ReadsAnswer v2_answer V2 old new had
 within-flush had s old mid new h a f =
     let t = stop_taken V2 mid new h.running a in
-    let went = going-stop v2_answer (left_of had (Some s)) V2 old mid new t.0 h.going h.running t.1 in
+    let went = going-stop v2_answer (left_of had (Some s)) V2 h.taken old mid new t.0 h.going h.running t.1 in
     let flush : is_flush (Some t.0) ≡ true = subst (λ o. is_flush o ≡ true) t.1.stopped f in
-    going-whole v2_answer _ V2 old new had went (t.1.version ∙ h.running.version) (subst (λ b. EndsAt V2 b new.stopped) (sym h.no_pack) (flush_is new.stopped f))
+    going-whole v2_answer _ V2 _ old new had went (t.1.version ∙ h.running.version) (subst (λ b. EndsAt V2 b new.stopped) (sym h.no_pack) (flush_is new.stopped f))
+    (subst (λ b. new.stopped ≡ stop_behind b (h.taken ++ mark t.0 ∷ [])) (sym h.no_pack) (last_mark h.taken t.0 new.stopped t.1.stopped))
     (λ q. ap (in_front had) (flushed_is t.0 q (sections_from q.list q.end None) flush) ∙ ap (λ v. whole v q) (had_all had h.no_pack))
 
 -- a stop where a header is due
 pub within-no_header : (plain : Bool) (had : AnswerValue) (old mid new : Reading) → Within had None old mid → AtStop mid new → AnswerFails v2_answer plain old new (Io UnexpectedEof)
 within-no_header plain had old mid new h a =
     let t = stop_taken V2 mid new h.running a in
-    let went = going-stop v2_answer (left_of had None) V2 old mid new t.0 h.going h.running t.1 in
+    let went = going-stop v2_answer (left_of had None) V2 h.taken old mid new t.0 h.going h.running t.1 in
     let stop : is_stop V2 t.0 ≡ true = subst (λ v. is_stop v t.0 ≡ true) h.running.version t.1.is_stop in
-    going-refused plain v2_answer _ old new (io_failed UnexpectedEof) (Io UnexpectedEof) went (λ q. rw stop refl) refl (λ _. refl)
+    going-refused plain v2_answer _ _ old new (io_failed UnexpectedEof) (Io UnexpectedEof) went (last_mark h.taken t.0 new.stopped t.1.stopped) (λ q. rw stop refl) refl (λ _. refl)
 
 of_header : (b : Bool) (o : Option Header) (text : List ℕ) (r : AnswerRefusal) → cond b (or_refused (unknown_header text) o) (Err (by_reader not_utf8)) ≡ Err r → is_of_line r ≡ true
 of_header true (Some x) text r h = cc
@@ -148,23 +152,23 @@ memory_is r e h = subst (λ k. IsRefusal k r) (sym h) (λ n. cc)
 pub within-bad_header : (plain : Bool) (had : AnswerValue) (old mid new : Reading) (o : Result Header AnswerRefusal) (e : Error) → Within had None old mid → TakesLine mid new
     → read_header new.line ≡ o → Answers (λ (x : Header). x) o (Err e) → AnswerFails v2_answer plain old new e
 within-bad_header plain had old mid new (Ok x) e h t is a =
-    let all = going-line v2_answer (left_of had None) V2 old mid new h.going h.running t in
-    subst (AnswerFails v2_answer plain old new) (sym a) (going-memory plain v2_answer _ old new all.0)
+    let all = going-line v2_answer (left_of had None) V2 h.taken old mid new h.going h.running t in
+    subst (AnswerFails v2_answer plain old new) (sym a) (going-memory plain v2_answer _ _ old new all.0 all.1.stopped)
 within-bad_header plain had old mid new (Err r) e h t is a =
-    let all = going-line v2_answer (left_of had None) V2 old mid new h.going h.running t in
+    let all = going-line v2_answer (left_of had None) V2 h.taken old mid new h.going h.running t in
     let l : is_of_line r ≡ true = of_header (is_utf8 new.line) (header_of (trimmed new.line)) new.line r is in
-    going-refused plain v2_answer _ old new r e all.0 (λ q. rw is refl) l a
+    going-refused plain v2_answer _ _ old new r e all.0 (last_line h.taken new.line new.stopped all.1.stopped) (λ q. rw is refl) l a
 
 -- a line that is no item of its section, or for which there was no memory
 pub within-bad_item : (plain : Bool) (had more : AnswerValue) (s : Section) (old mid new : Reading) (o : Result AnswerValue AnswerRefusal) (e : Error) → Within had (Some s) old mid → TakesLine mid new
     → read_item s new.line ≡ o → Adds o had more (Err e) → AnswerFails v2_answer plain old new e
 within-bad_item plain had more s old mid new (Ok x) e h t is a =
-    let all = going-line v2_answer (left_of had (Some s)) V2 old mid new h.going h.running t in
-    subst (AnswerFails v2_answer plain old new) (sym a) (going-memory plain v2_answer _ old new all.0)
+    let all = going-line v2_answer (left_of had (Some s)) V2 h.taken old mid new h.going h.running t in
+    subst (AnswerFails v2_answer plain old new) (sym a) (going-memory plain v2_answer _ _ old new all.0 all.1.stopped)
 within-bad_item plain had more s old mid new (Err r) e h t is a =
-    let all = going-line v2_answer (left_of had (Some s)) V2 old mid new h.going h.running t in
+    let all = going-line v2_answer (left_of had (Some s)) V2 h.taken old mid new h.going h.running t in
     let l : is_of_line r ≡ true = of_item (is_utf8 new.line) (item_of s new.line) new.line r is in
-    going-refused plain v2_answer _ old new r e all.0 (λ q. rw is refl) l a
+    going-refused plain v2_answer _ _ old new r e all.0 (last_line h.taken new.line new.stopped all.1.stopped) (λ q. rw is refl) l a
 
 refuses_header : (b : Bool) (kind : MessageKind) (p : Pieces) (e : Refusal) → cond b (stops kind p) (refuses unexpected_frame) ≡ refuses e → refused (not_opened b) ≡ refused (from_reader e)
 refuses_header true kind p e h = cc
@@ -190,7 +194,7 @@ sections_refused (Some s) (mark kind ∷ ps) end e h = refuses_section kind (rec
 pub within-fails : (plain : Bool) (had : AnswerValue) (at : Option Section) (old mid new : Reading) (r : ReadError) (e : Error) → Within had at old mid → Fails mid new (refusal_of r)
     → (plain ≡ true → IsPlain new (refusal_of r)) → answer_refusal e ≡ from_reader (refusal_of r) → AnswerFails v2_answer plain old new e
 within-fails plain had at old mid new r e h f p is =
-    going-fails plain v2_answer (left_of had at) V2 old mid new r e h.going h.running
+    going-fails plain v2_answer (left_of had at) V2 h.taken old mid new r e h.going h.running
     (λ q n. ap (in_front had) (sections_refused at q.list q.end (refusal_of r) n)) f p is
 
 -- the header that was read is the definition's

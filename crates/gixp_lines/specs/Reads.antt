@@ -1,11 +1,11 @@
 -- What the reading of an answer does to its reader.
-use Rattle.std.specs.Prelude.{◌≡◌, ◌⊎◌, Bool, true, false, Option, Some, None, IfSome, List, Result, Ok, Err}
+use Rattle.std.specs.Prelude.{◌≡◌, ◌⊎◌, Bool, true, false, Option, Some, None, IfSome, List, [], ◌∷◌, Result, Ok, Err}
 use Rattle.std.specs.declared.io.ErrorKind.TheVariants.{UnexpectedEof}
 use Rattle.gixp_wire.specs.declared.protocol.MessageKind.{MessageKind}
 use Rattle.gixp_wire.specs.declared.protocol.MessageKind.TheVariants.{Flush}
 use Rattle.gixp_wire.specs.declared.protocol.Protocol.{Protocol}
 use Rattle.gixp_wire.specs.declared.protocol.Protocol.TheVariants.{V0, V1, V2}
-use Rattle.gixp_wire.specs.Pieces.{Refusal, io, Piece, Pieces, no_pieces}
+use Rattle.gixp_wire.specs.Pieces.{Refusal, io, Piece, line, mark, Pieces, no_pieces}
 use Rattle.gixp_wire.specs.Reading.{Reading, IsLasting, IsOutside, IsPlain, BreaksOff, Rose}
 use Rattle.gixp_lines.specs.declared.fetch.response.error.Error.{Error}
 use Rattle.gixp_lines.specs.declared.fetch.response.error.Error.TheVariants.{Memory}
@@ -31,6 +31,22 @@ Adds (Err r) old new (Err e) = IsRefusal e r
 abbrev pub Took : List Piece → Reading → Reading → Type 0
 Took taken old now = IfSome old.to_come (λ p. (q : Pieces) × (now.to_come ≡ Some q) × (p ≡ front taken q))
 
+-- the stop that a piece is, if it is one
+abbrev pub stop_of : Piece → Option MessageKind
+stop_of (line text) = None
+stop_of (mark kind) = Some kind
+
+-- the stop that stands last in some pieces
+abbrev pub last_stop : List Piece → Option MessageKind
+last_stop [] = None
+last_stop (p ∷ []) = stop_of p
+last_stop (p ∷ q ∷ ps) = last_stop (q ∷ ps)
+
+-- the stop behind the pieces of an answer: none in front of a pack
+abbrev pub stop_behind : Bool → List Piece → Option MessageKind
+stop_behind true taken = None
+stop_behind false taken = last_stop taken
+
 -- where an answer without a pack ends: version 2 at a flush, versions 0 and 1 at the second of two flushes, or at no stop
 abbrev pub EndsBare : Protocol → Option MessageKind → Type 0
 EndsBare V2 at = at ≡ Some Flush
@@ -41,8 +57,13 @@ abbrev pub EndsAt : Protocol → Bool → Option MessageKind → Type 0
 EndsAt under true at = at ≡ None
 EndsAt under false at = EndsBare under at
 
--- the answer in the pieces to come was read, and what stands behind it is still to come
+-- the answer in the pieces to come was read, and what stands behind it is still to come; where those aren't known, it is that of the pieces taken and of what may stand behind them
 pub record ReadsAnswer (found : Pieces → Found) (under : Protocol) (old new : Reading) (value : AnswerValue) : Type 0 where
+  pub taken : List Piece
+  pub took : Took taken old new
+  pub behind : Pieces
+  pub said : found (front taken behind) ≡ whole value behind
+  pub at : new.stopped ≡ stop_behind value.pack taken
   pub answer : IfSome old.to_come (λ p. (q : Pieces) × (new.to_come ≡ Some q) × (found p ≡ whole value q))
   pub running : value.pack ≡ true → new.stopped ≡ None
   pub stopped : EndsAt under value.pack new.stopped
@@ -69,6 +90,8 @@ pub record LineRefused (found : Pieces → Found) (old new : Reading) (e : Error
   pub took : Took taken old new
   pub refusal : AnswerRefusal
   pub of_line : is_of_line refusal ≡ true
+  pub always : (q : Pieces) → found (front taken q) ≡ refused refusal
+  pub stopped : new.stopped ≡ last_stop taken
   pub first : IfSome old.to_come (λ p. found p ≡ refused refusal)
   pub error : IsRefusal e refusal
   pub failures : new.failures ≡ old.failures
@@ -79,6 +102,7 @@ pub record ReaderRefused (found : Pieces → Found) (old new : Reading) (e : Err
   pub lasting : IsLasting refusal
   pub first : IfSome old.to_come (λ p. found p ≡ refused (from_reader refusal))
   pub refused : new.refused ≡ Some refusal
+  pub stopped : new.stopped ≡ None
   pub error : answer_refusal e ≡ from_reader refusal
   pub failures : new.failures ≡ old.failures
 
@@ -90,6 +114,7 @@ pub record ReaderFailed (plain : Bool) (old new : Reading) (e : Error) : Type 0 
   pub failures : now.failures ≡ old.failures
   pub refusal : Refusal
   pub failed : IsOutside now new refusal
+  pub stopped : new.stopped ≡ None
   pub is_plain : plain ≡ true → IsPlain new refusal
   pub error : answer_refusal e ≡ from_reader refusal
 
@@ -97,6 +122,7 @@ pub record ReaderFailed (plain : Bool) (old new : Reading) (e : Error) : Type 0 
 pub record NoMemory (old new : Reading) (e : Error) : Type 0 where
   pub taken : List Piece
   pub took : Took taken old new
+  pub stopped : new.stopped ≡ None
   pub error : e ≡ Memory
   pub failures : new.failures ≡ old.failures
 
@@ -104,9 +130,8 @@ pub record NoMemory (old new : Reading) (e : Error) : Type 0 where
 abbrev pub AnswerFails : (Pieces → Found) → Bool → Reading → Reading → Error → Type 0
 AnswerFails found plain old new e = LineRefused found old new e ⊎ ReaderRefused found old new e ⊎ ReaderFailed plain old new e ⊎ NoMemory old new e
 
--- how far an answer was read: what was taken of it, and what is left of it to be found
-pub record Going (found rest : Pieces → Found) (old now : Reading) : Type 0 where
-  pub taken : List Piece
+-- how far an answer was read: these pieces were taken of it, and what is left of it to be found
+pub record Going (found rest : Pieces → Found) (taken : List Piece) (old now : Reading) : Type 0 where
   pub took : Took taken old now
   pub same : (q : Pieces) → found (front taken q) ≡ rest q
   pub failures : now.failures ≡ old.failures

@@ -44,6 +44,7 @@ pub record ReadsRefs (old new : Reading) (refs : List Ref) : Type 0 where
   pub kind : MessageKind
   pub texts : List (List ℕ)
   pub lines : IfSome old.to_come (λ p. (q : Pieces) × (new.to_come ≡ Some q) × (lines_ahead old p ≡ lines_to texts (stop kind q)))
+  pub values : AreRefs texts (map ref_value refs)
   pub value : IfSome old.to_come (λ p. v2_refs (lines_ahead old p) ≡ Ok (map ref_value refs))
   pub stopped : new.stopped ≡ Some kind
   pub version : new.version ≡ old.version
@@ -55,6 +56,7 @@ pub record LineRefused (old new : Reading) (e : Error) : Type 0 where
   pub texts : List (List ℕ)
   pub text : List ℕ
   pub read : SoFar old new (texts ++ text ∷ [])
+  pub before : (values : List RefValue) × AreRefs texts values
   pub refusal : RefsRefusal
   pub line : v2_line text ≡ Err refusal
   pub first : IfSome old.to_come (λ p. v2_refs (lines_ahead old p) ≡ Err refusal)

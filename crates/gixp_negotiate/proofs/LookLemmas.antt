@@ -18,8 +18,8 @@ use Rattle.gixp_graph.specs.Held.{Held, GraphData, found_in, put, shown, as_read
 use Rattle.gixp_graph.specs.Complete.{IsComplete}
 use Rattle.gixp_graph.specs.Run.{Call, IsRun}
 use Rattle.gixp_graph.specs.Laws.{faithful_reads, marked_looked_up, held_looked_up}
-use Rattle.gixp_negotiate.specs.declared.refmap.Mapping.{Mapping}
-use Rattle.gixp_negotiate.specs.RefMap.{mapping_id}
+use Rattle.gixp_refmap.specs.declared.refmap.mapping.Mapping.{Mapping}
+use Rattle.gixp_negotiate.specs.Mapping.{mapping_id}
 use Rattle.gixp_negotiate.specs.Rounds.{with_common, keeping, keeping_all}
 use Rattle.gixp_negotiate.specs.Marking.{mapping_ids, look, look_each, commit_time, time_at, later, cutoff_from, cutoff_of, is_here, is_known, tips_in, Tells, Marks}
 

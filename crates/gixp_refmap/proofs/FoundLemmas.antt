@@ -75,9 +75,10 @@ taken_of_refs specs refs j s None (ObjectId bytes) e h = tt
 -- the same of each mapping
 good_of_origins : (specs : List Spec) (refs : List RefValue) (ms : List Mapped) → AllByRecursion (HasOrigin specs (value_names refs)) ms → AllByRecursion (Good specs refs) ms
 good_of_origins specs refs [] h = tt
-good_of_origins specs refs (m ∷ ms) h =
-    (record { place = slice_get_within specs m.spec h.0.origin h.0.at_place; item = taken_of_refs specs refs m.spec h.0.origin m.item m.source h.0.at_place h.0.taken },
-    good_of_origins specs refs ms h.1)
+good_of_origins specs refs (m ∷ ms) h = (
+  record { place = slice_get_within specs m.spec h.0.origin h.0.at_place; item = taken_of_refs specs refs m.spec h.0.origin m.item m.source h.0.at_place h.0.taken },
+  good_of_origins specs refs ms h.1,
+)
 
 -- each mapping is of one of the refspecs, and takes an id or the first ref of its name
 pub found_are_good : MappingsHaveOrigins → (specs : List Spec) (refs : List RefValue) → AllByRecursion (Good specs refs) (found_in specs refs)

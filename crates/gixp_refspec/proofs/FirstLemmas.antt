@@ -1,8 +1,8 @@
 -- Of equal mappings the first.
 use Rattle.std.proofs.Common.{◌≡◌, ℕ, ◌+◌, ◌<◌, length, take, drop, get_or, append_assoc, Bool, true, false, cond, List, [], ◌∷◌, ◌++◌, map, ap, sym, ◌∙◌, refl, inl, inr}
 use Rattle.std.specs.Prelude.{filter, not, ◌&&◌, ◌||◌}
-use Rattle.std.specs.List.{list_any, list_all}
-use Rattle.std.proofs.lemmas.Bool.{cases_Bool, cond-true, and_parts}
+use Rattle.std.specs.List.{list_any}
+use Rattle.std.proofs.lemmas.Bool.{cases_Bool}
 use Rattle.std.proofs.lemmas.List.{take_more, drop_more, get_or-map, length-map, append-nil}
 use Rattle.std.proofs.Math.Seq.{drop-length}
 use Rattle.std.proofs.lemmas.List.Folds.{list_any-append}
@@ -50,21 +50,6 @@ flagged-first_flags earlier (m ∷ ms) =
     ∙ kept_same _ _ (λ later. sym (fresh_more earlier m later)) (firsts ms) ∙ sym (filter_both (is_fresh earlier) (λ later. not (is_same m later)) (firsts ms)) in
     flagged-cons m ms (is_fresh earlier m) (first_flags (earlier ++ m ∷ []) ms)
     ∙ ap (λ r. cond (is_fresh earlier m) (m ∷ r) r) rest
-
--- where all flags are true, they keep all
-all_flagged : (earlier ms : List Mapped) → list_all (λ flag. flag) (first_flags earlier ms) ≡ true → flagged ms (first_flags earlier ms) ≡ ms
-all_flagged earlier [] h = refl
-all_flagged earlier (m ∷ ms) h =
-    let both = and_parts (is_fresh earlier m) (list_all (λ flag. flag) (first_flags (earlier ++ m ∷ []) ms)) h in
-    flagged-cons m ms (is_fresh earlier m) (first_flags (earlier ++ m ∷ []) ms)
-    ∙ cond-true _ _ _ both.0 ∙ ap (λ r. m ∷ r) (all_flagged (earlier ++ m ∷ []) ms both.1)
-
--- where all flags are true, all are the first of equal ones
-pub firsts_are_all : {A : Type 0} (h : A → Mapped) (xs items : List A) (flags : List Bool) → items ≡ xs → flags ≡ first_flags [] (map h items) → list_all (λ flag. flag) flags ≡ true → map h xs ≡ firsts (map h xs)
-firsts_are_all h xs items flags same marks all =
-    let marked : flags ≡ first_flags [] (map h xs) = marks ∙ ap (λ ys. first_flags [] (map h ys)) same in
-    sym (all_flagged [] (map h xs) (ap (list_all (λ flag. flag)) (sym marked) ∙ all))
-    ∙ flagged-first_flags [] (map h xs) ∙ filter_all (firsts (map h xs))
 
 -- what a function makes of those that are kept
 flagged-map : {A B : Type 0} (h : A → B) (xs : List A) (flags : List Bool) → map h (flagged xs flags) ≡ flagged (map h xs) flags

@@ -18,7 +18,7 @@ pub mod LawLemmas
 pub mod SortedLemmas
 pub mod DifferLemmas
 pub mod UniqueLemmas
-pub mod ApartLemmas
+pub mod DistinctLemmas
 pub mod KeptLemmas
 pub mod BackedLemmas
 pub mod OriginLemmas

@@ -103,3 +103,9 @@ flat_map-append_one f (y ∷ ys) x = ap (λ z. f y ++ z) (flat_map-append_one f 
 -- a step of a loop over items that were yielded one by one
 pub made_more : {A B : Type 0} (f : A → List B) (now new : List B) (xs : List A) (x : A) → now ≡ flat_map f xs → new ≡ now ++ f x → new ≡ flat_map f (xs ++ x ∷ [])
 made_more f now new xs x kept step = step ∙ ap (λ z. z ++ f x) kept ∙ sym (flat_map-append_one f xs x)
+
+-- a step of a loop that appends what it makes of each element, where the element was read as x
+pub gathered_more : {A B C : Type 0} (h : A → B) (f : B → List C) (now new : List C) (xs : List A) (i : ℕ) (x : A) → x ≡ get_or xs i x → i < length xs
+    → now ≡ flat_map f (take i (map h xs)) → new ≡ now ++ f (h x) → new ≡ flat_map f (take (i + 1) (map h xs))
+gathered_more h f now new xs i x e l kept step =
+    made_more f now new (take i (map h xs)) (h (get_or xs i x)) kept (step ∙ ap (λ y. now ++ f (h y)) e) ∙ ap (flat_map f) (sym (take-map_more h xs i x l))

@@ -9,6 +9,7 @@ pub(crate) mod key;
 mod local;
 pub(crate) mod needle;
 mod pairs;
+mod sorted;
 pub mod validate;
 
 use crate::match_group::distinct::firsts;

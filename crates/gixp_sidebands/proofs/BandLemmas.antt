@@ -1,5 +1,5 @@
 -- A reader of bands over a reader of banded lines.
-use Rattle.std.proofs.Common.{◌≡◌, ℕ, ◌≤◌, ◌⊎◌, inl, inr, Bool, true, false, cond, List, [], ◌∷◌, drop, refl, sym, ap, subst, ◌∙◌, arith, Option, Some, None, IfSome, IsSome}
+use Rattle.std.proofs.Common.{◌≡◌, ℕ, ◌≤◌, ◌⊎◌, inl, inr, Bool, true, false, cond, List, [], ◌∷◌, drop, refl, sym, ap, subst, ◌∙◌, arith, Option, Some, None, IfSome, IsSome, length-drop}
 use Rattle.std.specs.Prelude.{◌&&◌}
 use Rattle.std.specs.Option.{option_map}
 use Rattle.std.specs.Borrow.{GName}
@@ -263,6 +263,7 @@ shows_content o now new name s h k =
       peeked = rw (h.peeked, k) refl;
       failures = h.failures ∙ s.failures;
       left = let a = s.left in let b = h.left in omega arith;
+      room = let a = h.room in omega (arith, length-drop 1 new.line);
       held = held_above name now new h.held ∙ s.held;
     }
 

@@ -1,5 +1,5 @@
 -- Bytes of band 1 that are handed out.
-use Rattle.std.proofs.Common.{◌≡◌, ℕ, ◌+◌, ◌-◌, ◌<◌, ◌≤◌, ◌⊎◌, Bool, true, false, List, [], ◌∷◌, ◌++◌, length, drop, take, refl, sym, ap, ◌∙◌, arith, Option, Some, None, IfSome, Ok, min, inl, inr, subst, length-append, take-append-drop, take_all, length-drop}
+use Rattle.std.proofs.Common.{◌≡◌, ℕ, ◌+◌, ◌-◌, ◌<◌, ◌≤◌, ◌⊎◌, Bool, true, false, List, [], ◌∷◌, ◌++◌, length, drop, take, refl, sym, ap, ◌∙◌, arith, Option, Some, None, IfSome, Ok, min, inl, inr, subst, length-append, take-append-drop, take_all, length-drop, append-nil, IsSome}
 use Rattle.std.specs.Prelude.{◌&&◌, nat_lt, is_some}
 use Rattle.std.proofs.lemmas.List.{drop-drop, take-append-le, drop-append-le, length-take-le}
 use Rattle.std.specs.Option.{option_map}
@@ -9,13 +9,14 @@ use Rattle.gixp_wire.specs.declared.protocol.Protocol.{Protocol}
 use Rattle.gixp_wire.specs.declared.protocol.MessageKind.{MessageKind}
 use Rattle.gixp_sidebands.specs.declared.sidebands.band.Band.{Band}
 use Rattle.gixp_sidebands.specs.declared.sidebands.band.Band.TheVariants.{Empty, Content, Text, Unknown}
-use Rattle.gixp_wire.specs.Pieces.{Refusal, unexpected_frame, Piece, line, mark, Pieces, no_pieces}
+use Rattle.gixp_wire.specs.Pieces.{Refusal, io, unexpected_frame, Piece, line, mark, Pieces, no_pieces}
 use Rattle.gixp_wire.specs.Items.{is_stop}
 use Rattle.gixp_wire.specs.Lines.{gives, stops, refuses, next_from, next_of}
-use Rattle.gixp_wire.specs.Reading.{Reading, TakesLine, ShowsLine, AtStop, Refuses, Faults, Fails, Peeks}
+use Rattle.gixp_wire.specs.Reading.{Reading, TakesLine, ShowsLine, AtStop, Refuses, Faults, IsFault, BreaksOff, Fails, Peeks, is_end}
 use Rattle.std.specs.IoError.{error_kind}
+use Rattle.std.specs.declared.io.ErrorKind.TheVariants.{UnexpectedEof}
 use Rattle.std.specs.declared.io.Error.{Error as io_error}
-use Rattle.gixp_sidebands.specs.Bands.{band_of, is_content, unband_line, unband_from, unband, content_from, content_of, Message, messages_line, messages_from, messages_of, is_held, front_line, shown, content_left, messages_left, HandsOut, Side, side_reading, banded_reading, side_content, IsFirstOf, ShowsContent, EndsContent, ShowsFirst, ReadsBytes, RefusesContent, KeepsContent, Fills, io_kind, place_after}
+use Rattle.gixp_sidebands.specs.Bands.{band_of, is_content, unband_line, unband_from, unband, content_from, content_of, Message, messages_line, messages_from, messages_of, is_held, front_line, shown, content_left, messages_left, HandsOut, Side, side_reading, banded_reading, side_content, IsFirstOf, ShowsContent, EndsContent, ShowsFirst, ReadsBytes, RefusesContent, Passes, IsFirst, Fills, io_kind, place_after}
 use Rattle.gixp_sidebands.proofs.PieceLemmas.{mark_not_gives}
 
 pub both_true : (a b : Bool) → (a && b) ≡ true → (a ≡ true) × (b ≡ true)
@@ -33,12 +34,14 @@ pub record HoldsLine (n : ℕ) (r : Reading) : Type 0 where
   pub peeked : r.peeked ≡ true
   pub content : band_of r.line ≡ Content
   pub more : n + 1 < length r.line
+  pub room : length r.line < r.left
 
 pub holds_line : (n : ℕ) (r : Reading) → is_held (Some n) r ≡ true → HoldsLine n r
 holds_line n r h =
-    let a = both_true r.peeked (is_content (band_of r.line) && nat_lt (n + 1) (length r.line)) h in
-    let b = both_true (is_content (band_of r.line)) (nat_lt (n + 1) (length r.line)) a.1 in
-    record { peeked = a.0; content = content_is (band_of r.line) b.0; more = ltb-true (n + 1) (length r.line) b.1 }
+    let a = both_true r.peeked (is_content (band_of r.line) && (nat_lt (n + 1) (length r.line) && nat_lt (length r.line) r.left)) h in
+    let b = both_true (is_content (band_of r.line)) (nat_lt (n + 1) (length r.line) && nat_lt (length r.line) r.left) a.1 in
+    let c = both_true (nat_lt (n + 1) (length r.line)) (nat_lt (length r.line) r.left) b.1 in
+    record { peeked = a.0; content = content_is (band_of r.line) b.0; more = ltb-true (n + 1) (length r.line) c.0; room = ltb-true (length r.line) r.left c.1 }
 
 content_line : (k : Band) (text : List ℕ) (rest : Pieces) → k ≡ Content → content_from (unband_line k text rest).list ≡ drop 1 text ++ content_from rest.list
 content_line k text rest e = ap (λ x. content_from (unband_line x text rest).list) e
@@ -93,6 +96,9 @@ hands_part n k r held less =
       version = refl;
       failures = refl;
       left = omega arith;
+      bound =
+          let h = holds_line n r held in
+          omega (arith, h.room, length-drop (n + 1) r.line, length-take-le k (shown (Some n) r) (omega (arith, length-drop (n + 1) r.line)));
       held = refl;
     }
   where
@@ -119,6 +125,12 @@ hands_all n k r new held more t =
       version = t.version;
       failures = t.failures;
       left = let a = t.left in omega arith;
+      bound =
+          let h = holds_line n r held in
+          let a = t.left in
+          let same = ap length (t.again h.peeked) in
+          let all = ap length (take_all k (shown (Some n) r) (omega (arith, length-drop (n + 1) r.line))) in
+          omega (arith, h.more, length-drop (n + 1) r.line);
       held = t.held;
     }
   where
@@ -181,6 +193,7 @@ shows_content_at : (old new : Side) → old.place ≡ None → new.place ≡ Som
 shows_content_at old new o n f held first h =
     record {
       content = rw (o, n) (content old.reading.to_come new.reading.to_come old.reading.stopped h.running first h.next);
+      bound = rw (o, n) (let a = h.left in omega arith);
       some = rw n (let l = holds_line 0 new.reading (rw n at held) in omega (arith, length-drop 1 new.reading.line, l.more));
       version = h.version;
       failures = h.failures;
@@ -191,14 +204,72 @@ shows_content_at old new o n f held first h =
   where
     content : (a b : Option Pieces) (s : Option MessageKind) → s ≡ None → IfSome a (λ p. (q : Pieces) × (b ≡ Some q) × (front_line q.list ≡ new.reading.line))
         → IfSome (option_map unband a) (λ p. (q : Pieces) × (option_map unband b ≡ Some p) × (next_of old.reading.version p ≡ gives (drop 1 new.reading.line) q))
-        → IfSome a (λ p. Unit {0} → (q : Pieces) × (b ≡ Some q) × (front_line q.list ≡ new.reading.line) × (drop 0 (content_of q) ≡ content_left None s p))
+        → IfSome a (λ p. Unit {0} → (q : Pieces) × (b ≡ Some q) × (front_line q.list ≡ new.reading.line) × (content_left None s p ≡ drop 0 (content_of q)))
     content None b s e k m = tt
     content (Some p) b s e k m = λ _.
         let u : unband k.0 ≡ unband p = let x : Some (unband k.0) ≡ Some (unband p) = sym (ap (option_map unband) k.1) ∙ m.1 in cc in
-        rw e (k.0, k.1, k.2, ap (λ x. content_from x.list) u)
+        rw e (k.0, k.1, k.2, sym (ap (λ x. content_from x.list) u))
+
+-- where no packet is at hand any more, it is the first of what is to come
+unopened_passes : (old new : Side) (bytes : List ℕ) → new.place ≡ None
+    → IfSome old.reading.to_come (λ p. (q : Pieces) × (new.reading.to_come ≡ Some q) × (side_content old p ≡ bytes ++ side_content new q)) → Passes old new bytes
+unopened_passes old new bytes n = at old.reading.to_come
+  where
+    at : (o : Option Pieces) → IfSome o (λ p. (q : Pieces) × (new.reading.to_come ≡ Some q) × (side_content old p ≡ bytes ++ side_content new q))
+        → IfSome o (λ p. IsFirstOf old p → (q : Pieces) × (new.reading.to_come ≡ Some q) × IsFirstOf new q × (side_content old p ≡ bytes ++ side_content new q))
+    at None k = tt
+    at (Some p) k = λ _. (k.0, k.1, (let P : Option ℕ → Type 0 = λ x. IsFirst x new.reading k.0 in subst P (sym n) tt), k.2)
+
+known_below : (o : Option Pieces) (y : Pieces) → option_map unband o ≡ Some y → (q : Pieces) × (o ≡ Some q) × (unband q ≡ y)
+known_below None y h = absurd (let x = h in cc)
+known_below (Some q) y h = (q, refl, let x = h in cc)
+
+-- no content is left, and none was
+empty_passes : (old new : Side) → old.place ≡ None → new.place ≡ None → IfSome old.reading.to_come (λ p. side_content old p ≡ [])
+    → IfSome (option_map unband old.reading.to_come) (λ p. (y : Pieces) × (option_map unband new.reading.to_come ≡ Some y) × ((q : Pieces) → unband q ≡ y → content_left None new.reading.stopped q ≡ []))
+    → Passes old new []
+empty_passes old new o n c k = unopened_passes old new [] n (rw n (at old.reading.to_come new.reading.to_come c k))
+  where
+    at : (a b : Option Pieces) → IfSome a (λ p. side_content old p ≡ [])
+        → IfSome (option_map unband a) (λ p. (y : Pieces) × (option_map unband b ≡ Some y) × ((q : Pieces) → unband q ≡ y → content_left None new.reading.stopped q ≡ []))
+        → IfSome a (λ p. (q : Pieces) × (b ≡ Some q) × (side_content old p ≡ content_left None new.reading.stopped q))
+    at None b c k = tt
+    at (Some p) b c k = let f = known_below b k.0 k.1 in (f.0, f.1, c ∙ sym (k.2 f.0 f.2))
+
+at_stop : (s : Option MessageKind) (q : Pieces) → IsSome s → content_left None s q ≡ []
+at_stop None q h = absurd (let x = h in cc)
+at_stop (Some kind) q h = refl
+
+-- at a stop
+stop_behind : (old new : Reading) → AtStop old new → IfSome old.to_come (λ p. (y : Pieces) × (new.to_come ≡ Some y) × ((q : Pieces) → unband q ≡ y → content_left None new.stopped q ≡ []))
+stop_behind old new (inl h) = at old.to_come h.stays.to_come
+  where
+    at : (o : Option Pieces) → IfSome o (λ p. new.to_come ≡ Some p) → IfSome o (λ p. (y : Pieces) × (new.to_come ≡ Some y) × ((q : Pieces) → unband q ≡ y → content_left None new.stopped q ≡ []))
+    at None k = tt
+    at (Some p) k = (p, k, λ q _. at_stop new.stopped q (let P : Option MessageKind → Type 0 = IsSome in subst P (sym h.stays.stopped) h.was))
+stop_behind old new (inr h) = at old.to_come h.1.next
+  where
+    at : (o : Option Pieces) → IfSome o (λ p. (q : Pieces) × (new.to_come ≡ Some q) × (next_of old.version p ≡ stops h.0 q))
+        → IfSome o (λ p. (y : Pieces) × (new.to_come ≡ Some y) × ((q : Pieces) → unband q ≡ y → content_left None new.stopped q ≡ []))
+    at None k = tt
+    at (Some p) k = (k.0, k.1, λ q _. at_stop new.stopped q (let P : Option MessageKind → Type 0 = IsSome in subst P (sym h.1.stopped) refl))
+
+stop_left : (old new : Reading) → AtStop old new → new.left ≤ old.left
+stop_left old new (inl h) = h.stays.left
+stop_left old new (inr h) = h.1.left
 
 ends_content_at : (old new : Side) → old.place ≡ None → new.place ≡ None → new.fault ≡ None → AtStop (side_reading old) (side_reading new) → EndsContent old new
-ends_content_at old new o n f h = record { at_stop = h; content = rw o (content old.reading.to_come old.reading.stopped (rw o at h)); place = n; fault = f }
+ends_content_at old new o n f h =
+    let none : IfSome old.reading.to_come (λ p. side_content old p ≡ []) = rw o (content old.reading.to_come old.reading.stopped (rw o at h)) in
+    let k : AtStop (banded_reading false old.name old.reading) (banded_reading false new.name new.reading) = rw (o, n) at h in
+    record {
+      at_stop = h;
+      content = none;
+      rest = empty_passes old new o n none (stop_behind (banded_reading false old.name old.reading) (banded_reading false new.name new.reading) k);
+      bound = rw (o, n) (let a = stop_left (banded_reading false old.name old.reading) (banded_reading false new.name new.reading) k in omega arith);
+      place = n;
+      fault = f;
+    }
   where
     content : (a : Option Pieces) (s : Option MessageKind) → AtStop (record (banded_reading false old.name old.reading) { to_come = option_map unband a; stopped = s }) (side_reading new) → IfSome a (λ p. content_left None s p ≡ [])
     content None s h = tt
@@ -222,6 +293,7 @@ reads_bytes old mid new n rest buf buf' s h name fault r m b =
     ap (take n) b ∙ take-append-le n (take n rest) (drop n buf) (omega arith) ∙ take_all n (take n rest) (omega arith) ∙ ap (take n) r in (
       record {
         content = rw got (content old.reading.to_come mid.reading.to_come s.content h.content);
+        bound = let a = h.bound in let c = s.bound in let l = ap length got in omega arith;
         version = h.version ∙ s.version;
         failures = h.failures ∙ s.failures;
         left = let a = h.left in let c = s.left in omega arith;
@@ -232,7 +304,7 @@ reads_bytes old mid new n rest buf buf' s h name fault r m b =
     )
   where
     content : (a b : Option Pieces)
-        → IfSome a (λ p. IsFirstOf old p → (q : Pieces) × (b ≡ Some q) × IsFirstOf mid q × (side_content mid q ≡ side_content old p))
+        → IfSome a (λ p. IsFirstOf old p → (q : Pieces) × (b ≡ Some q) × IsFirstOf mid q × (side_content old p ≡ side_content mid q))
         → IfSome b (λ p. IsFirstOf mid p → (q : Pieces) × (new.reading.to_come ≡ Some q) × IsFirstOf new q × (side_content mid p ≡ take n (shown mid.place mid.reading) ++ side_content new q))
         → IfSome a (λ p. IsFirstOf old p → (q : Pieces) × (new.reading.to_come ≡ Some q) × IsFirstOf new q × (side_content old p ≡ take n (shown mid.place mid.reading) ++ side_content new q))
     content None b f k = tt
@@ -241,7 +313,7 @@ reads_bytes old mid new n rest buf buf' s h name fault r m b =
         let m = f z in
         let e : y ≡ m.0 = let x = m.1 in cc in
         let w = k (subst (IsFirstOf mid) (sym e) m.2) in
-        (w.0, w.1, w.2, sym m.3 ∙ ap (side_content mid) (sym e) ∙ w.3)
+        (w.0, w.1, w.2, m.3 ∙ ap (side_content mid) (sym e) ∙ w.3)
 
 pub none_of : (o : Option ℕ) → is_some o ≡ false → o ≡ None
 none_of None e = refl
@@ -257,20 +329,43 @@ refuses_empty v (line t ∷ ps) end e h = cc
 refuses_empty v (mark k ∷ ps) end e h = refl
 
 -- a fault leaves the content that is to come
-keeps_at : (old new : Side) (x : Refusal) → old.place ≡ None → new.place ≡ None → Faults (side_reading old) (side_reading new) x → KeepsContent old new
-keeps_at old new x o n f = rw (o, n) (by (rw (o, n) at f))
+fault_passes : (old new : Side) (x : Refusal) → old.place ≡ None → new.place ≡ None → Faults (banded_reading false old.name old.reading) (banded_reading false new.name new.reading) x → Passes old new []
+fault_passes old new x o n h =
+    unopened_passes old new [] n (rw (o, n) (at old.reading.to_come new.reading.to_come old.reading.stopped new.reading.stopped h.running (h.stays.stopped ∙ h.running) h.stays.to_come))
   where
     at : (a b : Option Pieces) (s s' : Option MessageKind) → s ≡ None → s' ≡ None → IfSome (option_map unband a) (λ p. option_map unband b ≡ Some p)
-        → IfSome a (λ p. (q : Pieces) × (b ≡ Some q) × (content_left None s' q ≡ content_left None s p))
+        → IfSome a (λ p. (q : Pieces) × (b ≡ Some q) × (content_left None s p ≡ content_left None s' q))
     at None b s s' e g k = tt
     at (Some p) None s s' e g k = absurd (let y = k in cc)
     at (Some p) (Some q) s s' e g k =
         let u : unband q ≡ unband p = let y : Some (unband q) ≡ Some (unband p) = k in cc in
-        rw (e, g) (q, refl, ap (λ y. content_from y.list) u)
+        rw (e, g) (q, refl, sym (ap (λ y. content_from y.list) u))
 
-    by : Faults (banded_reading false old.name old.reading) (banded_reading false new.name new.reading) x
-        → IfSome old.reading.to_come (λ p. (q : Pieces) × (new.reading.to_come ≡ Some q) × (content_left None new.reading.stopped q ≡ content_left None old.reading.stopped p))
-    by h = at old.reading.to_come new.reading.to_come old.reading.stopped new.reading.stopped h.running (h.stays.stopped ∙ h.running) h.stays.to_come
+-- nothing is left behind a refusal that stands
+refused_empty : (s : Option MessageKind) (x : Refusal) (q : Pieces) → s ≡ None → unband q ≡ no_pieces x → content_left None s q ≡ []
+refused_empty s x q e u = rw e (ap (λ y. content_from y.list) u)
+
+refusal_behind : (old new : Reading) (x : Refusal) → Refuses old new x → IfSome old.to_come (λ p. (y : Pieces) × (new.to_come ≡ Some y) × ((q : Pieces) → unband q ≡ y → content_left None new.stopped q ≡ []))
+refusal_behind old new x h = at old.to_come h.next
+  where
+    at : (o : Option Pieces) → IfSome o (λ p. (new.to_come ≡ Some (no_pieces x)) × (next_of old.version p ≡ refuses x))
+        → IfSome o (λ p. (y : Pieces) × (new.to_come ≡ Some y) × ((q : Pieces) → unband q ≡ y → content_left None new.stopped q ≡ []))
+    at None k = tt
+    at (Some p) k = (no_pieces x, k.0, λ q u. refused_empty new.stopped x q h.stopped u)
+
+-- all content was lost
+abbrev lost_of : Side → Option Pieces → List ℕ
+lost_of s None = []
+lost_of s (Some p) = side_content s p
+
+broken_passes : (old new : Side) (x : Refusal) → new.place ≡ None → BreaksOff (side_reading old) (banded_reading false new.name new.reading) x → Passes old new (lost_of old old.reading.to_come)
+broken_passes old new x n h = unopened_passes old new (lost_of old old.reading.to_come) n (rw n (at old.reading.to_come))
+  where
+    at : (a : Option Pieces) → IfSome a (λ p. (q : Pieces) × (new.reading.to_come ≡ Some q) × (side_content old p ≡ lost_of old a ++ content_left None new.reading.stopped q))
+    at None = tt
+    at (Some p) =
+        let f = known_below new.reading.to_come (no_pieces x) h.to_come in
+        (f.0, f.1, sym (append-nil (side_content old p)) ∙ ap (λ y. side_content old p ++ y) (sym (refused_empty new.reading.stopped x f.0 h.stopped f.2)))
 
 -- a refusal of the stream stands behind all content
 ends_at : (old new : Side) (x : Refusal) → old.place ≡ None → Refuses (side_reading old) (side_reading new) x → IfSome old.reading.to_come (λ p. side_content old p ≡ [])
@@ -284,7 +379,55 @@ ends_at old new x o r = rw o (by (rw o at r))
     by : Refuses (banded_reading false old.name old.reading) (side_reading new) x → IfSome old.reading.to_come (λ p. content_left None old.reading.stopped p ≡ [])
     by h = at old.reading.to_come (side_reading new).to_come old.reading.stopped h.running h.next
 
+-- a device that failed as at its end didn't leave what is to come
+not_both : (old new : Reading) (x : Refusal) → x ≡ io UnexpectedEof → Faults old new x → ⊥
+not_both old new x e h = absurd (let y : is_end UnexpectedEof ≡ false = (subst (IsFault old new) e h.fault).0 in cc)
+
 -- a call for lines that is refused, as one that sees to it that content is at hand
 pub refuses_by : (old new : Side) (x : Refusal) (e : io_error) → old.place ≡ None → new.place ≡ None → new.fault ≡ Some x → error_kind e ≡ io_kind x → Fails (side_reading old) (side_reading new) x
     → RefusesContent old new e
-refuses_by old new x e o n f k h = record { refusal = x; fault = f; kind = k; fails = h; unopened = o; place = n; keeps = keeps_at old new x o n; ends = ends_at old new x o }
+refuses_by old new x e o n f k (inl h) =
+    let g : Refuses (banded_reading false old.name old.reading) (banded_reading false new.name new.reading) x = rw (o, n) at h in
+    record {
+      refusal = x;
+      fault = f;
+      kind = k;
+      fails = inl h;
+      unopened = o;
+      place = n;
+      lost = [];
+      rest = empty_passes old new o n (ends_at old new x o h) (refusal_behind (banded_reading false old.name old.reading) (banded_reading false new.name new.reading) x g);
+      bound = rw (o, n) (let a = g.left in omega arith);
+      keeps = λ _. refl;
+      ends = ends_at old new x o;
+    }
+refuses_by old new x e o n f k (inr (inl h)) =
+    let g : Faults (banded_reading false old.name old.reading) (banded_reading false new.name new.reading) x = rw (o, n) at h in
+    record {
+      refusal = x;
+      fault = f;
+      kind = k;
+      fails = inr (inl h);
+      unopened = o;
+      place = n;
+      lost = [];
+      rest = fault_passes old new x o n g;
+      bound = rw (o, n) (let a = g.stays.left in omega arith);
+      keeps = λ _. refl;
+      ends = ends_at old new x o;
+    }
+refuses_by old new x e o n f k (inr (inr h)) =
+    let g : BreaksOff (side_reading old) (banded_reading false new.name new.reading) x = rw n at h in
+    record {
+      refusal = x;
+      fault = f;
+      kind = k;
+      fails = inr (inr h);
+      unopened = o;
+      place = n;
+      lost = lost_of old old.reading.to_come;
+      rest = broken_passes old new x n g;
+      bound = rw (o, n) (let a = g.left in omega arith);
+      keeps = λ y. absurd (not_both (side_reading old) (side_reading new) x h.refusal y);
+      ends = ends_at old new x o;
+    }

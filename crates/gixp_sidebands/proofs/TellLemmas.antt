@@ -10,7 +10,7 @@ use Rattle.gixp_wire.specs.declared.read.Error.TheVariants.{Io, Decode, Server, 
 use Rattle.gixp_wire.specs.Pieces.{Refusal, io, decode, server, unexpected_frame, not_utf8, bad_band, interrupted, memory, Piece, line, mark, Pieces, no_pieces}
 use Rattle.gixp_wire.specs.Items.{is_stop}
 use Rattle.gixp_wire.specs.Lines.{gives, stops, refuses, next_from, next_of}
-use Rattle.gixp_wire.specs.Reading.{Reading, TakesLine, ShowsLine, AtStop, Refuses, Fails, Stays, IsPlain, refusal_of, is_end}
+use Rattle.gixp_wire.specs.Reading.{Reading, TakesLine, ShowsLine, AtStop, Refuses, Fails, Stays, IsPlain, Rose, refusal_of, is_end}
 use Rattle.gixp_sidebands.specs.Bands.{band_of, Message, message_in, messages_line, messages_from, messages_of, messages_left, is_held, is_begun}
 use Rattle.gixp_sidebands.specs.Telling.{Listener, TellsThen, Tells, ToldTo, ToldUnless, ToldBy, Told, TellsPacket}
 use Rattle.gixp_sidebands.proofs.PieceLemmas.{mark_not_gives}
@@ -237,7 +237,7 @@ module _ {P I : Type 0} (hears : P → Bool → List ℕ → P → Type 0) (says
     where
       unless : (c : Bool) (p : Pieces) → (q : Pieces) × ToldTo hears says o new a b p q → ToldUnless hears says c o new a b p
       unless false p k = k
-      unless true p k = record { told = k.1.told; rest = messages_left new.stopped k.0; messages = k.1.messages; tells = k.1.tells }
+      unless true p k = inl k
 
       by : (e : Refusal) → (e ≡ interrupted → plain ≡ false) → (p : Pieces) → (q : Pieces) × ToldTo hears says o new a b p q → ToldBy hears says plain (Some e) o new a b p
       by (io kind) f p k = unless (is_end kind) p k
@@ -254,26 +254,26 @@ module _ {P I : Type 0} (hears : P → Bool → List ℕ → P → Type 0) (says
       at (Some p) h = by e f p h
 
   -- the stream broke off
-  broken : (plain : Bool) (kind : ErrorKind) (o now new : Reading) (a b : Listener P I) → is_end kind ≡ true → Told hears says true None o now a b → Told hears says plain (Some (io kind)) o new a b
-  broken plain kind o now new a b e h = at o.to_come h
+  broken : (plain : Bool) (kind : ErrorKind) (o now new : Reading) (a b : Listener P I) → is_end kind ≡ true → Rose o.failures new.failures → Told hears says true None o now a b → Told hears says plain (Some (io kind)) o new a b
+  broken plain kind o now new a b e f h = at o.to_come h
     where
       at : (x : Option Pieces) → IfSome x (ToldBy hears says true None o now a b) → IfSome x (ToldBy hears says plain (Some (io kind)) o new a b)
       at None h = tt
-      at (Some p) h = rw e (record { told = h.1.told; rest = messages_left now.stopped h.0; messages = h.1.messages; tells = h.1.tells })
+      at (Some p) h = rw e (inr (record { told = h.1.told; rest = messages_left now.stopped h.0; messages = h.1.messages; tells = h.1.tells }, f))
 
   not_plain : (plain : Bool) (new : Reading) (e : Refusal) → (plain ≡ true → IsPlain new e) → e ≡ interrupted → plain ≡ false
   not_plain false new e f i = refl
   not_plain true new e f i = absurd (subst (IsPlain new) i (f refl))
 
   -- the reader below was refused
-  pub told-fails : (plain : Bool) (e : Refusal) (o now new : Reading) (a b : Listener P I) → Told hears says true None o now a b → Fails now new e → (plain ≡ true → IsPlain new e)
+  pub told-fails : (plain : Bool) (e : Refusal) (o now new : Reading) (a b : Listener P I) → now.failures ≡ o.failures → Told hears says true None o now a b → Fails now new e → (plain ≡ true → IsPlain new e)
       → Told hears says plain (Some e) o new a b
-  told-fails plain e o now new a b h (inl r) f = whole plain e o new a b (not_plain plain new e f) (told-refuses o now new a b e h r)
-  told-fails plain e o now new a b h (inr (inl r)) f = whole plain e o new a b (not_plain plain new e f) (told-stays o now new a b h r.stays)
-  told-fails plain e o now new a b h (inr (inr r)) f = at e r.refusal
+  told-fails plain e o now new a b s h (inl r) f = whole plain e o new a b (not_plain plain new e f) (told-refuses o now new a b e h r)
+  told-fails plain e o now new a b s h (inr (inl r)) f = whole plain e o new a b (not_plain plain new e f) (told-stays o now new a b h r.stays)
+  told-fails plain e o now new a b s h (inr (inr r)) f = at e r.refusal
     where
       at : (e : Refusal) → e ≡ io UnexpectedEof → Told hears says plain (Some e) o new a b
-      at (io kind) i = broken plain kind o now new a b (let k : kind ≡ UnexpectedEof = cc in ap is_end k) h
+      at (io kind) i = broken plain kind o now new a b (let k : kind ≡ UnexpectedEof = cc in ap is_end k) (subst (λ n. Rose n new.failures) s r.failures) h
       at (decode x) i = absurd (let j = i in cc)
       at (server x) i = absurd (let j = i in cc)
       at unexpected_frame i = absurd (let j = i in cc)

@@ -1,5 +1,5 @@
 -- The bands of a stream: content, and what bands 2 and 3 tell (gitprotocol-pack, "Packfile Data").
-use Rattle.std.specs.Prelude.{◌≡◌, ℕ, ◌+◌, ◌<◌, ◌≤◌, ◌⊎◌, ◌==◌, ◌&&◌, Bool, true, false, not, nat_lt, if◌then◌else◌, List, [], ◌∷◌, ◌++◌, length, drop, take, Option, Some, None, IfSome, Result, Ok, Err}
+use Rattle.std.specs.Prelude.{◌≡◌, ℕ, ◌+◌, ◌-◌, ◌<◌, ◌≤◌, ◌⊎◌, ◌==◌, ◌&&◌, Bool, true, false, not, nat_lt, if◌then◌else◌, List, [], ◌∷◌, ◌++◌, length, drop, take, Option, Some, None, IfSome, Result, Ok, Err}
 use Rattle.std.specs.Option.{option_map}
 use Rattle.std.specs.Borrow.{GName, Bor}
 use Rattle.std.specs.Io.BufRead.{strip_last}
@@ -106,10 +106,10 @@ handed (Some n) = n
 abbrev pub is_begun : Option ℕ → Bool
 is_begun place = nat_lt 0 (handed place)
 
--- where there is a place, a line of content is peeked at, with more bytes than were handed out
+-- where there is a place, a line of content is peeked at, with more bytes than were handed out, and all of them are within the bound
 abbrev pub is_held : Option ℕ → Reading → Bool
 is_held None r = true
-is_held (Some n) r = r.peeked && (is_content (band_of r.line) && nat_lt (n + 1) (length r.line))
+is_held (Some n) r = r.peeked && (is_content (band_of r.line) && (nat_lt (n + 1) (length r.line) && nat_lt (length r.line) r.left))
 
 abbrev pub front_line : List Piece → List ℕ
 front_line [] = []
@@ -163,6 +163,7 @@ pub record HandsOut (place : Option ℕ) (old : Reading) (bytes : List ℕ) (pla
   pub version : new.version ≡ old.version
   pub failures : new.failures ≡ old.failures
   pub left : new.left ≤ old.left
+  pub bound : length bytes + (new.left - handed place') ≤ old.left - handed place
   pub held : new.held ≡ old.held
 
 -- the kind with which `Read` and `BufRead` answer a refusal
@@ -191,13 +192,22 @@ side_content s p = content_left s.place s.reading.stopped p
 abbrev pub IsFirstOf : Side → Pieces → Type 0
 IsFirstOf s p = IsFirst s.place s.reading p
 
+-- these bytes of content came next, and what is left to come is the end of it behind them
+abbrev pub Passes : Side → Side → List ℕ → Type 0
+Passes old new bytes = IfSome old.reading.to_come (λ p. IsFirstOf old p → (q : Pieces) × (new.reading.to_come ≡ Some q) × IsFirstOf new q × (side_content old p ≡ bytes ++ side_content new q))
+
+-- a bound on the bytes of content that may still come, which falls with each that is handed out
+abbrev pub content_bound : Side → ℕ
+content_bound s = s.reading.left - handed s.place
+
 -- bytes of content are at hand
 pub record ShowsContent (old new : Side) : Type 0 where
-  pub content : IfSome old.reading.to_come (λ p. IsFirstOf old p → (q : Pieces) × (new.reading.to_come ≡ Some q) × IsFirstOf new q × (side_content new q ≡ side_content old p))
+  pub content : Passes old new []
   pub some : 0 < length (shown new.place new.reading)
   pub version : new.reading.version ≡ old.reading.version
   pub failures : new.reading.failures ≡ old.reading.failures
   pub left : new.reading.left ≤ old.reading.left
+  pub bound : content_bound new ≤ content_bound old
   pub held : (side_reading new).held ≡ (side_reading old).held
   pub fault : new.fault ≡ None
 
@@ -205,14 +215,12 @@ pub record ShowsContent (old new : Side) : Type 0 where
 pub record EndsContent (old new : Side) : Type 0 where
   pub at_stop : AtStop (side_reading old) (side_reading new)
   pub content : IfSome old.reading.to_come (λ p. side_content old p ≡ [])
+  pub rest : Passes old new []
+  pub bound : content_bound new ≤ content_bound old
   pub place : new.place ≡ None
   pub fault : new.fault ≡ None
 
--- the content to come is what it was
-abbrev pub KeepsContent : Side → Side → Type 0
-KeepsContent old new = IfSome old.reading.to_come (λ p. (q : Pieces) × (new.reading.to_come ≡ Some q) × (side_content new q ≡ side_content old p))
-
--- a refusal, which stands until the next call, and with its kind. It comes only where no packet is at hand; behind one from outside that loses nothing the content to come is what it was, and in front of one of the stream there is none
+-- a refusal, which stands until the next call, and with its kind. It comes only where no packet is at hand. What is left to come is an end of what was: all of it, but where the device broke off, and in front of a refusal of the stream there is none
 pub record RefusesContent (old new : Side) (e : io_error) : Type 0 where
   pub refusal : Refusal
   pub fault : new.fault ≡ Some refusal
@@ -220,7 +228,10 @@ pub record RefusesContent (old new : Side) (e : io_error) : Type 0 where
   pub fails : Fails (side_reading old) (side_reading new) refusal
   pub unopened : old.place ≡ None
   pub place : new.place ≡ None
-  pub keeps : Faults (side_reading old) (side_reading new) refusal → KeepsContent old new
+  pub lost : List ℕ
+  pub rest : Passes old new lost
+  pub bound : content_bound new ≤ content_bound old
+  pub keeps : Faults (side_reading old) (side_reading new) refusal → lost ≡ []
   pub ends : Refuses (side_reading old) (side_reading new) refusal → IfSome old.reading.to_come (λ p. side_content old p ≡ [])
 
 -- a call that sees to it that content is at hand: true where it is, false at a stop
@@ -246,7 +257,8 @@ ShowsFirst old new _ = Unit {0}
 
 -- these bytes of content were handed out
 pub record ReadsBytes (old new : Side) (bytes : List ℕ) : Type 0 where
-  pub content : IfSome old.reading.to_come (λ p. IsFirstOf old p → (q : Pieces) × (new.reading.to_come ≡ Some q) × IsFirstOf new q × (side_content old p ≡ bytes ++ side_content new q))
+  pub content : Passes old new bytes
+  pub bound : length bytes + content_bound new ≤ content_bound old
   pub version : new.reading.version ≡ old.reading.version
   pub failures : new.reading.failures ≡ old.reading.failures
   pub left : new.reading.left ≤ old.reading.left

@@ -1,9 +1,13 @@
 -- What a reader of bands means, and to whom it tells (gitprotocol-pack, "Packfile Data").
+use Rattle.std.specs.Prelude.{◌≡◌, ℕ, Bool, List, Option, Result}
+use Rattle.std.specs.Borrow.{Bor}
 use Rattle.std.specs.Option.{option_map}
+use Rattle.std.specs.declared.io.Error.{Error as io_error}
+use Rattle.gixp_wire.specs.declared.read.Error.{Error}
 use Rattle.gixp_sidebands.specs.declared.sidebands.WithSidebands.{WithSidebands}
-use Rattle.gixp_wire.specs.Reading.{Reading, refusal_of}
-use Rattle.gixp_sidebands.specs.Bands.{Side, side_reading}
-use Rattle.gixp_sidebands.specs.Telling.{Listener}
+use Rattle.gixp_wire.specs.Reading.{Reading, PeeksLent, ReadsLent, refusal_of}
+use Rattle.gixp_sidebands.specs.Bands.{Side, FillsLent, side_reading}
+use Rattle.gixp_sidebands.specs.Telling.{Listener, Told, refusal_in}
 
 module _ {T P I : Type 0} {b : _} where
   -- where it stands, over what its transport means
@@ -20,3 +24,26 @@ module _ {T P I : Type 0} {b : _} where
   -- the reader below, as it is now
   abbrev pub transport_of : WithSidebands T P I b → T
   transport_of s = s.front.at.now
+
+  module _ (reading : T → Reading) (hears : P → Bool → List ℕ → P → Type 0) (says : I → Bool → I → Type 0) (plain : Bool) where
+    -- a call that lends the content at hand: the reader that stands behind it, and what was told on the way
+    pub record Lends (old : WithSidebands T P I b) (result : Result (Bor (List ℕ)) io_error) (new : WithSidebands T P I b) : Type 0 where
+      pub fills : FillsLent (side reading old) (side reading new) result
+      pub told : Told hears says plain (side reading new).fault (side reading old).reading (side reading new).reading (listener old) (listener new)
+      pub interrupt : new.interrupt.ghost_name ≡ old.interrupt.ghost_name
+
+    -- such a call, while the content is lent
+    abbrev pub LendsFrom : WithSidebands T P I b → Result (Bor (List ℕ)) io_error → Type 0
+    LendsFrom old result = (new : WithSidebands T P I b) × Lends old result new
+
+    -- what was told by a call that lends a line
+    abbrev pub ToldLent : WithSidebands T P I b → Side → Listener P I → Result (Option (Bor (List ℕ))) Error → Type 0
+    ToldLent old new heard result = Told hears says plain (refusal_in result) (side reading old).reading new.reading (listener old) heard
+
+    -- a call that lends the line that comes next, and what was told on the way
+    abbrev pub PeeksAndTells : WithSidebands T P I b → Result (Option (Bor (List ℕ))) Error → Type 0
+    PeeksAndTells old result = (new : Side) × (heard : Listener P I) × PeeksLent (sidebands_reading reading old) (side_reading new) result × ToldLent old new heard result
+
+    -- a call that lends the line that it took, and what was told on the way
+    abbrev pub ReadsAndTells : WithSidebands T P I b → Result (Option (Bor (List ℕ))) Error → Type 0
+    ReadsAndTells old result = (new : Side) × (heard : Listener P I) × ReadsLent (sidebands_reading reading old) (side_reading new) result × ToldLent old new heard result

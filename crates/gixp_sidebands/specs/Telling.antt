@@ -3,7 +3,7 @@ use Rattle.std.specs.Prelude.{◌≡◌, ℕ, ◌⊎◌, Bool, true, false, List
 use Rattle.gixp_wire.specs.declared.read.Error.{Error}
 use Rattle.gixp_wire.specs.declared.read.Error.TheVariants.{Interrupted, Memory}
 use Rattle.gixp_wire.specs.Pieces.{Refusal, io, memory, interrupted, Pieces}
-use Rattle.gixp_wire.specs.Reading.{Reading, TakesLine, refusal_of, is_end}
+use Rattle.gixp_wire.specs.Reading.{Reading, TakesLine, Rose, refusal_of, is_end}
 use Rattle.gixp_sidebands.specs.Bands.{Message, messages_left}
 
 -- the listener and the interrupt, as a call leaves them
@@ -56,9 +56,9 @@ module _ {P I : Type 0} (hears : P → Bool → List ℕ → P → Type 0) (says
     pub messages : messages_left old.stopped p ≡ told ++ rest
     pub tells : Tells told a b
 
-  -- the messages up to what is left were told, or only some where the stream broke off
+  -- the messages up to what is left were told, or only some where the device broke off as at the end, which counts as a failure
   abbrev pub ToldUnless : Bool → Reading → Reading → Listener P I → Listener P I → Pieces → Type 0
-  ToldUnless true old new a b p = ToldSome old a b p
+  ToldUnless true old new a b p = ((q : Pieces) × ToldTo old new a b p q) ⊎ (ToldSome old a b p × Rose old.failures new.failures)
   ToldUnless false old new a b p = (q : Pieces) × ToldTo old new a b p q
 
   -- what a call told, by its refusal; a reader below that isn't plain may itself be interrupted

@@ -6,7 +6,7 @@ ghost use Rattle.std.specs.Io.KnownBytes.{ReadConsumes};
 ghost use Rattle.std.specs.Io.BufRead.{DropsConsumable, FillKeeps, Rests};
 ghost use types.Logic.{sem};
 ghost use mir.Syntax.{named};
-ghost use Rattle.gixp_wire.specs.Reading.{Reads, Peeks, PlainIf, TakesLine, refusal_of};
+ghost use Rattle.gixp_wire.specs.Reading.{Reading, Reads, Peeks, ReadsLent, PeeksLent, PlainIf, TakesLine, refusal_of};
 ghost use Rattle.gixp_sidebands.specs.Bands.{Side, Fills, FillsLent, ShowsFirst, ReadsContent, ReadsBytes, KeepsMessages, is_begun, place_after, shown, message_in, io_kind};
 ghost use Rattle.gixp_sidebands.specs.Telling.{Listener, Told, TellsPacket, refusal_in};
 
@@ -226,7 +226,7 @@ impl<'a, T: ExtendedBufRead, P: BandText + Drop, I: Interrupt> WithSidebands<'a,
 
 impl<'a, T: ExtendedBufRead, P: BandText + Drop, I: Interrupt> ExtendedBufRead
     for WithSidebands<'a, T, P, I> {
-    ghost use Rattle.gixp_sidebands.specs.Sidebands.{side, sidebands_reading, listener};
+    ghost use Rattle.gixp_sidebands.specs.Sidebands.{side, sidebands_reading, listener, PeeksAndTells, ReadsAndTells};
 
     ghost reading = { sidebands_reading T.reading };
 
@@ -269,6 +269,28 @@ impl<'a, T: ExtendedBufRead, P: BandText + Drop, I: Interrupt> ExtendedBufRead
         }
     }
 
+    fn peek_data_line(&mut self) -> Result<Option<&[u8]>, Error>
+        ensures answers { (new : Reading) × PeeksLent (sidebands_reading T.reading self.old) new result × PlainIf false new result }
+        ensures told { PeeksAndTells T.reading P.hears I.says T.is_plain self.old result }
+    {
+        match self.peek_line() {
+            Ok(true) => Ok(Some(self.line())),
+            Ok(false) => Ok(None),
+            Err(e) => Err(e),
+        }
+    }
+
+    fn readline(&mut self) -> Result<Option<&[u8]>, Error>
+        ensures answers { (new : Reading) × ReadsLent (sidebands_reading T.reading self.old) new result × PlainIf false new result }
+        ensures told { ReadsAndTells T.reading P.hears I.says T.is_plain self.old result }
+    {
+        match self.next_line() {
+            Ok(true) => Ok(Some(self.line())),
+            Ok(false) => Ok(None),
+            Err(e) => Err(e),
+        }
+    }
+
     fn stopped_at(&self) -> Option<MessageKind> {
         self.front.stopped_at()
     }
@@ -302,7 +324,7 @@ impl<'a, T: ExtendedBufRead, P: BandText + Drop, I: Interrupt> Read for WithSide
 
 impl<'a, T: ExtendedBufRead, P: BandText + Drop, I: Interrupt> BufRead
     for WithSidebands<'a, T, P, I> {
-    ghost use Rattle.gixp_sidebands.specs.Sidebands.{side, listener};
+    ghost use Rattle.gixp_sidebands.specs.Sidebands.{side, listener, LendsFrom};
     ghost use Rattle.gixp_sidebands.specs.contracts.sidebands.WithSidebands.{the_row};
 
     fn fill_buf(&mut self) -> io::Result<&[u8]>
@@ -310,8 +332,7 @@ impl<'a, T: ExtendedBufRead, P: BandText + Drop, I: Interrupt> BufRead
         ensures end { IfSome None (λ (xs : List ℕ). IfOk result (λ s. length s.now ≡ 0 → xs ≡ [])) }
         ensures* after_borrow { sem 𝓛 (Rests (the_row (record { mir = named 1; lft = [] }) T.row P.row I.row T.ExtendedBufRead) self.entry (λ new.
             FillKeeps None None None result)) }
-        ensures shown { (new : Side) × (heard : Listener P I) × FillsLent (side T.reading self.old) new result
-            × Told P.hears I.says T.is_plain new.fault (side T.reading self.old).reading new.reading (listener self.old) heard }
+        ensures shown { LendsFrom T.reading P.hears I.says T.is_plain self.old result }
     {
         match self.fill() {
             Ok(_) => Ok(self.front.rest()),

@@ -5,7 +5,7 @@ use Rattle.std.specs.Prelude.{slice_range}
 use Rattle.gixp_wire.proofs.WindowLemmas.{drop-take_sub}
 use Rattle.std.specs.Io.KnownBytes.{Keeps, prepend_known}
 use Rattle.std.specs.declared.io.ErrorKind.TheVariants.{UnexpectedEof}
-use Rattle.std.proofs.lemmas.List.{take-append-le, drop-append-le}
+use Rattle.std.proofs.lemmas.List.{take-append-le, drop-append-le, length-take-le}
 use Rattle.gixp_wire.specs.declared.packet.PacketError.{PacketError}
 use Rattle.gixp_wire.specs.declared.protocol.Protocol.{Protocol}
 use Rattle.gixp_wire.specs.declared.protocol.MessageKind.{MessageKind}
@@ -20,7 +20,7 @@ use Rattle.gixp_wire.specs.Pieces.{Refusal, io, decode, server, unexpected_frame
 use Rattle.gixp_wire.specs.Lines.{Next, gives, stops, refuses, next_of, next_from}
 use Rattle.gixp_wire.specs.Items.{is_stop}
 use Rattle.gixp_wire.specs.Reading.{Reading, refusal_of, TakesLine, ShowsLine, TakesStop, Refuses, Faults, BreaksOff, IsPlain, Fails, Stays, IsFault, IsLasting, Rose}
-use Rattle.gixp_wire.specs.Packets.{known, stand, took, stopped_by, peeked_at, is_peeked, place_stop, packets_reading, Kept, Settled, SettledEnd, SettledFault, SettledBreak, IsIo}
+use Rattle.gixp_wire.specs.Packets.{known, stand, took, stopped_by, peeked_at, is_peeked, place_stop, bytes_left, lines_left, packets_reading, Kept, Settled, SettledEnd, SettledFault, SettledBreak, IsIo}
 use Rattle.gixp_wire.proofs.RunLemmas.{mark_not_gives}
 use Rattle.gixp_wire.proofs.FrameLemmas.{head_fits, head_more, stream_pieces-step}
 
@@ -217,6 +217,10 @@ module _ {R : Type 0} where
   special_stand : (p : Packets R) (kind : MessageKind) → head_of p.window.pending ≡ Special kind → stand p ≡ None
   special_stand p kind h = rw h refl
 
+  -- before a frame no line is peeked at
+  open_left : (p : Packets R) → p.place ≡ Open → lines_left p ≡ bytes_left p
+  open_left p op = rw op (omega arith)
+
   pub takes_line : (rem : R → Option (List ℕ)) (old mid : Packets R) (size : ℕ) → Settled rem old mid (Data size) → old.place ≡ Open → is_error (drop 4 (take size mid.window.pending)) ≡ false → TakesLine (packets_reading rem old) (packets_reading rem (took mid size))
   takes_line rem old mid size h op plain =
       let k = h.kept in
@@ -239,7 +243,11 @@ module _ {R : Type 0} where
         version = k.version;
         peeked = ap is_peeked op2;
         failures = h.failures;
-        left = let a = k.left in let b = fits.0 in let c = fits.1 in let d = length-drop size mid.window.pending in omega arith;
+        left =
+            let a = k.left in
+            let b = fits.0 in
+            let c = fits.1 in
+            omega (arith, open_left old op, open_left new op2, length-drop size mid.window.pending, length-drop 4 (take size mid.window.pending), length-take-le size mid.window.pending fits.1);
         held = refl;
       }
 
@@ -263,7 +271,7 @@ module _ {R : Type 0} where
         version = k.version;
         peeked = refl;
         failures = h.failures;
-        left = let a = k.left in let d = length-drop 4 mid.window.pending in omega arith;
+        left = let a = k.left in omega (arith, open_left old op, length-drop 4 mid.window.pending);
         held = refl;
       }
 
@@ -288,7 +296,7 @@ module _ {R : Type 0} where
         version = k.version;
         peeked = ap is_peeked op2;
         failures = fails;
-        left = k.left;
+        left = let a = k.left in omega (arith, open_left old op, open_left mid op2);
         held = refl;
       }
 
@@ -321,7 +329,7 @@ module _ {R : Type 0} where
         version = k.version;
         unpeeked = ap is_peeked op;
         peeked = ap is_peeked op2;
-        left = k.left;
+        left = let a = k.left in omega (arith, open_left old op, open_left mid op2);
         held = refl;
       }
 
@@ -362,7 +370,7 @@ module _ {R : Type 0} where
         version = b.version;
         peeked = ap is_peeked op2;
         failures = b.failures;
-        left = b.left;
+        left = let a = b.left in omega (arith, open_left old op, open_left mid op2);
         held = refl;
       }
 
@@ -417,7 +425,7 @@ module _ {R : Type 0} where
         version = k.version;
         peeked = refl;
         failures = h.failures;
-        left = let a = k.left in omega arith;
+        left = let a = k.left in omega (arith, open_left old op);
         held = refl;
       }
 
@@ -437,10 +445,8 @@ module _ {R : Type 0} where
         version = h.version;
         peeked = refl;
         failures = h.failures;
-        left =
-            let a = h.left in
-            let b : cond {A = ℕ} (is_peeked new.place) 1 0 ≡ 0 = rw op refl in
-            omega arith;
+        left = let a = h.left in omega (arith, open_left new op);
+        room = omega arith;
         held = h.held;
       }
 
@@ -460,5 +466,6 @@ module _ {R : Type 0} where
         peeked = rw at refl;
         failures = refl;
         left = omega arith;
+        room = rw at (omega arith);
         held = refl;
       }

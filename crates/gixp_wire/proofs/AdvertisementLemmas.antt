@@ -1,12 +1,12 @@
 -- What a server says first, read one step at a time.
 use Rattle.std.proofs.Common.{◌≡◌, ℕ, ◌≤◌, ◌<◌, ◌⊎◌, inl, inr, Bool, true, false, List, [], ◌∷◌, ◌++◌, take, length, Option, Some, None, IfSome, Result, Ok, Err, refl, sym, ap, subst, ◌∙◌, arith, append_assoc, append-nil}
 use Rattle.std.specs.Prelude.{position, ◌==◌}
-use Rattle.std.proofs.lemmas.List.{map-append}
+use Rattle.std.proofs.lemmas.List.{map-append, length-take-le}
 use Rattle.std.proofs.lemmas.List.Quantifiers.{position-Some}
 use Rattle.std.specs.Option.{option_map}
 use Rattle.std.specs.declared.io.ErrorKind.{ErrorKind}
 use Rattle.gixp_wire.specs.declared.protocol.Protocol.{Protocol}
-use Rattle.gixp_wire.specs.declared.protocol.Protocol.TheVariants.{V0, V2}
+use Rattle.gixp_wire.specs.declared.protocol.Protocol.TheVariants.{V0, V1, V2}
 use Rattle.gixp_wire.specs.declared.protocol.MessageKind.{MessageKind}
 use Rattle.gixp_wire.specs.declared.client.Error.{Error}
 use Rattle.gixp_wire.specs.declared.client.Error.TheVariants.{Io, Read, LineTooLong, AuthenticationUnsupported, UnsupportedProtocolVersion, MissingDelimitingNullByte, Memory}
@@ -24,17 +24,17 @@ use Rattle.gixp_wire.specs.Packets.{is_peeked, place_stop, known, packets_readin
 use Rattle.gixp_wire.specs.Capabilities.{CapabilityValue, capability_of_line, capabilities_of_line, capabilities_of_lines, capabilities_behind, IsOfLine}
 use Rattle.gixp_wire.specs.Client.{ClientRefusal, failed, reader, no_memory, no_null_byte, unsupported_version, client_refusal, client_from}
 use Rattle.gixp_wire.specs.Reading.{Reading, reset_to, ShowsLine, TakesLine, TakesStop, AtStop, IsPlain, IsLasting, Faults, IsOutside, refusal_of, is_end, Fails as Failing}
-use Rattle.gixp_wire.specs.Advertisement.{Advertised, Named, another, unnamed, version_named, trimmed, no_refs, ref_line, from_ref_line, by_version, by_first, advertisement, by_lines, from_capability_lines, Answers, Reads, Fails, IsFromDevice, LinesTaken, behind_lines, StandsRefused, StandsIo, Stands, Advertises}
+use Rattle.gixp_wire.specs.Advertisement.{Advertised, Named, another, unnamed, version_named, trimmed, no_refs, ref_line, from_ref_line, by_version, by_first, advertisement, by_lines, from_capability_lines, Answers, Reads, Fails, IsFromDevice, LinesTaken, TakesNone, TakesAny, TakesFirst, one, two, behind_lines, StandsRefused, StandsIo, Stands, Advertises}
 use Rattle.gixp_wire.proofs.LineLemmas.{gives_line, stops_here, refuses_here}
 
 -- what one says of known pieces, the other says of those that are left
 abbrev pub Turns : (Pieces → Result Advertised ClientRefusal) → (Pieces → Result Advertised ClientRefusal) → Option Pieces → Option Pieces → Type 0
 Turns said then old new = IfSome old (λ p. (q : Pieces) × (new ≡ Some q) × (said p ≡ then q))
 
--- nothing but lines went
-pub record Steps (said then : Pieces → Result Advertised ClientRefusal) (old new : Reading) : Type 0 where
+-- nothing but these lines went
+pub record Steps (said then : Pieces → Result Advertised ClientRefusal) (texts : List (List ℕ)) (old new : Reading) : Type 0 where
   pub turns : Turns said then old.to_come new.to_come
-  pub lines : LinesTaken old.to_come new.to_come
+  pub lines : LinesTaken texts old.to_come new.to_come
   pub failures : new.failures ≡ old.failures
   pub left : new.left ≤ old.left
   pub held : new.held ≡ old.held
@@ -68,16 +68,16 @@ behind-append : (xs ys : List (List ℕ)) (p : Pieces) → behind_lines xs (behi
 behind-append [] ys p = refl
 behind-append (x ∷ xs) ys p = ap (with_piece (line x)) (behind-append xs ys p)
 
-none-taken : (o : Option Pieces) → LinesTaken o o
+none-taken : (o : Option Pieces) → LinesTaken [] o o
 none-taken None = tt
-none-taken (Some p) = ([], p, refl, refl)
+none-taken (Some p) = (p, refl, refl)
 
-taken-then : (a b c : Option Pieces) → LinesTaken a b → LinesTaken b c → LinesTaken a c
-taken-then None b c h k = tt
-taken-then (Some p) None c h k = absurd (let e = h.2 in cc)
-taken-then (Some p) (Some q) c h k =
-    let e : h.1 ≡ q = let e = h.2 in cc in
-    (h.0 ++ k.0, k.1, k.2, h.3 ∙ ap (behind_lines h.0) (e ∙ k.3) ∙ behind-append h.0 k.0 k.1)
+taken-then : (xs ys : List (List ℕ)) (a b c : Option Pieces) → LinesTaken xs a b → LinesTaken ys b c → LinesTaken (xs ++ ys) a c
+taken-then xs ys None b c h k = tt
+taken-then xs ys (Some p) None c h k = absurd (let e = h.1 in cc)
+taken-then xs ys (Some p) (Some q) c h k =
+    let e : h.0 ≡ q = let e = h.1 in cc in
+    (k.0, k.1, h.2 ∙ ap (behind_lines xs) (e ∙ k.2) ∙ behind-append xs ys k.0)
 
 gives-is : (v : Protocol) (list : List Piece) (end : Refusal) (text : List ℕ) (q : Pieces) → next_from v list end ≡ gives text q
     → record { list = list; end = end } ≡ with_piece (line text) q
@@ -89,50 +89,53 @@ gives-is v (line t ∷ ps) end text q h =
     rw (← e1, ← e2) refl
 gives-is v (mark kind ∷ ps) end text q h = absurd (mark_not_gives (is_stop v kind) kind (record { list = ps; end = end }) q unexpected_frame text h)
 
-one-taken : (a b : Option Pieces) (v : Protocol) (text : List ℕ) → IfSome a (λ p. (q : Pieces) × (b ≡ Some q) × (next_of v p ≡ gives text q)) → LinesTaken a b
+one-taken : (a b : Option Pieces) (v : Protocol) (text : List ℕ) → IfSome a (λ p. (q : Pieces) × (b ≡ Some q) × (next_of v p ≡ gives text q)) → LinesTaken (text ∷ []) a b
 one-taken None b v text h = tt
-one-taken (Some p) b v text h = (text ∷ [], h.0, h.1, gives-is v p.list p.end text h.0 h.2)
+one-taken (Some p) b v text h = (h.0, h.1, gives-is v p.list p.end text h.0 h.2)
 
-shown-taken : (a b : Option Pieces) (v : Protocol) (text : List ℕ) → IfSome a (λ p. (q : Pieces) × (b ≡ Some p) × (next_of v p ≡ gives text q)) → LinesTaken a b
+shown-taken : (a b : Option Pieces) (v : Protocol) (text : List ℕ) → IfSome a (λ p. (q : Pieces) × (b ≡ Some p) × (next_of v p ≡ gives text q)) → LinesTaken [] a b
 shown-taken None b v text h = tt
-shown-taken (Some p) b v text h = ([], p, h.1, refl)
+shown-taken (Some p) b v text h = (p, h.1, refl)
 
-stays-taken : (a b : Option Pieces) → IfSome a (λ p. b ≡ Some p) → LinesTaken a b
+stays-taken : (a b : Option Pieces) → IfSome a (λ p. b ≡ Some p) → LinesTaken [] a b
 stays-taken None b h = tt
-stays-taken (Some p) b h = ([], p, h, refl)
+stays-taken (Some p) b h = (p, h, refl)
 
-refused-then : (a b : Option Pieces) (P : Type 0) → LinesTaken a b → IfSome b (λ q. P) → IfSome a (λ p. P)
-refused-then None b P h k = tt
-refused-then (Some p) None P h k = absurd (let e = h.2 in cc)
-refused-then (Some p) (Some q) P h k = k
+refused-then : (xs : List (List ℕ)) (a b : Option Pieces) (P : Type 0) → LinesTaken xs a b → IfSome b (λ q. P) → IfSome a (λ p. P)
+refused-then xs None b P h k = tt
+refused-then xs (Some p) None P h k = absurd (let e = h.1 in cc)
+refused-then xs (Some p) (Some q) P h k = k
 
 -- what stands behind an error, from before lines were taken
-stands-then : (old mid new : Reading) (e : Error) → LinesTaken old.to_come mid.to_come → Stands mid new e → Stands old new e
-stands-then old mid new (Io kind) h k = by (is_end kind) k
+stands-then : (xs ys : List (List ℕ)) (old mid new : Reading) (e : Error) → LinesTaken xs old.to_come mid.to_come → Stands ys mid new e → Stands (xs ++ ys) old new e
+stands-then xs ys old mid new (Io kind) h k = by (is_end kind) k
   where
-    by : (b : Bool) → StandsIo b mid new kind → StandsIo b old new kind
-    by true k = (k.0, refused-then old.to_come mid.to_come _ h k.1)
-    by false k = (k.0, taken-then old.to_come mid.to_come new.to_come h k.1)
-stands-then old mid new (Read x) h k = (k.0, refused-then old.to_come mid.to_come _ h k.1)
-stands-then old mid new LineTooLong h k = k
-stands-then old mid new AuthenticationUnsupported h k = k
-stands-then old mid new (UnsupportedProtocolVersion t) h k = (k.0, k.1, taken-then old.to_come mid.to_come new.to_come h k.2)
-stands-then old mid new MissingDelimitingNullByte h k = (k.0, k.1, taken-then old.to_come mid.to_come new.to_come h k.2)
-stands-then old mid new Memory h k = taken-then old.to_come mid.to_come new.to_come h k
+    by : (b : Bool) → StandsIo b ys mid new kind → StandsIo b (xs ++ ys) old new kind
+    by true k = (k.0, refused-then xs old.to_come mid.to_come _ h k.1)
+    by false k = (k.0, taken-then xs ys old.to_come mid.to_come new.to_come h k.1)
+stands-then xs ys old mid new (Read x) h k = (k.0, refused-then xs old.to_come mid.to_come _ h k.1)
+stands-then xs ys old mid new LineTooLong h k = k
+stands-then xs ys old mid new AuthenticationUnsupported h k = k
+stands-then xs ys old mid new (UnsupportedProtocolVersion t) h k = (k.0, k.1, taken-then xs ys old.to_come mid.to_come new.to_come h k.2)
+stands-then xs ys old mid new MissingDelimitingNullByte h k = (k.0, k.1, taken-then xs ys old.to_come mid.to_come new.to_come h k.2)
+stands-then xs ys old mid new Memory h k = taken-then xs ys old.to_come mid.to_come new.to_come h k
 
 -- behind such steps
-pub advertises-then : (said then : Pieces → Result Advertised ClientRefusal) (old mid new : Reading) (r : Result SetServiceResponse Error) → Steps said then old mid
-    → Advertises then mid new r → Advertises said old new r
-advertises-then said then old mid new (Ok found) s h = record {
+pub advertises-then : (said then : Pieces → Result Advertised ClientRefusal) (takes more : Protocol → List (List ℕ) → Type 0) (texts : List (List ℕ)) (old mid new : Reading)
+    (r : Result SetServiceResponse Error) → ((v : Protocol) (ts : List (List ℕ)) → more v ts → takes v (texts ++ ts)) → Steps said then texts old mid
+    → Advertises then more mid new r → Advertises said takes old new r
+advertises-then said then takes more texts old mid new (Ok found) f s h = record {
   value = turned_value said then old.to_come mid.to_come (λ a. Answers a new found) s.turns h.value;
   version = h.version;
   failures = h.failures ∙ s.failures;
   left = let a = h.left in let b = s.left in omega arith;
   held = h.held ∙ s.held;
 }
-advertises-then said then old mid new (Err e) s h = record {
+advertises-then said then takes more texts old mid new (Err e) f s h = record {
   why = why h.why;
-  stands = stands-then old mid new e s.lines h.stands;
+  taken = texts ++ h.taken;
+  by_version = f new.version h.taken h.by_version;
+  stands = stands-then texts h.taken old mid new e s.lines h.stands;
   stopped = h.stopped;
   left = let a = h.left in let b = s.left in omega arith;
   held = h.held ∙ s.held;
@@ -192,15 +195,15 @@ is_reader (UnsupportedProtocolVersion t) x h P f = absurd (cc)
 is_reader MissingDelimitingNullByte x h P f = absurd (cc)
 is_reader Memory x h P f = absurd (cc)
 
-stood : (old new : Reading) (x : Refusal) (e : Error) → client_refusal e ≡ reader x → StandsRefused old new x → Stands old new e
-stood old new x e is k = is_reader e x is (Stands old new) (λ y h. subst (StandsRefused old new) (sym h) k)
+stood : (old new : Reading) (x : Refusal) (e : Error) → client_refusal e ≡ reader x → StandsRefused old new x → Stands [] old new e
+stood old new x e is k = is_reader e x is (Stands [] old new) (λ y h. subst (StandsRefused old new) (sym h) k)
 
 -- the refusal of a stream stands
-stands-lasting : (old new : Reading) (x : Refusal) (e : Error) → IsLasting x → IsPlain new x → client_refusal e ≡ client_from x → StandsRefused old new x → Stands old new e
+stands-lasting : (old new : Reading) (x : Refusal) (e : Error) → IsLasting x → IsPlain new x → client_refusal e ≡ client_from x → StandsRefused old new x → Stands [] old new e
 stands-lasting old new (io kind) e l p is k =
     let end : is_end kind ≡ true = ap is_end l in
-    let s : Stands old new (Io kind) = rw end k in
-    subst (Stands old new) (sym (is_io e kind is)) s
+    let s : Stands [] old new (Io kind) = rw end k in
+    subst (Stands [] old new) (sym (is_io e kind is)) s
 stands-lasting old new (decode y) e l p is k = stood old new (decode y) e is k
 stands-lasting old new (server m) e l p is k = stood old new (server m) e is k
 stands-lasting old new unexpected_frame e l p is k = stood old new unexpected_frame e is k
@@ -210,12 +213,12 @@ stands-lasting old new interrupted e l p is k = absurd p
 stands-lasting old new memory e l p is k = absurd l
 
 -- a fault loses nothing
-stands-fault : (old new : Reading) (x : Refusal) (e : Error) → Faults old new x → IsPlain new x → client_refusal e ≡ client_from x → Stands old new e
+stands-fault : (old new : Reading) (x : Refusal) (e : Error) → Faults old new x → IsPlain new x → client_refusal e ≡ client_from x → Stands [] old new e
 stands-fault old new (io kind) e k p is =
     let on : is_end kind ≡ false = k.fault.0 in
-    let s : Stands old new (Io kind) = rw on (k.stays.peeked, stays-taken old.to_come new.to_come k.stays.to_come) in
-    subst (Stands old new) (sym (is_io e kind is)) s
-stands-fault old new memory e k p is = subst (Stands old new) (sym (is_memory e is)) (stays-taken old.to_come new.to_come k.stays.to_come)
+    let s : Stands [] old new (Io kind) = rw on (k.stays.peeked, stays-taken old.to_come new.to_come k.stays.to_come) in
+    subst (Stands [] old new) (sym (is_io e kind is)) s
+stands-fault old new memory e k p is = subst (Stands [] old new) (sym (is_memory e is)) (stays-taken old.to_come new.to_come k.stays.to_come)
 stands-fault old new interrupted e k p is = absurd p
 stands-fault old new (bad_band b) e k p is = absurd p
 stands-fault old new (decode y) e k p is = absurd k.fault
@@ -232,17 +235,19 @@ always None P h = tt
 always (Some p) P h = h
 
 -- a reader that is refused refuses what was said
-pub fails-reading : (said : Pieces → Result Advertised ClientRefusal) (old new : Reading) (x : Refusal) (e : Error) → Failing old new x → IsPlain new x
-    → client_refusal e ≡ client_from x → ((p : Pieces) → next_of old.version p ≡ refuses x → said p ≡ Err (client_from x)) → Fails said old new e
-fails-reading said old new x e (inl k) p is f = record {
+pub fails-reading : (said : Pieces → Result Advertised ClientRefusal) (takes : Protocol → List (List ℕ) → Type 0) (old new : Reading) (x : Refusal) (e : Error) → takes old.version [] → Failing old new x
+    → IsPlain new x → client_refusal e ≡ client_from x → ((p : Pieces) → next_of old.version p ≡ refuses x → said p ≡ Err (client_from x)) → Fails said takes old new e
+fails-reading said takes old new x e m (inl k) p is f = record {
+  taken = [];
+  by_version = subst (λ v. takes v []) (sym k.version) m;
   why = inl (refused_known said old.to_come old.version x (client_refusal e) _ (λ q n. f q n ∙ ap Err (sym is)) k.next, k.failures);
   stands = stands-lasting old new x e k.lasting p is (k.refused, next-stands old.to_come new.to_come old.version x k.next);
   stopped = k.stopped;
   left = k.left;
   held = k.held;
 }
-fails-reading said old new x e (inr (inl k)) p is f = record { why = inr (outside old new x e (inl k) p is); stands = stands-fault old new x e k p is; stopped = k.stays.stopped ∙ k.running; left = k.stays.left; held = k.stays.held }
-fails-reading said old new x e (inr (inr k)) p is f = record { why = inr (outside old new x e (inr k) p is); stands = stands-lasting old new x e (subst IsLasting (sym k.refusal) refl) p is (k.refused, always old.to_come _ k.to_come); stopped = k.stopped; left = k.left; held = k.held }
+fails-reading said takes old new x e m (inr (inl k)) p is f = record { taken = []; by_version = subst (λ v. takes v []) (sym k.stays.version) m; why = inr (outside old new x e (inl k) p is); stands = stands-fault old new x e k p is; stopped = k.stays.stopped ∙ k.running; left = k.stays.left; held = k.stays.held }
+fails-reading said takes old new x e m (inr (inr k)) p is f = record { taken = []; by_version = subst (λ v. takes v []) (sym k.version) m; why = inr (outside old new x e (inr k) p is); stands = stands-lasting old new x e (subst IsLasting (sym k.refusal) refl) p is (k.refused, always old.to_come _ k.to_come); stopped = k.stopped; left = k.left; held = k.held }
 
 -- a reader that isn't at a stop and comes to one takes it
 pub takes-stop : (old new : Reading) → old.stopped ≡ None → AtStop old new → (kind : MessageKind) × TakesStop old new kind
@@ -273,7 +278,7 @@ reads-no_refs said v old new kind found version is k f = record {
 -- these lines were read of those that come first
 pub record Gathers (old now : Reading) (texts : List (List ℕ)) : Type 0 where
   pub next : IfSome old.to_come (λ p. (q : Pieces) × (now.to_come ≡ Some q) × (lines_of V2 p ≡ before texts (lines_of V2 q)))
-  pub lines : LinesTaken old.to_come now.to_come
+  pub lines : LinesTaken texts old.to_come now.to_come
   pub running : now.stopped ≡ None
   pub version : now.version ≡ V2
   pub failures : now.failures ≡ old.failures
@@ -302,7 +307,7 @@ behind_line (Some p) (Some q) c texts text w v h k =
 pub gathers-line : (old mid new : Reading) (texts : List (List ℕ)) → Gathers old mid texts → TakesLine mid new → Gathers old new (texts ++ new.line ∷ [])
 gathers-line old mid new texts h k = record {
   next = behind_line old.to_come mid.to_come new.to_come texts new.line mid.version h.version h.next k.next;
-  lines = taken-then old.to_come mid.to_come new.to_come h.lines (one-taken mid.to_come new.to_come mid.version new.line k.next);
+  lines = taken-then texts (new.line ∷ []) old.to_come mid.to_come new.to_come h.lines (one-taken mid.to_come new.to_come mid.version new.line k.next);
   running = k.stopped;
   version = k.version ∙ h.version;
   failures = k.failures ∙ h.failures;
@@ -314,7 +319,7 @@ gathers-line old mid new texts h k = record {
 abbrev said_behind : List (List ℕ) → Pieces → Result Advertised ClientRefusal
 said_behind texts p = let l = lines_of V2 p in by_lines (texts ++ l.lines) l.ending
 
-gathers-steps : (old mid : Reading) (texts : List (List ℕ)) → Gathers old mid texts → Steps from_capability_lines (said_behind texts) old mid
+gathers-steps : (old mid : Reading) (texts : List (List ℕ)) → Gathers old mid texts → Steps from_capability_lines (said_behind texts) texts old mid
 gathers-steps old mid texts h = record { turns = at old.to_come mid.to_come h.next; lines = h.lines; failures = h.failures; left = h.left; held = h.held }
   where
     at : (a b : Option Pieces) → IfSome a (λ p. (q : Pieces) × (b ≡ Some q) × (lines_of V2 p ≡ before texts (lines_of V2 q))) → Turns from_capability_lines (said_behind texts) a b
@@ -329,7 +334,7 @@ reads-lines old mid new texts found h at is =
     let kind = stop.0 in
     let k = stop.1 in
     let said : Pieces → Advertised = λ q. record { version = V2; capabilities = capabilities_of_lines texts; has_refs = false; rest = q; stopped = Some kind } in
-    advertises-then from_capability_lines (said_behind texts) old mid new (Ok found) (gathers-steps old mid texts h) (record {
+    advertises-then from_capability_lines (said_behind texts) TakesAny TakesAny texts old mid new (Ok found) (λ v ts m. m) (gathers-steps old mid texts h) (record {
       value = stopped_known (said_behind texts) mid.to_come new.to_come mid.version kind said (λ a. Answers a new found)
           (λ p q n. let next : next_of V2 p ≡ stops kind q = ap (λ v. next_of v p) (sym h.version) ∙ n in rw (stops_here V2 p.list p.end kind q next, append-nil) refl)
           (λ q e. rw is (record { version = refl; capabilities = refl; has_refs = refl; rest = e; stopped = k.stopped }))
@@ -342,22 +347,22 @@ reads-lines old mid new texts found h at is =
 
 -- a refusal among them
 pub fails-lines : (old mid new : Reading) (texts : List (List ℕ)) (x : Refusal) (e : Error) → Gathers old mid texts → Failing mid new x → IsPlain new x
-    → client_refusal e ≡ client_from x → Fails from_capability_lines old new e
+    → client_refusal e ≡ client_from x → Fails from_capability_lines TakesAny old new e
 fails-lines old mid new texts x e h k p is =
-    advertises-then from_capability_lines (said_behind texts) old mid new (Err e) (gathers-steps old mid texts h)
-    (fails-reading (said_behind texts) mid new x e k p is
+    advertises-then from_capability_lines (said_behind texts) TakesAny TakesAny texts old mid new (Err e) (λ v ts m. m) (gathers-steps old mid texts h)
+    (fails-reading (said_behind texts) TakesAny mid new x e h.version k p is
     (λ q n. let next : next_of V2 q ≡ refuses x = ap (λ v. next_of v q) (sym h.version) ∙ n in rw (refuses_here V2 q.list q.end x next) refl))
 
 -- no memory for one of them
-pub fails-memory : (old mid new : Reading) (texts : List (List ℕ)) → Gathers old mid texts → TakesLine mid new → Fails from_capability_lines old new Memory
-fails-memory old mid new texts h k = record { why = inr (k.failures ∙ h.failures); stands = taken-then old.to_come mid.to_come new.to_come h.lines (one-taken mid.to_come new.to_come mid.version new.line k.next); stopped = k.stopped; left = let a = h.left in let b = k.left in omega arith; held = k.held ∙ h.held }
+pub fails-memory : (old mid new : Reading) (texts : List (List ℕ)) → Gathers old mid texts → TakesLine mid new → Fails from_capability_lines TakesAny old new Memory
+fails-memory old mid new texts h k = record { why = inr (k.failures ∙ h.failures); taken = texts ++ new.line ∷ []; by_version = k.version ∙ h.version; stands = taken-then texts (new.line ∷ []) old.to_come mid.to_come new.to_come h.lines (one-taken mid.to_come new.to_come mid.version new.line k.next); stopped = k.stopped; left = let a = h.left in let b = k.left in omega arith; held = k.held ∙ h.held }
 
 -- the capabilities of one more line
 pub capabilities-push : (texts : List (List ℕ)) (text : List ℕ) → capabilities_of_lines texts ++ capability_of_line text ∷ [] ≡ capabilities_of_lines (texts ++ text ∷ [])
 capabilities-push texts text = sym (map-append capability_of_line texts (text ∷ []))
 
 -- reading under another version leaves the pieces where they are
-pub reset-steps : (said : Pieces → Result Advertised ClientRefusal) (r : Reading) (v : Protocol) → Steps said said r (reset_to v r)
+pub reset-steps : (said : Pieces → Result Advertised ClientRefusal) (r : Reading) (v : Protocol) → Steps said said [] r (reset_to v r)
 reset-steps said r v = record { turns = at r.to_come; lines = none-taken r.to_come; failures = refl; left = omega arith; held = refl }
   where
     at : (o : Option Pieces) → Turns said said o o
@@ -365,7 +370,7 @@ reset-steps said r v = record { turns = at r.to_come; lines = none-taken r.to_co
     at (Some p) = (p, refl, refl)
 
 -- to peek leaves them too
-pub shows-steps : (said : Pieces → Result Advertised ClientRefusal) (old new : Reading) → ShowsLine old new → Steps said said old new
+pub shows-steps : (said : Pieces → Result Advertised ClientRefusal) (old new : Reading) → ShowsLine old new → Steps said said [] old new
 shows-steps said old new k = record { turns = at old.to_come new.to_come k.next; lines = shown-taken old.to_come new.to_come old.version new.line k.next; failures = k.failures; left = k.left; held = k.held }
   where
     at : (a b : Option Pieces) → IfSome a (λ p. (q : Pieces) × (b ≡ Some p) × (next_of old.version p ≡ gives new.line q)) → Turns said said a b
@@ -374,7 +379,7 @@ shows-steps said old new k = record { turns = at old.to_come new.to_come k.next;
 
 -- behind a line that was taken, where what was said turns on it
 pub takes-steps : (said then : Pieces → Result Advertised ClientRefusal) (old new : Reading) → TakesLine old new
-    → ((p q : Pieces) → next_of old.version p ≡ gives new.line q → said p ≡ then q) → Steps said then old new
+    → ((p q : Pieces) → next_of old.version p ≡ gives new.line q → said p ≡ then q) → Steps said then (new.line ∷ []) old new
 takes-steps said then old new k f = record { turns = at old.to_come new.to_come k.next; lines = one-taken old.to_come new.to_come old.version new.line k.next; failures = k.failures; left = let a = k.left in omega arith; held = k.held }
   where
     at : (a b : Option Pieces) → IfSome a (λ p. (q : Pieces) × (b ≡ Some q) × (next_of old.version p ≡ gives new.line q)) → Turns said then a b
@@ -429,7 +434,9 @@ module _ {R : Type 0} where
         value = subst P (sym (to_come-peeked rem p e)) (at (option_map stream_pieces (known rem p)) refl);
         version = version;
         failures = refl;
-        left = omega arith;
+        left =
+            let a = place-within p.window.lent cs n is in
+            rw e (omega (arith, length-take-le n p.window.lent (omega arith)));
         held = refl;
       }
     where
@@ -450,27 +457,29 @@ module _ {R : Type 0} where
       )
 
   -- it has no NUL
-  pub fails-cut : (rem : R → Option (List ℕ)) (p : Packets R) (v : Protocol) (e : Error) → p.place ≡ Peeked
-      → IsOfLine (capabilities_of_line p.window.lent) (Err e) → Fails (from_ref_line v) (packets_reading rem p) (packets_reading rem p) e
-  fails-cut rem p v e peeked h = by (capabilities_of_line p.window.lent) refl h
+  pub fails-cut : (rem : R → Option (List ℕ)) (p : Packets R) (v : Protocol) (e : Error) → p.place ≡ Peeked → p.version ≡ v
+      → IsOfLine (capabilities_of_line p.window.lent) (Err e) → Fails (from_ref_line v) (TakesNone v) (packets_reading rem p) (packets_reading rem p) e
+  fails-cut rem p v e peeked version h = by (capabilities_of_line p.window.lent) refl h
     where
       none : (o : Option Pieces) → capabilities_of_line p.window.lent ≡ None → IfSome (option_map (with_piece (line p.window.lent)) o) (λ q. from_ref_line v q ≡ Err no_null_byte)
       none None k = tt
       none (Some q) k = ap (ref_line v p.window.lent q) k
 
-      by : (o : Option (List CapabilityValue × ℕ)) → capabilities_of_line p.window.lent ≡ o → IsOfLine o (Err e) → Fails (from_ref_line v) (packets_reading rem p) (packets_reading rem p) e
+      by : (o : Option (List CapabilityValue × ℕ)) → capabilities_of_line p.window.lent ≡ o → IsOfLine o (Err e) → Fails (from_ref_line v) (TakesNone v) (packets_reading rem p) (packets_reading rem p) e
       by None k i =
           let P : Option Pieces → Type 0 = λ c. IfSome c (λ q. from_ref_line v q ≡ Err (client_refusal e)) in
           let refused : client_refusal e ≡ no_null_byte = ap client_refusal i in
           let Q : ClientRefusal → Type 0 = λ x. IfSome (option_map (with_piece (line p.window.lent)) (option_map stream_pieces (known rem p))) (λ q. from_ref_line v q ≡ Err x) in
           record {
             why = inl (subst P (sym (to_come-peeked rem p peeked)) (subst Q (sym refused) (none (option_map stream_pieces (known rem p)) k)), refl);
-            stands = subst (Stands (packets_reading rem p) (packets_reading rem p)) (sym i) (ap is_peeked peeked, k, none-taken (packets_reading rem p).to_come);
+            taken = [];
+            by_version = (version, refl);
+            stands = subst (Stands [] (packets_reading rem p) (packets_reading rem p)) (sym i) (ap is_peeked peeked, k, none-taken (packets_reading rem p).to_come);
             stopped = ap place_stop peeked;
             left = omega arith;
             held = refl;
           }
-      by (Some found) k i = record { why = inr (subst (IsFromDevice (packets_reading rem p) (packets_reading rem p)) (sym i) refl); stands = subst (Stands (packets_reading rem p) (packets_reading rem p)) (sym i) (none-taken (packets_reading rem p).to_come); stopped = ap place_stop peeked; left = omega arith; held = refl }
+      by (Some found) k i = record { why = inr (subst (IsFromDevice (packets_reading rem p) (packets_reading rem p)) (sym i) refl); taken = []; by_version = (version, refl); stands = subst (Stands [] (packets_reading rem p) (packets_reading rem p)) (sym i) (none-taken (packets_reading rem p).to_come); stopped = ap place_stop peeked; left = omega arith; held = refl }
 
   peeked_known : (rem : R → Option (List ℕ)) (p : Packets R) (P : Option Pieces → Type 0) → p.place ≡ Peeked
       → ((o : Option Pieces) → P (option_map (with_piece (line p.window.lent)) o)) → P (packets_reading rem p).to_come
@@ -478,7 +487,7 @@ module _ {R : Type 0} where
 
   -- a first line that names no version is the first ref line
   pub unnamed-steps : (rem : R → Option (List ℕ)) (p : Packets R) → p.place ≡ Peeked → version_named p.window.lent ≡ unnamed
-      → Steps advertisement (from_ref_line V0) (packets_reading rem p) (packets_reading rem p)
+      → Steps advertisement (from_ref_line V0) [] (packets_reading rem p) (packets_reading rem p)
   unnamed-steps rem p e is = record { turns = peeked_known rem p (λ o. Turns advertisement (from_ref_line V0) o o) e at; lines = none-taken (packets_reading rem p).to_come; failures = refl; left = omega arith; held = refl }
     where
       at : (o : Option Pieces) → Turns advertisement (from_ref_line V0) (option_map (with_piece (line p.window.lent)) o) (option_map (with_piece (line p.window.lent)) o)
@@ -486,9 +495,11 @@ module _ {R : Type 0} where
       at (Some q) = (with_piece (line p.window.lent) q, refl, ap (λ n. by_version n (with_piece (line p.window.lent) q) q) is)
 
   -- one that names another version is refused
-  pub fails-another : (rem : R → Option (List ℕ)) (p : Packets R) (e : Error) → p.place ≡ Peeked → version_named p.window.lent ≡ another (trimmed p.window.lent)
-      → (client_refusal e ≡ unsupported_version (trimmed p.window.lent)) ⊎ (e ≡ Memory) → Fails advertisement (packets_reading rem p) (packets_reading rem p) e
-  fails-another rem p e peeked is (inl refused) = record {
+  pub fails-another : (rem : R → Option (List ℕ)) (p : Packets R) (e : Error) → p.version ≡ V0 → p.place ≡ Peeked → version_named p.window.lent ≡ another (trimmed p.window.lent)
+      → (client_refusal e ≡ unsupported_version (trimmed p.window.lent)) ⊎ (e ≡ Memory) → Fails advertisement TakesFirst (packets_reading rem p) (packets_reading rem p) e
+  fails-another rem p e version peeked is (inl refused) = record {
+    taken = [];
+    by_version = subst (λ v. TakesFirst v []) (sym version) refl;
     why = inl (peeked_known rem p (λ o. IfSome o (λ q. advertisement q ≡ Err (client_refusal e))) peeked at, refl);
     stands = named e refused;
     stopped = ap place_stop peeked;
@@ -500,7 +511,7 @@ module _ {R : Type 0} where
       at None = tt
       at (Some q) = ap (λ n. by_version n (with_piece (line p.window.lent) q) q) is ∙ ap Err (sym refused)
 
-      named : (e : Error) → client_refusal e ≡ unsupported_version (trimmed p.window.lent) → Stands (packets_reading rem p) (packets_reading rem p) e
+      named : (e : Error) → client_refusal e ≡ unsupported_version (trimmed p.window.lent) → Stands [] (packets_reading rem p) (packets_reading rem p) e
       named (Io k) h = absurd (cc)
       named (Read y) h = absurd (cc)
       named LineTooLong h = absurd (cc)
@@ -510,9 +521,11 @@ module _ {R : Type 0} where
           (ap is_peeked peeked, is ∙ ap another (sym same), none-taken (packets_reading rem p).to_come)
       named MissingDelimitingNullByte h = absurd (cc)
       named Memory h = absurd (cc)
-  fails-another rem p e peeked is (inr full) = record {
+  fails-another rem p e version peeked is (inr full) = record {
+    taken = [];
+    by_version = subst (λ v. TakesFirst v []) (sym version) refl;
     why = inr (subst (IsFromDevice (packets_reading rem p) (packets_reading rem p)) (sym full) refl);
-    stands = subst (Stands (packets_reading rem p) (packets_reading rem p)) (sym full) (none-taken (packets_reading rem p).to_come);
+    stands = subst (Stands [] (packets_reading rem p) (packets_reading rem p)) (sym full) (none-taken (packets_reading rem p).to_come);
     stopped = ap place_stop peeked;
     left = omega arith;
     held = refl;
@@ -520,16 +533,26 @@ module _ {R : Type 0} where
 
 -- behind a line that names a version, which was peeked at and taken, and the version
 pub named-steps : (then : Pieces → Result Advertised ClientRefusal) (named : Named) (v : Protocol) (old mid new : Reading) (text : List ℕ) → old.version ≡ V0 → old.peeked ≡ true
-    → old.line ≡ text → version_named text ≡ named → ((p q : Pieces) → by_version named p q ≡ then q) → TakesLine old mid → new ≡ reset_to v mid → Steps advertisement then old new
+    → old.line ≡ text → version_named text ≡ named → ((p q : Pieces) → by_version named p q ≡ then q) → TakesLine old mid → new ≡ reset_to v mid → Steps advertisement then (text ∷ []) old new
 named-steps then named v old mid new text version peeked is names turns k reset =
     let lines : mid.line ≡ text = k.again peeked ∙ is in
     let taken = takes-steps advertisement then old mid k (λ p q n.
     let next : next_of V0 p ≡ gives mid.line q = ap (λ w. next_of w p) (sym version) ∙ n in
     ap (by_first p) next ∙ ap (λ t. by_version (version_named t) p q) lines ∙ ap (λ m. by_version m p q) names ∙ turns p q) in
-    subst (Steps advertisement then old) (sym reset) (record {
+    subst (Steps advertisement then (text ∷ []) old) (sym reset) (record {
       turns = taken.turns;
-      lines = taken.lines;
+      lines = subst (λ t. LinesTaken (t ∷ []) old.to_come mid.to_come) lines taken.lines;
       failures = taken.failures;
       left = taken.left;
       held = taken.held;
     })
+
+-- the lines that were taken, behind the first one
+pub first-none : (v : Protocol) (texts : List (List ℕ)) → TakesNone V0 v texts → TakesFirst v texts
+first-none v texts h = subst (λ w. TakesFirst w texts) (sym h.0) h.1
+
+pub first-one : (text : List ℕ) → version_named text ≡ one → (v : Protocol) (texts : List (List ℕ)) → TakesNone V1 v texts → TakesFirst v (text ∷ texts)
+first-one text named v texts h = subst (λ w. TakesFirst w (text ∷ texts)) (sym h.0) (text, named, ap (λ ts. text ∷ ts) h.1)
+
+pub first-two : (text : List ℕ) → version_named text ≡ two → (v : Protocol) (texts : List (List ℕ)) → TakesAny v texts → TakesFirst v (text ∷ texts)
+first-two text named v texts h = subst (λ w. TakesFirst w (text ∷ texts)) (sym h) (text, texts, named, refl)

@@ -1,6 +1,7 @@
 -- What a call that reads does, beside whatever is held.
-use Rattle.std.proofs.Common.{◌≡◌, Bool, true, false, ◌⊎◌, inl, inr, refl, Option, Some, None, IfSome, Result, Ok, Err}
+use Rattle.std.proofs.Common.{◌≡◌, ℕ, List, Bool, true, false, ◌⊎◌, inl, inr, refl, Option, Some, None, IfSome, Result, Ok, Err}
 use Rattle.gixp_wire.specs.declared.read.Error.{Error}
+use Rattle.gixp_wire.specs.declared.protocol.Protocol.{Protocol}
 use Rattle.gixp_wire.specs.declared.protocol.MessageKind.{MessageKind}
 use Rattle.gixp_wire.specs.Pieces.{Refusal, io, decode, server, unexpected_frame, not_utf8, bad_band, interrupted, memory, Pieces}
 use Rattle.gixp_wire.specs.declared.client.Error.{Error as ClientError}
@@ -26,7 +27,7 @@ module _ (h : Held) (a b : Reading) where
   takes_line k = record { running = k.running; sound = k.sound; again = k.again; next = k.next; stopped = k.stopped; version = k.version; peeked = k.peeked; failures = k.failures; left = k.left; held = refl }
 
   shows_line : ShowsLine a b → ShowsLine A B
-  shows_line k = record { running = k.running; sound = k.sound; again = k.again; next = k.next; refused = k.refused; stopped = k.stopped; version = k.version; peeked = k.peeked; failures = k.failures; left = k.left; held = refl }
+  shows_line k = record { running = k.running; sound = k.sound; again = k.again; next = k.next; refused = k.refused; stopped = k.stopped; version = k.version; peeked = k.peeked; failures = k.failures; left = k.left; room = k.room; held = refl }
 
   takes_stop : (kind : MessageKind) → TakesStop a b kind → TakesStop A B kind
   takes_stop kind k = record { running = k.running; sound = k.sound; unpeeked = k.unpeeked; is_stop = k.is_stop; next = k.next; stopped = k.stopped; version = k.version; peeked = k.peeked; failures = k.failures; left = k.left; held = refl }
@@ -86,18 +87,18 @@ module _ (h : Held) (a b : Reading) where
   from_device MissingDelimitingNullByte k = k
   from_device ClientMemory k = k
 
-  stands_io : (ends : Bool) (kind : ErrorKind) → StandsIo ends a b kind → StandsIo ends A B kind
-  stands_io true kind k = k
-  stands_io false kind k = k
+  stands_io : (ends : Bool) (texts : List (List ℕ)) (kind : ErrorKind) → StandsIo ends texts a b kind → StandsIo ends texts A B kind
+  stands_io true texts kind k = k
+  stands_io false texts kind k = k
 
-  stands_held : (e : ClientError) → Stands a b e → Stands A B e
-  stands_held (ClientIo kind) k = stands_io (is_end kind) kind k
-  stands_held (ClientRead e) k = k
-  stands_held LineTooLong k = k
-  stands_held AuthenticationUnsupported k = k
-  stands_held (UnsupportedProtocolVersion t) k = k
-  stands_held MissingDelimitingNullByte k = k
-  stands_held ClientMemory k = k
+  stands_held : (texts : List (List ℕ)) (e : ClientError) → Stands texts a b e → Stands texts A B e
+  stands_held texts (ClientIo kind) k = stands_io (is_end kind) texts kind k
+  stands_held texts (ClientRead e) k = k
+  stands_held texts LineTooLong k = k
+  stands_held texts AuthenticationUnsupported k = k
+  stands_held texts (UnsupportedProtocolVersion t) k = k
+  stands_held texts MissingDelimitingNullByte k = k
+  stands_held texts ClientMemory k = k
 
   answers_held : (x : Advertised) (found : SetServiceResponse) → Answers x b found → Answers x B found
   answers_held x found k = record { version = k.version; capabilities = k.capabilities; has_refs = k.has_refs; rest = k.rest; stopped = k.stopped }
@@ -107,15 +108,15 @@ module _ (h : Held) (a b : Reading) where
   value_held said found None k = tt
   value_held said found (Some p) k = (k.0, k.1, answers_held k.0 found k.2)
 
-  pub advertises : (said : Pieces → Result Advertised ClientRefusal) (r : Result SetServiceResponse ClientError) → Advertises said a b r → Advertises said A B r
-  advertises said (Ok found) k = record {
+  pub advertises : (said : Pieces → Result Advertised ClientRefusal) (takes : Protocol → List (List ℕ) → Type 0) (r : Result SetServiceResponse ClientError) → Advertises said takes a b r → Advertises said takes A B r
+  advertises said takes (Ok found) k = record {
     value = value_held said found a.to_come k.value;
     version = k.version;
     failures = k.failures;
     left = k.left;
     held = refl;
   }
-  advertises said (Err e) k = record { why = why k.why; stands = stands_held e k.stands; stopped = k.stopped; left = k.left; held = refl }
+  advertises said takes (Err e) k = record { why = why k.why; taken = k.taken; by_version = k.by_version; stands = stands_held k.taken e k.stands; stopped = k.stopped; left = k.left; held = refl }
     where
       why : (IfSome a.to_come (λ p. said p ≡ Err (client_refusal e)) × (b.failures ≡ a.failures)) ⊎ IsFromDevice a b e
           → (IfSome a.to_come (λ p. said p ≡ Err (client_refusal e)) × (b.failures ≡ a.failures)) ⊎ IsFromDevice A B e

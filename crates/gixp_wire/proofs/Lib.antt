@@ -2,6 +2,7 @@ mod DigitLemmas
 mod FrameLemmas
 mod WindowLemmas
 mod PacketLemmas
+mod PacketLineLemmas
 mod AdvanceLemmas
 mod GrammarLemmas
 mod FrameTextLemmas

@@ -117,37 +117,53 @@ abbrev pub behind_lines : List (List ℕ) → Pieces → Pieces
 behind_lines [] p = p
 behind_lines (text ∷ texts) p = with_piece (line text) (behind_lines texts p)
 
--- lines were taken of these pieces, and nothing else
-abbrev pub LinesTaken : Option Pieces → Option Pieces → Type 0
-LinesTaken old new = IfSome old (λ p. (texts : List (List ℕ)) × (q : Pieces) × (new ≡ Some q) × (p ≡ behind_lines texts q))
+-- these lines were taken of these pieces, and nothing else
+abbrev pub LinesTaken : List (List ℕ) → Option Pieces → Option Pieces → Type 0
+LinesTaken texts old new = IfSome old (λ p. (q : Pieces) × (new ≡ Some q) × (p ≡ behind_lines texts q))
+
+-- which lines a call took that is refused, by the version that its reader then knows: of a first ref line, none
+abbrev pub TakesNone : Protocol → Protocol → List (List ℕ) → Type 0
+TakesNone version v texts = (v ≡ version) × (texts ≡ [])
+
+-- of capability lines, any number
+abbrev pub TakesAny : Protocol → List (List ℕ) → Type 0
+TakesAny v texts = v ≡ V2
+
+-- of what a server says first, none, the line that names version 1, or the one that names version 2 and capability lines
+abbrev pub TakesFirst : Protocol → List (List ℕ) → Type 0
+TakesFirst V0 texts = texts ≡ []
+TakesFirst V1 texts = (first : List ℕ) × (version_named first ≡ one) × (texts ≡ first ∷ [])
+TakesFirst V2 texts = (first : List ℕ) × (more : List (List ℕ)) × (version_named first ≡ two) × (texts ≡ first ∷ more)
 
 -- this refusal stands next, and nothing behind it
 abbrev pub StandsRefused : Reading → Reading → Refusal → Type 0
 StandsRefused old new e = (new.refused ≡ Some e) × IfSome old.to_come (λ p. new.to_come ≡ Some (no_pieces e))
 
 -- behind a failure of the device no line is peeked at, and one as at the end of the stream stands
-abbrev pub StandsIo : Bool → Reading → Reading → ErrorKind → Type 0
-StandsIo true old new kind = StandsRefused old new (io kind)
-StandsIo false old new kind = (new.peeked ≡ false) × LinesTaken old.to_come new.to_come
+abbrev pub StandsIo : Bool → List (List ℕ) → Reading → Reading → ErrorKind → Type 0
+StandsIo true texts old new kind = StandsRefused old new (io kind)
+StandsIo false texts old new kind = (new.peeked ≡ false) × LinesTaken texts old.to_come new.to_come
 
--- what stands behind an error: a refusal of the stream, or what is left behind lines that were taken. The line that names another version, and a first ref line without a NUL, are still to come
-abbrev pub Stands : Reading → Reading → Error → Type 0
-Stands old new (Io kind) = StandsIo (is_end kind) old new kind
-Stands old new (Read e) = StandsRefused old new (refusal_of e)
-Stands old new (UnsupportedProtocolVersion text) = (new.peeked ≡ true) × (version_named new.line ≡ another (bstring_bytes text)) × LinesTaken old.to_come new.to_come
-Stands old new MissingDelimitingNullByte = (new.peeked ≡ true) × (capabilities_of_line new.line ≡ None) × LinesTaken old.to_come new.to_come
-Stands old new Memory = LinesTaken old.to_come new.to_come
-Stands old new _ = ⊥
+-- what stands behind an error: a refusal of the stream, or what is left behind the lines that were taken. The line that names another version, and a first ref line without a NUL, are still to come
+abbrev pub Stands : List (List ℕ) → Reading → Reading → Error → Type 0
+Stands texts old new (Io kind) = StandsIo (is_end kind) texts old new kind
+Stands texts old new (Read e) = StandsRefused old new (refusal_of e)
+Stands texts old new (UnsupportedProtocolVersion text) = (new.peeked ≡ true) × (version_named new.line ≡ another (bstring_bytes text)) × LinesTaken texts old.to_come new.to_come
+Stands texts old new MissingDelimitingNullByte = (new.peeked ≡ true) × (capabilities_of_line new.line ≡ None) × LinesTaken texts old.to_come new.to_come
+Stands texts old new Memory = LinesTaken texts old.to_come new.to_come
+Stands texts old new _ = ⊥
 
 -- the first refusal of what was said, or that of a device or of memory
-pub record Fails (said : Pieces → Result Advertised ClientRefusal) (old new : Reading) (e : Error) : Type 0 where
+pub record Fails (said : Pieces → Result Advertised ClientRefusal) (takes : Protocol → List (List ℕ) → Type 0) (old new : Reading) (e : Error) : Type 0 where
   pub why : (IfSome old.to_come (λ p. said p ≡ Err (client_refusal e)) × (new.failures ≡ old.failures)) ⊎ IsFromDevice old new e
-  pub stands : Stands old new e
+  pub taken : List (List ℕ)
+  pub by_version : takes new.version taken
+  pub stands : Stands taken old new e
   pub stopped : new.stopped ≡ None
   pub left : new.left ≤ old.left
   pub held : new.held ≡ old.held
 
 -- a call that reads what a server says first
-abbrev pub Advertises : (Pieces → Result Advertised ClientRefusal) → Reading → Reading → Result SetServiceResponse Error → Type 0
-Advertises said old new (Ok found) = Reads said old new found
-Advertises said old new (Err e) = Fails said old new e
+abbrev pub Advertises : (Pieces → Result Advertised ClientRefusal) → (Protocol → List (List ℕ) → Type 0) → Reading → Reading → Result SetServiceResponse Error → Type 0
+Advertises said takes old new (Ok found) = Reads said old new found
+Advertises said takes old new (Err e) = Fails said takes old new e

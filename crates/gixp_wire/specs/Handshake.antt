@@ -10,7 +10,7 @@ use Rattle.std.specs.Prelude.{string_bytes}
 use Rattle.gixp_wire.specs.FrameText.{texts_of}
 use Rattle.gixp_wire.specs.Held.{Greeting}
 use Rattle.gixp_wire.specs.Reading.{Reading}
-use Rattle.gixp_wire.specs.Advertisement.{advertisement, Advertises}
+use Rattle.gixp_wire.specs.Advertisement.{advertisement, TakesFirst, Advertises}
 use Rattle.gixp_wire.specs.Greeting.{Parameter, greeting_frames, greeting_fits}
 use Rattle.gixp_wire.specs.Transport.{Broke, SentBy, TakesAnswer, ByAnswer}
 
@@ -33,10 +33,10 @@ IsErr r e = r ≡ Err e
 abbrev pub HandshakesBy : Bool → Service → List Parameter → Reading → Reading → Result SetServiceResponse Error → Type 0
 HandshakesBy true service ps old new r =
     ((e : Error) × IsErr r e × Greets service ps old new (Err e))
-    ⊎ ((mid : Reading) × Greets service ps old mid (Ok tt) × Advertises advertisement mid new r)
+    ⊎ ((mid : Reading) × Greets service ps old mid (Ok tt) × Advertises advertisement TakesFirst mid new r)
 HandshakesBy false service ps old new r =
     ((kind : ErrorKind) × IsErr r (Io kind) × TakesAnswer old new × ByAnswer old new (Some kind))
-    ⊎ ((mid : Reading) × TakesAnswer old mid × ByAnswer old mid None × Advertises advertisement mid new r)
+    ⊎ ((mid : Reading) × TakesAnswer old mid × ByAnswer old mid None × Advertises advertisement TakesFirst mid new r)
 
 -- a call that shakes hands
 abbrev pub Handshakes : Service → List Parameter → Reading → Reading → Result SetServiceResponse Error → Type 0

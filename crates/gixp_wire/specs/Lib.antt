@@ -14,6 +14,7 @@ pub mod Client
 pub mod Message
 pub mod Transport
 pub mod Window
+pub mod PacketLine
 pub mod Packets
 pub mod LineReader
 pub mod Bodies

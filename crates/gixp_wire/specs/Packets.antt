@@ -70,8 +70,13 @@ module _ {R : Type 0} where
   abbrev pub peeked_at : Packets R → Packets R
   peeked_at p = record p { place = Peeked }
 
+  -- a bound on the bytes that may still come
+  abbrev pub bytes_left : Packets R → ℕ
+  bytes_left p = p.reads_left * 65520 + length p.window.pending
+
+  -- and on those of the lines, with one more for each line
   abbrev pub lines_left : Packets R → ℕ
-  lines_left p = p.reads_left * 65520 + length p.window.pending + (if is_peeked p.place then 1 else 0)
+  lines_left p = bytes_left p + (if is_peeked p.place then length p.window.lent + 1 else 0)
 
   -- what a reader of lines over these packets means
   abbrev pub packets_reading : (R → Option (List ℕ)) → Packets R → Reading
@@ -92,7 +97,7 @@ module _ {R : Type 0} where
     pub bytes : Keeps (known remaining old) (known remaining new)
     pub place : new.place ≡ old.place
     pub version : new.version ≡ old.version
-    pub left : lines_left new ≤ lines_left old
+    pub left : bytes_left new ≤ bytes_left old
 
   -- more bytes came
   pub record Filled (remaining : R → Option (List ℕ)) (old new : Packets R) : Type 0 where
@@ -127,7 +132,7 @@ module _ {R : Type 0} where
     pub ended : new.ended ≡ true
     pub place : new.place ≡ old.place
     pub version : new.version ≡ old.version
-    pub left : lines_left new ≤ lines_left old
+    pub left : bytes_left new ≤ bytes_left old
     pub failures : Rose old.failures new.failures
 
   -- one more read

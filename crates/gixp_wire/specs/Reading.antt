@@ -1,5 +1,5 @@
 -- What a reader of lines means, and what its calls do to that (gitprotocol-common, "pkt-line Format").
-use Rattle.std.specs.Prelude.{◌≡◌, ℕ, ◌+◌, ◌-◌, ◌^◌, ◌<◌, ◌≤◌, min, ◌⊎◌, ⊤, Bool, true, false, List, [], ◌++◌, length, Option, Some, None, Result, Ok, Err, IfSome, IsSome}
+use Rattle.std.specs.Prelude.{◌≡◌, ℕ, ◌+◌, ◌-◌, ◌*◌, ◌^◌, ◌<◌, ◌≤◌, min, ◌⊎◌, ⊤, Bool, true, false, List, [], ◌++◌, length, Option, Some, None, Result, Ok, Err, IfSome, IsSome}
 use Rattle.std.specs.Borrow.{Bor}
 use Rattle.std.specs.Option.{option_map}
 use Rattle.std.specs.Str.{IsUtf8}
@@ -32,7 +32,7 @@ pub record Reading : Type 0 where
   pub peeked : Bool
   -- how often the device failed
   pub failures : ℕ
-  -- a bound on the lines that may still come
+  -- a bound on the bytes of the lines that may still come, with one more for each line
   pub left : ℕ
   -- what it holds beside the lines
   pub held : Held
@@ -59,6 +59,8 @@ pub record IsFresh (known : Option (List ℕ)) (r : Reading) : Type 0 where
   pub line : r.line ≡ []
   pub peeked : r.peeked ≡ false
   pub failures : r.failures ≡ 0
+  -- 2^64 - 1 reads may be made, each of at most 65,520 bytes
+  pub left : r.left ≡ (2 ^ 64 - 1) * 65520
   pub held : r.held ≡ nothing_held
 
 -- the refusal that an error is
@@ -93,7 +95,7 @@ pub record TakesLine (old new : Reading) : Type 0 where
   pub version : new.version ≡ old.version
   pub peeked : new.peeked ≡ false
   pub failures : new.failures ≡ old.failures
-  pub left : new.left < old.left
+  pub left : length new.line + new.left < old.left
   pub held : new.held ≡ old.held
 
 -- a line came next, and is still to come
@@ -108,6 +110,7 @@ pub record ShowsLine (old new : Reading) : Type 0 where
   pub peeked : new.peeked ≡ true
   pub failures : new.failures ≡ old.failures
   pub left : new.left ≤ old.left
+  pub room : length new.line < new.left
   pub held : new.held ≡ old.held
 
 -- a stop came next, and was taken

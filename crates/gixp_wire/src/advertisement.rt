@@ -6,7 +6,7 @@ ghost use Rattle.gixp_wire.specs.Client.{client_refusal, unsupported_version};
 ghost use Rattle.gixp_wire.specs.Reading.{TakesLine};
 ghost use Rattle.gixp_wire.specs.Packets.{packets_reading, is_peeked};
 ghost use Rattle.gixp_wire.specs.Named.{named_value};
-ghost use Rattle.gixp_wire.specs.Advertisement.{version_named, trimmed, advertisement, from_ref_line, from_capability_lines, Advertises};
+ghost use Rattle.gixp_wire.specs.Advertisement.{version_named, trimmed, advertisement, from_ref_line, from_capability_lines, TakesNone, TakesAny, TakesFirst, Advertises};
 
 use crate::capabilities::Capabilities;
 use crate::client::Error;
@@ -68,7 +68,7 @@ impl<R: Read> Packets<R> {
     /// Reads what a server says first: the line that names a version, and the capabilities. Under
     /// versions 0 and 1 the first ref line is then still to come, cut before its NUL.
     pub(crate) fn advertisement(&mut self, alloc: Global) -> Result<SetServiceResponse, Error>
-        ensures { Advertises advertisement (packets_reading R.remaining self.old) (packets_reading R.remaining self.new) result }
+        ensures { Advertises advertisement TakesFirst (packets_reading R.remaining self.old) (packets_reading R.remaining self.new) result }
     {
         self.reset(Protocol::V0);
         match self.peek_line() {
@@ -82,7 +82,7 @@ impl<R: Read> Packets<R> {
     fn by_first_line(&mut self, alloc: Global) -> Result<SetServiceResponse, Error>
         requires version { self.old.version ≡ V0 }
         requires peeked { is_peeked self.old.place ≡ true }
-        ensures { Advertises advertisement (packets_reading R.remaining self.old) (packets_reading R.remaining self.new) result }
+        ensures { Advertises advertisement TakesFirst (packets_reading R.remaining self.old) (packets_reading R.remaining self.new) result }
     {
         match version_named(self.line()) {
             Named::Unnamed => self.cut_ref_line(alloc, Protocol::V0),
@@ -112,7 +112,7 @@ impl<R: Read> Packets<R> {
     fn ref_line(&mut self, alloc: Global, version: Protocol) -> Result<SetServiceResponse, Error>
         requires version { self.old.version ≡ version }
         requires running { (packets_reading R.remaining self.old).stopped ≡ None }
-        ensures { Advertises (from_ref_line version) (packets_reading R.remaining self.old) (packets_reading R.remaining self.new) result }
+        ensures { Advertises (from_ref_line version) (TakesNone version) (packets_reading R.remaining self.old) (packets_reading R.remaining self.new) result }
     {
         match self.peek_line() {
             Ok(true) => self.cut_ref_line(alloc, version),
@@ -129,7 +129,7 @@ impl<R: Read> Packets<R> {
     ) -> Result<SetServiceResponse, Error>
         requires version { self.old.version ≡ version }
         requires peeked { is_peeked self.old.place ≡ true }
-        ensures { Advertises (from_ref_line version) (packets_reading R.remaining self.old) (packets_reading R.remaining self.new) result }
+        ensures { Advertises (from_ref_line version) (TakesNone version) (packets_reading R.remaining self.old) (packets_reading R.remaining self.new) result }
     {
         match Capabilities::from_bytes(alloc, self.line()) {
             Ok((capabilities, place)) => {
@@ -148,7 +148,7 @@ impl<R: Read> Packets<R> {
     fn capability_lines(&mut self, alloc: Global) -> Result<SetServiceResponse, Error>
         requires version { self.old.version ≡ V2 }
         requires running { (packets_reading R.remaining self.old).stopped ≡ None }
-        ensures { Advertises from_capability_lines (packets_reading R.remaining self.old) (packets_reading R.remaining self.new) result }
+        ensures { Advertises from_capability_lines TakesAny (packets_reading R.remaining self.old) (packets_reading R.remaining self.new) result }
     {
         let mut capabilities = Capabilities::empty(alloc);
         loop {

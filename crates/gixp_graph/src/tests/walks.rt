@@ -42,6 +42,24 @@ fn clocks_that_run_backwards(rt: HostRuntime) -> Result<(), Fail> {
 }
 
 #[test]
+fn through_marks(rt: HostRuntime) -> Result<(), Fail> {
+    let alloc = rt.alloc();
+    let mut commits = BTreeMap::new(alloc);
+    add(alloc, &mut commits, 1, 10, &[2])?;
+    add(alloc, &mut commits, 2, 9, &[3])?;
+    add(alloc, &mut commits, 3, 8, &[])?;
+    let mut graph = Graph::new(alloc, never_failing(commits));
+    graph.mark_complete(&[id(1)], Some(10))?;
+    assert!(rt; is_complete(&graph, 1) && is_complete(&graph, 2));
+    assert!(rt; graph.get(&id(3)).is_none());
+    assert!(rt; graph.insert_flags(&id(2), Flags::SEEN));
+    graph.mark_complete(&[id(1)], Some(0))?;
+    assert!(rt; is_complete(&graph, 1) && is_complete(&graph, 3));
+    assert_eq!(rt; graph.get(&id(2)), Some((9, Flags(9))));
+    Ok(())
+}
+
+#[test]
 fn no_cutoff(rt: HostRuntime) -> Result<(), Fail> {
     let alloc = rt.alloc();
     let mut graph = Graph::new(alloc, never_failing(three(alloc, 5)?));

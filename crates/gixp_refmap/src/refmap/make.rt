@@ -10,7 +10,7 @@ ghost use Rattle.gixp_refmap.specs.Mapping.{value_name, value_names, joined_spec
 ghost use Rattle.gixp_refmap.specs.Items.{HasItem, HasRemote};
 
 use crate::refmap::init::Error;
-use crate::refmap::mapping::{Mapping, Source, SpecIndex};
+use crate::refmap::mapping::{Mapping, Source, SpecIndex, copy_of};
 use gixp_lines::handshake::Ref;
 use gixp_refspec::match_group::validate::Fix;
 use gixp_refspec::match_group::{self, Item, MatchGroup, SourceRef};
@@ -67,13 +67,6 @@ fn items<'a>(
         items.push(item(found, null))?;
     }
     Ok(items)
-}
-
-// A copy of a ref.
-fn copy_of(found: &Ref) -> Result<Ref, AllocError>
-    ensures { IfOk result (λ copy. ref_value copy ≡ ref_value found.now) }
-{
-    found.clone()
 }
 
 // The ref at a place.

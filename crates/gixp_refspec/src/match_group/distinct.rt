@@ -1,24 +1,49 @@
 //! Of equal mappings the first.
-ghost use Rattle.std.specs.Prelude.{◌≡◌, ◌||◌, not, IfOk, OnOk, [], map};
-ghost use Rattle.std.specs.List.{list_all};
+ghost use Rattle.std.specs.Prelude.{◌≡◌, ◌∷◌, ◌++◌, ◌||◌, not, IsTrue, IfOk, OnOk, [], map};
+ghost use Rattle.gixp_refspec.specs.Apart.{parts, key_parts};
 ghost use Rattle.gixp_refspec.specs.Mappings.{Mapped, is_same, firsts};
 ghost use Rattle.gixp_refspec.specs.Firsts.{first_flags, flagged};
 ghost use Rattle.gixp_refspec.specs.MatchGroup.{mapped_of, mapped_in, is_marked};
 
 use crate::match_group::Mapping;
-use crate::match_group::key::{KeyBytes, KeySource, local_key, source_key};
+use crate::match_group::key::{Key, key_of};
+use crate::match_group::sorted::are_distinct;
 use std::alloc::{AllocError, Global};
-use std::collections::HashSet;
+use std::collections::BTreeSet;
 
-/// Remembers the source and the local name of a mapping, and answers whether they are new.
-fn mark<'a>(
-    seen: &mut HashSet<(KeySource<'a>, Option<KeyBytes<'a>>)>,
-    mapping: &'a Mapping,
-) -> Result<bool, AllocError>
+/// Appends the source and the local name of a mapping.
+fn push_key<'a>(mapping: &'a Mapping, keys: &mut Vec<Key<'a>>) -> Result<(), AllocError>
+    ensures { OnOk result (map key_parts keys.new.items ≡ map key_parts keys.old.items ++ parts (mapped_of mapping.now) ∷ []) }
+{
+    keys.push(key_of(mapping))?;
+    Ok(())
+}
+
+/// The source and the local name of each mapping.
+fn keys_of(alloc: Global, mappings: &[Mapping]) -> Result<Vec<Key<'_>>, AllocError>
+    ensures { IfOk result (λ keys. map key_parts keys.items ≡ map parts (map mapped_of mappings.now)) }
+{
+    let mut keys = Vec::with_capacity(alloc, mappings.len())?;
+    'mappings: for mapping in mappings {
+        push_key(mapping, &mut keys)?;
+    }
+    Ok(keys)
+}
+
+/// Whether no two mappings have the same source and local name.
+fn are_all_new(alloc: Global, mappings: &[Mapping]) -> Result<bool, AllocError>
+    ensures { IfOk result (λ d. IsTrue d → firsts (map mapped_of mappings.now) ≡ map mapped_of mappings.now) }
+{
+    let keys = keys_of(alloc, mappings)?;
+    are_distinct(alloc, keys)
+}
+
+/// Remembers the source and the local name of a mapping, and returns whether they are new.
+fn mark<'a>(seen: &mut BTreeSet<Key<'a>>, mapping: &'a Mapping) -> Result<bool, AllocError>
     ensures fresh { IfOk result (λ is_new. is_new ≡ not (is_marked seen.old.keys (mapped_of mapping.now))) }
     ensures marked { OnOk result ((m : Mapped) → is_marked seen.new.keys m ≡ (is_marked seen.old.keys m || is_same (mapped_of mapping.now) m)) }
 {
-    let is_new = seen.insert((source_key(&mapping.lhs), local_key(&mapping.rhs)))?;
+    let is_new = seen.insert(key_of(mapping))?;
     Ok(is_new)
 }
 
@@ -26,20 +51,13 @@ fn mark<'a>(
 fn first_flags(alloc: Global, mappings: &[Mapping]) -> Result<Vec<bool>, AllocError>
     ensures { IfOk result (λ flags. flags.items ≡ first_flags [] (map mapped_of mappings.now)) }
 {
-    let mut seen = HashSet::with_capacity(alloc, mappings.len())?;
+    let mut seen = BTreeSet::new(alloc);
     let mut flags = Vec::with_capacity(alloc, mappings.len())?;
     'mappings: for mapping in mappings {
         let is_first = mark(&mut seen, mapping)?;
         flags.push(is_first)?;
     }
     Ok(flags)
-}
-
-/// Whether all flags are true.
-fn are_all_true(flags: &[bool]) -> bool
-    ensures { result ≡ list_all (λ flag. flag) flags.now }
-{
-    flags.iter().all(|flag| *flag)
 }
 
 /// The mappings whose flag is true.
@@ -58,13 +76,14 @@ fn flagged(
         .collect(alloc)
 }
 
-/// Of mappings with equal source and local name the first. Mostly no two are equal, and then none is moved.
+/// Of mappings with equal source and local name the first. Mostly no two are equal, which a sort of what is compared
+/// tells, and then none is moved.
 pub(crate) fn firsts(alloc: Global, mappings: Vec<Mapping>) -> Result<Vec<Mapping>, AllocError>
     ensures { IfOk result (λ kept. mapped_in kept ≡ firsts (mapped_in mappings)) }
 {
-    let flags = first_flags(alloc, &mappings)?;
-    if are_all_true(&flags) {
+    if are_all_new(alloc, &mappings)? {
         return Ok(mappings);
     }
+    let flags = first_flags(alloc, &mappings)?;
     flagged(alloc, mappings, flags)
 }

@@ -1,42 +1,30 @@
-//! What a hash table compares of mappings.
+//! What is compared of mappings, in the order of their bytes. No hash is taken: a server chooses the names.
 ghost use Rattle.std.specs.Prelude.{◌≡◌};
 ghost use Rattle.std.specs.Option.{option_map};
 ghost use Rattle.bstr.specs.Owned.{bstring_bytes};
-ghost use Rattle.gixp_refspec.specs.MatchGroup.{source_of, key_bytes, key_source};
+ghost use Rattle.gixp_refspec.specs.Apart.{parts, key_parts};
+ghost use Rattle.gixp_refspec.specs.MatchGroup.{source_of, mapped_of, key_bytes, key_source};
 
-use crate::match_group::SourceRef;
+use crate::match_group::{Mapping, SourceRef};
 use bstr::BString;
-use std::hash::{Hash, Hasher};
 
-/// Bytes that a hash takes all at once. Those of a slice or a `BString` it takes one by one, which is several times
-/// slower.
-#[derive(Clone, Copy, PartialEq, Eq)]
+/// The bytes of a name or of an id.
+#[derive(Clone, Copy, PartialEq, Eq, PartialOrd, Ord)]
 pub(crate) struct KeyBytes<'a> {
     pub(crate) bytes: &'a [u8],
 }
 
-impl Hash for KeyBytes<'_> {
-    ghost use Rattle.std.specs.Prelude.{[], ◌∷◌};
-    ghost use Rattle.std.specs.Cmp.Lexicographic.{bytes_decides};
-    ghost use Rattle.std.proofs.Common.{ap};
-
-    ghost hash_input = { λ key. key.bytes.now ∷ [] };
-
-    ghost respects_eq = { λ a b same. ap (λ bytes. bytes ∷ []) ((bytes_decides a.bytes.now b.bytes.now).0 same) };
-
-    fn hash<H: Hasher>(&self, state: &mut H) {
-        state.write(self.bytes);
-    }
-}
-
 /// The source of a mapping, as a key.
-#[derive(Clone, Copy, PartialEq, Eq, Hash)]
+#[derive(Clone, Copy, PartialEq, Eq, PartialOrd, Ord)]
 pub(crate) enum KeySource<'a> {
     /// The whole name of a ref.
     FullName(KeyBytes<'a>),
     /// The bytes of an id.
     ObjectId(KeyBytes<'a>),
 }
+
+/// The source and the local name of a mapping.
+pub(crate) type Key<'a> = (KeySource<'a>, Option<KeyBytes<'a>>);
 
 /// The bytes of a name.
 pub(crate) fn name_key(name: &BString) -> KeyBytes<'_>
@@ -67,4 +55,11 @@ pub(crate) fn local_key(local: &Option<BString>) -> Option<KeyBytes<'_>>
         None => None,
         Some(name) => Some(name_key(name)),
     }
+}
+
+/// The source and the local name of a mapping.
+pub(crate) fn key_of(mapping: &Mapping) -> Key<'_>
+    ensures { key_parts result ≡ parts (mapped_of mapping.now) }
+{
+    (source_key(&mapping.lhs), local_key(&mapping.rhs))
 }

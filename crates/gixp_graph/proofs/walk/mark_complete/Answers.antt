@@ -1,65 +1,64 @@
 -- The walk marks just what is complete.
-use Rattle.std.proofs.Common.{refl, [], ◌≡◌, ◌∙◌, ap, sym, subst, Some, List, arith, rules}
+use Rattle.std.proofs.Common.{refl, [], ◌≡◌, ◌∙◌, ap, sym, subst, Some, arith, rules}
 use Rattle.std.specs.Prelude.{ℤ, ◌≤ℤ◌}
 use lib.Signed.{◌<ℤ◌}
 use mir.Val.{SFits, to_z, of_z}
 use mir.Syntax.{w64}
 use Rattle.std.proofs.lemmas.Int.{ints, to_z-of_z}
 use Rattle.std.specs.List.{flat_map}
-use Rattle.gixp_graph.specs.Held.{Commits, GraphData, graph_of, parents_in}
+use Rattle.gixp_graph.specs.Held.{GraphData, graph_of, parents_in}
 use Rattle.gixp_graph.specs.Table.{ids_at, AllNamed}
-use Rattle.gixp_graph.specs.Waiting.{Waiting, waiting_in}
-use Rattle.gixp_graph.specs.Walk.{IsWalk, AreDue}
+use Rattle.gixp_graph.specs.Visited.{is_visited}
+use Rattle.gixp_graph.specs.Walk.{Walk, walk_of, IsWalk, AreDue, AllVisited}
 use Rattle.gixp_graph.proofs.WalkLemmas.{complete_marked, expanded_never, expanded_older}
 use Rattle.gixp_graph.proofs.WaitingLemmas.{older_all, older_waiting, named_rest, named_taken}
-use Rattle.gixp_graph.proofs.NewestLemmas.{tips_marking, tips_walk, tips_marked, newest_due, newest_walk, newest_left, still_marked}
+use Rattle.gixp_graph.proofs.NewestLemmas.{tips_marking, tips_walk, newest_due, newest_walk, newest_left, still_visited}
 use Rattle.gixp_graph.proofs.walk.mark_complete.Goals as goal
 
-pub returns-in_err-mark_each-clause-only_marks : goal.returns-in_err-mark_each-clause-only_marks
-returns-in_err-mark_each-clause-only_marks g c =
+pub returns-in_err-visit_each-clause-only_marks : goal.returns-in_err-visit_each-clause-only_marks
+returns-in_err-visit_each-clause-only_marks g c =
     let start : GraphData = graph_of (g.O.Objects.contents c.args.objects.now) c.args.commits.now.held in
-    (tips_marking start c.args.ids.now c.args.cutoff _ refl _ (ap (ids_at c.numbers.new.self.ids) c.as_slice.ensures.value ∙ c.in-Ok.ensures.named.1) c.numbers.new.self.held _ c.numbers.ensures.held c.mark_each.ensures.some).only_marks
+    (tips_marking start c.args.ids.now c.args.cutoff _ refl _ (ap (ids_at c.numbers.new.self.ids) c.as_slice.ensures.value ∙ c.in-Ok.ensures.named.1) c.numbers.new.self.held _ c.numbers.ensures.held c.visit_each.ensures.some).only_marks
 
-pub returns-in_err-mark_each-clause-sound : goal.returns-in_err-mark_each-clause-sound
-returns-in_err-mark_each-clause-sound g c =
+pub returns-in_err-visit_each-clause-sound : goal.returns-in_err-visit_each-clause-sound
+returns-in_err-visit_each-clause-sound g c =
     let start : GraphData = graph_of (g.O.Objects.contents c.args.objects.now) c.args.commits.now.held in
-    (tips_marking start c.args.ids.now c.args.cutoff _ refl _ (ap (ids_at c.numbers.new.self.ids) c.as_slice.ensures.value ∙ c.in-Ok.ensures.named.1) c.numbers.new.self.held _ c.numbers.ensures.held c.mark_each.ensures.some).sound
+    (tips_marking start c.args.ids.now c.args.cutoff _ refl _ (ap (ids_at c.numbers.new.self.ids) c.as_slice.ensures.value ∙ c.in-Ok.ensures.named.1) c.numbers.new.self.held _ c.numbers.ensures.held c.visit_each.ensures.some).sound
 
 pub returns-in_default-cutoff-clause-only_marks : goal.returns-in_default-cutoff-clause-only_marks
 returns-in_default-cutoff-clause-only_marks g c =
     let start : GraphData = graph_of (g.O.Objects.contents c.args.objects.now) c.args.commits.now.held in
-    (tips_marking start c.args.ids.now c.args.cutoff _ refl _ (ap (ids_at c.numbers.new.self.ids) c.as_slice.ensures.value ∙ c.in-Ok.ensures.named.1) c.numbers.new.self.held _ c.numbers.ensures.held c.mark_each.ensures.some).only_marks
+    (tips_marking start c.args.ids.now c.args.cutoff _ refl _ (ap (ids_at c.numbers.new.self.ids) c.as_slice.ensures.value ∙ c.in-Ok.ensures.named.1) c.numbers.new.self.held _ c.numbers.ensures.held c.visit_each.ensures.some).only_marks
 
 pub returns-in_default-cutoff-clause-sound : goal.returns-in_default-cutoff-clause-sound
 returns-in_default-cutoff-clause-sound g c =
     let start : GraphData = graph_of (g.O.Objects.contents c.args.objects.now) c.args.commits.now.held in
-    (tips_marking start c.args.ids.now c.args.cutoff _ refl _ (ap (ids_at c.numbers.new.self.ids) c.as_slice.ensures.value ∙ c.in-Ok.ensures.named.1) c.numbers.new.self.held _ c.numbers.ensures.held c.mark_each.ensures.some).sound
+    (tips_marking start c.args.ids.now c.args.cutoff _ refl _ (ap (ids_at c.numbers.new.self.ids) c.as_slice.ensures.value ∙ c.in-Ok.ensures.named.1) c.numbers.new.self.held _ c.numbers.ensures.held c.visit_each.ensures.some).sound
 
 pub returns-in_default-cutoff-clause-complete : goal.returns-in_default-cutoff-clause-complete
 returns-in_default-cutoff-clause-complete g c =
     let start : GraphData = graph_of (g.O.Objects.contents c.args.objects.now) c.args.commits.now.held in
     let are = ap (ids_at c.numbers.new.self.ids) c.as_slice.ensures.value ∙ c.in-Ok.ensures.named.1 in
-    let held : Commits = c.mark_each.new.commits.held in
-    let queue : List Waiting = waiting_in c.mark_each.new.commits.ids c.mark_each.new.queue in
-    λ none. complete_marked start c.args.ids.now c.args.cutoff held none queue
-    (tips_walk start c.args.ids.now c.args.cutoff _ refl _ are c.numbers.new.self.held held c.numbers.ensures.held _ queue (ap (waiting_in c.numbers.new.self.ids) c.new-queue.ensures) c.in_ok-mark_each.ensures.each)
-    (expanded_never start c.args.cutoff held queue c.in_default-cutoff.is)
-    (tips_marked start c.args.ids.now c.args.cutoff _ refl _ are c.numbers.new.self.held held c.numbers.ensures.held _ queue c.in_ok-mark_each.ensures.each)
+    let new : Walk = walk_of c.visit_each.new.commits c.visit_each.new.visited c.visit_each.new.queue in
+    complete_marked start c.args.ids.now c.args.cutoff new.held new.visited new.waiting
+    (tips_walk start c.args.ids.now c.args.cutoff _ refl _ are c.numbers.new.self _ _ new c.numbers.ensures.held c.new-visited.ensures c.new-queue.ensures c.in_ok-visit_each.ensures.each)
+    (expanded_never start c.args.cutoff new.visited new.waiting c.in_default-cutoff.is)
+    (subst (AllVisited new.visited) are c.in_ok-visit_each.ensures.each.visited)
 
 pub loop-time-init : goal.loop-time-init
 loop-time-init g c =
     let start : GraphData = graph_of (g.O.Objects.contents c.args.objects.now) c.args.commits.now.held in
     let are = ap (ids_at c.numbers.new.self.ids) c.as_slice.ensures.value ∙ c.in-Ok.ensures.named.1 in
-    let held : Commits = c.mark_each.new.commits.held in
-    let queue : List Waiting = waiting_in c.mark_each.new.commits.ids c.mark_each.new.queue in
+    let new : Walk = walk_of c.visit_each.new.commits c.visit_each.new.visited c.visit_each.new.queue in
     let fits : SFits w64 c.in-Some.cutoff = search rules in
     record {
-      same = c.mark_each.ensures.contents;
-      failures = c.mark_each.ensures.failures;
+      same = c.visit_each.ensures.contents;
+      failures = c.visit_each.ensures.failures;
       cut = c.in-Some.is ∙ ap (λ (z : ℤ). Some z) (sym (to_z-of_z w64 c.in-Some.cutoff fits));
-      queue_named = c.in_ok-mark_each.ensures.queue_named;
-      walk = tips_walk start c.args.ids.now c.args.cutoff _ refl _ are c.numbers.new.self.held held c.numbers.ensures.held _ queue (ap (waiting_in c.numbers.new.self.ids) c.new-queue.ensures) c.in_ok-mark_each.ensures.each;
-      tips = tips_marked start c.args.ids.now c.args.cutoff _ refl _ are c.numbers.new.self.held held c.numbers.ensures.held _ queue c.in_ok-mark_each.ensures.each;
+      visited_named = c.in_ok-visit_each.ensures.visited_named;
+      queue_named = c.in_ok-visit_each.ensures.queue_named;
+      walk = tips_walk start c.args.ids.now c.args.cutoff _ refl _ are c.numbers.new.self _ _ new c.numbers.ensures.held c.new-visited.ensures c.new-queue.ensures c.in_ok-visit_each.ensures.each;
+      tips = subst (AllVisited new.visited) are c.in_ok-visit_each.ensures.each.visited;
     }
 
 pub returns-then-time-cutoff-clause-complete : goal.returns-then-time-cutoff-clause-complete
@@ -68,10 +67,11 @@ returns-then-time-cutoff-clause-complete g c =
     let v = c.loop-time.invariant in
     let p = c.in-Some-pop_newest.ensures in
     let t : ℤ = c.in-Some-pop_newest.time in
+    let at : Walk = walk_of c.loop-time.commits c.loop-time.visited c.loop-time.queue in
     let fits : SFits w64 t = search rules in
     let before : t <ℤ to_z w64 (of_z w64 c.in-Some.cutoff) = grind (arith, ints, c.if-time-cutoff.true) in
-    λ none. complete_marked start c.args.ids.now c.args.cutoff c.loop-time.commits.held none (waiting_in c.loop-time.commits.ids c.loop-time.queue) v.walk
-    (expanded_older start c.args.ids.now c.args.cutoff c.loop-time.commits.held t _ v.cut before (waiting_in c.loop-time.commits.ids c.loop-time.queue)
+    complete_marked start c.args.ids.now c.args.cutoff at.held at.visited at.waiting v.walk
+    (expanded_older start c.args.ids.now c.args.cutoff at.held at.visited t _ v.cut before at.waiting
     (older_waiting c.loop-time.commits.ids t c.loop-time.queue (older_all t c.in-Some-pop_newest.newest.items c.loop-time.queue c.pop_newest.new.self p.taken p.newest)) v.walk.queued)
     v.tips
 
@@ -81,15 +81,15 @@ parent_numbers-requires g c =
     subst (AllNamed c.loop-time.commits.ids) (sym c.as_slice-in-Some-pop_newest.ensures.value)
     (named_taken c.loop-time.commits.ids c.in-Some-pop_newest.time c.in-Some-pop_newest.newest.items c.loop-time.queue c.pop_newest.new.self c.in-Some-pop_newest.ensures.taken v.queue_named)
 
-pub mark_each-requires-in-Some-pop_newest-clause-queue_named :
-    goal.mark_each-requires-in-Some-pop_newest-clause-queue_named
-mark_each-requires-in-Some-pop_newest-clause-queue_named g c =
+pub visit_each-requires-in-Some-pop_newest-clause-queue_named :
+    goal.visit_each-requires-in-Some-pop_newest-clause-queue_named
+visit_each-requires-in-Some-pop_newest-clause-queue_named g c =
     let v = c.loop-time.invariant in
     named_rest c.loop-time.commits.ids c.in-Some-pop_newest.time c.in-Some-pop_newest.newest.items c.loop-time.queue c.pop_newest.new.self c.in-Some-pop_newest.ensures.taken v.queue_named
 
-pub returns-in_err-mark_each-2-clause-only_marks :
-    goal.returns-in_err-mark_each-2-clause-only_marks
-returns-in_err-mark_each-2-clause-only_marks g c =
+pub returns-in_err-visit_each-2-clause-only_marks :
+    goal.returns-in_err-visit_each-2-clause-only_marks
+returns-in_err-visit_each-2-clause-only_marks g c =
     let start : GraphData = graph_of (g.O.Objects.contents c.args.objects.now) c.args.commits.now.held in
     let v = c.loop-time.invariant in
     let t : ℤ = c.in-Some-pop_newest.time in
@@ -102,11 +102,11 @@ returns-in_err-mark_each-2-clause-only_marks g c =
     ap (ids_at ids) c.as_slice-in-Some-pop_newest-2.ensures.value ∙ c.in-Ok-parent_numbers.ensures.parents ∙ ap (λ ns. flat_map (parents_in held) (ids_at ids ns)) c.as_slice-in-Some-pop_newest.ensures.value in
     let due : AreDue start c.args.ids.now c.args.cutoff (ids_at ids c.as_slice-in-Some-pop_newest-2.result.now) =
     subst (AreDue start c.args.ids.now c.args.cutoff) (sym are)
-    (newest_due start c.args.ids.now c.args.cutoff held ids t newest c.loop-time.queue c.pop_newest.new.self c.in-Some-pop_newest.ensures.taken v.walk _ v.cut late) in
-    (c.mark_each-in-Some-pop_newest.ensures.some start c.args.ids.now c.args.cutoff v.same due v.walk.marking).only_marks
+    (newest_due start c.args.ids.now c.args.cutoff held (is_visited ids c.loop-time.visited) ids t newest c.loop-time.queue c.pop_newest.new.self c.in-Some-pop_newest.ensures.taken v.walk _ v.cut late) in
+    (c.visit_each-in-Some-pop_newest.ensures.some start c.args.ids.now c.args.cutoff v.same due v.walk.marking).only_marks
 
-pub returns-in_err-mark_each-2-clause-sound : goal.returns-in_err-mark_each-2-clause-sound
-returns-in_err-mark_each-2-clause-sound g c =
+pub returns-in_err-visit_each-2-clause-sound : goal.returns-in_err-visit_each-2-clause-sound
+returns-in_err-visit_each-2-clause-sound g c =
     let start : GraphData = graph_of (g.O.Objects.contents c.args.objects.now) c.args.commits.now.held in
     let v = c.loop-time.invariant in
     let t : ℤ = c.in-Some-pop_newest.time in
@@ -119,8 +119,8 @@ returns-in_err-mark_each-2-clause-sound g c =
     ap (ids_at ids) c.as_slice-in-Some-pop_newest-2.ensures.value ∙ c.in-Ok-parent_numbers.ensures.parents ∙ ap (λ ns. flat_map (parents_in held) (ids_at ids ns)) c.as_slice-in-Some-pop_newest.ensures.value in
     let due : AreDue start c.args.ids.now c.args.cutoff (ids_at ids c.as_slice-in-Some-pop_newest-2.result.now) =
     subst (AreDue start c.args.ids.now c.args.cutoff) (sym are)
-    (newest_due start c.args.ids.now c.args.cutoff held ids t newest c.loop-time.queue c.pop_newest.new.self c.in-Some-pop_newest.ensures.taken v.walk _ v.cut late) in
-    (c.mark_each-in-Some-pop_newest.ensures.some start c.args.ids.now c.args.cutoff v.same due v.walk.marking).sound
+    (newest_due start c.args.ids.now c.args.cutoff held (is_visited ids c.loop-time.visited) ids t newest c.loop-time.queue c.pop_newest.new.self c.in-Some-pop_newest.ensures.taken v.walk _ v.cut late) in
+    (c.visit_each-in-Some-pop_newest.ensures.some start c.args.ids.now c.args.cutoff v.same due v.walk.marking).sound
 
 pub loop-time-smaller : goal.loop-time-smaller
 loop-time-smaller g c =
@@ -129,10 +129,11 @@ loop-time-smaller g c =
     let ids = c.loop-time.commits.ids in
     let held = c.loop-time.commits.held in
     let newest = c.in-Some-pop_newest.newest.items in
+    let new : Walk = walk_of c.visit_each-in-Some-pop_newest.new.commits c.visit_each-in-Some-pop_newest.new.visited c.visit_each-in-Some-pop_newest.new.queue in
     let are : ids_at ids c.as_slice-in-Some-pop_newest-2.result.now ≡ flat_map (parents_in held) (ids_at ids newest) =
     ap (ids_at ids) c.as_slice-in-Some-pop_newest-2.ensures.value ∙ c.in-Ok-parent_numbers.ensures.parents ∙ ap (λ ns. flat_map (parents_in held) (ids_at ids ns)) c.as_slice-in-Some-pop_newest.ensures.value in
-    let less = newest_left start c.args.ids.now c.args.cutoff held ids c.in-Some-pop_newest.time newest c.loop-time.queue c.pop_newest.new.self c.in-Some-pop_newest.ensures.taken v.walk _ v.same _ are
-    c.mark_each-in-Some-pop_newest.new.commits.held _ c.in_ok-mark_each-2.ensures.each c.mark_each-in-Some-pop_newest.new.queue c.mark_each-in-Some-pop_newest.new.commits.ids refl c.in-Some-pop_newest.ensures.filled in
+    let less = newest_left start c.args.ids.now c.args.cutoff held (is_visited ids c.loop-time.visited) ids c.in-Some-pop_newest.time newest c.loop-time.queue c.pop_newest.new.self c.in-Some-pop_newest.ensures.taken v.walk _ v.same _ are
+    new c.in_ok-visit_each-2.ensures.each c.visit_each-in-Some-pop_newest.new.queue c.visit_each-in-Some-pop_newest.new.commits.ids refl c.in-Some-pop_newest.ensures.filled in
     omega (arith, less)
 
 pub loop-time-preserved : goal.loop-time-preserved
@@ -142,29 +143,32 @@ loop-time-preserved g c =
     let t : ℤ = c.in-Some-pop_newest.time in
     let ids = c.loop-time.commits.ids in
     let held = c.loop-time.commits.held in
+    let visited = is_visited ids c.loop-time.visited in
     let newest = c.in-Some-pop_newest.newest.items in
+    let new : Walk = walk_of c.visit_each-in-Some-pop_newest.new.commits c.visit_each-in-Some-pop_newest.new.visited c.visit_each-in-Some-pop_newest.new.queue in
     let fits : SFits w64 t = search rules in
     let late : to_z w64 (of_z w64 c.in-Some.cutoff) ≤ℤ t = grind (arith, ints, c.if-time-cutoff.false) in
     let are : ids_at ids c.as_slice-in-Some-pop_newest-2.result.now ≡ flat_map (parents_in held) (ids_at ids newest) =
     ap (ids_at ids) c.as_slice-in-Some-pop_newest-2.ensures.value ∙ c.in-Ok-parent_numbers.ensures.parents ∙ ap (λ ns. flat_map (parents_in held) (ids_at ids ns)) c.as_slice-in-Some-pop_newest.ensures.value in
     let due : AreDue start c.args.ids.now c.args.cutoff (ids_at ids c.as_slice-in-Some-pop_newest-2.result.now) =
     subst (AreDue start c.args.ids.now c.args.cutoff) (sym are)
-    (newest_due start c.args.ids.now c.args.cutoff held ids t newest c.loop-time.queue c.pop_newest.new.self c.in-Some-pop_newest.ensures.taken v.walk _ v.cut late) in
-    let e = c.mark_each-in-Some-pop_newest.ensures in
-    let each = c.in_ok-mark_each-2.ensures.each in
+    (newest_due start c.args.ids.now c.args.cutoff held visited ids t newest c.loop-time.queue c.pop_newest.new.self c.in-Some-pop_newest.ensures.taken v.walk _ v.cut late) in
+    let e = c.visit_each-in-Some-pop_newest.ensures in
+    let each = c.in_ok-visit_each-2.ensures.each in
     record {
       same = e.contents ∙ v.same;
       failures = omega arith;
       cut = v.cut;
-      queue_named = c.in_ok-mark_each-2.ensures.queue_named;
-      walk = newest_walk start c.args.ids.now c.args.cutoff held ids t newest c.loop-time.queue c.pop_newest.new.self c.in-Some-pop_newest.ensures.taken v.walk _ v.same _ are
-          c.mark_each-in-Some-pop_newest.new.commits.held _ each due;
-      tips = still_marked start _ _ c.args.ids.now held c.mark_each-in-Some-pop_newest.new.commits.held _ _ each v.tips;
+      visited_named = c.in_ok-visit_each-2.ensures.visited_named;
+      queue_named = c.in_ok-visit_each-2.ensures.queue_named;
+      walk = newest_walk start c.args.ids.now c.args.cutoff held visited ids t newest c.loop-time.queue c.pop_newest.new.self c.in-Some-pop_newest.ensures.taken v.walk _ v.same _ are new each due;
+      tips = still_visited _ _ c.args.ids.now _ new each v.tips;
     }
 
 pub returns-clause-complete : goal.returns-clause-complete
 returns-clause-complete g c =
     let start : GraphData = graph_of (g.O.Objects.contents c.args.objects.now) c.args.commits.now.held in
     let v = c.loop-time.invariant in
-    λ none. complete_marked start c.args.ids.now c.args.cutoff c.loop-time.commits.held none [] (subst (λ q. IsWalk start c.args.ids.now c.args.cutoff c.loop-time.commits.held (waiting_in c.loop-time.commits.ids q)) c.in_default-pop_newest.ensures.none v.walk)
+    complete_marked start c.args.ids.now c.args.cutoff c.loop-time.commits.held (is_visited c.loop-time.commits.ids c.loop-time.visited) []
+    (subst (λ q. IsWalk start c.args.ids.now c.args.cutoff (walk_of c.loop-time.commits c.loop-time.visited q)) c.in_default-pop_newest.ensures.none v.walk)
     (λ k d l. absurd (omega arith)) v.tips

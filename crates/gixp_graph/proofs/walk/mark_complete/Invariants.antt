@@ -1,8 +1,9 @@
 -- What the loop keeps.
 use Rattle.std.proofs.Common.{◌≡◌, ◌+◌, ◌≤◌, length, Some}
 use Rattle.gixp_graph.specs.Held.{GraphData, graph_of}
-use Rattle.gixp_graph.specs.Waiting.{waiting_in, AllQueuedNamed}
-use Rattle.gixp_graph.specs.Walk.{IsWalk, AreMarked, left}
+use Rattle.gixp_graph.specs.Visited.{is_visited, AllVisitedNamed}
+use Rattle.gixp_graph.specs.Waiting.{AllQueuedNamed}
+use Rattle.gixp_graph.specs.Walk.{walk_of, IsWalk, AllVisited, left}
 use Rattle.gixp_graph.proofs.walk.mark_complete.Given as goal
 
 -- a walk from the tips
@@ -13,11 +14,12 @@ invariant-loop-time g l =
       same : g.O.Objects.contents l.objects ≡ g.O.Objects.contents l.fn.objects;
       failures : g.O.Objects.failures l.fn.objects ≤ g.O.Objects.failures l.objects;
       cut : l.fn.cutoff ≡ Some l.cutoff;
+      visited_named : AllVisitedNamed l.commits.ids l.visited;
       queue_named : AllQueuedNamed l.commits.ids l.queue;
-      walk : IsWalk start l.ids l.fn.cutoff l.commits.held (waiting_in l.commits.ids l.queue);
-      tips : AreMarked start l.commits.held l.ids;
+      walk : IsWalk start l.ids l.fn.cutoff (walk_of l.commits l.visited l.queue);
+      tips : AllVisited (is_visited l.commits.ids l.visited) l.ids;
     }
 
--- the commits that aren't marked, and those that wait
+-- the commits that weren't visited, and those that wait
 abbrev pub decreases-loop-time : goal.decreases-loop-time
-decreases-loop-time g l = left (graph_of (g.O.Objects.contents l.fn.objects) l.fn.commits.held) l.commits.held + length l.queue
+decreases-loop-time g l = left (graph_of (g.O.Objects.contents l.fn.objects) l.fn.commits.held) (is_visited l.commits.ids l.visited) + length l.queue

@@ -81,6 +81,7 @@ impl Response {
             (Answered (answer_of version (asked client_expects_pack wants_to_negotiate)) version (R.reading reader.old) (R.reading reader.new))
             (AnswerFails (answer_of version (asked client_expects_pack wants_to_negotiate)) R.is_plain (R.reading reader.old) (R.reading reader.new)) }
         ensures held { (R.reading reader.new).held ≡ (R.reading reader.old).held }
+        ensures version { (R.reading reader.new).version ≡ version }
     {
         match version {
             Protocol::V2 => read_sections(alloc, reader),

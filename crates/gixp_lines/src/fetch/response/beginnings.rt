@@ -1,9 +1,9 @@
 //! Answers under versions 0 and 1 (gitprotocol-pack, "Packfile Negotiation").
 ghost use Rattle.std.specs.Prelude.{◌≡◌, ◌⊎◌, MatchResult, OnOk, Some, not, ◌&&◌, ◌||◌};
-ghost use Rattle.std.specs.List.{list_any};
 ghost use Rattle.gixp_wire.specs.Reading.{refusal_of};
 ghost use Rattle.gixp_wire.specs.declared.protocol.Protocol.TheVariants.{V0, V1};
-ghost use Rattle.gixp_lines.specs.Beginnings.{asked, is_at_end, is_ready, is_nak, line_item, item_said, said_with, is_same_common, v1_answer};
+ghost use Rattle.gixp_lines.specs.Beginnings.{asked, is_at_end, is_ready, is_nak, line_item, item_said, said_with, acknowledged, AreCommon, v1_answer};
+ghost use Rattle.gixp_lines.specs.declared.fetch.response.line.Acknowledgement.TheVariants.{Common};
 ghost use Rattle.gixp_lines.specs.Reads.{Answered, AnswerFails};
 
 use crate::fetch::response::answer::Response;
@@ -12,8 +12,9 @@ use crate::fetch::response::line::{
     Acknowledgement, ShallowUpdate, read_acknowledgement, read_shallow_update,
 };
 use crate::fetch::response::sections::text_of;
-use gixp_wire::{ExtendedBufRead, Protocol, read};
+use gixp_wire::{ExtendedBufRead, ObjectId, Protocol, read};
 use std::alloc::{AllocError, Global};
+use std::collections::BTreeSet;
 use std::io::ErrorKind;
 
 // What a line in front of the pack says.
@@ -52,9 +53,11 @@ pub(crate) fn read_beginning<R: ExtendedBufRead>(
         (Answered (v1_answer version (asked expects_pack negotiates)) version (R.reading reader.old) (R.reading reader.new))
         (AnswerFails (v1_answer version (asked expects_pack negotiates)) R.is_plain (R.reading reader.old) (R.reading reader.new)) }
     ensures held { (R.reading reader.new).held ≡ (R.reading reader.old).held }
+    ensures version { (R.reading reader.new).version ≡ version }
 {
     reader.reset(version);
     let mut answer = Response::empty(alloc);
+    let mut commons = BTreeSet::new(alloc);
     let mut came_ready = false;
     let mut behind_stop = false;
     loop {
@@ -81,7 +84,7 @@ pub(crate) fn read_beginning<R: ExtendedBufRead>(
         };
         let _ = reader.next_line();
         behind_stop = false;
-        match keep(&mut answer, said) {
+        match keep(&mut answer, &mut commons, said) {
             Ok(()) => {}
             Err(_) => return Err(Error::Memory),
         }
@@ -141,35 +144,51 @@ fn is_nak(said: Said) -> bool
     }
 }
 
-fn is_same_common(had: &Acknowledgement, found: &Acknowledgement) -> bool
-    ensures { result ≡ is_same_common had.now found.now }
-{
-    match (had, found) {
-        (Acknowledgement::Common(had), Acknowledgement::Common(found)) => had.bytes == found.bytes,
-        _ => false,
-    }
-}
-
 // Adds what a line says, unless it names a commit again.
-fn keep(answer: &mut Response, said: Said) -> Result<(), AllocError>
+fn keep(
+    answer: &mut Response,
+    commons: &mut BTreeSet<ObjectId>,
+    said: Said,
+) -> Result<(), AllocError>
+    requires { AreCommon answer.old.acknowledgements commons.old }
     ensures ok { OnOk result (answer.new ≡ said_with answer.old (item_said (Some said))) }
+    ensures common { OnOk result (AreCommon answer.new.acknowledgements commons.new) }
 {
     match said {
         Said::ShallowUpdate(found) => answer.push_shallow_update(found),
-        Said::Acknowledgement(found) => {
-            if names(answer.acknowledgements(), &found) {
-                return Ok(());
-            }
-            answer.push_acknowledgement(found)
-        }
+        Said::Acknowledgement(found) => keep_acknowledgement(answer, commons, found),
     }
 }
 
-// Whether a commit is named as common already.
-fn names(acknowledgements: &[Acknowledgement], found: &Acknowledgement) -> bool
-    ensures { result ≡ list_any (λ x. is_same_common x found.now) acknowledgements.now }
+fn keep_acknowledgement(
+    answer: &mut Response,
+    commons: &mut BTreeSet<ObjectId>,
+    found: Acknowledgement,
+) -> Result<(), AllocError>
+    requires { AreCommon answer.old.acknowledgements commons.old }
+    ensures ok { OnOk result (answer.new ≡ said_with answer.old (acknowledged found)) }
+    ensures common { OnOk result (AreCommon answer.new.acknowledgements commons.new) }
 {
-    acknowledgements
-        .iter()
-        .any(|had| is_same_common(had, found))
+    match found {
+        Acknowledgement::Common(id) => keep_common(answer, commons, id),
+        Acknowledgement::Ready => answer.push_acknowledgement(Acknowledgement::Ready),
+        Acknowledgement::Nak => answer.push_acknowledgement(Acknowledgement::Nak),
+    }
+}
+
+// Adds a commit in common, unless it was named before.
+fn keep_common(
+    answer: &mut Response,
+    commons: &mut BTreeSet<ObjectId>,
+    id: ObjectId,
+) -> Result<(), AllocError>
+    requires { AreCommon answer.old.acknowledgements commons.old }
+    ensures ok { OnOk result (answer.new ≡ said_with answer.old (acknowledged (Common id))) }
+    ensures common { OnOk result (AreCommon answer.new.acknowledgements commons.new) }
+{
+    match commons.insert(id) {
+        Ok(true) => answer.push_acknowledgement(Acknowledgement::Common(id)),
+        Ok(false) => Ok(()),
+        Err(_) => Err(AllocError),
+    }
 }

@@ -147,6 +147,7 @@ pub(crate) fn read_sections<R: ExtendedBufRead>(
         (Answered v2_answer V2 (R.reading reader.old) (R.reading reader.new))
         (AnswerFails v2_answer R.is_plain (R.reading reader.old) (R.reading reader.new)) }
     ensures held { (R.reading reader.new).held ≡ (R.reading reader.old).held }
+    ensures version { (R.reading reader.new).version ≡ V2 }
 {
     reader.reset(Protocol::V2);
     let mut answer = Response::empty(alloc);

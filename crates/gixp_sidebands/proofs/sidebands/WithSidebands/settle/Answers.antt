@@ -28,7 +28,7 @@ returns-in-Err-clause-peeks g c =
     rw e (fails_above _ _ _ _ _ c.packets.invariant.skips c.in-Err.ensures.peeks)
 
 pub returns-in-Err-clause-told : goal.returns-in-Err-clause-told
-returns-in-Err-clause-told g c = told-fails _ _ _ _ _ _ _ _ _ c.packets.invariant.told c.in-Err.ensures.peeks c.in-Err.ensures.plain
+returns-in-Err-clause-told g c = told-fails _ _ _ _ _ _ _ _ _ c.packets.invariant.skips.failures c.packets.invariant.told c.in-Err.ensures.peeks c.in-Err.ensures.plain
 
 pub returns-in-Content-clause-peeks : goal.returns-in-Content-clause-peeks
 returns-in-Content-clause-peeks g c =

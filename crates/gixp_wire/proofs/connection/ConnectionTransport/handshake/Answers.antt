@@ -1,6 +1,6 @@
 use Rattle.std.proofs.Common.{inr}
 use Rattle.gixp_wire.specs.Connection.{connection_held, connection_reading}
-use Rattle.gixp_wire.specs.Advertisement.{advertisement}
+use Rattle.gixp_wire.specs.Advertisement.{advertisement, TakesFirst}
 use Rattle.gixp_wire.proofs.HeldLemmas.{advertises}
 use Rattle.gixp_wire.proofs.connection.ConnectionTransport.handshake.Goals as goal
 
@@ -11,6 +11,6 @@ returns-in-Ok g c =
       handshakes = inr (
         connection_reading g.R.Read.remaining g.W.Write.contents mid,
         c.in-Ok.ensures,
-        advertises (connection_held g.W.Write.contents mid) _ _ advertisement _ c.advertisement.ensures,
+        advertises (connection_held g.W.Write.contents mid) _ _ advertisement TakesFirst _ c.advertisement.ensures,
       );
     }

@@ -7,4 +7,4 @@ returns-in-Ok g c =
     rw c.shorten_line.ensures (reads-cut g.R.Read.remaining c.args.self.now c.args.version _ _ (peeked-place _ c.requires.peeked) c.requires.version is)
 
 pub returns-in-Err : goal.returns-in-Err
-returns-in-Err g c = fails-cut g.R.Read.remaining c.args.self.now c.args.version c.in-Err.e (peeked-place _ c.requires.peeked) (rw c.line.ensures at c.in-Err.ensures)
+returns-in-Err g c = fails-cut g.R.Read.remaining c.args.self.now c.args.version c.in-Err.e (peeked-place _ c.requires.peeked) c.requires.version (rw c.line.ensures at c.in-Err.ensures)

@@ -1,13 +1,13 @@
-use Rattle.std.proofs.Common.{refl, ap, sym, ◌∙◌}
+use Rattle.std.proofs.Common.{[], refl, ap, sym, ◌∙◌}
 use Rattle.gixp_wire.specs.Lines.{next_of}
-use Rattle.gixp_wire.specs.Advertisement.{from_ref_line, by_ref_line}
+use Rattle.gixp_wire.specs.Advertisement.{from_ref_line, by_ref_line, TakesNone}
 use Rattle.gixp_wire.proofs.AdvertisementLemmas.{shows-steps, advertises-then, reads-no_refs, takes-stop, fails-reading}
 use Rattle.gixp_wire.proofs.packets.Packets.ref_line.Goals as goal
 
 pub returns-in-Ok-true : goal.returns-in-Ok-true
 returns-in-Ok-true g c =
     let k = rw c.in-Ok-true.field-0-test at c.in-Ok-true.ensures.peeks in
-    advertises-then _ _ _ _ _ _ (shows-steps (from_ref_line c.args.version) _ _ k) c.cut_ref_line.ensures
+    advertises-then _ _ (TakesNone c.args.version) (TakesNone c.args.version) [] _ _ _ _ (λ v ts h. h) (shows-steps (from_ref_line c.args.version) _ _ k) c.cut_ref_line.ensures
 
 pub returns-in-Ok-false : goal.returns-in-Ok-false
 returns-in-Ok-false g c =
@@ -18,5 +18,5 @@ returns-in-Ok-false g c =
 
 pub returns-in-Err : goal.returns-in-Err
 returns-in-Err g c =
-    fails-reading (from_ref_line c.args.version) _ _ _ _ c.in-Err.ensures.peeks (c.in-Err.ensures.plain refl) c.from.ensures
+    fails-reading (from_ref_line c.args.version) (TakesNone c.args.version) _ _ _ _ (c.requires.version, refl) c.in-Err.ensures.peeks (c.in-Err.ensures.plain refl) c.from.ensures
     (λ p n. ap (by_ref_line c.args.version) (ap (λ v. next_of v p) (sym c.requires.version) ∙ n))

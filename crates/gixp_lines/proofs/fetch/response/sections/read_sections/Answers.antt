@@ -1,6 +1,6 @@
 use Rattle.std.proofs.Common.{sym, ap, ◌∙◌, inl}
 use Rattle.gixp_lines.specs.Sections.{read_header, read_item}
-use Rattle.gixp_lines.proofs.SectionLemmas.{within-start, within-header, within-adds, within-delimiter, within-flush, within-no_header, within-bad_header, within-bad_item, within-fails, header_is}
+use Rattle.gixp_lines.proofs.SectionLemmas.{within-start, within-header, within-pack, within-adds, within-delimiter, within-flush, within-no_header, within-bad_header, within-bad_item, within-fails, header_is}
 use Rattle.gixp_lines.proofs.fetch.response.sections.read_sections.Goals as goal
 
 pub loop-answer-init : goal.loop-answer-init
@@ -34,6 +34,13 @@ loop-answer-preserved-in-Ok-Of g c =
     let h = rw c.in-None-at.is at c.loop-answer.invariant in
     let found = rw c.in-Ok-Of.field-0-is at c.in-Ok-Of.ensures in
     within-header _ _ _ _ _ h k (ap read_header (sym c.line.ensures) ∙ header_is _ _ found)
+
+pub returns-in-Ok-Packfile-clause-answers : goal.returns-in-Ok-Packfile-clause-answers
+returns-in-Ok-Packfile-clause-answers g c =
+    let k = rw c.in-Ok-true.field-0-test at c.in-Ok-true.ensures.reads in
+    let h = rw c.in-None-at.is at c.loop-answer.invariant in
+    let found = rw c.in-Ok-Packfile.field-0-is at c.in-Ok-Packfile.ensures in
+    rw c.with_pack.ensures (inl (within-pack _ _ _ _ h k (ap read_header (sym c.line.ensures) ∙ header_is _ _ found)))
 
 pub returns-in-Err-read_header-clause-answers : goal.returns-in-Err-read_header-clause-answers
 returns-in-Err-read_header-clause-answers g c =

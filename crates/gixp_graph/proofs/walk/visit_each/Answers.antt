@@ -1,0 +1,63 @@
+-- The commits of some numbers are visited.
+use Rattle.std.proofs.Common.{◌≡◌, ℕ, ◌<◌, ◌∙◌, ap, sym, subst, refl, length, take, get_or, arith, ◌⊎◌, []}
+use Rattle.std.proofs.lemmas.List.{take_more}
+use Rattle.gixp_wire.specs.declared.object_id.ObjectId.{ObjectId}
+use Rattle.gixp_graph.specs.Object.{Objects}
+use Rattle.gixp_graph.specs.Held.{graph_of, marked_found}
+use Rattle.gixp_graph.specs.Table.{id_at, ids_at}
+use Rattle.gixp_graph.specs.Walk.{Walk, walk_of, Visits, VisitsEach}
+use Rattle.gixp_graph.proofs.TableLemmas.{kept_trans, ids_get, ids_length, ids_push}
+use Rattle.gixp_graph.proofs.EachLemmas.{each_none, each_more, some_more, some_visit}
+use Rattle.gixp_graph.proofs.walk.visit_each.Goals as goal
+
+pub returns-in_err-visit-clause-some : goal.returns-in_err-visit-clause-some
+returns-in_err-visit-clause-some g c =
+    let v = c.loop-number.invariant in
+    let objects : Objects = g.O.Objects.contents c.args.objects.now in
+    let ids = c.args.commits.now.ids in
+    let k = c.loop-number.number-index in
+    let n : ℕ = get_or c.args.numbers.now k 0 in
+    let less : k < length (ids_at ids c.args.numbers.now) = (let l : k < length c.args.numbers.now = c.loop-number-test.true in omega (arith, ids_length ids c.args.numbers.now)) in
+    let name : id_at c.loop-number.commits.ids n ≡ get_or (ids_at ids c.args.numbers.now) k (record { bytes = [] }) = (v.kept n (c.requires.named k 0 c.loop-number-test.true)).1 ∙ sym (ids_get ids c.args.numbers.now k _ 0 c.loop-number-test.true) in
+    some_more objects (ids_at ids c.args.numbers.now) c.args.commits.now.held c.loop-number.commits.held c.visit.new.commits.held v.some k (record { bytes = [] }) less
+    (subst (λ id. (c.visit.new.commits.held ≡ c.loop-number.commits.held) ⊎ (c.visit.new.commits.held ≡ marked_found (graph_of objects c.loop-number.commits.held) id)) name
+    (subst (λ m. (c.visit.new.commits.held ≡ c.loop-number.commits.held) ⊎ (c.visit.new.commits.held ≡ marked_found (graph_of m c.loop-number.commits.held) (id_at c.loop-number.commits.ids n))) v.same c.in_err-visit.ensures.err))
+
+pub loop-number-init : goal.loop-number-init
+loop-number-init g c = record {
+  same = refl;
+  failures = omega arith;
+  kept = λ n l. (l, refl);
+  visited_named = c.requires.visited_named;
+  queue_named = c.requires.queue_named;
+  each = each_none (g.O.Objects.contents c.args.objects.now) (walk_of c.args.commits.now c.args.visited.now c.args.queue.now);
+  some = λ h ids cutoff same due w. w;
+}
+
+pub loop-number-preserved : goal.loop-number-preserved
+loop-number-preserved g c =
+    let v = c.loop-number.invariant in
+    let e = c.in_ok-visit.ensures in
+    let objects : Objects = g.O.Objects.contents c.args.objects.now in
+    let ids = c.args.commits.now.ids in
+    let old : Walk = walk_of c.args.commits.now c.args.visited.now c.args.queue.now in
+    let mid : Walk = walk_of c.loop-number.commits c.loop-number.visited c.loop-number.queue in
+    let new : Walk = walk_of c.visit.new.commits c.visit.new.visited c.visit.new.queue in
+    let k = c.loop-number.number-index in
+    let n : ℕ = get_or c.args.numbers.now k 0 in
+    let id : ObjectId = id_at ids n in
+    let less : k < length (ids_at ids c.args.numbers.now) = (let l : k < length c.args.numbers.now = c.loop-number-test.true in omega (arith, ids_length ids c.args.numbers.now)) in
+    let name : id_at c.loop-number.commits.ids n ≡ id = (v.kept n (c.requires.named k 0 c.loop-number-test.true)).1 in
+    let visits : Visits objects id mid new = subst (λ i. Visits objects i mid new) name (subst (λ m. Visits m (id_at c.loop-number.commits.ids n) mid new) v.same e.visits) in
+    record {
+      same = e.contents ∙ v.same;
+      failures = omega arith;
+      kept = kept_trans ids c.loop-number.commits.ids c.visit.new.commits.ids v.kept e.kept;
+      visited_named = e.visited_named;
+      queue_named = e.queue_named;
+      each = subst (λ is. VisitsEach objects is old new)
+          (sym (ids_push ids (take k c.args.numbers.now) n) ∙ ap (ids_at ids) (sym (take_more c.args.numbers.now k 0 c.loop-number-test.true)))
+          (each_more objects (ids_at ids (take k c.args.numbers.now)) old mid new id v.each visits);
+      some = some_more objects (ids_at ids c.args.numbers.now) c.args.commits.now.held c.loop-number.commits.held c.visit.new.commits.held v.some k (record { bytes = [] }) less
+          (subst (λ i. (c.visit.new.commits.held ≡ c.loop-number.commits.held) ⊎ (c.visit.new.commits.held ≡ marked_found (graph_of objects c.loop-number.commits.held) i)) (sym (ids_get ids c.args.numbers.now k _ 0 c.loop-number-test.true)) (some_visit objects id mid new visits));
+    }

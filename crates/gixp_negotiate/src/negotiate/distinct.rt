@@ -1,0 +1,92 @@
+//! Ids without repeats.
+ghost use Rattle.std.specs.Prelude.{◌≡◌, [], OnOk, OnErr};
+ghost use Rattle.gixp_negotiate.specs.Rounds.{keeping};
+ghost use Rattle.gixp_negotiate.specs.Distinct.{IsIndex};
+
+use gixp_wire::ObjectId;
+use std::alloc::{AllocError, Global};
+use std::collections::BTreeSet;
+use std::marker::Model;
+
+/// Ids in the order in which they came first, each once.
+///
+/// They are found in a set, so n ids cost n log n, whoever chose them.
+#[derive(Debug, Drop)]
+pub(crate) struct DistinctIds {
+    ids: Vec<ObjectId>,
+    seen: BTreeSet<ObjectId>,
+}
+
+impl Model for DistinctIds {
+    ghost use Rattle.std.specs.Prelude.{List};
+    ghost use Rattle.gixp_wire.specs.declared.object_id.ObjectId.{ObjectId};
+    ghost use Rattle.gixp_negotiate.specs.Distinct.{IsIndex};
+
+    ghost Value = { List ObjectId };
+
+    ghost view = { λ a. a.ids.items };
+
+    ghost invariant = { λ a. IsIndex a.seen.keys a.ids.items };
+}
+
+// Adds an id at the end, unless it is there.
+fn insert_once(
+    ids: &mut Vec<ObjectId>,
+    seen: &mut BTreeSet<ObjectId>,
+    id: ObjectId,
+) -> Result<(), AllocError>
+    requires { IsIndex seen.old.keys ids.old.items }
+    ensures indexed { IsIndex seen.new.keys ids.new.items }
+    ensures ok { OnOk result (ids.new.items ≡ keeping ids.old.items id) }
+    ensures err { OnErr result (ids.new.items ≡ ids.old.items) }
+{
+    if seen.contains(&id) {
+        return Ok(());
+    }
+    ids.push(id)?;
+    match seen.insert(id) {
+        Ok(_) => Ok(()),
+        Err(_) => {
+            ids.pop();
+            Err(AllocError)
+        }
+    }
+}
+
+impl DistinctIds {
+    /// No ids.
+    pub fn new(alloc: Global) -> DistinctIds
+        ensures { result ≡ [] }
+    {
+        DistinctIds {
+            ids: Vec::new(alloc),
+            seen: BTreeSet::new(alloc),
+        }
+    }
+
+    /// Adds an id at the end, unless it is there.
+    pub fn insert(&mut self, id: ObjectId) -> Result<(), AllocError>
+        ensures ok { OnOk result (self.new ≡ keeping self.old id) }
+        ensures err { OnErr result (self.new ≡ self.old) }
+    {
+        insert_once(&mut self.ids, &mut self.seen, id)
+    }
+
+    /// The ids, in order.
+    pub fn as_slice(&self) -> &[ObjectId]
+        ensures { result.now ≡ self.now }
+    {
+        self.ids.as_slice()
+    }
+}
+
+impl Clone for DistinctIds {
+    ghost is_clone = { λ s t. t ≡ s };
+
+    fn clone(&self) -> Result<DistinctIds, AllocError> {
+        Ok(DistinctIds {
+            ids: Vec::from_slice(*self.ids.allocator(), self.ids.as_slice())?,
+            seen: self.seen.clone()?,
+        })
+    }
+}

@@ -1,0 +1,11 @@
+-- The texts behind an insertion.
+use Rattle.std.proofs.Common.{refl, ap, map, ◌∙◌}
+use Rattle.bstr.specs.Owned.{bstring_bytes}
+use Rattle.gixp_refmap.specs.Prefixes.{with_text}
+use Rattle.gixp_refmap.proofs.KeyLemmas.{inserted_text}
+use Rattle.gixp_refmap.proofs.ls_refs.prefixes.RefPrefixes.add.Goals as goal
+
+pub returns-clause-ok : goal.returns-clause-ok
+returns-clause-ok c =
+    ap (map bstring_bytes) c.in-Ok.ensures.keys ∙ inserted_text _ (λ a b. refl) c.self.inside.prefixes.keys c.args.prefix
+    ∙ ap (λ known. with_text known (bstring_bytes c.args.prefix)) c.self.view_is

@@ -1,0 +1,44 @@
+//! Options of a fetch that decide what is mapped.
+ghost use Rattle.std.specs.Prelude.{◌≡◌};
+ghost use Rattle.std.specs.Option.{option_map};
+ghost use Rattle.gixp_refspec.specs.RefSpec.{value_of};
+ghost use Rattle.gixp_refmap.specs.Tags.{tags_asked};
+
+use bstr::BStr;
+use gixp_refspec::RefSpecRef;
+use gixp_refspec::parse::{Operation, parse};
+
+/// Which tags a fetch brings (git-fetch, "--tags" and "--no-tags").
+#[derive(Clone, Copy, Debug, Default, PartialEq, Eq)]
+pub enum Tags {
+    /// All tags of the server.
+    All,
+    /// The tags that lead to objects which are fetched.
+    #[default]
+    Included,
+    /// No tags but those that a refspec names.
+    None,
+}
+
+impl Tags {
+    /// The refspec that maps the tags: `refs/tags/*:refs/tags/*` for `All` and `Included`. It takes no memory.
+    pub fn to_refspec(&self) -> Option<RefSpecRef<'static>>
+        ensures { option_map value_of result ≡ tags_asked self.now }
+    {
+        match self {
+            Tags::All => tags_refspec(),
+            Tags::Included => tags_refspec(),
+            Tags::None => None,
+        }
+    }
+}
+
+// The refspec of all tags.
+fn tags_refspec() -> Option<RefSpecRef<'static>>
+    ensures { option_map value_of result ≡ tags_asked Tags.All }
+{
+    match parse(BStr::new(b"refs/tags/*:refs/tags/*"), Operation::Fetch) {
+        Ok(spec) => Some(spec),
+        Err(_) => None,
+    }
+}

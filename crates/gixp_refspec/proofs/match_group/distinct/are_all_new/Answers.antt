@@ -1,0 +1,10 @@
+-- Keys that are all different are those of first ones.
+use Rattle.std.proofs.Common.{map}
+use Rattle.std.proofs.lemmas.Result.{IfOk-weaker}
+use Rattle.gixp_refspec.specs.MatchGroup.{mapped_of}
+use Rattle.gixp_refspec.proofs.DistinctLemmas.{firsts_are_all}
+use Rattle.gixp_refspec.proofs.match_group.distinct.are_all_new.Goals as goal
+
+pub returns : goal.returns
+returns c =
+    IfOk-weaker c.are_distinct.result _ _ (λ d h t. firsts_are_all c.in_ok-keys.keys.items (map mapped_of c.args.mappings.now) c.in_ok-keys.ensures (h t)) c.are_distinct.ensures
