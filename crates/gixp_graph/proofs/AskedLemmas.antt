@@ -1,5 +1,5 @@
 -- Which ids were asked for.
-use Rattle.std.proofs.Common.{◌≡◌, ℕ, ℤ, ◌<◌, ◌∙◌, ◌⊎◌, inl, inr, ⊎_elim, Bool, true, false, true≢false, List, [], ◌∷◌, ◌++◌, take, length, get_or, append-nil, append_assoc, Option, Some, None, refl, sym, ap, subst}
+use Rattle.std.proofs.Common.{◌≡◌, ℕ, ℤ, ◌<◌, ◌∙◌, inl, inr, ⊎_elim, Bool, true, false, true≢false, List, [], ◌∷◌, ◌++◌, take, length, get_or, append-nil, append_assoc, Option, Some, None, sym, ap, subst}
 use Rattle.std.specs.Prelude.{option_map}
 use Rattle.std.specs.List.{IsDistinct}
 use Rattle.std.specs.Ordering.{eq_by_cmp}
@@ -13,9 +13,9 @@ use Rattle.gixp_wire.specs.ObjectId.{id_cmp}
 use Rattle.gixp_graph.specs.declared.flags.Flags.{Flags}
 use Rattle.gixp_graph.specs.Object.{Objects, commit_at}
 use Rattle.gixp_graph.specs.Held.{Held, Commits, GraphData, commit_in, shown, OnlyMarks, IsFaithful}
-use Rattle.gixp_graph.specs.Complete.{IsComplete, IsDue}
+use Rattle.gixp_graph.specs.Complete.{IsDue}
 use Rattle.gixp_graph.specs.Asked.{AsksOnce, AsksWhere, AsksEach}
-use Rattle.gixp_graph.specs.Walk.{Walk, IsUnread, AreDue, Visits, VisitsEach, AsksDue, HasAsked, AsksAll, AsksSome}
+use Rattle.gixp_graph.specs.Walk.{Walk, IsUnread, Visits, VisitsEach, AsksDue, HasAsked, AsksAll, AsksSome}
 use Rattle.gixp_graph.specs.Laws.{ids_total, same_from, faithful_reads}
 use Rattle.gixp_graph.proofs.MarkLemmas.{true_or_false}
 use Rattle.gixp_graph.proofs.HeldLemmas.{unknown}
