@@ -1,0 +1,11 @@
+//! Progress that a server reports on band 2 of its answer (gitprotocol-pack, "Packfile Data"), and what it makes a
+//! progress reporter show.
+#![tactic(auto)]
+
+mod numbers;
+mod remote_progress;
+mod translate;
+
+pub mod fetch;
+
+pub use remote_progress::RemoteProgress;
