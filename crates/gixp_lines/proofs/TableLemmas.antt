@@ -101,7 +101,7 @@ pub lookup_tells : (es : List Entry) (q : BString) → option_map (λ (t : Optio
 lookup_tells [] q = refl
 lookup_tells (e ∷ es) q =
     let same : is_eq (name_cmp q e.0) ≡ is_text (bstring_bytes e.0) (bstring_bytes q) =
-            sym (texts_ties (bstring_bytes q) (bstring_bytes e.0)) ∙ nat_list_eq_equiv.symm (bstring_bytes q) (bstring_bytes e.0) in
+    sym (texts_ties (bstring_bytes q) (bstring_bytes e.0)) ∙ nat_list_eq_equiv.symm (bstring_bytes q) (bstring_bytes e.0) in
     lookup_at (is_eq (name_cmp q e.0)) (is_text (bstring_bytes e.0) (bstring_bytes q)) e (lookup (is_at (name_cmp q)) es) (tells (symrefs_in es) (bstring_bytes q)) same (lookup_tells es q)
     ∙ sym (tells_cons (symref_value e) (symrefs_in es) (bstring_bytes q))
 

@@ -178,12 +178,7 @@ impl Advertised {
     }
 
     // Takes in one more line. What it is after a refusal is left open.
-    pub(crate) fn add(
-        &mut self,
-        alloc: Global,
-        targets: &Targets,
-        line: &[u8],
-    ) -> Result<(), Error>
+    pub(crate) fn add(&mut self, alloc: Global, targets: &Targets, line: &[u8]) -> Result<(), Error>
         ensures { Answers (λ _. so_far_value self.new) (with_text (symrefs_in targets.now.entries) (so_far_value self.old) line.now) result }
     {
         match read_line(alloc, line) {
