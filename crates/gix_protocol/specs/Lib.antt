@@ -56,6 +56,7 @@ pub use Rattle.gixp_requests.specs.Command
 pub use Rattle.gixp_requests.specs.Arguments
 pub use Rattle.gixp_requests.specs.Request
 pub use Rattle.gixp_requests.specs.Offers
+pub use Rattle.gixp_graph.specs.Asked
 pub use Rattle.gixp_graph.specs.Complete
 pub use Rattle.gixp_graph.specs.Held as GraphHeld
 pub use Rattle.gixp_graph.specs.Laws
@@ -86,6 +87,9 @@ pub use Rattle.gixp_refspec.specs.Groups
 pub use Rattle.gixp_refspec.specs.Validate
 pub use Rattle.gixp_refspec.specs.Leaving
 pub use Rattle.gixp_refspec.specs.Laws as RefspecLaws
+pub use Rattle.gixp_progress.specs.Numbers
+pub use Rattle.gixp_progress.specs.Line
+pub use Rattle.gixp_progress.specs.Translation
 pub use Rattle.gixp_refmap.specs.ListError
 pub use Rattle.gixp_refmap.specs.Prefixes
 pub use Rattle.gixp_refmap.specs.Listing
@@ -102,6 +106,8 @@ pub use Rattle.gixp_handshake.specs.Shake
 pub use Rattle.gixp_handshake.specs.Accepted
 pub use Rattle.gixp_handshake.specs.Obtain
 pub use Rattle.gixp_handshake.specs.Taken
+pub use Rattle.gixp_handshake.specs.Values as HandshakeValues
+pub use Rattle.gixp_handshake.specs.Ending
 pub use Rattle.gixp_negotiate.specs.Negotiate
 pub use Rattle.gixp_negotiate.specs.NegotiateError
 pub use Rattle.gixp_negotiate.specs.Rounds

@@ -6,7 +6,10 @@ pub mod fetch;
 pub mod handshake;
 pub mod transport;
 
-pub use gixp_handshake::{Handshake, credentials};
+pub use gixp_handshake::{
+    Handshake, SendFlushOnDrop, bisync, credentials, indicate_end_of_interaction,
+};
+pub use gixp_progress::RemoteProgress;
 pub use gixp_refmap::{LsRefsCommand, ls_refs};
 pub use gixp_refspec as refspec;
 pub use gixp_requests::{Command, agent, command};
