@@ -19,7 +19,8 @@ cp "$here/main.rt.in" "$room/crates/answers_bench/src/main.rt"
 : > "$room/crates/answers_bench/specs/Lib.antt"
 : > "$room/crates/answers_bench/proofs/Lib.antt"
 cd "$room/crates/answers_bench"
-rt lib > "$room/log" 2>&1 || { cat "$room/log"; exit 1; }
+python3 "$here/make.py" answer 1000 > "$room/answer"
+rt run -- answer "$room/answer" > "$room/first" 2> "$room/log" || { cat "$room/log"; exit 1; }
 for count in 10000 100000 1000000; do
     python3 "$here/make.py" answer "$count" > "$room/answer"
     python3 "$here/make.py" refs "$count" > "$room/refs"
