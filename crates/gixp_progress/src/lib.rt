@@ -2,10 +2,9 @@
 //! progress reporter show.
 #![tactic(auto)]
 
+pub mod fetch;
 mod numbers;
 mod remote_progress;
 mod translate;
-
-pub mod fetch;
 
 pub use remote_progress::RemoteProgress;

@@ -43,11 +43,7 @@ fn name_for<P: Progress>(alloc: Global, progress: &P, text: &[u8]) -> Result<Str
 }
 
 // An error of the server, if it says one.
-fn report_error<P: Progress>(
-    alloc: Global,
-    text: &[u8],
-    progress: &mut P,
-) -> Result<(), AllocError>
+fn report_error<P: Progress>(alloc: Global, text: &[u8], progress: &mut P) -> Result<(), AllocError>
     ensures ok { OnOk result (Told P.told progress.old (error_calls text.now) progress.new) }
     ensures err { OnErr result (progress.new ≡ progress.old) }
 {
