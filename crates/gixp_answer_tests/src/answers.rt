@@ -132,7 +132,7 @@ impl BandText for Notes<'_> {
     }
 }
 
-// The answer and the pack, unless one of them is refused for another reason than want of memory.
+// The answer and the pack, unless one of them is refused for another reason than an allocation failure.
 fn read_parts<R: ExtendedBufRead + Read>(
     alloc: Global,
     reader: &mut R,

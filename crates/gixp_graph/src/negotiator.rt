@@ -15,7 +15,7 @@ pub enum NegotiatorError {
     /// A commit can't be looked up.
     #[error("Lookup")]
     Lookup(ObjectError),
-    /// No memory was left.
+    /// An allocation failed.
     #[error("Memory")]
     Memory,
 }

@@ -38,7 +38,7 @@ pub enum ObjectError {
     /// The object isn't what its name or its kind says.
     #[error("Corrupt")]
     Corrupt,
-    /// No memory was left.
+    /// An allocation failed.
     #[error("Memory")]
     Memory,
 }

@@ -29,7 +29,7 @@ pub enum RefStoreError {
     /// The device failed.
     #[error("Io")]
     Io(io::ErrorKind),
-    /// No memory was left.
+    /// An allocation failed.
     #[error("Memory")]
     Memory,
 }

@@ -1,4 +1,3 @@
 pub mod ErrorName
 pub mod List
-pub mod Plan
 pub mod Words

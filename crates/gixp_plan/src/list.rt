@@ -17,7 +17,7 @@ use thiserror::Error as DeriveError;
 /// Why refs were not listed.
 #[derive(Debug, Drop, DeriveError)]
 pub enum ListError {
-    /// The answer was refused, or there was no memory for it. Nothing was written.
+    /// The answer was refused, or an allocation failed. Nothing was written.
     #[error("{0}")]
     Parse(parse::Error),
     /// A write failed with this kind. Of the lines some may be written.
@@ -101,7 +101,7 @@ fn write_text<W: Write>(writer: &mut W, text: &[u8]) -> io::Result<()>
 ///
 /// # Errors
 ///
-/// `Parse` with the first refusal of the answer, or for want of memory: then nothing was written.
+/// `Parse` with the first refusal of the answer, or on an allocation failure: then nothing was written.
 /// `Io` where a write failed, for an answer that isn't refused.
 pub fn list_refs<R: Read, W: Write>(
     alloc: Global,

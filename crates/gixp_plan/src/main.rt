@@ -3,7 +3,6 @@
 
 mod list;
 mod print;
-mod text;
 #[cfg(test)]
 mod tests;
 mod words;

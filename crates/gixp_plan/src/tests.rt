@@ -77,7 +77,7 @@ fn collecting(alloc: Global) -> Sink {
 fn listed(alloc: Global, mut from: Source<'_>, mut to: Sink) -> Result<Vec<u8>, Fail> {
     match list_refs(alloc, &mut from, &mut to) {
         Ok(()) => {}
-        // The sink had no memory.
+        // The sink could not allocate.
         Err(ListError::Io(ErrorKind::OutOfMemory)) => return Err(Fail::from(AllocError)),
         Err(e) => to.text.extend_from_slice(e.variant().as_bytes())?,
     }

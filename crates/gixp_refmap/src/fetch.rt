@@ -21,7 +21,7 @@ pub enum Tags {
 }
 
 impl Tags {
-    /// The refspec that maps the tags: `refs/tags/*:refs/tags/*` for `All` and `Included`. It takes no memory.
+    /// The refspec that maps the tags: `refs/tags/*:refs/tags/*` for `All` and `Included`. It allocates nothing.
     pub fn to_refspec(&self) -> Option<RefSpecRef<'static>>
         ensures { option_map value_of result ≡ tags_asked self.now }
     {

@@ -75,7 +75,7 @@ impl PartialName {
     ghost use Rattle.std.specs.Prelude.{◌≡◌};
     ghost use Rattle.gixp_refspec.specs.PartialName.{GivesName, name_bytes};
 
-    /// Checks the rules for names. It takes no memory.
+    /// Checks the rules for names. It allocates nothing.
     ///
     /// # Errors
     ///

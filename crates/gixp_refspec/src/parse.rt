@@ -200,7 +200,7 @@ fn parts_of(text: &[u8]) -> Parts<'_>
     }
 }
 
-/// Reads a refspec (git-fetch, "<refspec>"). It takes no memory: the value borrows the text.
+/// Reads a refspec (git-fetch, "<refspec>"). It allocates nothing: the value borrows the text.
 ///
 /// A text that begins with `^` is negative, and the rest is its source. Any other text is an optional `+`, a source,
 /// and behind the first colon a destination; an empty source is `HEAD`, and an empty destination is none. A pattern

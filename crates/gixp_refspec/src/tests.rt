@@ -1,4 +1,4 @@
-//! Worked rows, texts and names from outside, Display texts, and growths that are refused.
+//! Worked rows, texts and names from outside, Display texts, and allocations that fail.
 use crate::instruction::{Fetch, Instruction};
 use crate::match_group::validate::{self, Fix, Issue};
 use crate::match_group::{Item, Mapping, MatchGroup, SourceRef};
@@ -371,7 +371,7 @@ fn rows_prefixes_and_copies(rt: HostRuntime) -> Result<(), Fail> {
     Ok(())
 }
 
-// with a refused growth, each is the answer or want of memory
+// with a failed allocation, each is the answer or an allocation failure
 #[test]
 fn answers_or_want_of_memory(rt: HostRuntime) {
     let _ = check_copies(&rt, rt.alloc());

@@ -1,7 +1,7 @@
 //! Calls of a reader of bands, and what they leave in the line reader.
 //!
 //! S0 is the version, S1 how many letters stand in front of the stream, S3 which question for an interrupt is answered
-//! with true, S4 which text finds no memory, both from 0 on. A letter is a call: `1` to `9` a `read` of so many bytes,
+//! with true, S4 which text can't be allocated, both from 0 on. A letter is a call: `1` to `9` a `read` of so many bytes,
 //! `f` `fill_buf`, `b` `buffer`, `c` a `consume` of one byte, `a` of nine, `z` of none, `e` `fault`. Other letters are
 //! calls of a line reader, as in `lines`.
 use crate::device::Device;

@@ -1,9 +1,9 @@
 //! A pack through its bands.
 //!
 //! S0 is the version, S1 how many bytes are read at most, S2 a number from which sizes and kinds of reads follow, 0 for
-//! large reads alone, S3 which question for an interrupt is answered with true, S4 which text finds no memory, both
+//! large reads alone, S3 which question for an interrupt is answered with true, S4 which text can't be allocated, both
 //! from 0 on. The report has how the reading ended, the bytes, the texts, and how many reads were interrupted and
-//! found no memory; where no read fails, what stands in the line reader follows.
+//! could not be allocated; where no read fails, what stands in the line reader follows.
 use crate::device::{Device, next_random};
 use crate::lines::{is_failure, report_failures, report_rest};
 use crate::report::Report;
@@ -15,7 +15,7 @@ use std::alloc::{AllocError, Global};
 use std::io;
 use std::io::{BufRead, Read};
 
-/// A listener that writes texts down. The text of number `fails` finds no memory, once.
+/// A listener that writes texts down. The text of number `fails` can't be allocated, once.
 #[derive(Drop)]
 pub struct Notes<'a> {
     told: &'a mut Report,
@@ -297,7 +297,7 @@ pub struct Settings {
     pub seed: u64,
     /// Which question for an interrupt is answered with true.
     pub interrupt: u64,
-    /// Which text finds no memory.
+    /// Which text can't be allocated.
     pub memory: u64,
 }
 

@@ -33,7 +33,7 @@ pub trait BandText {
     ///
     /// # Errors
     ///
-    /// There was no memory. The same text comes again, so what was kept of it should go.
+    /// An allocation failed. The same text comes again, so what was kept of it should go.
     fn band_text(&mut self, is_error: bool, text: &[u8]) -> Result<(), AllocError>
         ensures { OnOk result (hears self.old is_error text.now self.new) };
 }
@@ -46,7 +46,7 @@ pub trait BandText {
 /// interrupt is asked. A packet of band 1 with nothing in it adds nothing.
 ///
 /// `Read` and `BufRead` end at the stop and only there. A packet of content is taken from the
-/// transport once a byte of it was handed out; then its rest goes with the reader, whether that is
+/// transport once a byte of it was returned; then its rest goes with the reader, whether that is
 /// dropped or gives the transport back, and a call for lines goes on behind it.
 ///
 /// Beside the refusals of the transport there are `BadBand`, at a packet of no band, which is never
@@ -96,7 +96,7 @@ impl<T: ExtendedBufRead, P: Drop, I> Drop for WithSidebands<'_, T, P, I> {
 impl<'a, T: ExtendedBufRead, P: BandText + Drop, I: Interrupt> WithSidebands<'a, T, P, I> {
     ghost use Rattle.gixp_sidebands.specs.Sidebands.{side, sidebands_reading, listener, transport_of};
 
-    /// Reads what is to come of a banded stream. It takes no memory, and reads nothing yet.
+    /// Reads what is to come of a banded stream. It allocates nothing, and reads nothing yet.
     pub fn new(transport: &'a mut T, progress: P, interrupt: &'a mut I) -> Self
         ensures side { side T.reading result ≡ record { place = None; name = transport.entry.ghost_name; reading = T.reading transport.old; fault = None } }
         ensures transport { transport_of result ≡ transport.old }

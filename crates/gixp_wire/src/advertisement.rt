@@ -1,4 +1,4 @@
-//! What a server says first.
+//! The capability advertisement.
 ghost use Rattle.std.specs.Prelude.{◌≡◌, ◌⊎◌, None, [], true};
 ghost use Rattle.gixp_wire.specs.declared.protocol.Protocol.TheVariants.{V0, V2};
 ghost use Rattle.gixp_wire.specs.declared.client.Error.TheVariants.{Memory};

@@ -54,7 +54,7 @@ impl Bodies {
     ///
     /// # Errors
     ///
-    /// There was no memory for the buffer. What was handed in is dropped.
+    /// The buffer could not be allocated. What was handed in is dropped.
     pub fn new(
         alloc: Global,
         mut bodies: Vec<Body>,

@@ -131,7 +131,7 @@ impl Capabilities {
         self.push(without_line_end(line))
     }
 
-    // Appends the capability that a text stands for. Nothing changes where there is no memory.
+    // Appends the capability that a text stands for. Nothing changes where an allocation fails.
     fn push(&mut self, text: &[u8]) -> Result<(), AllocError>
         ensures ok { OnOk result (self.new ≡ self.old ++ capability_of text.now ∷ []) }
         ensures err { OnErr result (self.new ≡ self.old) }

@@ -16,7 +16,7 @@ pub enum Error {
     /// A read or write failed with this kind, or the stream ended (`UnexpectedEof`).
     #[error("Io")]
     Io(ErrorKind),
-    /// The reader was refused otherwise than by a failed read or want of memory.
+    /// The reader was refused otherwise than by a failed read or an allocation failure.
     #[error("Read")]
     Read(read::Error),
     /// A line doesn't fit into a packet (gitprotocol-common, "pkt-line Format").
@@ -33,7 +33,7 @@ pub enum Error {
     /// Discovery").
     #[error("MissingDelimitingNullByte")]
     MissingDelimitingNullByte,
-    /// There was no memory.
+    /// An allocation failed.
     #[error("Memory")]
     Memory,
 }

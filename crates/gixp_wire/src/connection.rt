@@ -51,7 +51,7 @@ impl<R: Read + Drop, W: Write + Drop> Connection<R, W> {
     ///
     /// # Errors
     ///
-    /// There was no memory for the buffer. What was handed in is dropped.
+    /// The buffer could not be allocated. What was handed in is dropped.
     pub fn new(
         alloc: Global,
         reader: R,

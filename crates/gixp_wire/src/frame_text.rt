@@ -48,7 +48,7 @@ fn push_line(out: &mut Vec<u8>, line: &[u8]) -> Result<(), AllocError>
     out.extend_from_slice(b"\n")
 }
 
-/// Appends the frame of a line. Where there is no memory for it nothing is changed.
+/// Appends the frame of a line. Where its allocation fails nothing is changed.
 pub(crate) fn append_line(out: &mut Vec<u8>, line: &[u8]) -> Result<(), AllocError>
     requires { length line.now ≤ MAX_LINE }
     ensures ok { OnOk result (out.new.items ≡ out.old.items ++ frame_text (line_frame line.now)) }

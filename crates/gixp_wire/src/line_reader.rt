@@ -24,7 +24,7 @@ impl<'a, R: Read> LineReader<'a, R> {
     ///
     /// # Errors
     ///
-    /// There was no memory for the buffer. The reader is as it was.
+    /// The buffer could not be allocated. The reader is as it was.
     pub fn new(alloc: Global, reader: &'a mut R) -> Result<LineReader<'a, R>, AllocError>
         ensures { IfOk result (λ r. IsFresh (R.remaining reader.old) (line_reader_reading R.remaining r)) }
     {

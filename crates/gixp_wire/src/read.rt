@@ -39,7 +39,7 @@ pub enum Error {
     /// The caller's interrupt said so.
     #[error("Interrupted")]
     Interrupted,
-    /// There was no memory.
+    /// An allocation failed.
     #[error("Memory")]
     Memory,
 }
@@ -56,7 +56,7 @@ pub trait ExtendedBufRead {
     // What is known of the reader.
     ghost reading: { Self → Reading };
 
-    // Whether it knows no bands, asks no interrupt, and takes memory for a server's error alone.
+    // Whether it knows no bands, asks no interrupt, and allocates for a server's error alone.
     ghost is_plain: { Bool };
 
     /// Takes the next line, which `line` then lends, and answers true; at a stop false.

@@ -29,7 +29,7 @@ pub enum Error {
         command: &'static str,
         feature: &'static str,
     },
-    /// There was no memory.
+    /// An allocation failed.
     #[error("Memory")]
     Memory,
 }

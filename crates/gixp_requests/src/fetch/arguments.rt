@@ -22,7 +22,7 @@ use text::{features_text, has_want, joined, push_text, want_line};
 /// What the next request for a pack asks for: argument lines, and the objects that are there
 /// already (gitprotocol-v2, "fetch"; gitprotocol-pack, "Packfile Negotiation").
 ///
-/// A call that adds a line, and is refused for want of memory, changes nothing.
+/// A call that adds a line, and is refused on an allocation failure, changes nothing.
 #[derive(Debug, Drop)]
 pub struct Arguments {
     alloc: Global,

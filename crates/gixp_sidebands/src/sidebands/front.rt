@@ -8,11 +8,11 @@ use gixp_wire::{MessageKind, Protocol};
 
 /// A transport, and a place in the packet of band 1 that is peeked at.
 ///
-/// A packet of which a byte was handed out counts as taken. So it can't be dropped: `into_inner`
+/// A packet of which a byte was returned counts as taken. So it can't be dropped: `into_inner`
 /// takes it.
 pub(crate) struct Front<'a, T: ExtendedBufRead> {
     at: &'a mut T,
-    // How many bytes were handed out of the packet that is peeked at, if one is.
+    // How many bytes were returned of the packet that is peeked at, if one is.
     place: Option<usize>,
     ghost held: { is_held place (T.reading at.now) ≡ true },
 }
@@ -104,7 +104,7 @@ impl<'a, T: ExtendedBufRead> Front<'a, T> {
         self.place.is_some()
     }
 
-    /// The bytes at hand that were not handed out.
+    /// The bytes at hand that were not returned.
     pub(crate) fn rest(&self) -> &[u8]
         ensures { result.now ≡ shown self.now.place (T.reading self.now.at.now) }
     {
@@ -114,7 +114,7 @@ impl<'a, T: ExtendedBufRead> Front<'a, T> {
         }
     }
 
-    /// Hands out this many of the bytes at hand, or all of them. The packet is taken with its last.
+    /// Takes this many of the bytes at hand, or all of them. The packet is taken with its last.
     pub(crate) fn advance(&mut self, amount: usize)
         ensures same { self.new.at.ghost_name ≡ self.old.at.ghost_name }
         ensures hands_out { HandsOut self.old.place (T.reading self.old.at.now) (take amount (shown self.old.place (T.reading self.old.at.now)))

@@ -157,7 +157,7 @@ impl Response {
     ///
     /// # Errors
     ///
-    /// There was no memory. The answer is as it was.
+    /// An allocation failed. The answer is as it was.
     pub fn append_v1_shallow_updates(
         &mut self,
         updates: Option<Vec<ShallowUpdate>>,

@@ -75,7 +75,7 @@ pub enum Error {
     /// `Interrupted`.
     #[error("Reader")]
     Reader(read::Error),
-    /// There was no memory.
+    /// An allocation failed.
     #[error("Memory")]
     Memory,
 }

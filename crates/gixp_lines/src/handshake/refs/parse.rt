@@ -93,7 +93,7 @@ pub enum Error {
     /// The reader was refused otherwise: `UnexpectedFrame`, `NotUtf8`, `BadBand` or `Interrupted`.
     #[error("Reader")]
     Reader(read::Error),
-    /// There was no memory.
+    /// An allocation failed.
     #[error("Memory")]
     Memory,
 }
