@@ -188,7 +188,7 @@ meant_more all texts text rows found run one table kept was either =
     let before : ℕ × List ℕ → Bool = λ ref. list_any (λ t. bytes_eq ref.1 t) texts in
     let here : ℕ × List ℕ → Bool = λ ref. bytes_eq ref.1 text in
     let both = kept_same (λ ref. list_any (λ t. bytes_eq ref.1 t) (texts ++ text ∷ [])) (λ ref. before ref || here ref)
-        (λ ref. list_any-append (λ t. bytes_eq ref.1 t) texts (text ∷ []) ∙ ap (λ b. before ref || b) (or_none (here ref))) refs in
+    (λ ref. list_any-append (λ t. bytes_eq ref.1 t) texts (text ∷ []) ∙ ap (λ b. before ref || b) (or_none (here ref))) refs in
     let its : map shown run ≡ filter here refs = ap (map shown) was ∙ table.has_all text in
     elim either [
       | inl first ↦ ap (map shown) first.0 ∙ kept ∙ sym (both ∙ filter_or_none before here refs (sym its ∙ ap (map shown) first.1))

@@ -20,11 +20,7 @@ pub(crate) struct Row<'a> {
 }
 
 /// Appends a ref.
-fn push_row<'a>(
-    rows: &mut Vec<Row<'a>>,
-    place: usize,
-    item: &Item<'a>,
-) -> Result<(), AllocError>
+fn push_row<'a>(rows: &mut Vec<Row<'a>>, place: usize, item: &Item<'a>) -> Result<(), AllocError>
     ensures { OnOk result (map shown rows.new.items ≡ map shown rows.old.items ++ (place, name_of item.now) ∷ []) }
 {
     let name = item.full_ref_name.as_bytes();

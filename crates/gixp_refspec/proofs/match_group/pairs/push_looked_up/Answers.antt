@@ -23,5 +23,5 @@ pub returns-in-Some : goal.returns-in-Some
 returns-in-Some c =
     let f = pair (values c.args.prepared.now.specs.now) (c.args.index, value_of c.args.spec.now) in
     on_ok c.push_rows-in-Some.result _ _ (λ step. short_mapped (values c.args.prepared.now.specs.now) (names c.args.items.now) (c.args.index, value_of c.args.spec.now) c.in-Short.name
-    c.args.table.now c.in-Some.run.items (mapped_in c.args.out.now) (mapped_in c.push_rows-in-Some.new.out) c.in-Short.ensures c.requires.table c.in-Some.ensures
+    c.args.table.now c.in-Some.run'.items (mapped_in c.args.out.now) (mapped_in c.push_rows-in-Some.new.out) c.in-Short.ensures c.requires.table (rw c.in-Some.is at c.in_ok-run-in-Short.ensures)
     (step ∙ ap (λ l. mapped_in c.args.out.now ++ flat_map f (map shown l)) c.deref.ensures.value)) c.push_rows-in-Some.ensures
