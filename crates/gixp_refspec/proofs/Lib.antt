@@ -19,6 +19,8 @@ pub mod SortedLemmas
 pub mod DifferLemmas
 pub mod UniqueLemmas
 pub mod DistinctLemmas
+pub mod RowLemmas
+pub mod NegativeLemmas
 pub mod KeptLemmas
 pub mod BackedLemmas
 pub mod OriginLemmas

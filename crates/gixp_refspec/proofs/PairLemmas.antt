@@ -53,3 +53,14 @@ pub excludes_is : (sign : Sign) (source name : List ℕ) (destination : Option (
     → option_copied r ≡ middle_with needle name → b ≡ is_some r → is_negative sign ≡ true → b ≡ excludes name (spec sign source destination)
 excludes_is sign source name destination needle r b made_of was is negative =
     is ∙ copied_some r ∙ ap is_some (was ∙ middle_with-needle source name needle made_of) ∙ ap (λ n. n && is_some (middle_of source name)) (sym negative)
+
+-- no mapping without a middle
+pub pair_none : (specs : List Spec) (s : ℕ × Spec) (ref : ℕ × List ℕ) → middle_of s.1.source ref.1 ≡ None → [] ≡ pair specs s ref
+unfolding pair
+pair_none specs s ref none =
+    sym (ap (made s ref.1 ref.0 (is_negative s.1.sign || is_excluded specs ref.1)) none ∙ none_made s ref.1 ref.0 (is_negative s.1.sign || is_excluded specs ref.1))
+
+-- no mapping of a negative refspec
+pub pair_negative : (specs : List Spec) (s : ℕ × Spec) (ref : ℕ × List ℕ) → is_negative s.1.sign ≡ true → [] ≡ pair specs s ref
+unfolding pair
+pair_negative specs s ref negative = sym (ap (λ b. made s ref.1 ref.0 (b || is_excluded specs ref.1) (middle_of s.1.source ref.1)) negative)

@@ -32,3 +32,17 @@ walked_all h f all now xs i e kept =
     let same : i ≡ length (map h xs) = rw length-map e in
     let none : drop i (map h xs) ≡ [] = ap (λ n. drop n (map h xs)) same ∙ drop-length (map h xs) in
     sym (append-nil now) ∙ ap (λ ys. now ++ flat_map f (enumerate_from i ys)) (sym none) ∙ kept
+
+-- a step of a loop that lists each place and element
+pub listed : {A B : Type 0} (h : A → B) (all now new : List (ℕ × B)) (xs : List A) (i : ℕ) (d : A) → i < length xs
+    → now ++ enumerate_from i (drop i (map h xs)) ≡ all → new ≡ now ++ (i, h (get_or xs i d)) ∷ [] → new ++ enumerate_from (i + 1) (drop (i + 1) (map h xs)) ≡ all
+listed h all now new xs i d l kept step =
+    let rest = enumerate_from (i + 1) (drop (i + 1) (map h xs)) in
+    ap (λ z. z ++ rest) step ∙ append_assoc now ((i, h (get_or xs i d)) ∷ []) rest ∙ ap (λ z. now ++ z) (sym (enumerate-drop h xs i d l)) ∙ kept
+
+-- after the last
+pub listed_all : {A B : Type 0} (h : A → B) (all now : List (ℕ × B)) (xs : List A) (i : ℕ) → i ≡ length xs → now ++ enumerate_from i (drop i (map h xs)) ≡ all → now ≡ all
+listed_all h all now xs i e kept =
+    let same : i ≡ length (map h xs) = rw length-map e in
+    let none : drop i (map h xs) ≡ [] = ap (λ n. drop n (map h xs)) same ∙ drop-length (map h xs) in
+    sym (append-nil now) ∙ ap (λ ys. now ++ enumerate_from i ys) (sym none) ∙ kept

@@ -6,6 +6,7 @@ pub mod PartialName
 pub mod Matching
 pub mod Texts
 pub mod Needle
+pub mod Rows
 pub mod Mappings
 pub mod Firsts
 pub mod MatchGroup

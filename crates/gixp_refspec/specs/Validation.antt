@@ -1,10 +1,11 @@
 -- Local names with two sources, and local names that are no whole names.
-use Rattle.std.specs.Prelude.{ℕ, Bool, false, not, if◌then◌else◌, List, [], ◌∷◌, filter, map, Option, Some, None}
+use Rattle.std.specs.Prelude.{ℕ, Bool, true, false, not, if◌then◌else◌, List, [], ◌∷◌, filter, map, Option, Some, None}
 use Rattle.std.specs.Option.{option_map_or}
 use Rattle.std.specs.List.{list_any, slice_get, fold, flat_map}
 use Rattle.std.specs.Ordering.{is_lt, nat_cmp}
 use Rattle.std.specs.Cmp.Lexicographic.{slice_cmp}
 use Rattle.std.specs.Str.{bytes_eq}
+use Rattle.gixp_refspec.specs.Name.{is_partial_name}
 use Rattle.gixp_refspec.specs.Spec.{Spec, text_of, is_full}
 use Rattle.gixp_refspec.specs.Mappings.{Source, Mapped, source_eq, local_eq}
 
@@ -69,6 +70,15 @@ is_partial_local (Some name) = not (is_full name)
 -- the mapping has such a local name
 abbrev pub is_partial : Mapped → Bool
 is_partial m = is_partial_local m.local
+
+-- a local name that keeps the rules for names
+abbrev pub is_safe_local : Option (List ℕ) → Bool
+is_safe_local None = true
+is_safe_local (Some name) = is_partial_name name
+
+-- the mapping has none that breaks them
+abbrev pub has_safe_local : Mapped → Bool
+has_safe_local m = is_safe_local m.local
 
 -- a note on a mapping that is taken out: its local name and the text of its refspec
 pub record Removed : Type 0 where

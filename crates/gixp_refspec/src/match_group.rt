@@ -3,20 +3,25 @@ ghost use Rattle.std.specs.Prelude.{◌≡◌, IfOk};
 ghost use Rattle.gixp_refspec.specs.Mappings.{mappings};
 ghost use Rattle.gixp_refspec.specs.Leaving.{AnswersAll};
 ghost use Rattle.gixp_refspec.specs.MatchGroup.{source_of, mapped_of, mapped_in, values, names, group_specs, outcome_specs};
+ghost use Rattle.gixp_refspec.specs.Validation.{has_safe_local};
 
 mod distinct;
 pub(crate) mod key;
 mod local;
 pub(crate) mod needle;
+mod negatives;
 mod pairs;
+mod rows;
 mod sorted;
 pub mod validate;
 
 use crate::match_group::distinct::firsts;
+use crate::match_group::negatives::prepare;
 use crate::match_group::pairs::{push_ids, push_pairs};
 use crate::match_group::validate::Fix;
 use crate::match_group::validate::conflicts::conflicts_of;
 use crate::match_group::validate::fixes::take_out_partial;
+use crate::name::is_partial_name;
 use crate::spec::RefSpecRef;
 use bstr::{BStr, BString};
 use gixp_wire::ObjectId;
@@ -49,7 +54,12 @@ pub struct Mapping {
     pub item_index: Option<usize>,
     /// What is taken.
     pub lhs: SourceRef,
-    /// The local name, where the refspec has a destination. One that a pattern made may break the rules for names.
+    /// The local name, where the refspec has a destination.
+    ///
+    /// **It is not checked.** What a pattern puts for its asterisk was chosen by the server:
+    /// `refs/heads/*:refs/remotes/o/*` maps a server's `refs/heads/../../../config` to
+    /// `refs/remotes/o/../../../config`. Who makes a path or a ref of it asks
+    /// [`has_safe_local_name`](Mapping::has_safe_local_name) first.
     pub rhs: Option<BString>,
     /// The place of the refspec in its group, from 0.
     pub spec_index: usize,
@@ -93,17 +103,32 @@ impl Clone for Mapping {
     }
 }
 
+impl Mapping {
+    /// Whether the local name, where there is one, keeps the rules for names (git-check-ref-format, with
+    /// `--allow-onelevel`) and has no asterisk, as that of a [`PartialName`](crate::PartialName). `git fetch` leaves
+    /// out a ref whose local name breaks them (a "funny ref"), or doesn't begin with `refs/`.
+    pub fn has_safe_local_name(&self) -> bool
+        ensures { result ≡ has_safe_local (mapped_of self.now) }
+    {
+        match &self.rhs {
+            None => true,
+            Some(name) => is_partial_name(name.as_bytes()),
+        }
+    }
+}
+
 /// The mappings of the refs, each source and local name once.
-fn mappings_of(
+fn mappings_of<'s>(
     alloc: Global,
-    specs: &[RefSpecRef<'_>],
+    specs: &'s [RefSpecRef<'s>],
     items: &[Item<'_>],
 ) -> Result<Vec<Mapping>, AllocError>
     ensures { IfOk result (λ found. mapped_in found ≡ mappings (values specs.now) (names items.now)) }
 {
     let mut found = Vec::new(alloc);
     push_ids(alloc, specs, &mut found)?;
-    push_pairs(alloc, specs, items, &mut found)?;
+    let prepared = prepare(alloc, specs)?;
+    push_pairs(alloc, &prepared, items, &mut found)?;
     firsts(alloc, found)
 }
 

@@ -114,7 +114,7 @@ impl Clone for PartialName {
 
 /// Whether the bytes keep the rules for names, with no asterisk.
 #[tactic(auto, unfolding(crate::specs::Name::is_partial_name))]
-fn is_partial_name(name: &[u8]) -> bool
+pub(crate) fn is_partial_name(name: &[u8]) -> bool
     ensures { result ≡ is_partial_name name.now }
 {
     is_name(name) && !name.contains(&b'*')

@@ -1,14 +1,17 @@
 //! The mappings of refspecs and refs, in their order and with repeats.
-ghost use Rattle.std.specs.Prelude.{◌≡◌, ◌++◌, OnOk, IfOk, option_to_list};
+ghost use Rattle.std.specs.Prelude.{◌≡◌, ◌++◌, OnOk, IfOk, map, option_to_list};
 ghost use Rattle.std.specs.Option.{option_map};
-ghost use Rattle.std.specs.List.{list_any};
+ghost use Rattle.std.specs.List.{flat_map};
 ghost use Rattle.gixp_refspec.specs.RefSpec.{value_of};
-ghost use Rattle.gixp_refspec.specs.Mappings.{excludes, id_mapping, is_excluded, pair, pairs_of, id_mappings, pairs};
+ghost use Rattle.gixp_refspec.specs.Mappings.{id_mapping, pair, pairs_of, id_mappings, pairs};
 ghost use Rattle.gixp_refspec.specs.MatchGroup.{mapped_of, mapped_in, values, names};
 ghost use Rattle.gixp_refspec.specs.Needle.{IsNeedle};
+ghost use Rattle.gixp_refspec.specs.Rows.{shown, IsPrepared, IsTable};
 
 use crate::match_group::local::local_of;
 use crate::match_group::needle::Needle;
+use crate::match_group::negatives::{Prepared, is_excluded};
+use crate::match_group::rows::{Row, only_name, rows_named, table_of};
 use crate::match_group::{Item, Mapping, SourceRef};
 use crate::spec::{RefSpecRef, id_in, is_negative};
 use bstr::BString;
@@ -75,40 +78,20 @@ pub(crate) fn push_ids(
     Ok(())
 }
 
-/// Whether the refspec is negative and matches the name.
-fn excludes(spec: &RefSpecRef<'_>, name: &[u8]) -> bool
-    ensures { result ≡ excludes name.now (value_of spec.now) }
-{
-    is_negative(spec.sign) && Needle::new(spec.source).middle(name).is_some()
-}
-
-/// Whether some refspec excludes the name.
-fn has_exclusion(specs: &[RefSpecRef<'_>], name: &[u8]) -> bool
-    ensures { result ≡ list_any (λ spec. excludes name.now (value_of spec)) specs.now }
-{
-    specs.iter().any(|spec| excludes(spec, name))
-}
-
-/// Whether some negative refspec matches the name.
-fn is_excluded(specs: &[RefSpecRef<'_>], name: &[u8]) -> bool
-    ensures { result ≡ is_excluded (values specs.now) name.now }
-{
-    has_exclusion(specs, name)
-}
-
 /// The mapping of a refspec and a ref, where the one matches the other.
 #[tactic(auto, unfolding(crate::specs::Mappings::pair))]
 fn pair(
     alloc: Global,
-    specs: &[RefSpecRef<'_>],
+    prepared: &Prepared<'_>,
     index: usize,
     spec: &RefSpecRef<'_>,
     needle: &Needle<'_>,
     item_index: usize,
     name: &[u8],
 ) -> Result<Option<Mapping>, AllocError>
-    requires { IsNeedle spec.now.source.now needle.now }
-    ensures { IfOk result (λ found. option_to_list (option_map mapped_of found) ≡ pair (values specs.now) (index, value_of spec.now) (item_index, name.now)) }
+    requires needle { IsNeedle spec.now.source.now needle.now }
+    requires prepared { IsPrepared prepared.now }
+    ensures { IfOk result (λ found. option_to_list (option_map mapped_of found) ≡ pair (values prepared.now.specs.now) (index, value_of spec.now) (item_index, name.now)) }
 {
     if is_negative(spec.sign) {
         return Ok(None);
@@ -116,7 +99,7 @@ fn pair(
     let Some(middle) = needle.middle(name) else {
         return Ok(None);
     };
-    if is_excluded(specs, name) {
+    if is_excluded(prepared, name) {
         return Ok(None);
     }
     let rhs = local_of(alloc, middle, spec.destination)?;
@@ -129,37 +112,92 @@ fn pair(
     }))
 }
 
-/// Appends the mappings of a refspec.
+/// Appends the mappings of a refspec, which is compared with each ref.
 fn push_pairs_of(
     alloc: Global,
-    specs: &[RefSpecRef<'_>],
+    prepared: &Prepared<'_>,
     index: usize,
     spec: &RefSpecRef<'_>,
     items: &[Item<'_>],
     out: &mut Vec<Mapping>,
 ) -> Result<(), AllocError>
-    ensures { OnOk result (mapped_in out.new ≡ mapped_in out.old ++ pairs_of (values specs.now) (names items.now) (index, value_of spec.now)) }
+    requires { IsPrepared prepared.now }
+    ensures { OnOk result (mapped_in out.new ≡ mapped_in out.old ++ pairs_of (values prepared.now.specs.now) (names items.now) (index, value_of spec.now)) }
 {
     let needle = Needle::new(spec.source);
     'items: for (item_index, item) in items.iter().enumerate() {
         let name = item.full_ref_name.as_bytes();
-        let found = pair(alloc, specs, index, spec, &needle, item_index, name)?;
+        let found = pair(alloc, prepared, index, spec, &needle, item_index, name)?;
         push_found(out, found)?;
     }
     Ok(())
 }
 
-/// Appends the mappings of each refspec and each ref.
-pub(crate) fn push_pairs(
+/// Appends the mappings of a refspec and some refs.
+fn push_rows(
     alloc: Global,
-    specs: &[RefSpecRef<'_>],
+    prepared: &Prepared<'_>,
+    index: usize,
+    spec: &RefSpecRef<'_>,
+    rows: &[Row<'_>],
+    out: &mut Vec<Mapping>,
+) -> Result<(), AllocError>
+    requires { IsPrepared prepared.now }
+    ensures { OnOk result (mapped_in out.new ≡ mapped_in out.old ++ flat_map (pair (values prepared.now.specs.now) (index, value_of spec.now)) (map shown rows.now)) }
+{
+    let needle = Needle::new(spec.source);
+    'rows: for row in rows {
+        let found = pair(alloc, prepared, index, spec, &needle, row.place, row.name)?;
+        push_found(out, found)?;
+    }
+    Ok(())
+}
+
+/// Appends the mappings of a refspec. The refs of an exact name are looked up, and those of a short name where they
+/// have one name; only a pattern, and a short name that stands for several, is compared with each ref.
+fn push_looked_up(
+    alloc: Global,
+    prepared: &Prepared<'_>,
+    table: &[Row<'_>],
+    index: usize,
+    spec: &RefSpecRef<'_>,
     items: &[Item<'_>],
     out: &mut Vec<Mapping>,
 ) -> Result<(), AllocError>
-    ensures { OnOk result (mapped_in out.new ≡ mapped_in out.old ++ pairs (values specs.now) (names items.now)) }
+    requires prepared { IsPrepared prepared.now }
+    requires table { IsTable (names items.now) table.now }
+    ensures { OnOk result (mapped_in out.new ≡ mapped_in out.old ++ pairs_of (values prepared.now.specs.now) (names items.now) (index, value_of spec.now)) }
 {
-    'specs: for (index, spec) in specs.iter().enumerate() {
-        push_pairs_of(alloc, specs, index, spec, items, out)?;
+    if is_negative(spec.sign) {
+        return Ok(());
+    }
+    match Needle::new(spec.source) {
+        Needle::Id => Ok(()),
+        Needle::Exact(name) => {
+            let run = rows_named(table, name);
+            push_rows(alloc, prepared, index, spec, run, out)
+        }
+        Needle::Short(name) => match only_name(alloc, table, name)? {
+            Some(run) => push_rows(alloc, prepared, index, spec, &run, out),
+            None => push_pairs_of(alloc, prepared, index, spec, items, out),
+        },
+        Needle::Pattern { .. } => push_pairs_of(alloc, prepared, index, spec, items, out),
+    }
+}
+
+/// Appends the mappings of each refspec and each ref.
+pub(crate) fn push_pairs(
+    alloc: Global,
+    prepared: &Prepared<'_>,
+    items: &[Item<'_>],
+    out: &mut Vec<Mapping>,
+) -> Result<(), AllocError>
+    requires { IsPrepared prepared.now }
+    ensures { OnOk result (mapped_in out.new ≡ mapped_in out.old ++ pairs (values prepared.now.specs.now) (names items.now)) }
+{
+    let table = table_of(alloc, items)?;
+    'specs: for (index, spec) in prepared.specs.iter().enumerate() {
+        push_looked_up(alloc, prepared, &table, index, spec, items, out)?;
     }
     Ok(())
 }

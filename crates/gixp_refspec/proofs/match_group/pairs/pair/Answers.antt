@@ -7,10 +7,10 @@ use Rattle.gixp_refspec.proofs.match_group.pairs.pair.Goals as goal
 
 pub returns-in_default : goal.returns-in_default
 returns-in_default c =
-    pair_unmatched (values c.args.specs.now) (c.args.index, value_of c.args.spec.now) c.args.name.now c.args.item_index c.args.needle.now _
-    c.requires c.middle.ensures c.in_default.is
+    pair_unmatched (values c.args.prepared.now.specs.now) (c.args.index, value_of c.args.spec.now) c.args.name.now c.args.item_index c.args.needle.now _
+    c.requires.needle c.middle.ensures c.in_default.is
 
 pub returns : goal.returns
 returns c =
-    pair_matched (values c.args.specs.now) (c.args.index, value_of c.args.spec.now) c.args.name.now c.args.item_index c.args.needle.now _ c.in-Some.middle _ _
-    c.requires c.middle.ensures c.in-Some.is (sym c.if-is_negative.ensures) (sym c.if-is_excluded.ensures) c.in_ok-rhs.ensures c.in_ok-lhs.ensures
+    pair_matched (values c.args.prepared.now.specs.now) (c.args.index, value_of c.args.spec.now) c.args.name.now c.args.item_index c.args.needle.now _ c.in-Some.middle _ _
+    c.requires.needle c.middle.ensures c.in-Some.is (sym c.if-is_negative.ensures) (sym c.if-is_excluded.ensures) c.in_ok-rhs.ensures c.in_ok-lhs.ensures

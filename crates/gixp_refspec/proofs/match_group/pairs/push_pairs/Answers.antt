@@ -7,5 +7,5 @@ use Rattle.gixp_refspec.proofs.match_group.pairs.push_pairs.Goals as goal
 
 pub specs-preserved : goal.specs-preserved
 specs-preserved c =
-    walked_at value_of (pairs_of (values c.args.specs.now) (names c.args.items.now)) _ (mapped_in c.specs.out) (mapped_in c.push_pairs_of.new.out)
-    c.args.specs.now c.specs.index c.index-specs-index.result c.index-specs-index.is c.specs-test.true c.specs.invariant c.in_ok-push_pairs_of.ensures
+    walked_at value_of (pairs_of (values c.args.prepared.now.specs.now) (names c.args.items.now)) _ (mapped_in c.specs.out) (mapped_in c.push_looked_up.new.out)
+    c.args.prepared.now.specs.now c.specs.index c.spec-item.result c.spec-item.is c.specs-test.true c.specs.invariant c.in_ok-push_looked_up.ensures

@@ -7,5 +7,5 @@ use Rattle.gixp_refspec.proofs.match_group.pairs.push_pairs.Given as goal
 
 abbrev pub invariant-specs : goal.invariant-specs
 invariant-specs l =
-    mapped_in l.out ++ (flat_map (pairs_of (values l.specs) (names l.items)) (enumerate_from l.index (drop l.index (values l.specs))))
-    ≡ mapped_in l.initial.out ++ (pairs (values l.specs) (names l.items))
+    mapped_in l.out ++ (flat_map (pairs_of (values l.prepared.specs.now) (names l.items)) (enumerate_from l.index (drop l.index (values l.prepared.specs.now))))
+    ≡ mapped_in l.initial.out ++ (pairs (values l.prepared.specs.now) (names l.items))

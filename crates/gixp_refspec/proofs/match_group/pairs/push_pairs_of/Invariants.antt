@@ -8,5 +8,5 @@ use Rattle.gixp_refspec.proofs.match_group.pairs.push_pairs_of.Given as goal
 
 abbrev pub invariant-items : goal.invariant-items
 invariant-items l =
-    mapped_in l.out ++ (flat_map (pair (values l.specs) (l.index, value_of l.spec)) (enumerate_from l.item_index (drop l.item_index (names l.items))))
-    ≡ mapped_in l.initial.out ++ (pairs_of (values l.specs) (names l.items) (l.index, value_of l.spec))
+    mapped_in l.out ++ (flat_map (pair (values l.prepared.specs.now) (l.index, value_of l.spec)) (enumerate_from l.item_index (drop l.item_index (names l.items))))
+    ≡ mapped_in l.initial.out ++ (pairs_of (values l.prepared.specs.now) (names l.items) (l.index, value_of l.spec))

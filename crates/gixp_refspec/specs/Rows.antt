@@ -1,0 +1,55 @@
+-- Refs by their names, and negative refspecs that were looked at once.
+use Rattle.std.specs.Prelude.{ℕ, ◌≡◌, ◌⊎◌, ◌||◌, Bool, List, [], map, filter, is_some}
+use Rattle.std.specs.Cmp.Lexicographic.{slice_cmp}
+use Rattle.std.specs.List.{list_any, enumerate_from}
+use Rattle.std.specs.List.Sorted.{IsSortedByKey}
+use Rattle.std.specs.Ordering.{nat_cmp}
+use Rattle.std.specs.Str.{bytes_eq}
+use Rattle.gixp_refspec.specs.declared.match_group.needle.Needle.{Needle}
+use Rattle.gixp_refspec.specs.declared.match_group.negatives.Prepared.{Prepared}
+use Rattle.gixp_refspec.specs.declared.match_group.rows.Row.{Row}
+use Rattle.gixp_refspec.specs.Mappings.{is_excluded}
+use Rattle.gixp_refspec.specs.MatchGroup.{values}
+use Rattle.gixp_refspec.specs.Needle.{middle_with}
+
+-- the place and the name of a ref
+abbrev pub shown : Row → ℕ × List ℕ
+shown row = (row.place, row.name.now)
+
+-- the ref has this name
+abbrev pub is_row_of : List ℕ → Row → Bool
+is_row_of name row = bytes_eq row.name.now name
+
+-- they are in byte order of their names
+abbrev pub AreByName : List Row → Type 0
+AreByName rows = IsSortedByKey (λ row. row.name.now) (slice_cmp nat_cmp) rows
+
+-- the refs of a name, by their places
+abbrev pub named : List (List ℕ) → List ℕ → List (ℕ × List ℕ)
+named names name = filter (λ ref. bytes_eq ref.1 name) (enumerate_from 0 names)
+
+-- the refs that a short name stands for, by their places
+abbrev pub meant : List (List ℕ) → List (List ℕ) → List (ℕ × List ℕ)
+meant names texts = filter (λ ref. list_any (λ text. bytes_eq ref.1 text) texts) (enumerate_from 0 names)
+
+-- a table of refs: in order of names, and those of one name in order of places
+pub record IsTable (names : List (List ℕ)) (rows : List Row) : Type 0 where
+  pub in_order : AreByName rows
+  pub has_all : (name : List ℕ) → map shown (filter (is_row_of name) rows) ≡ named names name
+
+-- the rows of a table whose names are among the texts
+abbrev pub AreMeant : List (List ℕ) → List Row → List Row → Type 0
+AreMeant texts rows run = (names : List (List ℕ)) → IsTable names rows → map shown run ≡ meant names texts
+
+-- the first of two lists where the second is empty, or the second where the first is
+abbrev pub IsOneOf : List Row → List Row → List Row → Type 0
+IsOneOf found run one = ((one ≡ found) × (run ≡ [])) ⊎ ((one ≡ run) × (found ≡ []))
+
+-- one of the names, or one of the needles, matches the name
+abbrev pub is_any : List Row → List Needle → List ℕ → Bool
+is_any rows needles name = list_any (is_row_of name) rows || list_any (λ needle. is_some (middle_with needle name)) needles
+
+-- the names are in order, and names and needles match what some negative refspec matches
+pub record IsPrepared (prepared : Prepared) : Type 0 where
+  pub names_in_order : AreByName prepared.names.items
+  pub excludes_all : (name : List ℕ) → is_any prepared.names.items prepared.others.items name ≡ is_excluded (values prepared.specs.now) name
