@@ -1,5 +1,5 @@
 -- Keys that are all different, and what follows for mappings.
-use Rattle.std.proofs.Common.{◌≡◌, ℕ, Bool, true, false, List, [], ◌∷◌, ◌++◌, length, map, cond, Option, Some, None, Ordering, Less, Equal, Greater, IsPermutation, ap, sym, subst, ◌∙◌, refl, inl, inr}
+use Rattle.std.proofs.Common.{◌≡◌, ℕ, Bool, false, List, [], ◌∷◌, ◌++◌, length, map, cond, Option, Some, None, Ordering, Less, Equal, Greater, IsPermutation, ap, sym, subst, ◌∙◌, refl, inl, inr}
 use Rattle.std.specs.Prelude.{◌&&◌, not, filter, option_to_list}
 use Rattle.std.specs.Cmp.{IsTotalOrder}
 use Rattle.std.specs.List.{AllAdjacentBelow, AllByRecursion, IsDistinct, flat_map}
@@ -16,7 +16,7 @@ use Rattle.gixp_refspec.specs.Apart.{parts, key_parts, locals}
 use Rattle.gixp_refspec.specs.Mappings.{Source, Mapped, source_eq, local_eq, is_same, firsts}
 use Rattle.gixp_refspec.specs.MatchGroup.{key_bytes}
 use Rattle.gixp_refspec.specs.Spec.{Spec}
-use Rattle.gixp_refspec.specs.Validation.{of_local, has_local, differ, conflict_over, conflicts, local_names}
+use Rattle.gixp_refspec.specs.Validation.{of_local, differ, conflict_over, conflicts, local_names}
 use Rattle.gixp_refspec.proofs.DifferLemmas.{differ-first}
 use Rattle.gixp_refspec.proofs.KeyLemmas.{Key, by_key, by_bytes, is_eq-key, bytes_eq-turned}
 

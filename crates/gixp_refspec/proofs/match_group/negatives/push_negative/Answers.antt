@@ -2,7 +2,7 @@
 use Rattle.std.proofs.Common.{sym}
 use Rattle.gixp_refspec.specs.declared.match_group.needle.Needle.TheVariants.{Exact as the_exact}
 use Rattle.gixp_refspec.specs.RefSpec.{value_of}
-use Rattle.gixp_refspec.proofs.NegativeLemmas.{name_more, needle_more, none_more, exact_is}
+use Rattle.gixp_refspec.proofs.NegativeLemmas.{name_more, needle_more, exact_is}
 use Rattle.gixp_refspec.proofs.match_group.negatives.push_negative.Goals as goal
 
 pub returns-in_ok-push : goal.returns-in_ok-push
