@@ -1,5 +1,8 @@
-//! The fetch of a pack.
+//! The fetch of a pack: requests, answers, ref maps, the negotiation, and the whole.
 pub mod negotiate;
 
 pub use gixp_lines::fetch::{Response, response};
+pub use gixp_negotiate::shallow::Shallow;
+pub use gixp_refmap::fetch::Tags;
+pub use gixp_refmap::{RefMap, refmap};
 pub use gixp_requests::fetch::{Arguments, arguments};

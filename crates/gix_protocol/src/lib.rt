@@ -1,9 +1,15 @@
-//! The client side of git's fetch protocol, under the paths of the Rust crate `gix-protocol`.
+//! The client side of git's fetch protocol, versions 0, 1 and 2, under the paths of the Rust crate
+//! `gix-protocol`.
 #![tactic(auto)]
 
 pub mod fetch;
 pub mod handshake;
 pub mod transport;
 
+pub use gixp_handshake::{
+    Handshake, SendFlushOnDrop, bisync, credentials, indicate_end_of_interaction,
+};
+pub use gixp_progress::RemoteProgress;
+pub use gixp_refmap::{LsRefsCommand, ls_refs};
 pub use gixp_refspec as refspec;
 pub use gixp_requests::{Command, agent, command};

@@ -3,6 +3,6 @@ pub use gixp_sidebands::{BandText, Interrupt, InterruptFlag, NeverInterrupt, Wit
 pub use gixp_wire::{
     Account, Bodies, Body, Capabilities, Capability, CapabilityIter, Connection, ExtendedBufRead,
     Feature, Frame, IsSpuriousError, Kind, LineReader, MAX_LINE, Message, MessageKind,
-    NestedProgress, ObjectId, Opening, PacketError, Progress, Protocol, Service,
-    SetServiceResponse, Transport, client, decode, fits_line, laws, read,
+    NestedProgress, ObjectId, Opening, PacketError, PacketLine, Progress, Protocol, Service,
+    SetServiceResponse, Transport, client, decode, fits_line, laws, read, split_packet_line,
 };

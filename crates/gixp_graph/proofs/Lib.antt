@@ -1,3 +1,4 @@
+pub mod AskedLemmas
 pub mod EachLemmas
 pub mod ExactLemmas
 pub mod FaithfulLemmas

@@ -6,13 +6,14 @@ use Rattle.std.proofs.lemmas.List.Elements.{Contains-get_or, All-weaker}
 use Rattle.std.specs.List.{flat_map}
 use Rattle.gixp_wire.specs.declared.object_id.ObjectId.{ObjectId}
 use Rattle.gixp_graph.specs.Object.{Objects}
-use Rattle.gixp_graph.specs.Held.{Commits, GraphData, parents_in}
+use Rattle.gixp_graph.specs.Held.{Commits, GraphData, parents_in, OnlyMarks}
 use Rattle.gixp_graph.specs.Complete.{IsDue}
 use Rattle.gixp_graph.specs.Table.{Table, ids_at}
 use Rattle.gixp_graph.specs.Queue.{Entry, entry_at}
 use Rattle.gixp_graph.specs.Visited.{is_visited}
 use Rattle.gixp_graph.specs.Waiting.{Waiting, waiting_of, waiting_in}
-use Rattle.gixp_graph.specs.Walk.{Walk, walk_of, IsMarking, IsQueued, IsWalk, AreDue, AllVisited, VisitsSome, VisitsEach, left}
+use Rattle.gixp_graph.specs.Walk.{Walk, walk_of, IsMarking, IsQueued, IsWalk, AreDue, AllVisited, VisitsSome, VisitsEach, AsksAll, AsksSome, AsksDue, HasAsked, left}
+use Rattle.gixp_graph.proofs.AskedLemmas.{asks_none}
 use Rattle.gixp_graph.proofs.VisitedLemmas.{none_visited}
 use Rattle.gixp_graph.proofs.WalkLemmas.{stands, marking_start, walk_start, walk_permuted, walk_dropped, due_parents, expanded_each, all_left}
 use Rattle.gixp_graph.proofs.WaitingLemmas.{waiting_taken}
@@ -33,6 +34,14 @@ module _ (g : GraphData) (ids : List ObjectId) (cutoff : Option ℤ) (objects : 
       (subst (λ bs. IsWalk g ids cutoff (walk_of commits bs queue)) (sym none)
       (subst (λ q. IsWalk g ids cutoff (walk_of commits [] q)) (sym empty)
       (subst (λ m. IsWalk g ids cutoff (stands m (is_visited commits.ids []) [])) (sym first) (walk_start g ids cutoff (is_visited commits.ids []) (none_visited commits.ids)))))
+
+  -- and what was asked for is due
+  pub tips_asked : (commits : Table) (bits : List Bool) (new : Walk) → commits.held ≡ g.held → (before after : List ObjectId) → AsksAll objects wanted (walk_of commits bits []) new before after → HasAsked g ids cutoff before new.visited after
+  tips_asked commits bits new first before after a = a g ids cutoff before same (subst (AreDue g ids cutoff) (sym are) (tips_due g ids cutoff)) (subst (OnlyMarks g) (sym first) (marking_start g ids cutoff).only_marks) (asks_none _ before)
+
+  -- also where that was refused
+  pub tips_asked_some : (commits : Table) (bits : List Bool) → commits.held ≡ g.held → (before after : List ObjectId) → AsksSome objects wanted (walk_of commits bits []) before after → AsksDue g ids cutoff before after
+  tips_asked_some commits bits first before after a = a g ids cutoff before same (subst (AreDue g ids cutoff) (sym are) (tips_due g ids cutoff)) (subst (OnlyMarks g) (sym first) (marking_start g ids cutoff).only_marks) (asks_none _ before)
 
 module _ (g : GraphData) (ids : List ObjectId) (cutoff : Option ℤ) (held : Commits) (visited : ObjectId → Bool) (names : List ObjectId) (t : ℤ) (numbers : List ℕ) (old rest : List Entry) (taken : old ≡ rest ++ map (entry_at t) numbers)
     (w : IsWalk g ids cutoff (stands held visited (waiting_in names old))) where

@@ -28,16 +28,17 @@ pub record GraphData : Type 0 where
   pub objects : Objects
   pub held : Commits
 
--- what a contract sees of a graph: its commits, and how many calls of its objects have failed
+-- what a contract sees of a graph: its commits, how many calls of its objects have failed, and the ids that they were asked for
 pub record GraphValue : Type 0 where
   pub graph : GraphData
   pub failures : ℕ
+  pub asked : List ObjectId
 
--- a graph is stored as its two maps and the count
+-- a graph is stored as its two maps, the count and the list
 abbrev pub coded_graph : Coded GraphValue
 coded_graph =
-    code_by (Objects × (Commits × ℕ)) (coded× (finite.code coded_id coded_object) (coded× (finite.code coded_id coded_held) coded_ℕ))
-    (λ g. (g.graph.objects, (g.graph.held, g.failures))) (λ p. record { graph = record { objects = p.0; held = p.1.0 }; failures = p.1.1 }) (λ _. refl)
+    code_by (Objects × (Commits × (ℕ × List ObjectId))) (coded× (finite.code coded_id coded_object) (coded× (finite.code coded_id coded_held) (coded× coded_ℕ (coded_list coded_id))))
+    (λ g. (g.graph.objects, (g.graph.held, (g.failures, g.asked)))) (λ p. record { graph = record { objects = p.0; held = p.1.0 }; failures = p.1.1.0; asked = p.1.1.1 }) (λ _. refl)
 
 -- a graph of these objects and commits
 abbrev pub graph_of : Objects → Commits → GraphData

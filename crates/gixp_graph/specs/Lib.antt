@@ -1,3 +1,4 @@
+pub mod Asked
 pub mod Complete
 pub mod Held
 pub mod Laws

@@ -1,11 +1,12 @@
 -- The walk: what holds between its steps.
-use Rattle.std.specs.Prelude.{◌≡◌, ◌⊎◌, ℕ, ℤ, ◌+◌, ◌≤◌, ◌≤ℤ◌, Bool, true, false, not, ◌||◌, if◌then◌else◌, List, [], ◌∷◌, ◌++◌, length, Option, Some, option_map, IsSome, Contains, All}
+use Rattle.std.specs.Prelude.{◌≡◌, ◌⊎◌, ℕ, ℤ, ◌+◌, ◌≤◌, ◌≤ℤ◌, Bool, true, false, not, ◌||◌, if◌then◌else◌, List, [], ◌∷◌, ◌++◌, length, Option, Some, None, option_map, IsSome, Contains, All}
 use Rattle.std.specs.List.{list_any}
 use Rattle.std.specs.Ordering.{eq_by_cmp}
 use Rattle.std.specs.FinMap as finite
 use Rattle.gixp_wire.specs.declared.object_id.ObjectId.{ObjectId}
 use Rattle.gixp_wire.specs.ObjectId.{id_cmp}
 use Rattle.gixp_graph.specs.Object.{Objects, Commit}
+use Rattle.gixp_graph.specs.Asked.{AsksEach}
 use Rattle.gixp_graph.specs.Held.{Commits, GraphData, graph_of, found_in, commit_in, is_marked, marked_found, OnlyMarks}
 use Rattle.gixp_graph.specs.Complete.{IsComplete, IsDue}
 use Rattle.gixp_graph.specs.Table.{Table}
@@ -90,3 +91,27 @@ pub record VisitsEach (objects : Objects) (wanted : List ObjectId) (old new : Wa
   pub visited : AllVisited new.visited wanted
   pub keeps : (id : ObjectId) → old.visited id ≡ true → new.visited id ≡ true
   pub less : (g : GraphData) → objects ≡ g.objects → OnlyMarks g old.held → OnlyMarks g new.held × (left g new.visited + length new.waiting ≤ left g old.visited + length old.waiting)
+
+-- ---- which ids a walk asks for
+
+-- an id that wasn't visited, and whose commit isn't held
+abbrev pub IsUnread : Walk → ObjectId → Type 0
+IsUnread w id = (w.visited id ≡ false) × (finite.get w.held id ≡ None)
+
+-- ids that are looked for, and whose commits weren't held at the start
+abbrev pub AsksDue : GraphData → List ObjectId → Option ℤ → List ObjectId → List ObjectId → Type 0
+AsksDue g ids cutoff start asked = AsksEach (λ q. (finite.get g.held q ≡ None) × IsDue (commit_in g) ids cutoff q) start asked
+
+-- and that were visited since
+abbrev pub HasAsked : GraphData → List ObjectId → Option ℤ → List ObjectId → (ObjectId → Bool) → List ObjectId → Type 0
+HasAsked g ids cutoff start visited asked = AsksEach (λ q. (visited q ≡ true) × (finite.get g.held q ≡ None) × IsDue (commit_in g) ids cutoff q) start asked
+
+-- to visit all of some ids asks for no more
+abbrev pub AsksAll : Objects → List ObjectId → Walk → Walk → List ObjectId → List ObjectId → Type 0
+AsksAll objects wanted old new before after =
+    (g : GraphData) (ids : List ObjectId) (cutoff : Option ℤ) (start : List ObjectId) → objects ≡ g.objects → AreDue g ids cutoff wanted → OnlyMarks g old.held → HasAsked g ids cutoff start old.visited before → HasAsked g ids cutoff start new.visited after
+
+-- nor does it where it was refused
+abbrev pub AsksSome : Objects → List ObjectId → Walk → List ObjectId → List ObjectId → Type 0
+AsksSome objects wanted old before after =
+    (g : GraphData) (ids : List ObjectId) (cutoff : Option ℤ) (start : List ObjectId) → objects ≡ g.objects → AreDue g ids cutoff wanted → OnlyMarks g old.held → HasAsked g ids cutoff start old.visited before → AsksDue g ids cutoff start after

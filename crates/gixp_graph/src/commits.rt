@@ -4,6 +4,7 @@ ghost use Rattle.std.specs.List.{flat_map};
 ghost use Rattle.std.specs.FinMap as finite;
 ghost use Rattle.gixp_graph.specs.declared.objects.ObjectError.TheVariants.{Memory};
 ghost use Rattle.gixp_graph.specs.Object.{HasRisen};
+ghost use Rattle.gixp_graph.specs.Asked.{AsksWhere};
 ghost use Rattle.gixp_graph.specs.Held.{shown, graph_of, found_in, looked_up, flagged, parents_in};
 ghost use Rattle.gixp_graph.specs.Table.{id_at, ids_at, AllNamed, KeepsNumbers};
 ghost use Rattle.gixp_graph.specs.Visited.{IsOneToOne};
@@ -216,6 +217,7 @@ impl Commits {
         ensures found { IfOk result (λ found. found ≡ option_map shown (found_in (graph_of (O.contents objects.old) self.old.held) id.now)) }
         ensures ok { OnOk result (self.new.held ≡ looked_up (graph_of (O.contents objects.old) self.old.held) id.now) }
         ensures err { OnErr result (self.new.held ≡ self.old.held) }
+        ensures asked { AsksWhere (finite.get self.old.held id.now ≡ None) id.now (O.asked objects.old) (O.asked objects.new) }
         ensures contents { O.contents objects.new ≡ O.contents objects.old }
         ensures failures { O.failures objects.old ≤ O.failures objects.new }
         ensures failed { IfErr result (λ e. (e ≡ Memory) ⊎ HasRisen (O.failures objects.old) (O.failures objects.new)) }
@@ -249,6 +251,7 @@ impl Commits {
         ensures ok { OnOk result (self.new.held ≡ looked_up (graph_of (O.contents objects.old) self.old.held) (id_at self.old.ids number)) }
         ensures err { OnErr result (self.new.held ≡ self.old.held) }
         ensures kept { KeepsNumbers self.old.ids self.new.ids }
+        ensures asked { AsksWhere (finite.get self.old.held (id_at self.old.ids number) ≡ None) (id_at self.old.ids number) (O.asked objects.old) (O.asked objects.new) }
         ensures contents { O.contents objects.new ≡ O.contents objects.old }
         ensures failures { O.failures objects.old ≤ O.failures objects.new }
         ensures failed { IfErr result (λ e. (e ≡ Memory) ⊎ HasRisen (O.failures objects.old) (O.failures objects.new)) }

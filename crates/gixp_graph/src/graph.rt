@@ -1,11 +1,12 @@
 //! A graph of commits over the objects of a repository.
-ghost use Rattle.std.specs.Prelude.{◌≡◌, ◌≤◌, ◌⊎◌, ◌↔◌, IfOk, IfErr, OnOk, OnErr, IsSome, IsTrue, option_map};
+ghost use Rattle.std.specs.Prelude.{◌≡◌, ◌≤◌, ◌⊎◌, ◌↔◌, None, IfOk, IfErr, OnOk, OnErr, IsSome, IsTrue, option_map};
 ghost use Rattle.std.specs.FinMap as finite;
 ghost use Rattle.gixp_wire.specs.declared.object_id.ObjectId.{ObjectId};
 ghost use Rattle.gixp_graph.specs.declared.objects.ObjectError.TheVariants.{Memory};
 ghost use Rattle.gixp_graph.specs.Object.{HasRisen, commit_at, time_at};
 ghost use Rattle.gixp_graph.specs.Held.{graph_of, shown, shown_time, parents_in, found_in, looked_up, flagged, is_marked, OnlyMarks, IsFaithful};
-ghost use Rattle.gixp_graph.specs.Complete.{IsComplete};
+ghost use Rattle.gixp_graph.specs.Asked.{AsksWhere, AsksEach};
+ghost use Rattle.gixp_graph.specs.Complete.{IsComplete, IsDue};
 
 use crate::commits::Commits;
 use crate::flags::Flags;
@@ -32,7 +33,7 @@ impl<O: Objects> Model for Graph<O> {
 
     ghost coded = { coded_graph };
 
-    ghost view = { λ a. record { graph = graph_of (O.contents a.objects) a.commits.held; failures = O.failures a.objects } };
+    ghost view = { λ a. record { graph = graph_of (O.contents a.objects) a.commits.held; failures = O.failures a.objects; asked = O.asked a.objects } };
 
     ghost invariant = { λ a. IsFaithful (graph_of (O.contents a.objects) a.commits.held) };
 }
@@ -42,6 +43,7 @@ impl<O: Objects> Graph<O> {
     pub fn new(alloc: Global, objects: O) -> Self
         ensures empty { result.graph ≡ graph_of (O.contents objects) finite.empty }
         ensures failures { result.failures ≡ O.failures objects }
+        ensures asked { result.asked ≡ O.asked objects }
     {
         Graph {
             alloc,
@@ -72,6 +74,9 @@ impl<O: Objects> Graph<O> {
         ensures ok { OnOk result (self.new.graph ≡ graph_of self.old.graph.objects (looked_up self.old.graph id.now)) }
         ensures err { OnErr result (self.new.graph ≡ self.old.graph) }
         ensures faithful { IsFaithful self.old.graph }
+
+        // A commit that is held isn't read again.
+        ensures asked { AsksWhere (finite.get self.old.graph.held id.now ≡ None) id.now self.old.asked self.new.asked }
         ensures failures { self.old.failures ≤ self.new.failures }
         ensures failed { IfErr result (λ e. (e ≡ Memory) ⊎ HasRisen self.old.failures self.new.failures) }
     {
@@ -90,6 +95,7 @@ impl<O: Objects> Graph<O> {
         ensures held { IsTrue result ↔ IsSome (finite.get self.old.graph.held id.now) }
         ensures flagged { self.new.graph ≡ graph_of self.old.graph.objects (flagged self.old.graph.held id.now flags) }
         ensures failures { self.new.failures ≡ self.old.failures }
+        ensures asked { self.new.asked ≡ self.old.asked }
     {
         self.commits.insert_flags(id, flags)
     }
@@ -122,6 +128,10 @@ impl<O: Objects> Graph<O> {
         ensures only_marks { OnlyMarks self.old.graph self.new.graph.held }
         ensures sound { (id : ObjectId) → IsTrue (is_marked self.new.graph.held id) → IsTrue (is_marked self.old.graph.held id) ⊎ IsComplete (commit_at self.old.graph.objects) ids.now cutoff id }
         ensures objects { self.new.graph.objects ≡ self.old.graph.objects }
+
+        // No commit is read twice, and none but those that aren't held and that may be complete: of the
+        // ids, and of the parents of each complete commit from the cutoff on.
+        ensures asked { AsksEach (λ id. (finite.get self.old.graph.held id ≡ None) × IsDue (commit_at self.old.graph.objects) ids.now cutoff id) self.old.asked self.new.asked }
         ensures failures { self.old.failures ≤ self.new.failures }
         ensures failed { IfErr result (λ e. (e ≡ Memory) ⊎ HasRisen self.old.failures self.new.failures) }
     {

@@ -1,6 +1,8 @@
 //! What a repository hands in: its objects.
-ghost use Rattle.std.specs.Prelude.{◌≡◌, ℕ, ◌≤◌, ◌⊎◌, IfOk, IfErr, option_map};
+ghost use Rattle.std.specs.Prelude.{◌≡◌, ℕ, ◌≤◌, ◌⊎◌, List, [], IfOk, IfErr, option_map};
 ghost use Rattle.std.specs.FinMap as map;
+ghost use Rattle.gixp_wire.specs.declared.object_id.ObjectId.{ObjectId};
+ghost use Rattle.gixp_graph.specs.Asked.{AsksOnce};
 ghost use Rattle.gixp_graph.specs.declared.objects.ObjectError.TheVariants.{Memory};
 ghost use Rattle.gixp_graph.specs.Object.{Objects as ObjectMap, kind_at, commit_at, commit_of, HasRisen};
 
@@ -52,12 +54,18 @@ impl From<AllocError> for ObjectError {
 /// The objects of a repository: a finite map from ids to objects, which no call changes.
 ///
 /// A call may fail, and then raises a count of failures, unless it ran out of memory.
+///
+/// Contracts of the calls above say for which ids a commit is read, by a list that a call adds at most
+/// its id to. An implementation need not write it down: by default the list is empty.
 pub trait Objects {
     /// The map.
     ghost contents: { Self → ObjectMap };
 
     /// How many calls have failed so far.
     ghost failures: { Self → ℕ };
+
+    /// The ids that `commit` was called with so far, as far as they are written down.
+    ghost asked: { Self → List ObjectId } = { λ _. [] };
 
     /// Whether there is an object of this name.
     fn exists(&self, id: &ObjectId) -> bool
@@ -76,6 +84,7 @@ pub trait Objects {
     fn commit(&mut self, alloc: Global, id: &ObjectId) -> Result<Option<CommitData>, ObjectError>
         ensures found { IfOk result (λ found. option_map commit_of found ≡ commit_at (contents self.old) id.now) }
         ensures contents { contents self.new ≡ contents self.old }
+        ensures asked { AsksOnce id.now (asked self.old) (asked self.new) }
         ensures failures { failures self.old ≤ failures self.new }
         ensures failed { IfErr result (λ e. (e ≡ Memory) ⊎ HasRisen (failures self.old) (failures self.new)) };
 }
@@ -85,6 +94,8 @@ impl Objects for Box<dyn Objects + Drop> {
     ghost contents = { λ b. (Objects-box b).contents b.value };
 
     ghost failures = { λ b. (Objects-box b).failures b.value };
+
+    ghost asked = { λ b. (Objects-box b).asked b.value };
 
     fn exists(&self, id: &ObjectId) -> bool {
         (**self).exists(id)

@@ -1,5 +1,5 @@
 //! The walk that marks what a repository has for certain.
-ghost use Rattle.std.specs.Prelude.{◌≡◌, ◌≤◌, ◌<◌, ◌⊎◌, ℤ, IfOk, IfErr, OnOk, OnErr, IsTrue, length, option_map};
+ghost use Rattle.std.specs.Prelude.{◌≡◌, ◌≤◌, ◌<◌, ◌⊎◌, ℤ, None, IfOk, IfErr, OnOk, OnErr, IsTrue, length, option_map};
 ghost use Rattle.gixp_wire.specs.declared.object_id.ObjectId.{ObjectId};
 ghost use Rattle.gixp_graph.specs.declared.objects.ObjectError.TheVariants.{Memory};
 ghost use Rattle.gixp_graph.specs.Object.{HasRisen};
@@ -8,7 +8,9 @@ ghost use Rattle.gixp_graph.specs.Complete.{IsComplete};
 ghost use Rattle.gixp_graph.specs.Table.{id_at, ids_at, AllNamed, KeepsNumbers};
 ghost use Rattle.gixp_graph.specs.Visited.{AllVisitedNamed, IsOneToOne};
 ghost use Rattle.gixp_graph.specs.Waiting.{AllQueuedNamed};
-ghost use Rattle.gixp_graph.specs.Walk.{walk_of, Visits, VisitsSome, VisitsEach};
+ghost use Rattle.gixp_graph.specs.Asked.{AsksWhere};
+ghost use Rattle.gixp_graph.specs.Walk.{walk_of, IsUnread, Visits, VisitsSome, VisitsEach, AsksAll, AsksSome, AsksDue};
+ghost use Rattle.std.specs.FinMap as finite;
 
 use crate::commits::Commits;
 use crate::flags::Flags;
@@ -31,6 +33,7 @@ fn mark_found<O: Objects>(
     ensures ok { OnOk result (commits.new.held ≡ marked_found (graph_of (O.contents objects.old) commits.old.held) (id_at commits.old.ids number)) }
     ensures err { OnErr result (commits.new.held ≡ commits.old.held) }
     ensures once { IsOneToOne commits.old.ids }
+    ensures asked { AsksWhere (finite.get commits.old.held (id_at commits.old.ids number) ≡ None) (id_at commits.old.ids number) (O.asked objects.old) (O.asked objects.new) }
     ensures kept { KeepsNumbers commits.old.ids commits.new.ids }
     ensures contents { O.contents objects.new ≡ O.contents objects.old }
     ensures failures { O.failures objects.old ≤ O.failures objects.new }
@@ -61,6 +64,7 @@ fn visit<O: Objects>(
     ensures visits { OnOk result (Visits (O.contents objects.old) (id_at commits.old.ids number) (walk_of commits.old visited.old queue.old) (walk_of commits.new visited.new queue.new)) }
     ensures visited_named { OnOk result (AllVisitedNamed commits.new.ids visited.new) }
     ensures queue_named { OnOk result (AllQueuedNamed commits.new.ids queue.new) }
+    ensures asked { AsksWhere (IsUnread (walk_of commits.old visited.old queue.old) (id_at commits.old.ids number)) (id_at commits.old.ids number) (O.asked objects.old) (O.asked objects.new) }
     ensures err { OnErr result ((commits.new.held ≡ commits.old.held) ⊎ (commits.new.held ≡ marked_found (graph_of (O.contents objects.old) commits.old.held) (id_at commits.old.ids number))) }
     ensures kept { KeepsNumbers commits.old.ids commits.new.ids }
     ensures contents { O.contents objects.new ≡ O.contents objects.old }
@@ -96,6 +100,8 @@ fn visit_each<O: Objects>(
     ensures each { OnOk result (VisitsEach (O.contents objects.old) (ids_at commits.old.ids numbers.now) (walk_of commits.old visited.old queue.old) (walk_of commits.new visited.new queue.new)) }
     ensures visited_named { OnOk result (AllVisitedNamed commits.new.ids visited.new) }
     ensures queue_named { OnOk result (AllQueuedNamed commits.new.ids queue.new) }
+    ensures asked { OnOk result (AsksAll (O.contents objects.old) (ids_at commits.old.ids numbers.now) (walk_of commits.old visited.old queue.old) (walk_of commits.new visited.new queue.new) (O.asked objects.old) (O.asked objects.new)) }
+    ensures asked_some { OnErr result (AsksSome (O.contents objects.old) (ids_at commits.old.ids numbers.now) (walk_of commits.old visited.old queue.old) (O.asked objects.old) (O.asked objects.new)) }
     ensures some { VisitsSome (O.contents objects.old) (ids_at commits.old.ids numbers.now) commits.old.held commits.new.held }
     ensures kept { KeepsNumbers commits.old.ids commits.new.ids }
     ensures contents { O.contents objects.new ≡ O.contents objects.old }
@@ -125,6 +131,7 @@ pub(crate) fn mark_complete<O: Objects>(
     ensures only_marks { OnlyMarks (graph_of (O.contents objects.old) commits.old.held) commits.new.held }
     ensures sound { (id : ObjectId) → IsTrue (is_marked commits.new.held id) → IsTrue (is_marked commits.old.held id) ⊎ IsComplete (commit_in (graph_of (O.contents objects.old) commits.old.held)) ids.now cutoff id }
     ensures complete { OnOk result ((id : ObjectId) → IsComplete (commit_in (graph_of (O.contents objects.old) commits.old.held)) ids.now cutoff id → IsTrue (is_marked commits.new.held id)) }
+    ensures asked { AsksDue (graph_of (O.contents objects.old) commits.old.held) ids.now cutoff (O.asked objects.old) (O.asked objects.new) }
     ensures contents { O.contents objects.new ≡ O.contents objects.old }
     ensures failures { O.failures objects.old ≤ O.failures objects.new }
     ensures failed { IfErr result (λ e. (e ≡ Memory) ⊎ HasRisen (O.failures objects.old) (O.failures objects.new)) }

@@ -10,4 +10,5 @@ mod CommonLemmas
 mod SectionGrammarLemmas
 mod AdvertisementLemmas
 mod SymrefLemmas
+mod TableLemmas
 mod BeginningGrammarLemmas

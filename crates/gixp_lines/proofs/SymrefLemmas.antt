@@ -1,8 +1,6 @@
 -- Symrefs of capabilities that come one at a time.
 use Rattle.std.proofs.Common.{◌≡◌, Bool, true, false, cond, List, [], ◌∷◌, ◌++◌, map, refl, ap, ◌∙◌, Option, Some, None, Result, Ok, Err}
-use Rattle.std.specs.Prelude.{find}
 use Rattle.std.specs.Option.{option_map}
-use Rattle.std.specs.Borrow.{Bor}
 use Rattle.gixp_wire.specs.Capabilities.{CapabilityValue}
 use Rattle.gixp_lines.specs.declared.handshake.refs.parse.Error.{Error}
 use Rattle.gixp_lines.specs.RefLine.{RefsRefusal}
@@ -36,16 +34,3 @@ pub symrefs_refused : {A B : Type 0} (view : A → Symref) (view2 : B → List S
     → all ≡ symrefs_in_front xs (symref_table left) → left ≡ c ∷ now → Answers (option_map view) (symref_in c) (Err e) → Answers view2 all (Err e)
 symrefs_refused view view2 all xs left now c e h f a =
     refused_at view view2 (symref_in c) all (symref_table now) xs e a (h ∙ ap (λ l. symrefs_in_front xs (symref_table l)) f)
-
-found_at : {A : Type 0} (view : A → Symref) (x : A) (o : Option A) (r : Option Symref) (b : Bool) → option_map view o ≡ r → option_map view (cond b (Some x) o) ≡ cond b (Some (view x)) r
-found_at view x o r true h = refl
-found_at view x o r false h = h
-
--- the first of mapped elements
-pub find_mapped : {A : Type 0} (view : A → Symref) (test : Symref → Bool) (xs : List A) → option_map view (find (λ x. test (view x)) xs) ≡ find test (map view xs)
-find_mapped view test [] = refl
-find_mapped view test (x ∷ xs) = found_at view x (find (λ y. test (view y)) xs) (find test (map view xs)) (test (view x)) (find_mapped view test xs)
-
-pub viewed_twice : {A : Type 0} (view : A → Symref) (r : Option (Bor A)) → option_map (λ (x : Bor A). view x.now) r ≡ option_map view (option_map (λ (x : Bor A). x.now) r)
-viewed_twice view None = refl
-viewed_twice view (Some x) = refl

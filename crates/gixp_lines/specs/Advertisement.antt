@@ -1,6 +1,7 @@
 -- The refs that a server says first under versions 0 and 1 (gitprotocol-pack, "Reference Discovery").
-use Rattle.std.specs.Prelude.{ℕ, ◌-◌, ◌==◌, ◌&&◌, if◌then◌else◌, List, [], ◌∷◌, ◌++◌, length, take, drop, find, codes, Option, Some, None, Result, Ok, Err}
+use Rattle.std.specs.Prelude.{◌≡◌, ℕ, ◌-◌, ◌==◌, ◌&&◌, if◌then◌else◌, List, [], ◌∷◌, ◌++◌, length, take, drop, find, codes, Option, Some, None, Result, Ok, Err}
 use Rattle.std.specs.List.{list_all}
+use Rattle.std.specs.Option.{option_map}
 use Rattle.std.specs.Char.{is_whitespace}
 use Rattle.bstr.specs.Trim.{trim_end_by}
 use Rattle.gixp_wire.specs.Capabilities.{CapabilityValue}
@@ -88,6 +89,14 @@ symref_named t name = find (λ s. is_text s.name name) t
 abbrev pub told_target : Option Symref → Option (List ℕ)
 told_target None = None
 told_target (Some s) = s.target
+
+-- the first symref of a name: whether there is one, and its target
+abbrev pub tells : List Symref → List ℕ → Option (Option (List ℕ))
+tells t name = option_map (λ (s : Symref). s.target) (symref_named t name)
+
+-- the same of each name
+abbrev pub TellAlike : List Symref → List Symref → Type 0
+TellAlike t u = (name : List ℕ) → tells t name ≡ tells u name
 
 -- the ref of a ref line alone, by the first symref of its name
 abbrev pub single : List Symref → Named → RefValue

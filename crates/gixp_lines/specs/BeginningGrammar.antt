@@ -1,6 +1,7 @@
 -- An answer under versions 0 and 1 as a relation: a beginning that ends one, and no shorter one does (gitprotocol-pack, "Packfile Negotiation").
-use Rattle.std.specs.Prelude.{◌≡◌, Bool, List, [], ◌∷◌, ◌++◌, Option, Some, None}
+use Rattle.std.specs.Prelude.{◌≡◌, ⊤, Bool, true, List, [], ◌∷◌, ◌++◌, Option, Some, None}
 use Rattle.gixp_wire.specs.declared.protocol.Protocol.{Protocol}
+use Rattle.gixp_wire.specs.Items.{is_stop}
 use Rattle.gixp_wire.specs.Lines.{next_of}
 use Rattle.gixp_wire.specs.Pieces.{Piece, line, mark, Pieces}
 use Rattle.gixp_lines.specs.Answer.{AnswerValue, front}
@@ -16,11 +17,18 @@ items_behind (mark kind ∷ ps) before = items_behind ps (stopped ∷ before)
 abbrev pub ends_behind : Protocol → Asked → List Piece → Pieces → Option Bool
 ends_behind version a taken rest = ends a (items_behind taken []) (next_of version rest)
 
+-- each mark among these pieces is a stop
+abbrev pub AreStops : Protocol → List Piece → Type 0
+AreStops version [] = ⊤
+AreStops version (line text ∷ ps) = AreStops version ps
+AreStops version (mark kind ∷ ps) = (is_stop version kind ≡ true) × AreStops version ps
+
 -- a beginning that ends an answer, what it says, and that none of its own beginnings ends one
 pub record IsShortest (version : Protocol) (a : Asked) (p : Pieces) (value : AnswerValue) (rest : Pieces) : Type 0 where
   pub taken : List Piece
   pub pack : Bool
   pub split : p ≡ front taken rest
+  pub stops : AreStops version taken
   pub ended : ends_behind version a taken rest ≡ Some pack
   pub said : value ≡ said_in (items_behind taken []) pack
   pub shortest : (shorter : List Piece) (next : Piece) (more : List Piece) → taken ≡ shorter ++ next ∷ more → ends_behind version a shorter (front (next ∷ more) rest) ≡ None

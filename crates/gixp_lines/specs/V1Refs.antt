@@ -1,6 +1,9 @@
 -- What the reader of a version 0 or 1 advertisement has done (gitprotocol-pack, "Reference Discovery").
 use Rattle.std.specs.Prelude.{◌≡◌, ℕ, ◌⊎◌, Bool, None, Some, IfSome, List, [], ◌∷◌, ◌++◌, map, Option, Ok, Err}
 use Rattle.std.specs.Option.{option_map}
+use Rattle.std.specs.Ordering.{nat_cmp}
+use Rattle.std.specs.declared.cmp.Ordering.{Ordering}
+use Rattle.std.specs.Cmp.Lexicographic.{slice_cmp}
 use Rattle.bstr.specs.Owned.{bstring_bytes}
 use Rattle.bstr.specs.declared.bstring.BString.{BString}
 use Rattle.gixp_wire.specs.declared.protocol.MessageKind.{MessageKind}
@@ -25,6 +28,14 @@ symref_value s = record { name = bstring_bytes s.0; target = option_map bstring_
 
 abbrev pub symref_values : List (BString × Option BString) → List Symref
 symref_values ss = map symref_value ss
+
+-- names are ordered by their bytes
+abbrev pub name_cmp : BString → BString → Ordering
+name_cmp a b = slice_cmp nat_cmp (bstring_bytes a) (bstring_bytes b)
+
+-- the symrefs that a map by names has
+abbrev pub symrefs_in : List (BString × Option BString) → List Symref
+symrefs_in entries = map symref_value entries
 
 -- the lines to come up to a stop: the refs of their groups, their shallow updates, and the reader is at that stop
 pub record ReadsV1 (t : List Symref) (old new : Reading) (refs : List Ref) (updates : List ShallowUpdate) : Type 0 where

@@ -25,3 +25,9 @@ pub fn sections_are_answers()
 pub fn answers_are_shortest()
     ensures { (version : Protocol) (a : Asked) (p : Pieces) (value : AnswerValue) (rest : Pieces) → v1_answer version a p ≡ whole value rest → IsShortest version a p value rest }
 {}
+
+/// Each beginning that ends an answer under versions 0 and 1, where no shorter one does, is found, so
+/// that it doesn't matter how it was read.
+pub fn shortest_are_answers()
+    ensures { (version : Protocol) (a : Asked) (p : Pieces) (value : AnswerValue) (rest : Pieces) → IsShortest version a p value rest → v1_answer version a p ≡ whole value rest }
+{}

@@ -1,12 +1,13 @@
 -- What looks at ids leave.
-use Rattle.std.proofs.Common.{◌≡◌, ◌⊎◌, inl, inr, ℕ, ℤ, ◌+◌, ◌<◌, Bool, true, false, cond, List, [], ◌∷◌, ◌++◌, length, get_or, take, filter, map, Option, Some, None, refl, sym, ap, ◌∙◌, subst, suc, arith, not, ◌||◌, ◌&&◌, ◌↔◌}
+use Rattle.std.proofs.Common.{◌≡◌, ◌⊎◌, inl, inr, ℕ, ℤ, ◌+◌, ◌<◌, Bool, true, false, cond, List, [], ◌∷◌, ◌++◌, length, get_or, take, drop, filter, map, Option, Some, None, refl, sym, ap, ◌∙◌, subst, suc, arith, not, ◌||◌, ◌&&◌, ◌↔◌}
 use Rattle.std.specs.List.{list_any}
 use Rattle.std.proofs.lemmas.List.{map-append}
 use Rattle.std.proofs.lemmas.List.Folds.{list_any-append}
 use Rattle.std.specs.Prelude.{option_map, is_some, IsSome, IsTrue, Contains}
 use Rattle.std.specs.Option.{option_or, option_map_or}
 use Rattle.std.specs.Ordering.{eq_by_cmp}
-use Rattle.std.proofs.lemmas.List.{take_more}
+use Rattle.std.proofs.lemmas.List.{take_more, take-append-drop}
+use Rattle.std.proofs.Math.Seq.{drop-cons}
 use Rattle.std.proofs.lemmas.List.Elements.{filter-append}
 use Rattle.std.specs.FinMap as finite
 use Rattle.std.specs.FinMap.{get-insert}
@@ -21,6 +22,7 @@ use Rattle.gixp_graph.specs.Laws.{faithful_reads, marked_looked_up, held_looked_
 use Rattle.gixp_refmap.specs.declared.refmap.mapping.Mapping.{Mapping}
 use Rattle.gixp_negotiate.specs.Mapping.{mapping_id}
 use Rattle.gixp_negotiate.specs.Rounds.{with_common, keeping, keeping_all}
+use Rattle.gixp_negotiate.specs.Stopped.{LooksAtSome, CallsSome, StopsTelling, Stops, behind_mappings}
 use Rattle.gixp_negotiate.specs.Marking.{mapping_ids, look, look_each, commit_time, time_at, later, cutoff_from, cutoff_of, is_here, is_known, tips_in, Tells, Marks}
 
 append-none : (xs : List ObjectId) → xs ++ [] ≡ xs
@@ -164,10 +166,10 @@ walk_marks knows adds n g g1 ids tips cutoff m h e ec t =
     record {
       walked = t.walked;
       objects = t.walks.objects ∙ same;
-      marked = λ none id.
-          subst (λ (o : Objects). IsTrue (is_marked t.walked.held id) ↔ IsComplete (commit_at o) tips (cutoff_of g.objects ids) id) same
-          (subst (λ (k : Option ℤ). IsTrue (is_marked t.walked.held id) ↔ IsComplete (commit_at (look_each tips g1).objects) tips k id) ec
-          (t.walks.marked (λ q. marked_look_each tips g1 q ∙ (ap (λ x. is_marked x.held q) e ∙ (marked_look_each ids g q ∙ none q))) id));
+      marked = λ id.
+          subst (λ (b : Bool). IsTrue (is_marked t.walked.held id) ↔ (IsTrue b ⊎ IsComplete (commit_at g.objects) tips (cutoff_of g.objects ids) id)) (marked_look_each tips g1 id ∙ (ap (λ x. is_marked x.held id) e ∙ marked_look_each ids g id))
+          (subst (λ (o : Objects). IsTrue (is_marked t.walked.held id) ↔ (IsTrue (is_marked (look_each tips g1).held id) ⊎ IsComplete (commit_at o) tips (cutoff_of g.objects ids) id)) same
+          (subst (λ (k : Option ℤ). IsTrue (is_marked t.walked.held id) ↔ (IsTrue (is_marked (look_each tips g1).held id) ⊎ IsComplete (commit_at (look_each tips g1).objects) tips k id)) ec (t.walks.marked id)));
       held = λ id f. by_walk id (t.walks.held id f);
       told = t.told;
       told_graph = t.told_graph;
@@ -188,3 +190,33 @@ walk_marks knows adds n g g1 ids tips cutoff m h e ec t =
     by_walk id (inr k) =
         inr (inr (inr (subst (λ (o : Objects). IsComplete (commit_at o) tips (cutoff_of g.objects ids) id) (look_each-objects tips g1 ∙ (ap (λ x. x.objects) e ∙ look_each-objects ids g))
         (subst (λ (c : Option ℤ). IsComplete (commit_at (look_each tips g1).objects) tips c id) ec k))))
+
+-- some of the ids of all mappings, and of all ids
+looks_by : (ids front behind : List ObjectId) (g h : GraphData) → ids ≡ front ++ behind → h ≡ look_each front g → LooksAtSome ids g h
+looks_by ids front behind g h split e = record { looked = front; left = behind; split = split; graph = e }
+
+pub looks_front : (ms : List Mapping) (i : ℕ) (g h : GraphData) → h ≡ look_each (mapping_ids (take i ms)) g → LooksAtSome (mapping_ids ms) g h
+looks_front ms i g h e = looks_by (mapping_ids ms) (mapping_ids (take i ms)) (mapping_ids (drop i ms)) g h (sym (ap mapping_ids (take-append-drop i ms)) ∙ mapping_ids-append (take i ms) (drop i ms)) e
+
+pub looks_at : (ids : List ObjectId) (i : ℕ) (g h : GraphData) → h ≡ look_each (take i ids) g → LooksAtSome ids g h
+looks_at ids i g h e = looks_by ids (take i ids) (drop i ids) g h (sym (take-append-drop i ids)) e
+
+pub looks_none : (ids : List ObjectId) (g h : GraphData) → h ≡ g → LooksAtSome ids g h
+looks_none ids g h e = looks_by ids [] ids g h refl e
+
+-- the first calls were made
+pub calls_some : {N : Type 0} (call : Call N) (ids : List ObjectId) (i : ℕ) (d : ObjectId) (n : N) (g : GraphData) (told : N) (told_graph : GraphData) → i < length ids → IsRun call (take i ids) n g told told_graph → CallsSome call ids n g
+calls_some call ids i d n g told told_graph h run = record {
+  made = take i ids;
+  refused = get_or ids i d;
+  left = drop (suc i) ids;
+  split = sym (take-append-drop i ids) ∙ ap (λ rest. take i ids ++ rest) (drop-cons ids i d h);
+  told = told;
+  told_graph = told_graph;
+  run = run;
+}
+
+-- what was refused behind the mappings, by the graph in front of all looks
+pub stops_behind : {N : Type 0} (knows adds : Call N) (n : N) (g g1 : GraphData) (ids tips : List ObjectId) (cutoff : Option ℤ) (m : N) (h : GraphData) → g1 ≡ look_each ids g → cutoff ≡ cutoff_of g.objects ids → StopsTelling knows adds n g1 ids tips cutoff m h → Stops knows adds n g ids tips m h
+stops_behind knows adds n g g1 ids tips cutoff m h e ec s =
+    behind_mappings (subst (λ x. StopsTelling knows adds n x ids tips (cutoff_of g.objects ids) m h) e (subst (λ k. StopsTelling knows adds n g1 ids tips k m h) ec s))

@@ -1,3 +1,4 @@
 pub mod ErrorName
 pub mod List
+pub mod Plan
 pub mod Words

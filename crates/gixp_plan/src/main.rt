@@ -3,6 +3,7 @@
 
 mod list;
 mod print;
+mod text;
 #[cfg(test)]
 mod tests;
 mod words;

@@ -10,7 +10,7 @@ use std::alloc::AllocError;
 
 // The pieces, one behind the other.
 #[inline(always)]
-fn append(text: &mut Vec<u8>, pieces: &[&[u8]]) -> Result<(), AllocError>
+pub(crate) fn append(text: &mut Vec<u8>, pieces: &[&[u8]]) -> Result<(), AllocError>
     ensures { OnOk result (text.new.items ≡ text.old.items ++ flat_map (λ piece. piece.now) pieces.now) }
 {
     for piece in pieces {

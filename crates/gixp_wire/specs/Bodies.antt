@@ -1,5 +1,5 @@
 -- What a transport over memory means: each handshake and each request has an answer of its own.
-use Rattle.std.specs.Prelude.{◌≡◌, ℕ, false, List, [], map, reverse, Option, Some, None, Vec, vec_items}
+use Rattle.std.specs.Prelude.{◌≡◌, ℕ, ◌-◌, ◌*◌, ◌^◌, false, List, [], map, reverse, Option, Some, None, Vec, vec_items}
 use Rattle.std.specs.Option.{option_map}
 use Rattle.bstr.specs.Owned.{bstring_bytes}
 use Rattle.std.specs.declared.alloc.Global.{Global}
@@ -51,6 +51,7 @@ pub record IsNewBodies (bodies : List Body) (at : List ℕ) (versions : List Pro
   pub version : (bodies_reading b).version ≡ V2
   pub peeked : (bodies_reading b).peeked ≡ false
   pub failures : (bodies_reading b).failures ≡ 0
+  pub left : (bodies_reading b).left ≡ (2 ^ 64 - 1) * 65520
   pub sent : (bodies_reading b).held.sent ≡ []
   pub written : (bodies_reading b).held.written ≡ Some []
   pub answers : (bodies_reading b).held.answers ≡ map answer_of bodies

@@ -1,5 +1,5 @@
 -- What a transport over a reader and a writer means: the answers stand one behind another.
-use Rattle.std.specs.Prelude.{◌≡◌, ℕ, true, false, List, [], Option, None}
+use Rattle.std.specs.Prelude.{◌≡◌, ℕ, ◌-◌, ◌*◌, ◌^◌, true, false, List, [], Option, None}
 use Rattle.std.specs.Option.{option_map}
 use Rattle.bstr.specs.Owned.{bstring_bytes}
 use Rattle.gixp_wire.specs.declared.connection.Connection.{Connection}
@@ -23,6 +23,7 @@ pub record IsNewConnection (known : Option (List ℕ)) (holds : Option (List ℕ
   pub version : r.version ≡ V2
   pub peeked : r.peeked ≡ false
   pub failures : r.failures ≡ 0
+  pub left : r.left ≡ (2 ^ 64 - 1) * 65520
   pub held : r.held ≡ record {
     persists = true;
     written = holds;

@@ -1,5 +1,6 @@
 //! A transport over a reader and a writer.
 ghost use Rattle.std.specs.Prelude.{◌≡◌, ◌≤◌, Err, IfOk, true, length};
+ghost use Rattle.std.specs.IoError.{error_kind};
 ghost use Rattle.bstr.specs.Owned.{bstring_bytes};
 ghost use Rattle.gixp_wire.specs.FrameText.{payload_text};
 ghost use Rattle.gixp_wire.specs.Greeting.{parameters_of};
@@ -17,6 +18,7 @@ use crate::transport::Transport;
 use crate::{frame_text, read};
 use bstr::{BStr, BString};
 use std::alloc::{AllocError, Global};
+use std::io;
 use std::io::{ErrorKind, Read, Write};
 
 /// A transport over a reader and a writer, as a socket or the two ends of a program (gitprotocol-pack,
@@ -94,6 +96,14 @@ impl<R: Read, W: Write> Connection<R, W> {
         Error::Io(kind)
     }
 
+    // Notes that a write or flush failed with this error: its kind is what every later request
+    // answers.
+    fn write_failed(&mut self, e: io::Error) -> Error
+        ensures { IsBroken (connection_reading R.remaining W.contents self.old) (connection_reading R.remaining W.contents self.new) (error_kind e) result }
+    {
+        self.break_off(e.kind())
+    }
+
     // Writes these bytes, unless a write failed before.
     fn write_bytes(&mut self, bytes: &[u8]) -> Result<(), Error>
         ensures { Writes (connection_reading R.remaining W.contents self.old) (connection_reading R.remaining W.contents self.new) bytes.now result }
@@ -103,7 +113,7 @@ impl<R: Read, W: Write> Connection<R, W> {
         }
         match self.writer.write_all(bytes) {
             Ok(()) => Ok(()),
-            Err(e) => Err(self.break_off(e.kind())),
+            Err(e) => Err(self.write_failed(e)),
         }
     }
 
@@ -120,7 +130,7 @@ impl<R: Read, W: Write> Connection<R, W> {
                 self.packets.reset(version);
                 Ok(())
             }
-            Err(e) => Err(self.break_off(e.kind())),
+            Err(e) => Err(self.write_failed(e)),
         }
     }
 

@@ -1,11 +1,12 @@
 //! Packets over a reader, through one buffer.
-ghost use Rattle.std.specs.Prelude.{◌≡◌, ◌≤◌, false, length, take, Some, None, Ok, [], IfOk, true, ◌⊎◌};
+ghost use Rattle.std.specs.Prelude.{◌≡◌, ◌≤◌, ◌<◌, ◌+◌, false, length, take, Some, None, Ok, Err, [], IfOk, true, ◌⊎◌};
 ghost use Rattle.gixp_wire.specs.declared.packet.Head.TheVariants.{Partial};
 ghost use Rattle.gixp_wire.specs.Frames.{head_of};
 ghost use Rattle.gixp_wire.specs.Reading.{IsFresh, Rose, Reads, PlainIf, refusal_of, is_end};
 ghost use Rattle.gixp_wire.specs.Pieces.{is_error, error_message, server};
 ghost use Rattle.gixp_wire.specs.Items.{is_stop};
-ghost use Rattle.gixp_wire.specs.declared.read.Error.TheVariants.{Memory};
+ghost use Rattle.std.specs.declared.io.ErrorKind.TheVariants.{Other};
+ghost use Rattle.gixp_wire.specs.declared.read.Error.TheVariants.{Io, Memory};
 ghost use Rattle.gixp_wire.specs.declared.packets.Place.TheVariants.{Open};
 ghost use Rattle.gixp_wire.specs.Packets.{Fills, Settles, packets_reading};
 
@@ -109,7 +110,9 @@ impl<R: Read> Packets<R> {
     fn fill(&mut self) -> Result<(), Error>
         requires front { head_of self.old.window.pending ≡ Partial }
         requires open { self.old.ended ≡ false }
-        ensures { Fills R.remaining self.old self.new result }
+        ensures fills { Fills R.remaining self.old self.new result }
+        ensures gives_up { self.old.reads_left ≡ 0 → result ≡ Err (Io Other) }
+        ensures counts { 0 < self.old.reads_left → self.old.reads_left ≡ self.new.reads_left + 1 }
     {
         if self.reads_left == 0 {
             self.note_failure();

@@ -60,7 +60,8 @@ pub trait Transport: ExtendedBufRead {
     /// `MissingDelimitingNullByte` where the first ref line has no NUL. `Memory`. After
     /// `UnsupportedProtocolVersion` and `MissingDelimitingNullByte` the line that it is about is still
     /// to come. A refusal of the reader stands, and the stream's end: every later read answers it.
-    /// After `Memory`, and `Io` of a read that failed, no more is gone than lines that were taken.
+    /// After `Memory`, and `Io` of a read that failed, only lines that were taken are gone: none, the
+    /// line that names version 1, or the line that names version 2 and capability lines behind it.
     fn handshake(
         &mut self,
         alloc: Global,

@@ -1,9 +1,11 @@
 //! The buffer that frames are read into.
 ghost use Rattle.std.specs.Prelude.{◌≡◌, ◌+◌, ◌-◌, ◌<◌, ◌≤◌, [], length, take, drop, slice_range, vec_len, IfOk};
+ghost use Rattle.std.specs.IoError.{error_kind};
 ghost use Rattle.gixp_wire.specs.Window.{Shown, ReadsBehind, Receives};
 
 use crate::packet::MAX_FRAME;
 use std::alloc::{AllocError, Global};
+use std::io;
 use std::io::{ErrorKind, Read};
 use std::marker::Model;
 
@@ -31,6 +33,13 @@ impl Model for Window {
         × (w.line_start ≤ w.line_end) × (w.line_end ≤ 65520) };
 }
 
+// The kind with which a read failed.
+fn kind_of(e: io::Error) -> ErrorKind
+    ensures { result ≡ error_kind e }
+{
+    e.kind()
+}
+
 // One read, behind what the buffer holds.
 fn read_behind<R: Read>(
     reader: &mut R,
@@ -44,7 +53,7 @@ fn read_behind<R: Read>(
 {
     match reader.read(&mut buffer[end..]) {
         Ok(n) => Ok(n),
-        Err(e) => Err(e.kind()),
+        Err(e) => Err(kind_of(e)),
     }
 }
 

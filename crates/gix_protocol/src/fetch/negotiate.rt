@@ -1,5 +1,11 @@
-//! Which commits both sides have.
+//! Which commits both sides have, round by round.
 pub use gixp_graph::{
     CommitData, Flags, Graph, Negotiator, NegotiatorError, ObjectError, ObjectKind, Objects,
     RefStore, RefStoreError,
 };
+pub use gixp_negotiate::negotiate::ignore::{IgnoreMapping, make_refmapping_ignore_predicate};
+pub use gixp_negotiate::negotiate::mark::mark_complete_and_common_ref;
+pub use gixp_negotiate::negotiate::negotiation::{NegotiateContext, Negotiation, PaysForHaves};
+pub use gixp_negotiate::negotiate::plain::{HaveList, NoObjects, NoRefs};
+pub use gixp_negotiate::negotiate::wants::add_wants;
+pub use gixp_negotiate::negotiate::{Action, Error, Negotiate, Round, one_round};

@@ -59,29 +59,6 @@ fn through_marks(rt: HostRuntime) -> Result<(), Fail> {
     Ok(())
 }
 
-#[test]
-fn no_cutoff(rt: HostRuntime) -> Result<(), Fail> {
-    let alloc = rt.alloc();
-    let mut graph = Graph::new(alloc, never_failing(three(alloc, 5)?));
-    graph.mark_complete(&[id(1), id(9)], None)?;
-    assert!(rt; is_complete(&graph, 1));
-    assert!(rt; graph.get(&id(2)).is_none() && graph.get(&id(9)).is_none());
-    Ok(())
-}
-
-#[test]
-fn equal_times(rt: HostRuntime) -> Result<(), Fail> {
-    let alloc = rt.alloc();
-    let mut commits = BTreeMap::new(alloc);
-    add(alloc, &mut commits, 1, 10, &[2, 3])?;
-    add(alloc, &mut commits, 2, 10, &[])?;
-    add(alloc, &mut commits, 3, 10, &[])?;
-    let mut graph = Graph::new(alloc, never_failing(commits));
-    graph.mark_complete(&[id(1)], Some(10))?;
-    assert!(rt; is_complete(&graph, 1) && is_complete(&graph, 2) && is_complete(&graph, 3));
-    Ok(())
-}
-
 /// A chain of 1,000 commits of one time, the first of which is the tip.
 fn chain(alloc: Global, time: i64) -> Result<BTreeMap<ObjectId, CommitData>, AllocError> {
     let mut commits = BTreeMap::new(alloc);

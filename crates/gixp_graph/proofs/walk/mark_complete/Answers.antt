@@ -12,7 +12,8 @@ use Rattle.gixp_graph.specs.Visited.{is_visited}
 use Rattle.gixp_graph.specs.Walk.{Walk, walk_of, IsWalk, AreDue, AllVisited}
 use Rattle.gixp_graph.proofs.WalkLemmas.{complete_marked, expanded_never, expanded_older}
 use Rattle.gixp_graph.proofs.WaitingLemmas.{older_all, older_waiting, named_rest, named_taken}
-use Rattle.gixp_graph.proofs.NewestLemmas.{tips_marking, tips_walk, newest_due, newest_walk, newest_left, still_visited}
+use Rattle.gixp_graph.proofs.NewestLemmas.{tips_marking, tips_walk, newest_due, newest_walk, newest_left, still_visited, tips_asked, tips_asked_some}
+use Rattle.gixp_graph.proofs.AskedLemmas.{asks_none, asked_due}
 use Rattle.gixp_graph.proofs.walk.mark_complete.Goals as goal
 
 pub returns-in_err-visit_each-clause-only_marks : goal.returns-in_err-visit_each-clause-only_marks
@@ -58,6 +59,7 @@ loop-time-init g c =
       visited_named = c.in_ok-visit_each.ensures.visited_named;
       queue_named = c.in_ok-visit_each.ensures.queue_named;
       walk = tips_walk start c.args.ids.now c.args.cutoff _ refl _ are c.numbers.new.self _ _ new c.numbers.ensures.held c.new-visited.ensures c.new-queue.ensures c.in_ok-visit_each.ensures.each;
+      asked = tips_asked start c.args.ids.now c.args.cutoff _ refl _ are c.numbers.new.self c.new-visited.result new c.numbers.ensures.held _ _ c.in_ok-visit_each.ensures.asked;
       tips = subst (AllVisited new.visited) are c.in_ok-visit_each.ensures.each.visited;
     }
 
@@ -162,6 +164,7 @@ loop-time-preserved g c =
       visited_named = c.in_ok-visit_each-2.ensures.visited_named;
       queue_named = c.in_ok-visit_each-2.ensures.queue_named;
       walk = newest_walk start c.args.ids.now c.args.cutoff held visited ids t newest c.loop-time.queue c.pop_newest.new.self c.in-Some-pop_newest.ensures.taken v.walk _ v.same _ are new each due;
+      asked = c.in_ok-visit_each-2.ensures.asked start c.args.ids.now c.args.cutoff _ v.same due v.walk.marking.only_marks v.asked;
       tips = still_visited _ _ c.args.ids.now _ new each v.tips;
     }
 
@@ -172,3 +175,47 @@ returns-clause-complete g c =
     complete_marked start c.args.ids.now c.args.cutoff c.loop-time.commits.held (is_visited c.loop-time.commits.ids c.loop-time.visited) []
     (subst (λ q. IsWalk start c.args.ids.now c.args.cutoff (walk_of c.loop-time.commits c.loop-time.visited q)) c.in_default-pop_newest.ensures.none v.walk)
     (λ k d l. absurd (omega arith)) v.tips
+
+-- ---- which ids were asked for
+
+pub returns-in_default-clause-asked : goal.returns-in_default-clause-asked
+returns-in_default-clause-asked g c = asks_none _ _
+
+pub returns-in_err-visit_each-clause-asked : goal.returns-in_err-visit_each-clause-asked
+returns-in_err-visit_each-clause-asked g c =
+    let start : GraphData = graph_of (g.O.Objects.contents c.args.objects.now) c.args.commits.now.held in
+    tips_asked_some start c.args.ids.now c.args.cutoff _ refl _ (ap (ids_at c.numbers.new.self.ids) c.as_slice.ensures.value ∙ c.in-Ok.ensures.named.1) c.numbers.new.self c.new-visited.result c.numbers.ensures.held _ _ c.in_err-visit_each.ensures.asked_some
+
+pub returns-in_default-cutoff-clause-asked : goal.returns-in_default-cutoff-clause-asked
+returns-in_default-cutoff-clause-asked g c =
+    let start : GraphData = graph_of (g.O.Objects.contents c.args.objects.now) c.args.commits.now.held in
+    let are = ap (ids_at c.numbers.new.self.ids) c.as_slice.ensures.value ∙ c.in-Ok.ensures.named.1 in
+    let new : Walk = walk_of c.visit_each.new.commits c.visit_each.new.visited c.visit_each.new.queue in
+    asked_due start c.args.ids.now c.args.cutoff _ new.visited _ (tips_asked start c.args.ids.now c.args.cutoff _ refl _ are c.numbers.new.self c.new-visited.result new c.numbers.ensures.held _ _ c.in_ok-visit_each.ensures.asked)
+
+pub returns-then-time-cutoff-clause-asked : goal.returns-then-time-cutoff-clause-asked
+returns-then-time-cutoff-clause-asked g c = asked_due _ _ _ _ _ _ c.loop-time.invariant.asked
+
+pub returns-in_default-parent_numbers-clause-asked :
+    goal.returns-in_default-parent_numbers-clause-asked
+returns-in_default-parent_numbers-clause-asked g c = asked_due _ _ _ _ _ _ c.loop-time.invariant.asked
+
+pub returns-in_err-visit_each-2-clause-asked : goal.returns-in_err-visit_each-2-clause-asked
+returns-in_err-visit_each-2-clause-asked g c =
+    let start : GraphData = graph_of (g.O.Objects.contents c.args.objects.now) c.args.commits.now.held in
+    let v = c.loop-time.invariant in
+    let t : ℤ = c.in-Some-pop_newest.time in
+    let ids = c.loop-time.commits.ids in
+    let held = c.loop-time.commits.held in
+    let newest = c.in-Some-pop_newest.newest.items in
+    let fits : SFits w64 t = search rules in
+    let late : to_z w64 (of_z w64 c.in-Some.cutoff) ≤ℤ t = grind (arith, ints, c.if-time-cutoff.false) in
+    let are : ids_at ids c.as_slice-in-Some-pop_newest-2.result.now ≡ flat_map (parents_in held) (ids_at ids newest) =
+    ap (ids_at ids) c.as_slice-in-Some-pop_newest-2.ensures.value ∙ c.in-Ok-parent_numbers.ensures.parents ∙ ap (λ ns. flat_map (parents_in held) (ids_at ids ns)) c.as_slice-in-Some-pop_newest.ensures.value in
+    let due : AreDue start c.args.ids.now c.args.cutoff (ids_at ids c.as_slice-in-Some-pop_newest-2.result.now) =
+    subst (AreDue start c.args.ids.now c.args.cutoff) (sym are)
+    (newest_due start c.args.ids.now c.args.cutoff held (is_visited ids c.loop-time.visited) ids t newest c.loop-time.queue c.pop_newest.new.self c.in-Some-pop_newest.ensures.taken v.walk _ v.cut late) in
+    c.in_err-visit_each-2.ensures.asked_some start c.args.ids.now c.args.cutoff _ v.same due v.walk.marking.only_marks v.asked
+
+pub returns-clause-asked : goal.returns-clause-asked
+returns-clause-asked g c = asked_due _ _ _ _ _ _ c.loop-time.invariant.asked

@@ -3,7 +3,7 @@ use Rattle.std.proofs.Common.{◌≡◌, ◌+◌, ◌≤◌, length, Some}
 use Rattle.gixp_graph.specs.Held.{GraphData, graph_of}
 use Rattle.gixp_graph.specs.Visited.{is_visited, AllVisitedNamed}
 use Rattle.gixp_graph.specs.Waiting.{AllQueuedNamed}
-use Rattle.gixp_graph.specs.Walk.{walk_of, IsWalk, AllVisited, left}
+use Rattle.gixp_graph.specs.Walk.{walk_of, IsWalk, AllVisited, HasAsked, left}
 use Rattle.gixp_graph.proofs.walk.mark_complete.Given as goal
 
 -- a walk from the tips
@@ -17,6 +17,7 @@ invariant-loop-time g l =
       visited_named : AllVisitedNamed l.commits.ids l.visited;
       queue_named : AllQueuedNamed l.commits.ids l.queue;
       walk : IsWalk start l.ids l.fn.cutoff (walk_of l.commits l.visited l.queue);
+      asked : HasAsked start l.ids l.fn.cutoff (g.O.Objects.asked l.fn.objects) (is_visited l.commits.ids l.visited) (g.O.Objects.asked l.objects);
       tips : AllVisited (is_visited l.commits.ids l.visited) l.ids;
     }
 

@@ -5,7 +5,8 @@ use mir.Val.{SFits}
 use mir.Syntax.{w64}
 use Rattle.gixp_graph.specs.Table.{id_at}
 use Rattle.gixp_graph.specs.Visited.{has, is_visited}
-use Rattle.gixp_graph.specs.Walk.{Visits}
+use Rattle.gixp_graph.specs.Walk.{Walk, walk_of, Visits}
+use Rattle.gixp_graph.proofs.AskedLemmas.{asks_unread}
 use Rattle.gixp_graph.proofs.MarkLemmas.{none_timed, some_timed}
 use Rattle.gixp_graph.proofs.VisitedLemmas.{visited_at, visited_here, visited_more, visited_again}
 use Rattle.gixp_graph.proofs.WaitingLemmas.{queues_none, queues_one, named_one}
@@ -47,3 +48,33 @@ returns-in-Ok-clause-visits g c =
 
 pub returns-in-Ok-clause-queue_named : goal.returns-in-Ok-clause-queue_named
 returns-in-Ok-clause-queue_named g c = named_one c.args.commits.now.ids c.mark_found.new.commits.ids c.mark_found.ensures.kept _ c.args.number c.args.queue.now c.push.new.self c.requires.named c.requires.queue_named c.in-Ok.ensures
+
+-- ---- which ids were asked for
+
+pub returns-in_err-time-clause-asked : goal.returns-in_err-time-clause-asked
+returns-in_err-time-clause-asked g c =
+    let ids = c.args.commits.now.ids in
+    let w : Walk = walk_of c.args.commits.now c.args.visited.now c.args.queue.now in
+    let here : has c.args.visited.now c.args.number ≡ false = c.in-Ok-true.ensures.new ∙ ap not c.in-Ok-true.field-0-test in
+    asks_unread w (id_at ids c.args.number) _ _ (visited_here ids c.args.visited.now c.args.number false c.requires.visited_named c.mark_found.ensures.once c.requires.named here) c.mark_found.ensures.asked
+
+pub returns-in_default-clause-asked : goal.returns-in_default-clause-asked
+returns-in_default-clause-asked g c =
+    let ids = c.args.commits.now.ids in
+    let w : Walk = walk_of c.args.commits.now c.args.visited.now c.args.queue.now in
+    let here : has c.args.visited.now c.args.number ≡ false = c.in-Ok-true.ensures.new ∙ ap not c.in-Ok-true.field-0-test in
+    asks_unread w (id_at ids c.args.number) _ _ (visited_here ids c.args.visited.now c.args.number false c.requires.visited_named c.mark_found.ensures.once c.requires.named here) c.mark_found.ensures.asked
+
+pub returns-in-Ok-clause-asked : goal.returns-in-Ok-clause-asked
+returns-in-Ok-clause-asked g c =
+    let ids = c.args.commits.now.ids in
+    let w : Walk = walk_of c.args.commits.now c.args.visited.now c.args.queue.now in
+    let here : has c.args.visited.now c.args.number ≡ false = c.in-Ok-true.ensures.new ∙ ap not c.in-Ok-true.field-0-test in
+    asks_unread w (id_at ids c.args.number) _ _ (visited_here ids c.args.visited.now c.args.number false c.requires.visited_named c.mark_found.ensures.once c.requires.named here) c.mark_found.ensures.asked
+
+pub returns-in-Err-push-clause-asked : goal.returns-in-Err-push-clause-asked
+returns-in-Err-push-clause-asked g c =
+    let ids = c.args.commits.now.ids in
+    let w : Walk = walk_of c.args.commits.now c.args.visited.now c.args.queue.now in
+    let here : has c.args.visited.now c.args.number ≡ false = c.in-Ok-true.ensures.new ∙ ap not c.in-Ok-true.field-0-test in
+    asks_unread w (id_at ids c.args.number) _ _ (visited_here ids c.args.visited.now c.args.number false c.requires.visited_named c.mark_found.ensures.once c.requires.named here) c.mark_found.ensures.asked

@@ -1,11 +1,12 @@
 //! An answer to a fetch.
 ghost use Rattle.std.specs.Prelude.{◌≡◌, MatchResult, OnErr, OnOk, [], ◌∷◌, ◌++◌, map, true, false};
+ghost use Rattle.std.specs.List.{list_any};
 ghost use Rattle.gixp_lines.specs.AnswerLine.{wanted_value};
 ghost use Rattle.gixp_lines.specs.Answer.{no_more, update_items};
 ghost use Rattle.gixp_lines.specs.Beginnings.{asked};
 ghost use Rattle.gixp_lines.specs.Reads.{answer_of, Answered, AnswerFails};
 ghost use Rattle.gixp_lines.specs.RefLine.{is_text};
-ghost use Rattle.gixp_lines.specs.Features.{feature_name, has_name, missing_feature, Misses};
+ghost use Rattle.gixp_lines.specs.Features.{feature_name, feature_names, has_name, missing_feature, Misses};
 
 use crate::fetch::response::beginnings::read_beginning;
 use crate::fetch::response::error::{Error, RequiredFeature};
@@ -218,7 +219,13 @@ impl Response {
 
 // Whether a feature of this name is among some.
 fn has_feature(features: &[Feature], name: &str) -> bool
-    ensures { result ≡ has_name name.now features.now }
+    ensures { result ≡ has_name name.now (feature_names features.now) }
+{
+    any_named(features, name)
+}
+
+fn any_named(features: &[Feature], name: &str) -> bool
+    ensures { result ≡ list_any (λ f. is_text (feature_name f) name.now) features.now }
 {
     features.iter().any(|feature| is_named(feature, name))
 }

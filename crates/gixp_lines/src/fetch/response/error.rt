@@ -2,7 +2,7 @@
 ghost use Rattle.std.specs.Prelude.{◌≡◌};
 
 use bstr::BString;
-use gixp_wire::{client, read};
+use gixp_wire::{IsSpuriousError, client, read};
 use std::alloc::AllocError;
 use std::fmt;
 use std::io::ErrorKind;
@@ -117,5 +117,20 @@ impl From<AllocError> for Error {
 
     fn from(_e: AllocError) -> Error {
         Error::Memory
+    }
+}
+
+impl IsSpuriousError for Error {
+    ghost use Rattle.gixp_lines.specs.ResponseError.{is_spurious_answer};
+
+    ghost spurious = { is_spurious_answer };
+
+    fn is_spurious(&self) -> bool {
+        match self {
+            Error::Io(kind) => kind.is_spurious(),
+            Error::Transport(e) => e.is_spurious(),
+            Error::Reader(e) => e.is_spurious(),
+            _ => false,
+        }
     }
 }

@@ -1,11 +1,11 @@
 //! The refs that a server says first under versions 0 and 1 (gitprotocol-pack, "Reference Discovery").
 ghost use Rattle.std.specs.Prelude.{◌≡◌, MatchResult};
-ghost use Rattle.gixp_lines.specs.V1Refs.{symref_values, ReadsV1, V1Fails, GivesAdvertisement, AdvertisementFails};
+ghost use Rattle.gixp_lines.specs.V1Refs.{symrefs_in, ReadsV1, V1Fails, GivesAdvertisement, AdvertisementFails};
 
 use crate::fetch::response::ShallowUpdate;
 use crate::handshake::Ref;
 use crate::handshake::refs::parse;
-use crate::handshake::refs::symrefs::{Symref, from_capabilities};
+use crate::handshake::refs::symrefs::{Targets, by_name, from_capabilities};
 use crate::handshake::refs::v1::Advertised;
 use gixp_wire::{Capabilities, ExtendedBufRead};
 use std::alloc::Global;
@@ -31,9 +31,13 @@ pub fn from_v1_refs_received_as_part_of_handshake_and_capabilities<R: ExtendedBu
     ensures held { (R.reading in_refs.new).held ≡ (R.reading in_refs.old).held }
     ensures version { (R.reading in_refs.new).version ≡ (R.reading in_refs.old).version }
 {
-    match from_capabilities(alloc, capabilities) {
-        Ok(symrefs) => read_v1(alloc, in_refs, symrefs.as_slice()),
-        Err(e) => Err(e),
+    let symrefs = match from_capabilities(alloc, capabilities) {
+        Ok(symrefs) => symrefs,
+        Err(e) => return Err(e),
+    };
+    match by_name(alloc, symrefs) {
+        Ok(targets) => read_v1(alloc, in_refs, &targets),
+        Err(_) => Err(parse::Error::Memory),
     }
 }
 
@@ -41,11 +45,11 @@ pub fn from_v1_refs_received_as_part_of_handshake_and_capabilities<R: ExtendedBu
 fn read_v1<R: ExtendedBufRead>(
     alloc: Global,
     in_refs: &mut R,
-    symrefs: &[Symref],
+    targets: &Targets,
 ) -> Result<(Vec<Ref>, Vec<ShallowUpdate>), parse::Error>
     ensures answers { MatchResult result
-        (λ found. ReadsV1 (symref_values symrefs.now) (R.reading in_refs.old) (R.reading in_refs.new) found.0.items found.1.items)
-        (V1Fails (symref_values symrefs.now) R.is_plain (R.reading in_refs.old) (R.reading in_refs.new)) }
+        (λ found. ReadsV1 (symrefs_in targets.now.entries) (R.reading in_refs.old) (R.reading in_refs.new) found.0.items found.1.items)
+        (V1Fails (symrefs_in targets.now.entries) R.is_plain (R.reading in_refs.old) (R.reading in_refs.new)) }
     ensures held { (R.reading in_refs.new).held ≡ (R.reading in_refs.old).held }
     ensures version { (R.reading in_refs.new).version ≡ (R.reading in_refs.old).version }
 {
@@ -53,10 +57,10 @@ fn read_v1<R: ExtendedBufRead>(
     loop {
         match in_refs.next_line() {
             Ok(true) => {}
-            Ok(false) => return found.finish(symrefs),
+            Ok(false) => return found.finish(targets),
             Err(e) => return Err(parse::Error::from(e)),
         }
-        match found.add(alloc, symrefs, in_refs.line()) {
+        match found.add(alloc, targets, in_refs.line()) {
             Ok(()) => {}
             Err(e) => return Err(e),
         }

@@ -1,20 +1,22 @@
 //! Refs that name other refs, as capabilities tell them (gitprotocol-capabilities, "symref").
-ghost use Rattle.std.specs.Prelude.{◌≡◌};
+ghost use Rattle.std.specs.Prelude.{◌≡◌, is_some, IfOk, OnOk};
+ghost use Rattle.std.specs.BTreeMap.{insert_entry};
 ghost use Rattle.std.specs.Option.{option_map};
 ghost use Rattle.bstr.specs.Owned.{bstring_bytes};
 ghost use Rattle.gixp_wire.specs.Capability.{capability_value};
-ghost use Rattle.gixp_lines.specs.RefLine.{malformed_symref, is_text};
+ghost use Rattle.gixp_lines.specs.RefLine.{malformed_symref};
 ghost use Rattle.gixp_lines.specs.ParseError.{Answers, IsRefusal};
 ghost use Rattle.gixp_lines.specs.Cut.{cut};
-ghost use Rattle.gixp_lines.specs.Advertisement.{symref_in, symref_by, made_symref, symref_named, symref_table};
-ghost use Rattle.gixp_lines.specs.V1Refs.{symref_value, symref_values};
+ghost use Rattle.gixp_lines.specs.Advertisement.{symref_in, symref_by, made_symref, symref_named, told_target, TellAlike, symref_table};
+ghost use Rattle.gixp_lines.specs.V1Refs.{symref_value, symref_values, name_cmp, symrefs_in};
 
 use crate::cut::cut;
 use crate::handshake::refs::line::{is_null, is_same};
 use crate::handshake::refs::parse::Error;
 use bstr::BString;
 use gixp_wire::{Capabilities, Capability};
-use std::alloc::Global;
+use std::alloc::{AllocError, Global};
+use std::collections::BTreeMap;
 
 // A name, and its target where that is told.
 pub(crate) type Symref = (BString, Option<BString>);
@@ -75,18 +77,48 @@ pub(crate) fn read_symref(
     }
 }
 
-// Whether a symref has this name.
-fn is_named(symref: &Symref, name: &[u8]) -> bool
-    ensures { result ≡ is_text (bstring_bytes symref.now.0) name.now }
+// The targets of the symrefs by their names.
+pub(crate) type Targets = BTreeMap<BString, Option<BString>>;
+
+// The targets by their names; of a name that comes again the first counts.
+pub(crate) fn by_name(alloc: Global, mut symrefs: Vec<Symref>) -> Result<Targets, AllocError>
+    ensures { IfOk result (λ targets. TellAlike (symref_values symrefs.items) (symrefs_in targets.entries)) }
 {
-    symref.0.as_bytes() == name
+    let mut targets = BTreeMap::new(alloc);
+    while let Some((name, target)) = symrefs.pop() {
+        match put(&mut targets, name, target) {
+            Ok(()) => {}
+            Err(e) => return Err(e),
+        }
+    }
+    Ok(targets)
 }
 
-// The first symref of this name.
-pub(crate) fn find_symref<'a>(symrefs: &'a [Symref], name: &[u8]) -> Option<&'a Symref>
-    ensures { option_map (λ s. symref_value s.now) result ≡ symref_named (symref_values symrefs.now) name.now }
+// Puts a target under a name, in place of the one that it had.
+fn put(targets: &mut Targets, name: BString, target: Option<BString>) -> Result<(), AllocError>
+    ensures { OnOk result (targets.new.entries ≡ insert_entry name_cmp targets.old.entries name target) }
 {
-    symrefs.iter().find(|symref| is_named(symref, name))
+    match targets.insert(name, target) {
+        Ok(_) => Ok(()),
+        Err(_) => Err(AllocError),
+    }
+}
+
+// The target of the symref of this name, if there is one and it is told.
+pub(crate) fn target_of<'a>(targets: &'a Targets, name: &BString) -> Option<&'a BString>
+    ensures { option_map (λ s. bstring_bytes s.now) result ≡ told_target (symref_named (symrefs_in targets.now.entries) (bstring_bytes name.now)) }
+{
+    match targets.get(name) {
+        Some(target) => target.as_ref(),
+        None => None,
+    }
+}
+
+// Whether a symref has this name.
+pub(crate) fn is_symref(targets: &Targets, name: &BString) -> bool
+    ensures { result ≡ is_some (symref_named (symrefs_in targets.now.entries) (bstring_bytes name.now)) }
+{
+    targets.get(name).is_some()
 }
 
 /// The refs that name other refs, as the capabilities `symref` tell them: each name with its target,

@@ -1,14 +1,12 @@
 //! The lines of an advertisement under versions 0 and 1 (gitprotocol-pack, "Reference Discovery").
 ghost use Rattle.std.specs.Prelude.{◌≡◌, ◌++◌, ◌==◌, map, Ok, Err, MatchResult, Some};
 ghost use Rattle.std.specs.List.{list_all};
-ghost use Rattle.std.specs.Option.{option_map};
-ghost use Rattle.bstr.specs.Owned.{bstring_bytes};
 ghost use Rattle.gixp_lines.specs.declared.handshake.refs.parse.Error.TheVariants.{Memory};
 ghost use Rattle.gixp_lines.specs.Ref.{ref_value};
 ghost use Rattle.gixp_lines.specs.RefLine.{bad_id, malformed_v1, id_value};
 ghost use Rattle.gixp_lines.specs.ParseError.{Answers, IsRefusal};
-ghost use Rattle.gixp_lines.specs.Advertisement.{line_by_path, plain_line, peeled_line, v1_line, names, pair, symref_named, told_target, single, closed};
-ghost use Rattle.gixp_lines.specs.V1Refs.{symref_values};
+ghost use Rattle.gixp_lines.specs.Advertisement.{line_by_path, plain_line, peeled_line, v1_line, names, pair, single, closed};
+ghost use Rattle.gixp_lines.specs.V1Refs.{symrefs_in};
 ghost use Rattle.gixp_lines.specs.V1Line.{line_of, named_value, so_far_value, nothing_so_far, with_pair, with_found, with_closed, with_line, with_text};
 
 use crate::cut::cut;
@@ -16,7 +14,7 @@ use crate::fetch::response::ShallowUpdate;
 use crate::handshake::Ref;
 use crate::handshake::refs::line::{is_same, read_id};
 use crate::handshake::refs::parse::{Error, Invariant};
-use crate::handshake::refs::symrefs::{Symref, find_symref};
+use crate::handshake::refs::symrefs::{Targets, is_symref, target_of};
 use crate::trim::trim_end;
 use bstr::BString;
 use gixp_wire::{ObjectId, decode};
@@ -112,21 +110,11 @@ pub(crate) struct RefLine {
     name: BString,
 }
 
-// The target of the first symref of this name, if there is one and it is told.
-fn target_of<'a>(symrefs: &'a [Symref], name: &[u8]) -> Option<&'a BString>
-    ensures { option_map (λ s. bstring_bytes s.now) result ≡ told_target (symref_named (symref_values symrefs.now) name.now) }
-{
-    match find_symref(symrefs, name) {
-        Some(symref) => symref.1.as_ref(),
-        None => None,
-    }
-}
-
 // The ref of a ref line alone.
-fn make_single(symrefs: &[Symref], line: RefLine) -> Result<Ref, Error>
-    ensures { Answers ref_value (Ok (single (symref_values symrefs.now) (named_value line))) result }
+fn make_single(targets: &Targets, line: RefLine) -> Result<Ref, Error>
+    ensures { Answers ref_value (Ok (single (symrefs_in targets.now.entries) (named_value line))) result }
 {
-    let target = match target_of(symrefs, line.name.as_bytes()) {
+    let target = match target_of(targets, &line.name) {
         Some(target) => target,
         None => {
             return Ok(Ref::Direct {
@@ -147,10 +135,10 @@ fn make_single(symrefs: &[Symref], line: RefLine) -> Result<Ref, Error>
 }
 
 // The ref of a ref line and the peeled line behind it.
-fn make_pair(symrefs: &[Symref], line: RefLine, left: &[u8], base: &[u8]) -> Result<Ref, Error>
-    ensures { Answers ref_value (pair (symref_values symrefs.now) (Some (named_value line)) left.now base.now) result }
+fn make_pair(targets: &Targets, line: RefLine, left: &[u8], base: &[u8]) -> Result<Ref, Error>
+    ensures { Answers ref_value (pair (symrefs_in targets.now.entries) (Some (named_value line)) left.now base.now) result }
 {
-    if find_symref(symrefs, line.name.as_bytes()).is_some() {
+    if is_symref(targets, &line.name) {
         return Err(Error::InvariantViolation {
             message: Invariant::PeeledAlone,
         });
@@ -190,16 +178,11 @@ impl Advertised {
     }
 
     // Takes in one more line. What it is after a refusal is left open.
-    pub(crate) fn add(
-        &mut self,
-        alloc: Global,
-        symrefs: &[Symref],
-        line: &[u8],
-    ) -> Result<(), Error>
-        ensures { Answers (λ _. so_far_value self.new) (with_text (symref_values symrefs.now) (so_far_value self.old) line.now) result }
+    pub(crate) fn add(&mut self, alloc: Global, targets: &Targets, line: &[u8]) -> Result<(), Error>
+        ensures { Answers (λ _. so_far_value self.new) (with_text (symrefs_in targets.now.entries) (so_far_value self.old) line.now) result }
     {
         match read_line(alloc, line) {
-            Ok(line) => self.add_line(alloc, symrefs, line),
+            Ok(line) => self.add_line(alloc, targets, line),
             Err(e) => Err(e),
         }
     }
@@ -207,13 +190,13 @@ impl Advertised {
     // The refs and the updates of all lines.
     pub(crate) fn finish(
         mut self,
-        symrefs: &[Symref],
+        targets: &Targets,
     ) -> Result<(Vec<Ref>, Vec<ShallowUpdate>), Error>
         ensures { MatchResult result
-            (λ found. (map ref_value found.0.items ≡ (so_far_value self).refs ++ closed (symref_values symrefs.now) (so_far_value self).open_line) × (found.1.items ≡ (so_far_value self).updates))
+            (λ found. (map ref_value found.0.items ≡ (so_far_value self).refs ++ closed (symrefs_in targets.now.entries) (so_far_value self).open_line) × (found.1.items ≡ (so_far_value self).updates))
             (λ e. e ≡ Memory) }
     {
-        match self.close(symrefs) {
+        match self.close(targets) {
             Ok(()) => {
                 let Advertised {
                     refs,
@@ -226,8 +209,8 @@ impl Advertised {
         }
     }
 
-    fn add_line(&mut self, alloc: Global, symrefs: &[Symref], line: Line<'_>) -> Result<(), Error>
-        ensures { Answers (λ _. so_far_value self.new) (with_line (symref_values symrefs.now) (so_far_value self.old) (line_of line.entry)) result }
+    fn add_line(&mut self, alloc: Global, targets: &Targets, line: Line<'_>) -> Result<(), Error>
+        ensures { Answers (λ _. so_far_value self.new) (with_line (symrefs_in targets.now.entries) (so_far_value self.old) (line_of line.entry)) result }
     {
         match line {
             Line::Nothing => Ok(()),
@@ -235,8 +218,8 @@ impl Advertised {
                 Ok(()) => Ok(()),
                 Err(_) => Err(Error::Memory),
             },
-            Line::Named { object, name } => self.add_named(alloc, symrefs, object, name),
-            Line::Peeled { left, base } => self.peel(symrefs, left, base),
+            Line::Named { object, name } => self.add_named(alloc, targets, object, name),
+            Line::Peeled { left, base } => self.peel(targets, left, base),
         }
     }
 
@@ -244,17 +227,17 @@ impl Advertised {
     fn add_named(
         &mut self,
         alloc: Global,
-        symrefs: &[Symref],
+        targets: &Targets,
         object: ObjectId,
         name: &[u8],
     ) -> Result<(), Error>
-        ensures { Answers (λ _. so_far_value self.new) (with_line (symref_values symrefs.now) (so_far_value self.old) (names object.bytes name.now)) result }
+        ensures { Answers (λ _. so_far_value self.new) (with_line (symrefs_in targets.now.entries) (so_far_value self.old) (names object.bytes name.now)) result }
     {
         let name = match BString::from_slice(alloc, name) {
             Ok(name) => name,
             Err(_) => return Err(Error::Memory),
         };
-        match self.close(symrefs) {
+        match self.close(targets) {
             Ok(()) => {
                 self.last = Some(RefLine { object, name });
                 Ok(())
@@ -264,12 +247,12 @@ impl Advertised {
     }
 
     // The ref line that is open stays without a peeled line.
-    fn close(&mut self, symrefs: &[Symref]) -> Result<(), Error>
-        ensures { MatchResult result (λ _. so_far_value self.new ≡ with_closed (symref_values symrefs.now) (so_far_value self.old)) (λ e. e ≡ Memory) }
+    fn close(&mut self, targets: &Targets) -> Result<(), Error>
+        ensures { MatchResult result (λ _. so_far_value self.new ≡ with_closed (symrefs_in targets.now.entries) (so_far_value self.old)) (λ e. e ≡ Memory) }
     {
         match self.last.take() {
             None => Ok(()),
-            Some(line) => match make_single(symrefs, line) {
+            Some(line) => match make_single(targets, line) {
                 Ok(found) => self.push(found),
                 Err(_) => Err(Error::Memory),
             },
@@ -277,14 +260,14 @@ impl Advertised {
     }
 
     // A peeled line.
-    fn peel(&mut self, symrefs: &[Symref], left: &[u8], base: &[u8]) -> Result<(), Error>
-        ensures { Answers (λ _. so_far_value self.new) (with_pair (so_far_value self.old) (pair (symref_values symrefs.now) (so_far_value self.old).open_line left.now base.now)) result }
+    fn peel(&mut self, targets: &Targets, left: &[u8], base: &[u8]) -> Result<(), Error>
+        ensures { Answers (λ _. so_far_value self.new) (with_pair (so_far_value self.old) (pair (symrefs_in targets.now.entries) (so_far_value self.old).open_line left.now base.now)) result }
     {
         match self.last.take() {
             None => Err(Error::InvariantViolation {
                 message: Invariant::PeeledAlone,
             }),
-            Some(line) => match make_pair(symrefs, line, left, base) {
+            Some(line) => match make_pair(targets, line, left, base) {
                 Ok(found) => self.push(found),
                 Err(e) => Err(e),
             },

@@ -1,4 +1,5 @@
 -- One call more.
+use Rattle.gixp_negotiate.proofs.LookLemmas.{calls_some}
 use Rattle.std.proofs.Common.{◌∙◌, subst, sym, take, [], get_or, arith}
 use Rattle.std.proofs.lemmas.List.{take_more}
 use Rattle.gixp_graph.specs.Run.{IsRun}
@@ -14,3 +15,6 @@ loop-id-preserved g c = record {
   failures = omega (arith, c.known_common.ensures.failures, c.loop-id.invariant.failures);
   graph_failures = omega (arith, c.known_common.ensures.graph_failures, c.loop-id.invariant.graph_failures);
 }
+
+pub returns-in-Err-clause-stopped : goal.returns-in-Err-clause-stopped
+returns-in-Err-clause-stopped g c = calls_some g.N.Negotiator.knows c.args.ids.now c.loop-id.id-index (record { bytes = [] }) c.args.negotiator.now c.args.graph.now.graph c.loop-id.negotiator c.loop-id.graph.graph c.loop-id-test.true c.loop-id.invariant.run

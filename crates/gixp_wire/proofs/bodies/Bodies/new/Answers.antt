@@ -14,6 +14,7 @@ returns c =
       version = f.version;
       peeked = f.peeked;
       failures = f.failures;
+      left = f.left;
       sent = rw c.new-4.ensures.items refl;
       written = ap Some c.new-5.ensures.items;
       url = refl;

@@ -1,0 +1,34 @@
+#!/bin/sh
+# Builds the benchmark beside copies of the crates, in a temporary folder, proves it, and runs it over
+# answers and advertisements that it makes. The first argument says how often each is read; the
+# smallest time is what counts.
+set -eu
+here=$(cd "$(dirname "$0")" && pwd)
+top=$(cd "$here/../.." && pwd)
+runs=${1:-3}
+room=$(mktemp -d)
+trap 'rm -rf "$room"' EXIT
+mkdir -p "$room/crates/answers_bench/src" "$room/crates/answers_bench/specs" "$room/crates/answers_bench/proofs"
+cp "$top/HANDLES" "$room/"
+grep -E '^(gixp_wire|gixp_lines):' "$top/crates.txt" > "$room/crates.txt"
+echo 'answers_bench: gixp_lines gixp_wire anyhow' >> "$room/crates.txt"
+for crate in gixp_wire gixp_lines; do
+    cp -r "$top/crates/$crate" "$room/crates/"
+done
+cp "$here/main.rt.in" "$room/crates/answers_bench/src/main.rt"
+: > "$room/crates/answers_bench/specs/Lib.antt"
+: > "$room/crates/answers_bench/proofs/Lib.antt"
+cd "$room/crates/answers_bench"
+python3 "$here/make.py" answer 1000 > "$room/answer"
+rt run -- answer "$room/answer" > "$room/first" 2> "$room/log" || { cat "$room/log"; exit 1; }
+for count in 10000 100000 1000000; do
+    python3 "$here/make.py" answer "$count" > "$room/answer"
+    python3 "$here/make.py" refs "$count" > "$room/refs"
+    for what in answer refs; do
+        i=0
+        while [ "$i" -lt "$runs" ]; do
+            ./out/answers_bench "$what" "$room/$what"
+            i=$((i + 1))
+        done
+    done
+done

@@ -1,0 +1,99 @@
+//! Requests over bodies and writers that fail, and names.
+use bstr::BString;
+use gixp_requests::command::CommandTable;
+use gixp_requests::fetch::Arguments;
+use gixp_requests::{Command, agent};
+use gixp_wire::{Bodies, Body, Connection, ObjectId, Protocol};
+use std::alloc::{AllocError, Global};
+use std::io;
+use std::io::{ErrorKind, Write};
+use std::test::Fail;
+
+const A: &[u8] = b"0123456789012345678901234567890123456789";
+
+const B: &[u8] = b"bbbbbbbbbbbbbbbbbbbbbbbbbbbbbbbbbbbbbbbb";
+
+// What is sent for a want of B and a have of A, behind `done`.
+const REQUEST: &[u8] = b"0033want bbbbbbbbbbbbbbbbbbbbbbbbbbbbbbbbbbbbbbbb \n\
+    00000032have 0123456789012345678901234567890123456789\n0009done\n";
+
+#[test]
+fn names_itself(rt: HostRuntime) -> Result<(), Fail> {
+    let a = rt.alloc();
+    assert_eq!(rt; agent(a, "oxide")?.as_str(), "git/oxide");
+    assert_eq!(rt; agent(a, "git/oxide")?.as_str(), "git/oxide");
+    assert_eq!(rt; agent(a, "git")?.as_str(), "git/git");
+    assert_eq!(rt; Command::LsRefs.as_str(), "ls-refs");
+    assert_eq!(rt; Command::Fetch.as_str(), "fetch");
+    assert!(rt; Command::LsRefs < Command::Fetch);
+    Ok(())
+}
+
+// A want and a have of version 1.
+fn asked(alloc: Global) -> Result<Arguments, Fail> {
+    let features = Vec::new(alloc);
+    let mut asked = Arguments::new(alloc, &CommandTable::git(), Protocol::V1, features)?;
+    asked.want(&ObjectId::from_hex(B)?)?;
+    asked.have(&ObjectId::from_hex(A)?)?;
+    Ok(asked)
+}
+
+#[test]
+fn keeps_all_where_the_answer_fails(rt: HostRuntime) -> Result<(), Fail> {
+    let a = rt.alloc();
+    let mut bodies = Vec::new(a);
+    bodies.push(Body::Fail(ErrorKind::TimedOut))?;
+    let mut transport = Bodies::new(a, bodies, BString::from(Vec::new(a)), Vec::new(a))?;
+    let mut asked = asked(a)?;
+    let Err(e) = asked.send(&mut transport, true) else {
+        return Err("no failure".into());
+    };
+    assert_eq!(rt; format!(in a; "{e:?}")?.as_str(), "Io(TimedOut)");
+    assert_eq!(rt; transport.sent().len(), 1);
+    assert!(rt; asked.has_haves());
+    asked.send(&mut transport, true)?;
+    let sent = transport.sent().last().ok_or("a request")?;
+    assert_eq!(rt; sent.as_slice(), REQUEST);
+    Ok(())
+}
+
+// A connection over which nothing is read.
+fn connection<W: Write + Drop>(
+    alloc: Global,
+    version: Protocol,
+    writer: W,
+) -> Result<Connection<&'static [u8], W>, AllocError> {
+    let url = BString::from(Vec::new(alloc));
+    Connection::new(alloc, b"", writer, url, version, Vec::new(alloc), None)
+}
+
+// A writer whose other end is closed.
+#[derive(Drop)]
+struct Closed;
+
+impl Write for Closed {
+    fn write(&mut self, _buf: &[u8]) -> io::Result<usize> {
+        Err(io::Error::from(ErrorKind::BrokenPipe))
+    }
+
+    fn flush(&mut self) -> io::Result<()> {
+        Ok(())
+    }
+}
+
+#[test]
+fn keeps_all_where_a_write_fails(rt: HostRuntime) -> Result<(), Fail> {
+    let a = rt.alloc();
+    let mut broken = connection(a, Protocol::V1, Closed)?;
+    let mut asked = asked(a)?;
+    for _ in 0..2 {
+        let Err(e) = asked.send(&mut broken, true) else {
+            return Err("no failure".into());
+        };
+        assert_eq!(rt; format!(in a; "{e:?}")?.as_str(), "Io(BrokenPipe)");
+    }
+    let mut over = connection(a, Protocol::V1, Vec::new(a))?;
+    asked.send(&mut over, true)?;
+    assert_eq!(rt; over.writer().as_slice(), REQUEST);
+    Ok(())
+}

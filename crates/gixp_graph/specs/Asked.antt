@@ -1,0 +1,21 @@
+-- Which ids a call asks the objects for: the list of what they were asked for, before and after it.
+use Rattle.std.specs.Prelude.{◌≡◌, ◌⊎◌, List, [], ◌∷◌, ◌++◌, All}
+use Rattle.std.specs.List.{IsDistinct}
+use Rattle.std.specs.Ordering.{eq_by_cmp}
+use Rattle.gixp_wire.specs.declared.object_id.ObjectId.{ObjectId}
+use Rattle.gixp_wire.specs.ObjectId.{id_cmp}
+
+-- at most this id, once
+abbrev pub AsksOnce : ObjectId → List ObjectId → List ObjectId → Type 0
+AsksOnce id old new = (new ≡ old) ⊎ (new ≡ old ++ id ∷ [])
+
+-- at most this id, once, and only where something holds
+abbrev pub AsksWhere : Type 0 → ObjectId → List ObjectId → List ObjectId → Type 0
+AsksWhere Holds id old new = (new ≡ old) ⊎ (Holds × (new ≡ old ++ id ∷ []))
+
+-- some ids, none of them twice, each of which has a property
+pub record AsksEach (Has : ObjectId → Type 0) (old new : List ObjectId) : Type 0 where
+  pub ids : List ObjectId
+  pub appended : new ≡ old ++ ids
+  pub distinct : IsDistinct (eq_by_cmp id_cmp) ids
+  pub each : All Has ids

@@ -1,0 +1,75 @@
+//! The end of a conversation with a server.
+ghost use Rattle.std.specs.Prelude.{◌≡◌, true, false};
+ghost use Rattle.gixp_handshake.specs.Ending.{EndsInteraction, EndsOnce};
+
+use gixp_wire::{Message, Transport, client};
+
+/// Tells a server over a connection that no request comes any more, by a flush packet (gitprotocol-v2, "Command
+/// Request"; gitprotocol-pack, "Packfile Negotiation"). Over a transport that doesn't persist nothing is sent.
+///
+/// # Errors
+///
+/// `Io` where the write failed, or an earlier one did: the connection stays broken.
+pub fn indicate_end_of_interaction<T: Transport>(transport: &mut T) -> Result<(), client::Error>
+    ensures { EndsInteraction (T.reading transport.old) (T.reading transport.new) result }
+{
+    if !transport.connection_persists_across_multiple_requests() {
+        return Ok(());
+    }
+    transport.request(&[Message::Flush])
+}
+
+// The same, unless it was told already.
+fn end_once<T: Transport>(transport: &mut T, is_sent: bool) -> Result<(), client::Error>
+    ensures { EndsOnce is_sent (T.reading transport.old) (T.reading transport.new) result }
+{
+    if is_sent {
+        return Ok(());
+    }
+    indicate_end_of_interaction(transport)
+}
+
+/// A transport that tells the server when it is dropped that no request comes any more, unless that was told before: at
+/// most one flush packet is sent, and none over a transport that doesn't persist.
+pub struct SendFlushOnDrop<T: Transport + Drop> {
+    /// The transport.
+    pub inner: T,
+    is_sent: bool,
+}
+
+impl<T: Transport + Drop> SendFlushOnDrop<T> {
+    ghost use Rattle.std.specs.Prelude.{◌≡◌, true, false};
+    ghost use Rattle.gixp_handshake.specs.Ending.{EndsOnce, was_sent};
+
+    /// A guard of this transport, which has told nothing yet.
+    pub fn new(inner: T) -> SendFlushOnDrop<T>
+        ensures inner { result.inner ≡ inner }
+        ensures unsent { was_sent result ≡ false }
+    {
+        SendFlushOnDrop {
+            inner,
+            is_sent: false,
+        }
+    }
+
+    /// Tells the server now that no request comes any more, unless that was told before, and never again.
+    ///
+    /// # Errors
+    ///
+    /// As [`indicate_end_of_interaction`]; the flush packet counts as sent then too.
+    pub fn indicate_end_of_interaction(&mut self) -> Result<(), client::Error>
+        ensures ends { EndsOnce (was_sent self.old) (T.reading self.old.inner) (T.reading self.new.inner) result }
+        ensures sent { was_sent self.new ≡ true }
+    {
+        let is_sent = self.is_sent;
+        self.is_sent = true;
+        end_once(&mut self.inner, is_sent)
+    }
+}
+
+impl<T: Transport + Drop> Drop for SendFlushOnDrop<T> {
+    fn drop(self) {
+        let SendFlushOnDrop { mut inner, is_sent } = self;
+        let _ = end_once(&mut inner, is_sent);
+    }
+}

@@ -1,0 +1,22 @@
+-- The marks that a negotiation leaves.
+use Rattle.std.specs.Prelude.{◌≡◌, ◌⊎◌, ◌↔◌, List, IsTrue}
+use Rattle.gixp_wire.specs.declared.object_id.ObjectId.{ObjectId}
+use Rattle.gixp_graph.specs.Object.{commit_at}
+use Rattle.gixp_graph.specs.Held.{GraphData, is_marked, HasNoMarks}
+use Rattle.gixp_graph.specs.Complete.{IsComplete}
+use Rattle.gixp_graph.specs.Run.{Call}
+use Rattle.gixp_negotiate.specs.Marking.{cutoff_of, Marks}
+
+-- a call that leaves the mark COMPLETE of each commit alone
+abbrev pub LeavesMarks : {N : Type 0} → Call N → Type 0
+LeavesMarks {N} call = (n : N) (g : GraphData) (id : ObjectId) (m : N) (h : GraphData) → call n g id m h → (q : ObjectId) → is_marked h.held q ≡ is_marked g.held q
+
+-- just the complete commits are marked, beside those that were
+abbrev pub MarksComplete : GraphData → List ObjectId → List ObjectId → GraphData → Type 0
+MarksComplete g ids tips h = (id : ObjectId) → IsTrue (is_marked h.held id) ↔ (IsTrue (is_marked g.held id) ⊎ IsComplete (commit_at g.objects) tips (cutoff_of g.objects ids) id)
+
+-- from a graph without marks on, the marks behind a negotiator that leaves them alone are the complete commits
+abbrev pub CompleteMarksAreExact : {N : Type 0} → Call N → Call N → Type 0
+CompleteMarksAreExact {N} knows adds =
+    (n : N) (g : GraphData) (ids tips : List ObjectId) (m : N) (h : GraphData) → LeavesMarks knows → LeavesMarks adds → HasNoMarks g.held → Marks knows adds n g ids tips m h
+    → (id : ObjectId) → IsTrue (is_marked h.held id) ↔ IsComplete (commit_at g.objects) tips (cutoff_of g.objects ids) id

@@ -1,0 +1,10 @@
+-- The first place that passes, or the end.
+use Rattle.std.proofs.Common.{◌∙◌, ap}
+use Rattle.std.specs.Prelude.{unwrap_or, length}
+use Rattle.gixp_progress.specs.Line.{is_colon}
+use Rattle.gixp_progress.proofs.PlaceLemmas.{unwrap_or-position}
+use Rattle.gixp_progress.proofs.remote_progress.colon_at.Goals as goal
+
+pub returns-clause-place : goal.returns-clause-place
+returns-clause-place c =
+    c.unwrap_or.ensures ∙ ap (λ o. unwrap_or o (length c.args.line.now)) c.colon_in.ensures ∙ unwrap_or-position is_colon c.args.line.now

@@ -1,0 +1,36 @@
+-- A line of progress (gitprotocol-pack, "Packfile Data", band 2).
+use Rattle.std.specs.Prelude.{ℕ, ◌==◌, Bool, not, ◌&&◌, ◌||◌, if◌then◌else◌, List, [], ◌∷◌, Option, Some, None, is_some}
+use Rattle.std.specs.List.{before_first, after_first}
+use Rattle.bstr.specs.BStr.{bstr_bytes}
+use Rattle.gixp_progress.specs.declared.numbers.Numbers.{Numbers}
+use Rattle.gixp_progress.specs.declared.remote_progress.RemoteProgress.{RemoteProgress}
+use Rattle.gixp_progress.specs.Numbers.{dealt}
+
+-- what is done, and how far it has come
+pub record LineValue : Type 0 where
+  pub action : List ℕ
+  pub percent : Option ℕ
+  pub step : Option ℕ
+  pub max : Option ℕ
+
+abbrev pub line_value : RemoteProgress → LineValue
+line_value p = record { action = bstr_bytes p.action; percent = p.percent; step = p.step; max = p.max }
+
+abbrev pub is_colon : ℕ → Bool
+is_colon b = b == 58
+
+-- there is a number
+abbrev pub has_numbers : Numbers → Bool
+has_numbers n = is_some n.percent || is_some n.step || is_some n.max
+
+abbrev pub with_numbers : List ℕ → Numbers → Option LineValue
+with_numbers action n = if has_numbers n then Some (record { action = action; percent = n.percent; step = n.step; max = n.max }) else None
+
+-- an action is there
+abbrev pub for_action : List ℕ → List ℕ → Option LineValue
+for_action [] rest = None
+for_action (b ∷ action) rest = with_numbers (b ∷ action) (dealt rest)
+
+-- a progress line: what stands before the first colon is the action, and behind it are the numbers
+abbrev pub progress_line : List ℕ → Option LineValue
+progress_line line = for_action (before_first is_colon line) (after_first is_colon line)

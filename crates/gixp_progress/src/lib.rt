@@ -1,0 +1,10 @@
+//! Progress that a server reports on band 2 of its answer (gitprotocol-pack, "Packfile Data"), and what it makes a
+//! progress reporter show.
+#![tactic(auto)]
+
+pub mod fetch;
+mod numbers;
+mod remote_progress;
+mod translate;
+
+pub use remote_progress::RemoteProgress;

@@ -1,0 +1,131 @@
+//! What a text of a server makes a progress reporter show.
+ghost use Rattle.std.specs.Prelude.{◌≡◌, [], ◌∷◌, ◌++◌, IfOk, OnOk, OnErr, codes, string_bytes};
+ghost use Rattle.std.specs.List.{before_first};
+ghost use Rattle.std.specs.Str.Lossy.{utf8_lossy};
+ghost use Rattle.bstr.specs.BStr.{bstr_bytes};
+ghost use Rattle.gixp_wire.specs.Progress.{Told, init, set_name};
+ghost use Rattle.gixp_progress.specs.Line.{is_colon};
+ghost use Rattle.gixp_progress.specs.Translation.{name_for, error_calls, set_calls, calls_for};
+
+use crate::remote_progress::RemoteProgress;
+use gixp_wire::Progress;
+use std::alloc::{AllocError, Global};
+
+// A name up to its first colon.
+fn front(shown: &str) -> &str
+    ensures { result.now ≡ before_first is_colon shown.now }
+{
+    match shown.split_once(':') {
+        Some((front, _)) => front,
+        None => shown,
+    }
+}
+
+// The name behind a text, where one is shown.
+fn joined_name(alloc: Global, shown: &str, text: &[u8]) -> Result<String, AllocError>
+    ensures { IfOk result (λ name. string_bytes name ≡ before_first is_colon shown.now ++ codes ": " ++ utf8_lossy text.now) }
+{
+    let mut name = String::from_str(alloc, front(shown))?;
+    let lossy = String::from_utf8_lossy(alloc, text)?;
+    name.push_str(": ")?;
+    name.push_str(lossy.as_str())?;
+    Ok(name)
+}
+
+// The name behind a text.
+fn name_for<P: Progress>(alloc: Global, progress: &P, text: &[u8]) -> Result<String, AllocError>
+    ensures { IfOk result (λ name. string_bytes name ≡ name_for (P.name_of progress.now) text.now) }
+{
+    match progress.name() {
+        None => String::from_utf8_lossy(alloc, text),
+        Some(shown) => joined_name(alloc, shown, text),
+    }
+}
+
+// An error of the server, if it says one.
+fn report_error<P: Progress>(alloc: Global, text: &[u8], progress: &mut P) -> Result<(), AllocError>
+    ensures ok { OnOk result (Told P.told progress.old (error_calls text.now) progress.new) }
+    ensures err { OnErr result (progress.new ≡ progress.old) }
+{
+    if text.is_empty() {
+        return Ok(());
+    }
+    match String::from_utf8_lossy(alloc, text) {
+        Ok(message) => {
+            progress.fail(message);
+            Ok(())
+        }
+        Err(e) => Err(e),
+    }
+}
+
+// How many steps are done, if that is known.
+fn set_step<P: Progress>(progress: &mut P, step: Option<usize>)
+    ensures { Told P.told progress.old (set_calls step) progress.new }
+{
+    if let Some(step) = step {
+        progress.set(step);
+    }
+}
+
+// A line of progress.
+fn show_line<P: Progress>(
+    alloc: Global,
+    line: RemoteProgress<'_>,
+    progress: &mut P,
+) -> Result<(), AllocError>
+    ensures ok { OnOk result (Told P.told progress.old
+        (set_name (name_for (P.name_of progress.old) (bstr_bytes line.entry.action)) ∷ init line.entry.max (codes "objects") ∷ set_calls line.entry.step) progress.new) }
+    ensures err { OnErr result (progress.new ≡ progress.old) }
+{
+    match name_for(alloc, progress, line.action.as_bytes()) {
+        Ok(name) => {
+            progress.set_name(name);
+            progress.init(line.max, "objects");
+            set_step(progress, line.step);
+            Ok(())
+        }
+        Err(e) => Err(e),
+    }
+}
+
+// Any other text.
+fn show_text<P: Progress>(alloc: Global, text: &[u8], progress: &mut P) -> Result<(), AllocError>
+    ensures ok { OnOk result (Told P.told progress.old (set_name (name_for (P.name_of progress.old) text.now) ∷ []) progress.new) }
+    ensures err { OnErr result (progress.new ≡ progress.old) }
+{
+    match name_for(alloc, progress, text) {
+        Ok(name) => {
+            progress.set_name(name);
+            Ok(())
+        }
+        Err(e) => Err(e),
+    }
+}
+
+impl RemoteProgress<'_> {
+    /// Shows a text of a server: an error as a failure, unless it is empty; a progress line as a name, a maximum of
+    /// objects and a step; any other text as a name. A name is the one that is shown so far, up to its first colon, `: `
+    /// and what is new, with U+FFFD for what isn't UTF-8.
+    ///
+    /// # Errors
+    ///
+    /// An allocation failure alone. Nothing was reported then.
+    pub fn translate_to_progress<P: Progress>(
+        alloc: Global,
+        is_error: bool,
+        text: &[u8],
+        progress: &mut P,
+    ) -> Result<(), AllocError>
+        ensures ok { OnOk result (Told P.told progress.old (calls_for is_error text.now (P.name_of progress.old)) progress.new) }
+        ensures err { OnErr result (progress.new ≡ progress.old) }
+    {
+        if is_error {
+            return report_error(alloc, text, progress);
+        }
+        match RemoteProgress::from_bytes(text) {
+            Some(line) => show_line(alloc, line, progress),
+            None => show_text(alloc, text, progress),
+        }
+    }
+}

@@ -1,0 +1,135 @@
+//! An answer to a fetch.
+//!
+//! S0 is the version. Of S1 the first bit says that a pack is expected, the second that the client wants to negotiate,
+//! the third that the answer comes in bands. S2 is 0 for a line reader, 1 for a connection, 2 for a body in memory,
+//! S3 how many lines are taken behind a banded answer. What stands in the reader follows.
+use crate::device::Device;
+use crate::handshakes::{connection, one_body};
+use crate::lines::{report_rest, take_line};
+use crate::packs::Notes;
+use crate::report::Report;
+use crate::rows::Row;
+use crate::values;
+use gixp_lines::fetch::Response;
+use gixp_sidebands::{NeverInterrupt, WithSidebands};
+use gixp_wire::{ExtendedBufRead, LineReader, Protocol, Transport};
+use std::alloc::{AllocError, Global};
+
+/// How an answer is read.
+#[derive(Clone, Copy)]
+pub struct Reading {
+    pub version: Protocol,
+    pub expects_pack: bool,
+    pub wants_to_negotiate: bool,
+    pub is_banded: bool,
+}
+
+impl Reading {
+    fn of_row(row: &Row<'_>) -> Reading {
+        let [version, flags, ..] = row.settings;
+        Reading {
+            version: values::version_of(version),
+            expects_pack: flags % 2 == 1,
+            wants_to_negotiate: flags / 2 % 2 == 1,
+            is_banded: flags / 4 % 2 == 1,
+        }
+    }
+}
+
+/// An answer by these settings, whether or not they say bands. What was read, if there was no error.
+pub fn read_response<R: ExtendedBufRead>(
+    alloc: Global,
+    reader: &mut R,
+    reading: Reading,
+    report: &mut Report,
+) -> Result<Option<Response>, AllocError> {
+    let Reading {
+        version,
+        expects_pack,
+        wants_to_negotiate,
+        is_banded: _,
+    } = reading;
+    match Response::from_line_reader(alloc, version, reader, expects_pack, wants_to_negotiate) {
+        Ok(found) => {
+            values::answer(report, &found)?;
+            Ok(Some(found))
+        }
+        Err(e) => {
+            values::response_error(report, &e)?;
+            report.word(" ")?;
+            Ok(None)
+        }
+    }
+}
+
+// Through bands, and then so many lines.
+fn report_banded<R: ExtendedBufRead>(
+    alloc: Global,
+    reader: &mut R,
+    reading: Reading,
+    lines: u64,
+    report: &mut Report,
+) -> Result<(), AllocError> {
+    let mut told = Report::new(alloc);
+    {
+        let mut never = NeverInterrupt;
+        let notes = Notes::new(&mut told, u64::MAX);
+        let mut banded = WithSidebands::new(reader, notes, &mut never);
+        let _ = read_response(alloc, &mut banded, reading, report)?;
+        values::stop(report, banded.stopped_at())?;
+        for _ in 0..lines {
+            let _ = take_line(&mut banded, report)?;
+        }
+    }
+    report.word("told ")?;
+    report.quote(told.bytes())?;
+    report.word(" ")
+}
+
+fn report_over<R: ExtendedBufRead>(
+    alloc: Global,
+    row: &Row<'_>,
+    reader: &mut R,
+    report: &mut Report,
+) -> Result<(), AllocError> {
+    let reading = Reading::of_row(row);
+    if reading.is_banded {
+        report_banded(alloc, reader, reading, row.settings[3], report)?;
+    } else {
+        let _ = read_response(alloc, reader, reading, report)?;
+    }
+    report_rest(reader, reading.version, report)
+}
+
+// An empty request, and its answer.
+fn request_and_report<T: Transport>(
+    alloc: Global,
+    row: &Row<'_>,
+    transport: &mut T,
+    report: &mut Report,
+) -> Result<(), AllocError> {
+    if transport.request(&[]).is_err() {
+        report.word("!request ")?;
+    }
+    report_over(alloc, row, transport, report)
+}
+
+/// An answer over a line reader, a connection or memory.
+pub fn report_answer(alloc: Global, row: &Row<'_>, report: &mut Report) -> Result<(), AllocError> {
+    match row.settings[2] {
+        0 => {
+            let mut device = Device::of_row(row);
+            let mut reader = LineReader::new(alloc, &mut device)?;
+            report_over(alloc, row, &mut reader, report)
+        }
+        1 => {
+            let device = Device::new(row.payload, row.cut, 0);
+            let mut transport = connection(alloc, device, row.cut, 2, None)?;
+            request_and_report(alloc, row, &mut transport, report)
+        }
+        _ => {
+            let mut transport = one_body(alloc, row.payload)?;
+            request_and_report(alloc, row, &mut transport, report)
+        }
+    }
+}

@@ -1,0 +1,143 @@
+//! A list of capabilities, look-ups in it, and what may be asked for by it.
+//!
+//! S0 is 0 for capabilities behind the NUL of a line, 1 for one in each line. S1 is the length of the names in front
+//! of the bytes, which commas part: each is looked up, and each is an argument that is validated. Lines are parted by
+//! a byte 1. S2 is a mask of features, S3 one of those with a value (`offers` has their names).
+use crate::offers::report_offers;
+use crate::report::Report;
+use crate::rows::{Row, cut_at};
+use crate::values;
+use bstr::BString;
+use gixp_lines::handshake::refs::from_capabilities;
+use gixp_wire::{Capabilities, Capability};
+use std::alloc::{AllocError, Global};
+
+// What a capability has of its own: value, words, and which of the names are among these.
+fn report_capability(
+    alloc: Global,
+    found: &Capability<'_>,
+    names: &[BString],
+    report: &mut Report,
+) -> Result<(), AllocError> {
+    match found.value() {
+        None => report.word("none")?,
+        Some(value) => report.quote(value.as_bytes())?,
+    }
+    match found.values(alloc)? {
+        None => report.word("-")?,
+        Some(values) => {
+            for value in &values {
+                report.quote(value.as_bytes())?;
+            }
+        }
+    }
+    for word in names {
+        report.word(match found.supports(word.as_bytes()) {
+            None => "-",
+            Some(true) => "1",
+            Some(false) => "0",
+        })?;
+    }
+    Ok(())
+}
+
+fn report_look_ups(
+    alloc: Global,
+    found: &Capabilities,
+    names: &[BString],
+    report: &mut Report,
+) -> Result<(), AllocError> {
+    for name in names {
+        report.word(if found.contains(name.as_bytes()) {
+            "y"
+        } else {
+            "n"
+        })?;
+        match found.capability(name.as_bytes()) {
+            None => report.word("-")?,
+            Some(capability) => report_capability(alloc, &capability, names, report)?,
+        }
+        report.word(" ")?;
+    }
+    Ok(())
+}
+
+// The symbolic refs that they name.
+fn report_symrefs(
+    alloc: Global,
+    found: &Capabilities,
+    report: &mut Report,
+) -> Result<(), AllocError> {
+    let symrefs = match from_capabilities(alloc, found) {
+        Ok(symrefs) => symrefs,
+        Err(e) => {
+            values::parse_error(report, &e)?;
+            return report.word(" ");
+        }
+    };
+    for (name, target) in &symrefs {
+        report.quote(name.as_bytes())?;
+        report.word(":")?;
+        match target {
+            Some(target) => report.quote(target.as_bytes())?,
+            None => report.word("-")?,
+        }
+        report.word(" ")?;
+    }
+    Ok(())
+}
+
+// The texts that such bytes part.
+fn texts(alloc: Global, bytes: &[u8], separator: u8) -> Result<Vec<BString>, AllocError> {
+    let mut list = Vec::new(alloc);
+    for text in bytes.split(|b| *b == separator) {
+        list.push(BString::from_slice(alloc, text)?)?;
+    }
+    Ok(list)
+}
+
+// The capabilities in some bytes, if there was no error.
+fn read_list(
+    alloc: Global,
+    has_lines: bool,
+    bytes: &[u8],
+    report: &mut Report,
+) -> Result<Option<Capabilities>, AllocError> {
+    let read = if has_lines {
+        let lines = texts(alloc, bytes, 1)?;
+        Capabilities::from_lines(alloc, &lines).map(|found| (found, None))
+    } else {
+        Capabilities::from_bytes(alloc, bytes).map(|(found, place)| (found, Some(place)))
+    };
+    match read {
+        Ok((found, place)) => {
+            if let Some(place) = place {
+                report.number(place as u64)?;
+                report.word(" ")?;
+            }
+            Ok(Some(found))
+        }
+        Err(e) => {
+            values::client_error(report, &e)?;
+            Ok(None)
+        }
+    }
+}
+
+/// The list, each look-up, and the offers.
+pub fn report_capabilities(
+    alloc: Global,
+    row: &Row<'_>,
+    report: &mut Report,
+) -> Result<(), AllocError> {
+    let [form, length, ..] = row.settings;
+    let (names, bytes) = cut_at(row.payload, length);
+    let names = texts(alloc, names, b',')?;
+    let Some(found) = read_list(alloc, form != 0, bytes, report)? else {
+        return Ok(());
+    };
+    values::capability_list(alloc, report, &found)?;
+    report_look_ups(alloc, &found, &names, report)?;
+    report_symrefs(alloc, &found, report)?;
+    report_offers(alloc, row, &found, &names, report)
+}

@@ -1,0 +1,146 @@
+//! A handshake, and the refs of versions 0 and 1 behind it.
+//!
+//! S0 is 0 for bodies in memory, 1 for a connection; S1 the version that the client asks for. What stands in the
+//! transport follows, and over a connection the bytes that were written.
+use crate::device::{Device, Paper};
+use crate::lines::report_rest;
+use crate::refs::report_list;
+use crate::report::Report;
+use crate::rows::Row;
+use crate::values::{capability_list, client_error, parse_error, update, version_of};
+use bstr::BString;
+use gixp_lines::handshake::refs::from_v1_refs_received_as_part_of_handshake_and_capabilities;
+use gixp_wire::{
+    Bodies, Body, Capabilities, Connection, Opening, Protocol, Service, SetServiceResponse,
+    Transport,
+};
+use std::alloc::{AllocError, Global};
+
+/// The version, whether refs come, and the capabilities.
+pub fn report_response(
+    alloc: Global,
+    found: &SetServiceResponse,
+    report: &mut Report,
+) -> Result<(), AllocError> {
+    report.word(match found.actual_protocol {
+        Protocol::V0 => "V0 ",
+        Protocol::V1 => "V1 ",
+        Protocol::V2 => "V2 ",
+    })?;
+    report.word(if found.has_refs { "refs " } else { "norefs " })?;
+    capability_list(alloc, report, &found.capabilities)?;
+    report.word("; ")
+}
+
+/// The refs and shallow updates of versions 0 and 1. Whether there was no error.
+pub fn report_early_refs<T: Transport>(
+    alloc: Global,
+    transport: &mut T,
+    capabilities: &Capabilities,
+    report: &mut Report,
+) -> Result<bool, AllocError> {
+    match from_v1_refs_received_as_part_of_handshake_and_capabilities(
+        alloc,
+        transport,
+        capabilities,
+    ) {
+        Ok((refs, updates)) => {
+            report_list(report, &refs)?;
+            report.word("updates ")?;
+            for found in &updates {
+                update(report, *found)?;
+            }
+            Ok(true)
+        }
+        Err(e) => {
+            parse_error(report, &e)?;
+            report.word(" ")?;
+            Ok(false)
+        }
+    }
+}
+
+/// A handshake. What it found, if there was no error.
+pub fn shake_hands<T: Transport>(
+    alloc: Global,
+    transport: &mut T,
+    report: &mut Report,
+) -> Result<Option<SetServiceResponse>, AllocError> {
+    match transport.handshake(alloc, Service::UploadPack, &[]) {
+        Ok(found) => {
+            report_response(alloc, &found, report)?;
+            Ok(Some(found))
+        }
+        Err(e) => {
+            client_error(report, &e)?;
+            report.word(" ")?;
+            Ok(None)
+        }
+    }
+}
+
+fn report_over<T: Transport>(
+    alloc: Global,
+    transport: &mut T,
+    report: &mut Report,
+) -> Result<(), AllocError> {
+    let Some(found) = shake_hands(alloc, transport, report)? else {
+        return Ok(());
+    };
+    if found.has_refs {
+        let _ = report_early_refs(alloc, transport, &found.capabilities, report)?;
+    }
+    report_rest(transport, found.actual_protocol, report)
+}
+
+/// A transport over memory that has these answers.
+pub fn bodies(alloc: Global, answers: Vec<Body>) -> Result<Bodies, AllocError> {
+    let url = BString::new(Vec::new(alloc));
+    Bodies::new(alloc, answers, url, Vec::new(alloc))
+}
+
+/// A transport over memory with one answer.
+pub fn one_body(alloc: Global, answer: &[u8]) -> Result<Bodies, AllocError> {
+    let mut answers = Vec::new(alloc);
+    answers.push(Body::Bytes(answer.to_vec(alloc)?))?;
+    bodies(alloc, answers)
+}
+
+/// A connection that reads from this device, and whose writer takes bytes that are cut so.
+pub fn connection<'a>(
+    alloc: Global,
+    device: Device<'a>,
+    cut: u64,
+    version: u64,
+    opening: Option<Opening>,
+) -> Result<Connection<Device<'a>, Paper>, AllocError> {
+    let url = BString::new(Vec::new(alloc));
+    let paper = Paper::new(alloc, cut);
+    let accepted = Vec::new(alloc);
+    Connection::new(
+        alloc,
+        device,
+        paper,
+        url,
+        version_of(version),
+        accepted,
+        opening,
+    )
+}
+
+/// A handshake, the refs, and what stands behind them.
+pub fn report_handshake(
+    alloc: Global,
+    row: &Row<'_>,
+    report: &mut Report,
+) -> Result<(), AllocError> {
+    let [over, version, ..] = row.settings;
+    if over == 0 {
+        let mut transport = one_body(alloc, row.payload)?;
+        return report_over(alloc, &mut transport, report);
+    }
+    let device = Device::of_row(row);
+    let mut transport = connection(alloc, device, row.cut, version, None)?;
+    report_over(alloc, &mut transport, report)?;
+    report.quote(&transport.writer().bytes)
+}

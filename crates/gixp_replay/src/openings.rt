@@ -1,0 +1,70 @@
+//! What a client says first over a connection.
+//!
+//! S0 is the version that it asks for, S1 0 for `git-upload-pack` and 1 for `git-receive-pack`, S2 1 where it names a
+//! host, S3 how many letters stand behind the path. The payload has the path, a NUL, the host, a NUL, and parameters,
+//! each with a NUL behind it. The server's answer is a flush packet.
+use crate::device::Device;
+use crate::handshakes::{connection, report_response};
+use crate::report::Report;
+use crate::rows::{Row, cut_at_byte};
+use crate::values::client_error;
+use bstr::BString;
+use gixp_wire::{Opening, Service, Transport};
+use std::alloc::{AllocError, Global};
+
+// The text of these bytes, or a question mark.
+fn text_of(alloc: Global, bytes: &[u8]) -> Result<String, AllocError> {
+    String::from_str(alloc, str::from_utf8(bytes).unwrap_or("?"))
+}
+
+// Names, each with its value behind an equals sign if it has one.
+fn parameters_of(alloc: Global, text: &[u8]) -> Result<Vec<(String, Option<String>)>, AllocError> {
+    let mut parameters = Vec::new(alloc);
+    for word in text.split(|b| *b == 0) {
+        if word.is_empty() {
+            continue;
+        }
+        let (key, value) = cut_at_byte(word, b'=');
+        let value = if word.contains(&b'=') {
+            Some(text_of(alloc, value)?)
+        } else {
+            None
+        };
+        parameters.push((text_of(alloc, key)?, value))?;
+    }
+    Ok(parameters)
+}
+
+/// What the handshake gives, and the bytes that were written.
+pub fn report_opening(alloc: Global, row: &Row<'_>, report: &mut Report) -> Result<(), AllocError> {
+    let [version, service, has_host, length, _] = row.settings;
+    let (path, rest) = cut_at_byte(row.payload, 0);
+    let (host, rest) = cut_at_byte(rest, 0);
+    let parameters = parameters_of(alloc, rest)?;
+    let host = if has_host == 0 {
+        None
+    } else {
+        Some(BString::from_slice(alloc, host)?)
+    };
+    let mut path = path.to_vec(alloc)?;
+    for _ in 0..length {
+        path.push(b'x')?;
+    }
+    let opening = Opening {
+        path: BString::new(path),
+        host,
+    };
+    let service = if service == 0 {
+        Service::UploadPack
+    } else {
+        Service::ReceivePack
+    };
+    let device = Device::new(b"0000", row.cut, 0);
+    let mut transport = connection(alloc, device, row.cut, version, Some(opening))?;
+    match transport.handshake(alloc, service, &parameters) {
+        Ok(found) => report_response(alloc, &found, report)?,
+        Err(e) => client_error(report, &e)?,
+    }
+    report.word(" ")?;
+    report.quote(&transport.writer().bytes)
+}

@@ -1,0 +1,354 @@
+//! A pack through its bands.
+//!
+//! S0 is the version, S1 how many bytes are read at most, S2 a number from which sizes and kinds of reads follow, 0 for
+//! large reads alone, S3 which question for an interrupt is answered with true, S4 which text finds no memory, both
+//! from 0 on. The report has how the reading ended, the bytes, the texts, and how many reads were interrupted and
+//! found no memory; where no read fails, what stands in the line reader follows.
+use crate::device::{Device, next_random};
+use crate::lines::{is_failure, report_failures, report_rest};
+use crate::report::Report;
+use crate::rows::Row;
+use crate::values;
+use gixp_sidebands::{BandText, Interrupt, WithSidebands};
+use gixp_wire::{ExtendedBufRead, LineReader, read};
+use std::alloc::{AllocError, Global};
+use std::io;
+use std::io::{BufRead, Read};
+
+/// A listener that writes texts down. The text of number `fails` finds no memory, once.
+#[derive(Drop)]
+pub struct Notes<'a> {
+    told: &'a mut Report,
+    fails: u64,
+}
+
+impl<'a> Notes<'a> {
+    /// A listener that adds to this report.
+    pub fn new(told: &'a mut Report, fails: u64) -> Notes<'a> {
+        Notes { told, fails }
+    }
+}
+
+impl BandText for Notes<'_> {
+    ghost hears = { λ old is_error text new. Unit {0} };
+
+    fn band_text(&mut self, is_error: bool, text: &[u8]) -> Result<(), AllocError> {
+        if self.fails == 0 {
+            self.fails = u64::MAX;
+            return Err(AllocError);
+        }
+        self.fails -= 1;
+        self.told.word(if is_error { "[3:" } else { "[2:" })?;
+        self.told.quote(text)?;
+        self.told.word("]")
+    }
+}
+
+/// An interrupt that says true to the question of one number.
+#[derive(Drop)]
+pub struct Once {
+    questions: u64,
+}
+
+impl Once {
+    /// True to the question of this number, from 0 on.
+    pub fn new(question: u64) -> Once {
+        Once {
+            questions: question,
+        }
+    }
+}
+
+impl Interrupt for Once {
+    ghost says = { λ old answer new. Unit {0} };
+
+    fn is_interrupted(&mut self) -> bool {
+        if self.questions == 0 {
+            self.questions = u64::MAX;
+            return true;
+        }
+        self.questions -= 1;
+        false
+    }
+}
+
+// How many bytes a read asks for.
+fn size_of_read(random: u64) -> usize {
+    match random % 12 {
+        0 => 0,
+        1 => 1,
+        2 => 2,
+        3 => 3,
+        4 => 5,
+        5 => 16,
+        6 => 100,
+        7 => 1000,
+        8 => 8192,
+        9 => 65515,
+        10 => 65516,
+        _ => 66000,
+    }
+}
+
+// What a read did.
+enum Step {
+    Took,
+    Ended,
+    Refused,
+}
+
+// One read of at most so many bytes.
+fn read_some<R: Read>(
+    reader: &mut R,
+    size: usize,
+    room: &mut Vec<u8>,
+    content: &mut Vec<u8>,
+) -> Result<Step, AllocError> {
+    let size = size.min(room.len());
+    match reader.read(&mut room[..size]) {
+        Ok(0) => {
+            if size == 0 {
+                return Ok(Step::Took);
+            }
+            Ok(Step::Ended)
+        }
+        Ok(count) => {
+            let count = count.min(room.len());
+            content.extend_from_slice(&room[..count])?;
+            Ok(Step::Took)
+        }
+        Err(_) => Ok(Step::Refused),
+    }
+}
+
+// What `fill_buf` lends.
+enum Lent {
+    // So many of its bytes were copied.
+    Bytes(usize),
+    Ended,
+    Refused,
+}
+
+// Copies some of the bytes that are lent.
+fn copy_lent(
+    bytes: io::Result<&[u8]>,
+    random: u64,
+    left: usize,
+    content: &mut Vec<u8>,
+) -> Result<Lent, AllocError> {
+    let Ok(bytes) = bytes else {
+        return Ok(Lent::Refused);
+    };
+    if bytes.is_empty() {
+        return Ok(Lent::Ended);
+    }
+    let most = bytes.len() as u64;
+    let amount = if random % 3 == 0 { most } else { random % most };
+    let amount = usize::try_from(amount)
+        .unwrap_or(0)
+        .min(left)
+        .min(bytes.len());
+    content.extend_from_slice(&bytes[..amount])?;
+    Ok(Lent::Bytes(amount))
+}
+
+// Lends bytes, copies some, and takes these.
+fn lend_some<R: BufRead>(
+    reader: &mut R,
+    random: u64,
+    left: usize,
+    content: &mut Vec<u8>,
+) -> Result<Step, AllocError> {
+    match copy_lent(reader.fill_buf(), random, left, content)? {
+        Lent::Bytes(amount) => {
+            reader.consume(amount);
+            Ok(Step::Took)
+        }
+        Lent::Ended => Ok(Step::Ended),
+        Lent::Refused => Ok(Step::Refused),
+    }
+}
+
+/// The error that stands in a reader of bands, if there is one.
+pub fn report_fault(fault: Option<&read::Error>, report: &mut Report) -> Result<(), AllocError> {
+    match fault {
+        Some(e) => values::read_error(report, e)?,
+        None => report.word("nofault")?,
+    }
+    report.word(" ")
+}
+
+// How often a read was refused and the next one went on.
+#[derive(Clone, Copy)]
+struct Counts {
+    interrupted: u64,
+    memory: u64,
+    failed: u64,
+}
+
+impl Counts {
+    fn none() -> Counts {
+        Counts {
+            interrupted: 0,
+            memory: 0,
+            failed: 0,
+        }
+    }
+
+    // Counts an error behind which the next read goes on. Whether it is one.
+    fn count(&mut self, fault: Option<&read::Error>) -> bool {
+        match fault {
+            Some(read::Error::Interrupted) => {
+                self.interrupted = self.interrupted.saturating_add(1);
+                true
+            }
+            Some(read::Error::Memory) => {
+                self.memory = self.memory.saturating_add(1);
+                true
+            }
+            Some(read::Error::Io(kind)) => {
+                if is_failure(*kind) {
+                    self.failed = self.failed.saturating_add(1);
+                }
+                is_failure(*kind)
+            }
+            _ => false,
+        }
+    }
+}
+
+// The error behind which each read fails, and what the next read says.
+fn report_last_error<T: ExtendedBufRead, I: Interrupt>(
+    reader: &mut WithSidebands<'_, T, Notes<'_>, I>,
+    report: &mut Report,
+) -> Result<(), AllocError> {
+    report_fault(reader.fault(), report)?;
+    let mut one = [0u8; 1];
+    match reader.read(&mut one) {
+        Ok(_) => report.word("!read ")?,
+        Err(e) => values::kind(report, e.kind())?,
+    }
+    report.word(" ")
+}
+
+// One read of a kind and size that follow from a number, 0 for a large one.
+fn read_mixed<T: ExtendedBufRead, I: Interrupt>(
+    reader: &mut WithSidebands<'_, T, Notes<'_>, I>,
+    random: u64,
+    left: usize,
+    room: &mut Vec<u8>,
+    content: &mut Vec<u8>,
+) -> Result<Step, AllocError> {
+    if random % 4 == 3 {
+        lend_some(reader, random / 4, left, content)
+    } else {
+        read_some(reader, size_of_read(random / 4).min(left), room, content)
+    }
+}
+
+// Takes content up to a limit, in ways that follow from a number.
+fn drain<T: ExtendedBufRead, I: Interrupt>(
+    alloc: Global,
+    reader: &mut WithSidebands<'_, T, Notes<'_>, I>,
+    limit: u64,
+    seed: u64,
+    content: &mut Vec<u8>,
+    report: &mut Report,
+) -> Result<Counts, AllocError> {
+    let mut room = vec![in alloc; 0u8; 66_000]?;
+    let mut random = seed;
+    let mut counts = Counts::none();
+    for _ in 0..u64::MAX {
+        let left = limit.saturating_sub(content.len() as u64);
+        if left == 0 {
+            report.word("limit ")?;
+            break;
+        }
+        let left = usize::try_from(left).unwrap_or(usize::MAX);
+        random = next_random(random);
+        let step = if seed == 0 {
+            read_some(reader, left.min(66_000), &mut room, content)?
+        } else {
+            read_mixed(reader, random / 65_536, left, &mut room, content)?
+        };
+        match step {
+            Step::Took => {}
+            Step::Ended => {
+                report.word("end ")?;
+                report_fault(reader.fault(), report)?;
+                break;
+            }
+            Step::Refused if counts.count(reader.fault()) => {}
+            Step::Refused => {
+                report_last_error(reader, report)?;
+                break;
+            }
+        }
+    }
+    Ok(counts)
+}
+
+/// How a pack is read.
+#[derive(Clone, Copy)]
+pub struct Settings {
+    /// The most bytes.
+    pub limit: u64,
+    /// From what the sizes and kinds of reads follow.
+    pub seed: u64,
+    /// Which question for an interrupt is answered with true.
+    pub interrupt: u64,
+    /// Which text finds no memory.
+    pub memory: u64,
+}
+
+/// The content of a pack that stands before a reader, and its texts. How many reads failed.
+pub fn read_pack<T: ExtendedBufRead>(
+    alloc: Global,
+    reader: &mut T,
+    settings: Settings,
+    report: &mut Report,
+) -> Result<u64, AllocError> {
+    let mut told = Report::new(alloc);
+    let mut content = Vec::new(alloc);
+    let counts = {
+        let mut once = Once::new(settings.interrupt);
+        let notes = Notes::new(&mut told, settings.memory);
+        let mut banded = WithSidebands::new(reader, notes, &mut once);
+        let Settings { limit, seed, .. } = settings;
+        let counts = drain(alloc, &mut banded, limit, seed, &mut content, report)?;
+        values::stop(report, banded.stopped_at())?;
+        counts
+    };
+    report.quote(&content)?;
+    report.word(" told ")?;
+    report.quote(told.bytes())?;
+    report.word(" ")?;
+    report.number(counts.interrupted)?;
+    report.word(" ")?;
+    report.number(counts.memory)?;
+    report.word(" ")?;
+    Ok(counts.failed)
+}
+
+/// A pack over a line reader.
+pub fn report_pack(alloc: Global, row: &Row<'_>, report: &mut Report) -> Result<(), AllocError> {
+    let [version, limit, seed, interrupt, memory] = row.settings;
+    let version = values::version_of(version);
+    let settings = Settings {
+        limit,
+        seed,
+        interrupt,
+        memory,
+    };
+    let mut device = Device::of_row(row);
+    let told = {
+        let mut reader = LineReader::new(alloc, &mut device)?;
+        reader.reset(version);
+        let told = read_pack(alloc, &mut reader, settings, report)?;
+        if row.fail == 0 {
+            report_rest(&mut reader, version, report)?;
+        }
+        told
+    };
+    report_failures(report, told, device.failures)
+}

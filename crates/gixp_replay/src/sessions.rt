@@ -1,0 +1,192 @@
+//! A session: a handshake, refs, up to five requests with a have each, and a pack.
+//!
+//! S0 is 0 for bodies in memory, whose lengths stand in the first line of the payload, 1 for a connection over what is
+//! behind that line. S1 is the version that the client of a connection asks for, S3 the number of the request that
+//! says `done`, S4 the number from which the reads of a pack follow. The bytes that were sent stand at the end.
+use crate::answers::{Reading, read_response};
+use crate::device::Device;
+use crate::handshakes::{bodies, connection, report_early_refs, shake_hands};
+use crate::lines::report_rest;
+use crate::packs::{Notes, Settings, read_pack};
+use crate::refs::report_all;
+use crate::report::Report;
+use crate::rows::{Row, cut_at, cut_at_byte, number};
+use crate::values::client_error;
+use bstr::BString;
+use gixp_lines::fetch::Response;
+use gixp_requests::Command;
+use gixp_requests::command::{CommandTable, Feature};
+use gixp_requests::fetch::Arguments;
+use gixp_sidebands::{NeverInterrupt, WithSidebands};
+use gixp_wire::{Body, ObjectId, Protocol, Transport};
+use std::alloc::{AllocError, Global};
+
+fn agent(alloc: Global) -> Result<Feature, AllocError> {
+    Ok(("agent", Some(String::from_str(alloc, "git/probe")?)))
+}
+
+// The refs of version 2. Whether there was no error.
+fn list_refs<T: Transport>(
+    alloc: Global,
+    transport: &mut T,
+    report: &mut Report,
+) -> Result<bool, AllocError> {
+    let mut features = Vec::new(alloc);
+    features.push(agent(alloc)?)?;
+    let table = CommandTable::git();
+    let mut arguments = table.initial_v2_arguments(alloc, Command::LsRefs, &features)?;
+    arguments.push(BString::from_slice(alloc, "ref-prefix refs/")?)?;
+    match transport.invoke(alloc, Command::LsRefs.as_str(), &features, &arguments) {
+        Ok(()) => {}
+        Err(e) => {
+            client_error(report, &e)?;
+            return Ok(false);
+        }
+    }
+    report_all(alloc, transport, report)
+}
+
+// The answer to a request, in bands where the settings say so.
+fn read_answer<T: Transport>(
+    alloc: Global,
+    transport: &mut T,
+    reading: Reading,
+    report: &mut Report,
+) -> Result<Option<Response>, AllocError> {
+    if !reading.is_banded {
+        return read_response(alloc, transport, reading, report);
+    }
+    let mut told = Report::new(alloc);
+    let mut never = NeverInterrupt;
+    let notes = Notes::new(&mut told, u64::MAX);
+    let mut reader = WithSidebands::new(transport, notes, &mut never);
+    read_response(alloc, &mut reader, reading, report)
+}
+
+// A request with one more have, and its answer. Whether the next request may follow.
+fn run_round<T: Transport>(
+    alloc: Global,
+    round: u8,
+    reading: Reading,
+    seed: u64,
+    transport: &mut T,
+    asked: &mut Arguments,
+    report: &mut Report,
+) -> Result<bool, AllocError> {
+    asked.have(&ObjectId { bytes: [round; 20] })?;
+    if !asked.has_haves() {
+        return Ok(false);
+    }
+    let done = reading.expects_pack;
+    match asked.send(transport, done) {
+        Ok(()) => report.word("sent ")?,
+        Err(e) => {
+            client_error(report, &e)?;
+            report.word(" ")?;
+            return Ok(false);
+        }
+    }
+    let Some(found) = read_answer(alloc, transport, reading, report)? else {
+        return Ok(false);
+    };
+    if found.has_pack() {
+        let settings = Settings {
+            limit: u64::MAX,
+            seed,
+            interrupt: u64::MAX,
+            memory: u64::MAX,
+        };
+        let _ = read_pack(alloc, transport, settings, report)?;
+        return Ok(false);
+    }
+    Ok(!done)
+}
+
+// The requests of a fetch, over these features.
+fn fetch<T: Transport>(
+    alloc: Global,
+    row: &Row<'_>,
+    transport: &mut T,
+    version: Protocol,
+    features: Vec<Feature>,
+    report: &mut Report,
+) -> Result<(), AllocError> {
+    let [_, _, _, last, seed] = row.settings;
+    let is_banded = features.iter().any(|feature| feature.0 == "sideband-all");
+    let mut asked = Arguments::new(alloc, &CommandTable::git(), version, features)?;
+    asked.want(&ObjectId::null())?;
+    for round in 1..6u8 {
+        let done = u64::from(round) >= last;
+        let reading = Reading {
+            version,
+            expects_pack: done,
+            wants_to_negotiate: !done,
+            is_banded,
+        };
+        if !run_round(alloc, round, reading, seed, transport, &mut asked, report)? {
+            break;
+        }
+    }
+    Ok(())
+}
+
+fn report_over<T: Transport>(
+    alloc: Global,
+    row: &Row<'_>,
+    transport: &mut T,
+    report: &mut Report,
+) -> Result<(), AllocError> {
+    let Some(found) = shake_hands(alloc, transport, report)? else {
+        return Ok(());
+    };
+    let version = found.actual_protocol;
+    let goes_on = if found.has_refs {
+        report_early_refs(alloc, transport, &found.capabilities, report)?
+    } else {
+        list_refs(alloc, transport, report)?
+    };
+    if goes_on {
+        let table = CommandTable::git();
+        let mut features = table.default_features(
+            alloc,
+            Command::Fetch,
+            version,
+            &found.capabilities,
+        )?;
+        features.push(agent(alloc)?)?;
+        fetch(alloc, row, transport, version, features, report)?;
+    }
+    report_rest(transport, version, report)
+}
+
+// Bodies of these lengths.
+fn cut_bodies(alloc: Global, lengths: &[u8], bytes: &[u8]) -> Result<Vec<Body>, AllocError> {
+    let mut answers = Vec::new(alloc);
+    let mut rest = bytes;
+    for word in lengths.split(|b| *b == b' ') {
+        let (body, others) = cut_at(rest, number(word).unwrap_or(0));
+        answers.push(Body::Bytes(body.to_vec(alloc)?))?;
+        rest = others;
+    }
+    Ok(answers)
+}
+
+/// A session over a connection or memory.
+pub fn report_session(alloc: Global, row: &Row<'_>, report: &mut Report) -> Result<(), AllocError> {
+    let [over, version, ..] = row.settings;
+    let (lengths, bytes) = cut_at_byte(row.payload, b'\n');
+    if over == 1 {
+        let device = Device::new(bytes, row.cut, 0);
+        let mut transport = connection(alloc, device, row.cut, version, None)?;
+        report_over(alloc, row, &mut transport, report)?;
+        report.word(" ")?;
+        return report.quote(&transport.writer().bytes);
+    }
+    let mut transport = bodies(alloc, cut_bodies(alloc, lengths, bytes)?)?;
+    report_over(alloc, row, &mut transport, report)?;
+    for request in transport.sent() {
+        report.word(" ")?;
+        report.quote(request)?;
+    }
+    Ok(())
+}

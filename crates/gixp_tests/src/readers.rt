@@ -1,0 +1,66 @@
+//! Line readers over devices that fail, and ids.
+use crate::devices::Device;
+use gixp_wire::read::ExtendedBufRead;
+use gixp_wire::{Frame, Kind, LineReader, MessageKind, ObjectId, Protocol};
+use std::alloc::Global;
+use std::io::ErrorKind;
+use std::test::Fail;
+
+// What the calls of a reader answered, one a word: a line, `|` for a stop, or an error.
+pub(crate) fn read_all<R: ExtendedBufRead>(
+    alloc: Global,
+    reader: &mut R,
+    calls: usize,
+) -> Result<String, Fail> {
+    let mut said = String::new(alloc);
+    for _ in 0..calls {
+        let word = match reader.readline() {
+            Ok(Some(line)) => format!(in alloc; "{} ", line.len())?,
+            Ok(None) => format!(in alloc; "| ")?,
+            Err(e) => format!(in alloc; "{e:?} ")?,
+        };
+        said.push_str(word.as_str())?;
+    }
+    Ok(said)
+}
+
+fn said(
+    alloc: Global,
+    mut device: Device<'_>,
+    version: Protocol,
+    calls: usize,
+) -> Result<String, Fail> {
+    let mut reader = LineReader::new(alloc, &mut device)?;
+    reader.reset(version);
+    read_all(alloc, &mut reader, calls)
+}
+
+// A read that fails as at an end ends the stream.
+#[test]
+fn takes_a_failure_of_that_kind_for_the_end(rt: HostRuntime) -> Result<(), Fail> {
+    let device = Device {
+        bytes: b"0006a\n0000",
+        step: 2,
+        fails: 3,
+        kind: ErrorKind::UnexpectedEof,
+    };
+    let got = said(rt.alloc(), device, Protocol::V2, 3)?;
+    assert_eq!(rt; got.as_str(), "2 Io(UnexpectedEof) Io(UnexpectedEof) ");
+    Ok(())
+}
+
+#[test]
+fn names_kinds_and_frames(rt: HostRuntime) -> Result<(), Fail> {
+    let text = b"0123456789012345678901234567890123456789";
+    let id = ObjectId::from_hex(text)?;
+    assert_eq!(rt; id.to_hex().as_slice(), text.as_slice());
+    assert_eq!(rt;
+        id.as_bytes()[..4].to_vec(rt.alloc())?.as_slice(),
+        [0x01, 0x23, 0x45, 0x67].as_slice()
+    );
+    assert!(rt; ObjectId::null().is_null() && !id.is_null() && Kind::Sha1.null().is_null());
+    assert_eq!(rt; Kind::from_name(b"sha1"), Some(Kind::Sha1));
+    assert_eq!(rt; Frame::from(MessageKind::Text), Frame::Data);
+    assert_eq!(rt; Frame::from(MessageKind::Delimiter), Frame::Delimiter);
+    Ok(())
+}

@@ -1,0 +1,50 @@
+//! One fetch, up to its pack.
+use gix_protocol::command::{Command, CommandTable};
+use gix_protocol::fetch::{Arguments, Response, response};
+use gix_protocol::transport::{ObjectId, Service, Transport, client};
+use std::alloc::{AllocError, Global};
+
+/// Why a fetch came to no answer.
+#[derive(Debug, Drop)]
+pub enum Error {
+    /// The transport refused the handshake or the request.
+    Transport(client::Error),
+    /// The answer was refused.
+    Answer(response::Error),
+}
+
+impl From<client::Error> for Error {
+    fn from(e: client::Error) -> Error {
+        Error::Transport(e)
+    }
+}
+
+impl From<response::Error> for Error {
+    fn from(e: response::Error) -> Error {
+        Error::Answer(e)
+    }
+}
+
+impl From<AllocError> for Error {
+    fn from(e: AllocError) -> Error {
+        Error::Transport(client::Error::from(e))
+    }
+}
+
+/// Asks for one commit, and reads the answer up to its pack; says whether there is one. The pack is
+/// then read from the transport, by [`gix_protocol::transport::WithSidebands`].
+pub fn fetch_one<T: Transport>(
+    alloc: Global,
+    transport: &mut T,
+    id: &ObjectId,
+) -> Result<bool, Error> {
+    let found = transport.handshake(alloc, Service::UploadPack, &[])?;
+    let table = CommandTable::git();
+    let version = found.actual_protocol;
+    let features = table.default_features(alloc, Command::Fetch, version, &found.capabilities)?;
+    let mut arguments = Arguments::new(alloc, &table, version, features)?;
+    arguments.want(id)?;
+    arguments.send(transport, true)?;
+    let answer = Response::from_line_reader(alloc, version, transport, true, false)?;
+    Ok(answer.has_pack())
+}

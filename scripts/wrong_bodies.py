@@ -1,0 +1,189 @@
+#!/usr/bin/env python3
+"""Tries wrong bodies, and prints what refuses each.
+
+Usage: wrong_bodies.py [--must-fail] [--only WORD] [--jobs N] [CRATE..]
+
+An edit is a file of lines `file: src/x.rt`, `old: TEXT`, `new: TEXT`, of which each old text stands once in the file.
+Those of wrong-bodies/CRATE/ are tried, with --must-fail those of crates/CRATE/must-fail/ too, with --only those whose
+name has that word. With no crate all are, N crates side by side.
+
+Each edit is applied by itself to a copy of the repository with what its out/ folders keep, and the crate is checked by
+`rt check`, so a crate that was checked before takes some seconds an edit; RT names another command than `rt`. A line
+says of an edit
+
+    goal          a goal is left open: a contract refuses it
+    name          only a proof file names what it took away, which shows nothing
+    types         the borrow checker or the types refuse it, or a function isn't covered, which shows nothing
+    BAD EDIT      it can't be applied, or the edited text can't be read
+    STILL PROVED  the contracts let it through
+
+The last lines count them. The status is 1 where an edit is no `goal`.
+"""
+import os
+import re
+import shutil
+import subprocess
+import sys
+import tempfile
+import time
+from collections import Counter
+from concurrent.futures import ThreadPoolExecutor
+from pathlib import Path
+
+TOP = Path(__file__).resolve().parent.parent
+RT = os.environ.get("RT", "rt")
+CAN_NOT_READ = r"is not in scope|is no name|operand is missing|expected the end|cannot continue"
+LOST_NAME = re.compile(r"(\./)?proofs/.*(has no field|is not in scope|has no `|was not admitted)")
+NO_GOAL = re.compile(r"borrow checker|does not cover|error\[[\w-]+\]|was not admitted")
+
+
+def crates_of_list():
+    """Each crate of crates.txt, with the crates of the repository that it stands on."""
+    found = {}
+    for line in (TOP / "crates.txt").read_text().splitlines():
+        name, colon, below = line.partition(":")
+        if colon and not line.startswith("#"):
+            found[name.split()[0]] = below.split()
+    return found
+
+
+def with_those_below(name, crates):
+    found = [name]
+    for below in crates[name]:
+        if below in crates:
+            found += with_those_below(below, crates)
+    return list(dict.fromkeys(found))
+
+
+def edits_of(name, takes_must_fail, word):
+    folders = [TOP / "wrong-bodies" / name]
+    if takes_must_fail:
+        folders.append(TOP / "crates" / name / "must-fail")
+    return [it for folder in folders for it in sorted(folder.glob("*.edit")) if word in it.stem]
+
+
+def edited(edit, crate):
+    """The texts that an edit makes of the files of a crate, by their paths, or why it makes none."""
+    texts, path, old = {}, None, None
+    for line in edit.read_text().split("\n"):
+        if line.startswith("file: "):
+            path = crate / line.removeprefix("file: ").strip()
+            if not path.is_file():
+                return None, f"there is no file {path.relative_to(crate)}"
+        elif line.startswith("old: "):
+            old = line.removeprefix("old: ")
+        elif line.startswith("new:"):
+            if path is None or not old:
+                return None, "a new text stands before any file and old text"
+            text = texts.get(path) or path.read_text()
+            if text.count(old) != 1:
+                return None, f"an old text stands {text.count(old)} times in {path.relative_to(crate)}"
+            texts[path] = text.replace(old, line.removeprefix("new:").removeprefix(" "))
+            old = None
+    return (texts, None) if texts else (None, "it has no pair of texts")
+
+
+def verdict_of(done):
+    """What refuses a checked crate, and the line that says so."""
+    if done.returncode == 0:
+        return "STILL PROVED", ""
+    # a message may go on in lines that are set in
+    lines = re.sub(r"\n  +", " ", done.stdout).splitlines()
+    told = [it for it in lines if re.match(r"(note: )?(\./)?\S+:\d+:\d+: ", it)]
+    errors = [it for it in told if ": error" in it] or told
+    goals = [it for it in errors if not LOST_NAME.match(it) and not NO_GOAL.search(it)]
+    unread = [it for it in goals if re.search(CAN_NOT_READ, re.sub(r"`[^`]*`", "", it))]
+    if unread:
+        return "BAD EDIT", unread[0]
+    if goals:
+        return "goal", goals[0]
+    lost = [it for it in errors if LOST_NAME.match(it)]
+    if lost and len(lost) == len(errors):
+        return "name", lost[0]
+    rest = [it for it in lines if "error" in it]
+    return "types", (errors or rest or lines[-1:] or [""])[0]
+
+
+def check(crate):
+    return subprocess.run([RT, "check"], cwd=crate, stdin=subprocess.DEVNULL, stdout=subprocess.PIPE,
+                          stderr=subprocess.STDOUT, text=True, errors="replace")
+
+
+def try_edit(edit, crate):
+    texts, why = edited(edit, crate)
+    if why:
+        return "BAD EDIT", why
+    kept = {path: path.read_text() for path in texts}
+    try:
+        for path, text in texts.items():
+            path.write_text(text)
+        return verdict_of(check(crate))
+    finally:
+        for path, text in kept.items():
+            path.write_text(text)
+
+
+def copy_with_those_below(name, crates, top):
+    """Copies a crate with what it keeps, and those that it stands on with their libraries."""
+    parts = with_those_below(name, crates)
+    for part in parts:
+        crate = TOP / "crates" / part
+        is_built = part != name and (crate / "out" / "rlib" / "stamp").is_file()
+        ignore = shutil.ignore_patterns("incremental") if is_built else None
+        shutil.copytree(crate, top / "crates" / part, ignore=ignore)
+    shutil.copyfile(TOP / "HANDLES", top / "HANDLES")
+    (top / "crates.txt").write_text("".join(f"{it}: {' '.join(crates[it])}\n" for it in parts))
+    return top / "crates" / name
+
+
+def try_crate(name, edits, crates, room):
+    """Tries the edits of a crate on a copy of it, and counts what refuses them."""
+    counts = Counter()
+    crate = copy_with_those_below(name, crates, room / name)
+    if check(crate).returncode:
+        print(f"{'BAD EDIT':13}{name}: it isn't proved without an edit", flush=True)
+        return Counter({"BAD EDIT": len(edits)})
+    for edit in edits:
+        began = time.monotonic()
+        verdict, line = try_edit(edit, crate)
+        counts[verdict] += 1
+        took = time.monotonic() - began
+        print(f"{verdict:13}{name}/{edit.stem} ({took:.0f} s){': ' + line[:160] if line else ''}", flush=True)
+    shutil.rmtree(room / name)
+    return counts
+
+
+def options_of(words):
+    """The crates that are named, and the values of the options."""
+    options = {"--must-fail": False, "--only": "", "--jobs": "1"}
+    names = []
+    words = iter(words)
+    for word in words:
+        if word == "--must-fail":
+            options[word] = True
+        elif word in options:
+            options[word] = next(words, "")
+        else:
+            names.append(word)
+    return names, options
+
+
+def main(words):
+    crates = crates_of_list()
+    names, options = options_of(words)
+    if any(it not in crates for it in names) or not options["--jobs"].isdigit():
+        sys.exit(__doc__)
+    edits = {it: edits_of(it, options["--must-fail"], options["--only"]) for it in names or crates}
+    counts = Counter()
+    with tempfile.TemporaryDirectory(prefix="wrong-bodies-") as room:
+        with ThreadPoolExecutor(max(1, int(options["--jobs"]))) as pool:
+            tried = [pool.submit(try_crate, it, found, crates, Path(room)) for it, found in edits.items() if found]
+            for it in tried:
+                counts += it.result()
+    for verdict, count in sorted(counts.items()):
+        print(f"{count} {verdict}")
+    return 1 if sum(counts.values()) != counts["goal"] else 0
+
+
+if __name__ == "__main__":
+    sys.exit(main(sys.argv[1:]))
