@@ -5,10 +5,10 @@ use Rattle.gixp_wire.specs.Capabilities.{CapabilityValue}
 use Rattle.gixp_requests.specs.Feature.{FeatureValue}
 use Rattle.gixp_requests.specs.Command.{Table}
 use Rattle.gixp_requests.specs.Arguments.{Asked}
-use Rattle.gixp_fetch.specs.declared.options.Tags.{Tags}
+use Rattle.gixp_refmap.specs.declared.fetch.Tags.{Tags}
 use Rattle.gixp_fetch.specs.declared.options.Outcome.{Outcome}
 use Rattle.gixp_fetch.specs.declared.error.Error.{Error}
-use Rattle.gixp_fetch.specs.Negotiate.{action_value, negotiate}
+use Rattle.gixp_negotiate.specs.Negotiate.{action_value, negotiate}
 use Rattle.gixp_fetch.specs.Shallow.{is_change}
 use Rattle.gixp_fetch.specs.Prepare.{features_of, Prepared, Unprepared, LocksFirst, ReleasesIf, Unlocked}
 use Rattle.gixp_fetch.specs.Fetch.{Wishes, World, Parties, Meets}
