@@ -78,6 +78,7 @@ pub use Rattle.gixp_refspec.specs.PartialName
 pub use Rattle.gixp_refspec.specs.Matching
 pub use Rattle.gixp_refspec.specs.Texts
 pub use Rattle.gixp_refspec.specs.Needle
+pub use Rattle.gixp_refspec.specs.Rows
 pub use Rattle.gixp_refspec.specs.Mappings
 pub use Rattle.gixp_refspec.specs.Firsts
 pub use Rattle.gixp_refspec.specs.MatchGroup
@@ -117,10 +118,24 @@ pub use Rattle.gixp_negotiate.specs.Shallow
 pub use Rattle.gixp_negotiate.specs.Wants
 pub use Rattle.gixp_negotiate.specs.Marking
 pub use Rattle.gixp_negotiate.specs.Stopped
+pub use Rattle.gixp_negotiate.specs.MarkLaws
 pub use Rattle.gixp_negotiate.specs.RoundLaws
 pub use Rattle.gixp_negotiate.specs.Ignored
 pub use Rattle.gixp_negotiate.specs.Plain
 pub use Rattle.gixp_negotiate.specs.DecisionLaws
+pub use Rattle.gixp_fetch.specs.FetchError
+pub use Rattle.gixp_fetch.specs.Store
+pub use Rattle.gixp_fetch.specs.View
+pub use Rattle.gixp_fetch.specs.Rounds as FetchRounds
+pub use Rattle.gixp_fetch.specs.Receive
+pub use Rattle.gixp_fetch.specs.Received
+pub use Rattle.gixp_fetch.specs.Shallow as FetchShallow
+pub use Rattle.gixp_fetch.specs.Session
+pub use Rattle.gixp_fetch.specs.Fetch
+pub use Rattle.gixp_fetch.specs.Fetched
+pub use Rattle.gixp_fetch.specs.Prepare
+pub use Rattle.gixp_fetch.specs.Bound
+pub use Rattle.gixp_fetch.specs.Sent
 -- The types that they speak of.
 pub use Rattle.gixp_wire.specs.declared.object_id.ObjectId as ObjectIdType
 pub use Rattle.gixp_lines.specs.declared.handshake.refs.parse.Error as RefsError
