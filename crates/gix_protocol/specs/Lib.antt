@@ -129,6 +129,7 @@ pub use Rattle.gixp_fetch.specs.View
 pub use Rattle.gixp_fetch.specs.Rounds as FetchRounds
 pub use Rattle.gixp_fetch.specs.Receive
 pub use Rattle.gixp_fetch.specs.Received
+pub use Rattle.gixp_fetch.specs.Consume
 pub use Rattle.gixp_fetch.specs.Shallow as FetchShallow
 pub use Rattle.gixp_fetch.specs.Session
 pub use Rattle.gixp_fetch.specs.Fetch

@@ -1,11 +1,12 @@
 //! The fetch of a pack: requests, answers, ref maps, the negotiation, and the whole.
 pub mod negotiate;
 
-pub use gixp_fetch::consume::ConsumePack;
+pub use gixp_fetch::consume::{ConsumePack, CopyError, CopyPack, ReadToEnd};
 pub use gixp_fetch::error::Error;
 pub use gixp_fetch::fetch::fetch;
 pub use gixp_fetch::options::{Context, NegotiateOutcome, Options, Outcome};
-pub use gixp_fetch::shallow::{ShallowError, ShallowStore};
+pub use gixp_fetch::shallow::{ShallowError, ShallowMemory, ShallowStore};
+pub use gixp_fetch::{RemoteText, laws};
 pub use gixp_lines::fetch::{Response, response};
 pub use gixp_negotiate::shallow::Shallow;
 pub use gixp_progress::fetch::ProgressId;

@@ -1,5 +1,5 @@
 -- A whole fetch, by its result (gitprotocol-capabilities; gitprotocol-pack, "Packfile Negotiation"; gitprotocol-v2, "fetch").
-use Rattle.std.specs.Prelude.{◌≡◌, ◌⊎◌, Bool, true, false, List, Option, None, Some, Result, Ok, Err}
+use Rattle.std.specs.Prelude.{◌≡◌, ◌⊎◌, Bool, true, false, List, Option, Result, Ok, Err}
 use Rattle.gixp_wire.specs.declared.protocol.Protocol.{Protocol}
 use Rattle.gixp_wire.specs.Capabilities.{CapabilityValue}
 use Rattle.gixp_requests.specs.Feature.{FeatureValue}

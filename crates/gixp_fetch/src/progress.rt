@@ -3,7 +3,7 @@ use gixp_negotiate::negotiate::Round;
 use gixp_wire::Progress;
 use std::alloc::Global;
 
-/// One more round begins. Where there is no memory for its name, the step alone is told.
+/// One more round begins. Where the name can't be allocated, the step alone is reported.
 pub(crate) fn tell_round<P: Progress>(alloc: Global, progress: &mut P, rounds: &[Round]) {
     progress.step();
     let round = rounds.len().saturating_add(1);
@@ -13,7 +13,7 @@ pub(crate) fn tell_round<P: Progress>(alloc: Global, progress: &mut P, rounds: &
     }
 }
 
-/// A pack comes. Where there is no memory for the name, the step alone is told.
+/// A pack comes. Where the name can't be allocated, the step alone is reported.
 pub(crate) fn tell_pack<P: Progress>(alloc: Global, progress: &mut P) {
     progress.step();
     match String::from_str(alloc, "receiving pack") {

@@ -1,0 +1,84 @@
+//! A shallow boundary in memory.
+ghost use Rattle.std.specs.Prelude.{◌≡◌, [], true, false};
+
+use crate::shallow::{ShallowError, ShallowStore};
+use gixp_wire::ObjectId;
+use std::alloc::Global;
+
+/// A shallow boundary in memory, which one caller alone can lock.
+#[derive(Debug, Drop)]
+pub struct ShallowMemory {
+    ids: Vec<ObjectId>,
+    locked: bool,
+    failures: u64,
+}
+
+impl ShallowMemory {
+    /// With this boundary.
+    pub fn new(ids: Vec<ObjectId>) -> ShallowMemory
+        ensures ids { result.ids.items ≡ ids.items }
+        ensures locked { result.locked ≡ false }
+    {
+        ShallowMemory {
+            ids,
+            locked: false,
+            failures: 0,
+        }
+    }
+
+    /// The boundary.
+    pub fn ids(&self) -> &[ObjectId]
+        ensures { result.now ≡ self.now.ids.items }
+    {
+        &self.ids
+    }
+
+    /// Whether its lock is had.
+    pub fn is_locked(&self) -> bool
+        ensures { result ≡ self.now.locked }
+    {
+        self.locked
+    }
+}
+
+impl ShallowStore for ShallowMemory {
+    ghost failures = { λ s. s.failures };
+
+    ghost locks = { λ s t. (s.locked ≡ false) × (t.locked ≡ true) × (t.ids.items ≡ s.ids.items) };
+
+    ghost reads = { λ s ids t. (ids ≡ s.ids.items) × (t ≡ s) };
+
+    ghost writes = { λ s ids t. (t.ids.items ≡ ids) × (t.locked ≡ s.locked) };
+
+    ghost releases = { λ s t. (t.locked ≡ false) × (t.ids.items ≡ s.ids.items) };
+
+    fn lock(&mut self) -> Result<(), ShallowError> {
+        if self.locked {
+            self.failures = self.failures.saturating_add(1);
+            return Err(ShallowError::Locked);
+        }
+        self.locked = true;
+        Ok(())
+    }
+
+    fn read(&mut self, alloc: Global) -> Result<Vec<ObjectId>, ShallowError> {
+        match Vec::from_slice(alloc, &self.ids) {
+            Ok(ids) => Ok(ids),
+            Err(_) => Err(ShallowError::Memory),
+        }
+    }
+
+    fn write(&mut self, boundary: &[ObjectId]) -> Result<(), ShallowError> {
+        match Vec::from_slice(*self.ids.allocator(), boundary) {
+            Ok(ids) => {
+                self.ids = ids;
+                Ok(())
+            }
+            Err(_) => Err(ShallowError::Memory),
+        }
+    }
+
+    fn release(&mut self) {
+        self.locked = false;
+    }
+}
