@@ -21,7 +21,7 @@ pub use symrefs::from_capabilities;
 /// # Errors
 ///
 /// That of the line that came next, which is then taken, or that of the reader, with what
-/// [`parse::Error`] says of it. Behind a line that was refused, or for which there was no memory, the
+/// [`parse::Error`] says of it. Behind a line that was refused, or whose allocation failed, the
 /// next call goes on with the line behind it.
 #[inline(always)]
 pub fn next_v2_ref<R: ExtendedBufRead>(
