@@ -34,8 +34,10 @@ impl<'a> Device<'a> {
             (u64::MAX, ErrorKind::Other)
         } else if fail < 1_000_000 {
             (fail - 1, ErrorKind::Interrupted)
-        } else {
+        } else if fail < 2_000_000 {
             (fail - 1_000_000, ErrorKind::TimedOut)
+        } else {
+            (fail - 2_000_000, ErrorKind::PermissionDenied)
         };
         Device {
             bytes,

@@ -7,11 +7,11 @@ use crate::lines::report_rest;
 use crate::refs::report_list;
 use crate::report::Report;
 use crate::rows::Row;
-use crate::values::{capability_list, client_error, parse_error, update, version_of};
+use crate::values::{capability_list, client_error, parse_error, update, version_of, version_word};
 use bstr::BString;
 use gixp_lines::handshake::refs::from_v1_refs_received_as_part_of_handshake_and_capabilities;
 use gixp_wire::{
-    Bodies, Body, Capabilities, Connection, Opening, Protocol, Service, SetServiceResponse,
+    Bodies, Body, Capabilities, Connection, Opening, Service, SetServiceResponse,
     Transport,
 };
 use std::alloc::{AllocError, Global};
@@ -22,11 +22,8 @@ pub fn report_response(
     found: &SetServiceResponse,
     report: &mut Report,
 ) -> Result<(), AllocError> {
-    report.word(match found.actual_protocol {
-        Protocol::V0 => "V0 ",
-        Protocol::V1 => "V1 ",
-        Protocol::V2 => "V2 ",
-    })?;
+    report.word(version_word(found.actual_protocol))?;
+    report.word(" ")?;
     report.word(if found.has_refs { "refs " } else { "norefs " })?;
     capability_list(alloc, report, &found.capabilities)?;
     report.word("; ")

@@ -12,6 +12,9 @@ mod capabilities;
 mod device;
 mod handshakes;
 mod lines;
+mod listings;
+mod map_values;
+mod maps;
 mod offers;
 mod openings;
 mod packs;
@@ -21,6 +24,8 @@ mod report;
 mod requests;
 mod rows;
 mod sessions;
+mod shakes;
+mod telling;
 mod values;
 
 use crate::report::Report;
@@ -66,6 +71,9 @@ fn replay_row(alloc: Global, row: &Row<'_>, report: &mut Report) -> Result<(), A
         Mode::AnswerLine => answer_lines::report_line(alloc, row, report),
         Mode::Requests => requests::report_requests(alloc, row, report),
         Mode::Session => sessions::report_session(alloc, row, report),
+        Mode::Map => maps::report_row(alloc, row, report),
+        Mode::Shake => shakes::report_shake(alloc, row, report),
+        Mode::Listing => listings::report_listing(alloc, row, report),
     }
 }
 

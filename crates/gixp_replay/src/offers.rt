@@ -45,23 +45,10 @@ fn report_validation(
     report: &mut Report,
 ) -> Result<(), AllocError> {
     match outcome {
-        Ok(()) => report.word("valid ")?,
-        Err(validate_argument_prefixes::Error::UnsupportedArgument { command, argument }) => {
-            report.word("UnsupportedArgument(")?;
-            report.word(command)?;
-            report.quote(argument.as_bytes())?;
-            report.word(") ")?;
-        }
-        Err(validate_argument_prefixes::Error::UnsupportedCapability { command, feature }) => {
-            report.word("UnsupportedCapability(")?;
-            report.word(command)?;
-            report.word(" ")?;
-            report.word(feature)?;
-            report.word(") ")?;
-        }
-        Err(validate_argument_prefixes::Error::Memory) => report.word("Memory ")?,
+        Ok(()) => report.word("valid")?,
+        Err(e) => values::validation_error(report, &e)?,
     }
-    Ok(())
+    report.word(" ")
 }
 
 /// The feature of this name, if it has one.

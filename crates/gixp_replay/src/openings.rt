@@ -17,10 +17,14 @@ fn text_of(alloc: Global, bytes: &[u8]) -> Result<String, AllocError> {
     String::from_str(alloc, str::from_utf8(bytes).unwrap_or("?"))
 }
 
-// Names, each with its value behind an equals sign if it has one.
-fn parameters_of(alloc: Global, text: &[u8]) -> Result<Vec<(String, Option<String>)>, AllocError> {
+/// Names with such bytes between them, each with its value behind an equals sign if it has one.
+pub fn parameters_of(
+    alloc: Global,
+    text: &[u8],
+    between: u8,
+) -> Result<Vec<(String, Option<String>)>, AllocError> {
     let mut parameters = Vec::new(alloc);
-    for word in text.split(|b| *b == 0) {
+    for word in text.split(|b| *b == between) {
         if word.is_empty() {
             continue;
         }
@@ -40,7 +44,7 @@ pub fn report_opening(alloc: Global, row: &Row<'_>, report: &mut Report) -> Resu
     let [version, service, has_host, length, _] = row.settings;
     let (path, rest) = cut_at_byte(row.payload, 0);
     let (host, rest) = cut_at_byte(rest, 0);
-    let parameters = parameters_of(alloc, rest)?;
+    let parameters = parameters_of(alloc, rest, 0)?;
     let host = if has_host == 0 {
         None
     } else {

@@ -7,7 +7,7 @@
 //!
 //! The module of a mode says what its settings S0 to S4 mean. CUT says how the bytes come: 0 all at once, up to
 //! 999,999 so many a read, above that in pieces of random sizes. FAIL is the number of the read that fails, from 1
-//! on, as interrupted; 1,000,000 more for one that times out; 0 for none. LENGTH is the number of the bytes. They
+//! on, as interrupted; 1,000,000 more for one that times out, 2,000,000 for one that is denied; 0 for none. LENGTH is the number of the bytes. They
 //! come AGAIN so many times more from the byte FROM on.
 use thiserror::Error as DeriveError;
 
@@ -38,6 +38,12 @@ pub enum Mode {
     Requests,
     /// `Z`: a session of several requests.
     Session,
+    /// `M`: a ref map.
+    Map,
+    /// `S`: a handshake with an account.
+    Shake,
+    /// `O`: a ref map by a handshake.
+    Listing,
 }
 
 impl Mode {
@@ -55,6 +61,9 @@ impl Mode {
             [b'K'] => Some(Mode::AnswerLine),
             [b'Q'] => Some(Mode::Requests),
             [b'Z'] => Some(Mode::Session),
+            [b'M'] => Some(Mode::Map),
+            [b'S'] => Some(Mode::Shake),
+            [b'O'] => Some(Mode::Listing),
             _ => None,
         }
     }

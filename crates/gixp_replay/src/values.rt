@@ -4,6 +4,7 @@ use gixp_lines::fetch::response::{Acknowledgement, ShallowUpdate};
 use gixp_lines::fetch::{Response, response};
 use gixp_lines::handshake::Ref;
 use gixp_lines::handshake::refs::parse;
+use gixp_requests::command::validate_argument_prefixes;
 use gixp_wire::{Capabilities, MessageKind, PacketError, Protocol, client, decode, read};
 use std::alloc::{AllocError, Global};
 use std::io::ErrorKind;
@@ -14,6 +15,15 @@ pub fn version_of(number: u64) -> Protocol {
         0 => Protocol::V0,
         1 => Protocol::V1,
         _ => Protocol::V2,
+    }
+}
+
+/// The name of a version.
+pub fn version_word(version: Protocol) -> &'static str {
+    match version {
+        Protocol::V0 => "V0",
+        Protocol::V1 => "V1",
+        Protocol::V2 => "V2",
     }
 }
 
@@ -176,6 +186,29 @@ pub fn response_error(report: &mut Report, e: &response::Error) -> Result<(), Al
         }
         response::Error::Reader(e) => { wrapped(report, "Reader", e) }
         response::Error::Memory => report.word("Memory"),
+    }
+}
+
+/// Why what a client asks for isn't valid.
+pub fn validation_error(
+    report: &mut Report,
+    e: &validate_argument_prefixes::Error,
+) -> Result<(), AllocError> {
+    match e {
+        validate_argument_prefixes::Error::UnsupportedArgument { command, argument } => {
+            report.word("UnsupportedArgument(")?;
+            report.word(command)?;
+            report.quote(argument.as_bytes())?;
+            report.word(")")
+        }
+        validate_argument_prefixes::Error::UnsupportedCapability { command, feature } => {
+            report.word("UnsupportedCapability(")?;
+            report.word(command)?;
+            report.word(" ")?;
+            report.word(feature)?;
+            report.word(")")
+        }
+        validate_argument_prefixes::Error::Memory => report.word("Memory"),
     }
 }
 

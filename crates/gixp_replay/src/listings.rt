@@ -1,0 +1,222 @@
+//! A ref map by a handshake, and by a list of refs where none came with it.
+//!
+//! S0 is 0 for bodies in memory, 1 for a connection, S1 the version that the client of a connection asks for. S2 is 0
+//! for `obtain`, else the list is prepared first: 1 with the prefixes of the refspecs, 2 without, and 3 twice with them.
+//! S3 is 1 for a table of commands that doesn't know `unborn`, 2 for one that doesn't know `ref-prefix `, 3 for a client
+//! that names itself by a feature that the server doesn't have. S4 is how many letters stand behind the client's name.
+//! The payload has a line of refspecs, a line of those that go with the fetch alone, a line of bodies as `bodies_of` reads
+//! them, and the bytes of the server.
+use crate::device::Device;
+use crate::lines::report_rest;
+use crate::map_values::{init_error, report_map};
+use crate::maps::context_of;
+use crate::report::Report;
+use crate::rows::{Row, cut_at_byte};
+use crate::shakes::{Helper, bodies_of, connection, memory, report_shaken, shake_error};
+use crate::telling::Telling;
+use gixp_handshake::Handshake;
+use gixp_handshake::credentials::Action;
+use gixp_handshake::handshake::{ObtainRefMap, handshake, obtain};
+use gixp_refmap::RefMap;
+use gixp_refmap::refmap::init::{Context, Error};
+use gixp_requests::command::{CommandTable, Feature};
+use gixp_wire::{ExtendedBufRead, LineReader, Protocol, Service, Transport};
+use std::alloc::{AllocError, Global};
+
+// How the client lists refs.
+#[derive(Clone, Copy)]
+struct Client {
+    // How the ref map is made.
+    way: u64,
+    table: CommandTable,
+    name: &'static str,
+    letters: u64,
+}
+
+impl Client {
+    fn of_row(row: &Row<'_>) -> Client {
+        let [_, _, way, fault, letters] = row.settings;
+        let mut table = CommandTable::git();
+        match fault {
+            1 => table.ls_refs_prefixes = &["symrefs", "peel", "ref-prefix "],
+            2 => table.ls_refs_prefixes = &["symrefs", "peel", "unborn"],
+            _ => {}
+        }
+        let name = if fault == 3 { "no-such" } else { "agent" };
+        Client {
+            way,
+            table,
+            name,
+            letters,
+        }
+    }
+
+    // How the client names itself.
+    fn agent(&self, alloc: Global) -> Result<Feature, AllocError> {
+        let mut value = String::from_str(alloc, "git/replay")?;
+        for _ in 0..self.letters {
+            value.push_str("x")?;
+        }
+        Ok((self.name, Some(value)))
+    }
+}
+
+// What was prepared.
+fn report_prepared(
+    prepared: &Result<ObtainRefMap<'_>, Error>,
+    report: &mut Report,
+) -> Result<(), AllocError> {
+    match prepared {
+        Ok(ObtainRefMap::Existing(_)) => report.word("existing "),
+        Ok(ObtainRefMap::LsRefsCommand(_, _)) => report.word("command "),
+        Err(e) => init_error(report, e),
+    }
+}
+
+// A map that is prepared first.
+fn prepare<T: Transport>(
+    alloc: Global,
+    shaken: &mut Handshake,
+    client: Client,
+    context: Context,
+    progress: &mut Telling,
+    transport: &mut T,
+    report: &mut Report,
+) -> Result<Option<Result<RefMap, Error>>, AllocError> {
+    if client.way == 3 {
+        let agent = client.agent(alloc)?;
+        let first = shaken.prepare_lsrefs_or_extract_refmap(
+            alloc,
+            &client.table,
+            agent,
+            true,
+            context.clone()?,
+        );
+        report_prepared(&first, report)?;
+    }
+    let prepared = shaken.prepare_lsrefs_or_extract_refmap(
+        alloc,
+        &client.table,
+        client.agent(alloc)?,
+        client.way != 2,
+        context,
+    );
+    report_prepared(&prepared, report)?;
+    match prepared {
+        Ok(prepared) => Ok(Some(prepared.fetch_blocking(alloc, progress, transport))),
+        Err(_) => Ok(None),
+    }
+}
+
+// The ref map behind a handshake.
+fn report_mapped<T: Transport>(
+    alloc: Global,
+    shaken: &mut Handshake,
+    client: Client,
+    context: Context,
+    transport: &mut T,
+    report: &mut Report,
+) -> Result<(), AllocError> {
+    let mut progress = Telling::new(alloc);
+    let map = if client.way == 0 {
+        let agent = client.agent(alloc)?;
+        Some(obtain(
+            alloc,
+            shaken,
+            &client.table,
+            agent,
+            context,
+            &mut progress,
+            transport,
+        ))
+    } else {
+        prepare(
+            alloc,
+            shaken,
+            client,
+            context,
+            &mut progress,
+            transport,
+            report,
+        )?
+    };
+    match &map {
+        Some(Ok(map)) => report_map(report, map)?,
+        Some(Err(e)) => init_error(report, e)?,
+        None => {}
+    }
+    progress.report(report)?;
+    report.word(match &shaken.refs {
+        Some(_) => "kept ",
+        None => "taken ",
+    })
+}
+
+// A handshake, and the ref map behind it.
+fn report_over<T: Transport>(
+    alloc: Global,
+    transport: &mut T,
+    client: Client,
+    context: Context,
+    report: &mut Report,
+) -> Result<(), AllocError> {
+    let mut helper = Helper::new(alloc, &[]);
+    let mut progress = Telling::new(alloc);
+    let outcome = handshake(
+        alloc,
+        transport,
+        Service::UploadPack,
+        |action: Action| helper.answer(action),
+        Vec::new(alloc),
+        &mut progress,
+    );
+    match outcome {
+        Ok(mut shaken) => {
+            report_mapped(alloc, &mut shaken, client, context, transport, report)?;
+            report_rest(transport, shaken.server_protocol_version, report)
+        }
+        Err(e) => shake_error(report, &e),
+    }
+}
+
+// The lines and stops of what was sent.
+fn report_sent(alloc: Global, sent: &[u8], report: &mut Report) -> Result<(), AllocError> {
+    let mut bytes = sent;
+    let mut reader = LineReader::new(alloc, &mut bytes)?;
+    report.word("sent ")?;
+    for _ in 0..sent.len() {
+        match reader.next_line() {
+            Ok(true) => report.quote(reader.line())?,
+            Ok(false) => {
+                report.word("| ")?;
+                reader.reset(Protocol::V2);
+            }
+            Err(_) => break,
+        }
+    }
+    Ok(())
+}
+
+/// A ref map over a connection or memory, and what was sent.
+pub fn report_listing(alloc: Global, row: &Row<'_>, report: &mut Report) -> Result<(), AllocError> {
+    let [over, version, ..] = row.settings;
+    let (explicit, rest) = cut_at_byte(row.payload, b'\n');
+    let (extra, rest) = cut_at_byte(rest, b'\n');
+    let (words, bytes) = cut_at_byte(rest, b'\n');
+    let Some(context) = context_of(alloc, explicit, extra, report)? else {
+        return Ok(());
+    };
+    let client = Client::of_row(row);
+    if over == 1 {
+        let device = Device::new(bytes, row.cut, row.fail);
+        let mut transport = connection(alloc, device, row.cut, version, 0)?;
+        report_over(alloc, &mut transport, client, context, report)?;
+        return report_sent(alloc, &transport.writer().bytes, report);
+    }
+    let mut transport = memory(alloc, bodies_of(alloc, words, bytes)?, 0)?;
+    report_over(alloc, &mut transport, client, context, report)?;
+    for request in transport.sent() {
+        report_sent(alloc, request, report)?;
+    }
+    Ok(())
+}

@@ -1,0 +1,145 @@
+//! Ref maps and why there are none, as text.
+use crate::report::Report;
+use crate::values::{client_error, parse_error, reference, validation_error};
+use gixp_refmap::RefMap;
+use gixp_refmap::ls_refs;
+use gixp_refmap::refmap::{Mapping, Source, SpecIndex, init};
+use gixp_refspec::match_group::SourceRef;
+use gixp_refspec::match_group::validate::{Fix, Issue};
+use gixp_refspec::parse;
+use std::alloc::AllocError;
+
+/// Why a text is no refspec.
+pub fn spec_error(report: &mut Report, e: parse::Error) -> Result<(), AllocError> {
+    report.word(match e {
+        parse::Error::NegativeWithDestination => "NegativeWithDestination",
+        parse::Error::NegativeObjectHash => "NegativeObjectHash",
+        parse::Error::NegativePartialName => "NegativePartialName",
+        parse::Error::PatternUnbalanced => "PatternUnbalanced",
+        parse::Error::PatternUnsupported => "PatternUnsupported",
+        parse::Error::InvalidName => "InvalidName",
+    })
+}
+
+// The place of the refspec: `e` and a number among the explicit ones, `x` among the extra ones.
+fn report_place(report: &mut Report, place: SpecIndex) -> Result<(), AllocError> {
+    match place {
+        SpecIndex::ExplicitInRemote(index) => {
+            report.word("e")?;
+            report.number(index as u64)
+        }
+        SpecIndex::Implicit(index) => {
+            report.word("x")?;
+            report.number(index as u64)
+        }
+    }
+}
+
+fn report_mapping(report: &mut Report, mapping: &Mapping) -> Result<(), AllocError> {
+    report_place(report, mapping.spec_index)?;
+    report.word(" ")?;
+    match &mapping.remote {
+        Source::ObjectId(id) => {
+            report.word("id:")?;
+            report.id(id)?;
+            report.word(" ")?;
+        }
+        Source::Ref(found) => reference(report, found)?,
+    }
+    if let Some(local) = &mapping.local {
+        report.word(">")?;
+        report.quote(local.as_bytes())?;
+        report.word(" ")?;
+    }
+    Ok(())
+}
+
+/// Mappings, fixes, and whether something is missing.
+pub fn report_map(report: &mut Report, map: &RefMap) -> Result<(), AllocError> {
+    report.word("map ")?;
+    for mapping in &map.mappings {
+        report_mapping(report, mapping)?;
+    }
+    for fix in &map.fixes {
+        let Fix::MappingWithPartialDestinationRemoved { name, spec } = fix;
+        report.word("fix ")?;
+        report.quote(name.as_bytes())?;
+        report.quote(spec.as_bytes())?;
+        report.word(" ")?;
+    }
+    report.word(if map.is_missing_required_mapping() {
+        "missing "
+    } else {
+        "whole "
+    })
+}
+
+// A local name with two sources: its name, and the refspec and the source of each mapping.
+fn report_issue(report: &mut Report, issue: &Issue) -> Result<(), AllocError> {
+    let Issue::Conflict {
+        destination_full_ref_name,
+        specs,
+        sources,
+    } = issue;
+    report.quote(destination_full_ref_name.as_bytes())?;
+    report.word("<")?;
+    for spec in specs {
+        report.quote(spec.as_bytes())?;
+    }
+    report.word("<")?;
+    for source in sources {
+        match source {
+            SourceRef::FullName(name) => report.quote(name.as_bytes())?,
+            SourceRef::ObjectId(id) => report.id(id)?,
+        }
+    }
+    report.word(";")
+}
+
+// Why refs aren't listed.
+fn list_error(report: &mut Report, e: &ls_refs::Error) -> Result<(), AllocError> {
+    match e {
+        ls_refs::Error::Io(_) => report.word("Io"),
+        ls_refs::Error::Transport(e) => {
+            report.word("Transport(")?;
+            client_error(report, e)?;
+            report.word(")")
+        }
+        ls_refs::Error::Parse(e) => {
+            report.word("Parse(")?;
+            parse_error(report, e)?;
+            report.word(")")
+        }
+        ls_refs::Error::ArgumentValidation(e) => {
+            report.word("ArgumentValidation(")?;
+            validation_error(report, e)?;
+            report.word(")")
+        }
+        ls_refs::Error::Memory => report.word("Memory"),
+    }
+}
+
+/// Why there is no ref map.
+pub fn init_error(report: &mut Report, e: &init::Error) -> Result<(), AllocError> {
+    match e {
+        init::Error::UnknownObjectFormat { format } => {
+            report.word("UnknownObjectFormat(")?;
+            report.quote(format.as_bytes())?;
+            report.word(")")?;
+        }
+        init::Error::MappingValidation(e) => {
+            report.word("MappingValidation(")?;
+            for issue in &e.issues {
+                report_issue(report, issue)?;
+            }
+            report.word(")")?;
+        }
+        init::Error::ListRefs(e) => {
+            report.word("ListRefs(")?;
+            list_error(report, e)?;
+            report.word(")")?;
+        }
+        init::Error::Memory => report.word("Memory")?,
+    }
+    report.word(" ")
+}

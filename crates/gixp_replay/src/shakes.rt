@@ -1,0 +1,290 @@
+//! A handshake, with an account where the server wants one.
+//!
+//! S0 is 0 for bodies in memory, 1 for a connection, S1 the version that the client of a connection asks for, S2 the
+//! versions that are accepted, from the lowest bit on. The payload has three lines and the bytes of the server: what
+//! the credential helper does at each call (`a` it returns an account, `n` none, `f` it fails), the bodies as
+//! `bodies_of` reads them, and parameters with blanks between them.
+use crate::device::{Device, Paper};
+use crate::lines::report_rest;
+use crate::openings::parameters_of;
+use crate::refs::report_list;
+use crate::report::Report;
+use crate::rows::{Row, cut_at, cut_at_byte, number};
+use crate::telling::Telling;
+use crate::values::{capability_list, client_error, parse_error, update, version_of, version_word};
+use bstr::BString;
+use gixp_handshake::credentials::{self, Account, Action, NextAction, Outcome};
+use gixp_handshake::handshake::{Error, handshake};
+use gixp_handshake::Handshake;
+use gixp_wire::{Bodies, Body, Connection, Opening, Protocol, Service, Transport};
+use std::alloc::{AllocError, Global};
+use std::io::ErrorKind;
+
+/// A credential helper that follows a script, and writes down what it is asked for.
+#[derive(Drop)]
+pub struct Helper<'a> {
+    alloc: Global,
+    script: &'a [u8],
+    asked: Report,
+}
+
+impl<'a> Helper<'a> {
+    /// A helper that wasn't asked yet.
+    pub fn new(alloc: Global, script: &'a [u8]) -> Helper<'a> {
+        Helper {
+            alloc,
+            script,
+            asked: Report::new(alloc),
+        }
+    }
+
+    fn write_down(&mut self, action: &Action) -> Result<(), AllocError> {
+        let (word, text) = match action {
+            Action::Get { url } => ("Get", url),
+            Action::Store(output) => ("Store", output),
+            Action::Erase(output) => ("Erase", output),
+        };
+        self.asked.word(word)?;
+        self.asked.quote(text.as_bytes())?;
+        self.asked.word(" ")
+    }
+
+    fn account(&self) -> Result<Outcome, AllocError> {
+        Ok(Outcome {
+            identity: Account {
+                username: String::from_str(self.alloc, "me")?,
+                password: String::from_str(self.alloc, "secret")?,
+            },
+            next: NextAction {
+                previous_output: BString::from_slice(self.alloc, "output")?,
+            },
+        })
+    }
+
+    fn failure(&self) -> credentials::Error {
+        let message = match String::from_str(self.alloc, "no helper") {
+            Ok(message) => message,
+            Err(_) => String::new(self.alloc),
+        };
+        credentials::Error { message }
+    }
+
+    /// What it says to an action.
+    pub fn answer(&mut self, action: Action) -> Result<Option<Outcome>, credentials::Error> {
+        if self.write_down(&action).is_err() {
+            return Err(self.failure());
+        }
+        let (letter, rest) = cut_at(self.script, 1);
+        self.script = rest;
+        match letter {
+            [b'n'] => Ok(None),
+            [b'f'] => Err(self.failure()),
+            _ => match self.account() {
+                Ok(outcome) => Ok(Some(outcome)),
+                Err(_) => Err(self.failure()),
+            },
+        }
+    }
+
+    /// Writes what it was asked for.
+    pub fn report(&self, report: &mut Report) -> Result<(), AllocError> {
+        report.word("asked ")?;
+        report.quote(self.asked.bytes())?;
+        report.word(" ")
+    }
+}
+
+/// The body of a word: so many of the bytes, or a failure to get it, `d` for a server that wants an account, `t` for one that
+/// is too slow, `p` for one that hung up. With it the bytes behind it.
+fn body_of<'a>(alloc: Global, word: &[u8], bytes: &'a [u8]) -> Result<(Body, &'a [u8]), AllocError> {
+    match word {
+        [b'd'] => Ok((Body::Fail(ErrorKind::PermissionDenied), bytes)),
+        [b't'] => Ok((Body::Fail(ErrorKind::TimedOut), bytes)),
+        [b'p'] => Ok((Body::Fail(ErrorKind::BrokenPipe), bytes)),
+        _ => {
+            let (body, rest) = cut_at(bytes, number(word).unwrap_or(0));
+            Ok((Body::Bytes(body.to_vec(alloc)?), rest))
+        }
+    }
+}
+
+/// The bodies of words: the length of each, or `d`, `t` or `p` where getting it fails as one that is denied, too slow or
+/// whose server hung up.
+pub fn bodies_of(alloc: Global, words: &[u8], bytes: &[u8]) -> Result<Vec<Body>, AllocError> {
+    let mut bodies = Vec::new(alloc);
+    let mut rest = bytes;
+    for word in words.split(|b| *b == b' ') {
+        let (body, others) = body_of(alloc, word, rest)?;
+        bodies.push(body)?;
+        rest = others;
+    }
+    Ok(bodies)
+}
+
+fn url(alloc: Global) -> Result<BString, AllocError> {
+    BString::from_slice(alloc, "git://h/p.git")
+}
+
+// The versions of a mask.
+fn accepted_of(alloc: Global, mask: u64) -> Result<Vec<Protocol>, AllocError> {
+    let mut accepted = Vec::new(alloc);
+    let mut mask = mask;
+    for version in [Protocol::V0, Protocol::V1, Protocol::V2] {
+        if mask % 2 == 1 {
+            accepted.push(version)?;
+        }
+        mask /= 2;
+    }
+    Ok(accepted)
+}
+
+/// A transport over these bodies that accepts the versions of a mask.
+pub fn memory(alloc: Global, bodies: Vec<Body>, mask: u64) -> Result<Bodies, AllocError> {
+    Bodies::new(alloc, bodies, url(alloc)?, accepted_of(alloc, mask)?)
+}
+
+/// A connection over a device, for a client that asks for a version and accepts those of a mask.
+pub fn connection<'a>(
+    alloc: Global,
+    device: Device<'a>,
+    cut: u64,
+    version: u64,
+    mask: u64,
+) -> Result<Connection<Device<'a>, Paper>, AllocError> {
+    let opening = Opening {
+        path: BString::from_slice(alloc, "/p.git")?,
+        host: Some(BString::from_slice(alloc, "h")?),
+    };
+    Connection::new(
+        alloc,
+        device,
+        Paper::new(alloc, cut),
+        url(alloc)?,
+        version_of(version),
+        accepted_of(alloc, mask)?,
+        Some(opening),
+    )
+}
+
+/// Why a handshake is refused.
+pub fn shake_error(report: &mut Report, e: &Error) -> Result<(), AllocError> {
+    match e {
+        Error::Credentials(e) => {
+            report.word("Credentials(")?;
+            report.quote(e.message.as_bytes())?;
+            report.word(")")?;
+        }
+        Error::EmptyCredentials => report.word("EmptyCredentials")?,
+        Error::InvalidCredentials { url } => {
+            report.word("InvalidCredentials(")?;
+            report.quote(url.as_bytes())?;
+            report.word(")")?;
+        }
+        Error::Transport(e) => {
+            report.word("Transport(")?;
+            client_error(report, e)?;
+            report.word(")")?;
+        }
+        Error::TransportProtocolPolicyViolation { actual_version } => {
+            report.word("TransportProtocolPolicyViolation(")?;
+            report.word(version_word(*actual_version))?;
+            report.word(")")?;
+        }
+        Error::ParseRefs(e) => {
+            report.word("ParseRefs(")?;
+            parse_error(report, e)?;
+            report.word(")")?;
+        }
+        Error::Memory => report.word("Memory")?,
+    }
+    report.word(" ")
+}
+
+/// The version, the capabilities, and the refs and shallow updates if they came.
+pub fn report_shaken(
+    alloc: Global,
+    found: &Handshake,
+    report: &mut Report,
+) -> Result<(), AllocError> {
+    report.word(version_word(found.server_protocol_version))?;
+    report.word(" ")?;
+    capability_list(alloc, report, &found.capabilities)?;
+    report.word("; ")?;
+    match &found.refs {
+        Some(refs) => report_list(report, refs)?,
+        None => report.word("norefs ")?,
+    }
+    match &found.v1_shallow_updates {
+        Some(updates) => {
+            report.word("updates ")?;
+            for found in updates {
+                update(report, *found)?;
+            }
+            Ok(())
+        }
+        None => report.word("noupdates "),
+    }
+}
+
+// The version that a handshake found, if it came so far.
+fn version_found(outcome: &Result<Handshake, Error>) -> Option<Protocol> {
+    match outcome {
+        Ok(found) => Some(found.server_protocol_version),
+        Err(Error::TransportProtocolPolicyViolation { actual_version }) => Some(*actual_version),
+        Err(_) => None,
+    }
+}
+
+// What came of a handshake, what the helper was asked for, what was told, and what stands in the transport.
+fn report_over<T: Transport>(
+    alloc: Global,
+    transport: &mut T,
+    script: &[u8],
+    words: &[u8],
+    report: &mut Report,
+) -> Result<(), AllocError> {
+    let mut helper = Helper::new(alloc, script);
+    let mut progress = Telling::new(alloc);
+    let parameters = parameters_of(alloc, words, b' ')?;
+    let outcome = handshake(
+        alloc,
+        transport,
+        Service::UploadPack,
+        |action: Action| helper.answer(action),
+        parameters,
+        &mut progress,
+    );
+    helper.report(report)?;
+    progress.report(report)?;
+    match &outcome {
+        Ok(found) => report_shaken(alloc, &found.clone()?, report)?,
+        Err(e) => shake_error(report, e)?,
+    }
+    match version_found(&outcome) {
+        Some(version) => report_rest(transport, version, report),
+        None => Ok(()),
+    }
+}
+
+/// A handshake over a connection or memory, and the bytes or the account that the transport was given.
+pub fn report_shake(alloc: Global, row: &Row<'_>, report: &mut Report) -> Result<(), AllocError> {
+    let [over, version, mask, ..] = row.settings;
+    let (script, rest) = cut_at_byte(row.payload, b'\n');
+    let (words, rest) = cut_at_byte(rest, b'\n');
+    let (parameters, bytes) = cut_at_byte(rest, b'\n');
+    if over == 1 {
+        let device = Device::new(bytes, row.cut, row.fail);
+        let mut transport = connection(alloc, device, row.cut, version, mask)?;
+        report_over(alloc, &mut transport, script, parameters, report)?;
+        return report.quote(&transport.writer().bytes);
+    }
+    let mut transport = memory(alloc, bodies_of(alloc, words, bytes)?, mask)?;
+    report_over(alloc, &mut transport, script, parameters, report)?;
+    match transport.identity() {
+        Some(account) => {
+            report.quote(account.username.as_bytes())?;
+            report.quote(account.password.as_bytes())
+        }
+        None => report.word("nobody"),
+    }
+}
