@@ -35,9 +35,12 @@ impl<'a> Device<'a> {
         } else if fail < 1_000_000 {
             (fail - 1, ErrorKind::Interrupted)
         } else if fail < 2_000_000 {
-            (fail - 1_000_000, ErrorKind::TimedOut)
+            ((fail - 1_000_000).saturating_sub(1), ErrorKind::TimedOut)
         } else {
-            (fail - 2_000_000, ErrorKind::PermissionDenied)
+            (
+                (fail - 2_000_000).saturating_sub(1),
+                ErrorKind::PermissionDenied,
+            )
         };
         Device {
             bytes,

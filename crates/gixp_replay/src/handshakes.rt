@@ -11,8 +11,7 @@ use crate::values::{capability_list, client_error, parse_error, update, version_
 use bstr::BString;
 use gixp_lines::handshake::refs::from_v1_refs_received_as_part_of_handshake_and_capabilities;
 use gixp_wire::{
-    Bodies, Body, Capabilities, Connection, Opening, Service, SetServiceResponse,
-    Transport,
+    Bodies, Body, Capabilities, Connection, Opening, Service, SetServiceResponse, Transport,
 };
 use std::alloc::{AllocError, Global};
 

@@ -20,7 +20,7 @@ use gixp_handshake::handshake::{ObtainRefMap, handshake, obtain};
 use gixp_refmap::RefMap;
 use gixp_refmap::refmap::init::{Context, Error};
 use gixp_requests::command::{CommandTable, Feature};
-use gixp_wire::{ExtendedBufRead, LineReader, Protocol, Service, Transport};
+use gixp_wire::{PacketLine, Service, Transport, split_packet_line};
 use std::alloc::{AllocError, Global};
 
 // How the client lists refs.
@@ -179,20 +179,19 @@ fn report_over<T: Transport>(
     }
 }
 
-// The lines and stops of what was sent.
-fn report_sent(alloc: Global, sent: &[u8], report: &mut Report) -> Result<(), AllocError> {
-    let mut bytes = sent;
-    let mut reader = LineReader::new(alloc, &mut bytes)?;
+// The lines and the other packets of what was sent.
+fn report_sent(sent: &[u8], report: &mut Report) -> Result<(), AllocError> {
+    let mut rest = sent;
     report.word("sent ")?;
     for _ in 0..sent.len() {
-        match reader.next_line() {
-            Ok(true) => report.quote(reader.line())?,
-            Ok(false) => {
-                report.word("| ")?;
-                reader.reset(Protocol::V2);
-            }
-            Err(_) => break,
+        let Ok(Some((packet, others))) = split_packet_line(rest) else {
+            break;
+        };
+        match packet {
+            PacketLine::Data(line) => report.quote(line)?,
+            PacketLine::Special(_) => report.word("| ")?,
         }
+        rest = others;
     }
     Ok(())
 }
@@ -211,12 +210,12 @@ pub fn report_listing(alloc: Global, row: &Row<'_>, report: &mut Report) -> Resu
         let device = Device::new(bytes, row.cut, row.fail);
         let mut transport = connection(alloc, device, row.cut, version, 0)?;
         report_over(alloc, &mut transport, client, context, report)?;
-        return report_sent(alloc, &transport.writer().bytes, report);
+        return report_sent(&transport.writer().bytes, report);
     }
     let mut transport = memory(alloc, bodies_of(alloc, words, bytes)?, 0)?;
     report_over(alloc, &mut transport, client, context, report)?;
     for request in transport.sent() {
-        report_sent(alloc, request, report)?;
+        report_sent(request, report)?;
     }
     Ok(())
 }

@@ -13,9 +13,9 @@ use crate::rows::{Row, cut_at, cut_at_byte, number};
 use crate::telling::Telling;
 use crate::values::{capability_list, client_error, parse_error, update, version_of, version_word};
 use bstr::BString;
+use gixp_handshake::Handshake;
 use gixp_handshake::credentials::{self, Account, Action, NextAction, Outcome};
 use gixp_handshake::handshake::{Error, handshake};
-use gixp_handshake::Handshake;
 use gixp_wire::{Bodies, Body, Connection, Opening, Protocol, Service, Transport};
 use std::alloc::{AllocError, Global};
 use std::io::ErrorKind;
@@ -94,9 +94,12 @@ impl<'a> Helper<'a> {
     }
 }
 
-/// The body of a word: so many of the bytes, or a failure to get it, `d` for a server that wants an account, `t` for one that
-/// is too slow, `p` for one that hung up. With it the bytes behind it.
-fn body_of<'a>(alloc: Global, word: &[u8], bytes: &'a [u8]) -> Result<(Body, &'a [u8]), AllocError> {
+// The body of a word, and the bytes behind it.
+fn body_of<'a>(
+    alloc: Global,
+    word: &[u8],
+    bytes: &'a [u8],
+) -> Result<(Body, &'a [u8]), AllocError> {
     match word {
         [b'd'] => Ok((Body::Fail(ErrorKind::PermissionDenied), bytes)),
         [b't'] => Ok((Body::Fail(ErrorKind::TimedOut), bytes)),
