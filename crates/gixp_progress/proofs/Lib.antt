@@ -1,2 +1,4 @@
+pub mod DigitLemmas
 pub mod NumberLemmas
 pub mod PlaceLemmas
+pub mod RunLemmas

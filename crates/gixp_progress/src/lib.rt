@@ -3,6 +3,7 @@
 #![tactic(auto)]
 
 pub mod fetch;
+pub mod laws;
 mod numbers;
 mod remote_progress;
 mod translate;

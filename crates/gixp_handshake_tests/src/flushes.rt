@@ -1,0 +1,59 @@
+//! The flush packet that ends a conversation.
+use crate::devices::{Device, Paper, connection, memory};
+use gixp_handshake::{SendFlushOnDrop, indicate_end_of_interaction};
+use gixp_wire::{Connection, Protocol, client};
+use std::alloc::{AllocError, Global};
+use std::io::ErrorKind;
+use std::test::Fail;
+
+// A connection over which nothing comes, whose write of this number fails.
+fn silent<'a>(
+    alloc: Global,
+    bytes: &'a mut Vec<u8>,
+    fails: usize,
+) -> Result<Connection<Device<'a>, Paper<'a>>, AllocError> {
+    let device = Device {
+        bytes: b"",
+        step: 1,
+        fails: usize::MAX,
+    };
+    connection(alloc, device, Paper { bytes, fails }, Protocol::V2)
+}
+
+#[test]
+fn sends_one_flush_packet_when_dropped(rt: HostRuntime) -> Result<(), Fail> {
+    let a = rt.alloc();
+    for calls in 0..3usize {
+        let mut bytes = Vec::new(a);
+        let mut guard = SendFlushOnDrop::new(silent(a, &mut bytes, usize::MAX)?);
+        for _ in 0..calls {
+            guard.indicate_end_of_interaction()?;
+        }
+        drop(guard);
+        assert_eq!(rt; bytes.as_slice(), b"0000".as_slice(), "{calls}");
+    }
+    Ok(())
+}
+
+#[test]
+fn counts_a_failed_flush_as_sent(rt: HostRuntime) -> Result<(), Fail> {
+    let a = rt.alloc();
+    let mut bytes = Vec::new(a);
+    let mut guard = SendFlushOnDrop::new(silent(a, &mut bytes, 0)?);
+    let refused = guard.indicate_end_of_interaction();
+    assert!(rt; matches!(refused, Err(client::Error::Io(ErrorKind::BrokenPipe))));
+    assert!(rt; guard.indicate_end_of_interaction().is_ok());
+    drop(guard);
+    assert_eq!(rt; bytes.len(), 0);
+    Ok(())
+}
+
+#[test]
+fn sends_nothing_over_bodies(rt: HostRuntime) -> Result<(), Fail> {
+    let a = rt.alloc();
+    let mut guard = SendFlushOnDrop::new(memory(a, false, &[])?);
+    guard.indicate_end_of_interaction()?;
+    indicate_end_of_interaction(&mut guard.inner)?;
+    assert_eq!(rt; guard.inner.sent().len(), 0);
+    Ok(())
+}
