@@ -91,6 +91,7 @@ pub use Rattle.gixp_refspec.specs.Laws as RefspecLaws
 pub use Rattle.gixp_progress.specs.Numbers
 pub use Rattle.gixp_progress.specs.Line
 pub use Rattle.gixp_progress.specs.Translation
+pub use Rattle.gixp_progress.specs.Laws as ProgressLaws
 pub use Rattle.gixp_refmap.specs.ListError
 pub use Rattle.gixp_refmap.specs.Prefixes
 pub use Rattle.gixp_refmap.specs.Listing

@@ -3,7 +3,7 @@ use Rattle.std.proofs.Common.{◌≡◌, ℕ, ◌+◌, ◌-◌, ◌*◌, ◌<◌
 use Rattle.std.specs.Bool.{if◌then◌else◌}
 use Rattle.std.proofs.lemmas.Bool.{ltb-true, ltb-false, le-ltb, lt-ltb}
 use Rattle.std.proofs.lemmas.List.{drop_more, drop_all}
-use Rattle.gixp_progress.specs.Numbers.{number_after, fit, with_digit, fit_number}
+use Rattle.gixp_progress.specs.Numbers.{number_after, with_digit, fit_number}
 
 some_at : (b : Bool) (k m : ℕ) → (if b then Some k else None) ≡ Some m → m ≡ k
 some_at true k m h = cc

@@ -4,7 +4,7 @@ use Rattle.std.specs.Prelude.{not, suc}
 use Rattle.std.specs.List.{list_all, prefix_len, position_or_len}
 use Rattle.std.proofs.lemmas.Bool.{and_parts, false≢true}
 use Rattle.gixp_progress.specs.Numbers.{is_digit, is_other, from_digit, first_run, behind_run}
-use Rattle.gixp_progress.specs.Laws.{begins_with, is_found, IsFirstRun, RunIsFirst, RunIsOnly}
+use Rattle.gixp_progress.specs.Laws.{begins_with, is_found, RunIsFirst, RunIsOnly}
 
 not_not : (b : Bool) → not (not b) ≡ b
 not_not true = refl

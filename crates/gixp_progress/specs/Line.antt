@@ -1,5 +1,5 @@
 -- A line of progress (gitprotocol-pack, "Packfile Data", band 2).
-use Rattle.std.specs.Prelude.{ℕ, ◌==◌, Bool, not, ◌&&◌, ◌||◌, if◌then◌else◌, List, [], ◌∷◌, Option, Some, None, is_some}
+use Rattle.std.specs.Prelude.{ℕ, ◌==◌, Bool, ◌||◌, if◌then◌else◌, List, [], ◌∷◌, Option, Some, None, is_some}
 use Rattle.std.specs.List.{before_first, after_first}
 use Rattle.bstr.specs.BStr.{bstr_bytes}
 use Rattle.gixp_progress.specs.declared.numbers.Numbers.{Numbers}

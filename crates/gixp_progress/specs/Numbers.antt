@@ -1,5 +1,5 @@
 -- The numbers of a progress line, as the `45%`, `9` and `20` of `Counting objects: 45% (9/20)`.
-use Rattle.std.specs.Prelude.{ℕ, ◌==◌, ◌+◌, ◌-◌, ◌*◌, nat_eq, nat_le, nat_lt, Bool, true, false, not, ◌&&◌, if◌then◌else◌, List, [], ◌∷◌, drop, length, codes, Option, Some, None}
+use Rattle.std.specs.Prelude.{ℕ, ◌+◌, ◌-◌, ◌*◌, nat_eq, nat_le, nat_lt, Bool, not, ◌&&◌, if◌then◌else◌, List, [], ◌∷◌, drop, codes, Option, Some, None}
 use Rattle.std.specs.List.{before_first, position_or_len, starts_with}
 use Rattle.gixp_progress.specs.declared.numbers.Numbers.{Numbers}
 
