@@ -19,6 +19,7 @@ mod offers;
 mod openings;
 mod packs;
 mod places;
+mod progress_lines;
 mod refs;
 mod report;
 mod requests;
@@ -74,6 +75,7 @@ fn replay_row(alloc: Global, row: &Row<'_>, report: &mut Report) -> Result<(), A
         Mode::Map => maps::report_row(alloc, row, report),
         Mode::Shake => shakes::report_shake(alloc, row, report),
         Mode::Listing => listings::report_listing(alloc, row, report),
+        Mode::Progress => progress_lines::report_line(alloc, row, report),
     }
 }
 

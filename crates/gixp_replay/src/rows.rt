@@ -44,6 +44,8 @@ pub enum Mode {
     Shake,
     /// `O`: a ref map by a handshake.
     Listing,
+    /// `G`: a line of progress.
+    Progress,
 }
 
 impl Mode {
@@ -64,6 +66,7 @@ impl Mode {
             [b'M'] => Some(Mode::Map),
             [b'S'] => Some(Mode::Shake),
             [b'O'] => Some(Mode::Listing),
+            [b'G'] => Some(Mode::Progress),
             _ => None,
         }
     }

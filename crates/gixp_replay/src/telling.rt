@@ -51,6 +51,12 @@ impl Telling {
         self.words.word("; ")
     }
 
+    fn count(&mut self, step: usize) -> Result<(), AllocError> {
+        self.words.word("set ")?;
+        self.words.number(step as u64)?;
+        self.words.word("; ")
+    }
+
     fn call(&mut self, word: &str, text: &str) -> Result<(), AllocError> {
         self.words.word(word)?;
         self.words.word(text)?;
@@ -73,8 +79,8 @@ impl Progress for Telling {
         self.keep(outcome);
     }
 
-    fn set(&mut self, _step: usize) {
-        let outcome = self.words.word("set; ");
+    fn set(&mut self, step: usize) {
+        let outcome = self.count(step);
         self.keep(outcome);
     }
 

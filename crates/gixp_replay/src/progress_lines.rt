@@ -1,0 +1,42 @@
+//! A line of progress, and what it makes a progress reporter show.
+//!
+//! S0 is 1 for an error of the server. The payload has a line with the name that is shown before, which may be empty
+//! for none, and the text.
+use crate::report::Report;
+use crate::rows::{Row, cut_at_byte};
+use crate::telling::Telling;
+use gixp_progress::RemoteProgress;
+use gixp_wire::Progress;
+use std::alloc::{AllocError, Global};
+
+fn report_number(report: &mut Report, number: Option<u64>) -> Result<(), AllocError> {
+    match number {
+        Some(number) => report.number(number)?,
+        None => report.word("-")?,
+    }
+    report.word(" ")
+}
+
+fn report_parts(report: &mut Report, line: &RemoteProgress<'_>) -> Result<(), AllocError> {
+    report.quote(line.action.as_bytes())?;
+    report.word(" ")?;
+    report_number(report, line.percent.map(|number| number as u64))?;
+    report_number(report, line.step.map(|number| number as u64))?;
+    report_number(report, line.max.map(|number| number as u64))
+}
+
+/// The parts of the line, and what was told.
+pub fn report_line(alloc: Global, row: &Row<'_>, report: &mut Report) -> Result<(), AllocError> {
+    let [is_error, ..] = row.settings;
+    let (shown, text) = cut_at_byte(row.payload, b'\n');
+    match RemoteProgress::from_bytes(text) {
+        Some(line) => report_parts(report, &line)?,
+        None => report.word("none ")?,
+    }
+    let mut progress = Telling::new(alloc);
+    if !shown.is_empty() {
+        progress.set_name(String::from_utf8_lossy(alloc, shown)?);
+    }
+    RemoteProgress::translate_to_progress(alloc, is_error == 1, text, &mut progress)?;
+    progress.report(report)
+}
