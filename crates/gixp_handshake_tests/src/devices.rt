@@ -7,13 +7,13 @@ use std::io::{ErrorKind, Read, Write};
 
 // Bytes of which each read gives at most `step`. The read of number `fails` fails.
 #[derive(Drop)]
-pub(crate) struct Device<'a> {
-    pub(crate) bytes: &'a [u8],
+pub(crate) struct Device {
+    pub(crate) bytes: &'static [u8],
     pub(crate) step: usize,
     pub(crate) fails: usize,
 }
 
-impl Read for Device<'_> {
+impl Read for Device {
     fn read(&mut self, buf: &mut [u8]) -> io::Result<usize> {
         if self.fails == 0 {
             self.fails = usize::MAX;
@@ -28,25 +28,19 @@ impl Read for Device<'_> {
     }
 }
 
-// A writer whose bytes outlive it, of which each write takes at most 16. The write of number `fails` fails, and each
-// behind it.
+// A writer of which each write takes at most 16 bytes. The write of number `fails` fails, and each behind it.
 #[derive(Drop)]
-pub(crate) struct Paper<'a> {
-    pub(crate) bytes: &'a mut Vec<u8>,
+pub(crate) struct Broken {
     pub(crate) fails: usize,
 }
 
-impl Write for Paper<'_> {
+impl Write for Broken {
     fn write(&mut self, buf: &[u8]) -> io::Result<usize> {
         if self.fails == 0 {
             return Err(io::Error::from(ErrorKind::BrokenPipe));
         }
         self.fails -= 1;
-        let amount = buf.len().min(16);
-        match self.bytes.extend_from_slice(&buf[..amount]) {
-            Ok(()) => Ok(amount),
-            Err(_) => Err(io::Error::from(ErrorKind::OutOfMemory)),
-        }
+        Ok(buf.len().min(16))
     }
 
     fn flush(&mut self) -> io::Result<()> {
@@ -59,19 +53,19 @@ pub(crate) fn text(alloc: Global, bytes: &[u8]) -> Result<BString, AllocError> {
 }
 
 // A connection that opens `/p.git`, and accepts each version.
-pub(crate) fn connection<'a>(
+pub(crate) fn connection<W: Write + Drop>(
     alloc: Global,
-    device: Device<'a>,
-    paper: Paper<'a>,
+    device: Device,
+    writer: W,
     version: Protocol,
-) -> Result<Connection<Device<'a>, Paper<'a>>, AllocError> {
+) -> Result<Connection<Device, W>, AllocError> {
     let opening = Opening {
         path: text(alloc, b"/p.git")?,
         host: None,
     };
     let url = text(alloc, b"git://h/p.git")?;
     let accepted = Vec::new(alloc);
-    Connection::new(alloc, device, paper, url, version, accepted, Some(opening))
+    Connection::new(alloc, device, writer, url, version, accepted, Some(opening))
 }
 
 // A transport over memory with these answers. A server that wants an account denies the first handshake.

@@ -1,23 +1,39 @@
 //! The flush packet that ends a conversation.
-use crate::devices::{Device, Paper, connection, memory};
+use crate::devices::{Broken, Device, connection, memory};
 use gixp_handshake::{SendFlushOnDrop, indicate_end_of_interaction};
 use gixp_wire::{Connection, Protocol, client};
 use std::alloc::{AllocError, Global};
-use std::io::ErrorKind;
+use std::io;
+use std::io::{ErrorKind, Write};
 use std::test::Fail;
 
-// A connection over which nothing comes, whose write of this number fails.
-fn silent<'a>(
-    alloc: Global,
+// A writer whose bytes outlive it.
+#[derive(Drop)]
+struct Paper<'a> {
     bytes: &'a mut Vec<u8>,
-    fails: usize,
-) -> Result<Connection<Device<'a>, Paper<'a>>, AllocError> {
+}
+
+impl Write for Paper<'_> {
+    fn write(&mut self, buf: &[u8]) -> io::Result<usize> {
+        match self.bytes.extend_from_slice(buf) {
+            Ok(()) => Ok(buf.len()),
+            Err(_) => Err(io::Error::from(ErrorKind::OutOfMemory)),
+        }
+    }
+
+    fn flush(&mut self) -> io::Result<()> {
+        Ok(())
+    }
+}
+
+// A connection over which nothing comes.
+fn silent<W: Write + Drop>(alloc: Global, writer: W) -> Result<Connection<Device, W>, AllocError> {
     let device = Device {
         bytes: b"",
         step: 1,
         fails: usize::MAX,
     };
-    connection(alloc, device, Paper { bytes, fails }, Protocol::V2)
+    connection(alloc, device, writer, Protocol::V2)
 }
 
 #[test]
@@ -25,7 +41,7 @@ fn sends_one_flush_packet_when_dropped(rt: HostRuntime) -> Result<(), Fail> {
     let a = rt.alloc();
     for calls in 0..3usize {
         let mut bytes = Vec::new(a);
-        let mut guard = SendFlushOnDrop::new(silent(a, &mut bytes, usize::MAX)?);
+        let mut guard = SendFlushOnDrop::new(silent(a, Paper { bytes: &mut bytes })?);
         for _ in 0..calls {
             guard.indicate_end_of_interaction()?;
         }
@@ -38,13 +54,10 @@ fn sends_one_flush_packet_when_dropped(rt: HostRuntime) -> Result<(), Fail> {
 #[test]
 fn counts_a_failed_flush_as_sent(rt: HostRuntime) -> Result<(), Fail> {
     let a = rt.alloc();
-    let mut bytes = Vec::new(a);
-    let mut guard = SendFlushOnDrop::new(silent(a, &mut bytes, 0)?);
+    let mut guard = SendFlushOnDrop::new(silent(a, Broken { fails: 0 })?);
     let refused = guard.indicate_end_of_interaction();
     assert!(rt; matches!(refused, Err(client::Error::Io(ErrorKind::BrokenPipe))));
     assert!(rt; guard.indicate_end_of_interaction().is_ok());
-    drop(guard);
-    assert_eq!(rt; bytes.len(), 0);
     Ok(())
 }
 

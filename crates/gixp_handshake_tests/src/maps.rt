@@ -1,5 +1,5 @@
 //! Lists of refs over devices that fail, and ref maps with allocations that fail.
-use crate::devices::{Device, Paper, connection, memory, text};
+use crate::devices::{Broken, Device, connection, memory, text};
 use crate::telling::nothing_told;
 use bstr::BStr;
 use gixp_handshake::Handshake;
@@ -65,17 +65,13 @@ fn listed<T: Transport>(
 fn tells_of_each_write_of_a_request_that_fails(rt: HostRuntime) -> Result<(), Fail> {
     let a = rt.alloc();
     for fails in 0..6usize {
-        let mut bytes = Vec::new(a);
         let device = Device {
             bytes: REFS,
             step: usize::MAX,
             fails: usize::MAX,
         };
-        let paper = Paper {
-            bytes: &mut bytes,
-            fails,
-        };
-        let mut transport = connection(a, device, paper, Protocol::V2)?;
+        let writer = Broken { fails };
+        let mut transport = connection(a, device, writer, Protocol::V2)?;
         let refused = listed(a, &mut transport, b"HEAD")?;
         let said = format!(in a; "{refused:?}")?;
         assert_eq!(rt;

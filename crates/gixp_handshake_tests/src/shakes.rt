@@ -1,5 +1,5 @@
 //! Handshakes over devices that fail, and with an account.
-use crate::devices::{Device, Paper, connection, memory, text};
+use crate::devices::{Broken, Device, connection, memory, text};
 use crate::telling::nothing_told;
 use gixp_handshake::Handshake;
 use gixp_handshake::credentials::{self, Account, Action, NextAction, Outcome};
@@ -56,17 +56,13 @@ fn with_account(alloc: Global) -> Result<Option<Outcome>, credentials::Error> {
 fn tells_of_each_read_that_fails(rt: HostRuntime) -> Result<(), Fail> {
     let a = rt.alloc();
     for fails in 0..REFS.len().div_ceil(7) {
-        let mut bytes = Vec::new(a);
         let device = Device {
             bytes: REFS,
             step: 7,
             fails,
         };
-        let paper = Paper {
-            bytes: &mut bytes,
-            fails: usize::MAX,
-        };
-        let mut transport = connection(a, device, paper, Protocol::V1)?;
+        let writer = Broken { fails: usize::MAX };
+        let mut transport = connection(a, device, writer, Protocol::V1)?;
         let refused = shake(a, &mut transport);
         let said = format!(in a; "{refused:?}")?;
         // The capability advertisement ends with byte 92.
@@ -85,17 +81,13 @@ fn tells_of_each_write_that_fails(rt: HostRuntime) -> Result<(), Fail> {
     let a = rt.alloc();
     // The opening has 38 bytes.
     for fails in 0..3usize {
-        let mut bytes = Vec::new(a);
         let device = Device {
             bytes: REFS,
             step: usize::MAX,
             fails: usize::MAX,
         };
-        let paper = Paper {
-            bytes: &mut bytes,
-            fails,
-        };
-        let mut transport = connection(a, device, paper, Protocol::V1)?;
+        let writer = Broken { fails };
+        let mut transport = connection(a, device, writer, Protocol::V1)?;
         for _ in 0..2 {
             let refused = shake(a, &mut transport);
             let said = format!(in a; "{refused:?}")?;
