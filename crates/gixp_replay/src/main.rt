@@ -10,6 +10,7 @@ mod answers;
 mod bands;
 mod capabilities;
 mod device;
+mod fetches;
 mod handshakes;
 mod lines;
 mod offers;
@@ -20,6 +21,7 @@ mod refs;
 mod report;
 mod requests;
 mod rows;
+mod scripts;
 mod sessions;
 mod values;
 
@@ -66,6 +68,7 @@ fn replay_row(alloc: Global, row: &Row<'_>, report: &mut Report) -> Result<(), A
         Mode::AnswerLine => answer_lines::report_line(alloc, row, report),
         Mode::Requests => requests::report_requests(alloc, row, report),
         Mode::Session => sessions::report_session(alloc, row, report),
+        Mode::Fetch => fetches::report_fetch(alloc, row, report),
     }
 }
 
