@@ -155,6 +155,28 @@ fn leaves_what_a_consumer_leaves(rt: HostRuntime) -> Result<(), Fail> {
     Ok(())
 }
 
+// A pack in which the server refuses to go on.
+const REFUSED: &[u8] = b"000dpackfile\n0007\x01PA0011ERR no access0006\x01C0000";
+
+#[test]
+fn tells_what_stands_behind_a_consumer(rt: HostRuntime) -> Result<(), Fail> {
+    let a = rt.alloc();
+    for (says, want) in [
+        (
+            Says::ReadOn,
+            "ReadRemainingBytes(Server { message: \"no access\" }), 0 at the boundary, locked false",
+        ),
+        (Says::Leave, "1 rounds, 0 at the boundary, locked false"),
+    ] {
+        let [greeting, refs, ..] = V2;
+        let mut transport = bodies(a, &[greeting, refs, REFUSED])?;
+        let mut consumer = Taste { says, byte: [0] };
+        let text = fetch_by(a, &mut transport, sound(0), &mut consumer)?;
+        assert_eq!(rt; text.as_str(), want);
+    }
+    Ok(())
+}
+
 #[test]
 fn tells_of_a_writer_that_takes_no_pack(rt: HostRuntime) -> Result<(), Fail> {
     let a = rt.alloc();
@@ -210,7 +232,7 @@ fn tells_of_each_call_of_the_repository_that_fails(rt: HostRuntime) -> Result<()
     let a = rt.alloc();
     for (part, calls, want) in [
         (0usize, 2u64, "Negotiate(LookupCommitInGraph(Io(TimedOut)))"),
-        (1, 23, "Negotiate(LookupCommitInGraph(Corrupt))"),
+        (1, 22, "Negotiate(LookupCommitInGraph(Corrupt))"),
         (2, 1, "Negotiate(InitRefIter)"),
     ] {
         for number in 0..calls {
