@@ -153,7 +153,8 @@ where
     )
 }
 
-/// A handshake and a whole fetch into a repository of these parts, as a text: the first error, or how many rounds there were.
+/// A handshake and a whole fetch into a repository of these parts, as a text: the first error, or how
+/// many rounds a copy of the outcome has.
 pub(crate) fn run<T: Transport, P: NestedProgress, C: ConsumePack<P, Error = CopyError>>(
     alloc: Global,
     transport: &mut T,
@@ -177,7 +178,10 @@ where
     match fetch_by(
         alloc, transport, &mut hands, &map, parts, consumer, progress, store, shallow,
     ) {
-        Ok(Some(outcome)) => format!(in alloc; "{} rounds", outcome.negotiate.rounds.len()),
+        Ok(Some(outcome)) => {
+            let copy = outcome.clone()?;
+            format!(in alloc; "{} rounds", copy.negotiate.rounds.len())
+        }
         Ok(None) => String::from_str(alloc, "nothing"),
         Err(e) => format!(in alloc; "{e:?}"),
     }
