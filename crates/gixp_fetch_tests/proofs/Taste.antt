@@ -1,5 +1,6 @@
 -- What a consumer that reads once leaves.
-use Rattle.std.specs.Prelude.{◌≡◌, ◌⊎◌, inl, inr, ℕ, List, [], take, Result, Ok, Err}
+use Rattle.std.specs.Prelude.{◌≡◌, ◌⊎◌, ℕ, List, [], take, Result, Ok, Err}
+use Rattle.std.proofs.Common.{inl, inr}
 use Rattle.std.specs.declared.io.Error.{Error as io_error}
 use Rattle.gixp_wire.specs.Reading.{Reading, AtStop, Fails}
 use Rattle.gixp_wire.specs.Pieces.{Refusal}

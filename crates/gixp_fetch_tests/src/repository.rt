@@ -8,6 +8,7 @@ use gixp_graph::{
     CommitData, Graph, Negotiator, NegotiatorError, ObjectError, ObjectKind, Objects, RefStore,
     RefStoreError,
 };
+use gixp_negotiate::negotiate::plain::{NoObjects, NoRefs};
 use gixp_wire::ObjectId;
 use std::alloc::Global;
 use std::io::ErrorKind;
@@ -24,25 +25,24 @@ impl Objects for Looks {
 
     ghost failures = { λ r. r.failures };
 
-    fn exists(&self, _id: &ObjectId) -> bool {
-        false
+    fn exists(&self, id: &ObjectId) -> bool {
+        NoObjects.exists(id)
     }
 
-    fn kind(&self, _id: &ObjectId) -> Option<ObjectKind> {
-        None
+    fn kind(&self, id: &ObjectId) -> Option<ObjectKind> {
+        NoObjects.kind(id)
     }
 
-    fn commit(
-        &mut self,
-        _alloc: Global,
-        _id: &ObjectId,
-    ) -> Result<Option<CommitData>, ObjectError> {
+    fn commit(&mut self, alloc: Global, id: &ObjectId) -> Result<Option<CommitData>, ObjectError> {
         if self.fails == 0 {
             self.failures = self.failures.saturating_add(1);
             return Err(ObjectError::Io(ErrorKind::TimedOut));
         }
         self.fails -= 1;
-        Ok(None)
+        match NoObjects.commit(alloc, id) {
+            Ok(found) => Ok(found),
+            Err(_) => Err(ObjectError::Memory),
+        }
     }
 }
 
@@ -63,8 +63,8 @@ impl RefStore for Tips {
 
     ghost failures = { λ r. r.failures };
 
-    fn find(&self, _name: BStr<'_>) -> Option<ObjectId> {
-        None
+    fn find(&self, name: BStr<'_>) -> Option<ObjectId> {
+        NoRefs.find(name)
     }
 
     fn peeled(&mut self, alloc: Global) -> Result<Vec<ObjectId>, RefStoreError> {

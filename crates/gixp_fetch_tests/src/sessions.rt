@@ -271,6 +271,7 @@ fn tells_each_round(rt: HostRuntime) -> Result<(), Fail> {
     )?;
     drop(progress);
     assert_eq!(rt; text.as_str(), "3 rounds");
-    assert_eq!(rt; str::from_utf8(&said)?, CALLS);
+    // Where a name can't be allocated, the step alone is told.
+    assert_eq!(rt; str::from_utf8(&said)?, CALLS, "without an AllocError");
     Ok(())
 }
