@@ -4,7 +4,7 @@
 //! where the fetch is made again for each proper beginning of the bytes. The payload is a script, as `scripts` says, and
 //! the bytes. The report has the error of the first call that is refused, or what the fetch returned; then the pack, how
 //! often the lock was had and released, the boundary, what stands in the transport, and the bytes that were sent.
-ghost use Rattle.std.specs.Prelude.{None};
+ghost use Rattle.std.specs.Prelude.{◌≡◌, None};
 ghost use Rattle.gixp_fetch.specs.Store.{IsStoreRefusal};
 
 use crate::device::Device;
@@ -49,7 +49,9 @@ struct Shop {
 
 impl Shop {
     // Whether this call is refused.
-    fn refuses(&mut self) -> bool {
+    fn refuses(&mut self) -> bool
+        ensures { self.new.failures ≡ self.old.failures }
+    {
         if self.call == 0 {
             self.call = u64::MAX;
             return true;
