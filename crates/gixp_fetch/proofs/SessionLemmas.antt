@@ -52,7 +52,7 @@ back_held s new b = at (is_begun s.place) refl
     at false e = ap (λ (r : Reading). r.held) (b.fresh e)
 
 module _ {C P X : Type 0} (consumes : C → Side → P → Result Bool X → C → Side → P → Type 0) (c : C) where
-  received_held : (from : Reading) (d : C) (new : Reading) (q : P) → Received consumes c from d new q → new.held ≡ from.held
+  pub received_held : (from : Reading) (d : C) (new : Reading) (q : P) → Received consumes c from d new q → new.held ≡ from.held
   received_held from d new q r = back_held r.end new r.back ∙ finished_held r.finished r.mid r.end r.finishes ∙ held_through (fresh_side r.name from) r.mid r.consumed.held
 
   pack_held : (start : Side) (p : P) (error : PackFailure X) (d : C) (end : Side) (q : P) → PackFails consumes c start p error d end q → end.reading.held ≡ start.reading.held
@@ -193,7 +193,7 @@ module _ {N I A : Type 0} (m : Manner N I A) where
 
 -- ---- a whole fetch
 
-begins_of : {N A : Type 0} (office : Office N A) (first : N) (given : Asked) (action : ActionValue) (ready : N) (wanted : Asked) → Readied office first given action ready wanted → Begins office first ready
+pub begins_of : {N A : Type 0} (office : Office N A) (first : N) (given : Asked) (action : ActionValue) (ready : N) (wanted : Asked) → Readied office first given action ready wanted → Begins office first ready
 begins_of office first given action ready wanted r = record {
   known = r.known;
   marked = r.marked;
