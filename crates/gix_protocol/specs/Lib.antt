@@ -138,6 +138,12 @@ pub use Rattle.gixp_fetch.specs.Fetched
 pub use Rattle.gixp_fetch.specs.Prepare
 pub use Rattle.gixp_fetch.specs.Bound
 pub use Rattle.gixp_fetch.specs.Sent
+pub use Rattle.gixp_fetch.specs.Boundary
+pub use Rattle.gixp_fetch.specs.ShallowText
+pub use Rattle.gixp_fetch.specs.ShallowFile
+pub use Rattle.gixp_fetch.specs.Sessions
+pub use Rattle.gixp_fetch.specs.Again
+pub use Rattle.gixp_fetch.specs.Headline
 -- The types that they speak of.
 pub use Rattle.gixp_wire.specs.declared.object_id.ObjectId as ObjectIdType
 pub use Rattle.gixp_lines.specs.declared.handshake.refs.parse.Error as RefsError

@@ -5,7 +5,9 @@ pub use gixp_fetch::consume::{ConsumePack, CopyError, CopyPack, ReadToEnd};
 pub use gixp_fetch::error::Error;
 pub use gixp_fetch::fetch::fetch;
 pub use gixp_fetch::options::{Context, NegotiateOutcome, Options, Outcome};
-pub use gixp_fetch::shallow::{ShallowError, ShallowMemory, ShallowStore};
+pub use gixp_fetch::shallow::{
+    ShallowError, ShallowFile, ShallowMemory, ShallowStore, shallow_ids, shallow_text,
+};
 pub use gixp_fetch::{RemoteText, laws};
 pub use gixp_lines::fetch::{Response, response};
 pub use gixp_negotiate::shallow::Shallow;

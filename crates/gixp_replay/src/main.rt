@@ -10,6 +10,7 @@ mod answers;
 mod bands;
 mod capabilities;
 mod device;
+mod fetches;
 mod handshakes;
 mod lines;
 mod listings;
@@ -24,6 +25,7 @@ mod refs;
 mod report;
 mod requests;
 mod rows;
+mod scripts;
 mod sessions;
 mod shakes;
 mod telling;
@@ -76,6 +78,7 @@ fn replay_row(alloc: Global, row: &Row<'_>, report: &mut Report) -> Result<(), A
         Mode::Shake => shakes::report_shake(alloc, row, report),
         Mode::Listing => listings::report_listing(alloc, row, report),
         Mode::Progress => progress_lines::report_line(alloc, row, report),
+        Mode::Fetch => fetches::report_fetch(alloc, row, report),
     }
 }
 

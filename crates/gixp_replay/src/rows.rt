@@ -46,6 +46,8 @@ pub enum Mode {
     Listing,
     /// `G`: a line of progress.
     Progress,
+    /// `F`: a whole fetch.
+    Fetch,
 }
 
 impl Mode {
@@ -67,6 +69,7 @@ impl Mode {
             [b'S'] => Some(Mode::Shake),
             [b'O'] => Some(Mode::Listing),
             [b'G'] => Some(Mode::Progress),
+            [b'F'] => Some(Mode::Fetch),
             _ => None,
         }
     }

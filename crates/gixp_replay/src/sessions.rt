@@ -159,8 +159,8 @@ fn report_over<T: Transport>(
     report_rest(transport, version, report)
 }
 
-// Bodies of these lengths.
-fn cut_bodies(alloc: Global, lengths: &[u8], bytes: &[u8]) -> Result<Vec<Body>, AllocError> {
+/// Bodies of these lengths.
+pub fn cut_bodies(alloc: Global, lengths: &[u8], bytes: &[u8]) -> Result<Vec<Body>, AllocError> {
     let mut answers = Vec::new(alloc);
     let mut rest = bytes;
     for word in lengths.split(|b| *b == b' ') {

@@ -1,4 +1,5 @@
 //! Which commits both sides have, round by round.
+pub use gixp_fetch::again::NamesCommons;
 pub use gixp_graph::{
     CommitData, Flags, Graph, Negotiator, NegotiatorError, ObjectError, ObjectKind, Objects,
     RefStore, RefStoreError,

@@ -1,0 +1,255 @@
+-- What is true of a client's whole run.
+use Rattle.std.proofs.Common.{◌≡◌, ◌⊎◌, inl, inr, ℕ, Bool, true, false, not, List, [], ◌∷◌, ◌++◌, map, refl, sym, ap, subst, ◌∙◌, Option, Some, None}
+use Rattle.std.specs.Prelude.{Result, Ok, Err, IfSome, Vec, ⊤}
+use Rattle.std.specs.declared.alloc.Global.{Global}
+use Rattle.gixp_wire.specs.declared.protocol.Protocol.{Protocol}
+use Rattle.gixp_wire.specs.declared.protocol.MessageKind.{MessageKind}
+use Rattle.gixp_wire.specs.declared.service.Service.{Service}
+use Rattle.gixp_wire.specs.declared.service.SetServiceResponse.{SetServiceResponse}
+use Rattle.gixp_wire.specs.Capabilities.{CapabilityValue}
+use Rattle.gixp_wire.specs.Greeting.{Parameter}
+use Rattle.gixp_wire.specs.Lines.{Lines, stop, lines_to}
+use Rattle.gixp_wire.specs.Pieces.{Pieces}
+use Rattle.gixp_wire.specs.Reading.{Reading, lines_ahead}
+use Rattle.gixp_sidebands.specs.Bands.{Side, content_left, content_of, side_content, IsFirstOf}
+use Rattle.gixp_lines.specs.declared.handshake.Ref.{Ref}
+use Rattle.gixp_lines.specs.declared.handshake.refs.parse.Error.{Error as refs_error}
+use Rattle.gixp_lines.specs.declared.fetch.response.error.Error.{Error as answer_error}
+use Rattle.gixp_lines.specs.declared.fetch.response.line.ShallowUpdate.{ShallowUpdate}
+use Rattle.gixp_lines.specs.Ref.{ref_value}
+use Rattle.gixp_lines.specs.RefLine.{RefsRefusal, refusal_from}
+use Rattle.gixp_lines.specs.ParseError.{IsRefusal as IsRefsRefusal}
+use Rattle.gixp_lines.specs.Refs.{v2_refs, RefsFail}
+use Rattle.gixp_lines.specs.Advertisement.{Symref, v1_refs}
+use Rattle.gixp_lines.specs.V1Refs.{ReadsV1, V1Fails, GivesAdvertisement}
+use Rattle.gixp_lines.specs.ResponseError.{AnswerRefusal, from_reader, IsRefusal}
+use Rattle.gixp_lines.specs.Answer.{AnswerValue, Found, whole, refused}
+use Rattle.gixp_lines.specs.Reads.{Answered, AnswerFails}
+use Rattle.gixp_requests.specs.Arguments.{Asked}
+use Rattle.gixp_requests.specs.Feature.{FeatureValue}
+use Rattle.gixp_requests.specs.Command.{Table}
+use Rattle.gixp_refmap.specs.declared.ls_refs.error.Error.{Error as list_error}
+use Rattle.gixp_refmap.specs.declared.refmap.init.Context.{Context}
+use Rattle.gixp_refmap.specs.declared.refmap.init.Error.{Error as map_error}
+use Rattle.gixp_refmap.specs.declared.refmap.map.RefMap.{RefMap}
+use Rattle.gixp_refmap.specs.Listing.{Listing, listing_of, SendsListing, Lists as ListsRefs}
+use Rattle.gixp_refmap.specs.Mapping.{joined_specs, AnswersMap, HoldsOfAll}
+use Rattle.gixp_handshake.specs.declared.handshake.read.Handshake.{Handshake}
+use Rattle.gixp_handshake.specs.declared.handshake.ref_map.ObtainRefMap.{ObtainRefMap}
+use Rattle.gixp_handshake.specs.declared.handshake.ref_map.ObtainRefMap.TheVariants.{Existing, LsRefsCommand}
+use Rattle.gixp_handshake.specs.Shake.{Turn as credential_turn, Opened, Opens, NoMemory, GoesOn, Keeps, ReadsFirst, Shakes, is_accepted}
+use Rattle.gixp_handshake.specs.Obtain.{MakesMap, PreparesBy, ByList, FetchesList, ObtainsBy, Obtains}
+use Rattle.gixp_negotiate.specs.declared.negotiate.Round.{Round}
+use Rattle.gixp_negotiate.specs.Negotiate.{ActionValue, Lawful, IsWide}
+use Rattle.gixp_fetch.specs.declared.options.Outcome.{Outcome}
+use Rattle.gixp_fetch.specs.declared.error.Error.{Error}
+use Rattle.gixp_fetch.specs.Rounds.{At, Turn, Manner, Turns, Rounds, Packed}
+use Rattle.gixp_fetch.specs.View.{view}
+use Rattle.gixp_fetch.specs.Sent.{request_of, requests_of, WroteRequests}
+use Rattle.gixp_fetch.specs.Receive.{fresh_side}
+use Rattle.gixp_fetch.specs.Received.{Received}
+use Rattle.gixp_fetch.specs.Fetch.{World, Parties, Session}
+use Rattle.gixp_fetch.specs.Fetched.{Call, Carried, Fetches}
+use Rattle.gixp_fetch.specs.Headline.{AnswersAreRefused, RefsAreRefused, AdvertisementsAreRefused, AnswerFromOutside, RefsFromOutside, Run, Shown, Listed, IsAnswer, AreAnswers, TakesPack, Conversation, Converses, Promise}
+use Rattle.gixp_fetch.proofs.SentLemmas.{last_written, held_written}
+use Rattle.gixp_fetch.proofs.SessionLemmas.{received_held, begins_of, session_held}
+
+-- ---- refusals
+
+pub answers_refused : AnswersAreRefused
+answers_refused found plain old new e (inl h) = inl (h.refusal, h.first, h.error)
+answers_refused found plain old new e (inr (inl h)) = inl (from_reader h.refusal, h.first, λ _. h.error)
+answers_refused found plain old new e (inr (inr (inl h))) = inr (inl (h.now, h.refusal, h.failed, h.error))
+answers_refused found plain old new e (inr (inr (inr h))) = inr (inr h.error)
+
+pub refs_refused : RefsAreRefused
+refs_refused plain old new e (inl h) = inl (h.refusal, h.first, h.error)
+refs_refused plain old new e (inr (inl h)) = inl (refusal_from h.refusal, h.first, λ _. h.error)
+refs_refused plain old new e (inr (inr (inl h))) = inr (inl (h.now, h.refusal, h.failed, h.error))
+refs_refused plain old new e (inr (inr (inr h))) = inr (inr h.error)
+
+pub advertisements_refused : AdvertisementsAreRefused
+advertisements_refused t plain old new e (inl h) = inl (h.refusal, h.first, h.error)
+advertisements_refused t plain old new e (inr (inl h)) = inl (refusal_from h.refusal, h.first, λ _. h.error)
+advertisements_refused t plain old new e (inr (inr (inl h))) = inr (inl (h.now, h.refusal, h.failed, h.error))
+advertisements_refused t plain old new e (inr (inr (inr h))) = inr (inr h.error)
+
+-- ---- refs, and the map of them
+
+if_some : {X : Type 0} (o : Option X) (P Q : X → Type 0) → ((x : X) → P x → Q x) → IfSome o P → IfSome o Q
+if_some None P Q f h = tt
+if_some (Some x) P Q f h = f x h
+
+lines_read : (t : List Symref) (from new : Reading) (refs : List Ref) (updates : List ShallowUpdate) → ReadsV1 t from new refs updates → IfSome from.to_come (λ p. v1_refs t (lines_ahead from p) ≡ Ok (map ref_value refs))
+lines_read t from new refs updates h =
+    if_some from.to_come (λ p. (q : Pieces) × (new.to_come ≡ Some q) × (lines_ahead from p ≡ lines_to h.texts (stop h.kind q))) (λ p. v1_refs t (lines_ahead from p) ≡ Ok (map ref_value refs))
+    (λ p l. ap (v1_refs t) l.2 ∙ h.values) h.lines
+
+module _ (service : Service) (ps : List Parameter) (plain : Bool) (turns : List credential_turn) (start shaken : Reading) (h : Handshake) where
+  shown_first : (mid : Reading) (found : SetServiceResponse) (has : Bool) (refs : Vec Ref Global) → h.refs ≡ Some refs → Opens service ps start mid turns (Ok found) → ReadsFirst has found plain mid shaken (Ok h)
+      → Shown service ps turns start refs.items
+  shown_first mid found false refs e o r = cc (e, r.1)
+  shown_first mid found true refs e o r =
+      let same : r.0 ≡ refs = by_some (sym r.2 ∙ e) in
+      let a = r.4 in
+      record {
+        found = found;
+        from = mid;
+        opens = o;
+        table = a.0;
+        symrefs = a.1;
+        refs = subst (λ (v : Vec Ref Global). IfSome mid.to_come (λ p. v1_refs a.0 (lines_ahead mid p) ≡ Ok (map ref_value v.items))) same (lines_read a.0 mid shaken r.0.items r.1.items a.2);
+      }
+    where
+      by_some : {x y : Vec Ref Global} → Some x ≡ Some y → x ≡ y
+      by_some e = cc
+
+  shown_kept : (accepted : Bool) (mid : Reading) (found : SetServiceResponse) (refs : Vec Ref Global) → h.refs ≡ Some refs → Opens service ps start mid turns (Ok found) → Keeps accepted found plain mid shaken (Ok h)
+      → Shown service ps turns start refs.items
+  shown_kept true mid found refs e o k = shown_first mid found found.has_refs refs e o k.0
+  shown_kept false mid found refs e o k = cc k.1
+
+  shown_opened : (opened : Opened) (mid : Reading) (refs : Vec Ref Global) → h.refs ≡ Some refs → Opens service ps start mid turns opened ⊎ NoMemory start mid turns opened
+      → GoesOn start.held.accepted opened plain mid shaken (Ok h) → Shown service ps turns start refs.items
+  shown_opened (Err x) mid refs e o g = cc g.1
+  shown_opened (Ok found) mid refs e (inl o) g = shown_kept (is_accepted start.held.accepted found.actual_protocol) mid found refs e o g
+  shown_opened (Ok found) mid refs e (inr n) g = cc n.error
+
+  shown_refs : (refs : Vec Ref Global) → h.refs ≡ Some refs → Shakes service ps plain start shaken turns (Ok h) → Shown service ps turns start refs.items
+  shown_refs refs e s = shown_opened s.opened s.mid refs e s.opens s.goes_on
+
+abbrev ok_map : RefMap → Result RefMap map_error
+ok_map made = Ok made
+
+-- what stands behind a map: its refs came with the handshake, or answered the command
+pub record Stands (service : Service) (ps : List Parameter) (turns : List credential_turn) (start shaken : Reading) (table : Table) (agent : FeatureValue) (context : Context) (caps : List CapabilityValue) (made : RefMap) : Type 0 where
+  pub came : Shown service ps turns start made.remote_refs.items ⊎ Listed table agent context caps shaken made.remote_refs.items
+  pub maps : MakesMap caps context made.remote_refs.items (Ok made)
+
+module _ (service : Service) (ps : List Parameter) (plain : Bool) (turns : List credential_turn) (start shaken mapped : Reading) (h : Handshake) (table : Table) (agent : FeatureValue) (context : Context) (made : RefMap) where
+  abbrev Goal : Type 0
+  Goal = Stands service ps turns start shaken table agent context h.capabilities made
+
+  by_listed : (l : Listing) (caps : List CapabilityValue) (ctx : Context) (listed : Result (Vec Ref Global) list_error) → ListsRefs l plain shaken mapped listed → ByList caps ctx listed (Ok made)
+      → (refs : Vec Ref Global) × (listed ≡ Ok refs) × MakesMap caps ctx refs.items (Ok made)
+  by_listed l caps ctx (Ok refs) s b = (refs, refl, b)
+  by_listed l caps ctx (Err e) s b = cc b
+
+  by_prepared : (prepared : Result ObtainRefMap map_error) (given : Option (Vec Ref Global)) → h.refs ≡ given → PreparesBy given table true agent context h.capabilities prepared
+      → ObtainsBy prepared plain shaken mapped (Ok made) → Shakes service ps plain start shaken turns (Ok h) → Goal
+  by_prepared (Err e) given r p o s = cc o.1
+  by_prepared (Ok (Existing m)) None r p o s = absurd p
+  by_prepared (Ok (LsRefsCommand command handed)) (Some refs) r p o s = absurd p
+  by_prepared (Ok (Existing m)) (Some refs) r p o s =
+      let same : made ≡ m = by_ok o.1 in
+      let p' : MakesMap h.capabilities context refs.items (Ok made) = subst (λ x. MakesMap h.capabilities context refs.items (Ok x)) (sym same) p in
+      let are : made.remote_refs.items ≡ refs.items = p'.refs in
+      record {
+        came = inl (subst (Shown service ps turns start) (sym are) (shown_refs service ps plain turns start shaken h refs r s));
+        maps = subst (λ given. MakesMap h.capabilities context given (Ok made)) (sym are) p';
+      }
+    where
+      by_ok : {x y : RefMap} → ok_map x ≡ ok_map y → x ≡ y
+      by_ok e = cc
+  by_prepared (Ok (LsRefsCommand command handed)) None r p o s =
+      let l : Listing = listing_of command in
+      let b = by_listed l l.capabilities handed o.listed o.lists o.maps in
+      let list = subst (λ r. ListsRefs l plain shaken mapped r) b.1 o.lists in
+      let are : made.remote_refs.items ≡ b.0.items = b.2.refs in
+      let maps : MakesMap h.capabilities handed b.0.items (Ok made) = subst (λ (x : Listing). MakesMap x.capabilities handed b.0.items (Ok made)) p.0 b.2 in
+      let mapped_so : MakesMap h.capabilities context b.0.items (Ok made) = subst (λ ctx. MakesMap h.capabilities ctx b.0.items (Ok made)) p.1 maps in
+      record {
+        came = inr (record {
+          from = list.mid;
+          sends = subst (λ x. SendsListing x shaken list.mid (Ok tt)) p.0 list.sent;
+          refs = subst (λ (given : List Ref). IfSome list.mid.to_come (λ p. v2_refs (lines_ahead list.mid p) ≡ Ok (map ref_value given))) (sym are) list.read.value;
+        });
+        maps = subst (λ given. MakesMap h.capabilities context given (Ok made)) (sym are) mapped_so;
+      }
+
+pub refs_stand : (service : Service) (ps : List Parameter) (plain : Bool) (turns : List credential_turn) (start shaken mapped : Reading) (h : Handshake) (table : Table) (agent : FeatureValue) (context : Context) (made : RefMap)
+    → Shakes service ps plain start shaken turns (Ok h) → Obtains table agent context h plain shaken mapped (Ok made) → Stands service ps turns start shaken table agent context h.capabilities made
+refs_stand service ps plain turns start shaken mapped h table agent context made s o = by_prepared service ps plain turns start shaken mapped h table agent context made o.prepared h.refs refl o.prepares o.obtains s
+
+-- ---- answers
+
+is_answer : (found : Pieces → Found) (version : Protocol) (old new : Reading) (value : AnswerValue) → Answered found version old new value → IsAnswer found old new value
+is_answer found version old new value (inl r) = inl r.answer
+is_answer found version old new value (inr b) = inr b.failures
+
+module _ {N I A : Type 0} (m : Manner N I A) where
+  are_answers : (start before : At N I) (ts : List (Turn N I)) (last : Turn N I) → Rounds m start ts before → Turns m before last → AreAnswers m.version m.banded (ts ++ last ∷ [])
+  are_answers start before [] last r h = (is_answer _ _ _ _ _ h.answer, tt)
+  are_answers start before (t ∷ ts) last r h = (is_answer _ _ _ _ _ r.0.answer, are_answers t.after before ts last r.3 h)
+
+requests_more : {N I : Type 0} (ts : List (Turn N I)) (t : Turn N I) → requests_of (ts ++ t ∷ []) ≡ requests_of ts ++ request_of t ∷ []
+requests_more [] t = refl
+requests_more (s ∷ ss) t = ap (λ rs. request_of s ∷ rs) (requests_more ss t)
+
+-- ---- the pack
+
+view_stopped : (banded : Bool) (r : Reading) → (view banded r).stopped ≡ r.stopped
+unfolding view
+view_stopped true r = refl
+view_stopped false r = refl
+
+runs_on : (found : Pieces → Found) (version : Protocol) (old new : Reading) (value : AnswerValue) → value.pack ≡ true → Answered found version old new value → new.stopped ≡ None
+runs_on found version old new value e (inl r) = r.running e
+runs_on found version old new value e (inr b) = b.stopped
+
+begins_content : (o : Option Pieces) (stopped : Option MessageKind) (end : Side) (read : List ℕ) → stopped ≡ None
+    → IfSome o (λ p. Unit {0} → (q : Pieces) × (end.reading.to_come ≡ Some q) × IsFirstOf end q × (content_left None stopped p ≡ read ++ side_content end q)) → IfSome o (λ p. (rest : List ℕ) × (content_of p ≡ read ++ rest))
+begins_content None stopped end read e h = tt
+begins_content (Some p) stopped end read e h = let x = h tt in (side_content end x.0, subst (λ s. content_left None s p ≡ read ++ side_content end x.0) e x.3)
+
+module _ {N I A S C P X : Type 0} (parties : Parties N I A S C P X) where
+  takes_pack : (c : C) (from : Reading) (d : C) (new : Reading) (q : P) → from.stopped ≡ None → Received parties.consumes c from d new q → TakesPack parties c from d
+  takes_pack c from d new q e r = record {
+    before = r.p;
+    finished = r.finished;
+    start = fresh_side r.name from;
+    end = r.mid;
+    behind = q;
+    lent = refl;
+    took = r.consumed.took;
+    read = r.consumed.read;
+    reads = r.consumed.reads;
+    begins = begins_content from.to_come from.stopped r.mid r.consumed.read e r.consumed.reads.content;
+  }
+
+  converses : (call : Call) (old : World N I S C) (result : Result (Option Outcome) (Error A X)) (new : World N I S C) (progress : P) → Fetches parties call old result new progress → Converses parties call old result new
+  converses call old (Err e) new progress h = tt
+  converses call old (Ok None) new progress h = ap (λ (w : World N I S C). w.reading) h.stands ∙ h.meets.rests.reading
+  converses call old (Ok (Some outcome)) new progress h =
+      let s = h.meets in
+      let n = s.negotiated in
+      let p = n.packed in
+      let m : Manner N I A = record { goes = parties.office.goes; fails = parties.office.round_fails; says = parties.says; version = call.version; banded = h.banded; plain = parties.plain } in
+      let runs : s.end.reading.stopped ≡ None = ap (λ (a : At N I). a.reading.stopped) p.stands ∙ sym (view_stopped h.banded p.last.after.reading) ∙ runs_on _ _ _ _ _ p.pack p.lasts.answer in
+      record {
+        banded = h.banded;
+        start = _;
+        updates = s.updates;
+        reply = s.reply;
+        end = s.end;
+        begins = begins_of parties.office old.negotiate n.begun.asked _ n.ready n.wanted n.begun.readied;
+        here = refl;
+        packed = p;
+        answers = are_answers m _ p.before p.turns p.last p.run p.lasts;
+        requests = subst (λ rs. WroteRequests old.reading new.reading rs) (sym (requests_more p.turns p.last))
+            (held_written old.reading p.last.after.reading new.reading _ (last_written m _ p.before p.turns p.last p.run p.lasts)
+            (ap (λ (w : World N I S C). w.reading.held) h.stands ∙ received_held _ _ _ _ _ _ s.delivered.received ∙ ap (λ (a : At N I). a.reading.held) p.stands));
+        pack = subst (λ d. TakesPack parties old.consumer s.end.reading d) (ap (λ (w : World N I S C). w.consumer) (sym h.stands)) (takes_pack old.consumer s.end.reading h.last.consumer h.last.reading progress runs s.delivered.received);
+      }
+
+  pub promised : Lawful parties.office.goes parties.office.count → IsWide parties.office.goes
+      → (call : Call) (context : Context) (start : Reading) (made : RefMap) (old : World N I S C) (result : Result (Option Outcome) (Error A X)) (new : World N I S C) (progress : P)
+      (run : Run parties call context start made old result new progress) → Promise parties call context start made old result new progress run
+  promised lawful wide call context start made old result new progress run =
+      let s = refs_stand run.service run.parameters parties.plain run.credentials start run.shaken old.reading run.handshake call.table call.agent context made run.shakes run.obtains in
+      record {
+        refs = s.came;
+        mappings = s.maps.filtered;
+        conversation = converses call old result new progress run.fetches;
+        bound = session_held parties lawful wide call old result new progress run.fetches;
+      }

@@ -1,0 +1,28 @@
+-- What requests name again where each stands alone: under version 2, and where the connection doesn't persist (gitprotocol-v2, "fetch"; gitprotocol-http, "Smart Service git-upload-pack").
+use Rattle.std.specs.Prelude.{◌≡◌, ◌⊎◌, ℕ, ⊤, Bool, true, false, List, [], ◌∷◌, ◌++◌, Option, Some, None}
+use Rattle.std.specs.List.{Contains}
+use Rattle.gixp_wire.specs.declared.object_id.ObjectId.{ObjectId}
+use Rattle.gixp_lines.specs.Answer.{AnswerValue}
+use Rattle.gixp_requests.specs.Arguments.{Asked, is_v2}
+use Rattle.gixp_negotiate.specs.declared.negotiate.Round.{Round}
+use Rattle.gixp_negotiate.specs.Negotiate.{Window, Goes}
+use Rattle.gixp_negotiate.specs.Rounds.{commons, commons_of, kept_with, kept_ids, have_line, asks_haves}
+use Rattle.gixp_fetch.specs.Rounds.{At, Turn}
+
+-- where ids are kept, the commits that the last answer named as common join them, and the haves of a round begin with all of these
+pub record Renames {N : Type 0} (goes : Goes N) : Type 0 where
+  pub keeps : (n : N) (s : Window) (a : Asked) (p : Option AnswerValue) (r : Round) (d : Bool) (m : N) (t : Window) (b : Asked) → goes n s a p r d m t b → t.kept ≡ kept_with s.kept (commons_of p)
+  pub names : (n : N) (s : Window) (a : Asked) (p : Option AnswerValue) (r : Round) (d : Bool) (m : N) (t : Window) (b : Asked) → goes n s a p r d m t b
+      → (haves : List ObjectId) × (b ≡ asks_haves (kept_ids t.kept ++ haves) a)
+
+-- rounds begin here whose requests stand alone: nothing is kept yet, and no answer came
+pub record StandsAlone {N I : Type 0} (start : At N I) : Type 0 where
+  pub kept : start.window.kept ≡ Some []
+  pub first : start.previous ≡ None
+  pub alone : (is_v2 start.asked.version ≡ true) ⊎ (start.reading.held.persists ≡ false)
+
+-- each request has these lines, and a have for each of these commits and for each that an earlier answer named as common
+abbrev pub NamesAgain : {N I : Type 0} → List (List ℕ) → List ObjectId → List (Turn N I) → Type 0
+NamesAgain lines ids [] = ⊤
+NamesAgain lines ids (t ∷ ts) =
+    (t.asked.lines ≡ lines) × ((id : ObjectId) → Contains ids id → Contains t.asked.haves (have_line id)) × NamesAgain lines (ids ++ commons t.reply.acknowledgements) ts

@@ -1,0 +1,246 @@
+//! A shallow boundary in a file.
+ghost use Rattle.std.specs.Prelude.{◌≡◌, ◌++◌, codes, true, false, IfOk, IfErr, OnOk, string_bytes};
+ghost use Rattle.gixp_fetch.specs.Store.{HasFailed, IsStoreRefusal};
+ghost use Rattle.gixp_fetch.specs.ShallowFile.{IsKept, Turns};
+
+use crate::shallow::{ShallowError, ShallowStore, shallow_ids, shallow_text};
+use gixp_wire::ObjectId;
+use std::alloc::{AllocError, Global};
+use std::fs;
+use std::fs::{File, OpenOptions};
+use std::io::{self, ErrorKind, Read};
+use std::rt::Files;
+
+/// A shallow boundary in a file, as git keeps it in `shallow` of a repository's folder. No file is
+/// an empty boundary.
+///
+/// The lock is a file beside it, of its name and `.lock`, which is made only where there is none. The
+/// new boundary is written into the lock file, which then takes the place of the file; where no id is
+/// left the file is removed. So another program sees the boundary before a write or the one behind it,
+/// if the system renames files whole.
+///
+/// What a file holds no contract can say: neither that it has the text that was written, nor that the
+/// lock keeps out programs that don't ask for it, nor that either outlasts a loss of power. What is
+/// promised is said of this value alone: what each call returns, whether the lock file is held to be
+/// there, and how many calls were refused. A lock file is left behind where the program ends before
+/// `release`.
+#[derive(Drop)]
+pub struct ShallowFile<'a, F> {
+    files: &'a F,
+    alloc: Global,
+    path: String,
+    lock_path: String,
+    // Whether the lock file is there since this store made it.
+    held: bool,
+    failures: u64,
+}
+
+// The path of the lock file.
+fn lock_path_of(alloc: Global, path: &str) -> Result<String, AllocError>
+    ensures { IfOk result (λ lock. string_bytes lock ≡ path.now ++ codes ".lock") }
+{
+    let mut lock = String::from_str(alloc, path)?;
+    lock.push_str(".lock")?;
+    Ok(lock)
+}
+
+impl<'a, F: Files> ShallowFile<'a, F> {
+    /// The boundary in the file of this path. Nothing is read or written yet.
+    ///
+    /// # Errors
+    ///
+    /// An allocation failed.
+    pub fn new(files: &'a F, alloc: Global, path: &str) -> Result<ShallowFile<'a, F>, AllocError>
+        ensures path { IfOk result (λ file. string_bytes file.path ≡ path.now) }
+        ensures lock { IfOk result (λ file. string_bytes file.lock_path ≡ path.now ++ codes ".lock") }
+        ensures held { IfOk result (λ file. file.held ≡ false) }
+    {
+        let path_text = String::from_str(alloc, path)?;
+        let lock_path = lock_path_of(alloc, path)?;
+        Ok(ShallowFile {
+            files,
+            alloc,
+            path: path_text,
+            lock_path,
+            held: false,
+            failures: 0,
+        })
+    }
+
+    /// Whether this store has the lock.
+    pub fn is_locked(&self) -> bool
+        ensures { result ≡ self.now.held }
+    {
+        self.held
+    }
+
+    // Counts a refused call.
+    fn count_failure(&mut self)
+        ensures counted { HasFailed self.old.failures self.new.failures }
+        ensures kept { IsKept self.old self.new }
+        ensures held { self.new.held ≡ self.old.held }
+    {
+        self.failures = self.failures.saturating_add(1);
+    }
+
+    // Gets the lock.
+    fn take_lock(&mut self) -> Result<(), ShallowError>
+        ensures locked { OnOk result (Turns true self.old self.new) }
+        ensures refused { IfErr result (IsStoreRefusal self.old.failures self.new.failures) }
+    {
+        match self.make_lock() {
+            Ok(()) => {
+                self.held = true;
+                Ok(())
+            }
+            Err(e) => match e.kind() {
+                ErrorKind::AlreadyExists => {
+                    self.count_failure();
+                    Err(ShallowError::Locked)
+                }
+                kind => Err(self.refusal(kind)),
+            },
+        }
+    }
+
+    // Gives the lock back, if it is had.
+    fn drop_lock(&mut self)
+        ensures { Turns false self.old self.new }
+    {
+        if self.held {
+            let _ = fs::remove_file(self.files, self.lock_path.as_str());
+            self.held = false;
+        }
+    }
+
+    // Makes the lock file.
+    fn make_lock(&self) -> io::Result<()> {
+        match OpenOptions::new()
+            .write(true)
+            .create_new(true)
+            .open(self.files, self.lock_path.as_str())
+        {
+            Ok(_) => Ok(()),
+            Err(e) => Err(e),
+        }
+    }
+
+    // The bytes of the file.
+    fn load(&self, alloc: Global) -> io::Result<Vec<u8>> {
+        let mut file = File::open(self.files, self.path.as_str())?;
+        let mut text = Vec::new(alloc);
+        file.read_to_end(&mut text)?;
+        Ok(text)
+    }
+
+    // Puts this text in place of the file by way of the lock file.
+    fn replace(&self, text: &[u8]) -> io::Result<()> {
+        fs::write(self.files, self.lock_path.as_str(), text)?;
+        fs::rename(self.files, self.lock_path.as_str(), self.path.as_str())
+    }
+
+    // Removes the file, if it is there.
+    fn remove(&self) -> io::Result<()> {
+        match fs::remove_file(self.files, self.path.as_str()) {
+            Ok(()) => Ok(()),
+            Err(e) => match e.kind() {
+                ErrorKind::NotFound => Ok(()),
+                _ => Err(e),
+            },
+        }
+    }
+
+    // What a failed call of the system is told as.
+    fn refusal(&mut self, kind: ErrorKind) -> ShallowError
+        ensures refused { IsStoreRefusal self.old.failures self.new.failures result }
+        ensures kept { IsKept self.old self.new }
+        ensures held { self.new.held ≡ self.old.held }
+    {
+        match kind {
+            ErrorKind::OutOfMemory => ShallowError::Memory,
+            _ => {
+                self.count_failure();
+                ShallowError::Io(kind)
+            }
+        }
+    }
+
+    // Writes the boundary where the lock is had.
+    fn write_locked(&mut self, boundary: &[ObjectId]) -> Result<(), ShallowError>
+        ensures refused { IfErr result (IsStoreRefusal self.old.failures self.new.failures) }
+        ensures kept { IsKept self.old self.new }
+    {
+        if boundary.is_empty() {
+            return match self.remove() {
+                Ok(()) => Ok(()),
+                Err(e) => Err(self.refusal(e.kind())),
+            };
+        }
+        let text = match shallow_text(self.alloc, boundary) {
+            Ok(text) => text,
+            Err(_) => return Err(ShallowError::Memory),
+        };
+        match self.replace(&text) {
+            Ok(()) => {
+                self.held = false;
+                Ok(())
+            }
+            Err(e) => Err(self.refusal(e.kind())),
+        }
+    }
+}
+
+impl<'a, F: Files> ShallowStore for ShallowFile<'a, F> {
+    ghost use Rattle.std.specs.Prelude.{◌≡◌, true, false};
+    ghost use Rattle.std.specs.List.Sorted.{IsStrictlySortedBy};
+    ghost use Rattle.gixp_wire.specs.ObjectId.{id_cmp};
+    ghost use Rattle.gixp_fetch.specs.ShallowFile.{IsKept, Turns};
+
+    ghost failures = { λ s. s.failures };
+
+    ghost locks = { λ s t. Turns true s t };
+
+    ghost reads = { λ s ids t. IsStrictlySortedBy id_cmp ids × (t.held ≡ s.held) × IsKept s t };
+
+    ghost writes = { λ s ids t. IsKept s t };
+
+    ghost releases = { λ s t. Turns false s t };
+
+    fn lock(&mut self) -> Result<(), ShallowError> {
+        self.take_lock()
+    }
+
+    fn read(&mut self, alloc: Global) -> Result<Vec<ObjectId>, ShallowError> {
+        let text = match self.load(alloc) {
+            Ok(text) => text,
+            Err(e) => match e.kind() {
+                ErrorKind::NotFound => return Ok(Vec::new(alloc)),
+                kind => return Err(self.refusal(kind)),
+            },
+        };
+        match shallow_ids(alloc, &text) {
+            Ok(ids) => Ok(ids),
+            Err(e) => {
+                self.count_failure();
+                Err(e)
+            }
+        }
+    }
+
+    fn write(&mut self, boundary: &[ObjectId]) -> Result<(), ShallowError> {
+        if self.held {
+            return self.write_locked(boundary);
+        }
+        match self.take_lock() {
+            Ok(()) => {}
+            Err(e) => return Err(e),
+        }
+        let result = self.write_locked(boundary);
+        self.drop_lock();
+        result
+    }
+
+    fn release(&mut self) {
+        self.drop_lock();
+    }
+}

@@ -1,0 +1,188 @@
+//! Whole fetches of one ref.
+use crate::repository::{Looks, Picks, Tips};
+use bstr::{BStr, BString};
+use gixp_fetch::consume::{ConsumePack, CopyError};
+use gixp_fetch::error::Error;
+use gixp_fetch::fetch::fetch;
+use gixp_fetch::options::{Context, Options, Outcome};
+use gixp_fetch::shallow::ShallowMemory;
+use gixp_graph::Graph;
+use gixp_handshake::{Handshake, handshake};
+use gixp_negotiate::negotiate::negotiation::{NegotiateContext, Negotiation};
+use gixp_negotiate::negotiate::plain::NoObjects;
+use gixp_negotiate::shallow::Shallow;
+use gixp_refmap::RefMap;
+use gixp_refmap::fetch::Tags;
+use gixp_refmap::refmap::init;
+use gixp_refspec::parse::{Operation, parse};
+use gixp_requests::command::{CommandTable, Feature};
+use gixp_sidebands::NeverInterrupt;
+use gixp_wire::{Bodies, Body, NestedProgress, Service, Transport};
+use std::alloc::{AllocError, Global};
+
+/// What a server of version 2 says: its capabilities, its refs, an answer without a pack, and one with it.
+pub(crate) const V2: [&[u8]; 4] = [
+    b"000eversion 2\n0013ls-refs=unborn\n0012fetch=shallow\n0000",
+    b"003d0123456789012345678901234567890123456789 refs/heads/main\n0000",
+    b"0014acknowledgments\n0031ACK cccccccccccccccccccccccccccccccccccccccc\n0000",
+    b"0011shallow-info\n0035shallow cccccccccccccccccccccccccccccccccccccccc\n\
+    0001000dpackfile\n0007\x01PA0007\x02hi0006\x01C0000",
+];
+
+/// The same of version 1: its refs, an answer without a pack, and one with it.
+pub(crate) const V1: [&[u8]; 3] = [
+    b"000eversion 1\n00660123456789012345678901234567890123456789 refs/heads/main\0\
+    multi_ack_detailed side-band-64k shallow\n0000",
+    b"0034shallow cccccccccccccccccccccccccccccccccccccccc0000\
+    0038ACK cccccccccccccccccccccccccccccccccccccccc common\n0008NAK\n",
+    b"0031ACK cccccccccccccccccccccccccccccccccccccccc\n0007\x01PA0007\x02hi0006\x01C0000",
+];
+
+fn agent(alloc: Global) -> Result<Feature, AllocError> {
+    Ok(("agent", Some(String::from_str(alloc, "git/oxide")?)))
+}
+
+/// A transport over these bodies.
+pub(crate) fn bodies(alloc: Global, answers: &[&[u8]]) -> Result<Bodies, AllocError> {
+    let mut list = Vec::new(alloc);
+    for answer in answers {
+        list.push(Body::Bytes(answer.to_vec(alloc)?))?;
+    }
+    Bodies::new(alloc, list, BString::from(Vec::new(alloc)), Vec::new(alloc))
+}
+
+/// These answers one behind another.
+pub(crate) fn joined(alloc: Global, answers: &[&[u8]]) -> Result<Vec<u8>, AllocError> {
+    let mut stream = Vec::new(alloc);
+    for answer in answers {
+        stream.extend_from_slice(answer)?;
+    }
+    Ok(stream)
+}
+
+// The refspec that maps the server's ref.
+fn specs(alloc: Global) -> Result<init::Context, AllocError> {
+    let mut fetch_refspecs = Vec::new(alloc);
+    if let Ok(spec) = parse(BStr::new(b"refs/heads/main:refs/heads/x"), Operation::Fetch) {
+        fetch_refspecs.push(spec.to_owned(alloc)?)?;
+    }
+    Ok(init::Context {
+        fetch_refspecs,
+        extra_refspecs: Vec::new(alloc),
+    })
+}
+
+// A handshake, or why there is none.
+fn shake<T: Transport, P: NestedProgress>(
+    alloc: Global,
+    transport: &mut T,
+    progress: &mut P,
+) -> Result<Handshake, handshake::Error> {
+    let extra = Vec::new(alloc);
+    let service = Service::UploadPack;
+    handshake::handshake(
+        alloc,
+        transport,
+        service,
+        |_action| Ok(None),
+        extra,
+        progress,
+    )
+}
+
+// Its ref map, or why there is none.
+fn map<T: Transport, P: NestedProgress>(
+    alloc: Global,
+    hands: &mut Handshake,
+    transport: &mut T,
+    progress: &mut P,
+) -> Result<RefMap, init::Error> {
+    let table = CommandTable::git();
+    let agent = agent(alloc)?;
+    let specs = specs(alloc)?;
+    handshake::obtain(alloc, hands, &table, agent, specs, progress, transport)
+}
+
+/// A repository.
+pub(crate) type Parts = (Looks, Tips, Picks);
+
+// A whole fetch over a ref map.
+fn fetch_by<T: Transport, P: NestedProgress, C: ConsumePack<P, Error = CopyError>>(
+    alloc: Global,
+    transport: &mut T,
+    hands: &mut Handshake,
+    map: &RefMap,
+    parts: Parts,
+    consumer: &mut C,
+    progress: &mut P,
+    store: &mut ShallowMemory,
+    shallow: &Shallow,
+) -> Result<Option<Outcome>, Error<AllocError, CopyError>>
+where
+    P::SubProgress: Drop,
+{
+    let (looks, mut tips, mut picks) = parts;
+    let mut graph = Graph::new(alloc, looks);
+    let context: NegotiateContext<'_, NoObjects, Tips, Picks, Looks, AllocError> =
+        NegotiateContext {
+            objects: &NoObjects,
+            refs: &mut tips,
+            alternates: Ok(&mut []),
+            negotiator: &mut picks,
+            graph: &mut graph,
+        };
+    let mut negotiation = Negotiation::new(context, map, shallow, Tags::None);
+    fetch(
+        alloc,
+        &mut negotiation,
+        consumer,
+        progress,
+        &mut NeverInterrupt,
+        agent(alloc)?,
+        Context {
+            handshake: hands,
+            transport,
+            table: &CommandTable::git(),
+        },
+        Options {
+            shallow_file: store,
+            shallow,
+            tags: Tags::None,
+            reject_shallow_remote: false,
+        },
+    )
+}
+
+/// A handshake and a whole fetch into a repository of these parts, as a text: the first error, or how
+/// many rounds a copy of the outcome has.
+pub(crate) fn run<T: Transport, P: NestedProgress, C: ConsumePack<P, Error = CopyError>>(
+    alloc: Global,
+    transport: &mut T,
+    parts: Parts,
+    consumer: &mut C,
+    progress: &mut P,
+    store: &mut ShallowMemory,
+    shallow: &Shallow,
+) -> Result<String, AllocError>
+where
+    P::SubProgress: Drop,
+{
+    let mut hands = match shake(alloc, transport, progress) {
+        Ok(hands) => hands,
+        Err(e) => return format!(in alloc; "{e:?}"),
+    };
+    let map = match map(alloc, &mut hands, transport, progress) {
+        Ok(map) => map,
+        Err(e) => return format!(in alloc; "{e:?}"),
+    };
+    match fetch_by(
+        alloc, transport, &mut hands, &map, parts, consumer, progress, store, shallow,
+    ) {
+        Ok(Some(outcome)) => {
+            let copy = outcome.clone()?;
+            format!(in alloc; "{} rounds", copy.negotiate.rounds.len())
+        }
+        Ok(None) => String::from_str(alloc, "nothing"),
+        Err(e) => format!(in alloc; "{e:?}"),
+    }
+}

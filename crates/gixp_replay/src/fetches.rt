@@ -1,0 +1,421 @@
+//! A whole fetch: a handshake, a ref map, the rounds, the pack and the shallow boundary.
+//!
+//! S0 is 0 for bodies in memory, 1 for a connection; S1 the version that the client of a connection asks for; S2 is 1
+//! where the fetch is made again for each proper beginning of the bytes. The payload is a script, as `scripts` says, and
+//! the bytes. The report has the error of the first call that is refused, or what the fetch returned; then the pack, how
+//! often the lock was had and released, the boundary, what stands in the transport, and the bytes that were sent.
+ghost use Rattle.std.specs.Prelude.{◌≡◌, None};
+ghost use Rattle.gixp_fetch.specs.Store.{IsStoreRefusal};
+
+use crate::device::Device;
+use crate::handshakes::{bodies, connection};
+use crate::lines::report_rest;
+use crate::packs::Once;
+use crate::report::Report;
+use crate::rows::{Row, cut_at};
+use crate::scripts::{Fault, Script};
+use crate::sessions::cut_bodies;
+use crate::values;
+use bstr::BString;
+use gixp_fetch::consume::{ConsumePack, CopyError, CopyPack, ReadToEnd};
+use gixp_fetch::error::Error;
+use gixp_fetch::fetch::fetch;
+use gixp_fetch::options::{Context, Options, Outcome};
+use gixp_fetch::shallow::{ShallowError, ShallowStore};
+use gixp_graph::Graph;
+use gixp_handshake::Handshake;
+use gixp_handshake::handshake::{handshake, obtain};
+use gixp_negotiate::negotiate::Round;
+use gixp_negotiate::negotiate::negotiation::{NegotiateContext, Negotiation};
+use gixp_negotiate::negotiate::plain::{HaveList, NoObjects, NoRefs};
+use gixp_refmap::RefMap;
+use gixp_refmap::refmap::init;
+use gixp_requests::command::Feature;
+use gixp_wire::{NestedProgress, ObjectId, Progress, Service, Transport};
+use std::alloc::{AllocError, Global};
+use std::io::ErrorKind;
+use std::mem;
+
+// A shallow boundary that counts calls, and refuses one of them.
+#[derive(Drop)]
+struct Shop {
+    ids: Vec<ObjectId>,
+    locks: u64,
+    releases: u64,
+    call: u64,
+    fault: Fault,
+    failures: u64,
+}
+
+impl Shop {
+    // Whether this call is refused.
+    fn refuses(&mut self) -> bool
+        ensures { self.new.failures ≡ self.old.failures }
+    {
+        if self.call == 0 {
+            self.call = u64::MAX;
+            return true;
+        }
+        self.call -= 1;
+        false
+    }
+
+    // Why it is refused.
+    fn refusal(&mut self) -> ShallowError
+        ensures { IsStoreRefusal self.old.failures self.new.failures result }
+    {
+        self.failures = self.failures.saturating_add(1);
+        match self.fault {
+            Fault::Device => ShallowError::Io(ErrorKind::TimedOut),
+            Fault::Locked => ShallowError::Locked,
+            Fault::Line => ShallowError::Decode {
+                line: BString::from(Vec::new(*self.ids.allocator())),
+            },
+            Fault::Memory => ShallowError::Memory,
+        }
+    }
+}
+
+impl ShallowStore for Shop {
+    ghost failures = { λ s. s.failures };
+
+    ghost locks = { λ s t. Unit {0} };
+
+    ghost reads = { λ s ids t. Unit {0} };
+
+    ghost writes = { λ s ids t. Unit {0} };
+
+    ghost releases = { λ s t. Unit {0} };
+
+    fn lock(&mut self) -> Result<(), ShallowError> {
+        if self.refuses() {
+            return Err(self.refusal());
+        }
+        self.locks = self.locks.saturating_add(1);
+        Ok(())
+    }
+
+    fn read(&mut self, alloc: Global) -> Result<Vec<ObjectId>, ShallowError> {
+        if self.refuses() {
+            return Err(self.refusal());
+        }
+        match Vec::from_slice(alloc, &self.ids) {
+            Ok(ids) => Ok(ids),
+            Err(_) => Err(ShallowError::Memory),
+        }
+    }
+
+    fn write(&mut self, boundary: &[ObjectId]) -> Result<(), ShallowError> {
+        if self.refuses() {
+            return Err(self.refusal());
+        }
+        match Vec::from_slice(*self.ids.allocator(), boundary) {
+            Ok(ids) => {
+                self.ids = ids;
+                Ok(())
+            }
+            Err(_) => Err(ShallowError::Memory),
+        }
+    }
+
+    fn release(&mut self) {
+        self.releases = self.releases.saturating_add(1);
+    }
+}
+
+// Nobody looks.
+#[derive(Drop)]
+struct NoProgress;
+
+impl Progress for NoProgress {
+    ghost told = { λ old call new. Unit {0} };
+
+    ghost name_of = { λ p. None };
+
+    fn init(&mut self, _max: Option<usize>, _unit: &'static str) {}
+
+    fn step(&mut self) {}
+
+    fn set(&mut self, _step: usize) {}
+
+    fn set_name(&mut self, _name: String) {}
+
+    fn name(&self) -> Option<&str> {
+        None
+    }
+
+    fn fail(&mut self, _message: String) {}
+}
+
+impl NestedProgress for NoProgress {
+    type SubProgress = NoProgress;
+
+    ghost adds = { λ old name id child new. Unit {0} };
+
+    fn add_child_with_id(&mut self, _name: &str, _id: [u8; 4]) -> Result<NoProgress, AllocError> {
+        Ok(NoProgress)
+    }
+}
+
+fn agent(alloc: Global) -> Result<Feature, AllocError> {
+    Ok(("agent", Some(String::from_str(alloc, "git/oxide")?)))
+}
+
+// The number of each round, and whether a commit was common.
+fn report_rounds(rounds: &[Round], report: &mut Report) -> Result<(), AllocError> {
+    for round in rounds {
+        report.number(round.haves_sent as u64)?;
+        report.word("/")?;
+        report.number(round.haves_to_send as u64)?;
+        report.word("/")?;
+        report.number(round.in_vain as u64)?;
+        report.word(if round.previous_response_had_at_least_one_in_common {
+            "c "
+        } else {
+            " "
+        })?;
+    }
+    Ok(())
+}
+
+// What a fetch returned.
+fn report_result(
+    alloc: Global,
+    fetched: Result<Option<Outcome>, Error<AllocError, CopyError>>,
+    report: &mut Report,
+) -> Result<(), AllocError> {
+    match fetched {
+        Ok(Some(outcome)) => {
+            report_rounds(&outcome.negotiate.rounds, report)?;
+            values::answer(report, &outcome.last_response)
+        }
+        Ok(None) => report.word("nothing "),
+        Err(e) => {
+            report.word("fetch ")?;
+            report.word(format!(in alloc; "{e:?}")?.as_str())?;
+            report.word(" ")
+        }
+    }
+}
+
+// A fetch over this ref map, by this consumer.
+fn fetch_by<T: Transport, C: ConsumePack<NoProgress, Error = CopyError>>(
+    alloc: Global,
+    script: &mut Script<'_>,
+    hands: &mut Handshake,
+    map: &RefMap,
+    shop: &mut Shop,
+    transport: &mut T,
+    consumer: &mut C,
+    report: &mut Report,
+) -> Result<(), AllocError> {
+    let mut refs = NoRefs;
+    let mut negotiator = HaveList::new(mem::replace(&mut script.haves, Vec::new(alloc)));
+    let mut graph = Graph::new(alloc, NoObjects);
+    let mut once = Once::new(script.interrupt);
+    let context: NegotiateContext<'_, NoObjects, NoRefs, HaveList, NoObjects, AllocError> =
+        NegotiateContext {
+            objects: &NoObjects,
+            refs: &mut refs,
+            alternates: Ok(&mut []),
+            negotiator: &mut negotiator,
+            graph: &mut graph,
+        };
+    let mut negotiation = Negotiation::new(context, map, &script.shallow, script.tags);
+    let result = fetch(
+        alloc,
+        &mut negotiation,
+        consumer,
+        &mut NoProgress,
+        &mut once,
+        agent(alloc)?,
+        Context {
+            handshake: hands,
+            transport,
+            table: &script.table,
+        },
+        Options {
+            shallow_file: shop,
+            shallow: &script.shallow,
+            tags: script.tags,
+            reject_shallow_remote: script.rejects,
+        },
+    );
+    report_result(alloc, result, report)
+}
+
+// The same, and the pack.
+fn fetch_pack<T: Transport>(
+    alloc: Global,
+    script: &mut Script<'_>,
+    hands: &mut Handshake,
+    map: &RefMap,
+    shop: &mut Shop,
+    transport: &mut T,
+    report: &mut Report,
+) -> Result<(), AllocError> {
+    if !script.copies {
+        let mut consumer = ReadToEnd;
+        return fetch_by(
+            alloc,
+            script,
+            hands,
+            map,
+            shop,
+            transport,
+            &mut consumer,
+            report,
+        );
+    }
+    let mut consumer = CopyPack {
+        writer: Vec::new(alloc),
+    };
+    fetch_by(
+        alloc,
+        script,
+        hands,
+        map,
+        shop,
+        transport,
+        &mut consumer,
+        report,
+    )?;
+    report.quote(&consumer.writer)?;
+    report.word(" ")
+}
+
+// The ref map, if there is one.
+fn obtain_map<T: Transport>(
+    alloc: Global,
+    script: &mut Script<'_>,
+    hands: &mut Handshake,
+    transport: &mut T,
+    report: &mut Report,
+) -> Result<Option<RefMap>, AllocError> {
+    let context = init::Context {
+        fetch_refspecs: mem::replace(&mut script.specs, Vec::new(alloc)),
+        extra_refspecs: Vec::new(alloc),
+    };
+    let agent = agent(alloc)?;
+    match obtain(
+        alloc,
+        hands,
+        &script.table,
+        agent,
+        context,
+        &mut NoProgress,
+        transport,
+    ) {
+        Ok(map) => Ok(Some(map)),
+        Err(e) => {
+            report.word("refs ")?;
+            report.word(format!(in alloc; "{e:?}")?.as_str())?;
+            report.word(" ")?;
+            Ok(None)
+        }
+    }
+}
+
+// A handshake, if it isn't refused.
+fn shake<T: Transport>(
+    alloc: Global,
+    transport: &mut T,
+    report: &mut Report,
+) -> Result<Option<Handshake>, AllocError> {
+    match handshake(
+        alloc,
+        transport,
+        Service::UploadPack,
+        |_action| Ok(None),
+        Vec::new(alloc),
+        &mut NoProgress,
+    ) {
+        Ok(found) => Ok(Some(found)),
+        Err(e) => {
+            report.word("handshake ")?;
+            report.word(format!(in alloc; "{e:?}")?.as_str())?;
+            report.word(" ")?;
+            Ok(None)
+        }
+    }
+}
+
+// The boundary, and how often its lock was had.
+fn report_shop(shop: &Shop, report: &mut Report) -> Result<(), AllocError> {
+    report.word("locks ")?;
+    report.number(shop.locks)?;
+    report.word("/")?;
+    report.number(shop.releases)?;
+    for id in &shop.ids {
+        report.word(" ")?;
+        report.id(id)?;
+    }
+    report.word(" ")
+}
+
+fn report_over<T: Transport>(
+    alloc: Global,
+    script: &mut Script<'_>,
+    transport: &mut T,
+    report: &mut Report,
+) -> Result<(), AllocError> {
+    let Some(mut hands) = shake(alloc, transport, report)? else {
+        return Ok(());
+    };
+    let version = hands.server_protocol_version;
+    let mut shop = Shop {
+        ids: mem::replace(&mut script.boundary, Vec::new(alloc)),
+        locks: 0,
+        releases: 0,
+        call: script.call,
+        fault: script.fault,
+        failures: 0,
+    };
+    match obtain_map(alloc, script, &mut hands, transport, report)? {
+        Some(map) => fetch_pack(
+            alloc, script, &mut hands, &map, &mut shop, transport, report,
+        )?,
+        None => {}
+    }
+    report_shop(&shop, report)?;
+    report_rest(transport, version, report)
+}
+
+// A fetch over these bytes.
+fn report_once(
+    alloc: Global,
+    row: &Row<'_>,
+    mut script: Script<'_>,
+    bytes: &[u8],
+    report: &mut Report,
+) -> Result<(), AllocError> {
+    let [over, version, ..] = row.settings;
+    if over == 1 {
+        let device = Device::new(bytes, row.cut, row.fail);
+        let mut transport = connection(alloc, device, row.cut, version, None)?;
+        report_over(alloc, &mut script, &mut transport, report)?;
+        return report.quote(&transport.writer().bytes);
+    }
+    let answers = cut_bodies(alloc, script.lengths, bytes)?;
+    let mut transport = bodies(alloc, answers)?;
+    report_over(alloc, &mut script, &mut transport, report)?;
+    for request in transport.sent() {
+        report.quote(request)?;
+        report.word(" ")?;
+    }
+    Ok(())
+}
+
+/// A fetch over a connection or memory, or over each proper beginning of the bytes.
+pub fn report_fetch(alloc: Global, row: &Row<'_>, report: &mut Report) -> Result<(), AllocError> {
+    let (script, bytes) = Script::read(alloc, row.payload)?;
+    if row.settings[2] != 1 {
+        return report_once(alloc, row, script, bytes, report);
+    }
+    for place in 0..bytes.len() {
+        let (front, _) = cut_at(bytes, place as u64);
+        let (script, _) = Script::read(alloc, row.payload)?;
+        report_once(alloc, row, script, front, report)?;
+    }
+    Ok(())
+}
