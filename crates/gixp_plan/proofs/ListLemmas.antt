@@ -1,21 +1,17 @@
 -- What the refs of an answer, read one by one, make of it, and what a fresh reader says of the stream it reads.
-use Rattle.std.proofs.Common.{◌≡◌, ℕ, Bool, inl, inr, true, false, cond, List, [], ◌∷◌, ◌++◌, Option, Some, None, IfSome, refl, sym, ap, subst, ◌∙◌, append_assoc, append-nil, flat_map, Result, Ok, Err, IsOk}
+use Rattle.std.proofs.Common.{◌≡◌, ℕ, Bool, inl, inr, true, false, cond, List, [], ◌∷◌, ◌++◌, Option, Some, None, IfSome, refl, sym, ap, subst, ◌∙◌, append_assoc, append-nil, flat_map, Result, Ok, Err}
 use Rattle.std.proofs.lemmas.Bool.{true≢false}
 use Rattle.std.proofs.lemmas.Grind.{flat_map-append}
-use Rattle.std.specs.Option.{option_map}
-use Rattle.std.specs.Io.KnownBytes.{Appends}
 use Rattle.gix_protocol.specs.Items.{is_stop}
 use Rattle.gix_protocol.specs.Lines.{gives, stops, refuses, next_from, next_of, Lines, lines_from, lines_of, lines_to, stop}
-use Rattle.gix_protocol.specs.Pieces.{Refusal, Piece, line, mark, Pieces, io, decode, server, unexpected_frame, not_utf8, bad_band, interrupted, memory, stream_pieces}
-use Rattle.gix_protocol.specs.Reading.{Reading, TakesLine, IsFresh, IsOutside, IsPlain, Rose, lines_ahead, lines_from_stop}
+use Rattle.gix_protocol.specs.Pieces.{Refusal, Piece, line, mark, Pieces, io, decode, server, unexpected_frame, not_utf8, bad_band, interrupted, memory}
+use Rattle.gix_protocol.specs.Reading.{Reading, TakesLine, IsOutside, IsPlain, Rose, lines_ahead, lines_from_stop}
 use Rattle.gix_protocol.specs.RefLine.{RefsRefusal, refusal_from}
 use Rattle.gix_protocol.specs.Ref.{RefValue}
-use Rattle.gix_protocol.specs.ParseError.{parse_refusal, is_outside, IsRefusal}
+use Rattle.gix_protocol.specs.ParseError.{parse_refusal, is_outside}
 use Rattle.gix_protocol.specs.RefsError.{Error}
-use Rattle.gix_protocol.specs.Refs.{with_ref, v2_refs, stream_refs, ReadsRefs, RefsFail}
-use Rattle.gixp_plan.specs.declared.list.ListError.{ListError}
-use Rattle.gixp_plan.specs.declared.list.ListError.TheVariants.{Parse, Io}
-use Rattle.gixp_plan.specs.List.{ref_line, Prints, behind_stop, StopsBehind, PrintsAhead, is_device, RefusesAhead, ListsAhead, RefusesLines, RefusesList}
+use Rattle.gix_protocol.specs.Refs.{with_ref, v2_refs, ReadsRefs, RefsFail}
+use Rattle.gixp_plan.specs.List.{ref_line, Prints, behind_stop, StopsBehind, PrintsAhead, is_device, RefusesAhead}
 
 -- these values in front of those to come
 abbrev in_front : List RefValue → Result (List RefValue) RefsRefusal → Result (List RefValue) RefsRefusal
@@ -202,53 +198,3 @@ printed-refused plain old mid new text e h (inr (inr (inr k))) = inr (record {
   outside = λ p. ap (λ x. is_outside (parse_refusal x)) k.error;
   counted = λ d. let no : is_device (parse_refusal e) ≡ false = ap (λ x. is_device (parse_refusal x)) k.error in absurd (true≢false (sym d ∙ no));
 })
-
--- what was printed ahead and then written
-pub lists_ahead : (old new : Reading) (a b : Option (List ℕ)) (text : List ℕ) → PrintsAhead old new text → Appends a b text → ListsAhead old new a b
-lists_ahead old new a b text h k = record { written = at old.to_come h.printed; behind = h.behind }
-  where
-    one : (r : Result (List RefValue) RefsRefusal) → Prints (Some []) (Some text) r → Prints a b r
-    one (Ok values) p = subst (Appends a b) p k
-    one (Err e) p = absurd p
-
-    at : (o : Option Pieces) → IfSome o (λ p. Prints (Some []) (Some text) (v2_refs (lines_ahead old p))) → IfSome o (λ p. Prints a b (v2_refs (lines_ahead old p)))
-    at None p = tt
-    at (Some q) p = one (v2_refs (lines_ahead old q)) p
-
--- a write that failed, for refs that aren't refused
-pub not_written : (old new : Reading) (text : List ℕ) → PrintsAhead old new text → IfSome old.to_come (λ p. IsOk (v2_refs (lines_ahead old p))) × StopsBehind old new
-not_written old new text h = (at old.to_come h.printed, h.behind)
-  where
-    one : (r : Result (List RefValue) RefsRefusal) → Prints (Some []) (Some text) r → IsOk r
-    one (Ok values) p = refl
-    one (Err e) p = absurd p
-
-    at : (o : Option Pieces) → IfSome o (λ p. Prints (Some []) (Some text) (v2_refs (lines_ahead old p))) → IfSome o (λ p. IsOk (v2_refs (lines_ahead old p)))
-    at None p = tt
-    at (Some q) p = one (v2_refs (lines_ahead old q)) p
-
--- what the lines of a fresh reader make is what the stream makes
-fresh_refs : (known : Option (List ℕ)) (r : Reading) (P : Result (List RefValue) RefsRefusal → Type 0) → IsFresh known r
-    → IfSome r.to_come (λ p. P (v2_refs (lines_ahead r p))) → IfSome known (λ bytes. P (stream_refs bytes))
-fresh_refs known r P fresh h = at known (subst (λ o. IfSome o (λ p. P (v2_refs (lines_ahead r p)))) fresh.to_come h)
-  where
-    at : (o : Option (List ℕ)) → IfSome (option_map stream_pieces o) (λ p. P (v2_refs (lines_ahead r p))) → IfSome o (λ bytes. P (stream_refs bytes))
-    at None k = tt
-    at (Some bytes) k =
-        let p = stream_pieces bytes in
-        let same = ap (λ s. lines_from_stop s r.version p) fresh.stopped ∙ ap (λ v. lines_from_stop None v p) fresh.version in
-        subst (λ l. P (v2_refs l)) same k
-
--- what a fresh reader's lines make is written
-pub stream_lists : (known : Option (List ℕ)) (r new : Reading) (a b : Option (List ℕ)) → IsFresh known r → ListsAhead r new a b → IfSome known (λ bytes. Prints a b (stream_refs bytes))
-stream_lists known r new a b fresh h = fresh_refs known r (Prints a b) fresh h.written
-
--- its refusal is the stream's first, or it came from outside, or a write failed
-pub stream_refuses : (known : Option (List ℕ)) (r new : Reading) (e : ListError) → IsFresh known r → RefusesLines true r new e → RefusesList known e
-stream_refuses known r new (Parse e) fresh (inl h) = inl (fresh_refs known r (λ answer. (x : RefsRefusal) × (answer ≡ Err x) × IsRefusal e x) fresh (at r.to_come h.first))
-  where
-    at : (o : Option Pieces) → IfSome o (λ p. v2_refs (lines_ahead r p) ≡ Err h.why) → IfSome o (λ p. (x : RefsRefusal) × (v2_refs (lines_ahead r p) ≡ Err x) × IsRefusal e x)
-    at None a = tt
-    at (Some p) a = (h.why, a, h.error)
-stream_refuses known r new (Parse e) fresh (inr h) = inr (h.outside refl)
-stream_refuses known r new (Io kind) fresh h = fresh_refs known r (λ answer. IsOk answer) fresh h.0
