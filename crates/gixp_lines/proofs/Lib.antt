@@ -12,3 +12,7 @@ mod AdvertisementLemmas
 mod SymrefLemmas
 mod TableLemmas
 mod BeginningGrammarLemmas
+mod RefusedBeginningLemmas
+mod RefusedSectionLemmas
+mod GroupLemmas
+mod RefusedGroupLemmas

@@ -13,7 +13,7 @@ use Rattle.gixp_lines.specs.Sections.{read_header, read_item, opened, added, clo
 use Rattle.gixp_lines.specs.SectionGrammar.{SectionText, AreItems, IsSection, lines_to_stop, section_text, Last, pack_behind, flushed, AreSections, said_before, said_by}
 
 -- items in front of what is found
-abbrev items_before : List AnswerValue → Found → Found
+abbrev pub items_before : List AnswerValue → Found → Found
 items_before vs (whole w rest) = whole (said_before vs w) rest
 items_before vs (refused e) = refused e
 
@@ -35,7 +35,7 @@ items_read kind (t ∷ ts) (v ∷ vs) stop rest end h =
     let one : read_item kind t ≡ Ok v = h.0 in
     rw (one, items_read kind ts vs stop rest end h.1) (more_before v vs (closed stop (record { list = rest; end = end }) (sections_from rest end None)))
 
-section_read : (s : SectionText) (stop : MessageKind) (rest : List Piece) (end : Refusal) → IsSection s
+pub section_read : (s : SectionText) (stop : MessageKind) (rest : List Piece) (end : Refusal) → IsSection s
     → sections_from (section_text s stop rest) end None ≡ items_before s.items (closed stop (record { list = rest; end = end }) (sections_from rest end None))
 section_read s stop rest end h =
     let head : read_header s.header ≡ Ok (Of s.kind) = h.0 in

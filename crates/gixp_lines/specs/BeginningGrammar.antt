@@ -2,8 +2,9 @@
 use Rattle.std.specs.Prelude.{◌≡◌, ⊤, Bool, true, List, [], ◌∷◌, ◌++◌, Option, Some, None}
 use Rattle.gixp_wire.specs.declared.protocol.Protocol.{Protocol}
 use Rattle.gixp_wire.specs.Items.{is_stop}
-use Rattle.gixp_wire.specs.Lines.{next_of}
-use Rattle.gixp_wire.specs.Pieces.{Piece, line, mark, Pieces}
+use Rattle.gixp_wire.specs.Lines.{refuses, next_of}
+use Rattle.gixp_wire.specs.Pieces.{Refusal, Piece, line, mark, Pieces}
+use Rattle.gixp_lines.specs.ResponseError.{AnswerRefusal, from_reader}
 use Rattle.gixp_lines.specs.Answer.{AnswerValue, front}
 use Rattle.gixp_lines.specs.Beginnings.{Item, line_item, stopped, Asked, ends, said_in}
 
@@ -32,3 +33,14 @@ pub record IsShortest (version : Protocol) (a : Asked) (p : Pieces) (value : Ans
   pub ended : ends_behind version a taken rest ≡ Some pack
   pub said : value ≡ said_in (items_behind taken []) pack
   pub shortest : (shorter : List Piece) (next : Piece) (more : List Piece) → taken ≡ shorter ++ next ∷ more → ends_behind version a shorter (front (next ∷ more) rest) ≡ None
+
+-- no beginning ends an answer, and what stands behind the longest one is refused
+pub record IsRefused (version : Protocol) (a : Asked) (p : Pieces) (e : AnswerRefusal) : Type 0 where
+  pub taken : List Piece
+  pub rest : Pieces
+  pub split : p ≡ front taken rest
+  pub stops : AreStops version taken
+  pub refusal : Refusal
+  pub next : next_of version rest ≡ refuses refusal
+  pub error : e ≡ from_reader refusal
+  pub unended : (shorter more : List Piece) → taken ≡ shorter ++ more → ends_behind version a shorter (front more rest) ≡ None

@@ -29,3 +29,4 @@ pub mod Advertisement
 pub mod V1Refs
 pub mod V1Line
 pub mod BeginningGrammar
+pub mod Groups

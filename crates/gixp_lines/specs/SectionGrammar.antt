@@ -1,12 +1,15 @@
 -- A version 2 answer as a grammar: which pieces are a list of sections, and what they say (gitprotocol-v2, "fetch").
-use Rattle.std.specs.Prelude.{◌≡◌, ℕ, ⊤, true, false, List, [], ◌∷◌, ◌++◌, map, Ok}
+use Rattle.std.specs.Prelude.{◌≡◌, ◌⊎◌, ℕ, ⊤, true, false, List, [], ◌∷◌, ◌++◌, map, Ok, Err}
+use Rattle.gixp_wire.specs.declared.protocol.Protocol.TheVariants.{V2}
 use Rattle.gixp_wire.specs.declared.protocol.MessageKind.{MessageKind}
 use Rattle.gixp_wire.specs.declared.protocol.MessageKind.TheVariants.{Flush, Delimiter}
-use Rattle.gixp_wire.specs.Pieces.{Piece, line, mark}
+use Rattle.gixp_wire.specs.Items.{is_stop}
+use Rattle.gixp_wire.specs.Pieces.{Refusal, Piece, line, mark, unexpected_frame}
 use Rattle.gixp_lines.specs.declared.fetch.response.sections.Section.{Section}
 use Rattle.gixp_lines.specs.declared.fetch.response.sections.Header.TheVariants.{Of, Packfile}
+use Rattle.gixp_lines.specs.ResponseError.{AnswerRefusal, by_reader, from_reader}
 use Rattle.gixp_lines.specs.Answer.{AnswerValue, no_more, both}
-use Rattle.gixp_lines.specs.Sections.{read_header, read_item}
+use Rattle.gixp_lines.specs.Sections.{read_header, read_item, not_opened}
 
 -- a section: the line of its header, its kind, its lines, and what each of them says
 pub record SectionText : Type 0 where
@@ -57,3 +60,28 @@ said_at (flushed s) = said_before s.items (no_more false)
 abbrev pub said_by : List SectionText → Last → AnswerValue
 said_by [] last = said_at last
 said_by (s ∷ ss) last = said_before s.items (said_by ss last)
+
+-- where a header is due: the end, a line that is none, or a mark
+abbrev pub HeaderRefused : List Piece → Refusal → AnswerRefusal → Type 0
+HeaderRefused [] end e = e ≡ from_reader end
+HeaderRefused (line text ∷ ps) end e = read_header text ≡ Err e
+HeaderRefused (mark kind ∷ ps) end e = e ≡ not_opened (is_stop V2 kind)
+
+-- where an item or a stop is due: the end, a line that is no item, or a mark that is no stop
+abbrev pub ItemRefused : Section → List Piece → Refusal → AnswerRefusal → Type 0
+ItemRefused section [] end e = e ≡ from_reader end
+ItemRefused section (line text ∷ ps) end e = read_item section text ≡ Err e
+ItemRefused section (mark kind ∷ ps) end e = (is_stop V2 kind ≡ false) × (e ≡ by_reader unexpected_frame)
+
+-- a header and items, and where one more is due a refusal
+pub record IsCut (ps : List Piece) (end : Refusal) (e : AnswerRefusal) : Type 0 where
+  pub begun : SectionText
+  pub is_section : IsSection begun
+  pub more : List Piece
+  pub pieces : ps ≡ line begun.header ∷ (map line begun.lines ++ more)
+  pub cut : ItemRefused begun.kind more end e
+
+-- the pieces are these sections, each with a delimiter behind it, and then a header or an item that is refused
+abbrev pub AreRefused : List Piece → Refusal → List SectionText → AnswerRefusal → Type 0
+AreRefused ps end [] e = HeaderRefused ps end e ⊎ IsCut ps end e
+AreRefused ps end (s ∷ ss) e = IsSection s × (more : List Piece) × (ps ≡ section_text s Delimiter more) × AreRefused more end ss e

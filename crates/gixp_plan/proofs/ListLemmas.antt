@@ -1,16 +1,17 @@
 -- What the refs of an answer, read one by one, make of it, and what a fresh reader says of the stream it reads.
-use Rattle.std.proofs.Common.{◌≡◌, ℕ, Bool, inl, inr, true, List, [], ◌∷◌, ◌++◌, Option, Some, None, IfSome, refl, sym, ap, subst, ◌∙◌, append_assoc, append-nil, flat_map, Result, Ok, Err}
+use Rattle.std.proofs.Common.{◌≡◌, ℕ, Bool, inl, inr, true, false, cond, List, [], ◌∷◌, ◌++◌, Option, Some, None, IfSome, refl, sym, ap, subst, ◌∙◌, append_assoc, append-nil, flat_map, Result, Ok, Err}
+use Rattle.std.proofs.lemmas.Bool.{true≢false}
 use Rattle.std.proofs.lemmas.Grind.{flat_map-append}
-use Rattle.std.specs.Option.{option_map}
-use Rattle.std.specs.Io.KnownBytes.{Appends}
-use Rattle.gix_protocol.specs.Pieces.{Refusal, Pieces, io, decode, server, unexpected_frame, not_utf8, bad_band, interrupted, memory, stream_pieces}
-use Rattle.gix_protocol.specs.Reading.{Reading, IsFresh, IsOutside, IsPlain, lines_ahead, lines_from_stop}
+use Rattle.gix_protocol.specs.Items.{is_stop}
+use Rattle.gix_protocol.specs.Lines.{gives, stops, refuses, next_from, next_of, Lines, lines_from, lines_of, lines_to, stop}
+use Rattle.gix_protocol.specs.Pieces.{Refusal, Piece, line, mark, Pieces, io, decode, server, unexpected_frame, not_utf8, bad_band, interrupted, memory}
+use Rattle.gix_protocol.specs.Reading.{Reading, TakesLine, IsOutside, IsPlain, Rose, lines_ahead, lines_from_stop}
 use Rattle.gix_protocol.specs.RefLine.{RefsRefusal, refusal_from}
 use Rattle.gix_protocol.specs.Ref.{RefValue}
-use Rattle.gix_protocol.specs.ParseError.{parse_refusal, is_outside, IsRefusal}
+use Rattle.gix_protocol.specs.ParseError.{parse_refusal, is_outside}
 use Rattle.gix_protocol.specs.RefsError.{Error}
-use Rattle.gix_protocol.specs.Refs.{with_ref, v2_refs, stream_refs, ReadsRefs, RefsFail}
-use Rattle.gixp_plan.specs.List.{ref_line, Prints, PrintsAhead, RefusesAhead, RefusesRefs}
+use Rattle.gix_protocol.specs.Refs.{with_ref, v2_refs, ReadsRefs, RefsFail}
+use Rattle.gixp_plan.specs.List.{ref_line, Prints, behind_stop, StopsBehind, PrintsAhead, is_device, RefusesAhead}
 
 -- these values in front of those to come
 abbrev in_front : List RefValue → Result (List RefValue) RefsRefusal → Result (List RefValue) RefsRefusal
@@ -25,15 +26,66 @@ one_in_front : (vs : List RefValue) (v : RefValue) (r : Result (List RefValue) R
 one_in_front vs v (Ok ws) = ap Ok (sym (append_assoc vs (v ∷ []) ws))
 one_in_front vs v (Err e) = refl
 
+-- the lines to come end alike
+abbrev pub EndsAlike : Reading → Reading → Type 0
+EndsAlike old now = IfSome old.to_come (λ p. (q : Pieces) × (now.to_come ≡ Some q) × ((lines_ahead old p).ending ≡ (lines_ahead now q).ending))
+
+ends_alike-start : (r : Reading) → EndsAlike r r
+ends_alike-start r = at r.to_come
+  where
+    at : (o : Option Pieces) → IfSome o (λ p. (q : Pieces) × (o ≡ Some q) × ((lines_ahead r p).ending ≡ (lines_ahead r q).ending))
+    at None = tt
+    at (Some p) = (p, refl, refl)
+
+ends_alike-more : (old mid new : Reading) → EndsAlike old mid → EndsAlike mid new → EndsAlike old new
+ends_alike-more old mid new h k = at old.to_come mid.to_come h k
+  where
+    at : (o m : Option Pieces) → IfSome o (λ p. (q : Pieces) × (m ≡ Some q) × ((lines_ahead old p).ending ≡ (lines_ahead mid q).ending))
+        → IfSome m (λ p. (q : Pieces) × (new.to_come ≡ Some q) × ((lines_ahead mid p).ending ≡ (lines_ahead new q).ending))
+        → IfSome o (λ p. (q : Pieces) × (new.to_come ≡ Some q) × ((lines_ahead old p).ending ≡ (lines_ahead new q).ending))
+    at None m a b = tt
+    at (Some p) None a b = absurd (let e = a.1 in cc)
+    at (Some p) (Some q) a b =
+        let same : a.0 ≡ q = let e = a.1 in cc in
+        (b.0, b.1, a.2 ∙ ap (λ x. (lines_ahead mid x).ending) same ∙ b.2)
+
+-- a line that is taken leaves the end of those to come
+ending_behind : (r : Reading) (list : List Piece) (end : Refusal) (text : List ℕ) (q : Pieces) → next_from r.version list end ≡ gives text q → (lines_from r.version list end).ending ≡ (lines_of r.version q).ending
+ending_behind r [] end text q h = cc
+ending_behind r (line t ∷ ps) end text q h =
+    let p : Pieces = record { list = ps; end = end } in
+    let same : p ≡ q = cc in
+    ap (λ x. (lines_of r.version x).ending) same
+ending_behind r (mark kind ∷ ps) end text q h = absurd (at (is_stop r.version kind) h)
+  where
+    at : (b : Bool) → cond b (stops kind (record { list = ps; end = end })) (refuses unexpected_frame) ≡ gives text q → ⊥
+    at true k = cc
+    at false k = cc
+
+ends_alike-taken : (old new : Reading) → TakesLine old new → EndsAlike old new
+ends_alike-taken old new h = at old.to_come h.next
+  where
+    at : (o : Option Pieces) → IfSome o (λ p. (q : Pieces) × (new.to_come ≡ Some q) × (next_of old.version p ≡ gives new.line q))
+        → IfSome o (λ p. (q : Pieces) × (new.to_come ≡ Some q) × ((lines_ahead old p).ending ≡ (lines_ahead new q).ending))
+    at None k = tt
+    at (Some p) k = (
+      k.0,
+      k.1,
+      ap (λ s. (lines_from_stop s old.version p).ending) h.running ∙ ending_behind old p.list p.end new.line k.0 k.2
+          ∙ sym (ap (λ s. (lines_from_stop s new.version k.0).ending) h.stopped ∙ ap (λ v. (lines_of v k.0).ending) h.version),
+    )
+
 -- the refs between two readings are printed, and stand in front of those to come
 pub record Printed (old now : Reading) (text : List ℕ) : Type 0 where
   pub values : List RefValue
   pub printed : text ≡ flat_map ref_line values
   pub ahead : IfSome old.to_come (λ p. (q : Pieces) × (now.to_come ≡ Some q) × (v2_refs (lines_ahead old p) ≡ in_front values (v2_refs (lines_ahead now q))))
+  pub ending : EndsAlike old now
+  pub failures : now.failures ≡ old.failures
 
 -- at first none
 pub printed-start : (r : Reading) → Printed r r []
-printed-start r = record { values = []; printed = refl; ahead = at r.to_come }
+printed-start r = record { values = []; printed = refl; ahead = at r.to_come; ending = ends_alike-start r; failures = refl }
   where
     at : (o : Option Pieces) → IfSome o (λ p. (q : Pieces) × (o ≡ Some q) × (v2_refs (lines_ahead r p) ≡ in_front [] (v2_refs (lines_ahead r q))))
     at None = tt
@@ -42,11 +94,13 @@ printed-start r = record { values = []; printed = refl; ahead = at r.to_come }
 -- then one more
 pub printed-more : (old mid new : Reading) (text more : List ℕ) (v : RefValue) → Printed old mid text
     → IfSome mid.to_come (λ p. (q : Pieces) × (new.to_come ≡ Some q) × (v2_refs (lines_ahead mid p) ≡ with_ref (Ok v) (v2_refs (lines_ahead new q))))
-    → more ≡ text ++ ref_line v → Printed old new more
-printed-more old mid new text more v h k e = record {
+    → more ≡ text ++ ref_line v → TakesLine mid new → Printed old new more
+printed-more old mid new text more v h k e t = record {
   values = h.values ++ v ∷ [];
   printed = e ∙ ap (λ l. l ++ ref_line v) h.printed ∙ sym (flat_map-append ref_line h.values (v ∷ []) ∙ ap (λ l. flat_map ref_line h.values ++ l) (append-nil (ref_line v)));
   ahead = at old.to_come mid.to_come h.ahead k;
+  ending = ends_alike-more old mid new h.ending (ends_alike-taken mid new t);
+  failures = t.failures ∙ h.failures;
 }
   where
     at : (o m : Option Pieces) → IfSome o (λ p. (q : Pieces) × (m ≡ Some q) × (v2_refs (lines_ahead old p) ≡ in_front h.values (v2_refs (lines_ahead mid q))))
@@ -71,9 +125,25 @@ printed_rest old mid text rest h k = at old.to_come mid.to_come h.ahead k
         let same : a.0 ≡ q = let e = a.1 in cc in
         a.2 ∙ ap (λ x. in_front h.values (v2_refs (lines_ahead mid x))) same ∙ ap (in_front h.values) b
 
+-- where the lines to come end at a stop, so did those before
+stops_behind : (old mid new : Reading) → EndsAlike old mid → mid.failures ≡ old.failures → ReadsRefs mid new [] → StopsBehind old new
+stops_behind old mid new h f k = record { stopped = rw k.stopped refl; rest = at old.to_come mid.to_come h k.lines; failures = k.failures ∙ f }
+  where
+    at : (o m : Option Pieces) → IfSome o (λ p. (q : Pieces) × (m ≡ Some q) × ((lines_ahead old p).ending ≡ (lines_ahead mid q).ending))
+        → IfSome m (λ p. (q : Pieces) × (new.to_come ≡ Some q) × (lines_ahead mid p ≡ lines_to k.texts (stop k.kind q)))
+        → IfSome o (λ p. (q : Pieces) × (new.to_come ≡ Some q) × (behind_stop (lines_ahead old p).ending ≡ Some q))
+    at None m a b = tt
+    at (Some p) None a b = absurd (let e = a.1 in cc)
+    at (Some p) (Some q) a b =
+        let same : a.0 ≡ q = let e = a.1 in cc in
+        (b.0, b.1, ap behind_stop (a.2 ∙ ap (λ x. (lines_ahead mid x).ending) same ∙ ap (λ (l : Lines). l.ending) b.2))
+
 -- at the stop these are all
-pub printed-all : (old mid new : Reading) (text : List ℕ) → Printed old mid text → ReadsRefs mid new [] → PrintsAhead old text
-printed-all old mid new text h k = at old.to_come (printed_rest old mid text (Ok []) h k.value)
+pub printed-all : (old mid new : Reading) (text : List ℕ) → Printed old mid text → ReadsRefs mid new [] → PrintsAhead old new text
+printed-all old mid new text h k = record {
+  printed = at old.to_come (printed_rest old mid text (Ok []) h k.value);
+  behind = stops_behind old mid new h.ending h.failures k;
+}
   where
     at : (o : Option Pieces) → IfSome o (λ p. v2_refs (lines_ahead old p) ≡ Ok (h.values ++ [])) → IfSome o (λ p. Prints (Some []) (Some text) (v2_refs (lines_ahead old p)))
     at None a = tt
@@ -94,49 +164,37 @@ outside_is not_utf8 now new (inr h) p = absurd (let e = h.refusal in cc)
 outside_is (bad_band b) now new h p = absurd p
 outside_is interrupted now new h p = absurd p
 
+-- a device that failed was counted
+device_rose : (r : Refusal) (now new : Reading) → IsOutside now new r → is_device (refusal_from r) ≡ true → Rose now.failures new.failures
+device_rose (io kind) now new (inl h) d = h.fault.2
+device_rose (io kind) now new (inr h) d = h.failures
+device_rose memory now new h d = cc
+device_rose (decode e) now new h d = cc
+device_rose (server m) now new h d = cc
+device_rose unexpected_frame now new h d = cc
+device_rose not_utf8 now new h d = cc
+device_rose (bad_band b) now new h d = cc
+device_rose interrupted now new h d = cc
+
 -- a refusal of what is still to come is that of all
-pub printed-refused : (plain : Bool) (old mid new : Reading) (text : List ℕ) (e : Error) → Printed old mid text → RefsFail plain mid new e → RefusesAhead plain old e
-printed-refused plain old mid new text e h (inl k) = inl (both old.to_come (printed_rest old mid text (Err k.refusal) h k.first))
-  where
-    both : (o : Option Pieces) → IfSome o (λ p. v2_refs (lines_ahead old p) ≡ Err k.refusal) → IfSome o (λ p. (x : RefsRefusal) × (v2_refs (lines_ahead old p) ≡ Err x) × IsRefusal e x)
-    both None a = tt
-    both (Some p) a = (k.refusal, a, k.error)
-printed-refused plain old mid new text e h (inr (inl k)) = inl (both old.to_come (printed_rest old mid text (Err (refusal_from k.refusal)) h k.first))
-  where
-    both : (o : Option Pieces) → IfSome o (λ p. v2_refs (lines_ahead old p) ≡ Err (refusal_from k.refusal)) → IfSome o (λ p. (x : RefsRefusal) × (v2_refs (lines_ahead old p) ≡ Err x) × IsRefusal e x)
-    both None a = tt
-    both (Some p) a = (refusal_from k.refusal, a, λ _. k.error)
-printed-refused plain old mid new text e h (inr (inr (inl k))) = inr (λ p. ap is_outside k.error ∙ outside_is k.refusal k.now new k.failed (k.is_plain p))
-printed-refused plain old mid new text e h (inr (inr (inr k))) = inr (λ p. ap (λ x. is_outside (parse_refusal x)) k.error)
-
--- what the lines of a fresh reader make is what the stream makes
-fresh_refs : (known : Option (List ℕ)) (r : Reading) (P : Result (List RefValue) RefsRefusal → Type 0) → IsFresh known r
-    → IfSome r.to_come (λ p. P (v2_refs (lines_ahead r p))) → IfSome known (λ bytes. P (stream_refs bytes))
-fresh_refs known r P fresh h = at known (subst (λ o. IfSome o (λ p. P (v2_refs (lines_ahead r p)))) fresh.to_come h)
-  where
-    at : (o : Option (List ℕ)) → IfSome (option_map stream_pieces o) (λ p. P (v2_refs (lines_ahead r p))) → IfSome o (λ bytes. P (stream_refs bytes))
-    at None k = tt
-    at (Some bytes) k =
-        let p = stream_pieces bytes in
-        let same = ap (λ s. lines_from_stop s r.version p) fresh.stopped ∙ ap (λ v. lines_from_stop None v p) fresh.version in
-        subst (λ l. P (v2_refs l)) same k
-
--- the text of a fresh reader is that of the stream
-pub stream_prints : (known : Option (List ℕ)) (r : Reading) (text : List ℕ) → IsFresh known r → PrintsAhead r text
-    → IfSome known (λ bytes. Prints (Some []) (Some text) (stream_refs bytes))
-stream_prints known r text fresh h = fresh_refs known r (Prints (Some []) (Some text)) fresh h
-
--- its refusal is the stream's first, or it came from outside
-pub stream_refuses : (known : Option (List ℕ)) (r : Reading) (e : Error) → IsFresh known r → RefusesAhead true r e → RefusesRefs known e
-stream_refuses known r e fresh (inl h) = inl (fresh_refs known r (λ answer. (x : RefsRefusal) × (answer ≡ Err x) × IsRefusal e x) fresh h)
-stream_refuses known r e fresh (inr h) = inr (h refl)
-
--- what is printed and then written is written
-pub prints_written : (known : Option (List ℕ)) (a b : Option (List ℕ)) (text : List ℕ) → IfSome known (λ bytes. Prints (Some []) (Some text) (stream_refs bytes)) → Appends a b text
-    → IfSome known (λ bytes. Prints a b (stream_refs bytes))
-prints_written None a b text h k = tt
-prints_written (Some bytes) a b text h k = at (stream_refs bytes) h
-  where
-    at : (r : Result (List RefValue) RefsRefusal) → Prints (Some []) (Some text) r → Prints a b r
-    at (Ok values) p = subst (Appends a b) p k
-    at (Err e) p = absurd p
+pub printed-refused : (plain : Bool) (old mid new : Reading) (text : List ℕ) (e : Error) → Printed old mid text → RefsFail plain mid new e → RefusesAhead plain old new e
+printed-refused plain old mid new text e h (inl k) = inl (record {
+  why = k.refusal;
+  first = printed_rest old mid text (Err k.refusal) h k.first;
+  by = inl (k.text, k.line);
+  error = k.error;
+})
+printed-refused plain old mid new text e h (inr (inl k)) = inl (record {
+  why = refusal_from k.refusal;
+  first = printed_rest old mid text (Err (refusal_from k.refusal)) h k.first;
+  by = inr (k.refusal, k.refused, refl);
+  error = λ _. k.error;
+})
+printed-refused plain old mid new text e h (inr (inr (inl k))) = inr (record {
+  outside = λ p. ap is_outside k.error ∙ outside_is k.refusal k.now new k.failed (k.is_plain p);
+  counted = λ d. subst (λ n. Rose n new.failures) (k.read.failures ∙ h.failures) (device_rose k.refusal k.now new k.failed (ap is_device (sym k.error) ∙ d));
+})
+printed-refused plain old mid new text e h (inr (inr (inr k))) = inr (record {
+  outside = λ p. ap (λ x. is_outside (parse_refusal x)) k.error;
+  counted = λ d. let no : is_device (parse_refusal e) ≡ false = ap (λ x. is_device (parse_refusal x)) k.error in absurd (true≢false (sym d ∙ no));
+})

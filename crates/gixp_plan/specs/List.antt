@@ -1,11 +1,13 @@
 -- How the refs of an `ls-refs` answer are listed.
-use Rattle.std.specs.Prelude.{◌≡◌, ℕ, ◌⊎◌, ⊤, Bool, true, List, [], ◌∷◌, flat_map, codes, Option, Some, None, IfSome, Result, Ok, Err, IsOk}
+use Rattle.std.specs.Prelude.{◌≡◌, ℕ, ◌⊎◌, ⊤, Bool, true, false, List, [], ◌∷◌, flat_map, codes, Option, Some, None, IfSome, IsSome, Result, Ok, Err, IsOk}
 use Rattle.std.specs.Io.KnownBytes.{Appends}
 use Rattle.gix_protocol.specs.Hex.{encode_lower}
 use Rattle.gix_protocol.specs.Ref.{RefValue, peeled, direct, symbolic, unborn}
-use Rattle.gix_protocol.specs.RefLine.{RefsRefusal}
-use Rattle.gix_protocol.specs.ParseError.{IsRefusal, IsFromOutside}
-use Rattle.gix_protocol.specs.Reading.{Reading, lines_ahead}
+use Rattle.gix_protocol.specs.RefLine.{RefsRefusal, io_failed, refusal_from, v2_line}
+use Rattle.gix_protocol.specs.ParseError.{parse_refusal, IsRefusal, IsFromOutside}
+use Rattle.gix_protocol.specs.Pieces.{Refusal, Pieces}
+use Rattle.gix_protocol.specs.Lines.{Ending, stop, refusal}
+use Rattle.gix_protocol.specs.Reading.{Reading, Rose, lines_ahead}
 use Rattle.gix_protocol.specs.Refs.{v2_refs, stream_refs}
 use Rattle.gix_protocol.specs.RefsError.{Error}
 use Rattle.gixp_plan.specs.declared.list.ListError.{ListError}
@@ -33,13 +35,51 @@ abbrev pub Prints : Option (List ℕ) → Option (List ℕ) → Result (List Ref
 Prints old new (Ok values) = Appends old new (flat_map ref_line values)
 Prints old new (Err e) = ⊥
 
--- this text is the lines of the refs that a reader gives
-abbrev pub PrintsAhead : Reading → List ℕ → Type 0
-PrintsAhead r text = IfSome r.to_come (λ p. Prints (Some []) (Some text) (v2_refs (lines_ahead r p)))
+-- what stands behind the stop that lines end at
+abbrev pub behind_stop : Ending → Option Pieces
+behind_stop (stop kind rest) = Some rest
+behind_stop (refusal e) = None
 
--- what is refused is their first refusal, unless it came from outside a plain reader
-abbrev pub RefusesAhead : Bool → Reading → Error → Type 0
-RefusesAhead plain r e = IfSome r.to_come (λ p. (x : RefsRefusal) × (v2_refs (lines_ahead r p) ≡ Err x) × IsRefusal e x) ⊎ (plain ≡ true → IsFromOutside e)
+-- the reader is at the stop behind the lines to come, and what stands behind that is still to come
+pub record StopsBehind (old new : Reading) : Type 0 where
+  pub stopped : IsSome new.stopped
+  pub rest : IfSome old.to_come (λ p. (q : Pieces) × (new.to_come ≡ Some q) × (behind_stop (lines_ahead old p).ending ≡ Some q))
+  pub failures : new.failures ≡ old.failures
+
+-- this text is the lines of the refs that a reader gives
+pub record PrintsAhead (old new : Reading) (text : List ℕ) : Type 0 where
+  pub printed : IfSome old.to_come (λ p. Prints (Some []) (Some text) (v2_refs (lines_ahead old p)))
+  pub behind : StopsBehind old new
+
+-- the first refusal of the lines to come: a line's, or the reader's, which it answers from then on
+pub record RefusedFirst (old new : Reading) (e : Error) : Type 0 where
+  pub why : RefsRefusal
+  pub first : IfSome old.to_come (λ p. v2_refs (lines_ahead old p) ≡ Err why)
+  pub by : ((text : List ℕ) × (v2_line text ≡ Err why)) ⊎ ((r : Refusal) × (new.refused ≡ Some r) × (why ≡ refusal_from r))
+  pub error : IsRefusal e why
+
+-- whether it is that of a device that failed
+abbrev pub is_device : RefsRefusal → Bool
+is_device (io_failed kind) = true
+is_device _ = false
+
+-- it came from outside, where a plain reader has no more than a device's failures, each of which it counts, and want of memory
+pub record CameFromOutside (plain : Bool) (old new : Reading) (e : Error) : Type 0 where
+  pub outside : plain ≡ true → IsFromOutside e
+  pub counted : is_device (parse_refusal e) ≡ true → Rose old.failures new.failures
+
+abbrev pub RefusesAhead : Bool → Reading → Reading → Error → Type 0
+RefusesAhead plain old new e = RefusedFirst old new e ⊎ CameFromOutside plain old new e
+
+-- the lines of the refs to come were written
+pub record ListsAhead (old new : Reading) (before after : Option (List ℕ)) : Type 0 where
+  pub written : IfSome old.to_come (λ p. Prints before after (v2_refs (lines_ahead old p)))
+  pub behind : StopsBehind old new
+
+-- the refs to come are refused, or a write failed for lines that aren't
+abbrev pub RefusesLines : Bool → Reading → Reading → ListError → Type 0
+RefusesLines plain old new (Parse e) = RefusesAhead plain old new e
+RefusesLines plain old new (Io kind) = IfSome old.to_come (λ p. IsOk (v2_refs (lines_ahead old p))) × StopsBehind old new
 
 -- it is a refusal of the answer
 abbrev pub IsParse : ListError → Type 0

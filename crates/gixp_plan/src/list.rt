@@ -1,10 +1,10 @@
 //! Listing the refs of a recorded `ls-refs` answer.
-ghost use Rattle.std.specs.Prelude.{◌≡◌, Some, [], OnOk, IfErr, IfSome, MatchResult};
+ghost use Rattle.std.specs.Prelude.{◌≡◌, OnOk, IfErr, IfSome, MatchResult};
 ghost use Rattle.std.specs.Io.KnownBytes.{Appends, Keeps};
 ghost use Rattle.gix_protocol.specs.Refs.{stream_refs};
 ghost use Rattle.gix_protocol.specs.ParseError.{parse_refusal};
 ghost use Rattle.gixp_plan.specs.ErrorName.{error_name, list_error_name};
-ghost use Rattle.gixp_plan.specs.List.{Prints, PrintsAhead, RefusesAhead, RefusesRefs, RefusesList, IsParse};
+ghost use Rattle.gixp_plan.specs.List.{Prints, PrintsAhead, RefusesAhead, ListsAhead, RefusesLines, RefusesList, IsParse};
 
 use crate::print::print_ref;
 use gix_protocol::handshake::refs::{next_v2_ref, parse};
@@ -58,8 +58,8 @@ fn variant_of(error: &parse::Error) -> &'static str
 // The lines of the refs to come. No ref is held beside its line, which is a third shorter.
 fn print_refs<R: ExtendedBufRead>(alloc: Global, lines: &mut R) -> Result<Vec<u8>, parse::Error>
     ensures { MatchResult result
-        (λ text. PrintsAhead (R.reading lines.old) text.items)
-        (RefusesAhead R.is_plain (R.reading lines.old)) }
+        (λ text. PrintsAhead (R.reading lines.old) (R.reading lines.new) text.items)
+        (RefusesAhead R.is_plain (R.reading lines.old) (R.reading lines.new)) }
 {
     let mut text = Vec::new(alloc);
     loop {
@@ -74,17 +74,6 @@ fn print_refs<R: ExtendedBufRead>(alloc: Global, lines: &mut R) -> Result<Vec<u8
     }
 }
 
-// The lines of the refs of the answer.
-fn read_refs<R: Read>(alloc: Global, reader: &mut R) -> Result<Vec<u8>, parse::Error>
-    ensures { MatchResult result
-        (λ text. IfSome (R.remaining reader.old) (λ bytes. Prints (Some []) (Some text.items) (stream_refs bytes)))
-        (RefusesRefs (R.remaining reader.old)) }
-{
-    let mut lines = LineReader::new(alloc, reader)?;
-    let text = print_refs(alloc, &mut lines)?;
-    Ok(text)
-}
-
 // The text, and no byte of it left in the writer.
 fn write_text<W: Write>(writer: &mut W, text: &[u8]) -> io::Result<()>
     ensures { OnOk result (Appends (W.contents writer.old) (W.contents writer.new) text.now) }
@@ -93,16 +82,38 @@ fn write_text<W: Write>(writer: &mut W, text: &[u8]) -> io::Result<()>
     writer.flush()
 }
 
+// Writes a line for each ref that a reader of lines gives up to its stop, where the reader is then. Of an I/O error
+// it says what `list_refs` can't: that the reader counted a failure, or that its stream ended so.
+fn list_lines<R: ExtendedBufRead, W: Write>(
+    alloc: Global,
+    lines: &mut R,
+    writer: &mut W,
+) -> Result<(), ListError>
+    ensures listed { OnOk result (ListsAhead (R.reading lines.old) (R.reading lines.new) (W.contents writer.old) (W.contents writer.new)) }
+    ensures refused { IfErr result (RefusesLines R.is_plain (R.reading lines.old) (R.reading lines.new)) }
+    ensures nothing { IfErr result (λ e. IsParse e → Keeps (W.contents writer.old) (W.contents writer.new)) }
+{
+    let text = match print_refs(alloc, lines) {
+        Ok(text) => text,
+        Err(e) => return Err(ListError::Parse(e)),
+    };
+    match write_text(writer, text.as_slice()) {
+        Ok(()) => Ok(()),
+        Err(e) => Err(ListError::Io(e.kind())),
+    }
+}
+
 /// Reads a version 2 `ls-refs` answer up to its stop, and writes a line for each of its refs
 /// (gitprotocol-v2, "ls-refs"). What follows the stop is ignored.
 ///
 /// All refs are read before the first byte is written. Their lines are then written in one piece, and
-/// the writer is flushed.
+/// the writer is flushed. The reader may be read behind the stop, by less than the 65,520 bytes of the buffer, and
+/// those bytes are gone.
 ///
 /// # Errors
 ///
-/// `Parse` with the first refusal of the answer, or on an allocation failure: then nothing was written.
-/// `Io` where a write failed, for an answer that isn't refused.
+/// `Parse` with the first refusal of the answer, or where a read failed, or on an allocation failure: then nothing
+/// was written. `Io` where a write failed, for an answer that isn't refused.
 pub fn list_refs<R: Read, W: Write>(
     alloc: Global,
     reader: &mut R,
@@ -113,12 +124,8 @@ pub fn list_refs<R: Read, W: Write>(
     ensures refused { IfErr result (RefusesList (R.remaining reader.old)) }
     ensures nothing { IfErr result (λ e. IsParse e → Keeps (W.contents writer.old) (W.contents writer.new)) }
 {
-    let text = match read_refs(alloc, reader) {
-        Ok(text) => text,
-        Err(e) => return Err(ListError::Parse(e)),
-    };
-    match write_text(writer, text.as_slice()) {
-        Ok(()) => Ok(()),
-        Err(e) => Err(ListError::Io(e.kind())),
+    match LineReader::new(alloc, reader) {
+        Ok(mut lines) => list_lines(alloc, &mut lines, writer),
+        Err(AllocError) => Err(ListError::Parse(parse::Error::Memory)),
     }
 }

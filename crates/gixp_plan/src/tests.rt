@@ -7,6 +7,7 @@ use std::io;
 use std::io::{ErrorKind, Read, Write};
 use std::test::Fail;
 
+mod devices;
 mod recorded;
 
 // Bytes of which each read gives at most `step`. The read of number `fails` fails with `kind`.

@@ -20,7 +20,7 @@ use Rattle.gixp_refspec.specs.Validation.{of_local, differ, conflict_over, confl
 use Rattle.gixp_refspec.proofs.DifferLemmas.{differ-first}
 use Rattle.gixp_refspec.proofs.KeyLemmas.{Key, by_key, by_bytes, is_eq-key, bytes_eq-turned}
 
-is_eq-reverse : (o : Ordering) → is_eq (ordering_reverse o) ≡ is_eq o
+pub is_eq-reverse : (o : Ordering) → is_eq (ordering_reverse o) ≡ is_eq o
 is_eq-reverse Less = refl
 is_eq-reverse Equal = refl
 is_eq-reverse Greater = refl

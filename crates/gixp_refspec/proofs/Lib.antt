@@ -20,6 +20,7 @@ pub mod DifferLemmas
 pub mod UniqueLemmas
 pub mod DistinctLemmas
 pub mod RowLemmas
+pub mod PlaceLemmas
 pub mod NegativeLemmas
 pub mod KeptLemmas
 pub mod BackedLemmas

@@ -116,3 +116,10 @@ pub gathered_behind : {A B C : Type 0} (h : A → B) (f : B → List C) (old now
 gathered_behind h f old now new xs i d l kept step =
     step ∙ ap (λ z. z ++ f (h (get_or xs i d))) kept ∙ append_assoc old (flat_map f (take i (map h xs))) (f (h (get_or xs i d)))
     ∙ ap (λ z. old ++ z) (sym (flat_map-append_one f (take i (map h xs)) (h (get_or xs i d))) ∙ ap (flat_map f) (sym (take-map_more h xs i d l)))
+
+-- the same of what stands in a list itself
+pub gathered_here : {B C : Type 0} (f : B → List C) (old now new : List C) (xs : List B) (i : ℕ) (d : B) → i < length xs → now ≡ old ++ flat_map f (take i xs) → new ≡ now ++ f (get_or xs i d)
+    → new ≡ old ++ flat_map f (take (i + 1) xs)
+gathered_here f old now new xs i d l kept step =
+    step ∙ ap (λ z. z ++ f (get_or xs i d)) kept ∙ append_assoc old (flat_map f (take i xs)) (f (get_or xs i d))
+    ∙ ap (λ z. old ++ z) (sym (flat_map-append_one f (take i xs) (get_or xs i d)) ∙ ap (flat_map f) (sym (take_more xs i d l)))

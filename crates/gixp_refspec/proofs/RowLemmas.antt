@@ -17,15 +17,14 @@ use Rattle.std.proofs.lemmas.List.Sorted.{ranks_by, sorted_far}
 use Rattle.std.proofs.lemmas.Map.Text.{is_eq-slice_cmp}
 use Rattle.std.proofs.lemmas.Slice.Eq.{bytes_eq-Decides}
 use Rattle.gixp_refspec.specs.declared.match_group.rows.Row.{Row}
-use Rattle.gixp_refspec.specs.declared.match_group.needle.Needle.TheVariants.{Id as the_id, Exact as the_exact, Short as the_short}
+use Rattle.gixp_refspec.specs.declared.match_group.needle.Needle.TheVariants.{Id as the_id, Exact as the_exact}
 use Rattle.gixp_refspec.specs.Spec.{Spec, is_negative}
-use Rattle.gixp_refspec.specs.Matching.{candidates, where_true}
+use Rattle.gixp_refspec.specs.Matching.{where_true}
 use Rattle.gixp_refspec.specs.Mappings.{Mapped, pair, pairs_of}
 use Rattle.gixp_refspec.specs.Needle.{IsNeedle}
-use Rattle.gixp_refspec.specs.Rows.{shown, is_row_of, AreByName, meant, IsTable, AreMeant, IsOneOf}
+use Rattle.gixp_refspec.specs.Rows.{shown, is_row_of, AreByName, meant, IsTable}
 use Rattle.gixp_refspec.specs.Validation.{is_below}
-use Rattle.gixp_refspec.proofs.FirstLemmas.{or_none}
-use Rattle.gixp_refspec.proofs.KeyLemmas.{bytes_eq-turned, or_turned}
+use Rattle.gixp_refspec.proofs.KeyLemmas.{bytes_eq-turned}
 use Rattle.gixp_refspec.proofs.ListLemmas.{kept_same, filter_of_map}
 use Rattle.gixp_refspec.proofs.NeedleLemmas.{middle_with-needle}
 use Rattle.gixp_refspec.proofs.PairLemmas.{pair_none, pair_negative}
@@ -48,18 +47,6 @@ module _ {X : Type 0} where
     | inl t ↦ rw t (ap (λ r. cond (p x) (x ∷ r) r) (filter_twice p q xs))
     | inr f ↦ rw f (filter_twice p q xs)
   ]
-
-  -- where nothing passes a second test, it lets nothing more pass
-  pub filter_or_none : (p q : X → Bool) (xs : List X) → filter q xs ≡ [] → filter (λ x. p x || q x) xs ≡ filter p xs
-  filter_or_none p q [] h = refl
-  filter_or_none p q (x ∷ xs) h = at (q x) refl h (λ k. filter_or_none p q xs k) where
-    at : (b : Bool) → q x ≡ b → cond b (x ∷ filter q xs) (filter q xs) ≡ [] → (filter q xs ≡ [] → filter (λ y. p y || q y) xs ≡ filter p xs)
-        → cond (p x || q x) (x ∷ filter (λ y. p y || q y) xs) (filter (λ y. p y || q y) xs) ≡ cond (p x) (x ∷ filter p xs) (filter p xs)
-    at true e h more = cc
-    at false e h more = same (p x) where
-      same : (a : Bool) → cond (a || q x) (x ∷ filter (λ y. p y || q y) xs) (filter (λ y. p y || q y) xs) ≡ cond a (x ∷ filter p xs) (filter p xs)
-      same true = ap (λ r. x ∷ r) (more h)
-      same false = cond-false _ _ _ e ∙ more h
 
   -- up to a partition point all pass, and behind it none
   front_passes : (p : X → Bool) (xs : List X) (i : ℕ) → i ≤ length xs → IsPartitionPoint (λ y. p y ≡ true) (λ y. p y ≡ false) xs i → All (λ y. p y ≡ true) (take i xs)
@@ -180,23 +167,6 @@ meant_none all = sym (filter_none (λ ref. false) (enumerate_from 0 all) (none (
   none [] = tt
   none (x ∷ xs) = (refl, none xs)
 
--- refs of one name more, where one of the two lists is empty
-pub meant_more : (all texts : List (List ℕ)) (text : List ℕ) (rows found run one : List Row) → IsTable all rows → map shown found ≡ meant all texts → run ≡ filter (is_row_of text) rows
-    → IsOneOf found run one → map shown one ≡ meant all (texts ++ text ∷ [])
-meant_more all texts text rows found run one table kept was either =
-    let refs = enumerate_from 0 all in
-    let before : ℕ × List ℕ → Bool = λ ref. list_any (λ t. bytes_eq ref.1 t) texts in
-    let here : ℕ × List ℕ → Bool = λ ref. bytes_eq ref.1 text in
-    let both = kept_same (λ ref. list_any (λ t. bytes_eq ref.1 t) (texts ++ text ∷ [])) (λ ref. before ref || here ref)
-    (λ ref. list_any-append (λ t. bytes_eq ref.1 t) texts (text ∷ []) ∙ ap (λ b. before ref || b) (or_none (here ref))) refs in
-    let its : map shown run ≡ filter here refs = ap (map shown) was ∙ table.has_all text in
-    elim either [
-      | inl first ↦ ap (map shown) first.0 ∙ kept ∙ sym (both ∙ filter_or_none before here refs (sym its ∙ ap (map shown) first.1))
-      | inr second ↦ (
-          ap (map shown) second.0 ∙ its
-          ∙ sym (both ∙ kept_same _ (λ ref. here ref || before ref) (λ ref. or_turned (before ref) (here ref)) refs ∙ filter_or_none here before refs (sym kept ∙ ap (map shown) second.1)))
-    ]
-
 -- ---- the mappings of refs that were looked up
 
 -- what holds on success of one holds of another that it implies
@@ -226,11 +196,3 @@ exact_mapped specs all s name rows run now new made table was step =
     step ∙ ap (λ l. now ++ flat_map (pair specs s) l) (ap (map shown) was ∙ table.has_all name.now)
     ∙ ap (λ l. now ++ l) (flat_map-filter (pair specs s) (λ ref. bytes_eq ref.1 name.now)
     (λ ref other. sym (pair_none specs s ref (sym (middle_with-needle s.1.source ref.1 (the_exact name) made) ∙ ap where_true other))) (enumerate_from 0 all))
-
--- a short name maps the refs that it stands for
-pub short_mapped : (specs : List Spec) (all : List (List ℕ)) (s : ℕ × Spec) (name : Bor (List ℕ)) (rows run : List Row) (now new : List Mapped) → IsNeedle s.1.source (the_short name) → IsTable all rows
-    → AreMeant (candidates name.now) rows run → new ≡ now ++ flat_map (pair specs s) (map shown run) → new ≡ now ++ pairs_of specs all s
-short_mapped specs all s name rows run now new made table was step =
-    step ∙ ap (λ l. now ++ flat_map (pair specs s) l) (was all table)
-    ∙ ap (λ l. now ++ l) (flat_map-filter (pair specs s) (λ ref. list_any (λ text. bytes_eq ref.1 text) (candidates name.now))
-    (λ ref other. sym (pair_none specs s ref (sym (middle_with-needle s.1.source ref.1 (the_short name) made) ∙ ap where_true other))) (enumerate_from 0 all))

@@ -1,9 +1,11 @@
 -- Refs by their names, and negative refspecs that were looked at once.
-use Rattle.std.specs.Prelude.{ℕ, ◌≡◌, ◌⊎◌, ◌||◌, Bool, List, [], map, filter, is_some}
+use Rattle.std.specs.Prelude.{ℕ, ◌≡◌, ◌==◌, ◌||◌, Bool, List, map, filter, is_some, option_to_list}
+use Rattle.std.specs.BTreeSet.{BTreeSet, contains}
 use Rattle.std.specs.Cmp.Lexicographic.{slice_cmp}
-use Rattle.std.specs.List.{list_any, enumerate_from}
+use Rattle.std.specs.List.{list_any, enumerate_from, slice_get}
 use Rattle.std.specs.List.Sorted.{IsSortedByKey}
 use Rattle.std.specs.Ordering.{nat_cmp}
+use Rattle.std.specs.Option.{option_map}
 use Rattle.std.specs.Str.{bytes_eq}
 use Rattle.gixp_refspec.specs.declared.match_group.needle.Needle.{Needle}
 use Rattle.gixp_refspec.specs.declared.match_group.negatives.Prepared.{Prepared}
@@ -37,13 +39,25 @@ pub record IsTable (names : List (List ℕ)) (rows : List Row) : Type 0 where
   pub in_order : AreByName rows
   pub has_all : (name : List ℕ) → map shown (filter (is_row_of name) rows) ≡ named names name
 
--- the rows of a table whose names are among the texts
-abbrev pub AreMeant : List (List ℕ) → List Row → List Row → Type 0
-AreMeant texts rows run = (names : List (List ℕ)) → IsTable names rows → map shown run ≡ meant names texts
+-- some ref has this place
+abbrev pub has_place : ℕ → List (ℕ × List ℕ) → Bool
+has_place place refs = list_any (λ ref. ref.0 == place) refs
 
--- the first of two lists where the second is empty, or the second where the first is
-abbrev pub IsOneOf : List Row → List Row → List Row → Type 0
-IsOneOf found run one = ((one ≡ found) × (run ≡ [])) ⊎ ((one ≡ run) × (found ≡ []))
+-- the places of these refs were added
+abbrev pub AddsPlaces : List (ℕ × List ℕ) → BTreeSet ℕ → BTreeSet ℕ → Type 0
+AddsPlaces refs old new = (place : ℕ) → contains nat_cmp new place ≡ (contains nat_cmp old place || has_place place refs)
+
+-- the set has the places of the refs of a table whose names are among the texts
+abbrev pub HasPlaces : List (List ℕ) → List Row → BTreeSet ℕ → Type 0
+HasPlaces texts rows places = (names : List (List ℕ)) → IsTable names rows → (place : ℕ) → contains nat_cmp places place ≡ has_place place (meant names texts)
+
+-- these are the places of the refs of a table whose names are among the texts, in their order
+abbrev pub ArePlaces : List (List ℕ) → List Row → List ℕ → Type 0
+ArePlaces texts rows places = (names : List (List ℕ)) → IsTable names rows → places ≡ map (λ ref. ref.0) (meant names texts)
+
+-- the ref at a place, where there is one
+abbrev pub ref_at : List (List ℕ) → ℕ → List (ℕ × List ℕ)
+ref_at names place = option_to_list (option_map (λ name. (place, name)) (slice_get names place))
 
 -- one of the names, or one of the needles, matches the name
 abbrev pub is_any : List Row → List Needle → List ℕ → Bool

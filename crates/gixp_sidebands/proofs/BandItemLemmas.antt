@@ -6,9 +6,9 @@ use Rattle.gixp_wire.specs.declared.protocol.MessageKind.{MessageKind}
 use Rattle.gixp_sidebands.specs.declared.sidebands.band.Band.{Band}
 use Rattle.gixp_sidebands.specs.declared.sidebands.band.Band.TheVariants.{Empty, Content, Text, Unknown}
 use Rattle.gixp_wire.specs.Pieces.{Refusal, bad_band, unexpected_frame, Piece, line, mark, Pieces}
-use Rattle.gixp_wire.specs.Items.{is_stop, banded, Item, line_item, text_item, stop_item, item_of, unless_empty, Items, with_found, items_from, with_item, no_items, first_lines}
+use Rattle.gixp_wire.specs.Items.{is_stop, plain, banded, Item, line_item, text_item, stop_item, item_of, unless_empty, Items, with_found, items_from, items_of, with_item, no_items, first_lines}
 use Rattle.gixp_wire.specs.Lines.{lines_of, lines_from, no_lines, stop, refusal}
-use Rattle.gixp_sidebands.specs.Bands.{band_of, unband_line, unband_from, content_from, Message, messages_line, messages_from, joined, heard_before, heard, first_texts}
+use Rattle.gixp_sidebands.specs.Bands.{band_of, unband_line, unband_from, content_from, Message, messages_line, messages_from, joined, heard_before, heard, first_texts, without_texts}
 
 -- what a line adds, by its band
 abbrev item_by : Band → List ℕ → Result (Option Item) Refusal
@@ -98,3 +98,29 @@ messages_items v (line text ∷ ps) end =
     text_step (band_of text) text (messages_from ps) (items_from v banded ps end) (messages_items v ps end)
     ∙ ap (λ x. first_texts (with_found x (items_from v banded ps end)).list) (sym (item_at text))
 messages_items v (mark kind ∷ ps) end = texts_mark (is_stop v kind) kind (items_from v banded ps end)
+
+-- ---- items without texts
+
+no_item : (is_error : Bool) (text : List ℕ) (rest : Items) → without_texts (with_found (Ok (unless_empty (text_item is_error) text)) rest) ≡ without_texts rest
+no_item is_error [] rest = refl
+no_item is_error (x ∷ xs) rest = refl
+
+item_step : (v : Protocol) (k : Band) (text : List ℕ) (rest : Pieces) (items : Items) → items_of v plain rest ≡ without_texts items
+    → items_of v plain (unband_line k text rest) ≡ without_texts (with_found (item_by k text) items)
+item_step v Empty text rest items h = h
+item_step v Content text rest items h = ap (with_item (line_item (drop 1 text))) h
+item_step v (Text b) text rest items h = h ∙ sym (no_item b (strip_last 10 (drop 1 text)) items)
+item_step v (Unknown b) text rest items h = refl
+
+items_mark : (b : Bool) (kind : MessageKind) (content items : Items) → content ≡ without_texts items
+    → cond b (with_item (stop_item kind) content) (no_items unexpected_frame) ≡ without_texts (cond b (with_item (stop_item kind) items) (no_items unexpected_frame))
+items_mark true kind content items h = ap (with_item (stop_item kind)) h
+items_mark false kind content items h = refl
+
+-- the items of the content are the banded ones but for texts
+pub content_without_texts : (v : Protocol) (list : List Piece) (end : Refusal) → items_of v plain (unband_from list end) ≡ without_texts (items_from v banded list end)
+content_without_texts v [] end = refl
+content_without_texts v (line text ∷ ps) end =
+    item_step v (band_of text) text (unband_from ps end) (items_from v banded ps end) (content_without_texts v ps end)
+    ∙ ap (λ x. without_texts (with_found x (items_from v banded ps end))) (sym (item_at text))
+content_without_texts v (mark kind ∷ ps) end = items_mark (is_stop v kind) kind (items_of v plain (unband_from ps end)) (items_from v banded ps end) (content_without_texts v ps end)

@@ -9,7 +9,7 @@ use Rattle.gixp_wire.specs.declared.protocol.MessageKind.{MessageKind}
 use Rattle.gixp_sidebands.specs.declared.sidebands.band.Band.{Band}
 use Rattle.gixp_sidebands.specs.declared.sidebands.band.Band.TheVariants.{Empty, Content, Text, Unknown}
 use Rattle.gixp_wire.specs.Pieces.{Refusal, io, bad_band, interrupted, memory, Piece, line, mark, Pieces, no_pieces, with_piece}
-use Rattle.gixp_wire.specs.Items.{Item, line_item, text_item, stop_item}
+use Rattle.gixp_wire.specs.Items.{Item, line_item, text_item, stop_item, Items}
 use Rattle.gixp_wire.specs.declared.read.Error.{Error}
 use Rattle.gixp_wire.specs.Reading.{Reading, AtStop, Refuses, Faults, Fails}
 use Rattle.std.specs.IoError.{error_kind}
@@ -290,3 +290,13 @@ first_texts [] = []
 first_texts (line_item text ∷ is) = first_texts is
 first_texts (text_item is_error text ∷ is) = record { is_error = is_error; text = text } ∷ first_texts is
 first_texts (stop_item kind ∷ is) = []
+
+-- the items that are no texts
+abbrev pub no_texts : List Item → List Item
+no_texts [] = []
+no_texts (line_item text ∷ is) = line_item text ∷ no_texts is
+no_texts (text_item is_error text ∷ is) = no_texts is
+no_texts (stop_item kind ∷ is) = stop_item kind ∷ no_texts is
+
+abbrev pub without_texts : Items → Items
+without_texts items = record { list = no_texts items.list; end = items.end }

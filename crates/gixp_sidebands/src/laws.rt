@@ -1,14 +1,20 @@
 //! Laws of the definitions, each a function without a body whose contract is the law.
 ghost use Rattle.std.specs.Prelude.{◌≡◌};
 ghost use Rattle.gixp_wire.specs.Pieces.{Pieces};
-ghost use Rattle.gixp_wire.specs.Items.{banded, items_of, first_lines};
+ghost use Rattle.gixp_wire.specs.Items.{plain, banded, items_of, first_lines};
 ghost use Rattle.gixp_wire.specs.Lines.{lines_of};
 ghost use Rattle.gixp_wire.specs.declared.protocol.Protocol.{Protocol};
-ghost use Rattle.gixp_sidebands.specs.Bands.{unband, content_of, messages_of, joined, heard, first_texts};
+ghost use Rattle.gixp_sidebands.specs.Bands.{unband, content_of, messages_of, joined, heard, first_texts, without_texts};
 
 /// The lines of the content are those among the stream's banded items before their first stop.
 pub fn content_lines_are_of_items()
     ensures { (version : Protocol) (ps : Pieces) → (lines_of version (unband ps)).lines ≡ (first_lines (items_of version banded ps)).lines }
+{}
+
+/// The items of the content are the stream's banded items without their texts: each line, each stop and the
+/// end, so that what stands behind the lines of the content is what stands behind those of the stream.
+pub fn content_items_are_of_items()
+    ensures { (version : Protocol) (ps : Pieces) → items_of version plain (unband ps) ≡ without_texts (items_of version banded ps) }
 {}
 
 /// The bytes of the content are those lines, joined.

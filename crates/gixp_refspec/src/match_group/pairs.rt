@@ -6,14 +6,14 @@ ghost use Rattle.gixp_refspec.specs.RefSpec.{value_of};
 ghost use Rattle.gixp_refspec.specs.Mappings.{id_mapping, pair, pairs_of, id_mappings, pairs};
 ghost use Rattle.gixp_refspec.specs.MatchGroup.{mapped_of, mapped_in, values, names};
 ghost use Rattle.gixp_refspec.specs.Needle.{IsNeedle};
-ghost use Rattle.gixp_refspec.specs.Rows.{shown, IsPrepared, IsTable};
+ghost use Rattle.gixp_refspec.specs.Rows.{shown, ref_at, IsPrepared, IsTable};
 
 use crate::match_group::local::local_of;
 use crate::match_group::needle::Needle;
 use crate::match_group::negatives::{Prepared, is_excluded};
-use crate::match_group::rows::{Row, only_name, rows_named, table_of};
+use crate::match_group::rows::{Row, places_meant, rows_named, table_of};
 use crate::match_group::{Item, Mapping, SourceRef};
-use crate::spec::{RefSpecRef, id_in, is_negative};
+use crate::spec::{RefSpecRef, id_in, is_negative, stars};
 use bstr::BString;
 use std::alloc::{AllocError, Global};
 
@@ -153,8 +153,53 @@ fn push_rows(
     Ok(())
 }
 
-/// Appends the mappings of a refspec. The refs of an exact name are looked up, and those of a short name where they
-/// have one name; only a pattern, and a short name that stands for several, is compared with each ref.
+/// Appends the mapping of a refspec and the ref at a place.
+fn push_at(
+    alloc: Global,
+    prepared: &Prepared<'_>,
+    index: usize,
+    spec: &RefSpecRef<'_>,
+    needle: &Needle<'_>,
+    items: &[Item<'_>],
+    place: usize,
+    out: &mut Vec<Mapping>,
+) -> Result<(), AllocError>
+    requires needle { IsNeedle spec.now.source.now needle.now }
+    requires prepared { IsPrepared prepared.now }
+    ensures { OnOk result (mapped_in out.new ≡ mapped_in out.old ++ flat_map (pair (values prepared.now.specs.now) (index, value_of spec.now)) (ref_at (names items.now) place)) }
+{
+    match items.get(place) {
+        None => Ok(()),
+        Some(item) => {
+            let name = item.full_ref_name.as_bytes();
+            let found = pair(alloc, prepared, index, spec, needle, place, name)?;
+            push_found(out, found)
+        }
+    }
+}
+
+/// Appends the mappings of a refspec and the refs at some places.
+fn push_places(
+    alloc: Global,
+    prepared: &Prepared<'_>,
+    index: usize,
+    spec: &RefSpecRef<'_>,
+    items: &[Item<'_>],
+    places: &[usize],
+    out: &mut Vec<Mapping>,
+) -> Result<(), AllocError>
+    requires { IsPrepared prepared.now }
+    ensures { OnOk result (mapped_in out.new ≡ mapped_in out.old ++ flat_map (λ place. flat_map (pair (values prepared.now.specs.now) (index, value_of spec.now)) (ref_at (names items.now) place)) places.now) }
+{
+    let needle = Needle::new(spec.source);
+    'places: for place in places {
+        push_at(alloc, prepared, index, spec, &needle, items, *place, out)?;
+    }
+    Ok(())
+}
+
+/// Appends the mappings of a refspec. The refs of an exact name, and those that a short name stands for, are looked
+/// up; only a pattern is compared with each ref.
 fn push_looked_up(
     alloc: Global,
     prepared: &Prepared<'_>,
@@ -177,16 +222,57 @@ fn push_looked_up(
             let run = rows_named(table, name);
             push_rows(alloc, prepared, index, spec, run, out)
         }
-        Needle::Short(name) => match only_name(alloc, table, name)? {
-            Some(run) => push_rows(alloc, prepared, index, spec, &run, out),
-            None => push_pairs_of(alloc, prepared, index, spec, items, out),
-        },
+        Needle::Short(name) => {
+            let places = places_meant(alloc, table, name)?;
+            push_places(alloc, prepared, index, spec, items, &places, out)
+        }
         Needle::Pattern { .. } => push_pairs_of(alloc, prepared, index, spec, items, out),
     }
 }
 
-/// Appends the mappings of each refspec and each ref.
-pub(crate) fn push_pairs(
+/// Whether no positive refspec is looked up by its name.
+fn are_compared(specs: &[RefSpecRef<'_>]) -> bool {
+    specs
+        .iter()
+        .all(|spec| is_negative(spec.sign) || stars(spec.source) > 0)
+}
+
+/// Appends the mappings of a refspec, which is compared with each ref unless it is negative.
+fn push_compared(
+    alloc: Global,
+    prepared: &Prepared<'_>,
+    index: usize,
+    spec: &RefSpecRef<'_>,
+    items: &[Item<'_>],
+    out: &mut Vec<Mapping>,
+) -> Result<(), AllocError>
+    requires { IsPrepared prepared.now }
+    ensures { OnOk result (mapped_in out.new ≡ mapped_in out.old ++ pairs_of (values prepared.now.specs.now) (names items.now) (index, value_of spec.now)) }
+{
+    if is_negative(spec.sign) {
+        return Ok(());
+    }
+    push_pairs_of(alloc, prepared, index, spec, items, out)
+}
+
+/// Appends the mappings of each refspec and each ref, with no table of the refs.
+fn push_all_compared(
+    alloc: Global,
+    prepared: &Prepared<'_>,
+    items: &[Item<'_>],
+    out: &mut Vec<Mapping>,
+) -> Result<(), AllocError>
+    requires { IsPrepared prepared.now }
+    ensures { OnOk result (mapped_in out.new ≡ mapped_in out.old ++ pairs (values prepared.now.specs.now) (names items.now)) }
+{
+    'specs: for (index, spec) in prepared.specs.iter().enumerate() {
+        push_compared(alloc, prepared, index, spec, items, out)?;
+    }
+    Ok(())
+}
+
+/// Appends the mappings of each refspec and each ref, with a table of the refs.
+fn push_all_looked_up(
     alloc: Global,
     prepared: &Prepared<'_>,
     items: &[Item<'_>],
@@ -200,4 +286,21 @@ pub(crate) fn push_pairs(
         push_looked_up(alloc, prepared, &table, index, spec, items, out)?;
     }
     Ok(())
+}
+
+/// Appends the mappings of each refspec and each ref. A table of the refs is made only where some name is looked up.
+pub(crate) fn push_pairs(
+    alloc: Global,
+    prepared: &Prepared<'_>,
+    items: &[Item<'_>],
+    out: &mut Vec<Mapping>,
+) -> Result<(), AllocError>
+    requires { IsPrepared prepared.now }
+    ensures { OnOk result (mapped_in out.new ≡ mapped_in out.old ++ pairs (values prepared.now.specs.now) (names items.now)) }
+{
+    if are_compared(prepared.specs) {
+        push_all_compared(alloc, prepared, items, out)
+    } else {
+        push_all_looked_up(alloc, prepared, items, out)
+    }
 }

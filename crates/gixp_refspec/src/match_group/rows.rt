@@ -1,16 +1,19 @@
 //! Refs in the order of their names, so that a name is looked up and not compared with each.
-ghost use Rattle.std.specs.Prelude.{ℕ, List, ◌≡◌, ◌∷◌, ◌++◌, [], IfOk, OnOk, IfSome, IsTrue, not, map, filter};
+ghost use Rattle.std.specs.Prelude.{ℕ, List, ◌≡◌, ◌∷◌, ◌++◌, [], IfOk, OnOk, not, map, filter};
+ghost use Rattle.std.specs.BTreeSet.{IsOrdered};
 ghost use Rattle.std.specs.List.{enumerate_from};
+ghost use Rattle.std.specs.Ordering.{nat_cmp};
 ghost use Rattle.std.specs.List.Sorted.{IsPermutation};
 ghost use Rattle.gixp_refspec.specs.Matching.{candidates, joined, rule_of};
 ghost use Rattle.gixp_refspec.specs.MatchGroup.{name_of, names};
-ghost use Rattle.gixp_refspec.specs.Rows.{shown, is_row_of, AreByName, IsTable, AreMeant, IsOneOf};
+ghost use Rattle.gixp_refspec.specs.Rows.{shown, is_row_of, AreByName, IsTable, AddsPlaces, HasPlaces, ArePlaces};
 ghost use Rattle.gixp_refspec.specs.Validation.{is_below};
 
 use crate::match_group::Item;
 use crate::match_group::needle::RULES;
 use crate::text::joined;
 use std::alloc::{AllocError, Global};
+use std::collections::BTreeSet;
 
 /// A ref: its name, and its place among those that are matched.
 #[derive(Clone, Copy)]
@@ -83,52 +86,62 @@ pub(crate) fn rows_named<'r, 'a>(rows: &'r [Row<'a>], name: &[u8]) -> &'r [Row<'
     &rest[..count]
 }
 
-/// Puts the refs of one more name into a list that has none, and returns whether they all have one name now.
-fn add_run<'a>(found: &mut Vec<Row<'a>>, run: &[Row<'a>]) -> Result<bool, AllocError>
-    ensures { IfOk result (λ is_one. IsTrue is_one → IsOneOf found.old.items run.now found.new.items) }
+/// Adds the place of a ref.
+fn add_place(places: &mut BTreeSet<usize>, row: &Row<'_>) -> Result<(), AllocError>
+    ensures { OnOk result (AddsPlaces (shown row.now ∷ []) places.old places.new) }
 {
-    if run.is_empty() {
-        return Ok(true);
-    }
-    if !found.is_empty() {
-        return Ok(false);
-    }
-    found.extend_from_slice(run)?;
-    Ok(true)
+    places.insert(row.place)?;
+    Ok(())
 }
 
-/// The refs of the names that rules make of a short name, where they all have one name.
-fn only_made<'a>(
+/// Adds the places of some refs.
+fn add_places(places: &mut BTreeSet<usize>, run: &[Row<'_>]) -> Result<(), AllocError>
+    ensures { OnOk result (AddsPlaces (map shown run.now) places.old places.new) }
+{
+    'rows: for row in run {
+        add_place(places, row)?;
+    }
+    Ok(())
+}
+
+/// The numbers of a set, from the least on.
+fn in_order(alloc: Global, places: BTreeSet<usize>) -> Result<Vec<usize>, AllocError>
+    ensures same { IfOk result (λ list. list.items ≡ places.keys) }
+    ensures ordered { IsOrdered nat_cmp places }
+{
+    let _ = places.len();
+    places.into_iter().collect(alloc)
+}
+
+/// The places of the refs of the names that rules make of a short name.
+fn places_made(
     alloc: Global,
-    rows: &[Row<'a>],
+    rows: &[Row<'_>],
     rules: &[(&[u8], &[u8])],
     short: &[u8],
-) -> Result<Option<Vec<Row<'a>>>, AllocError>
+) -> Result<BTreeSet<usize>, AllocError>
     requires { AreByName rows.now }
-    ensures { IfOk result (λ found. IfSome found (λ run. AreMeant (map (λ rule. joined short.now (rule_of rule)) rules.now) rows.now run.items)) }
+    ensures { IfOk result (HasPlaces (map (λ rule. joined short.now (rule_of rule)) rules.now) rows.now) }
 {
-    let mut found = Vec::new(alloc);
+    let mut places = BTreeSet::new(alloc);
     'rules: for (front, back) in rules {
         let name = joined(alloc, front, short, back)?;
         let run = rows_named(rows, name.as_bytes());
-        let is_one = add_run(&mut found, run)?;
-        if !is_one {
-            return Ok(None);
-        }
+        add_places(&mut places, run)?;
     }
-    Ok(Some(found))
+    Ok(places)
 }
 
-/// The refs that a short name stands for, where they all have one name. Mostly they do; of others nothing is told,
-/// since they are not in the order of their places.
+/// The places of the refs that a short name stands for, in their order.
 #[tactic(auto, unfolding(crate::specs::Matching::candidates))]
-pub(crate) fn only_name<'a>(
+pub(crate) fn places_meant(
     alloc: Global,
-    rows: &[Row<'a>],
+    rows: &[Row<'_>],
     short: &[u8],
-) -> Result<Option<Vec<Row<'a>>>, AllocError>
+) -> Result<Vec<usize>, AllocError>
     requires { AreByName rows.now }
-    ensures { IfOk result (λ found. IfSome found (λ run. AreMeant (candidates short.now) rows.now run.items)) }
+    ensures { IfOk result (λ places. ArePlaces (candidates short.now) rows.now places.items) }
 {
-    only_made(alloc, rows, &RULES, short)
+    let places = places_made(alloc, rows, &RULES, short)?;
+    in_order(alloc, places)
 }

@@ -1,11 +1,12 @@
 -- Refs that are not looked up are not mapped.
-use Rattle.std.proofs.Common.{◌∙◌, ◌++◌, ap, sym, map}
+use Rattle.std.proofs.Common.{◌∙◌, ◌++◌, ap, sym}
 use Rattle.std.specs.List.{flat_map}
 use Rattle.gixp_refspec.specs.Mappings.{pair}
-use Rattle.gixp_refspec.specs.Rows.{shown}
+use Rattle.gixp_refspec.specs.Rows.{ref_at}
 use Rattle.gixp_refspec.specs.RefSpec.{value_of}
 use Rattle.gixp_refspec.specs.MatchGroup.{mapped_in, values, names}
-use Rattle.gixp_refspec.proofs.RowLemmas.{on_ok, negative_mapped, id_mapped, exact_mapped, short_mapped}
+use Rattle.gixp_refspec.proofs.PlaceLemmas.{short_mapped}
+use Rattle.gixp_refspec.proofs.RowLemmas.{on_ok, negative_mapped, id_mapped, exact_mapped}
 use Rattle.gixp_refspec.proofs.match_group.pairs.push_looked_up.Goals as goal
 
 pub returns-then-is_negative : goal.returns-then-is_negative
@@ -19,9 +20,9 @@ returns-in-Exact c =
     on_ok c.push_rows.result _ _ (λ step. exact_mapped (values c.args.prepared.now.specs.now) (names c.args.items.now) (c.args.index, value_of c.args.spec.now) c.in-Exact.name
     c.args.table.now c.rows_named-run.result.now (mapped_in c.args.out.now) (mapped_in c.push_rows.new.out) c.in-Exact.ensures c.requires.table c.rows_named-run.ensures step) c.push_rows.ensures
 
-pub returns-in-Some : goal.returns-in-Some
-returns-in-Some c =
+pub returns-in_ok-places-in-Short : goal.returns-in_ok-places-in-Short
+returns-in_ok-places-in-Short c =
     let f = pair (values c.args.prepared.now.specs.now) (c.args.index, value_of c.args.spec.now) in
-    on_ok c.push_rows-in-Some.result _ _ (λ step. short_mapped (values c.args.prepared.now.specs.now) (names c.args.items.now) (c.args.index, value_of c.args.spec.now) c.in-Short.name
-    c.args.table.now c.in-Some.run'.items (mapped_in c.args.out.now) (mapped_in c.push_rows-in-Some.new.out) c.in-Short.ensures c.requires.table (rw c.in-Some.is at c.in_ok-run-in-Short.ensures)
-    (step ∙ ap (λ l. mapped_in c.args.out.now ++ flat_map f (map shown l)) c.deref.ensures.value)) c.push_rows-in-Some.ensures
+    on_ok c.push_places.result _ _ (λ step. short_mapped (values c.args.prepared.now.specs.now) (names c.args.items.now) (c.args.index, value_of c.args.spec.now) c.in-Short.name
+    c.args.table.now c.in_ok-places-in-Short.places.items (mapped_in c.args.out.now) (mapped_in c.push_places.new.out) c.in-Short.ensures c.requires.table c.in_ok-places-in-Short.ensures
+    (step ∙ ap (λ l. mapped_in c.args.out.now ++ flat_map (λ place. flat_map f (ref_at (names c.args.items.now) place)) l) c.deref.ensures.value)) c.push_places.ensures

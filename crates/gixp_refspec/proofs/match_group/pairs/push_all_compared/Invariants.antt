@@ -3,7 +3,7 @@ use Rattle.std.proofs.Common.{◌≡◌, ◌++◌, drop}
 use Rattle.std.specs.List.{flat_map, enumerate_from}
 use Rattle.gixp_refspec.specs.Mappings.{pairs_of, pairs}
 use Rattle.gixp_refspec.specs.MatchGroup.{mapped_in, values, names}
-use Rattle.gixp_refspec.proofs.match_group.pairs.push_pairs.Given as goal
+use Rattle.gixp_refspec.proofs.match_group.pairs.push_all_compared.Given as goal
 
 abbrev pub invariant-specs : goal.invariant-specs
 invariant-specs l =

@@ -3,7 +3,7 @@ use Rattle.gixp_refspec.specs.Mappings.{pairs_of}
 use Rattle.gixp_refspec.specs.RefSpec.{value_of}
 use Rattle.gixp_refspec.specs.MatchGroup.{mapped_in, values, names}
 use Rattle.gixp_refspec.proofs.WalkLemmas.{walked_at}
-use Rattle.gixp_refspec.proofs.match_group.pairs.push_pairs.Goals as goal
+use Rattle.gixp_refspec.proofs.match_group.pairs.push_all_looked_up.Goals as goal
 
 pub specs-preserved : goal.specs-preserved
 specs-preserved c =

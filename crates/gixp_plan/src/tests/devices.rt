@@ -1,0 +1,43 @@
+//! What no clause over a reader can say: the kind of a read that failed, and how far a reader is read.
+use crate::tests::{Source, collecting, steady};
+use crate::{ListError, list_refs};
+use gix_protocol::handshake::refs::parse;
+use std::io::ErrorKind;
+use std::test::Fail;
+
+#[test]
+fn keeps_the_kind_of_a_failed_read(rt: HostRuntime) -> Result<(), Fail> {
+    let a = rt.alloc();
+    let bytes = b"003d0123456789012345678901234567890123456789 refs/heads/main\n0000";
+    for fails in 0..13 {
+        let mut from = Source {
+            bytes,
+            step: 5,
+            fails,
+            kind: ErrorKind::ConnectionReset,
+        };
+        let answer = list_refs(a, &mut from, &mut collecting(a));
+        assert!(rt;
+            matches!(
+                answer,
+                Err(ListError::Parse(parse::Error::Io(ErrorKind::ConnectionReset)))
+            ),
+            "at read {fails}"
+        );
+    }
+    Ok(())
+}
+
+#[test]
+fn reads_no_more_than_a_buffer(rt: HostRuntime) -> Result<(), Fail> {
+    let a = rt.alloc();
+    let mut bytes = vec![in a; b'x'; 70_000]?;
+    bytes[..4].copy_from_slice(b"0000");
+    for (step, left) in [(4, 69_996), (5, 69_995), (usize::MAX, 70_000 - 65_520)] {
+        let mut from = steady(&bytes, step);
+        let answer = list_refs(a, &mut from, &mut collecting(a));
+        assert!(rt; answer.is_ok(), "by {step}");
+        assert_eq!(rt; from.bytes.len(), left, "by {step}");
+    }
+    Ok(())
+}
