@@ -11,7 +11,9 @@ mod bands;
 mod capabilities;
 mod device;
 mod handshakes;
+mod histories;
 mod lines;
+mod negotiations;
 mod offers;
 mod openings;
 mod packs;
@@ -66,6 +68,7 @@ fn replay_row(alloc: Global, row: &Row<'_>, report: &mut Report) -> Result<(), A
         Mode::AnswerLine => answer_lines::report_line(alloc, row, report),
         Mode::Requests => requests::report_requests(alloc, row, report),
         Mode::Session => sessions::report_session(alloc, row, report),
+        Mode::Negotiation => negotiations::report_negotiation(alloc, row, report),
     }
 }
 

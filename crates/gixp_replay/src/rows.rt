@@ -38,6 +38,8 @@ pub enum Mode {
     Requests,
     /// `Z`: a session of several requests.
     Session,
+    /// `N`: a negotiation.
+    Negotiation,
 }
 
 impl Mode {
@@ -55,6 +57,7 @@ impl Mode {
             [b'K'] => Some(Mode::AnswerLine),
             [b'Q'] => Some(Mode::Requests),
             [b'Z'] => Some(Mode::Session),
+            [b'N'] => Some(Mode::Negotiation),
             _ => None,
         }
     }
