@@ -1,5 +1,6 @@
-//! Texts of errors, and values that are copied.
+//! Texts of errors, values that are copied, and windows.
 use gixp_graph::{ObjectError, RefStoreError};
+use gixp_negotiate::negotiate::one_round::window_size;
 use gixp_negotiate::negotiate::{Action, Error, Round};
 use gixp_negotiate::shallow::Shallow;
 use std::io::ErrorKind;
@@ -68,5 +69,26 @@ fn copies_actions_and_boundaries(rt: HostRuntime) -> Result<(), Fail> {
         format!(in a; "{round:?}")?.as_str(),
         "Round { haves_sent: 1, in_vain: 2, haves_to_send: 16, previous_response_had_at_least_one_in_common: true }"
     );
+    Ok(())
+}
+
+#[test]
+fn widens_windows(rt: HostRuntime) -> Result<(), Fail> {
+    for (stateless, window, next) in [
+        (true, None, 16),
+        (true, Some(16_383), 32_766),
+        (true, Some(16_384), 18_022),
+        (
+            true,
+            Some(1_700_000_000_000_000_000),
+            1_870_000_000_000_000_000,
+        ),
+        (true, Some(usize::MAX), usize::MAX),
+        (false, Some(16), 32),
+        (false, Some(32), 64),
+        (false, Some(64), 96),
+    ] {
+        assert_eq!(rt; window_size(stateless, window), next);
+    }
     Ok(())
 }
