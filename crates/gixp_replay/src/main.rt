@@ -12,10 +12,12 @@ mod capabilities;
 mod device;
 mod fetches;
 mod handshakes;
+mod histories;
 mod lines;
 mod listings;
 mod map_values;
 mod maps;
+mod negotiations;
 mod offers;
 mod openings;
 mod packs;
@@ -79,6 +81,7 @@ fn replay_row(alloc: Global, row: &Row<'_>, report: &mut Report) -> Result<(), A
         Mode::Listing => listings::report_listing(alloc, row, report),
         Mode::Progress => progress_lines::report_line(alloc, row, report),
         Mode::Fetch => fetches::report_fetch(alloc, row, report),
+        Mode::Negotiation => negotiations::report_negotiation(alloc, row, report),
     }
 }
 

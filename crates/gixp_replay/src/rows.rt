@@ -48,6 +48,8 @@ pub enum Mode {
     Progress,
     /// `F`: a whole fetch.
     Fetch,
+    /// `N`: a negotiation.
+    Negotiation,
 }
 
 impl Mode {
@@ -70,6 +72,7 @@ impl Mode {
             [b'O'] => Some(Mode::Listing),
             [b'G'] => Some(Mode::Progress),
             [b'F'] => Some(Mode::Fetch),
+            [b'N'] => Some(Mode::Negotiation),
             _ => None,
         }
     }

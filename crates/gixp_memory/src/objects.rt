@@ -1,0 +1,170 @@
+//! Objects in memory.
+ghost use Rattle.std.specs.Prelude.{◌≡◌, IfOk, IfErr, option_map};
+ghost use Rattle.gixp_graph.specs.Object.{commit_of};
+ghost use Rattle.gixp_graph.specs.declared.objects.ObjectError.TheVariants.{Memory};
+
+use gixp_graph::{CommitData, ObjectError, ObjectKind, Objects};
+use gixp_wire::ObjectId;
+use std::alloc::{AllocError, Global};
+use std::collections::BTreeMap;
+
+/// What a repository in memory has under an id.
+#[derive(Drop)]
+pub struct StoredObject {
+    /// None where it can't be told.
+    pub kind: Option<ObjectKind>,
+    /// Where it is a commit.
+    pub commit: Option<CommitData>,
+    /// Whether each look at its commit fails, as `Corrupt`.
+    pub is_corrupt: bool,
+}
+
+/// The objects of a repository in memory.
+#[derive(Drop)]
+pub struct MemoryObjects {
+    /// By their ids.
+    pub objects: BTreeMap<ObjectId, StoredObject>,
+    /// The ids that `commit` was called with.
+    pub looked_up: Vec<ObjectId>,
+    /// How many calls of `commit` come before the one that fails.
+    pub calls: u64,
+    /// How it fails.
+    pub error: ObjectError,
+    failures: u64,
+}
+
+impl MemoryObjects {
+    /// No objects, and no call fails.
+    pub fn new(alloc: Global) -> MemoryObjects {
+        MemoryObjects {
+            objects: BTreeMap::new(alloc),
+            looked_up: Vec::new(alloc),
+            calls: u64::MAX,
+            error: ObjectError::Corrupt,
+            failures: 0,
+        }
+    }
+
+    /// Adds an object. One under the same id goes.
+    ///
+    /// # Errors
+    ///
+    /// An allocation failure; nothing is added then.
+    pub fn add(&mut self, id: ObjectId, object: StoredObject) -> Result<(), AllocError> {
+        match self.objects.insert(id, object) {
+            Ok(_) => Ok(()),
+            Err(_) => Err(AllocError),
+        }
+    }
+
+    /// Adds a commit.
+    ///
+    /// # Errors
+    ///
+    /// As `add`.
+    pub fn add_commit(&mut self, id: ObjectId, commit: CommitData) -> Result<(), AllocError> {
+        let object = StoredObject {
+            kind: Some(ObjectKind::Commit),
+            commit: Some(commit),
+            is_corrupt: false,
+        };
+        self.add(id, object)
+    }
+}
+
+// Whether a call fails that so many come before; one fewer then.
+fn fails(calls: &mut u64) -> bool {
+    if *calls == 0 {
+        *calls = u64::MAX;
+        return true;
+    }
+    *calls -= 1;
+    false
+}
+
+impl Objects for MemoryObjects {
+    ghost use Rattle.gixp_memory.specs.Memory.{objects_of};
+
+    ghost contents = { λ m. objects_of m.objects.entries };
+
+    ghost failures = { λ m. m.failures };
+
+    ghost asked = { λ m. m.looked_up.items };
+
+    fn exists(&self, id: &ObjectId) -> bool {
+        self.objects.contains_key(id)
+    }
+
+    fn kind(&self, id: &ObjectId) -> Option<ObjectKind> {
+        match self.objects.get(id) {
+            Some(object) => object.kind,
+            None => None,
+        }
+    }
+
+    fn commit(&mut self, alloc: Global, id: &ObjectId) -> Result<Option<CommitData>, ObjectError> {
+        match self.looked_up.push(*id) {
+            Ok(_) => {}
+            Err(_) => return Err(ObjectError::Memory),
+        }
+        if fails(&mut self.calls) {
+            self.failures = self.failures.saturating_add(1);
+            return Err(self.error);
+        }
+        let object = match self.objects.get(id) {
+            Some(object) => object,
+            None => return Ok(None),
+        };
+        if object.is_corrupt {
+            self.failures = self.failures.saturating_add(1);
+            return Err(ObjectError::Corrupt);
+        }
+        copied(alloc, &object.commit)
+    }
+}
+
+// A commit once more.
+fn copied(alloc: Global, commit: &Option<CommitData>) -> Result<Option<CommitData>, ObjectError>
+    ensures found { IfOk result (λ copy. option_map commit_of copy ≡ option_map commit_of commit.now) }
+    ensures failed { IfErr result (λ e. e ≡ Memory) }
+{
+    match commit {
+        Some(commit) => {
+            let time = commit.time;
+            match Vec::from_slice(alloc, commit.parents.as_slice()) {
+                Ok(parents) => Ok(Some(CommitData { time, parents })),
+                Err(_) => Err(ObjectError::Memory),
+            }
+        }
+        None => Ok(None),
+    }
+}
+
+/// Objects that are lent, as to a graph: afterwards they say which ids were looked up.
+#[derive(Drop)]
+pub struct Lent<'a> {
+    /// These.
+    pub objects: &'a mut MemoryObjects,
+}
+
+impl Objects for Lent<'_> {
+    ghost use Rattle.gixp_memory.specs.Memory.{objects_of};
+
+    ghost contents = { λ l. objects_of l.objects.now.objects.entries };
+
+    ghost failures = { λ l. l.objects.now.failures };
+
+    ghost asked = { λ l. l.objects.now.looked_up.items };
+
+    fn exists(&self, id: &ObjectId) -> bool {
+        self.objects.exists(id)
+    }
+
+    fn kind(&self, id: &ObjectId) -> Option<ObjectKind> {
+        self.objects.kind(id)
+    }
+
+    fn commit(&mut self, alloc: Global, id: &ObjectId) -> Result<Option<CommitData>, ObjectError> {
+        self.objects.commit(alloc, id)
+    }
+}

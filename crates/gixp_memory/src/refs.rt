@@ -1,0 +1,74 @@
+//! Refs in memory.
+ghost use Rattle.std.specs.Prelude.{◌≡◌};
+
+use bstr::BStr;
+use gixp_graph::{RefStore, RefStoreError};
+use gixp_wire::ObjectId;
+use std::alloc::{AllocError, Global};
+use std::collections::BTreeMap;
+
+/// The refs of a repository in memory.
+#[derive(Drop)]
+pub struct MemoryRefs {
+    /// The ids that refs hold, by their full names.
+    pub names: BTreeMap<Vec<u8>, ObjectId>,
+    /// What the refs lead to, in the order of their listing.
+    pub targets: Vec<ObjectId>,
+    /// Why they can't be listed, if so.
+    pub error: Option<RefStoreError>,
+    failures: u64,
+}
+
+impl MemoryRefs {
+    /// No refs.
+    pub fn new(alloc: Global) -> MemoryRefs {
+        MemoryRefs {
+            names: BTreeMap::new(alloc),
+            targets: Vec::new(alloc),
+            error: None,
+            failures: 0,
+        }
+    }
+
+    /// Adds a ref that holds an id. One of the same name goes.
+    ///
+    /// # Errors
+    ///
+    /// An allocation failure; nothing is added then.
+    pub fn add(&mut self, name: Vec<u8>, id: ObjectId) -> Result<(), AllocError> {
+        match self.names.insert(name, id) {
+            Ok(_) => Ok(()),
+            Err(_) => Err(AllocError),
+        }
+    }
+}
+
+impl RefStore for MemoryRefs {
+    ghost use Rattle.gixp_memory.specs.Memory.{refs_of};
+
+    ghost refs = { λ m. refs_of m.names.entries };
+
+    ghost targets = { λ m. m.targets.items };
+
+    ghost failures = { λ m. m.failures };
+
+    fn find(&self, name: BStr<'_>) -> Option<ObjectId> {
+        match self.names.get(name.as_bytes()) {
+            Some(id) => Some(*id),
+            None => None,
+        }
+    }
+
+    fn peeled(&mut self, alloc: Global) -> Result<Vec<ObjectId>, RefStoreError> {
+        match self.error {
+            Some(error) => {
+                self.failures = self.failures.saturating_add(1);
+                Err(error)
+            }
+            None => match Vec::from_slice(alloc, self.targets.as_slice()) {
+                Ok(ids) => Ok(ids),
+                Err(_) => Err(RefStoreError::Memory),
+            },
+        }
+    }
+}

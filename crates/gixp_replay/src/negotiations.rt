@@ -1,0 +1,417 @@
+//! A negotiation: what the refs call for, which commits are complete, what is asked for, and round by round which
+//! haves are told.
+//!
+//! S0 is 0 where the shallow boundary stays, 1 for a depth of S1 from the refs, 2 for S1 more commits, 3 for those since
+//! the time S1, 4 for those that no ref leads to. S2 is 0 for all tags, 1 for those that come along, 2 for none. S3 is 0
+//! for version 2 over bodies in memory, 1 for version 1 over such, 2 for version 1 over a connection, and 4 more where
+//! refs can be asked for by name. S4 is the number of the negotiator's call that fails, from 1 on, 0 for none; FAIL that
+//! of the look for a commit. `histories` has the payload. A round that is refused is tried once more.
+use crate::device::Device;
+use crate::handshakes::{bodies, connection};
+use crate::histories::History;
+use crate::report::Report;
+use crate::rows::Row;
+use crate::values::{client_error, kind};
+use gixp_graph::{Flags, Graph, ObjectError};
+use gixp_lines::fetch::Response;
+use gixp_memory::{Lent, MemoryObjects, MemoryRefs, Recorder};
+use gixp_negotiate::negotiate::negotiation::{NegotiateContext, Negotiation};
+use gixp_negotiate::negotiate::one_round::State;
+use gixp_negotiate::negotiate::{Action, Error, Negotiate, Round};
+use gixp_negotiate::shallow::Shallow;
+use gixp_refmap::fetch::Tags;
+use gixp_requests::command::CommandTable;
+use gixp_requests::fetch::Arguments;
+use gixp_wire::{ObjectId, PacketLine, Protocol, Transport, split_packet_line};
+use std::alloc::{AllocError, Global};
+use std::num::NonZeroU32;
+
+// Why lent repositories can't be opened.
+#[derive(Drop)]
+struct Closed {}
+
+// The number of an id.
+fn number_of(id: &ObjectId) -> u64 {
+    let [_, _, _, _, _, _, _, _, _, _, _, _, a, b, c, d, e, f, g, h] = id.bytes;
+    u64::from_be_bytes([a, b, c, d, e, f, g, h])
+}
+
+fn report_ids(ids: &[ObjectId], report: &mut Report) -> Result<(), AllocError> {
+    for id in ids {
+        report.number(number_of(id))?;
+        report.word(" ")?;
+    }
+    Ok(())
+}
+
+fn object_error(report: &mut Report, e: ObjectError) -> Result<(), AllocError> {
+    match e {
+        ObjectError::Io(of) => {
+            report.word("Io(")?;
+            kind(report, of)?;
+            report.word(")")
+        }
+        ObjectError::Corrupt => report.word("Corrupt"),
+        ObjectError::Memory => report.word("Memory"),
+    }
+}
+
+fn report_error(report: &mut Report, e: &Error<Closed>) -> Result<(), AllocError> {
+    match e {
+        Error::NegotiationFailed { rounds } => {
+            report.word("NegotiationFailed ")?;
+            report.number(*rounds as u64)?;
+        }
+        Error::LookupCommitInGraph(e) => {
+            report.word("LookupCommitInGraph(")?;
+            object_error(report, *e)?;
+            report.word(")")?;
+        }
+        Error::OpenPackedRefsBuffer => report.word("OpenPackedRefsBuffer")?,
+        Error::IO(of) => {
+            report.word("IO(")?;
+            kind(report, *of)?;
+            report.word(")")?;
+        }
+        Error::InitRefIter => report.word("InitRefIter")?,
+        Error::PeelToId => report.word("PeelToId")?,
+        Error::AlternateRefsAndObjects(_) => report.word("AlternateRefsAndObjects")?,
+        Error::Memory => report.word("Memory")?,
+    }
+    report.word(" ")
+}
+
+// The known targets, where something is to be negotiated.
+fn report_action(
+    report: &mut Report,
+    action: Result<Action, Error<Closed>>,
+) -> Result<Option<Vec<bool>>, AllocError> {
+    match action {
+        Ok(Action::NoChange) => report.word("NoChange ")?,
+        Ok(Action::SkipToRefUpdate) => report.word("SkipToRefUpdate ")?,
+        Ok(
+            Action::MustNegotiate {
+                remote_ref_target_known,
+            },
+        ) => {
+            report.word("MustNegotiate ")?;
+            for is_known in &remote_ref_target_known {
+                report.word(if *is_known { "1" } else { "0" })?;
+            }
+            report.word(" ")?;
+            return Ok(Some(remote_ref_target_known));
+        }
+        Err(e) => report_error(report, &e)?,
+    }
+    Ok(None)
+}
+
+// A line of a request, with the number of the id that it ends in, if it has one.
+fn report_line(report: &mut Report, line: &[u8]) -> Result<(), AllocError> {
+    let line = line.strip_suffix(b"\n").unwrap_or(line);
+    let (front, back) = line.split_at(line.len().saturating_sub(40));
+    match ObjectId::from_hex(back) {
+        Ok(id) => {
+            report.word(str::from_utf8(front).unwrap_or("?"))?;
+            report.number(number_of(&id))?;
+        }
+        Err(_) => report.word(str::from_utf8(line).unwrap_or("?"))?,
+    }
+    report.word(" ")
+}
+
+fn report_requests(report: &mut Report, bytes: &[u8]) -> Result<(), AllocError> {
+    let mut rest = bytes;
+    for _ in 0..bytes.len() {
+        let Ok(Some((line, behind))) = split_packet_line(rest) else {
+            break;
+        };
+        rest = behind;
+        match line {
+            PacketLine::Data(text) => report_line(report, text)?,
+            _ => report.word("/ ")?,
+        }
+    }
+    Ok(())
+}
+
+fn report_round(report: &mut Report, round: Round, is_last: bool) -> Result<(), AllocError> {
+    report.word("round ")?;
+    report.number(round.haves_to_send as u64)?;
+    report.word(" ")?;
+    report.number(round.haves_sent as u64)?;
+    report.word(" ")?;
+    report.number(round.in_vain as u64)?;
+    report.word(if round.previous_response_had_at_least_one_in_common {
+        " common"
+    } else {
+        ""
+    })?;
+    report.word(if is_last { " last " } else { " " })
+}
+
+// A request, where there is something to send.
+fn send<T: Transport>(
+    report: &mut Report,
+    asked: &mut Arguments,
+    transport: &mut T,
+    done: bool,
+) -> Result<(), AllocError> {
+    if !done && !asked.has_haves() {
+        return Ok(());
+    }
+    match asked.send(transport, done) {
+        Ok(()) => Ok(()),
+        Err(e) => client_error(report, &e),
+    }
+}
+
+// A round, and once more where it is refused. Whether another is to follow.
+fn run_round<N: Negotiate<AlternatesError = Closed>, T: Transport>(
+    report: &mut Report,
+    negotiation: &mut N,
+    state: &mut State,
+    asked: &mut Arguments,
+    transport: &mut T,
+    previous: Option<&Response>,
+) -> Result<bool, AllocError> {
+    for _ in 0..2usize {
+        if state.haves_to_send == 0 {
+            return Ok(false);
+        }
+        match negotiation.one_round(state, asked, previous) {
+            Ok((round, is_last)) => {
+                report_round(report, round, is_last)?;
+                send(report, asked, transport, is_last)?;
+                return Ok(!is_last);
+            }
+            Err(e) => report_error(report, &e)?,
+        }
+    }
+    Ok(false)
+}
+
+// All rounds, as far as there are answers.
+fn run_rounds<N: Negotiate<AlternatesError = Closed>, T: Transport>(
+    report: &mut Report,
+    negotiation: &mut N,
+    state: &mut State,
+    asked: &mut Arguments,
+    transport: &mut T,
+    answers: &[Response],
+) -> Result<(), AllocError> {
+    let mut goes_on = run_round(report, negotiation, state, asked, transport, None)?;
+    for answer in answers {
+        if !goes_on {
+            break;
+        }
+        goes_on = run_round(report, negotiation, state, asked, transport, Some(answer))?;
+    }
+    Ok(())
+}
+
+// What is asked for, and then the rounds.
+fn run_over<N: Negotiate<AlternatesError = Closed>, T: Transport>(
+    alloc: Global,
+    row: &Row<'_>,
+    negotiation: &mut N,
+    known: &[bool],
+    transport: &mut T,
+    answers: &[Response],
+    report: &mut Report,
+) -> Result<(), AllocError> {
+    let [_, _, _, over, _] = row.settings;
+    let mut features = Vec::new(alloc);
+    if over >= 4 {
+        features.push(("ref-in-want", None))?;
+    }
+    let version = if over % 4 == 0 {
+        Protocol::V2
+    } else {
+        Protocol::V1
+    };
+    let mut asked = Arguments::new(alloc, &CommandTable::git(), version, features)?;
+    match negotiation.add_wants(&mut asked, known) {
+        Ok(true) => report.word("wants ")?,
+        Ok(false) => return report.word("nothing "),
+        Err(e) => return report_error(report, &e),
+    }
+    let is_stateless = asked.is_stateless(
+        !transport.connection_persists_across_multiple_requests(),
+    );
+    let mut state = State::new(alloc, is_stateless);
+    run_rounds(
+        report,
+        negotiation,
+        &mut state,
+        &mut asked,
+        transport,
+        answers,
+    )
+}
+
+// The same, and the requests behind it.
+fn negotiate<N: Negotiate<AlternatesError = Closed>>(
+    alloc: Global,
+    row: &Row<'_>,
+    negotiation: &mut N,
+    answers: &[Response],
+    report: &mut Report,
+) -> Result<(), AllocError> {
+    let action = negotiation.mark_complete_and_common_ref(alloc);
+    let Some(known) = report_action(report, action)? else {
+        return Ok(());
+    };
+    if row.settings[3] % 4 == 2 {
+        let device = Device::new(b"", 0, 0);
+        let mut transport = connection(alloc, device, 0, 1, None)?;
+        run_over(
+            alloc,
+            row,
+            negotiation,
+            &known,
+            &mut transport,
+            answers,
+            report,
+        )?;
+        report.word("> ")?;
+        return report_requests(report, &transport.writer().bytes);
+    }
+    let mut transport = bodies(alloc, Vec::new(alloc))?;
+    run_over(
+        alloc,
+        row,
+        negotiation,
+        &known,
+        &mut transport,
+        answers,
+        report,
+    )?;
+    for request in transport.sent() {
+        report.word("> ")?;
+        report_requests(report, request)?;
+    }
+    Ok(())
+}
+
+fn shallow_of(alloc: Global, row: &Row<'_>) -> Shallow {
+    let [form, number, ..] = row.settings;
+    let depth = u32::try_from(number).unwrap_or(u32::MAX);
+    match form {
+        0 => Shallow::NoChange,
+        1 => match NonZeroU32::new(depth) {
+            Some(depth) => Shallow::DepthAtRemote(depth),
+            None => Shallow::undo(),
+        },
+        2 => Shallow::Deepen(depth),
+        3 => Shallow::Since {
+            cutoff: i64::from(depth),
+        },
+        _ => Shallow::Exclude {
+            remote_refs: Vec::new(alloc),
+            since_cutoff: None,
+        },
+    }
+}
+
+fn tags_of(row: &Row<'_>) -> Tags {
+    match row.settings[2] {
+        0 => Tags::All,
+        1 => Tags::Included,
+        _ => Tags::None,
+    }
+}
+
+// The commits of the graph, and those that have the mark.
+fn report_marks(
+    graph: &Graph<Lent<'_>>,
+    ids: &[ObjectId],
+    report: &mut Report,
+) -> Result<(), AllocError> {
+    report.word("held ")?;
+    for id in ids {
+        if let Some((_, flags)) = graph.get(id) {
+            report.number(number_of(id))?;
+            report.word(if flags.0 & Flags::COMPLETE.0 == 0 {
+                " "
+            } else {
+                "+ "
+            })?;
+        }
+    }
+    Ok(())
+}
+
+// The ids that were looked up, in order, those of commits that were read twice with a mark.
+fn report_looks(objects: &mut MemoryObjects, report: &mut Report) -> Result<(), AllocError> {
+    report.word("looked ")?;
+    objects.looked_up.sort()?;
+    let mut last = None;
+    for id in &objects.looked_up {
+        if last == Some(*id) {
+            match objects.objects.get(id) {
+                Some(object) if object.commit.is_some() => report.word("twice ")?,
+                _ => {}
+            }
+            continue;
+        }
+        last = Some(*id);
+        report.number(number_of(id))?;
+        report.word(" ")?;
+    }
+    Ok(())
+}
+
+// The negotiation over its repository. What the graph holds stands behind it.
+fn run_history(
+    alloc: Global,
+    row: &Row<'_>,
+    history: &mut History,
+    recorder: &mut Recorder,
+    report: &mut Report,
+) -> Result<(), AllocError> {
+    let shallow = shallow_of(alloc, row);
+    let lent = Lent {
+        objects: &mut history.objects,
+    };
+    let mut graph = Graph::new(alloc, lent);
+    let alternates: Result<&mut [MemoryRefs], Closed> = if history.has_alternates {
+        Ok(history.alternates.as_mut_slice())
+    } else {
+        Err(Closed {})
+    };
+    {
+        let context = NegotiateContext {
+            objects: &history.existing,
+            refs: &mut history.refs,
+            alternates,
+            negotiator: recorder,
+            graph: &mut graph,
+        };
+        let mut negotiation = Negotiation::new(context, &history.map, &shallow, tags_of(row));
+        negotiate(alloc, row, &mut negotiation, &history.answers, report)?;
+    }
+    report_marks(&graph, &history.ids, report)
+}
+
+/// The decision, what is asked for and told, and what is known of the commits then.
+pub fn report_negotiation(
+    alloc: Global,
+    row: &Row<'_>,
+    report: &mut Report,
+) -> Result<(), AllocError> {
+    let mut history = History::of_text(alloc, row.payload, row.fail)?;
+    let haves = Vec::from_slice(alloc, &history.haves)?;
+    let mut recorder = Recorder::new(alloc, haves);
+    if row.settings[4] > 0 {
+        recorder.calls = row.settings[4] - 1;
+    }
+    run_history(alloc, row, &mut history, &mut recorder, report)?;
+    report_looks(&mut history.objects, report)?;
+    report.word("known ")?;
+    report_ids(&recorder.known, report)?;
+    report.word("tips ")?;
+    report_ids(&recorder.tips, report)?;
+    report.word("common ")?;
+    report_ids(&recorder.common, report)
+}
