@@ -9,7 +9,7 @@ pub use Rattle.gixp_wire.specs.FrameText
 pub use Rattle.gixp_wire.specs.Pieces
 pub use Rattle.gixp_wire.specs.Items
 pub use Rattle.gixp_wire.specs.Lines
-pub use Rattle.gixp_wire.specs.Held
+pub use Rattle.gixp_wire.specs.TransportState
 pub use Rattle.gixp_wire.specs.Reading
 pub use Rattle.gixp_wire.specs.Client
 pub use Rattle.gixp_wire.specs.Message
@@ -26,14 +26,13 @@ pub use Rattle.gixp_wire.specs.Capability
 pub use Rattle.gixp_wire.specs.Service
 pub use Rattle.gixp_wire.specs.Progress
 pub use Rattle.gixp_wire.specs.Spurious
-pub use Rattle.gixp_wire.specs.Advertisement
+pub use Rattle.gixp_wire.specs.CapabilityAdvertisement
 pub use Rattle.gixp_wire.specs.Named
 pub use Rattle.gixp_wire.specs.Greeting
 pub use Rattle.gixp_wire.specs.Handshake
 pub use Rattle.gixp_sidebands.specs.Bands
 pub use Rattle.gixp_sidebands.specs.Telling
 pub use Rattle.gixp_sidebands.specs.Sidebands
-pub use Rattle.gixp_lines.specs.Cut as LineCut
 pub use Rattle.gixp_lines.specs.Ref
 pub use Rattle.gixp_lines.specs.RefLine
 pub use Rattle.gixp_lines.specs.ParseError
@@ -44,10 +43,10 @@ pub use Rattle.gixp_lines.specs.ResponseError
 pub use Rattle.gixp_lines.specs.Answer
 pub use Rattle.gixp_lines.specs.Sections
 pub use Rattle.gixp_lines.specs.Beginnings
-pub use Rattle.gixp_lines.specs.Reads
+pub use Rattle.gixp_lines.specs.AnswerReading
 pub use Rattle.gixp_lines.specs.Features
 pub use Rattle.gixp_lines.specs.SectionGrammar
-pub use Rattle.gixp_lines.specs.Advertisement as LineAdvertisement
+pub use Rattle.gixp_lines.specs.RefAdvertisement
 pub use Rattle.gixp_lines.specs.V1Refs
 pub use Rattle.gixp_lines.specs.V1Line
 pub use Rattle.gixp_lines.specs.BeginningGrammar
@@ -58,8 +57,8 @@ pub use Rattle.gixp_requests.specs.Request
 pub use Rattle.gixp_requests.specs.Offers
 pub use Rattle.gixp_graph.specs.Asked
 pub use Rattle.gixp_graph.specs.Complete
-pub use Rattle.gixp_graph.specs.Held as GraphHeld
-pub use Rattle.gixp_graph.specs.Laws
+pub use Rattle.gixp_graph.specs.GraphData
+pub use Rattle.gixp_graph.specs.GraphLaws
 pub use Rattle.gixp_graph.specs.Listed
 pub use Rattle.gixp_graph.specs.Negotiation
 pub use Rattle.gixp_graph.specs.Node
@@ -87,7 +86,7 @@ pub use Rattle.gixp_refspec.specs.Apart
 pub use Rattle.gixp_refspec.specs.Groups
 pub use Rattle.gixp_refspec.specs.Validate
 pub use Rattle.gixp_refspec.specs.Leaving
-pub use Rattle.gixp_refspec.specs.Laws as RefspecLaws
+pub use Rattle.gixp_refspec.specs.RefspecLaws
 pub use Rattle.gixp_progress.specs.Numbers
 pub use Rattle.gixp_progress.specs.Line
 pub use Rattle.gixp_progress.specs.Translation
@@ -97,8 +96,8 @@ pub use Rattle.gixp_refmap.specs.Prefixes
 pub use Rattle.gixp_refmap.specs.Listing
 pub use Rattle.gixp_refmap.specs.MapError
 pub use Rattle.gixp_refmap.specs.Mapping
-pub use Rattle.gixp_refmap.specs.Items as RefMapItems
-pub use Rattle.gixp_refmap.specs.Laws as RefMapLaws
+pub use Rattle.gixp_refmap.specs.RefMapItems
+pub use Rattle.gixp_refmap.specs.RefMapLaws
 pub use Rattle.gixp_refmap.specs.Missing
 pub use Rattle.gixp_refmap.specs.Tags
 pub use Rattle.gixp_refmap.specs.Values
@@ -108,13 +107,13 @@ pub use Rattle.gixp_handshake.specs.Shake
 pub use Rattle.gixp_handshake.specs.Accepted
 pub use Rattle.gixp_handshake.specs.Obtain
 pub use Rattle.gixp_handshake.specs.Taken
-pub use Rattle.gixp_handshake.specs.Values as HandshakeValues
+pub use Rattle.gixp_handshake.specs.HandshakeValues
 pub use Rattle.gixp_handshake.specs.Ending
 pub use Rattle.gixp_negotiate.specs.Negotiate
 pub use Rattle.gixp_negotiate.specs.NegotiateError
 pub use Rattle.gixp_negotiate.specs.Rounds
 pub use Rattle.gixp_negotiate.specs.Distinct
-pub use Rattle.gixp_negotiate.specs.Mapping as NegotiationMapping
+pub use Rattle.gixp_negotiate.specs.NegotiationMapping
 pub use Rattle.gixp_negotiate.specs.Shallow
 pub use Rattle.gixp_negotiate.specs.Wants
 pub use Rattle.gixp_negotiate.specs.Marking
@@ -127,11 +126,11 @@ pub use Rattle.gixp_negotiate.specs.DecisionLaws
 pub use Rattle.gixp_fetch.specs.FetchError
 pub use Rattle.gixp_fetch.specs.Store
 pub use Rattle.gixp_fetch.specs.View
-pub use Rattle.gixp_fetch.specs.Rounds as FetchRounds
+pub use Rattle.gixp_fetch.specs.FetchRounds
 pub use Rattle.gixp_fetch.specs.Receive
 pub use Rattle.gixp_fetch.specs.Received
 pub use Rattle.gixp_fetch.specs.Consume
-pub use Rattle.gixp_fetch.specs.Shallow as FetchShallow
+pub use Rattle.gixp_fetch.specs.FetchShallow
 pub use Rattle.gixp_fetch.specs.Session
 pub use Rattle.gixp_fetch.specs.Fetch
 pub use Rattle.gixp_fetch.specs.Fetched

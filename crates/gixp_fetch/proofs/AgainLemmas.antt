@@ -7,14 +7,14 @@ use Rattle.std.specs.Cmp.Lexicographic.{texts_ties}
 use Rattle.std.proofs.lemmas.List.Elements.{Contains-append_left, Contains-append_right, Contains-append_cases}
 use Rattle.gixp_wire.specs.declared.object_id.ObjectId.{ObjectId}
 use Rattle.gixp_wire.specs.ObjectId.{id_cmp}
-use Rattle.gixp_wire.specs.Held.{Held}
+use Rattle.gixp_wire.specs.TransportState.{TransportState}
 use Rattle.gixp_lines.specs.Answer.{AnswerValue}
 use Rattle.gixp_lines.specs.RefLine.{is_text}
-use Rattle.gixp_requests.specs.Arguments.{Asked, is_v2}
+use Rattle.gixp_requests.specs.Arguments.{ArgumentsValue, is_v2}
 use Rattle.gixp_requests.specs.Request.{sent_off}
-use Rattle.gixp_graph.specs.Laws.{same_from}
+use Rattle.gixp_graph.specs.GraphLaws.{same_from}
 use Rattle.gixp_negotiate.specs.Rounds.{commons, commons_of, is_same_id, has_id, keeping, keeping_all, kept_with, kept_ids, have_line, asks_haves}
-use Rattle.gixp_fetch.specs.Rounds.{At, Turn, Manner, Turns, Rounds}
+use Rattle.gixp_fetch.specs.FetchRounds.{At, Turn, Manner, Turns, Rounds}
 use Rattle.gixp_fetch.specs.Again.{Renames, StandsAlone, NamesAgain}
 use Rattle.gixp_fetch.proofs.SetLemmas.{no_member, first_member, later_member, member_cases}
 use Rattle.gixp_fetch.proofs.SentLemmas.{turn_written}
@@ -70,7 +70,7 @@ lines_of_haves (id ∷ ids) q h = at (member_cases id ids q h) (lines_of_haves i
     at (inr b) rest = later_member (have_line id) (map have_line ids) (have_line q) (rest b)
 
 -- lines stay where requests stand alone
-lines_stay : (persists : Bool) (a : Asked) → (is_v2 a.version ≡ true) ⊎ (persists ≡ false) → (sent_off persists a).lines ≡ a.lines
+lines_stay : (persists : Bool) (a : ArgumentsValue) → (is_v2 a.version ≡ true) ⊎ (persists ≡ false) → (sent_off persists a).lines ≡ a.lines
 lines_stay persists a (inl e) = rw e refl
 lines_stay persists a (inr e) = rw e (at (is_v2 a.version))
   where
@@ -100,10 +100,10 @@ module _ {N I A : Type 0} (m : Manner N I A) (law : Renames m.goes) where
       let names = law.names _ _ _ _ _ _ _ _ _ h.negotiated in
       let all : (id : ObjectId) → Contains ids id → Contains (keeping_all k.kept (commons_of old.previous)) id = λ id c. by_known id (k.known id c) in (
         kept,
-        ap (λ (a : Asked). a.lines) names.1 ∙ k.same,
-        ap (λ (a : Asked). a.version) names.1,
+        ap (λ (a : ArgumentsValue). a.lines) names.1 ∙ k.same,
+        ap (λ (a : ArgumentsValue). a.version) names.1,
         all,
-        λ id c. subst (λ (a : Asked). Contains a.haves (have_line id)) (sym names.1)
+        λ id c. subst (λ (a : ArgumentsValue). Contains a.haves (have_line id)) (sym names.1)
             (Contains-append_right old.asked.haves (map have_line (kept_ids t.after.window.kept ++ names.0)) (have_line id)
             (lines_of_haves (kept_ids t.after.window.kept ++ names.0) id
             (Contains-append_left (kept_ids t.after.window.kept) names.0 id (subst (λ o. Contains (kept_ids o) id) (sym kept) (all id c))))),
@@ -121,7 +121,7 @@ module _ {N I A : Type 0} (m : Manner N I A) (law : Renames m.goes) where
         kept = keeping_all k.kept (commons_of old.previous);
         is_kept = one.0;
         known = λ id c. by_place id one.3 (Contains-append_cases ids (commons t.reply.acknowledgements) id c);
-        same = ap (λ (a : Asked). a.lines) h.rest ∙ lines_stay old.reading.held.persists t.asked stay ∙ one.1;
+        same = ap (λ (a : ArgumentsValue). a.lines) h.rest ∙ lines_stay old.reading.held.persists t.asked stay ∙ one.1;
         alone = after_alone stay;
       }
     where
@@ -130,7 +130,7 @@ module _ {N I A : Type 0} (m : Manner N I A) (law : Renames m.goes) where
       by_alone (inr b) e = inr b
 
       after_alone : (is_v2 t.asked.version ≡ true) ⊎ (old.reading.held.persists ≡ false) → (is_v2 t.after.asked.version ≡ true) ⊎ (t.after.reading.held.persists ≡ false)
-      after_alone (inl a) = inl (ap (λ (x : Asked). is_v2 x.version) h.rest ∙ a)
+      after_alone (inl a) = inl (ap (λ (x : ArgumentsValue). is_v2 x.version) h.rest ∙ a)
       after_alone (inr b) = inr ((turn_written m old t h).persists ∙ b)
 
       by_place : (id : ObjectId) → ((id : ObjectId) → Contains ids id → Contains (keeping_all k.kept (commons_of old.previous)) id) → Contains ids id ⊎ Contains (commons t.reply.acknowledgements) id

@@ -20,12 +20,12 @@ use Rattle.gixp_lines.specs.Ref.{ref_value}
 use Rattle.gixp_lines.specs.RefLine.{RefsRefusal, refusal_from}
 use Rattle.gixp_lines.specs.ParseError.{IsRefusal as IsRefsRefusal}
 use Rattle.gixp_lines.specs.Refs.{v2_refs, RefsFail}
-use Rattle.gixp_lines.specs.Advertisement.{Symref, v1_refs}
+use Rattle.gixp_lines.specs.RefAdvertisement.{Symref, v1_refs}
 use Rattle.gixp_lines.specs.V1Refs.{ReadsV1, V1Fails, GivesAdvertisement}
 use Rattle.gixp_lines.specs.ResponseError.{AnswerRefusal, from_reader, IsRefusal}
 use Rattle.gixp_lines.specs.Answer.{AnswerValue, Found, whole, refused}
-use Rattle.gixp_lines.specs.Reads.{Answered, AnswerFails}
-use Rattle.gixp_requests.specs.Arguments.{Asked}
+use Rattle.gixp_lines.specs.AnswerReading.{Answered, AnswerFails}
+use Rattle.gixp_requests.specs.Arguments.{ArgumentsValue}
 use Rattle.gixp_requests.specs.Feature.{FeatureValue}
 use Rattle.gixp_requests.specs.Command.{Table}
 use Rattle.gixp_refmap.specs.declared.ls_refs.error.Error.{Error as list_error}
@@ -43,7 +43,7 @@ use Rattle.gixp_negotiate.specs.declared.negotiate.Round.{Round}
 use Rattle.gixp_negotiate.specs.Negotiate.{ActionValue, Lawful, IsWide}
 use Rattle.gixp_fetch.specs.declared.options.Outcome.{Outcome}
 use Rattle.gixp_fetch.specs.declared.error.Error.{Error}
-use Rattle.gixp_fetch.specs.Rounds.{At, Turn, Manner, Turns, Rounds, Packed}
+use Rattle.gixp_fetch.specs.FetchRounds.{At, Turn, Manner, Turns, Rounds, Packed}
 use Rattle.gixp_fetch.specs.View.{view}
 use Rattle.gixp_fetch.specs.Sent.{request_of, requests_of, WroteRequests}
 use Rattle.gixp_fetch.specs.Receive.{fresh_side}
@@ -106,7 +106,7 @@ module _ (service : Service) (ps : List Parameter) (plain : Bool) (turns : List 
 
   shown_kept : (accepted : Bool) (mid : Reading) (found : SetServiceResponse) (refs : Vec Ref Global) → h.refs ≡ Some refs → Opens service ps start mid turns (Ok found) → Keeps accepted found plain mid shaken (Ok h)
       → Shown service ps turns start refs.items
-  shown_kept true mid found refs e o k = shown_first mid found found.has_refs refs e o k.0
+  shown_kept true mid found refs e o k = shown_first mid found found.refs_follow refs e o k.0
   shown_kept false mid found refs e o k = cc k.1
 
   shown_opened : (opened : Opened) (mid : Reading) (refs : Vec Ref Global) → h.refs ≡ Some refs → Opens service ps start mid turns opened ⊎ NoMemory start mid turns opened

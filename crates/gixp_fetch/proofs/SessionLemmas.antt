@@ -2,11 +2,11 @@
 use Rattle.std.proofs.Common.{◌≡◌, ◌⊎◌, inl, inr, ℕ, ◌+◌, ◌/◌, ◌≤◌, Bool, true, false, List, [], ◌∷◌, ◌++◌, length, map, drop, refl, sym, ap, subst, ◌∙◌, arith, Option, Some, None, length-append}
 use Rattle.std.specs.Prelude.{Result, Ok, Err}
 use Rattle.std.proofs.lemmas.List.{append-nil}
-use Rattle.gixp_wire.specs.Held.{Held as held_data}
+use Rattle.gixp_wire.specs.TransportState.{TransportState as held_data}
 use Rattle.gixp_wire.specs.Pieces.{Refusal}
 use Rattle.gixp_wire.specs.Reading.{Reading, Fails as reader_fails}
 use Rattle.gixp_sidebands.specs.Bands.{Side, side_reading, is_begun}
-use Rattle.gixp_requests.specs.Arguments.{Asked}
+use Rattle.gixp_requests.specs.Arguments.{ArgumentsValue}
 use Rattle.gixp_lines.specs.declared.fetch.response.line.ShallowUpdate.{ShallowUpdate}
 use Rattle.gixp_lines.specs.Answer.{AnswerValue}
 use Rattle.gixp_wire.specs.declared.object_id.ObjectId.{ObjectId}
@@ -16,7 +16,7 @@ use Rattle.gixp_fetch.specs.declared.options.Outcome.{Outcome}
 use Rattle.gixp_fetch.specs.declared.error.Error.{Error}
 use Rattle.gixp_fetch.specs.declared.receive.PackFailure.{PackFailure}
 use Rattle.gixp_fetch.specs.declared.receive.PackFailure.TheVariants.{Consumer, Rest}
-use Rattle.gixp_fetch.specs.Rounds.{At, Turn, Manner, Packed, Interrupts, DoneWithout, Failed, Refused, TurnFails, told_of, Breaks, before_request, at_request, behind_request, at_answer, behind_answer, RoundsFail}
+use Rattle.gixp_fetch.specs.FetchRounds.{At, Turn, Manner, Packed, Interrupts, DoneWithout, Failed, Refused, TurnFails, told_of, Breaks, before_request, at_request, behind_request, at_answer, behind_answer, RoundsFail}
 use Rattle.gixp_fetch.specs.Sent.{request_of, requests_of}
 use Rattle.gixp_fetch.specs.Receive.{Consumed, Finishes, GivesBack, fresh_side}
 use Rattle.gixp_fetch.specs.Received.{PackFails, Received, Unreceived}
@@ -130,7 +130,7 @@ module _ {N I A : Type 0} (m : Manner N I A) where
     refused_requests : (start : At N I) (e : Error A E) (rounds : List Round) (negotiate : N) (reading : Reading) → Refused m start e rounds negotiate reading → Requests rounds start.reading reading
     refused_requests start e rounds negotiate reading f = by_refusal f.refused f.told
       where
-        by_break : (asked : Asked) (done : Bool) (round : Round) → Breaks m f.before asked done e reading → rounds ≡ map (λ (t : Turn N I). t.round) f.turns ++ round ∷ [] → Requests rounds start.reading reading
+        by_break : (asked : ArgumentsValue) (done : Bool) (round : Round) → Breaks m f.before asked done e reading → rounds ≡ map (λ (t : Turn N I). t.round) f.turns ++ round ∷ [] → Requests rounds start.reading reading
         by_break asked done round (before_request w r) t = record {
           requests = requests_of f.turns;
           mid = f.before.reading;
@@ -193,7 +193,7 @@ module _ {N I A : Type 0} (m : Manner N I A) where
 
 -- ---- a whole fetch
 
-pub begins_of : {N A : Type 0} (office : Office N A) (first : N) (given : Asked) (action : ActionValue) (ready : N) (wanted : Asked) → Readied office first given action ready wanted → Begins office first ready
+pub begins_of : {N A : Type 0} (office : Office N A) (first : N) (given : ArgumentsValue) (action : ActionValue) (ready : N) (wanted : ArgumentsValue) → Readied office first given action ready wanted → Begins office first ready
 begins_of office first given action ready wanted r = record {
   known = r.known;
   marked = r.marked;
@@ -204,7 +204,7 @@ begins_of office first given action ready wanted r = record {
 }
 
 module _ {N I A S C P X : Type 0} (parties : Parties N I A S C P X) (lawful : Lawful parties.office.goes parties.office.count) (wide : IsWide parties.office.goes) where
-  module _ (call : Call) (banded : Bool) (given : Asked) (old : World N I S C) where
+  module _ (call : Call) (banded : Bool) (given : ArgumentsValue) (old : World N I S C) where
     negotiated_held : (ids : List ObjectId) (read : S) (action : ActionValue) (rounds : List Round) (updates : List ShallowUpdate) (reply : AnswerValue) (end : At N I) (new : Reading)
         → Negotiated parties call.version banded call.wishes given old ids read action rounds updates reply end → new.held ≡ end.reading.held → Held parties.office old.negotiate rounds old.reading new
     negotiated_held ids read action rounds updates reply end new n h = record {

@@ -16,9 +16,9 @@ use Rattle.gixp_wire.specs.declared.object_id.ObjectId.{ObjectId}
 use Rattle.gixp_wire.specs.ObjectId.{id_cmp}
 use Rattle.gixp_lines.specs.declared.fetch.response.line.ShallowUpdate.{ShallowUpdate}
 use Rattle.gixp_lines.specs.declared.fetch.response.line.ShallowUpdate.TheVariants.{Shallow as becomes_shallow, Unshallow as becomes_whole}
-use Rattle.gixp_graph.specs.Laws.{ids_exact, ids_total}
+use Rattle.gixp_graph.specs.GraphLaws.{ids_exact, ids_total}
 use Rattle.gixp_fetch.specs.Boundary.{IsSetOf, StaysIn, IsBoundary}
-use Rattle.gixp_fetch.specs.Shallow.{with_ids, with_updates, boundary}
+use Rattle.gixp_fetch.specs.FetchShallow.{with_ids, with_updates, boundary}
 
 module _ {K : Type 0} {R : K → K → Ordering} (o : IsTotalOrder R) (exact : CmpEqualImpliesEq R) where
   -- ---- in order

@@ -3,16 +3,16 @@ use Rattle.std.specs.Prelude.{◌≡◌, ◌⊎◌, ℕ, ⊤, Bool, true, false,
 use Rattle.std.specs.List.{Contains}
 use Rattle.gixp_wire.specs.declared.object_id.ObjectId.{ObjectId}
 use Rattle.gixp_lines.specs.Answer.{AnswerValue}
-use Rattle.gixp_requests.specs.Arguments.{Asked, is_v2}
+use Rattle.gixp_requests.specs.Arguments.{ArgumentsValue, is_v2}
 use Rattle.gixp_negotiate.specs.declared.negotiate.Round.{Round}
 use Rattle.gixp_negotiate.specs.Negotiate.{Window, Goes}
 use Rattle.gixp_negotiate.specs.Rounds.{commons, commons_of, kept_with, kept_ids, have_line, asks_haves}
-use Rattle.gixp_fetch.specs.Rounds.{At, Turn}
+use Rattle.gixp_fetch.specs.FetchRounds.{At, Turn}
 
 -- where ids are kept, the commits that the last answer named as common join them, and the haves of a round begin with all of these
 pub record Renames {N : Type 0} (goes : Goes N) : Type 0 where
-  pub keeps : (n : N) (s : Window) (a : Asked) (p : Option AnswerValue) (r : Round) (d : Bool) (m : N) (t : Window) (b : Asked) → goes n s a p r d m t b → t.kept ≡ kept_with s.kept (commons_of p)
-  pub names : (n : N) (s : Window) (a : Asked) (p : Option AnswerValue) (r : Round) (d : Bool) (m : N) (t : Window) (b : Asked) → goes n s a p r d m t b
+  pub keeps : (n : N) (s : Window) (a : ArgumentsValue) (p : Option AnswerValue) (r : Round) (d : Bool) (m : N) (t : Window) (b : ArgumentsValue) → goes n s a p r d m t b → t.kept ≡ kept_with s.kept (commons_of p)
+  pub names : (n : N) (s : Window) (a : ArgumentsValue) (p : Option AnswerValue) (r : Round) (d : Bool) (m : N) (t : Window) (b : ArgumentsValue) → goes n s a p r d m t b
       → (haves : List ObjectId) × (b ≡ asks_haves (kept_ids t.kept ++ haves) a)
 
 -- rounds begin here whose requests stand alone: nothing is kept yet, and no answer came

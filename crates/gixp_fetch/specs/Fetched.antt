@@ -4,12 +4,12 @@ use Rattle.gixp_wire.specs.declared.protocol.Protocol.{Protocol}
 use Rattle.gixp_wire.specs.Capabilities.{CapabilityValue}
 use Rattle.gixp_requests.specs.Feature.{FeatureValue}
 use Rattle.gixp_requests.specs.Command.{Table}
-use Rattle.gixp_requests.specs.Arguments.{Asked}
+use Rattle.gixp_requests.specs.Arguments.{ArgumentsValue}
 use Rattle.gixp_refmap.specs.declared.fetch.Tags.{Tags}
 use Rattle.gixp_fetch.specs.declared.options.Outcome.{Outcome}
 use Rattle.gixp_fetch.specs.declared.error.Error.{Error}
 use Rattle.gixp_negotiate.specs.Negotiate.{action_value, negotiate}
-use Rattle.gixp_fetch.specs.Shallow.{is_change}
+use Rattle.gixp_fetch.specs.FetchShallow.{is_change}
 use Rattle.gixp_fetch.specs.Prepare.{features_of, Prepared, Unprepared, LocksFirst, ReleasesIf, Unlocked}
 use Rattle.gixp_fetch.specs.Fetch.{Wishes, World, Parties, Meets}
 
@@ -35,7 +35,7 @@ features call = features_of call.table call.version call.capabilities call.agent
 module _ {N I A S C P X : Type 0} (parties : Parties N I A S C P X) (call : Call) (old : World N I S C) where
   -- the first arguments are there, the lock is got where the boundary may change, the rest is met, and a lock that is had is released
   pub record Carried (result : Result (Option Outcome) (Error A X)) (new : World N I S C) (progress : P) : Type 0 where
-    pub asked : Asked
+    pub asked : ArgumentsValue
     pub banded : Bool
     pub held : S
     pub first : Bool
@@ -49,7 +49,7 @@ module _ {N I A S C P X : Type 0} (parties : Parties N I A S C P X) (call : Call
   -- the first arguments or the lock were refused, and nothing else changed
   pub data Unstarted (e : Error A X) (new : World N I S C) : Type 0 where
     unprepared : Unprepared call.table call.version (features call) call.tags e → new ≡ old → Unstarted e new
-    unlocked : (asked : Asked) (banded : Bool) → Prepared call.table call.version (features call) call.tags asked banded → Unlocked parties.shop.failures old.store e new.store
+    unlocked : (asked : ArgumentsValue) (banded : Bool) → Prepared call.table call.version (features call) call.tags asked banded → Unlocked parties.shop.failures old.store e new.store
         → new ≡ record old { store = new.store } → Unstarted e new
 
   -- by its result, before and after which no lock is had

@@ -19,12 +19,12 @@ use Rattle.gixp_lines.specs.Ref.{RefValue, ref_value}
 use Rattle.gixp_lines.specs.RefLine.{RefsRefusal, refusal_from}
 use Rattle.gixp_lines.specs.ParseError.{parse_refusal, Answers, IsRefusal as IsRefsRefusal}
 use Rattle.gixp_lines.specs.Refs.{v2_refs, RefsFail}
-use Rattle.gixp_lines.specs.Advertisement.{Symref, symref_table, v1_refs}
+use Rattle.gixp_lines.specs.RefAdvertisement.{Symref, symref_table, v1_refs}
 use Rattle.gixp_lines.specs.V1Refs.{symref_values, V1Fails}
 use Rattle.gixp_lines.specs.ResponseError.{AnswerRefusal, answer_refusal, from_reader, IsRefusal}
 use Rattle.gixp_lines.specs.Answer.{AnswerValue, Found, whole, refused}
-use Rattle.gixp_lines.specs.Beginnings.{asked as flags}
-use Rattle.gixp_lines.specs.Reads.{answer_of, AnswerFails}
+use Rattle.gixp_lines.specs.Beginnings.{expected as flags}
+use Rattle.gixp_lines.specs.AnswerReading.{answer_of, AnswerFails}
 use Rattle.gixp_lines.specs.declared.fetch.response.line.ShallowUpdate.{ShallowUpdate}
 use Rattle.gixp_requests.specs.Feature.{FeatureValue}
 use Rattle.gixp_requests.specs.Command.{Table}
@@ -38,7 +38,7 @@ use Rattle.gixp_handshake.specs.Obtain.{prefixes_if, Obtains}
 use Rattle.gixp_negotiate.specs.declared.negotiate.Round.{Round}
 use Rattle.gixp_fetch.specs.declared.options.Outcome.{Outcome}
 use Rattle.gixp_fetch.specs.declared.error.Error.{Error}
-use Rattle.gixp_fetch.specs.Rounds.{At, Turn, Packed}
+use Rattle.gixp_fetch.specs.FetchRounds.{At, Turn, Packed}
 use Rattle.gixp_fetch.specs.View.{view}
 use Rattle.gixp_fetch.specs.Sent.{requests_of, WroteRequests}
 use Rattle.gixp_fetch.specs.Receive.{ReadsOn}

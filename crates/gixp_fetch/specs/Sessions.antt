@@ -2,12 +2,12 @@
 use Rattle.std.specs.Prelude.{◌≡◌, ◌⊎◌, ℕ, ◌+◌, ◌/◌, ◌≤◌, Bool, true, false, if◌then◌else◌, List, length, Option, Some, None, Result, Ok, Err}
 use Rattle.gixp_wire.specs.declared.client.Error.{Error as client_error}
 use Rattle.gixp_wire.specs.Reading.{Reading}
-use Rattle.gixp_requests.specs.Arguments.{Asked}
+use Rattle.gixp_requests.specs.Arguments.{ArgumentsValue}
 use Rattle.gixp_negotiate.specs.declared.negotiate.Round.{Round}
 use Rattle.gixp_negotiate.specs.Negotiate.{negotiate}
 use Rattle.gixp_fetch.specs.declared.options.Outcome.{Outcome}
 use Rattle.gixp_fetch.specs.declared.error.Error.{Error}
-use Rattle.gixp_fetch.specs.Rounds.{SendsRound, haves_of}
+use Rattle.gixp_fetch.specs.FetchRounds.{SendsRound, haves_of}
 use Rattle.gixp_fetch.specs.Sent.{WroteRequests}
 use Rattle.gixp_fetch.specs.Session.{Office}
 
@@ -15,15 +15,15 @@ use Rattle.gixp_fetch.specs.Session.{Office}
 pub record Begins {N A : Type 0} (office : Office N A) (first ready : N) : Type 0 where
   pub known : List Bool
   pub marked : N
-  pub given : Asked
-  pub wanted : Asked
+  pub given : ArgumentsValue
+  pub wanted : ArgumentsValue
   pub marks : office.marks first (negotiate known) marked
   pub adds : office.adds marked known given true wanted ready
 
 -- behind these requests nothing more was written; or one more request was begun, and refused or not answered
 abbrev pub Another : Bool → Reading → Reading → Type 0
 Another false old new = new.held ≡ old.held
-Another true old new = (sent : Reading) × (asked : Asked) × (done : Bool) × (result : Result (Unit {0}) client_error) × SendsRound old sent asked done result × (new.held ≡ sent.held)
+Another true old new = (sent : Reading) × (asked : ArgumentsValue) × (done : Bool) × (result : Result (Unit {0}) client_error) × SendsRound old sent asked done result × (new.held ≡ sent.held)
 
 -- the requests of these rounds, at most one for each, and nothing else was written
 pub record Requests (rounds : List Round) (old new : Reading) : Type 0 where

@@ -12,11 +12,11 @@ use Rattle.gixp_wire.specs.declared.object_id.ObjectId.{ObjectId}
 use Rattle.gixp_wire.specs.ObjectId.{id_cmp}
 use Rattle.gixp_graph.specs.declared.flags.Flags.{Flags}
 use Rattle.gixp_graph.specs.Object.{Objects, commit_at}
-use Rattle.gixp_graph.specs.Held.{Held, Commits, GraphData, commit_in, shown, OnlyMarks, IsFaithful}
+use Rattle.gixp_graph.specs.GraphData.{HeldCommit, Commits, GraphData, commit_in, shown, OnlyMarks, IsFaithful}
 use Rattle.gixp_graph.specs.Complete.{IsDue}
 use Rattle.gixp_graph.specs.Asked.{AsksOnce, AsksWhere, AsksEach}
 use Rattle.gixp_graph.specs.Walk.{Walk, IsUnread, Visits, VisitsEach, AsksDue, HasAsked, AsksAll, AsksSome}
-use Rattle.gixp_graph.specs.Laws.{ids_total, same_from, faithful_reads}
+use Rattle.gixp_graph.specs.GraphLaws.{ids_total, same_from, faithful_reads}
 use Rattle.gixp_graph.proofs.MarkLemmas.{true_or_false}
 use Rattle.gixp_graph.proofs.HeldLemmas.{unknown}
 use Rattle.gixp_graph.proofs.FaithfulLemmas.{complete_same}
@@ -57,7 +57,7 @@ asks_more P Q weaker id own apart old mid new e a = record {
 
 -- what isn't held wasn't at the start
 unheld : (g : GraphData) (held : Commits) → OnlyMarks g held → (id : ObjectId) → finite.get held id ≡ None → finite.get g.held id ≡ None
-unheld g held only id u = ⊎_elim (λ e. sym e ∙ u) (λ n. absurd (let c : ◌≡◌ {A = Option Held} None (Some _) = sym u ∙ n.2 in cc)) (only id)
+unheld g held only id u = ⊎_elim (λ e. sym e ∙ u) (λ n. absurd (let c : ◌≡◌ {A = Option HeldCommit} None (Some _) = sym u ∙ n.2 in cc)) (only id)
 
 module _ (g : GraphData) (ids : List ObjectId) (cutoff : Option ℤ) (start : List ObjectId) (w : Walk) (only : OnlyMarks g w.held) (id : ObjectId) (due : IsDue (commit_in g) ids cutoff id) (before after : List ObjectId)
     (asks : AsksWhere (IsUnread w id) id before after) (has : HasAsked g ids cutoff start w.visited before) where

@@ -3,7 +3,7 @@ use Rattle.std.proofs.Common.{◌≡◌, ℕ, ◌<◌, ◌⊎◌, inl, inr, true
 use Rattle.std.proofs.lemmas.List.Elements.{All-nil, All-push, All-head, All-weaker}
 use Rattle.gixp_wire.specs.declared.object_id.ObjectId.{ObjectId}
 use Rattle.gixp_graph.specs.Object.{Objects}
-use Rattle.gixp_graph.specs.Held.{Commits, graph_of, commit_in, marked_found}
+use Rattle.gixp_graph.specs.GraphData.{Commits, graph_of, commit_in, marked_found}
 use Rattle.gixp_graph.specs.Complete.{IsDue}
 use Rattle.gixp_graph.specs.Walk.{Walk, beside, Visits, VisitsSome, VisitsEach}
 use Rattle.gixp_graph.proofs.StepLemmas.{marking_step, due_complete, visits_beside, visit_visited, visit_keeps, visit_only, visit_walk}

@@ -5,9 +5,9 @@ use Rattle.std.specs.Option.{option_map_or}
 use Rattle.std.specs.FinMap as finite
 use Rattle.gixp_wire.specs.declared.object_id.ObjectId.{ObjectId}
 use Rattle.gixp_graph.specs.Object.{commit_at}
-use Rattle.gixp_graph.specs.Held.{Held, Commits, GraphData, commit_in, is_complete, is_marked, OnlyMarks, IsFaithful}
+use Rattle.gixp_graph.specs.GraphData.{HeldCommit, Commits, GraphData, commit_in, is_complete, is_marked, OnlyMarks, IsFaithful}
 use Rattle.gixp_graph.specs.Complete.{IsComplete}
-use Rattle.gixp_graph.specs.Laws.{faithful_reads}
+use Rattle.gixp_graph.specs.GraphLaws.{faithful_reads}
 use Rattle.gixp_graph.proofs.StepLemmas.{marked_by}
 use Rattle.gixp_graph.proofs.FaithfulLemmas.{complete_same}
 
@@ -26,7 +26,7 @@ module _ (g : GraphData) (new : Commits) (ids : List ObjectId) (cutoff : Option 
   )
 
 -- a commit that is marked is held
-marked_held : (o : Option Held) → option_map_or is_complete o false ≡ true → IsSome o
+marked_held : (o : Option HeldCommit) → option_map_or is_complete o false ≡ true → IsSome o
 marked_held None e = cc
 marked_held (Some h) e = refl
 

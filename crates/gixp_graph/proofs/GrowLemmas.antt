@@ -17,7 +17,7 @@ use Rattle.gixp_graph.specs.declared.commits.Node.{Node}
 use Rattle.gixp_wire.specs.ObjectId.{id_cmp}
 use Rattle.gixp_graph.specs.Table.{id_at, ids_at, KeepsNumbers}
 use Rattle.gixp_graph.specs.Node.{ids_of, number_at, parents_of, entry_of, held_in, blank, IsInRange, IsNumbered, IsTable}
-use Rattle.gixp_graph.specs.Laws.{same_from}
+use Rattle.gixp_graph.specs.GraphLaws.{same_from}
 use Rattle.gixp_graph.proofs.MarkLemmas.{same_id, true_or_false}
 use Rattle.gixp_graph.proofs.NodeLemmas.{length_ids, held_by}
 

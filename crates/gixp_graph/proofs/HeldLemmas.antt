@@ -6,11 +6,11 @@ use Rattle.std.specs.FinMap as finite
 use Rattle.gixp_wire.specs.declared.object_id.ObjectId.{ObjectId}
 use Rattle.gixp_graph.specs.declared.flags.Flags.{Flags}
 use Rattle.gixp_graph.specs.Object.{Commit, commit_at}
-use Rattle.gixp_graph.specs.Held.{Held, shown, Commits, GraphData, found_in, looked_up, flagged, with_flags, unmarked, put}
-use Rattle.gixp_graph.specs.Laws.{put_same}
+use Rattle.gixp_graph.specs.GraphData.{HeldCommit, shown, Commits, GraphData, found_in, looked_up, flagged, with_flags, unmarked, put}
+use Rattle.gixp_graph.specs.GraphLaws.{put_same}
 
 -- what is found, by whether it is held
-pub found_held : (g : GraphData) (id : ObjectId) (h : Held) → finite.get g.held id ≡ Some h → found_in g id ≡ Some h
+pub found_held : (g : GraphData) (id : ObjectId) (h : HeldCommit) → finite.get g.held id ≡ Some h → found_in g id ≡ Some h
 found_held g id h is = ap (λ o. option_or o (option_map unmarked (commit_at g.objects id))) is
 
 -- or by the objects
@@ -18,11 +18,11 @@ pub found_new : (g : GraphData) (id : ObjectId) (o : Option Commit) → finite.g
 found_new g id o is c = ap (λ o. option_or o (option_map unmarked (commit_at g.objects id))) is ∙ ap (option_map unmarked) (sym c)
 
 -- a look-up of a commit that is held changes nothing
-pub looked_up_held : (g : GraphData) (id : ObjectId) (h : Held) → finite.get g.held id ≡ Some h → looked_up g id ≡ g.held
+pub looked_up_held : (g : GraphData) (id : ObjectId) (h : HeldCommit) → finite.get g.held id ≡ Some h → looked_up g id ≡ g.held
 looked_up_held g id h is = ap (put g.held id) (found_held g id h is) ∙ put_same g.held id h is
 
 -- marks are added to a commit that is held
-pub flagged_held : (m : Commits) (id : ObjectId) (flags : Flags) (h : Held) → finite.get m id ≡ Some h → flagged m id flags ≡ finite.insert m id (with_flags flags h)
+pub flagged_held : (m : Commits) (id : ObjectId) (flags : Flags) (h : HeldCommit) → finite.get m id ≡ Some h → flagged m id flags ≡ finite.insert m id (with_flags flags h)
 flagged_held m id flags h is = ap (λ o. put m id (option_map (with_flags flags) o)) is
 
 -- and to no other
@@ -33,12 +33,12 @@ flagged_none m id flags is = ap (λ o. put m id (option_map (with_flags flags) o
 pub known_looked_up : (g : GraphData) (id : ObjectId) (r : ℤ × Flags) → ◌≡◌ {A = Option (ℤ × Flags)} (Some r) (option_map shown (finite.get g.held id)) → looked_up g id ≡ g.held
 known_looked_up g id r e = at (finite.get g.held id) refl e
   where
-    at : (o : Option Held) → finite.get g.held id ≡ o → ◌≡◌ {A = Option (ℤ × Flags)} (Some r) (option_map shown o) → looked_up g id ≡ g.held
+    at : (o : Option HeldCommit) → finite.get g.held id ≡ o → ◌≡◌ {A = Option (ℤ × Flags)} (Some r) (option_map shown o) → looked_up g id ≡ g.held
     at None is e = cc
     at (Some h) is e = looked_up_held g id h is
 
 -- what shows nothing is nothing
-pub none_shown : (o : Option Held) → ◌≡◌ {A = Option (ℤ × Flags)} None (option_map shown o) → o ≡ None
+pub none_shown : (o : Option HeldCommit) → ◌≡◌ {A = Option (ℤ × Flags)} None (option_map shown o) → o ≡ None
 none_shown None e = refl
 none_shown (Some h) e = cc
 

@@ -11,10 +11,10 @@ use Rattle.std.specs.FinMap.{contains_key-keys}
 use Rattle.gixp_wire.specs.declared.object_id.ObjectId.{ObjectId}
 use Rattle.gixp_wire.specs.ObjectId.{id_cmp}
 use Rattle.gixp_graph.specs.Object.{Objects, Object, Commit, commit_at}
-use Rattle.gixp_graph.specs.Held.{Held, GraphData, graph_of, found_in, commit_in, as_read, unmarked, OnlyMarks}
+use Rattle.gixp_graph.specs.GraphData.{HeldCommit, GraphData, graph_of, found_in, commit_in, as_read, unmarked, OnlyMarks}
 use Rattle.gixp_graph.specs.Waiting.{Queues}
 use Rattle.gixp_graph.specs.Walk.{Walk, Visits, count, all_ids, left}
-use Rattle.gixp_graph.specs.Laws.{same_from}
+use Rattle.gixp_graph.specs.GraphLaws.{same_from}
 use Rattle.gixp_graph.proofs.VisitedLemmas.{or_true}
 use Rattle.gixp_graph.proofs.StepLemmas.{visit_keeps, visit_visited, visit_reads}
 
@@ -58,7 +58,7 @@ is_some_at None e = e
 is_some_at (Some k) e = refl
 
 -- the same, by what is held
-found_id_at : (g : GraphData) (id : ObjectId) (o : Option Held) → finite.get g.held id ≡ o → IsSome (option_map as_read (option_or o (option_map unmarked (commit_at g.objects id)))) → list_any (eq_by_cmp id_cmp id) (all_ids g) ≡ true
+found_id_at : (g : GraphData) (id : ObjectId) (o : Option HeldCommit) → finite.get g.held id ≡ o → IsSome (option_map as_read (option_or o (option_map unmarked (commit_at g.objects id)))) → list_any (eq_by_cmp id_cmp id) (all_ids g) ≡ true
 found_id_at g id (Some h) e s = any_right (eq_by_cmp id_cmp id) (finite.keys g.objects) (finite.keys g.held) (sym (contains_key-keys g.held id) ∙ ap is_some e)
 found_id_at g id None e s = any_left (eq_by_cmp id_cmp id) (finite.keys g.objects) (finite.keys g.held)
     (sym (contains_key-keys g.objects id) ∙ is_some_at (finite.get g.objects id) (some_read (commit_at g.objects id) s))
@@ -87,12 +87,12 @@ module _ (g : GraphData) (objects : Objects) (same : objects ≡ g.objects) (id 
   left_no_more = count_le (λ q. not (old.visited q)) (λ q. not (new.visited q)) (λ q. fewer (old.visited q) (new.visited q) (visit_keeps objects id old new v q)) (all_ids g)
 
   -- where a commit was found, one less is
-  left_less : old.visited id ≡ false → OnlyMarks g old.held → (k : Held) → found_in (graph_of objects old.held) id ≡ Some k → left g new.visited + 1 ≤ left g old.visited
+  left_less : old.visited id ≡ false → OnlyMarks g old.held → (k : HeldCommit) → found_in (graph_of objects old.held) id ≡ Some k → left g new.visited + 1 ≤ left g old.visited
   left_less u only k e = count_lt (λ q. not (old.visited q)) (λ q. not (new.visited q)) (λ q. fewer (old.visited q) (new.visited q) (visit_keeps objects id old new v q)) id (ap not u) (ap not (visit_visited objects id old new v)) (all_ids g)
       (found_id g id (ap is_some (visit_reads g objects same id old new only (Some k) e)))
 
   -- by what is found
-  less_at : old.visited id ≡ false → OnlyMarks g old.held → (o : Option Held) → found_in (graph_of objects old.held) id ≡ o → Queues o id old.waiting new.waiting → left g new.visited + length new.waiting ≤ left g old.visited + length old.waiting
+  less_at : old.visited id ≡ false → OnlyMarks g old.held → (o : Option HeldCommit) → found_in (graph_of objects old.held) id ≡ o → Queues o id old.waiting new.waiting → left g new.visited + length new.waiting ≤ left g old.visited + length old.waiting
   less_at u only None e w =
       let a : length new.waiting ≡ length old.waiting = ap length w in
       omega (arith, left_no_more)

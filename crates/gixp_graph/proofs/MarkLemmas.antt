@@ -12,34 +12,34 @@ use Rattle.gixp_wire.specs.declared.object_id.ObjectId.{ObjectId}
 use Rattle.gixp_graph.specs.declared.flags.Flags.{Flags}
 use Rattle.gixp_wire.specs.ObjectId.{id_cmp}
 use Rattle.gixp_graph.specs.Object.{Commit, commit_at}
-use Rattle.gixp_graph.specs.Held.{Held, shown, Commits, GraphData, found_in, looked_up, flagged, unmarked, put, is_complete, completed, if_unmarked, marked_found}
-use Rattle.gixp_graph.specs.Laws.{ids_exact, ids_total, put_same}
+use Rattle.gixp_graph.specs.GraphData.{HeldCommit, shown, Commits, GraphData, found_in, looked_up, flagged, unmarked, put, is_complete, completed, if_unmarked, marked_found}
+use Rattle.gixp_graph.specs.GraphLaws.{ids_exact, ids_total, put_same}
 
 -- an id is itself
 pub same_id : (id : ObjectId) → eq_by_cmp id_cmp id id ≡ true
 same_id id = ap is_eq (tied_itself ids_total id)
 
 -- what was put under an id is there
-pub get_insert_same : (m : Commits) (id : ObjectId) (h : Held) → finite.get (finite.insert m id h) id ≡ Some h
+pub get_insert_same : (m : Commits) (id : ObjectId) (h : HeldCommit) → finite.get (finite.insert m id h) id ≡ Some h
 get_insert_same m id h = get-insert ids_total m id h id ∙ ap (λ b. cond b (Some h) (finite.get m id)) (same_id id)
 
 -- the later of two values counts
-twice_at : (b : Bool) (h k : Held) (o : Option Held) → cond b (Some k) (cond b (Some h) o) ≡ cond b (Some k) o
+twice_at : (b : Bool) (h k : HeldCommit) (o : Option HeldCommit) → cond b (Some k) (cond b (Some h) o) ≡ cond b (Some k) o
 twice_at true h k o = refl
 twice_at false h k o = refl
 
 -- what is put twice is what was put last
-pub insert-insert : (m : Commits) (id : ObjectId) (h k : Held) → finite.insert (finite.insert m id h) id k ≡ finite.insert m id k
+pub insert-insert : (m : Commits) (id : ObjectId) (h k : HeldCommit) → finite.insert (finite.insert m id h) id k ≡ finite.insert m id k
 insert-insert m id h k = same_map ids_total ids_exact _ _ (λ q.
     get-insert ids_total (finite.insert m id h) id k q ∙ ap (cond (eq_by_cmp id_cmp q id) (Some k)) (get-insert ids_total m id h q)
     ∙ twice_at (eq_by_cmp id_cmp q id) h k (finite.get m q) ∙ sym (get-insert ids_total m id k q))
 
 -- the mark COMPLETE is there once it is set
-pub is_complete-completed : (h : Held) → is_complete (completed h) ≡ true
+pub is_complete-completed : (h : HeldCommit) → is_complete (completed h) ≡ true
 is_complete-completed h = ap (λ n. n == 1) (and_or_self 1 h.flags.0)
 
 -- the same, by what is held
-marked_at : (m : Commits) (id : ObjectId) (o : Option Held) (p : Option Commit) (t : ℤ) (f : Flags) → finite.get m id ≡ o → ◌≡◌ {A = Option (ℤ × Flags)} (Some (t, f)) (option_map shown (option_or o (option_map unmarked p))) → (bit_and f.0 1 == 1) ≡ true
+marked_at : (m : Commits) (id : ObjectId) (o : Option HeldCommit) (p : Option Commit) (t : ℤ) (f : Flags) → finite.get m id ≡ o → ◌≡◌ {A = Option (ℤ × Flags)} (Some (t, f)) (option_map shown (option_or o (option_map unmarked p))) → (bit_and f.0 1 == 1) ≡ true
     → put m id (option_or o (option_map unmarked p)) ≡ put m id (option_map completed (if_unmarked (option_or o (option_map unmarked p))))
 marked_at m id (Some h) p t f at is full =
     let both : ◌≡◌ {A = ℤ × Flags} (t, f) (shown h) = cc in
@@ -58,7 +58,7 @@ pub marked_before : (g : GraphData) (id : ObjectId) (t : ℤ) (f : Flags) → �
 marked_before g id t f is full = marked_at g.held id (finite.get g.held id) (commit_at g.objects id) t f refl is full
 
 -- the same, by what is found
-marks_at : (m : Commits) (id : ObjectId) (o : Option Held) (t : ℤ) (f : Flags) → ◌≡◌ {A = Option (ℤ × Flags)} (Some (t, f)) (option_map shown o) → (bit_and f.0 1 == 1) ≡ false
+marks_at : (m : Commits) (id : ObjectId) (o : Option HeldCommit) (t : ℤ) (f : Flags) → ◌≡◌ {A = Option (ℤ × Flags)} (Some (t, f)) (option_map shown o) → (bit_and f.0 1 == 1) ≡ false
     → flagged (put m id o) id (record { 0 = 1 }) ≡ put m id (option_map completed (if_unmarked o))
 marks_at m id None t f is empty = cc
 marks_at m id (Some h) t f is empty =
@@ -73,12 +73,12 @@ pub marked_now : (g : GraphData) (id : ObjectId) (t : ℤ) (f : Flags) → ◌�
 marked_now g id t f is empty = marks_at g.held id (found_in g id) t f is empty
 
 -- where no time is shown, nothing is found
-pub none_timed : (o : Option Held) → ◌≡◌ {A = Option ℤ} None (option_map (λ (h : Held). h.time) o) → o ≡ None
+pub none_timed : (o : Option HeldCommit) → ◌≡◌ {A = Option ℤ} None (option_map (λ (h : HeldCommit). h.time) o) → o ≡ None
 none_timed None e = refl
 none_timed (Some h) e = cc
 
 -- the time that is shown is that of what is found
-pub some_timed : (o : Option Held) (t : ℤ) → ◌≡◌ {A = Option ℤ} (Some t) (option_map (λ (h : Held). h.time) o) → (h : Held) × (o ≡ Some h) × (h.time ≡ t)
+pub some_timed : (o : Option HeldCommit) (t : ℤ) → ◌≡◌ {A = Option ℤ} (Some t) (option_map (λ (h : HeldCommit). h.time) o) → (h : HeldCommit) × (o ≡ Some h) × (h.time ≡ t)
 some_timed None t e = cc
 some_timed (Some h) t e = (h, refl, (let s : t ≡ h.time = cc in sym s))
 
@@ -88,5 +88,5 @@ true_or_false true = inl refl
 true_or_false false = inr refl
 
 -- what is put under an id is under no other
-pub get_insert_other : (m : Commits) (id : ObjectId) (h : Held) (q : ObjectId) → eq_by_cmp id_cmp q id ≡ false → finite.get (finite.insert m id h) q ≡ finite.get m q
+pub get_insert_other : (m : Commits) (id : ObjectId) (h : HeldCommit) (q : ObjectId) → eq_by_cmp id_cmp q id ≡ false → finite.get (finite.insert m id h) q ≡ finite.get m q
 get_insert_other m id h q e = get-insert ids_total m id h q ∙ ap (λ b. cond b (Some h) (finite.get m q)) e

@@ -6,7 +6,7 @@ use Rattle.std.proofs.lemmas.List.Elements.{Contains-get_or, All-weaker}
 use Rattle.std.specs.List.{flat_map}
 use Rattle.gixp_wire.specs.declared.object_id.ObjectId.{ObjectId}
 use Rattle.gixp_graph.specs.Object.{Objects}
-use Rattle.gixp_graph.specs.Held.{Commits, GraphData, parents_in, OnlyMarks}
+use Rattle.gixp_graph.specs.GraphData.{Commits, GraphData, parents_in, OnlyMarks}
 use Rattle.gixp_graph.specs.Complete.{IsDue}
 use Rattle.gixp_graph.specs.Table.{Table, ids_at}
 use Rattle.gixp_graph.specs.Queue.{Entry, entry_at}

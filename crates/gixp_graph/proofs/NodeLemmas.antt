@@ -11,16 +11,16 @@ use Rattle.std.specs.FinMap.{find, get-from_entries, same_map}
 use Rattle.gixp_wire.specs.declared.object_id.ObjectId.{ObjectId}
 use Rattle.gixp_graph.specs.declared.commits.Node.{Node}
 use Rattle.gixp_wire.specs.ObjectId.{id_cmp}
-use Rattle.gixp_graph.specs.Held.{Held, Commits, parents_in, flagged}
+use Rattle.gixp_graph.specs.GraphData.{HeldCommit, Commits, parents_in, flagged}
 use Rattle.gixp_graph.specs.Table.{id_at, ids_at, AllNamed}
 use Rattle.gixp_graph.specs.Node.{ids_of, number_at, range_of, parent_numbers_of, parents_of, held_of, entry_of, held_in, IsInRange, IsNumbered, IsTable}
 use Rattle.gixp_graph.specs.Visited.{IsOneToOne}
-use Rattle.gixp_graph.specs.Laws.{ids_exact, ids_total, same_from}
+use Rattle.gixp_graph.specs.GraphLaws.{ids_exact, ids_total, same_from}
 use Rattle.gixp_graph.proofs.HeldLemmas.{flagged_held}
 use Rattle.gixp_graph.proofs.MarkLemmas.{same_id, true_or_false, get_insert_other, get_insert_same}
 
 -- a node, where it was found
-abbrev pub shown_node : List ObjectId → List ℕ → Node → Option Held
+abbrev pub shown_node : List ObjectId → List ℕ → Node → Option HeldCommit
 shown_node ids parents x = cond x.is_found (Some (held_of ids parents x)) None
 
 module _ (ids : List ObjectId) (parents : List ℕ) where
@@ -106,9 +106,9 @@ module _ (nodes : List Node) (parents : List ℕ) (numbers : List (ObjectId × �
 
   -- its parents are those of its node
   pub parents_at_node : (n : ℕ) → n < length (ids_of nodes) → (x : Node) → x ≡ get_or nodes n x → ids_at (ids_of nodes) (parent_numbers_of parents x) ≡ parents_in (held_in nodes parents) (id_at (ids_of nodes) n)
-  parents_at_node n l x at = here x.is_found ∙ ap (λ o. unwrap_or (option_map (λ (h : Held). h.parents) o) []) (sym (held_at n l x at))
+  parents_at_node n l x at = here x.is_found ∙ ap (λ o. unwrap_or (option_map (λ (h : HeldCommit). h.parents) o) []) (sym (held_at n l x at))
     where
-      here : (b : Bool) → ids_at (ids_of nodes) (cond b (range_of parents x) []) ≡ unwrap_or (option_map (λ (h : Held). h.parents) (cond b (Some (held_of (ids_of nodes) parents x)) None)) []
+      here : (b : Bool) → ids_at (ids_of nodes) (cond b (range_of parents x) []) ≡ unwrap_or (option_map (λ (h : HeldCommit). h.parents) (cond b (Some (held_of (ids_of nodes) parents x)) None)) []
       here true = refl
       here false = refl
 

@@ -14,7 +14,7 @@ use Rattle.gixp_graph.specs.Object.{Commit}
 use Rattle.gixp_graph.specs.Complete.{IsComplete}
 use Rattle.gixp_graph.specs.Slow.{AreKnown, ParentsAreKnown, IsMissing, IsClosed}
 use Rattle.gixp_graph.specs.Walk.{count}
-use Rattle.gixp_graph.specs.Laws.{same_from}
+use Rattle.gixp_graph.specs.GraphLaws.{same_from}
 use Rattle.gixp_graph.proofs.MarkLemmas.{same_id, true_or_false}
 use Rattle.gixp_graph.proofs.LeftLemmas.{count_lt}
 

@@ -11,11 +11,11 @@ use Rattle.std.specs.FinMap as finite
 use Rattle.gixp_wire.specs.declared.object_id.ObjectId.{ObjectId}
 use Rattle.gixp_wire.specs.ObjectId.{id_cmp}
 use Rattle.gixp_graph.specs.Object.{Objects, Commit, commit_at}
-use Rattle.gixp_graph.specs.Held.{Held, Commits, GraphData, graph_of, found_in, commit_in, as_read, unmarked, put, is_complete, is_marked, completed, if_unmarked, new_in, marked_found, OnlyMarks}
+use Rattle.gixp_graph.specs.GraphData.{HeldCommit, Commits, GraphData, graph_of, found_in, commit_in, as_read, unmarked, put, is_complete, is_marked, completed, if_unmarked, new_in, marked_found, OnlyMarks}
 use Rattle.gixp_graph.specs.Complete.{IsComplete, IsDue}
 use Rattle.gixp_graph.specs.Waiting.{Waiting, Queues}
 use Rattle.gixp_graph.specs.Walk.{Walk, beside, waits, IsExpanded, IsMarking, IsQueued, IsWalk, Visits}
-use Rattle.gixp_graph.specs.Laws.{same_from}
+use Rattle.gixp_graph.specs.GraphLaws.{same_from}
 use Rattle.gixp_graph.proofs.VisitedLemmas.{or_true}
 use Rattle.gixp_graph.proofs.MarkLemmas.{same_id, get_insert_same, get_insert_other, true_or_false, is_complete-completed}
 
@@ -27,39 +27,39 @@ due_complete read ids cutoff id (IsDue.parent k r l t i) f = IsComplete.parent k
 -- ---- one commit that is new
 
 -- a commit that is new is the one that is found, without the mark
-new_at : (o : Option Held) (h : Held) → if_unmarked o ≡ Some h → (o ≡ Some h) × (is_complete h ≡ false)
+new_at : (o : Option HeldCommit) (h : HeldCommit) → if_unmarked o ≡ Some h → (o ≡ Some h) × (is_complete h ≡ false)
 new_at None h e = cc
 new_at (Some k) h e = at (is_complete k) refl e
   where
-    at : (b : Bool) → is_complete k ≡ b → cond b None (Some k) ≡ Some h → (◌≡◌ {A = Option Held} (Some k) (Some h)) × (is_complete h ≡ false)
+    at : (b : Bool) → is_complete k ≡ b → cond b None (Some k) ≡ Some h → (◌≡◌ {A = Option HeldCommit} (Some k) (Some h)) × (is_complete h ≡ false)
     at true p e = cc
     at false p e = (e, ap is_complete (sym (let s : k ≡ h = cc in s)) ∙ p)
 
 -- a commit that is new is found, and isn't marked
-pub found_from_new : (g : GraphData) (id : ObjectId) (h : Held) → new_in g id ≡ Some h → (found_in g id ≡ Some h) × (is_complete h ≡ false)
+pub found_from_new : (g : GraphData) (id : ObjectId) (h : HeldCommit) → new_in g id ≡ Some h → (found_in g id ≡ Some h) × (is_complete h ≡ false)
 found_from_new g id h e = new_at (found_in g id) h e
 
 -- what has no mark where it is found has none where it is held
-unmarked_at : (o : Option Held) (p : Option Held) (h : Held) → option_or o p ≡ Some h → is_complete h ≡ false → option_map_or is_complete o false ≡ false
+unmarked_at : (o : Option HeldCommit) (p : Option HeldCommit) (h : HeldCommit) → option_or o p ≡ Some h → is_complete h ≡ false → option_map_or is_complete o false ≡ false
 unmarked_at None p h e u = refl
 unmarked_at (Some k) p h e u = ap is_complete (let s : k ≡ h = cc in s) ∙ u
 
 -- one that is new isn't marked
-pub unmarked_from_new : (g : GraphData) (id : ObjectId) (h : Held) → new_in g id ≡ Some h → is_marked g.held id ≡ false
+pub unmarked_from_new : (g : GraphData) (id : ObjectId) (h : HeldCommit) → new_in g id ≡ Some h → is_marked g.held id ≡ false
 unmarked_from_new g id h e =
     let f = found_from_new g id h e in
     unmarked_at (finite.get g.held id) (option_map unmarked (commit_at g.objects id)) h f.0 f.1
 
 -- a commit that is left out has the mark
-full_at : (b : Bool) (h : Held) → cond b None (Some h) ≡ None → b ≡ true
+full_at : (b : Bool) (h : HeldCommit) → cond b None (Some h) ≡ None → b ≡ true
 full_at true h e = refl
 full_at false h e = cc
 
 -- a commit that is found and isn't new is marked
-old_at : (o : Option Held) (p : Option Commit) → if_unmarked (option_or o (option_map unmarked p)) ≡ None → IsSome (option_map as_read (option_or o (option_map unmarked p))) → option_map_or is_complete o false ≡ true
+old_at : (o : Option HeldCommit) (p : Option Commit) → if_unmarked (option_or o (option_map unmarked p)) ≡ None → IsSome (option_map as_read (option_or o (option_map unmarked p))) → option_map_or is_complete o false ≡ true
 old_at (Some h) p e s = full_at (is_complete h) h e
 old_at None None e s = cc
-old_at None (Some c) e s = absurd (let n : ◌≡◌ {A = Option Held} (Some (unmarked c)) None = e in cc)
+old_at None (Some c) e s = absurd (let n : ◌≡◌ {A = Option HeldCommit} (Some (unmarked c)) None = e in cc)
 
 -- ---- what only marks
 
@@ -69,7 +69,7 @@ module _ (g : GraphData) (held : Commits) (only : OnlyMarks g held) where
   reads_same q e = ap (λ o. option_or o (option_map unmarked (commit_at g.objects q))) e
 
   -- a commit that was written with the mark has it
-  pub marked_by : (q : ObjectId) (h : Held) → finite.get held q ≡ Some (completed h) → is_marked held q ≡ true
+  pub marked_by : (q : ObjectId) (h : HeldCommit) → finite.get held q ≡ Some (completed h) → is_marked held q ≡ true
   marked_by q h e = ap (λ o. option_map_or is_complete o false) e ∙ is_complete-completed h
 
   -- what isn't marked is as before
@@ -82,7 +82,7 @@ module _ (g : GraphData) (held : Commits) (only : OnlyMarks g held) where
       (λ n. ap (λ o. option_map as_read (option_or o (option_map unmarked (commit_at g.objects q)))) n.2 ∙ sym (ap (option_map as_read) (found_from_new g q n.0 n.1).0)) (only q)
 
   -- a commit that is new among those held was new before
-  pub new_before : (id : ObjectId) (h : Held) → new_in (graph_of g.objects held) id ≡ Some h → new_in g id ≡ Some h
+  pub new_before : (id : ObjectId) (h : HeldCommit) → new_in (graph_of g.objects held) id ≡ Some h → new_in g id ≡ Some h
   new_before id h e = ap if_unmarked (sym (reads_same id (same_unmarked id (unmarked_from_new (graph_of g.objects held) id h e)))) ∙ e
 
   -- where nothing is new, a commit that is found is marked
@@ -92,31 +92,31 @@ module _ (g : GraphData) (held : Commits) (only : OnlyMarks g held) where
 -- ---- a step: one commit is marked, where it is found
 
 -- a commit that is written is marked, and no mark is lost
-pub marked_here : (held : Commits) (id : ObjectId) (h : Held) → is_marked (finite.insert held id (completed h)) id ≡ true
+pub marked_here : (held : Commits) (id : ObjectId) (h : HeldCommit) → is_marked (finite.insert held id (completed h)) id ≡ true
 marked_here held id h = ap (λ o. option_map_or is_complete o false) (get_insert_same held id (completed h)) ∙ is_complete-completed h
 
 -- other commits keep their marks
-pub marked_apart : (held : Commits) (id : ObjectId) (h : Held) (q : ObjectId) → eq_by_cmp id_cmp q id ≡ false → is_marked (finite.insert held id (completed h)) q ≡ is_marked held q
+pub marked_apart : (held : Commits) (id : ObjectId) (h : HeldCommit) (q : ObjectId) → eq_by_cmp id_cmp q id ≡ false → is_marked (finite.insert held id (completed h)) q ≡ is_marked held q
 marked_apart held id h q e = ap (λ o. option_map_or is_complete o false) (get_insert_other held id (completed h) q e)
 
 -- no mark is lost
-pub marked_still : (held : Commits) (id : ObjectId) (h : Held) (q : ObjectId) → is_marked held q ≡ true → is_marked (finite.insert held id (completed h)) q ≡ true
+pub marked_still : (held : Commits) (id : ObjectId) (h : HeldCommit) (q : ObjectId) → is_marked held q ≡ true → is_marked (finite.insert held id (completed h)) q ≡ true
 marked_still held id h q m = ⊎_elim
     (λ e. subst (λ x. is_marked (finite.insert held id (completed h)) x ≡ true) (sym (same_from q id e)) (marked_here held id h))
     (λ e. marked_apart held id h q e ∙ m) (true_or_false (eq_by_cmp id_cmp q id))
 
 -- a new commit that is written with the mark is just a mark more
-pub only_marks_insert : (g : GraphData) (held : Commits) → OnlyMarks g held → (id : ObjectId) (h : Held) → new_in (graph_of g.objects held) id ≡ Some h → OnlyMarks g (finite.insert held id (completed h))
+pub only_marks_insert : (g : GraphData) (held : Commits) → OnlyMarks g held → (id : ObjectId) (h : HeldCommit) → new_in (graph_of g.objects held) id ≡ Some h → OnlyMarks g (finite.insert held id (completed h))
 only_marks_insert g held only id h new q = ⊎_elim
-    (λ e. subst (λ x. (finite.get (finite.insert held id (completed h)) x ≡ finite.get g.held x) ⊎ ((k : Held) × (new_in g x ≡ Some k) × (finite.get (finite.insert held id (completed h)) x ≡ Some (completed k)))) (sym (same_from q id e))
+    (λ e. subst (λ x. (finite.get (finite.insert held id (completed h)) x ≡ finite.get g.held x) ⊎ ((k : HeldCommit) × (new_in g x ≡ Some k) × (finite.get (finite.insert held id (completed h)) x ≡ Some (completed k)))) (sym (same_from q id e))
     (inr (h, new_before g held only id h new, get_insert_same held id (completed h))))
-    (λ e. subst (λ o. (o ≡ finite.get g.held q) ⊎ ((k : Held) × (new_in g q ≡ Some k) × (o ≡ Some (completed k)))) (sym (get_insert_other held id (completed h) q e)) (only q))
+    (λ e. subst (λ o. (o ≡ finite.get g.held q) ⊎ ((k : HeldCommit) × (new_in g q ≡ Some k) × (o ≡ Some (completed k)))) (sym (get_insert_other held id (completed h) q e)) (only q))
     (true_or_false (eq_by_cmp id_cmp q id))
 
 -- ---- a walk, with one commit more
 
 -- and is due
-pub marking_insert : (g : GraphData) (ids : List ObjectId) (cutoff : Option ℤ) (held : Commits) → IsMarking g ids cutoff held → (id : ObjectId) (h : Held) → new_in (graph_of g.objects held) id ≡ Some h → IsComplete (commit_in g) ids cutoff id
+pub marking_insert : (g : GraphData) (ids : List ObjectId) (cutoff : Option ℤ) (held : Commits) → IsMarking g ids cutoff held → (id : ObjectId) (h : HeldCommit) → new_in (graph_of g.objects held) id ≡ Some h → IsComplete (commit_in g) ids cutoff id
     → IsMarking g ids cutoff (finite.insert held id (completed h))
 marking_insert g ids cutoff held w id h new due = record {
   only_marks = only_marks_insert g held w.only_marks id h new;
@@ -126,7 +126,7 @@ marking_insert g ids cutoff held w id h new due = record {
 }
 
 -- an id that is new is found
-pub found_if_new : (g : GraphData) (held : Commits) → OnlyMarks g held → (id : ObjectId) (h : Held) → new_in (graph_of g.objects held) id ≡ Some h → commit_in g id ≡ Some (as_read h)
+pub found_if_new : (g : GraphData) (held : Commits) → OnlyMarks g held → (id : ObjectId) (h : HeldCommit) → new_in (graph_of g.objects held) id ≡ Some h → commit_in g id ≡ Some (as_read h)
 found_if_new g held only id h new = ap (option_map as_read) (found_from_new g id h (new_before g held only id h new)).0
 
 -- who waits behind a push
@@ -137,7 +137,7 @@ waits_pushed x old new p q = sym (list_any-IsPermutation (λ (y : Waiting). eq_b
 
 module _ (held : Commits) (objects : Objects) (id : ObjectId) (held' : Commits) where
   -- the same, by what is new
-  keeps_at : (o : Option Held) → held' ≡ put held id (option_map completed o) → (q : ObjectId) → is_marked held q ≡ true → is_marked held' q ≡ true
+  keeps_at : (o : Option HeldCommit) → held' ≡ put held id (option_map completed o) → (q : ObjectId) → is_marked held q ≡ true → is_marked held' q ≡ true
   keeps_at None m q t = subst (λ m. is_marked m q ≡ true) (sym m) t
   keeps_at (Some h) m q t = subst (λ m. is_marked m q ≡ true) (sym m) (marked_still held id h q t)
 
@@ -147,11 +147,11 @@ module _ (held : Commits) (objects : Objects) (id : ObjectId) (held' : Commits) 
 
 module _ (g : GraphData) (held : Commits) (objects : Objects) (same : objects ≡ g.objects) (id : ObjectId) (held' : Commits) where
   -- what is new is new for the objects as they were
-  new_same : (o : Option Held) → new_in (graph_of objects held) id ≡ o → new_in (graph_of g.objects held) id ≡ o
+  new_same : (o : Option HeldCommit) → new_in (graph_of objects held) id ≡ o → new_in (graph_of g.objects held) id ≡ o
   new_same o e = ap (λ m. new_in (graph_of m held) id) (sym same) ∙ e
 
   -- the same, by what is new
-  only_at : OnlyMarks g held → (o : Option Held) → new_in (graph_of objects held) id ≡ o → held' ≡ put held id (option_map completed o) → OnlyMarks g held'
+  only_at : OnlyMarks g held → (o : Option HeldCommit) → new_in (graph_of objects held) id ≡ o → held' ≡ put held id (option_map completed o) → OnlyMarks g held'
   only_at only None e m = subst (OnlyMarks g) (sym m) only
   only_at only (Some h) e m = subst (OnlyMarks g) (sym m) (only_marks_insert g held only id h (new_same (Some h) e))
 
@@ -160,7 +160,7 @@ module _ (g : GraphData) (held : Commits) (objects : Objects) (same : objects �
   step_only only m = only_at only (new_in (graph_of objects held) id) refl m
 
   -- the same, by what is new
-  marks_at : OnlyMarks g held → (o : Option Held) → new_in (graph_of objects held) id ≡ o → held' ≡ put held id (option_map completed o) → IsSome (commit_in g id) → is_marked held' id ≡ true
+  marks_at : OnlyMarks g held → (o : Option HeldCommit) → new_in (graph_of objects held) id ≡ o → held' ≡ put held id (option_map completed o) → IsSome (commit_in g id) → is_marked held' id ≡ true
   marks_at only None e m s = subst (λ m. is_marked m id ≡ true) (sym m) (marked_if_old g held only id (new_same None e) s)
   marks_at only (Some h) e m s = subst (λ m. is_marked m id ≡ true) (sym m) (marked_here held id h)
 
@@ -170,11 +170,11 @@ module _ (g : GraphData) (held : Commits) (objects : Objects) (same : objects �
 
 module _ (g : GraphData) (ids : List ObjectId) (cutoff : Option ℤ) (held : Commits) (objects : Objects) (same : objects ≡ g.objects) (id : ObjectId) (held' : Commits) where
   -- what is new and found is due
-  due_new : OnlyMarks g held → (IsSome (commit_in g id) → IsComplete (commit_in g) ids cutoff id) → (h : Held) → new_in (graph_of objects held) id ≡ Some h → IsComplete (commit_in g) ids cutoff id
+  due_new : OnlyMarks g held → (IsSome (commit_in g id) → IsComplete (commit_in g) ids cutoff id) → (h : HeldCommit) → new_in (graph_of objects held) id ≡ Some h → IsComplete (commit_in g) ids cutoff id
   due_new only due h e = due (ap is_some (found_if_new g held only id h (new_same g held objects same id held' (Some h) e)))
 
   -- the same where the step was made, by what is new
-  marking_at : IsMarking g ids cutoff held → (IsSome (commit_in g id) → IsComplete (commit_in g) ids cutoff id) → (o : Option Held) → new_in (graph_of objects held) id ≡ o → held' ≡ put held id (option_map completed o) → IsMarking g ids cutoff held'
+  marking_at : IsMarking g ids cutoff held → (IsSome (commit_in g id) → IsComplete (commit_in g) ids cutoff id) → (o : Option HeldCommit) → new_in (graph_of objects held) id ≡ o → held' ≡ put held id (option_map completed o) → IsMarking g ids cutoff held'
   marking_at w due None e m = subst (IsMarking g ids cutoff) (sym m) w
   marking_at w due (Some h) e m = subst (IsMarking g ids cutoff) (sym m)
       (marking_insert g ids cutoff held w id h (new_same g held objects same id held' (Some h) e) (due_new w.only_marks due h e))
@@ -184,7 +184,7 @@ module _ (g : GraphData) (ids : List ObjectId) (cutoff : Option ℤ) (held : Com
   marking_step w due c = ⊎_elim (λ e. subst (IsMarking g ids cutoff) (sym e) w) (λ e. marking_at w due (new_in (graph_of objects held) id) refl e) c
 
 -- others that wait change nothing
-pub queues_more : (o : Option Held) (id : ObjectId) (others old new : List Waiting) → Queues o id old new → Queues o id (others ++ old) (others ++ new)
+pub queues_more : (o : Option HeldCommit) (id : ObjectId) (others old new : List Waiting) → Queues o id old new → Queues o id (others ++ old) (others ++ new)
 queues_more None id others old new q = ap (λ l. others ++ l) q
 queues_more (Some h) id others old new q = IsPermutation-trans _ _ _ (IsPermutation-sym _ _ (IsPermutation-middle others (record { time = h.time; id = id }) old)) (IsPermutation-append_right others _ _ q)
 
@@ -212,7 +212,7 @@ module _ (g : GraphData) (objects : Objects) (same : objects ≡ g.objects) (id 
   visit_only (Visits.first v h q w) only = step_only g old.held objects same id new.held only h
 
   -- what is found is what the graph reads
-  pub visit_reads : OnlyMarks g old.held → (o : Option Held) → found_in (graph_of objects old.held) id ≡ o → commit_in g id ≡ option_map as_read o
+  pub visit_reads : OnlyMarks g old.held → (o : Option HeldCommit) → found_in (graph_of objects old.held) id ≡ o → commit_in g id ≡ option_map as_read o
   visit_reads only o e = sym (reads g old.held only id) ∙ ap (λ m. commit_in (graph_of m old.held) id) (sym same) ∙ ap (option_map as_read) e
 
   module _ (ids : List ObjectId) (cutoff : Option ℤ) (due : IsDue (commit_in g) ids cutoff id) (walk : IsWalk g ids cutoff old) where
@@ -251,7 +251,7 @@ module _ (g : GraphData) (objects : Objects) (same : objects ≡ g.objects) (id 
       first_closed x e s = ⊎_elim (λ a. inl a) (λ a. inr (λ c least p r l b i. adds p ∙ or_true (eq_by_cmp id_cmp p id) (old.visited p) (a c least p r l b i))) (walk.closed x e s)
 
       -- the walk goes on, by what is found
-      walk_first : (o : Option Held) → found_in (graph_of objects old.held) id ≡ o → Queues o id old.waiting new.waiting → IsWalk g ids cutoff new
+      walk_first : (o : Option HeldCommit) → found_in (graph_of objects old.held) id ≡ o → Queues o id old.waiting new.waiting → IsWalk g ids cutoff new
       walk_first None e w = record {
         marking = first_marking;
         queued = subst (All (IsQueued g ids cutoff new.held)) (sym w) (All-weaker (IsQueued g ids cutoff old.held) (IsQueued g ids cutoff new.held) first_queued old.waiting walk.queued);

@@ -7,7 +7,7 @@ use Rattle.gixp_wire.specs.declared.object_id.ObjectId.{ObjectId}
 use Rattle.gixp_wire.specs.ObjectId.{id_cmp}
 use Rattle.gixp_graph.specs.Table.{id_at, KeepsNumbers}
 use Rattle.gixp_graph.specs.Visited.{has, is_visited, AllVisitedNamed, IsOneToOne}
-use Rattle.gixp_graph.specs.Laws.{same_from}
+use Rattle.gixp_graph.specs.GraphLaws.{same_from}
 use Rattle.gixp_graph.proofs.MarkLemmas.{same_id, true_or_false}
 
 -- a disjunction holds by its second part

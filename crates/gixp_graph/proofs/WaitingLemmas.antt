@@ -7,7 +7,7 @@ use Rattle.std.proofs.lemmas.List.{map-append}
 use Rattle.std.proofs.lemmas.List.Sorted.{All-permutation, IsPermutation-map, IsPermutation-append_comm}
 use Rattle.std.proofs.lemmas.List.Elements.{All-nil, All-append, All-cons, All-head, All-tail, All-weaker, All-map}
 use Rattle.gixp_wire.specs.declared.object_id.ObjectId.{ObjectId}
-use Rattle.gixp_graph.specs.Held.{Held}
+use Rattle.gixp_graph.specs.GraphData.{HeldCommit}
 use Rattle.gixp_graph.specs.Table.{id_at, AllNamed, KeepsNumbers}
 use Rattle.gixp_graph.specs.Queue.{Entry, entry_at}
 use Rattle.gixp_graph.specs.Waiting.{Waiting, waiting_of, waiting_in, AllQueuedNamed, Queues}
@@ -26,11 +26,11 @@ module _ (ids ids' : List ObjectId) (kept : KeepsNumbers ids ids') where
   named_kept queue h = All-weaker (λ (x : Entry). x.number < length ids) (λ (x : Entry). x.number < length ids') (λ x l. (kept x.number l).0) queue h
 
   -- where nothing is pushed
-  pub queues_none : (o : Option Held) (n : ℕ) (queue : List Entry) → o ≡ None → AllQueuedNamed ids queue → Queues o (id_at ids n) (waiting_in ids queue) (waiting_in ids' queue)
+  pub queues_none : (o : Option HeldCommit) (n : ℕ) (queue : List Entry) → o ≡ None → AllQueuedNamed ids queue → Queues o (id_at ids n) (waiting_in ids queue) (waiting_in ids' queue)
   queues_none o n queue e h = subst (λ x. Queues x (id_at ids n) (waiting_in ids queue) (waiting_in ids' queue)) (sym e) (waiting_kept queue h)
 
   -- where one number is
-  pub queues_one : (o : Option Held) (k : Held) (t : ℤ) (n : ℕ) (queue queue' : List Entry) → o ≡ Some k → k.time ≡ t → n < length ids → AllQueuedNamed ids queue → IsPermutation (entry_at t n ∷ queue) queue' → Queues o (id_at ids n) (waiting_in ids queue) (waiting_in ids' queue')
+  pub queues_one : (o : Option HeldCommit) (k : HeldCommit) (t : ℤ) (n : ℕ) (queue queue' : List Entry) → o ≡ Some k → k.time ≡ t → n < length ids → AllQueuedNamed ids queue → IsPermutation (entry_at t n ∷ queue) queue' → Queues o (id_at ids n) (waiting_in ids queue) (waiting_in ids' queue')
   queues_one o k t n queue queue' e same l h p = subst (λ x. Queues x (id_at ids n) (waiting_in ids queue) (waiting_in ids' queue')) (sym e)
       (subst (λ z. IsPermutation (record { time = z; id = id_at ids n } ∷ waiting_in ids queue) (waiting_in ids' queue')) (sym same)
       (subst (λ ws. IsPermutation ws (waiting_in ids' queue')) (waiting_kept (entry_at t n ∷ queue) (All-cons (λ (x : Entry). x.number < length ids) (entry_at t n) queue l h))

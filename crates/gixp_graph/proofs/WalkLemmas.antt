@@ -14,13 +14,13 @@ use Rattle.std.specs.FinMap as finite
 use Rattle.gixp_wire.specs.declared.object_id.ObjectId.{ObjectId}
 use Rattle.gixp_wire.specs.ObjectId.{id_cmp}
 use Rattle.gixp_graph.specs.Object.{Commit, commit_at}
-use Rattle.gixp_graph.specs.Held.{Held, Commits, GraphData, commit_in, as_read, unmarked, parents_in, is_complete, is_marked, OnlyMarks}
+use Rattle.gixp_graph.specs.GraphData.{HeldCommit, Commits, GraphData, commit_in, as_read, unmarked, parents_in, is_complete, is_marked, OnlyMarks}
 use Rattle.gixp_graph.specs.Complete.{IsComplete, IsDue}
 use Rattle.gixp_graph.specs.Table.{id_at, ids_at}
 use Rattle.gixp_graph.specs.Queue.{entry_at}
 use Rattle.gixp_graph.specs.Waiting.{Waiting, waiting_in}
 use Rattle.gixp_graph.specs.Walk.{Walk, waits, IsExpanded, IsMarking, IsQueued, IsWalk, AreDue, AllVisited}
-use Rattle.gixp_graph.specs.Laws.{same_from}
+use Rattle.gixp_graph.specs.GraphLaws.{same_from}
 use Rattle.gixp_graph.proofs.StepLemmas.{reads}
 
 -- what a walk begins with
@@ -97,8 +97,8 @@ record IsOpened (g : GraphData) (x : Waiting) (parents : List ObjectId) : Type 0
   pub parents_are : commit.parents ≡ parents
 
 -- the same, by what is held
-opened_at : (g : GraphData) (x : Waiting) (o : Option Held) → option_map_or is_complete o false ≡ true → option_map as_read (option_or o (option_map unmarked (commit_at g.objects x.id))) ≡ commit_in g x.id
-    → option_map (λ (c : Commit). c.time) (commit_in g x.id) ≡ Some x.time → IsOpened g x (unwrap_or (option_map (λ (h : Held). h.parents) o) [])
+opened_at : (g : GraphData) (x : Waiting) (o : Option HeldCommit) → option_map_or is_complete o false ≡ true → option_map as_read (option_or o (option_map unmarked (commit_at g.objects x.id))) ≡ commit_in g x.id
+    → option_map (λ (c : Commit). c.time) (commit_in g x.id) ≡ Some x.time → IsOpened g x (unwrap_or (option_map (λ (h : HeldCommit). h.parents) o) [])
 opened_at g x None m r t = cc
 opened_at g x (Some h) m r t = record {
   commit = as_read h;
@@ -108,7 +108,7 @@ opened_at g x (Some h) m r t = record {
 }
 
 -- the commit of one that waits
-opened : (g : GraphData) (ids : List ObjectId) (cutoff : Option ℤ) (held : Commits) → OnlyMarks g held → (x : Waiting) → IsQueued g ids cutoff held x → (parents : List ObjectId) → parents ≡ unwrap_or (option_map (λ (h : Held). h.parents) (finite.get held x.id)) [] → IsOpened g x parents
+opened : (g : GraphData) (ids : List ObjectId) (cutoff : Option ℤ) (held : Commits) → OnlyMarks g held → (x : Waiting) → IsQueued g ids cutoff held x → (parents : List ObjectId) → parents ≡ unwrap_or (option_map (λ (h : HeldCommit). h.parents) (finite.get held x.id)) [] → IsOpened g x parents
 opened g ids cutoff held only x k parents e = subst (IsOpened g x) (sym e) (opened_at g x (finite.get held x.id) k.marked (reads g held only x.id) k.timed)
 
 -- its parents are looked for

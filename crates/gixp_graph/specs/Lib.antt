@@ -1,7 +1,7 @@
 pub mod Asked
 pub mod Complete
-pub mod Held
-pub mod Laws
+pub mod GraphData
+pub mod GraphLaws
 pub mod Listed
 pub mod Negotiation
 pub mod Node

@@ -7,7 +7,7 @@ use Rattle.std.specs.FinMap as finite
 use Rattle.gixp_wire.specs.declared.object_id.ObjectId.{ObjectId}
 use Rattle.gixp_graph.specs.declared.commits.Node.{Node}
 use Rattle.gixp_wire.specs.ObjectId.{id_cmp}
-use Rattle.gixp_graph.specs.Held.{Held, Commits}
+use Rattle.gixp_graph.specs.GraphData.{HeldCommit, Commits}
 use Rattle.gixp_graph.specs.Table.{id_at, ids_at, AllNamed}
 
 -- the ids of the nodes, by number
@@ -35,11 +35,11 @@ abbrev pub parents_of : List ObjectId → List ℕ → Node → List ObjectId
 parents_of ids parents x = ids_at ids (range_of parents x)
 
 -- a node in a contract
-abbrev pub held_of : List ObjectId → List ℕ → Node → Held
+abbrev pub held_of : List ObjectId → List ℕ → Node → HeldCommit
 held_of ids parents x = record { time = x.time; parents = parents_of ids parents x; flags = x.flags }
 
 -- where it was found
-abbrev pub entry_of : List ObjectId → List ℕ → Node → Option (ObjectId × Held)
+abbrev pub entry_of : List ObjectId → List ℕ → Node → Option (ObjectId × HeldCommit)
 entry_of ids parents x = if x.is_found then Some (x.id, held_of ids parents x) else None
 
 -- the commits held

@@ -4,7 +4,7 @@ use Rattle.std.specs.FinMap as finite
 use Rattle.std.specs.Coded.{Coded, code_by, coded×, coded_list}
 use Rattle.gixp_wire.specs.declared.object_id.ObjectId.{ObjectId}
 use Rattle.gixp_wire.specs.ObjectId.{coded_id}
-use Rattle.gixp_graph.specs.Held.{Commits, coded_held}
+use Rattle.gixp_graph.specs.GraphData.{Commits, coded_held}
 
 -- a table of commits: those held, and the ids that have numbers, by number
 pub record Table : Type 0 where

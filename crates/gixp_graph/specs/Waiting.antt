@@ -2,7 +2,7 @@
 use Rattle.std.specs.Prelude.{◌≡◌, ℤ, ◌<◌, List, ◌∷◌, map, length, All, Option, Some, None}
 use Rattle.std.specs.List.Sorted.{IsPermutation}
 use Rattle.gixp_wire.specs.declared.object_id.ObjectId.{ObjectId}
-use Rattle.gixp_graph.specs.Held.{Held}
+use Rattle.gixp_graph.specs.GraphData.{HeldCommit}
 use Rattle.gixp_graph.specs.Table.{id_at}
 use Rattle.gixp_graph.specs.Queue.{Entry}
 
@@ -24,6 +24,6 @@ abbrev pub AllQueuedNamed : List ObjectId → List Entry → Type 0
 AllQueuedNamed ids queue = All (λ (e : Entry). e.number < length ids) queue
 
 -- the commits that wait gain one that is new, and where there is none stay
-abbrev pub Queues : Option Held → ObjectId → List Waiting → List Waiting → Type 0
+abbrev pub Queues : Option HeldCommit → ObjectId → List Waiting → List Waiting → Type 0
 Queues None id old new = new ≡ old
 Queues (Some h) id old new = IsPermutation (record { time = h.time; id = id } ∷ old) new

@@ -7,7 +7,7 @@ use Rattle.gixp_wire.specs.declared.object_id.ObjectId.{ObjectId}
 use Rattle.gixp_wire.specs.ObjectId.{id_cmp}
 use Rattle.gixp_graph.specs.Object.{Objects, Commit}
 use Rattle.gixp_graph.specs.Asked.{AsksEach}
-use Rattle.gixp_graph.specs.Held.{Commits, GraphData, graph_of, found_in, commit_in, is_marked, marked_found, OnlyMarks}
+use Rattle.gixp_graph.specs.GraphData.{Commits, GraphData, graph_of, found_in, commit_in, is_marked, marked_found, OnlyMarks}
 use Rattle.gixp_graph.specs.Complete.{IsComplete, IsDue}
 use Rattle.gixp_graph.specs.Table.{Table}
 use Rattle.gixp_graph.specs.Queue.{Entry}

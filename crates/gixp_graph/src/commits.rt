@@ -5,7 +5,7 @@ ghost use Rattle.std.specs.FinMap as finite;
 ghost use Rattle.gixp_graph.specs.declared.objects.ObjectError.TheVariants.{Memory};
 ghost use Rattle.gixp_graph.specs.Object.{HasRisen};
 ghost use Rattle.gixp_graph.specs.Asked.{AsksWhere};
-ghost use Rattle.gixp_graph.specs.Held.{shown, graph_of, found_in, looked_up, flagged, parents_in};
+ghost use Rattle.gixp_graph.specs.GraphData.{shown, graph_of, found_in, looked_up, flagged, parents_in};
 ghost use Rattle.gixp_graph.specs.Table.{id_at, ids_at, AllNamed, KeepsNumbers};
 ghost use Rattle.gixp_graph.specs.Visited.{IsOneToOne};
 ghost use Rattle.gixp_graph.specs.Node.{IsNumbered, ids_of, number_at, parent_numbers_of, IsInRange, blank};

@@ -4,7 +4,7 @@ ghost use Rattle.std.specs.FinMap as finite;
 ghost use Rattle.gixp_wire.specs.declared.object_id.ObjectId.{ObjectId};
 ghost use Rattle.gixp_graph.specs.declared.objects.ObjectError.TheVariants.{Memory};
 ghost use Rattle.gixp_graph.specs.Object.{HasRisen, commit_at, time_at};
-ghost use Rattle.gixp_graph.specs.Held.{graph_of, shown, shown_time, parents_in, found_in, looked_up, flagged, is_marked, OnlyMarks, IsFaithful};
+ghost use Rattle.gixp_graph.specs.GraphData.{graph_of, shown, shown_time, parents_in, found_in, looked_up, flagged, is_marked, OnlyMarks, IsFaithful};
 ghost use Rattle.gixp_graph.specs.Asked.{AsksWhere, AsksEach};
 ghost use Rattle.gixp_graph.specs.Complete.{IsComplete, IsDue};
 
@@ -27,7 +27,7 @@ pub struct Graph<O: Objects> {
 }
 
 impl<O: Objects> Model for Graph<O> {
-    ghost use Rattle.gixp_graph.specs.Held.{GraphValue, coded_graph, graph_of, IsFaithful};
+    ghost use Rattle.gixp_graph.specs.GraphData.{GraphValue, coded_graph, graph_of, IsFaithful};
 
     ghost Value = { GraphValue };
 

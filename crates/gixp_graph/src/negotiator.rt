@@ -1,7 +1,7 @@
 //! What a negotiation asks of the one who chooses the haves.
 ghost use Rattle.std.specs.Prelude.{◌≡◌, ℕ, ◌≤◌, ◌<◌, Option, Some, None, IfOk, IfErr, OnOk, OnErr, IfSome, IfNone};
 ghost use Rattle.gixp_wire.specs.declared.object_id.ObjectId.{ObjectId};
-ghost use Rattle.gixp_graph.specs.Held.{GraphData};
+ghost use Rattle.gixp_graph.specs.GraphData.{GraphData};
 ghost use Rattle.gixp_graph.specs.Negotiation.{IsRefusal};
 
 use crate::graph::Graph;

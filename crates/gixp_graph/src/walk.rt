@@ -3,7 +3,7 @@ ghost use Rattle.std.specs.Prelude.{◌≡◌, ◌≤◌, ◌<◌, ◌⊎◌, �
 ghost use Rattle.gixp_wire.specs.declared.object_id.ObjectId.{ObjectId};
 ghost use Rattle.gixp_graph.specs.declared.objects.ObjectError.TheVariants.{Memory};
 ghost use Rattle.gixp_graph.specs.Object.{HasRisen};
-ghost use Rattle.gixp_graph.specs.Held.{Held, graph_of, found_in, marked_found, commit_in, is_marked, OnlyMarks};
+ghost use Rattle.gixp_graph.specs.GraphData.{HeldCommit, graph_of, found_in, marked_found, commit_in, is_marked, OnlyMarks};
 ghost use Rattle.gixp_graph.specs.Complete.{IsComplete};
 ghost use Rattle.gixp_graph.specs.Table.{id_at, ids_at, AllNamed, KeepsNumbers};
 ghost use Rattle.gixp_graph.specs.Visited.{AllVisitedNamed, IsOneToOne};
@@ -29,7 +29,7 @@ fn mark_found<O: Objects>(
     number: usize,
 ) -> Result<Option<i64>, ObjectError>
     requires { number < length commits.old.ids }
-    ensures time { IfOk result (λ time. time ≡ option_map (λ (h : Held). h.time) (found_in (graph_of (O.contents objects.old) commits.old.held) (id_at commits.old.ids number))) }
+    ensures time { IfOk result (λ time. time ≡ option_map (λ (h : HeldCommit). h.time) (found_in (graph_of (O.contents objects.old) commits.old.held) (id_at commits.old.ids number))) }
     ensures ok { OnOk result (commits.new.held ≡ marked_found (graph_of (O.contents objects.old) commits.old.held) (id_at commits.old.ids number)) }
     ensures err { OnErr result (commits.new.held ≡ commits.old.held) }
     ensures once { IsOneToOne commits.old.ids }

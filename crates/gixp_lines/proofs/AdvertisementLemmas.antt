@@ -14,7 +14,7 @@ use Rattle.gixp_lines.specs.RefLine.{RefsRefusal, refusal_from, and_then}
 use Rattle.gixp_lines.specs.ParseError.{Answers, parse_refusal}
 use Rattle.gixp_lines.specs.Refs.{with_ref}
 use Rattle.gixp_lines.specs.Runs.{SoFar}
-use Rattle.gixp_lines.specs.Advertisement.{Symref, V1Line, nothing, peels, names, shallows, v1_line, Named, pair, closed, in_front, group_with, groups, v1_refs, with_update, v1_updates}
+use Rattle.gixp_lines.specs.RefAdvertisement.{Symref, V1Line, nothing, peels, names, shallows, v1_line, Named, pair, closed, in_front, group_with, groups, v1_refs, with_update, v1_updates}
 use Rattle.gixp_lines.specs.V1Line.{SoFarValue, nothing_so_far, with_pair, with_line, with_text}
 use Rattle.gixp_lines.specs.V1Refs.{ReadsV1, V1Fails}
 use Rattle.gixp_lines.proofs.RunLemmas.{so_far-start, so_far-line, so_far-at_stop, so_far-refuses}

@@ -12,7 +12,8 @@ use Rattle.gixp_lines.specs.declared.fetch.response.error.Error.{Error}
 use Rattle.gixp_lines.specs.declared.fetch.response.error.Error.TheVariants.{Memory}
 use Rattle.gixp_lines.specs.ResponseError.{AnswerRefusal, answer_refusal, from_reader, IsRefusal}
 use Rattle.gixp_lines.specs.Answer.{AnswerValue, Found, whole, refused, front, is_of_line}
-use Rattle.gixp_lines.specs.Reads.{stop_of, last_stop, stop_behind, Going, IsRunning, EndsAt, ReadsAnswer, AnswerFails}
+use Rattle.gixp_lines.specs.AnswerReading.{stop_of, last_stop, stop_behind, Going, IsRunning, EndsAt, ReadsAnswer, AnswerFails}
+use Rattle.gixp_lines.proofs.RunLemmas.{Known, known_steps}
 
 -- a mark is no line
 mark_gives : (b : Bool) (kind : MessageKind) (p q : Pieces) (e : Refusal) (text : List ℕ) → cond b (stops kind p) (refuses e) ≡ gives text q → ⊥
@@ -45,19 +46,6 @@ pub stop_is : (v : Protocol) (list : List Piece) (end : Refusal) (kind : Message
 stop_is v [] end kind q h = cc
 stop_is v (line t ∷ ps) end kind q h = cc
 stop_is v (mark k ∷ ps) end kind q h = let all = mark_stops (is_stop v k) k kind ps end q unexpected_frame h in (all.0, all.1)
-
--- what is known of known pieces and those behind them
-abbrev Known : Option Pieces → Option Pieces → (Pieces → Pieces → Type 0) → Type 0
-Known old new P = IfSome old (λ p. (q : Pieces) × (new ≡ Some q) × P p q)
-
--- two known steps are one
-known_steps : (a b c : Option Pieces) (P Q R : Pieces → Pieces → Type 0) → ((p q r : Pieces) → P p q → Q q r → R p r)
-    → Known a b P → Known b c Q → Known a c R
-known_steps None b c P Q R f h k = tt
-known_steps (Some p) None c P Q R f h k = absurd (let e = h.1 in cc)
-known_steps (Some p) (Some q) c P Q R f h k =
-    let e : q ≡ h.0 = let e = h.1 in cc in
-    (k.0, k.1, f p q k.0 (rw e h.2) k.2)
 
 -- one more piece behind those that were taken
 snoc_is : (taken : List Piece) (x : Piece) (q : Pieces) → front (taken ++ x ∷ []) q ≡ front taken (with_piece x q)

@@ -19,28 +19,28 @@ use Rattle.gixp_lines.specs.declared.fetch.response.beginnings.Said.{Said}
 use Rattle.gixp_lines.specs.declared.fetch.response.beginnings.Said.TheVariants.{Acknowledgement as SaidAcknowledgement, ShallowUpdate as SaidUpdate}
 use Rattle.gixp_lines.specs.ResponseError.{from_reader, by_reader, answer_refusal}
 use Rattle.gixp_lines.specs.Answer.{AnswerValue, no_more, Found, whole, refused, front}
-use Rattle.gixp_lines.specs.Beginnings.{Item, acknowledged, updated, other, stopped, line_item, item_said, is_ready, is_nak, is_stopped, is_other, is_at_end, last_is, last_two_are, Asked, ends_by_nak, ends_before, ends, said_in, said_with, unless_ends, beginnings_from, v1_answer}
-use Rattle.gixp_lines.specs.Reads.{stop_behind, last_stop, Going, IsRunning, EndsBare, ReadsAnswer, Answered, AnswerFails}
+use Rattle.gixp_lines.specs.Beginnings.{AnswerItem, acknowledged, updated, other, stopped, line_item, item_said, is_ready, is_nak, is_stopped, is_other, is_at_end, last_is, last_two_are, Expected, ends_by_nak, ends_before, ends, said_in, said_with, unless_ends, beginnings_from, v1_answer}
+use Rattle.gixp_lines.specs.AnswerReading.{stop_behind, last_stop, Going, IsRunning, EndsBare, ReadsAnswer, Answered, AnswerFails}
 use Rattle.gixp_lines.proofs.AnswerRunLemmas.{line_is, going-start, going-turn, going-line, going-stop, going-reset, going-whole, going-memory, going-fails, stop_taken, stands_last, last_line, last_mark}
 
 -- what is left behind a beginning
-abbrev pub longer_of : Protocol → Asked → List Item → Pieces → Found
+abbrev pub longer_of : Protocol → Expected → List AnswerItem → Pieces → Found
 longer_of v a before q = beginnings_from v a q.list q.end before
 
 -- whether the last of some pieces is a stop, as the last of their items is
-abbrev pub SameLast : List Piece → List Item → Type 0
+abbrev pub SameLast : List Piece → List AnswerItem → Type 0
 SameLast taken before = last_is is_stopped before ≡ false → last_stop taken ≡ None
 
 -- a beginning was read
-pub record Read (v : Protocol) (a : Asked) (before : List Item) (old now : Reading) : Type 0 where
+pub record Read (v : Protocol) (a : Expected) (before : List AnswerItem) (old now : Reading) : Type 0 where
   pub taken : List Piece
   pub going : Going (v1_answer v a) (longer_of v a before) taken old now
   pub running : IsRunning v now
   pub last : SameLast taken before
 
 -- a beginning was read that ends no answer, with what is known of it
-pub record Amid (v : Protocol) (a : Asked) (answer : AnswerValue) (came_ready behind_stop : Bool) (old now : Reading) : Type 0 where
-  pub before : List Item
+pub record Amid (v : Protocol) (a : Expected) (answer : AnswerValue) (came_ready behind_stop : Bool) (old now : Reading) : Type 0 where
+  pub before : List AnswerItem
   pub read : Read v a before old now
   pub answer_is : answer ≡ said_in before false
   pub ready_is : came_ready ≡ list_any is_ready before
@@ -49,7 +49,7 @@ pub record Amid (v : Protocol) (a : Asked) (answer : AnswerValue) (came_ready be
   pub no_stops : last_two_are is_stopped before ≡ false
 
 -- at first nothing was read
-pub amid-start : (v : Protocol) (a : Asked) (old now : Reading) → now ≡ reset_to v old → Amid v a (no_more false) false false old now
+pub amid-start : (v : Protocol) (a : Expected) (old now : Reading) → now ≡ reset_to v old → Amid v a (no_more false) false false old now
 amid-start v a old now e =
     let all = going-start (v1_answer v a) v old now e in
     record {
@@ -63,7 +63,7 @@ amid-start v a old now e =
     }
 
 -- where nothing else ends it, only what comes next may
-goes_on : (a : Asked) (before : List Item) (next : Next) → ends_by_nak a before ≡ false → last_two_are is_stopped before ≡ false → ends a before next ≡ ends_before before next
+goes_on : (a : Expected) (before : List AnswerItem) (next : Next) → ends_by_nak a before ≡ false → last_two_are is_stopped before ≡ false → ends a before next ≡ ends_before before next
 goes_on a before next n s = rw (n, s) refl
 
 either_whole : (b : Bool) (f g h : Found) → f ≡ h → g ≡ h → cond b f g ≡ h
@@ -71,7 +71,7 @@ either_whole true f g h p q = p
 either_whole false f g h p q = q
 
 -- a beginning that ends an answer, whatever comes next
-ended_is : (v : Protocol) (a : Asked) (list : List Piece) (end : Refusal) (before : List Item) (pack : Bool) → ((next : Next) → ends a before next ≡ Some pack)
+ended_is : (v : Protocol) (a : Expected) (list : List Piece) (end : Refusal) (before : List AnswerItem) (pack : Bool) → ((next : Next) → ends a before next ≡ Some pack)
     → beginnings_from v a list end before ≡ whole (said_in before pack) (record { list = list; end = end })
 ended_is v a [] end before pack h = rw (h (refuses end)) refl
 ended_is v a (line text ∷ ps) end before pack h = rw (h (gives text (record { list = ps; end = end }))) refl
@@ -79,11 +79,11 @@ ended_is v a (mark kind ∷ ps) end before pack h =
     either_whole (is_stop v kind) _ _ _ (rw (h (stops kind (record { list = ps; end = end }))) refl) (rw (h (refuses unexpected_frame)) refl)
 
 -- one more stop
-after_stop : (v : Protocol) (a : Asked) (before : List Item) (kind : MessageKind) (q : Pieces) → is_stop v kind ≡ true → ends_by_nak a before ≡ false → last_two_are is_stopped before ≡ false
+after_stop : (v : Protocol) (a : Expected) (before : List AnswerItem) (kind : MessageKind) (q : Pieces) → is_stop v kind ≡ true → ends_by_nak a before ≡ false → last_two_are is_stopped before ≡ false
     → longer_of v a before (with_piece (mark kind) q) ≡ longer_of v a (stopped ∷ before) q
 after_stop v a before kind q s n t = rw (s, n, t) refl
 
-read_stop : (v : Protocol) (a : Asked) (before : List Item) (old mid new : Reading) (h : Read v a before old mid) → ends_by_nak a before ≡ false → last_two_are is_stopped before ≡ false
+read_stop : (v : Protocol) (a : Expected) (before : List AnswerItem) (old mid new : Reading) (h : Read v a before old mid) → ends_by_nak a before ≡ false → last_two_are is_stopped before ≡ false
     → (k : (kind : MessageKind) × TakesStop mid new kind) → Going (v1_answer v a) (longer_of v a (stopped ∷ before)) (h.taken ++ mark k.0 ∷ []) old new
 read_stop v a before old mid new h n t k =
     let stop : is_stop v k.0 ≡ true = subst (λ w. is_stop w k.0 ≡ true) h.running.version k.1.is_stop in
@@ -92,7 +92,7 @@ read_stop v a before old mid new h n t k =
     (λ q. after_stop v a before k.0 q stop n t)
 
 -- a stop is passed over
-pub amid-stop : (v : Protocol) (a : Asked) (answer : AnswerValue) (came_ready : Bool) (old mid new last : Reading) → Amid v a answer came_ready false old mid → AtStop mid new → last ≡ reset_to v new
+pub amid-stop : (v : Protocol) (a : Expected) (answer : AnswerValue) (came_ready : Bool) (old mid new last : Reading) → Amid v a answer came_ready false old mid → AtStop mid new → last ≡ reset_to v new
     → Amid v a answer came_ready true old last
 amid-stop v a answer came_ready old mid new last h k e =
     let t = stop_taken v mid new h.read.running k in
@@ -108,7 +108,7 @@ amid-stop v a answer came_ready old mid new last h k e =
       no_stops = sym h.stop_is;
     }
 
-ends_by_stops : (a : Asked) (before : List Item) → true ≡ last_is is_stopped before → (next : Next) → ends a (stopped ∷ before) next ≡ Some false
+ends_by_stops : (a : Expected) (before : List AnswerItem) → true ≡ last_is is_stopped before → (next : Next) → ends a (stopped ∷ before) next ≡ Some false
 ends_by_stops a before e next = rw (← e) refl
 
 -- the versions that answer by beginnings
@@ -133,7 +133,7 @@ ends_bare v (inl e) at h = subst (λ x. EndsBare x at) (sym e) h
 ends_bare v (inr e) at h = subst (λ x. EndsBare x at) (sym e) h
 
 -- a second one ends the answer
-pub amid-stops : (v : Protocol) (earlier : IsEarlier v) (a : Asked) (answer : AnswerValue) (came_ready : Bool) (old mid new : Reading) → Amid v a answer came_ready true old mid → AtStop mid new
+pub amid-stops : (v : Protocol) (earlier : IsEarlier v) (a : Expected) (answer : AnswerValue) (came_ready : Bool) (old mid new : Reading) → Amid v a answer came_ready true old mid → AtStop mid new
     → Answered (v1_answer v a) v old new answer
 amid-stops v earlier a answer came_ready old mid new h k =
     let t = stop_taken v mid new h.read.running k in
@@ -154,7 +154,7 @@ end_is : (r : Refusal) → is_at_end r ≡ true → r ≡ io UnexpectedEof
 end_is (io kind) h = end_kind kind h
 end_is _ h = cc
 
-ends_at_end : (a : Asked) (before : List Item) → ends_by_nak a before ≡ false → last_two_are is_stopped before ≡ false → false ≡ last_is is_stopped before
+ends_at_end : (a : Expected) (before : List AnswerItem) → ends_by_nak a before ≡ false → last_two_are is_stopped before ≡ false → false ≡ last_is is_stopped before
     → ends a before (refuses (io UnexpectedEof)) ≡ Some false
 ends_at_end a before n t s = rw (n, t, ← s) refl
 
@@ -163,7 +163,7 @@ mark_at_end true kind p h = cc
 mark_at_end false kind p h = cc
 
 -- the end of the pieces, not right behind a stop
-at_end_is : (v : Protocol) (a : Asked) (before : List Item) (list : List Piece) (end : Refusal) → ends a before (refuses (io UnexpectedEof)) ≡ Some false
+at_end_is : (v : Protocol) (a : Expected) (before : List AnswerItem) (list : List Piece) (end : Refusal) → ends a before (refuses (io UnexpectedEof)) ≡ Some false
     → next_from v list end ≡ refuses (io UnexpectedEof) → beginnings_from v a list end before ≡ whole (said_in before false) (no_pieces (io UnexpectedEof))
 at_end_is v a before [] end e h = let s : end ≡ io UnexpectedEof = cc in rw (s, e) refl
 at_end_is v a before (line t ∷ ps) end e h = cc
@@ -205,7 +205,7 @@ and_parts false y h = cc
 fault_is_no_end : (old new : Reading) → Faults old new (io UnexpectedEof) → ⊥
 fault_is_no_end old new f = let x = f.fault.0 in cc
 
-end_answers : (v : Protocol) (earlier : IsEarlier v) (a : Asked) (before : List Item) (old mid new : Reading) → Read v a before old mid → ends a before (refuses (io UnexpectedEof)) ≡ Some false
+end_answers : (v : Protocol) (earlier : IsEarlier v) (a : Expected) (before : List AnswerItem) (old mid new : Reading) → Read v a before old mid → ends a before (refuses (io UnexpectedEof)) ≡ Some false
     → last_is is_stopped before ≡ false → Fails mid new (io UnexpectedEof) → Answered (v1_answer v a) v old new (said_in before false)
 end_answers v earlier a before old mid new h e l (inl t) = inl (record {
   taken = h.taken;
@@ -237,7 +237,7 @@ end_answers v earlier a before old mid new h e l (inr (inr t)) =
     })
 
 -- the stream's end, not right behind a stop
-pub amid-end : (v : Protocol) (earlier : IsEarlier v) (a : Asked) (answer : AnswerValue) (came_ready behind_stop : Bool) (old mid new : Reading) (r : ReadError) → Amid v a answer came_ready behind_stop old mid
+pub amid-end : (v : Protocol) (earlier : IsEarlier v) (a : Expected) (answer : AnswerValue) (came_ready behind_stop : Bool) (old mid new : Reading) (r : ReadError) → Amid v a answer came_ready behind_stop old mid
     → Fails mid new (refusal_of r) → true ≡ (is_at_end (refusal_of r) && not behind_stop) → Answered (v1_answer v a) v old new answer
 amid-end v earlier a answer came_ready behind_stop old mid new r h f t =
     let parts = and_parts (is_at_end (refusal_of r)) behind_stop (sym t) in
@@ -250,14 +250,14 @@ amid-end v earlier a answer came_ready behind_stop old mid new r h f t =
 no_end : (x : Bool) (y z : Bool) → z ≡ y → false ≡ (x && not z) → cond (x && not y) (Some false) None ≡ None
 no_end x y z e h = let s : (x && not y) ≡ false = ap (λ w. x && not w) (sym e) ∙ sym h in rw s refl
 
-mark_refused : (v : Protocol) (a : Asked) (before : List Item) (b : Bool) (kind : MessageKind) (p : Pieces) (f : Found) (r : Refusal)
+mark_refused : (v : Protocol) (a : Expected) (before : List AnswerItem) (b : Bool) (kind : MessageKind) (p : Pieces) (f : Found) (r : Refusal)
     → ends a before (refuses unexpected_frame) ≡ None → cond b (stops kind p) (refuses unexpected_frame) ≡ refuses r
     → cond b f (unless_ends (ends a before (refuses unexpected_frame)) before (with_piece (mark kind) p) (refused (by_reader unexpected_frame))) ≡ refused (from_reader r)
 mark_refused v a before true kind p f r e h = cc
 mark_refused v a before false kind p f r e h = let s : unexpected_frame ≡ r = cc in rw (e, ← s) refl
 
 -- what the reader refuses next is refused where it doesn't end the answer
-refused_is : (v : Protocol) (a : Asked) (before : List Item) (list : List Piece) (end r : Refusal) → ends_by_nak a before ≡ false → last_two_are is_stopped before ≡ false
+refused_is : (v : Protocol) (a : Expected) (before : List AnswerItem) (list : List Piece) (end r : Refusal) → ends_by_nak a before ≡ false → last_two_are is_stopped before ≡ false
     → ends_before before (refuses r) ≡ None → next_from v list end ≡ refuses r → beginnings_from v a list end before ≡ refused (from_reader r)
 refused_is v a before [] end r n t e h =
     let s : end ≡ r = cc in
@@ -268,7 +268,7 @@ refused_is v a before (mark kind ∷ ps) end r n t e h =
     mark_refused v a before (is_stop v kind) kind (record { list = ps; end = end }) _ r (goes_on a before (refuses unexpected_frame) n t) h
 
 -- the reader's refusal, or what came from outside
-pub amid-fails : (plain : Bool) (v : Protocol) (a : Asked) (answer : AnswerValue) (came_ready behind_stop : Bool) (old mid new : Reading) (r : ReadError) (e : Error)
+pub amid-fails : (plain : Bool) (v : Protocol) (a : Expected) (answer : AnswerValue) (came_ready behind_stop : Bool) (old mid new : Reading) (r : ReadError) (e : Error)
     → Amid v a answer came_ready behind_stop old mid → Fails mid new (refusal_of r) → false ≡ (is_at_end (refusal_of r) && not behind_stop)
     → (plain ≡ true → IsPlain new (refusal_of r)) → answer_refusal e ≡ from_reader (refusal_of r) → AnswerFails (v1_answer v a) plain old new e
 amid-fails plain v a answer came_ready behind_stop old mid new r e h f t p is =
@@ -288,7 +288,7 @@ took_same (Some p) (Some q) n taken h k =
     let same : q ≡ h.0 = let x = h.1 in cc in
     (q, k, h.2 ∙ ap (front taken) (sym same))
 
-read_shown : (v : Protocol) (a : Asked) (before : List Item) (old mid new : Reading) → Read v a before old mid → ShowsLine mid new → Read v a before old new
+read_shown : (v : Protocol) (a : Expected) (before : List AnswerItem) (old mid new : Reading) → Read v a before old mid → ShowsLine mid new → Read v a before old new
 read_shown v a before old mid new h s = record {
   taken = h.taken;
   going = record {
@@ -311,7 +311,7 @@ peeked_taken mid new (Err e) p (inr (inl h)) = absurd (let x = h.stays.unpeeked 
 peeked_taken mid new (Err e) p (inr (inr h)) = absurd (let x = h.unpeeked in cc)
 
 -- another line begins the pack
-pack_is : (v : Protocol) (a : Asked) (before : List Item) (list : List Piece) (end : Refusal) (text : List ℕ) (rest : Pieces) → ends_by_nak a before ≡ false → last_two_are is_stopped before ≡ false
+pack_is : (v : Protocol) (a : Expected) (before : List AnswerItem) (list : List Piece) (end : Refusal) (text : List ℕ) (rest : Pieces) → ends_by_nak a before ≡ false → last_two_are is_stopped before ≡ false
     → line_item text ≡ other → next_from v list end ≡ gives text rest → beginnings_from v a list end before ≡ whole (said_in before true) (record { list = list; end = end })
 pack_is v a before list end text rest n t o h =
     let parts = line_is v list end text rest h in
@@ -329,7 +329,7 @@ known_pack v w found k taken (Some p) (Some q) n value text i s e h t =
     (q, t.1, ap found h.2 ∙ ap (λ x. found (front taken x)) (sym same) ∙ s q ∙ e q t.0 (ap (λ x. next_of x q) (sym i) ∙ t.2))
 
 -- in front of another line the pack begins
-pub amid-pack : (v : Protocol) (a : Asked) (answer : AnswerValue) (came_ready behind_stop : Bool) (old mid new : Reading) → Amid v a answer came_ready behind_stop old mid → ShowsLine mid new
+pub amid-pack : (v : Protocol) (a : Expected) (answer : AnswerValue) (came_ready behind_stop : Bool) (old mid new : Reading) → Amid v a answer came_ready behind_stop old mid → ShowsLine mid new
     → line_item new.line ≡ other → Answered (v1_answer v a) v old new (record answer { pack = true })
 amid-pack v a answer came_ready behind_stop old mid new h s o =
     let shown = read_shown v a h.before old mid new h.read s in
@@ -358,12 +358,12 @@ said_is_stop : (s : Said) → is_stopped (item_said (Some s)) ≡ false
 said_is_stop (SaidAcknowledgement x) = refl
 said_is_stop (SaidUpdate x) = refl
 
-after_line : (v : Protocol) (a : Asked) (before : List Item) (text : List ℕ) (i : Item) (q : Pieces) → ends_by_nak a before ≡ false → last_two_are is_stopped before ≡ false → line_item text ≡ i
+after_line : (v : Protocol) (a : Expected) (before : List AnswerItem) (text : List ℕ) (i : AnswerItem) (q : Pieces) → ends_by_nak a before ≡ false → last_two_are is_stopped before ≡ false → line_item text ≡ i
     → is_other i ≡ false → longer_of v a before (with_piece (line text) q) ≡ longer_of v a (i ∷ before) q
 after_line v a before text i q n t e o = rw (n, t, e, o) refl
 
 -- one more line
-read_line : (v : Protocol) (a : Asked) (before : List Item) (s : Said) (old mid new : Reading) → Read v a before old mid → ends_by_nak a before ≡ false → last_two_are is_stopped before ≡ false
+read_line : (v : Protocol) (a : Expected) (before : List AnswerItem) (s : Said) (old mid new : Reading) → Read v a before old mid → ends_by_nak a before ≡ false → last_two_are is_stopped before ≡ false
     → TakesLine mid new → line_item new.line ≡ item_said (Some s) → Read v a (item_said (Some s) ∷ before) old new
 read_line v a before s old mid new h n t k e =
     let all = going-line (v1_answer v a) (longer_of v a before) v h.taken old mid new h.going h.running k in
@@ -376,23 +376,23 @@ read_line v a before s old mid new h n t k e =
     }
 
 -- a line that was peeked at and taken
-pub record Taken (v : Protocol) (a : Asked) (s : Said) (before : List Item) (old new : Reading) : Type 0 where
+pub record Taken (v : Protocol) (a : Expected) (s : Said) (before : List AnswerItem) (old new : Reading) : Type 0 where
   pub read : Read v a (item_said (Some s) ∷ before) old new
 
-pub amid-line : (v : Protocol) (a : Asked) (answer : AnswerValue) (came_ready behind_stop : Bool) (s : Said) (old mid shown new : Reading) (r : Result Bool ReadError) (h : Amid v a answer came_ready behind_stop old mid)
+pub amid-line : (v : Protocol) (a : Expected) (answer : AnswerValue) (came_ready behind_stop : Bool) (s : Said) (old mid shown new : Reading) (r : Result Bool ReadError) (h : Amid v a answer came_ready behind_stop old mid)
     → ShowsLine mid shown → item_said (Some s) ≡ line_item shown.line → Reads shown new r → Taken v a s h.before old new
 amid-line v a answer came_ready behind_stop s old mid shown new r h k e t =
     let taken = peeked_taken shown new r k.peeked t in
     record { read = read_line v a h.before s old shown new (read_shown v a h.before old mid shown h.read k) h.no_nak h.no_stops taken (ap line_item (taken.again k.peeked) ∙ sym e) }
 
-said_more : (before : List Item) (i : Item) → said_with (said_in before false) i ≡ said_in (i ∷ before) false
+said_more : (before : List AnswerItem) (i : AnswerItem) → said_with (said_in before false) i ≡ said_in (i ∷ before) false
 said_more before (acknowledged x) = refl
 said_more before (updated x) = refl
 said_more before other = refl
 said_more before stopped = refl
 
 -- the answer goes on behind it
-pub amid-said : (v : Protocol) (a : Asked) (answer more : AnswerValue) (came_ready behind_stop ready : Bool) (s : Said) (old mid new : Reading) (h : Amid v a answer came_ready behind_stop old mid)
+pub amid-said : (v : Protocol) (a : Expected) (answer more : AnswerValue) (came_ready behind_stop ready : Bool) (s : Said) (old mid new : Reading) (h : Amid v a answer came_ready behind_stop old mid)
     → Taken v a s h.before old new → more ≡ said_with answer (item_said (Some s)) → ready ≡ (is_ready (item_said (Some s)) || came_ready)
     → false ≡ ((is_nak (item_said (Some s)) && a.negotiates) && not (a.expects_pack && ready)) → Amid v a more ready false old new
 amid-said v a answer more came_ready behind_stop ready s old mid new h t m r n =
@@ -408,11 +408,11 @@ amid-said v a answer more came_ready behind_stop ready s old mid new h t m r n =
       no_stops = rw (said_is_stop s) refl;
     }
 
-ends_nak : (a : Asked) (before : List Item) → ends_by_nak a before ≡ true → (next : Next) → ends a before next ≡ Some false
+ends_nak : (a : Expected) (before : List AnswerItem) → ends_by_nak a before ≡ true → (next : Next) → ends a before next ≡ Some false
 ends_nak a before e next = rw e refl
 
 -- or it ends there
-pub amid-nak : (v : Protocol) (earlier : IsEarlier v) (a : Asked) (answer more : AnswerValue) (came_ready behind_stop ready : Bool) (s : Said) (old mid new : Reading) (h : Amid v a answer came_ready behind_stop old mid)
+pub amid-nak : (v : Protocol) (earlier : IsEarlier v) (a : Expected) (answer more : AnswerValue) (came_ready behind_stop ready : Bool) (s : Said) (old mid new : Reading) (h : Amid v a answer came_ready behind_stop old mid)
     → Taken v a s h.before old new → more ≡ said_with answer (item_said (Some s)) → ready ≡ (is_ready (item_said (Some s)) || came_ready)
     → true ≡ ((is_nak (item_said (Some s)) && a.negotiates) && not (a.expects_pack && ready)) → Answered (v1_answer v a) v old new more
 amid-nak v earlier a answer more came_ready behind_stop ready s old mid new h t m r n =
@@ -427,6 +427,6 @@ amid-nak v earlier a answer more came_ready behind_stop ready s old mid new h t 
     (λ q. ended_is v a q.list q.end (i ∷ h.before) false (ends_nak a (i ∷ h.before) nak))))
 
 -- memory ran out for what it says
-pub amid-memory : (plain : Bool) (v : Protocol) (a : Asked) (s : Said) (before : List Item) (old new : Reading) → Taken v a s before old new → AnswerFails (v1_answer v a) plain old new Memory
+pub amid-memory : (plain : Bool) (v : Protocol) (a : Expected) (s : Said) (before : List AnswerItem) (old new : Reading) → Taken v a s before old new → AnswerFails (v1_answer v a) plain old new Memory
 amid-memory plain v a s before old new t =
     going-memory plain (v1_answer v a) (longer_of v a (item_said (Some s) ∷ before)) t.read.taken old new t.read.going t.read.running.stopped

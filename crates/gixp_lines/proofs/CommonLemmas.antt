@@ -10,7 +10,7 @@ use Rattle.gixp_wire.specs.declared.object_id.ObjectId.{ObjectId}
 use Rattle.gixp_wire.specs.ObjectId.{id_cmp}
 use Rattle.gixp_lines.specs.declared.fetch.response.line.Acknowledgement.{Acknowledgement}
 use Rattle.gixp_lines.specs.declared.fetch.response.line.Acknowledgement.TheVariants.{Common, Ready, Nak}
-use Rattle.gixp_lines.specs.RefLine.{is_text}
+use Rattle.gixp_wire.specs.Capabilities.{is_text}
 use Rattle.gixp_lines.specs.Beginnings.{is_same_common, with_acknowledgement, AreCommon}
 
 -- at first there is none

@@ -1,4 +1,3 @@
-mod CutLemmas
 mod TrimLemmas
 mod AnswerLemmas
 mod RunLemmas

@@ -7,11 +7,11 @@ use Rattle.gixp_wire.specs.Lines.{Next, gives, stops, refuses, next_from, next_o
 use Rattle.gixp_wire.specs.Pieces.{Refusal, Piece, line, mark, Pieces, no_pieces, with_piece, unexpected_frame}
 use Rattle.gixp_lines.specs.ResponseError.{AnswerRefusal, by_reader, from_reader}
 use Rattle.gixp_lines.specs.Answer.{Found, whole, refused, front}
-use Rattle.gixp_lines.specs.Beginnings.{Item, line_item, stopped, Asked, ends, said_in, unless_ends, beginnings_from, v1_answer}
+use Rattle.gixp_lines.specs.Beginnings.{AnswerItem, line_item, stopped, Expected, ends, said_in, unless_ends, beginnings_from, v1_answer}
 use Rattle.gixp_lines.specs.BeginningGrammar.{items_behind, AreStops, IsRefused}
 
 -- the same behind items that were read before
-record Refusing (v : Protocol) (a : Asked) (before : List Item) (p : Pieces) (e : AnswerRefusal) : Type 0 where
+record Refusing (v : Protocol) (a : Expected) (before : List AnswerItem) (p : Pieces) (e : AnswerRefusal) : Type 0 where
   taken : List Piece
   rest : Pieces
   split : p ≡ front taken rest
@@ -25,7 +25,7 @@ refused_parts : (e f : AnswerRefusal) → refused e ≡ refused f → e ≡ f
 refused_parts e f h = cc
 
 -- it is refused here
-refused_here : (v : Protocol) (a : Asked) (before : List Item) (p : Pieces) (e : AnswerRefusal) (refusal : Refusal) → next_of v p ≡ refuses refusal → ends a before (next_of v p) ≡ None
+refused_here : (v : Protocol) (a : Expected) (before : List AnswerItem) (p : Pieces) (e : AnswerRefusal) (refusal : Refusal) → next_of v p ≡ refuses refusal → ends a before (next_of v p) ≡ None
     → refused (from_reader refusal) ≡ refused e → Refusing v a before p e
 refused_here v a before p e refusal n none h = record {
   taken = [];
@@ -43,7 +43,7 @@ refused_here v a before p e refusal n none h = record {
     no_shorter (x ∷ xs) more k = cc
 
 -- it is refused behind one more piece
-refused_further : (v : Protocol) (a : Asked) (before : List Item) (x : Piece) (p : Pieces) (e : AnswerRefusal) → ends a before (next_of v (with_piece x p)) ≡ None
+refused_further : (v : Protocol) (a : Expected) (before : List AnswerItem) (x : Piece) (p : Pieces) (e : AnswerRefusal) → ends a before (next_of v (with_piece x p)) ≡ None
     → Refusing v a (items_behind (x ∷ []) before) p e → ((ps : List Piece) → items_behind (x ∷ ps) before ≡ items_behind ps (items_behind (x ∷ []) before))
     → ((ps : List Piece) → AreStops v ps → AreStops v (x ∷ ps))
     → Refusing v a before (with_piece x p) e
@@ -69,13 +69,13 @@ refused_further v a before x p e none h s m = record {
         (ap (λ i. ends a i (next_of v (front more h.rest))) (s ys) ∙ h.unended ys more others)
 
 -- it doesn't end here
-refused_step : (v : Protocol) (a : Asked) (before : List Item) (p : Pieces) (longer : Found) (e : AnswerRefusal) (o : Option Bool) → ends a before (next_of v p) ≡ o
+refused_step : (v : Protocol) (a : Expected) (before : List AnswerItem) (p : Pieces) (longer : Found) (e : AnswerRefusal) (o : Option Bool) → ends a before (next_of v p) ≡ o
     → unless_ends o before p longer ≡ refused e → (ends a before (next_of v p) ≡ None → longer ≡ refused e → Refusing v a before p e) → Refusing v a before p e
 refused_step v a before p longer e (Some pack) i h f = cc
 refused_step v a before p longer e None i h f = f i h
 
 -- a mark that stops, or one that is refused
-refused_mark : (v : Protocol) (a : Asked) (before : List Item) (kind : MessageKind) (p : Pieces) (longer : Found) (e : AnswerRefusal) (b : Bool) → is_stop v kind ≡ b
+refused_mark : (v : Protocol) (a : Expected) (before : List AnswerItem) (kind : MessageKind) (p : Pieces) (longer : Found) (e : AnswerRefusal) (b : Bool) → is_stop v kind ≡ b
     → next_of v (with_piece (mark kind) p) ≡ cond b (stops kind p) (refuses unexpected_frame)
     → cond b (unless_ends (ends a before (stops kind p)) before (with_piece (mark kind) p) longer)
     (unless_ends (ends a before (refuses unexpected_frame)) before (with_piece (mark kind) p) (refused (by_reader unexpected_frame))) ≡ refused e
@@ -87,7 +87,7 @@ refused_mark v a before kind p longer e false i n h f =
     refused_step v a before (with_piece (mark kind) p) (refused (by_reader unexpected_frame)) e (ends a before (refuses unexpected_frame)) (ap (ends a before) n) h
     (λ none k. refused_here v a before (with_piece (mark kind) p) e unexpected_frame n none k)
 
-refused_from : (v : Protocol) (a : Asked) (ps : List Piece) (end : Refusal) (before : List Item) (e : AnswerRefusal) → beginnings_from v a ps end before ≡ refused e
+refused_from : (v : Protocol) (a : Expected) (ps : List Piece) (end : Refusal) (before : List AnswerItem) (e : AnswerRefusal) → beginnings_from v a ps end before ≡ refused e
     → Refusing v a before (record { list = ps; end = end }) e
 refused_from v a [] end before e h =
     refused_step v a before (no_pieces end) (refused (from_reader end)) e (ends a before (refuses end)) refl h (λ none k. refused_here v a before (no_pieces end) e end refl none k)
@@ -101,14 +101,14 @@ refused_from v a (mark kind ∷ ps) end before e h =
     (λ i none k. refused_further v a before (mark kind) p e none (refused_from v a ps end (stopped ∷ before) e k) (λ _. refl) (λ _ s. (i, s)))
 
 -- where an answer is refused, no beginning ends one
-pub refusal_found : (v : Protocol) (a : Asked) (p : Pieces) (e : AnswerRefusal) → v1_answer v a p ≡ refused e → IsRefused v a p e
+pub refusal_found : (v : Protocol) (a : Expected) (p : Pieces) (e : AnswerRefusal) → v1_answer v a p ≡ refused e → IsRefused v a p e
 refusal_found v a p e h =
     let x = refused_from v a p.list p.end [] e h in
     record { taken = x.taken; rest = x.rest; split = x.split; stops = x.stops; refusal = x.refusal; next = x.next; error = x.error; unended = x.unended }
 
 -- ---- and back
 
-mark_refused : (a : Asked) (before : List Item) (kind : MessageKind) (p x : Pieces) (longer : Found) (refusal : Refusal) (b : Bool) → cond b (stops kind p) (refuses unexpected_frame) ≡ refuses refusal
+mark_refused : (a : Expected) (before : List AnswerItem) (kind : MessageKind) (p x : Pieces) (longer : Found) (refusal : Refusal) (b : Bool) → cond b (stops kind p) (refuses unexpected_frame) ≡ refuses refusal
     → ends a before (cond b (stops kind p) (refuses unexpected_frame)) ≡ None
     → cond b (unless_ends (ends a before (stops kind p)) before x longer) (unless_ends (ends a before (refuses unexpected_frame)) before x (refused (by_reader unexpected_frame)))
     ≡ refused (from_reader refusal)
@@ -118,7 +118,7 @@ mark_refused a before kind p x longer refusal false n none =
     rw none (ap (λ r. refused (from_reader r)) same)
 
 -- where the reader is refused and nothing ends, the answer is refused
-read_here : (v : Protocol) (a : Asked) (list : List Piece) (end : Refusal) (before : List Item) (refusal : Refusal) → next_from v list end ≡ refuses refusal → ends a before (next_from v list end) ≡ None
+read_here : (v : Protocol) (a : Expected) (list : List Piece) (end : Refusal) (before : List AnswerItem) (refusal : Refusal) → next_from v list end ≡ refuses refusal → ends a before (next_from v list end) ≡ None
     → beginnings_from v a list end before ≡ refused (from_reader refusal)
 read_here v a [] end before refusal n none =
     let same : end ≡ refusal = cc in
@@ -127,13 +127,13 @@ read_here v a (line text ∷ ps) end before refusal n none = cc
 read_here v a (mark kind ∷ ps) end before refusal n none =
     mark_refused a before kind (record { list = ps; end = end }) (record { list = mark kind ∷ ps; end = end }) (beginnings_from v a ps end (stopped ∷ before)) refusal (is_stop v kind) n none
 
-mark_passed : (a : Asked) (before : List Item) (kind : MessageKind) (p x : Pieces) (longer other all : Found) (b : Bool) → b ≡ true → ends a before (cond b (stops kind p) (refuses unexpected_frame)) ≡ None
+mark_passed : (a : Expected) (before : List AnswerItem) (kind : MessageKind) (p x : Pieces) (longer other all : Found) (b : Bool) → b ≡ true → ends a before (cond b (stops kind p) (refuses unexpected_frame)) ≡ None
     → longer ≡ all → cond b (unless_ends (ends a before (stops kind p)) before x longer) other ≡ all
 mark_passed a before kind p x longer other all true i n h = rw n h
 mark_passed a before kind p x longer other all false i n h = cc
 
 -- behind pieces none of whose beginnings ends an answer
-read_behind : (v : Protocol) (a : Asked) (taken : List Piece) (rest : Pieces) (before : List Item) (refusal : Refusal) → AreStops v taken → next_of v rest ≡ refuses refusal
+read_behind : (v : Protocol) (a : Expected) (taken : List Piece) (rest : Pieces) (before : List AnswerItem) (refusal : Refusal) → AreStops v taken → next_of v rest ≡ refuses refusal
     → ((shorter more : List Piece) → taken ≡ shorter ++ more → ends a (items_behind shorter before) (next_of v (front more rest)) ≡ None)
     → beginnings_from v a (taken ++ rest.list) rest.end before ≡ refused (from_reader refusal)
 read_behind v a [] rest before refusal s n f = read_here v a rest.list rest.end before refusal n (f [] [] refl)
@@ -145,5 +145,5 @@ read_behind v a (mark kind ∷ ts) rest before refusal s n f =
     (read_behind v a ts rest (stopped ∷ before) refusal s.1 n (λ shorter more k. f (mark kind ∷ shorter) more (ap (λ l. mark kind ∷ l) k)))
 
 -- where no beginning ends an answer, it is refused
-pub refusal_read : (v : Protocol) (a : Asked) (p : Pieces) (e : AnswerRefusal) → IsRefused v a p e → v1_answer v a p ≡ refused e
+pub refusal_read : (v : Protocol) (a : Expected) (p : Pieces) (e : AnswerRefusal) → IsRefused v a p e → v1_answer v a p ≡ refused e
 refusal_read v a p e h = ap (v1_answer v a) h.split ∙ read_behind v a h.taken h.rest [] h.refusal h.stops h.next h.unended ∙ ap refused (sym h.error)

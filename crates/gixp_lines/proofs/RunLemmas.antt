@@ -6,56 +6,8 @@ use Rattle.gixp_wire.specs.Pieces.{Refusal, Piece, line, mark, Pieces, no_pieces
 use Rattle.gixp_wire.specs.Items.{is_stop}
 use Rattle.gixp_wire.specs.Lines.{gives, stops, refuses, next_from, next_of, Lines, Ending, stop, refusal, lines_from, lines_of, no_lines, before, lines_to}
 use Rattle.gixp_wire.specs.Reading.{Reading, TakesLine, TakesStop, WasStopped, AtStop, Refuses, Fails, lines_from_stop, lines_ahead}
+use Rattle.gixp_wire.proofs.LineLemmas.{gives_line, stops_here, refuses_here}
 use Rattle.gixp_lines.specs.Runs.{SoFar}
-
--- a mark is no line
-mark_not_gives : (b : Bool) (kind : MessageKind) (p q : Pieces) (e : Refusal) (text : List ℕ) → cond b (stops kind p) (refuses e) ≡ gives text q → ⊥
-mark_not_gives true kind p q e text h = cc
-mark_not_gives false kind p q e text h = cc
-
--- the lines begin with the one that comes next
-gives_line : (v : Protocol) (list : List Piece) (end : Refusal) (text : List ℕ) (q : Pieces) → next_from v list end ≡ gives text q
-    → lines_from v list end ≡ before (text ∷ []) (lines_of v q)
-gives_line v [] end text q h = cc
-gives_line v (line t ∷ ps) end text q h =
-    let p : Pieces = record { list = ps; end = end } in
-    let e1 : t ≡ text = cc in
-    let e2 : p ≡ q = cc in
-    rw (← e1, ← e2) refl
-gives_line v (mark kind ∷ ps) end text q h = absurd (mark_not_gives (is_stop v kind) kind (record { list = ps; end = end }) q unexpected_frame text h)
-
--- a mark that stops ends the lines
-stop_or : (b : Bool) (kind k : MessageKind) (p q : Pieces) (e : Refusal) → cond b (stops kind p) (refuses e) ≡ stops k q
-    → cond b (no_lines (stop kind p)) (no_lines (refusal e)) ≡ no_lines (stop k q)
-stop_or true kind k p q e h =
-    let e1 : kind ≡ k = cc in
-    let e2 : p ≡ q = cc in
-    rw (e1, e2) refl
-stop_or false kind k p q e h = cc
-
--- no line stands before the stop that comes next
-stops_here : (v : Protocol) (list : List Piece) (end : Refusal) (kind : MessageKind) (q : Pieces) → next_from v list end ≡ stops kind q
-    → lines_from v list end ≡ no_lines (stop kind q)
-stops_here v [] end kind q h = cc
-stops_here v (line t ∷ ps) end kind q h = cc
-stops_here v (mark k ∷ ps) end kind q h = stop_or (is_stop v k) k kind (record { list = ps; end = end }) q unexpected_frame h
-
--- a mark that doesn't stop is refused
-refused_or : (b : Bool) (kind : MessageKind) (p : Pieces) (e x : Refusal) → cond b (stops kind p) (refuses e) ≡ refuses x
-    → cond b (no_lines (stop kind p)) (no_lines (refusal e)) ≡ no_lines (refusal x)
-refused_or true kind p e x h = cc
-refused_or false kind p e x h =
-    let e1 : e ≡ x = cc in
-    rw e1 refl
-
--- nor before the refusal that comes next
-refuses_here : (v : Protocol) (list : List Piece) (end : Refusal) (x : Refusal) → next_from v list end ≡ refuses x
-    → lines_from v list end ≡ no_lines (refusal x)
-refuses_here v [] end x h =
-    let e1 : end ≡ x = cc in
-    rw e1 refl
-refuses_here v (line t ∷ ps) end x h = cc
-refuses_here v (mark k ∷ ps) end x h = refused_or (is_stop v k) k (record { list = ps; end = end }) unexpected_frame x h
 
 -- a reader that is at no stop gives the lines of its pieces
 ahead_running : (r : Reading) (p : Pieces) → r.stopped ≡ None → lines_ahead r p ≡ lines_of r.version p
@@ -66,11 +18,11 @@ ahead_stopped : (r : Reading) (p : Pieces) (kind : MessageKind) → r.stopped �
 ahead_stopped r p kind h = ap (λ s. lines_from_stop s r.version p) h
 
 -- what is known of known pieces and those behind them
-abbrev Known : Option Pieces → Option Pieces → (Pieces → Pieces → Type 0) → Type 0
+abbrev pub Known : Option Pieces → Option Pieces → (Pieces → Pieces → Type 0) → Type 0
 Known old new P = IfSome old (λ p. (q : Pieces) × (new ≡ Some q) × P p q)
 
 -- two known steps are one
-known_steps : (a b c : Option Pieces) (P Q R : Pieces → Pieces → Type 0) → ((p q r : Pieces) → P p q → Q q r → R p r)
+pub known_steps : (a b c : Option Pieces) (P Q R : Pieces → Pieces → Type 0) → ((p q r : Pieces) → P p q → Q q r → R p r)
     → Known a b P → Known b c Q → Known a c R
 known_steps None b c P Q R f h k = tt
 known_steps (Some p) None c P Q R f h k = absurd (let e = h.1 in cc)

@@ -19,7 +19,7 @@ use Rattle.gixp_lines.specs.ResponseError.{AnswerRefusal, io_failed, unknown_lin
 use Rattle.gixp_lines.specs.Answer.{AnswerValue, no_more, both, Found, whole, refused, in_front, is_of_line}
 use Rattle.gixp_lines.specs.Sections.{or_refused, header_of, item_of, read_header, read_item, closed, not_opened, is_flush, sections_from, v2_answer}
 use Rattle.gixp_lines.specs.AnswerLine.{trimmed}
-use Rattle.gixp_lines.specs.Reads.{stop_behind, Adds, Going, IsRunning, EndsAt, ReadsAnswer, AnswerFails}
+use Rattle.gixp_lines.specs.AnswerReading.{stop_behind, Adds, Going, IsRunning, EndsAt, ReadsAnswer, AnswerFails}
 use Rattle.gixp_lines.proofs.AnswerRunLemmas.{going-start, going-turn, going-line, going-stop, going-reset, going-whole, going-refused, going-memory, going-fails, stop_taken, last_line, last_mark}
 
 -- what is left behind these items, in this section or where a header is due

@@ -5,7 +5,7 @@ use Rattle.gixp_wire.specs.Capabilities.{CapabilityValue}
 use Rattle.gixp_lines.specs.declared.handshake.refs.parse.Error.{Error}
 use Rattle.gixp_lines.specs.RefLine.{RefsRefusal}
 use Rattle.gixp_lines.specs.ParseError.{Answers}
-use Rattle.gixp_lines.specs.Advertisement.{Symref, symref_in, with_symref, symref_table}
+use Rattle.gixp_lines.specs.RefAdvertisement.{Symref, symref_in, with_symref, symref_table}
 use Rattle.gixp_lines.proofs.AnswerLemmas.{memory_answers, refusal_answers}
 
 -- these in front of the others

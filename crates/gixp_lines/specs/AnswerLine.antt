@@ -6,8 +6,8 @@ use Rattle.bstr.specs.Trim.{trim_end_by}
 use Rattle.bstr.specs.Owned.{bstring_bytes}
 use Rattle.gixp_wire.specs.declared.object_id.ObjectId.{ObjectId}
 use Rattle.gixp_wire.specs.ObjectId.{id_of}
-use Rattle.gixp_lines.specs.Cut.{cut}
-use Rattle.gixp_lines.specs.RefLine.{is_text}
+use Rattle.gixp_wire.specs.Cut.{cut}
+use Rattle.gixp_wire.specs.Capabilities.{is_text}
 use Rattle.gixp_lines.specs.declared.fetch.response.line.Acknowledgement.{Acknowledgement}
 use Rattle.gixp_lines.specs.declared.fetch.response.line.Acknowledgement.TheVariants.{Common, Ready, Nak}
 use Rattle.gixp_lines.specs.declared.fetch.response.line.ShallowUpdate.{ShallowUpdate}

@@ -6,16 +6,16 @@ use Rattle.gixp_wire.specs.Lines.{refuses, next_of}
 use Rattle.gixp_wire.specs.Pieces.{Refusal, Piece, line, mark, Pieces}
 use Rattle.gixp_lines.specs.ResponseError.{AnswerRefusal, from_reader}
 use Rattle.gixp_lines.specs.Answer.{AnswerValue, front}
-use Rattle.gixp_lines.specs.Beginnings.{Item, line_item, stopped, Asked, ends, said_in}
+use Rattle.gixp_lines.specs.Beginnings.{AnswerItem, line_item, stopped, Expected, ends, said_in}
 
 -- the items of a beginning behind those before it, the last one first
-abbrev pub items_behind : List Piece → List Item → List Item
+abbrev pub items_behind : List Piece → List AnswerItem → List AnswerItem
 items_behind [] before = before
 items_behind (line text ∷ ps) before = items_behind ps (line_item text ∷ before)
 items_behind (mark kind ∷ ps) before = items_behind ps (stopped ∷ before)
 
 -- whether an answer ends behind these pieces, in front of those, and then whether a pack follows it
-abbrev pub ends_behind : Protocol → Asked → List Piece → Pieces → Option Bool
+abbrev pub ends_behind : Protocol → Expected → List Piece → Pieces → Option Bool
 ends_behind version a taken rest = ends a (items_behind taken []) (next_of version rest)
 
 -- each mark among these pieces is a stop
@@ -25,7 +25,7 @@ AreStops version (line text ∷ ps) = AreStops version ps
 AreStops version (mark kind ∷ ps) = (is_stop version kind ≡ true) × AreStops version ps
 
 -- a beginning that ends an answer, what it says, and that none of its own beginnings ends one
-pub record IsShortest (version : Protocol) (a : Asked) (p : Pieces) (value : AnswerValue) (rest : Pieces) : Type 0 where
+pub record IsShortest (version : Protocol) (a : Expected) (p : Pieces) (value : AnswerValue) (rest : Pieces) : Type 0 where
   pub taken : List Piece
   pub pack : Bool
   pub split : p ≡ front taken rest
@@ -35,7 +35,7 @@ pub record IsShortest (version : Protocol) (a : Asked) (p : Pieces) (value : Ans
   pub shortest : (shorter : List Piece) (next : Piece) (more : List Piece) → taken ≡ shorter ++ next ∷ more → ends_behind version a shorter (front (next ∷ more) rest) ≡ None
 
 -- no beginning ends an answer, and what stands behind the longest one is refused
-pub record IsRefused (version : Protocol) (a : Asked) (p : Pieces) (e : AnswerRefusal) : Type 0 where
+pub record IsRefused (version : Protocol) (a : Expected) (p : Pieces) (e : AnswerRefusal) : Type 0 where
   pub taken : List Piece
   pub rest : Pieces
   pub split : p ≡ front taken rest

@@ -10,7 +10,7 @@ use Rattle.gixp_wire.specs.Items.{is_stop}
 use Rattle.gixp_wire.specs.ObjectId.{id_cmp}
 use Rattle.gixp_wire.specs.Lines.{Next, gives, stops, refuses}
 use Rattle.gixp_wire.specs.Pieces.{Refusal, io, Piece, line, mark, Pieces, no_pieces, unexpected_frame}
-use Rattle.gixp_lines.specs.RefLine.{is_text}
+use Rattle.gixp_wire.specs.Capabilities.{is_text}
 use Rattle.gixp_lines.specs.AnswerLine.{acknowledgement_line, shallow_update_line}
 use Rattle.gixp_lines.specs.ResponseError.{by_reader, from_reader}
 use Rattle.gixp_lines.specs.Answer.{AnswerValue, Found, whole, refused}
@@ -21,37 +21,37 @@ use Rattle.gixp_lines.specs.declared.fetch.response.beginnings.Said.{Said}
 use Rattle.gixp_lines.specs.declared.fetch.response.beginnings.Said.TheVariants.{Acknowledgement as SaidAcknowledgement, ShallowUpdate as SaidUpdate}
 
 -- what stands in an answer: an acknowledgement, a shallow update, another line, or a stop
-pub data Item : Type 0 where
-  acknowledged : Acknowledgement → Item
-  updated : ShallowUpdate → Item
-  other : Item
-  stopped : Item
+pub data AnswerItem : Type 0 where
+  acknowledged : Acknowledgement → AnswerItem
+  updated : ShallowUpdate → AnswerItem
+  other : AnswerItem
+  stopped : AnswerItem
 
-abbrev pub update_or_other : Option ShallowUpdate → Item
+abbrev pub update_or_other : Option ShallowUpdate → AnswerItem
 update_or_other (Some u) = updated u
 update_or_other None = other
 
-abbrev pub item_by : Option Acknowledgement → Option ShallowUpdate → Item
+abbrev pub item_by : Option Acknowledgement → Option ShallowUpdate → AnswerItem
 item_by (Some a) u = acknowledged a
 item_by None u = update_or_other u
 
 -- a line that isn't text is another line
-abbrev pub line_item : List ℕ → Item
+abbrev pub line_item : List ℕ → AnswerItem
 line_item text = if is_utf8 text then item_by (acknowledgement_line text) (shallow_update_line text) else other
 
-abbrev pub is_nak : Item → Bool
+abbrev pub is_nak : AnswerItem → Bool
 is_nak (acknowledged Nak) = true
 is_nak _ = false
 
-abbrev pub is_ready : Item → Bool
+abbrev pub is_ready : AnswerItem → Bool
 is_ready (acknowledged Ready) = true
 is_ready _ = false
 
-abbrev pub is_stopped : Item → Bool
+abbrev pub is_stopped : AnswerItem → Bool
 is_stopped stopped = true
 is_stopped _ = false
 
-abbrev pub is_other : Item → Bool
+abbrev pub is_other : AnswerItem → Bool
 is_other other = true
 is_other _ = false
 
@@ -61,40 +61,40 @@ is_at_end (io UnexpectedEof) = true
 is_at_end _ = false
 
 -- a beginning is given from its last item on
-abbrev pub last_is : (Item → Bool) → List Item → Bool
+abbrev pub last_is : (AnswerItem → Bool) → List AnswerItem → Bool
 last_is p [] = false
 last_is p (i ∷ before) = p i
 
-abbrev pub last_two_are : (Item → Bool) → List Item → Bool
+abbrev pub last_two_are : (AnswerItem → Bool) → List AnswerItem → Bool
 last_two_are p [] = false
 last_two_are p (i ∷ before) = p i && last_is p before
 
 -- what a line that was read is
-abbrev pub item_said : Option Said → Item
+abbrev pub item_said : Option Said → AnswerItem
 item_said (Some (SaidAcknowledgement a)) = acknowledged a
 item_said (Some (SaidUpdate u)) = updated u
 item_said None = other
 
 -- what the client said: whether it expects a pack, and whether it wants to negotiate
-pub record Asked : Type 0 where
+pub record Expected : Type 0 where
   pub expects_pack : Bool
   pub negotiates : Bool
 
-abbrev pub asked : Bool → Bool → Asked
-asked expects_pack negotiates = record { expects_pack = expects_pack; negotiates = negotiates }
+abbrev pub expected : Bool → Bool → Expected
+expected expects_pack negotiates = record { expects_pack = expects_pack; negotiates = negotiates }
 
 -- the last item says that nothing is in common, and the client wants to go on about that
-abbrev pub ends_by_nak : Asked → List Item → Bool
+abbrev pub ends_by_nak : Expected → List AnswerItem → Bool
 ends_by_nak a before = (last_is is_nak before && a.negotiates) && not (a.expects_pack && list_any is_ready before)
 
 -- the next item is another line, which begins the pack, or the stream ends and not behind a stop
-abbrev pub ends_before : List Item → Next → Option Bool
+abbrev pub ends_before : List AnswerItem → Next → Option Bool
 ends_before before (gives text rest) = if is_other (line_item text) then Some true else None
 ends_before before (refuses e) = if is_at_end e && not (last_is is_stopped before) then Some false else None
 ends_before before (stops kind rest) = None
 
 -- whether an answer ends behind a beginning, and then whether a pack follows it
-abbrev pub ends : Asked → List Item → Next → Option Bool
+abbrev pub ends : Expected → List AnswerItem → Next → Option Bool
 ends a before next =
     if ends_by_nak a before then Some false
     else if last_two_are is_stopped before then Some false
@@ -117,33 +117,33 @@ AreCommon had ids = (id : ObjectId) → contains id_cmp ids id ≡ list_any (λ 
 abbrev pub with_acknowledgement : List Acknowledgement → Acknowledgement → List Acknowledgement
 with_acknowledgement had a = if list_any (λ x. is_same_common x a) had then had else had ++ a ∷ []
 
-abbrev pub acknowledgements_in : List Item → List Acknowledgement
+abbrev pub acknowledgements_in : List AnswerItem → List Acknowledgement
 acknowledgements_in [] = []
 acknowledgements_in (acknowledged a ∷ before) = with_acknowledgement (acknowledgements_in before) a
 acknowledgements_in (_ ∷ before) = acknowledgements_in before
 
-abbrev pub updates_in : List Item → List ShallowUpdate
+abbrev pub updates_in : List AnswerItem → List ShallowUpdate
 updates_in [] = []
 updates_in (updated u ∷ before) = updates_in before ++ u ∷ []
 updates_in (_ ∷ before) = updates_in before
 
 -- what a beginning says
-abbrev pub said_in : List Item → Bool → AnswerValue
+abbrev pub said_in : List AnswerItem → Bool → AnswerValue
 said_in before pack = record { acknowledgements = acknowledgements_in before; shallow_updates = updates_in before; wanted_refs = []; pack = pack }
 
 -- one more item behind those of an answer
-abbrev pub said_with : AnswerValue → Item → AnswerValue
+abbrev pub said_with : AnswerValue → AnswerItem → AnswerValue
 said_with had (acknowledged a) = record had { acknowledgements = with_acknowledgement had.acknowledgements a }
 said_with had (updated u) = record had { shallow_updates = had.shallow_updates ++ u ∷ [] }
 said_with had _ = had
 
 -- the answer is a beginning that ends one, else what is found by longer ones
-abbrev pub unless_ends : Option Bool → List Item → Pieces → Found → Found
+abbrev pub unless_ends : Option Bool → List AnswerItem → Pieces → Found → Found
 unless_ends (Some pack) before rest longer = whole (said_in before pack) rest
 unless_ends None before rest longer = longer
 
 -- the answer by the shortest beginning that is this one or longer, and what is to come behind this one
-abbrev pub beginnings_from : Protocol → Asked → List Piece → Refusal → List Item → Found
+abbrev pub beginnings_from : Protocol → Expected → List Piece → Refusal → List AnswerItem → Found
 beginnings_from version a [] end before =
     unless_ends (ends a before (refuses end)) before (no_pieces end) (refused (from_reader end))
 beginnings_from version a (line text ∷ ps) end before =
@@ -157,5 +157,5 @@ beginnings_from version a (mark kind ∷ ps) end before =
     (refused (by_reader unexpected_frame))
 
 -- the answer by the shortest beginning of some pieces
-abbrev pub v1_answer : Protocol → Asked → Pieces → Found
+abbrev pub v1_answer : Protocol → Expected → Pieces → Found
 v1_answer version a p = beginnings_from version a p.list p.end []

@@ -6,7 +6,7 @@ use Rattle.std.specs.Prelude.{String}
 use Rattle.std.specs.declared.alloc.Global.{Global}
 use Rattle.gixp_wire.specs.declared.protocol.Protocol.{Protocol}
 use Rattle.gixp_wire.specs.declared.protocol.Protocol.TheVariants.{V2}
-use Rattle.gixp_lines.specs.RefLine.{is_text}
+use Rattle.gixp_wire.specs.Capabilities.{is_text}
 use Rattle.gixp_lines.specs.ResponseError.{answer_refusal, missing_capability}
 use Rattle.gixp_lines.specs.declared.fetch.response.error.Error.{Error}
 

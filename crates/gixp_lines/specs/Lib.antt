@@ -3,7 +3,7 @@ pub use Rattle.gixp_wire.specs.Hex
 pub use Rattle.gixp_wire.specs.Client
 pub use Rattle.gixp_wire.specs.Frames
 pub use Rattle.gixp_wire.specs.FrameText
-pub use Rattle.gixp_wire.specs.Held
+pub use Rattle.gixp_wire.specs.TransportState
 pub use Rattle.gixp_wire.specs.Items
 pub use Rattle.gixp_wire.specs.Lines
 pub use Rattle.gixp_wire.specs.Message
@@ -11,7 +11,6 @@ pub use Rattle.gixp_wire.specs.ObjectId
 pub use Rattle.gixp_wire.specs.Pieces
 pub use Rattle.gixp_wire.specs.Reading
 pub use Rattle.gixp_wire.specs.Transport
-pub mod Cut
 pub mod Ref
 pub mod RefLine
 pub mod ParseError
@@ -22,11 +21,11 @@ pub mod ResponseError
 pub mod Answer
 pub mod Sections
 pub mod Beginnings
-pub mod Reads
+pub mod AnswerReading
 pub mod Features
 pub mod SectionGrammar
-pub mod Advertisement
+pub mod RefAdvertisement
 pub mod V1Refs
 pub mod V1Line
 pub mod BeginningGrammar
-pub mod Groups
+pub mod RefGroups

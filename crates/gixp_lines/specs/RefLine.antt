@@ -9,8 +9,9 @@ use Rattle.gixp_wire.specs.declared.decode.Error.{Error as IdError}
 use Rattle.gixp_wire.specs.declared.decode.Error.TheVariants.{InvalidLength, InvalidDigit}
 use Rattle.gixp_wire.specs.ObjectId.{id_of}
 use Rattle.gixp_wire.specs.Pieces.{Refusal, io, decode, server, memory}
-use Rattle.gixp_lines.specs.Cut.{cut}
+use Rattle.gixp_wire.specs.Cut.{cut}
 use Rattle.gixp_lines.specs.Ref.{RefValue, peeled, direct, symbolic, unborn}
+use Rattle.gixp_wire.specs.Capabilities.{is_text}
 
 -- why there are no refs, as it is compared
 pub data RefsRefusal : Type 0 where
@@ -33,9 +34,6 @@ refusal_from (decode e) = bad_frame e
 refusal_from (server message) = upload_pack message
 refusal_from memory = no_memory
 refusal_from other = by_reader other
-
-abbrev pub is_text : List ℕ → List ℕ → Bool
-is_text = pointwise nat_eq
 
 -- what the attributes of a line say
 pub record AttributeValues : Type 0 where

@@ -8,7 +8,7 @@ use Rattle.gixp_wire.specs.declared.protocol.MessageKind.{MessageKind}
 use Rattle.gixp_wire.specs.declared.protocol.MessageKind.TheVariants.{Flush, Delimiter}
 use Rattle.gixp_wire.specs.Items.{is_stop}
 use Rattle.gixp_wire.specs.Pieces.{Refusal, Piece, line, mark, Pieces, unexpected_frame, not_utf8}
-use Rattle.gixp_lines.specs.RefLine.{is_text}
+use Rattle.gixp_wire.specs.Capabilities.{is_text}
 use Rattle.gixp_lines.specs.AnswerLine.{trimmed, acknowledgement_line, shallow_update_line, wanted_ref_line}
 use Rattle.gixp_lines.specs.ResponseError.{AnswerRefusal, io_failed, unknown_line, unknown_header, by_reader, from_reader}
 use Rattle.gixp_lines.specs.Answer.{AnswerValue, no_more, of_acknowledgement, of_update, of_wanted, Found, whole, refused, in_front}

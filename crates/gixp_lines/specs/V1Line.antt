@@ -10,7 +10,7 @@ use Rattle.gixp_lines.specs.declared.handshake.refs.v1.RefLine.{RefLine}
 use Rattle.gixp_lines.specs.declared.handshake.refs.v1.Advertised.{Advertised}
 use Rattle.gixp_lines.specs.Ref.{RefValue, ref_value}
 use Rattle.gixp_lines.specs.RefLine.{RefsRefusal, and_then}
-use Rattle.gixp_lines.specs.Advertisement.{Symref, V1Line, nothing, peels, names, shallows, v1_line, Named as NamedValue, pair, closed}
+use Rattle.gixp_lines.specs.RefAdvertisement.{Symref, V1Line, nothing, peels, names, shallows, v1_line, Named as NamedValue, pair, closed}
 
 abbrev pub line_of : Line → V1Line
 line_of Nothing = nothing

@@ -20,7 +20,7 @@ use Rattle.gixp_lines.specs.RefLine.{RefsRefusal, refusal_from}
 use Rattle.gixp_lines.specs.ParseError.{Answers, parse_refusal, IsRefusal}
 use Rattle.gixp_lines.specs.Runs.{SoFar}
 use Rattle.gixp_lines.specs.Refs.{ReaderFailed}
-use Rattle.gixp_lines.specs.Advertisement.{Symref, symref_table, groups, v1_refs, v1_updates}
+use Rattle.gixp_lines.specs.RefAdvertisement.{Symref, symref_table, groups, v1_refs, v1_updates}
 
 -- a symref as plain data
 abbrev pub symref_value : BString × Option BString → Symref

@@ -5,13 +5,13 @@ ghost use Rattle.gixp_lines.specs.ResponseError.{AnswerRefusal};
 ghost use Rattle.gixp_lines.specs.Answer.{AnswerValue, whole, refused};
 ghost use Rattle.gixp_lines.specs.Sections.{v2_answer};
 ghost use Rattle.gixp_wire.specs.declared.protocol.Protocol.{Protocol};
-ghost use Rattle.gixp_lines.specs.Beginnings.{Asked, v1_answer};
+ghost use Rattle.gixp_lines.specs.Beginnings.{Expected, v1_answer};
 ghost use Rattle.gixp_lines.specs.BeginningGrammar.{IsShortest, IsRefused};
 ghost use Rattle.gixp_lines.specs.SectionGrammar.{SectionText, Last, AreSections, said_by, AreRefused};
 ghost use Rattle.gixp_lines.specs.Ref.{RefValue};
 ghost use Rattle.gixp_lines.specs.RefLine.{RefsRefusal};
-ghost use Rattle.gixp_lines.specs.Advertisement.{Symref, groups};
-ghost use Rattle.gixp_lines.specs.Groups.{Group, AreGroups, AreGroupRefs, AreRefusedBehind};
+ghost use Rattle.gixp_lines.specs.RefAdvertisement.{Symref, groups};
+ghost use Rattle.gixp_lines.specs.RefGroups.{Group, AreGroups, AreGroupRefs, AreRefusedBehind};
 
 /// An answer that is found under version 2 is a list of sections, and says what their items say.
 pub fn answers_are_sections()
@@ -28,13 +28,13 @@ pub fn sections_are_answers()
 /// An answer that is found under versions 0 and 1 is a beginning that ends one, and no shorter one
 /// does.
 pub fn answers_are_shortest()
-    ensures { (version : Protocol) (a : Asked) (p : Pieces) (value : AnswerValue) (rest : Pieces) → v1_answer version a p ≡ whole value rest → IsShortest version a p value rest }
+    ensures { (version : Protocol) (a : Expected) (p : Pieces) (value : AnswerValue) (rest : Pieces) → v1_answer version a p ≡ whole value rest → IsShortest version a p value rest }
 {}
 
 /// Each beginning that ends an answer under versions 0 and 1, where no shorter one does, is found, so
 /// that it doesn't matter how it was read.
 pub fn shortest_are_answers()
-    ensures { (version : Protocol) (a : Asked) (p : Pieces) (value : AnswerValue) (rest : Pieces) → IsShortest version a p value rest → v1_answer version a p ≡ whole value rest }
+    ensures { (version : Protocol) (a : Expected) (p : Pieces) (value : AnswerValue) (rest : Pieces) → IsShortest version a p value rest → v1_answer version a p ≡ whole value rest }
 {}
 
 /// A version 2 answer that is refused is some sections and behind them a header or an item that is
@@ -51,12 +51,12 @@ pub fn cut_sections_are_refused()
 /// Where an answer under versions 0 and 1 is refused, no beginning ends one, and the refusal is that of
 /// the reader behind all of it.
 pub fn refused_answers_have_no_end()
-    ensures { (version : Protocol) (a : Asked) (p : Pieces) (e : AnswerRefusal) → v1_answer version a p ≡ refused e → IsRefused version a p e }
+    ensures { (version : Protocol) (a : Expected) (p : Pieces) (e : AnswerRefusal) → v1_answer version a p ≡ refused e → IsRefused version a p e }
 {}
 
 /// Where no beginning ends an answer under versions 0 and 1, it is refused so, however it is read.
 pub fn answers_without_end_are_refused()
-    ensures { (version : Protocol) (a : Asked) (p : Pieces) (e : AnswerRefusal) → IsRefused version a p e → v1_answer version a p ≡ refused e }
+    ensures { (version : Protocol) (a : Expected) (p : Pieces) (e : AnswerRefusal) → IsRefused version a p e → v1_answer version a p ≡ refused e }
 {}
 
 /// The refs of an advertisement under versions 0 and 1 are those of groups: ref lines alone, or with

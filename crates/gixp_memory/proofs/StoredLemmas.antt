@@ -14,7 +14,7 @@ use Rattle.gixp_wire.specs.ObjectId.{id_cmp}
 use Rattle.gixp_graph.specs.declared.objects.CommitData.{CommitData}
 use Rattle.gixp_graph.specs.declared.objects.ObjectKind.{ObjectKind}
 use Rattle.gixp_graph.specs.Object.{Object, Commit, kind_at, commit_at, commit_of}
-use Rattle.gixp_graph.specs.Laws.{ids_total}
+use Rattle.gixp_graph.specs.GraphLaws.{ids_total}
 use Rattle.gixp_memory.specs.declared.objects.StoredObject.{StoredObject}
 use Rattle.gixp_memory.specs.Memory.{object_of, objects_of, refs_of}
 

@@ -15,12 +15,12 @@ use Rattle.gixp_wire.specs.declared.object_id.ObjectId.{ObjectId}
 use Rattle.gixp_wire.specs.ObjectId.{id_cmp}
 use Rattle.gixp_graph.specs.declared.flags.Flags.{Flags}
 use Rattle.gixp_graph.specs.Object.{Objects, Commit, commit_at}
-use Rattle.gixp_graph.specs.Held.{Held, GraphData, found_in, put, shown, as_read, unmarked, is_complete, is_marked, IsFaithful}
+use Rattle.gixp_graph.specs.GraphData.{HeldCommit, GraphData, found_in, put, shown, as_read, unmarked, is_complete, is_marked, IsFaithful}
 use Rattle.gixp_graph.specs.Complete.{IsComplete}
 use Rattle.gixp_graph.specs.Run.{Call, IsRun}
-use Rattle.gixp_graph.specs.Laws.{faithful_reads, marked_looked_up, held_looked_up}
+use Rattle.gixp_graph.specs.GraphLaws.{faithful_reads, marked_looked_up, held_looked_up}
 use Rattle.gixp_refmap.specs.declared.refmap.mapping.Mapping.{Mapping}
-use Rattle.gixp_negotiate.specs.Mapping.{mapping_id}
+use Rattle.gixp_negotiate.specs.NegotiationMapping.{mapping_id}
 use Rattle.gixp_negotiate.specs.Rounds.{with_common, keeping, keeping_all}
 use Rattle.gixp_negotiate.specs.Stopped.{LooksAtSome, CallsSome, StopsTelling, Stops, behind_mappings}
 use Rattle.gixp_negotiate.specs.Marking.{mapping_ids, look, look_each, commit_time, time_at, later, cutoff_from, cutoff_of, is_here, is_known, tips_in, Tells, Marks}
@@ -75,7 +75,7 @@ tips_same objects ids id e =
     ∙ ap (λ b. keeping_all (tips_in objects ids) (cond b (id ∷ []) [])) e))
 
 -- what a look shows is what the objects have
-shown_time : (o : Option Held) → commit_time (option_map as_read o) ≡ option_map (λ (x : ℤ × Flags). x.0) (option_map shown o)
+shown_time : (o : Option HeldCommit) → commit_time (option_map as_read o) ≡ option_map (λ (x : ℤ × Flags). x.0) (option_map shown o)
 shown_time None = refl
 shown_time (Some h) = refl
 

@@ -2,7 +2,7 @@
 use Rattle.std.specs.Prelude.{◌≡◌, ◌⊎◌, ◌↔◌, List, IsTrue}
 use Rattle.gixp_wire.specs.declared.object_id.ObjectId.{ObjectId}
 use Rattle.gixp_graph.specs.Object.{commit_at}
-use Rattle.gixp_graph.specs.Held.{GraphData, is_marked, HasNoMarks}
+use Rattle.gixp_graph.specs.GraphData.{GraphData, is_marked, HasNoMarks}
 use Rattle.gixp_graph.specs.Complete.{IsComplete}
 use Rattle.gixp_graph.specs.Run.{Call}
 use Rattle.gixp_negotiate.specs.Marking.{cutoff_of, Marks}

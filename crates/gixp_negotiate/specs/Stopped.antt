@@ -3,7 +3,7 @@ use Rattle.std.specs.Prelude.{◌≡◌, ◌⊎◌, List, ◌∷◌, ◌++◌, f
 use Rattle.std.specs.FinMap as finite
 use Rattle.gixp_wire.specs.declared.object_id.ObjectId.{ObjectId}
 use Rattle.gixp_graph.specs.Object.{commit_at}
-use Rattle.gixp_graph.specs.Held.{GraphData, is_marked, OnlyMarks}
+use Rattle.gixp_graph.specs.GraphData.{GraphData, is_marked, OnlyMarks}
 use Rattle.gixp_graph.specs.Complete.{IsComplete}
 use Rattle.gixp_graph.specs.Run.{Call, IsRun}
 use Rattle.gixp_negotiate.specs.Marking.{look_each, cutoff_of, tips_in, Walks}

@@ -18,7 +18,7 @@ use Rattle.gixp_refspec.specs.RefSpec.{owned_value_of}
 use Rattle.gixp_refspec.specs.Matching.{is_covered}
 use Rattle.gixp_refspec.specs.Mappings.{Source as SourceValue, FullName, ObjectId as IdOf, Mapped, mappings}
 use Rattle.gixp_refspec.specs.Validation.{conflicts, fixes, kept, is_partial}
-use Rattle.gixp_refspec.specs.Laws.{MappingsHaveOrigins}
+use Rattle.gixp_refspec.specs.RefspecLaws.{MappingsHaveOrigins}
 use Rattle.gixp_refspec.specs.Leaving.{LeavesOut, CoversAll, all_prefixes, without_item, SameAnswers, KeepsAnswers}
 use Rattle.gixp_refmap.specs.declared.refmap.mapping.Mapping.{Mapping}
 use Rattle.gixp_refmap.specs.declared.refmap.mapping.Source.{Source}
@@ -27,7 +27,7 @@ use Rattle.gixp_refmap.specs.declared.refmap.mapping.SpecIndex.{SpecIndex}
 use Rattle.gixp_refmap.specs.declared.refmap.init.Error.{Error}
 use Rattle.gixp_refmap.specs.declared.refmap.init.Error.TheVariants.{UnknownObjectFormat, MappingValidation, ListRefs, Memory}
 use Rattle.gixp_refmap.specs.Mapping.{value_name, value_names, has_name, found_in, spec_place, spec_at, joined_specs, IsRemote, IsMapping, Maps, LeavesOutRefs, HoldsOfAll}
-use Rattle.gixp_refmap.specs.Items.{HasItem, HasRemote}
+use Rattle.gixp_refmap.specs.RefMapItems.{HasItem, HasRemote}
 use Rattle.gixp_refmap.proofs.ItemLemmas.{some_within}
 use Rattle.gixp_refmap.proofs.BackedLemmas.{all_filter}
 use Rattle.gixp_refmap.proofs.FoundLemmas.{ItemIsFirst, Good, found_are_good}

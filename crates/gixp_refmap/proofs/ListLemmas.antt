@@ -3,17 +3,7 @@ use Rattle.std.proofs.Common.{◌≡◌, ℕ, ◌+◌, ◌<◌, List, [], ◌∷
 use Rattle.std.specs.Prelude.{◌||◌, Bool}
 use Rattle.std.specs.List.{list_any}
 use Rattle.std.proofs.lemmas.List.{take_more, get_or-map, length-map, map-append}
-
--- one more of what a function makes
-pub take-map_more : {A B : Type 0} (f : A → B) (xs : List A) (i : ℕ) (d : A) → i < length xs → take (i + 1) (map f xs) ≡ take i (map f xs) ++ f (get_or xs i d) ∷ []
-take-map_more f xs i d l =
-    let within : i < length (map f xs) = rw length-map l in
-    take_more (map f xs) i (f d) within ∙ ap (λ y. take i (map f xs) ++ y ∷ []) (get_or-map f xs i d (f d) l)
-
--- a step of a loop that appends what it makes of each element
-pub appended_more : {A B : Type 0} (f : A → B) (old now new : List B) (xs : List A) (i : ℕ) (d : A) → i < length xs → now ≡ old ++ take i (map f xs) → new ≡ now ++ f (get_or xs i d) ∷ [] → new ≡ old ++ take (i + 1) (map f xs)
-appended_more f old now new xs i d l kept step =
-    step ∙ ap (λ z. z ++ f (get_or xs i d) ∷ []) kept ∙ append_assoc old (take i (map f xs)) _ ∙ ap (λ z. old ++ z) (sym (take-map_more f xs i d l))
+use Rattle.gixp_wire.proofs.ListLemmas.{take-map_more}
 
 -- a step of a loop that appends what it makes of each element
 pub mapped_more : {A B C : Type 0} (h : A → B) (g : B → C) (now new : List C) (xs : List A) (i : ℕ) (x : A) → x ≡ get_or xs i x → i < length xs
@@ -22,11 +12,6 @@ mapped_more h g now new xs i x e l kept step =
     let front = take i (map h xs) in
     step ∙ ap (λ y. now ++ g (h y) ∷ []) e ∙ ap (λ z. z ++ g (h (get_or xs i x)) ∷ []) kept ∙ sym (map-append g front (h (get_or xs i x) ∷ []))
     ∙ ap (map g) (sym (take-map_more h xs i x l))
-
--- a test of what a function makes
-pub any_of_map : {A B : Type 0} (p : B → Bool) (h : A → B) (xs : List A) → list_any p (map h xs) ≡ list_any (λ x. p (h x)) xs
-any_of_map p h [] = refl
-any_of_map p h (x ∷ xs) = ap (λ b. p (h x) || b) (any_of_map p h xs)
 
 -- two functions behind one another
 pub map_of_map : {A B C : Type 0} (g : B → C) (h : A → B) (xs : List A) → map g (map h xs) ≡ map (λ x. g (h x)) xs

@@ -12,7 +12,7 @@ use Rattle.gixp_wire.specs.ObjectId.{id_of}
 use Rattle.gixp_refspec.specs.Spec.{Spec, is_negative}
 use Rattle.gixp_refspec.specs.Matching.{middle_of, local_of}
 use Rattle.gixp_refspec.specs.Mappings.{FullName, ObjectId, Mapped, mapped, local_eq, id_mapping, pair, pairs_of, pairs, id_mappings, is_excluded, mappings}
-use Rattle.gixp_refspec.specs.Laws.{HasOrigin}
+use Rattle.gixp_refspec.specs.RefspecLaws.{HasOrigin}
 use Rattle.gixp_refspec.proofs.PrefixLemmas.{matched_is_covered}
 use Rattle.gixp_refspec.proofs.BackedLemmas.{has_same, Backed, backed_append, firsts_are_good}
 

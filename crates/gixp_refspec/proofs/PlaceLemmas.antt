@@ -23,7 +23,8 @@ use Rattle.gixp_refspec.specs.Needle.{IsNeedle}
 use Rattle.gixp_refspec.specs.Rows.{shown, is_row_of, meant, IsTable, has_place, AddsPlaces, HasPlaces, ArePlaces, ref_at}
 use Rattle.gixp_refspec.proofs.DistinctLemmas.{is_eq-reverse}
 use Rattle.gixp_refspec.proofs.FirstLemmas.{or_none}
-use Rattle.gixp_refspec.proofs.ListLemmas.{any_same, any_of_map, kept_same}
+use Rattle.gixp_refspec.proofs.ListLemmas.{any_same, kept_same}
+use Rattle.gixp_wire.proofs.ListLemmas.{any_of_map}
 use Rattle.gixp_refspec.proofs.NeedleLemmas.{middle_with-needle}
 use Rattle.gixp_refspec.proofs.PairLemmas.{pair_none}
 use Rattle.gixp_refspec.proofs.RowLemmas.{meant_none, flat_map-filter}

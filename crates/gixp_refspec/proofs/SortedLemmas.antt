@@ -11,7 +11,7 @@ use Rattle.std.proofs.lemmas.Map.Lookups.{exact_bytes}
 use Rattle.std.proofs.lemmas.Slice.Eq.{bytes_eq-Decides}
 use Rattle.gixp_refspec.specs.Mappings.{Mapped}
 use Rattle.gixp_refspec.specs.Validation.{is_below, insert_name, insert_local, local_names}
-use Rattle.gixp_refspec.specs.Laws.{is_increasing}
+use Rattle.gixp_refspec.specs.RefspecLaws.{is_increasing}
 
 -- only `Less` is below
 pub less_is : (o : Ordering) → is_lt o ≡ true → o ≡ Less

@@ -18,7 +18,7 @@ use Rattle.gixp_refspec.specs.Groups.{Grouped, mapped_behind, AreGroups}
 use Rattle.gixp_refspec.specs.Mappings.{Mapped}
 use Rattle.gixp_refspec.specs.Spec.{Spec}
 use Rattle.gixp_refspec.specs.Validation.{is_below, of_local, has_local, local_names, conflict_over, conflicts}
-use Rattle.gixp_refspec.specs.Laws.{is_increasing}
+use Rattle.gixp_refspec.specs.RefspecLaws.{is_increasing}
 use Rattle.gixp_refspec.proofs.GroupLemmas.{by_name, Group, shown}
 use Rattle.gixp_refspec.proofs.KeyLemmas.{bytes_eq-turned}
 use Rattle.gixp_refspec.proofs.LawLemmas.{has-local_names, has}

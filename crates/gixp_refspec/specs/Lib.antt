@@ -15,4 +15,4 @@ pub mod Apart
 pub mod Groups
 pub mod Validate
 pub mod Leaving
-pub mod Laws
+pub mod RefspecLaws

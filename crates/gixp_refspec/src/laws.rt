@@ -1,5 +1,5 @@
 //! Laws of the definitions that contracts cite. The functions do nothing: a caller that cites a law calls one.
-ghost use Rattle.gixp_refspec.specs.Laws.{MatchesMiddle, MatchesOnly, NamesAreLocal, NamesIncrease, MappingsHaveOrigins};
+ghost use Rattle.gixp_refspec.specs.RefspecLaws.{MatchesMiddle, MatchesOnly, NamesAreLocal, NamesIncrease, MappingsHaveOrigins};
 ghost use Rattle.gixp_refspec.specs.Leaving.{KeepsAnswers};
 
 /// Leaving out refs whose names begin with none of the prefixes that [`expand_prefixes`] adds for the refspecs, each

@@ -23,7 +23,7 @@ pub fn report_response(
 ) -> Result<(), AllocError> {
     report.word(version_word(found.actual_protocol))?;
     report.word(" ")?;
-    report.word(if found.has_refs { "refs " } else { "norefs " })?;
+    report.word(if found.refs_follow { "refs " } else { "norefs " })?;
     capability_list(alloc, report, &found.capabilities)?;
     report.word("; ")
 }
@@ -83,7 +83,7 @@ fn report_over<T: Transport>(
     let Some(found) = shake_hands(alloc, transport, report)? else {
         return Ok(());
     };
-    if found.has_refs {
+    if found.refs_follow {
         let _ = report_early_refs(alloc, transport, &found.capabilities, report)?;
     }
     report_rest(transport, found.actual_protocol, report)

@@ -140,7 +140,7 @@ fn report_over<T: Transport>(
         return Ok(());
     };
     let version = found.actual_protocol;
-    let goes_on = if found.has_refs {
+    let goes_on = if found.refs_follow {
         report_early_refs(alloc, transport, &found.capabilities, report)?
     } else {
         list_refs(alloc, transport, report)?

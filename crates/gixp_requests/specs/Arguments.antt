@@ -13,7 +13,7 @@ use Rattle.gixp_requests.specs.Feature.{FeatureValue, feature_text, has_feature}
 use Rattle.gixp_requests.specs.Command.{Table, initial_arguments}
 
 -- what is asked for so far
-pub record Asked : Type 0 where
+pub record ArgumentsValue : Type 0 where
   pub version : Protocol
   -- the features that were handed in
   pub features : List FeatureValue
@@ -42,7 +42,7 @@ abbrev pub first_lines : Table → Protocol → List FeatureValue → List (List
 first_lines table version features = if is_v2 version then initial_arguments table Fetch features else []
 
 -- nothing but these is asked for
-abbrev pub asks_nothing : Table → Protocol → List FeatureValue → Asked
+abbrev pub asks_nothing : Table → Protocol → List FeatureValue → ArgumentsValue
 asks_nothing table version features = record {
   version = version;
   features = features;
@@ -55,7 +55,7 @@ asks_nothing table version features = record {
 }
 
 -- one more argument line
-abbrev pub with_line : List ℕ → Asked → Asked
+abbrev pub with_line : List ℕ → ArgumentsValue → ArgumentsValue
 with_line line a = record a { lines = a.lines ++ line ∷ [] }
 
 -- whether a feature goes into the first want: two of them only where they were turned on
@@ -75,7 +75,7 @@ abbrev pub texts_on : Bool → Bool → List FeatureValue → List (List ℕ)
 texts_on include_tag deepen_relative features = map feature_text (filter (is_on include_tag deepen_relative) features)
 
 -- the features of the first want: those that are on, in their order, and those that were added
-abbrev pub first_features : Asked → List (List ℕ)
+abbrev pub first_features : ArgumentsValue → List (List ℕ)
 first_features a = texts_on a.include_tag a.deepen_relative a.features ++ a.added
 
 -- a blank and some texts, joined by blanks
@@ -83,65 +83,65 @@ abbrev pub behind_blank : List (List ℕ) → List ℕ
 behind_blank texts = 32 ∷ join_with_byte 32 texts
 
 -- under versions 0 and 1 a blank and the features, joined by blanks, stand behind the first want
-abbrev pub behind_want : Asked → List ℕ
+abbrev pub behind_want : ArgumentsValue → List ℕ
 behind_want a = if is_v2 a.version || a.wanted then [] else behind_blank (first_features a)
 
-abbrev pub want_line : List ℕ → Asked → List ℕ
+abbrev pub want_line : List ℕ → ArgumentsValue → List ℕ
 want_line id a = codes "want " ++ (id ++ behind_want a)
 
 -- what each call makes of it
-abbrev pub asks_want : List ℕ → Asked → Asked
+abbrev pub asks_want : List ℕ → ArgumentsValue → ArgumentsValue
 asks_want id a = record a { lines = a.lines ++ want_line id a ∷ []; wanted = true }
 
-abbrev pub asks_want_ref : List ℕ → Asked → Asked
+abbrev pub asks_want_ref : List ℕ → ArgumentsValue → ArgumentsValue
 asks_want_ref path = with_line (codes "want-ref " ++ path)
 
-abbrev pub asks_have : List ℕ → Asked → Asked
+abbrev pub asks_have : List ℕ → ArgumentsValue → ArgumentsValue
 asks_have id a = record a { haves = a.haves ++ (codes "have " ++ id) ∷ [] }
 
-abbrev pub asks_shallow : List ℕ → Asked → Asked
+abbrev pub asks_shallow : List ℕ → ArgumentsValue → ArgumentsValue
 asks_shallow id = with_line (codes "shallow " ++ id)
 
-abbrev pub asks_deepen : ℕ → Asked → Asked
+abbrev pub asks_deepen : ℕ → ArgumentsValue → ArgumentsValue
 asks_deepen depth = with_line (codes "deepen " ++ decimal depth)
 
-abbrev pub asks_deepen_since : ℤ → Asked → Asked
+abbrev pub asks_deepen_since : ℤ → ArgumentsValue → ArgumentsValue
 asks_deepen_since seconds = with_line (codes "deepen-since " ++ signed_decimal seconds)
 
-abbrev pub asks_deepen_not : List ℕ → Asked → Asked
+abbrev pub asks_deepen_not : List ℕ → ArgumentsValue → ArgumentsValue
 asks_deepen_not path = with_line (codes "deepen-not " ++ path)
 
-abbrev pub asks_filter : List ℕ → Asked → Asked
+abbrev pub asks_filter : List ℕ → ArgumentsValue → ArgumentsValue
 asks_filter spec = with_line (codes "filter " ++ spec)
 
 -- a line under version 2, else a feature of the first want that is turned on
-abbrev pub asks_deepen_relative : Asked → Asked
+abbrev pub asks_deepen_relative : ArgumentsValue → ArgumentsValue
 asks_deepen_relative a = if is_v2 a.version then with_line (codes "deepen-relative") a else record a { deepen_relative = true }
 
-abbrev pub asks_include_tag : Asked → Asked
+abbrev pub asks_include_tag : ArgumentsValue → ArgumentsValue
 asks_include_tag a = if is_v2 a.version then with_line (codes "include-tag") a else record a { include_tag = true }
 
 -- a line under version 2, else one more feature of the first want
-abbrev pub asks_feature : List ℕ → Asked → Asked
+abbrev pub asks_feature : List ℕ → ArgumentsValue → ArgumentsValue
 asks_feature feature a = if is_v2 a.version then with_line feature a else record a { added = a.added ++ feature ∷ [] }
 
 -- a refused call leaves all as it was
-abbrev pub Becomes : Result Unit AllocError → Asked → Asked → Asked → Type 0
+abbrev pub Becomes : Result Unit AllocError → ArgumentsValue → ArgumentsValue → ArgumentsValue → Type 0
 Becomes (Ok t) old next new = new ≡ next
 Becomes (Err e) old next new = new ≡ old
 
 -- what may be asked for
-abbrev pub can_use : List ℕ → Asked → Bool
+abbrev pub can_use : List ℕ → ArgumentsValue → Bool
 can_use name a = has_feature name a.features
 
-abbrev pub can_use_deepening : List ℕ → Asked → Bool
+abbrev pub can_use_deepening : List ℕ → ArgumentsValue → Bool
 can_use_deepening name a = if is_v2 a.version then can_use (codes "shallow") a else can_use name a
 
-abbrev pub can_use_include_tag : Asked → Bool
+abbrev pub can_use_include_tag : ArgumentsValue → Bool
 can_use_include_tag a = is_v2 a.version || can_use (codes "include-tag") a
 
 -- a feature can be added until the first want, and under version 2 at any time
-abbrev pub may_add_feature : Asked → Bool
+abbrev pub may_add_feature : ArgumentsValue → Bool
 may_add_feature a = is_v2 a.version || not a.wanted
 
 -- whether a line asks for an object
@@ -149,5 +149,5 @@ abbrev pub is_want : List ℕ → Bool
 is_want line = starts_with nat_eq line (codes "want ")
 
 -- neither a have nor a want
-abbrev pub is_empty : Asked → Bool
+abbrev pub is_empty : ArgumentsValue → Bool
 is_empty a = (length a.haves == 0) && not (list_any is_want a.lines)

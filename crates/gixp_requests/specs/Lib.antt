@@ -3,7 +3,7 @@ pub use Rattle.gixp_wire.specs.Hex
 pub use Rattle.gixp_wire.specs.Client
 pub use Rattle.gixp_wire.specs.Frames
 pub use Rattle.gixp_wire.specs.FrameText
-pub use Rattle.gixp_wire.specs.Held
+pub use Rattle.gixp_wire.specs.TransportState
 pub use Rattle.gixp_wire.specs.Items
 pub use Rattle.gixp_wire.specs.Lines
 pub use Rattle.gixp_wire.specs.Message

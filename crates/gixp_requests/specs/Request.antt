@@ -4,7 +4,7 @@ use Rattle.std.specs.List.{list_all, swap}
 use Rattle.gixp_wire.specs.Frames.{Frame}
 use Rattle.gixp_wire.specs.Message.{MessageValue, text, flush, value_frame, value_fits, command_values}
 use Rattle.gixp_requests.specs.Feature.{FeatureValue, feature_text}
-use Rattle.gixp_requests.specs.Arguments.{Asked, is_want, is_v2}
+use Rattle.gixp_requests.specs.Arguments.{ArgumentsValue, is_want, is_v2}
 
 -- under version 2 only features with a value are sent
 abbrev pub has_value : FeatureValue → Bool
@@ -45,19 +45,19 @@ abbrev pub upload_values : List (List ℕ) → List (List ℕ) → Bool → List
 upload_values lines haves done = map text (want_first lines) ++ (flush_behind lines ++ (map text haves ++ done_value done ∷ []))
 
 -- the messages of a request for a pack
-abbrev pub request_values : Asked → Bool → List MessageValue
+abbrev pub request_values : ArgumentsValue → Bool → List MessageValue
 request_values a done =
     if is_v2 a.version then command_values (codes "fetch") (sent_features a.features) (fetch_arguments a.lines a.haves done)
     else upload_values a.lines a.haves done
 
 -- its frames
-abbrev pub request : Asked → Bool → List Frame
+abbrev pub request : ArgumentsValue → Bool → List Frame
 request a done = map value_frame (request_values a done)
 
 -- whether each of its lines fits into a frame
-abbrev pub request_fits : Asked → Bool → Bool
+abbrev pub request_fits : ArgumentsValue → Bool → Bool
 request_fits a done = list_all value_fits (request_values a done)
 
 -- what is left to ask for behind a request: no have, and the lines where they are to be said again
-abbrev pub sent_off : Bool → Asked → Asked
+abbrev pub sent_off : Bool → ArgumentsValue → ArgumentsValue
 sent_off persists a = record a { lines = (if is_v2 a.version then a.lines else if persists then [] else a.lines); haves = [] }

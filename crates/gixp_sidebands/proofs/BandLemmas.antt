@@ -10,7 +10,7 @@ use Rattle.gixp_sidebands.specs.declared.sidebands.band.Band.TheVariants.{Empty,
 use Rattle.gixp_wire.specs.Pieces.{Refusal, io, decode, server, unexpected_frame, not_utf8, bad_band, interrupted, memory, Piece, line, mark, Pieces, no_pieces, with_piece}
 use Rattle.gixp_wire.specs.Items.{is_stop}
 use Rattle.gixp_wire.specs.Lines.{gives, stops, refuses, next_from, next_of}
-use Rattle.gixp_wire.specs.Held.{Held}
+use Rattle.gixp_wire.specs.TransportState.{TransportState}
 use Rattle.gixp_wire.specs.Reading.{Reading, TakesLine, ShowsLine, AtStop, Refuses, Faults, Fails, Stays, IsFault, Rose}
 use Rattle.gixp_sidebands.specs.Bands.{band_of, is_content, band_refusal, IsPassed, unband_line, unband_from, unband, unband_behind, banded_reading, is_begun}
 use Rattle.gixp_sidebands.proofs.PieceLemmas.{mark_not_gives}
@@ -102,7 +102,7 @@ skipping-behind name r now t = record {
   version = t.version;
   failures = t.failures;
   left = let a = t.left in omega arith;
-  held = ap (λ (h : Held). record h { names = name ∷ h.names }) t.held;
+  held = ap (λ (h : TransportState). record h { names = name ∷ h.names }) t.held;
   moved = inr (record { refused = refl; unpeeked = refl; peeked = t.peeked; running = t.running });
 }
 
@@ -247,7 +247,7 @@ again_before o now new name s h p = at s.moved
     at (inr e) = absurd (let x = e.unpeeked in cc)
 
 held_above : (name : GName) (a b : Reading) → b.held ≡ a.held → (seen name b).held ≡ (seen name a).held
-held_above name a b e = ap (λ (h : Held). record h { names = name ∷ h.names }) e
+held_above name a b e = ap (λ (h : TransportState). record h { names = name ∷ h.names }) e
 
 pub shows_content : (o now new : Reading) (name : GName) → Skipping o name now → ShowsLine now new → band_of new.line ≡ Content → ShowsLine o (seen name new)
 shows_content o now new name s h k =

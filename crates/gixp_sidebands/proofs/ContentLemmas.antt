@@ -3,7 +3,7 @@ use Rattle.std.proofs.Common.{◌≡◌, ℕ, ◌+◌, ◌-◌, ◌<◌, ◌≤�
 use Rattle.std.specs.Prelude.{◌&&◌, nat_lt, is_some}
 use Rattle.std.proofs.lemmas.List.{drop-drop, take-append-le, drop-append-le, length-take-le}
 use Rattle.std.specs.Option.{option_map}
-use Rattle.gixp_wire.specs.Held.{Held}
+use Rattle.gixp_wire.specs.TransportState.{TransportState}
 use Rattle.std.proofs.lemmas.Bool.{ltb-true}
 use Rattle.gixp_wire.specs.declared.protocol.Protocol.{Protocol}
 use Rattle.gixp_wire.specs.declared.protocol.MessageKind.{MessageKind}
@@ -297,7 +297,7 @@ reads_bytes old mid new n rest buf buf' s h name fault r m b =
         version = h.version ∙ s.version;
         failures = h.failures ∙ s.failures;
         left = let a = h.left in let c = s.left in omega arith;
-        held = ap (λ (x : Held). record x { names = new.name ∷ x.names }) h.held ∙ ap (λ k. record mid.reading.held { names = k ∷ mid.reading.held.names }) name ∙ s.held;
+        held = ap (λ (x : TransportState). record x { names = new.name ∷ x.names }) h.held ∙ ap (λ k. record mid.reading.held { names = k ∷ mid.reading.held.names }) name ∙ s.held;
         fault = fault ∙ s.fault;
       },
       λ z. let some = s.some in let l = ap length r in omega (arith, ap length b, length-append (take n rest) (drop n buf), length-drop n buf),

@@ -1,4 +1,4 @@
-pub use Rattle.gixp_wire.specs.Held
+pub use Rattle.gixp_wire.specs.TransportState
 pub use Rattle.gixp_wire.specs.Items
 pub use Rattle.gixp_wire.specs.Lines
 pub use Rattle.gixp_wire.specs.Pieces

@@ -51,7 +51,7 @@ fn greeted<T: Transport>(alloc: Global, transport: &mut T) -> Result<String, Fai
             let count = found.capabilities.iter().count();
             let head = format!(in alloc;
                 "{:?} {count} {} ",
-                found.actual_protocol, found.has_refs
+                found.actual_protocol, found.refs_follow
             )?;
             said.push_str(head.as_str())?;
             for _ in 0..100usize {

@@ -3,10 +3,10 @@ ghost use Rattle.std.specs.Prelude.{◌≡◌, Some, Ok, Err, true, false, IfOk,
 ghost use Rattle.std.specs.FinMap as finite;
 ghost use Rattle.gix_protocol.specs.ObjectIdType.{ObjectId};
 ghost use Rattle.bstr.specs.BStr.{bstr_bytes};
-ghost use Rattle.gix_protocol.specs.Beginnings.{asked};
+ghost use Rattle.gix_protocol.specs.Beginnings.{expected};
 ghost use Rattle.gix_protocol.specs.Complete.{IsComplete};
 ghost use Rattle.gix_protocol.specs.Object.{commit_at};
-ghost use Rattle.gix_protocol.specs.Reads.{answer_of, Answered};
+ghost use Rattle.gix_protocol.specs.AnswerReading.{answer_of, Answered};
 ghost use Rattle.gix_protocol.specs.RefSpec.{value_of};
 ghost use Rattle.gix_protocol.specs.Spec.{spec_of};
 
@@ -42,7 +42,7 @@ pub fn read_answer<R: ExtendedBufRead>(
     version: Protocol,
     reader: &mut R,
 ) -> Result<Response, response::Error>
-    ensures { IfOk result (Answered (answer_of version (asked true false)) version (R.reading reader.old) (R.reading reader.new)) }
+    ensures { IfOk result (Answered (answer_of version (expected true false)) version (R.reading reader.old) (R.reading reader.new)) }
 {
     Response::from_line_reader(alloc, version, reader, true, false)
 }

@@ -24,7 +24,7 @@ use Rattle.gixp_wire.specs.Packets.{is_peeked, place_stop, known, packets_readin
 use Rattle.gixp_wire.specs.Capabilities.{CapabilityValue, capability_of_line, capabilities_of_line, capabilities_of_lines, capabilities_behind, IsOfLine}
 use Rattle.gixp_wire.specs.Client.{ClientRefusal, failed, reader, no_memory, no_null_byte, unsupported_version, client_refusal, client_from}
 use Rattle.gixp_wire.specs.Reading.{Reading, reset_to, ShowsLine, TakesLine, TakesStop, AtStop, IsPlain, IsLasting, Faults, IsOutside, refusal_of, is_end, Fails as Failing}
-use Rattle.gixp_wire.specs.Advertisement.{Advertised, Named, another, unnamed, version_named, trimmed, no_refs, ref_line, from_ref_line, by_version, by_first, advertisement, by_lines, from_capability_lines, Answers, Reads, Fails, IsFromDevice, LinesTaken, TakesNone, TakesAny, TakesFirst, one, two, behind_lines, StandsRefused, StandsIo, Stands, Advertises}
+use Rattle.gixp_wire.specs.CapabilityAdvertisement.{Advertised, Named, another, unnamed, version_named, trimmed, empty_advertisement, ref_line, from_ref_line, by_version, by_first, advertisement, by_lines, from_capability_lines, Answers, ReadsAdvertisement, FailsAdvertisement, IsFromDevice, LinesTaken, TakesNone, TakesAny, TakesFirst, one, two, behind_lines, StandsRefused, StandsIo, Stands, Advertises}
 use Rattle.gixp_wire.proofs.LineLemmas.{gives_line, stops_here, refuses_here}
 
 -- what one says of known pieces, the other says of those that are left
@@ -236,7 +236,7 @@ always (Some p) P h = h
 
 -- a reader that is refused refuses what was said
 pub fails-reading : (said : Pieces → Result Advertised ClientRefusal) (takes : Protocol → List (List ℕ) → Type 0) (old new : Reading) (x : Refusal) (e : Error) → takes old.version [] → Failing old new x
-    → IsPlain new x → client_refusal e ≡ client_from x → ((p : Pieces) → next_of old.version p ≡ refuses x → said p ≡ Err (client_from x)) → Fails said takes old new e
+    → IsPlain new x → client_refusal e ≡ client_from x → ((p : Pieces) → next_of old.version p ≡ refuses x → said p ≡ Err (client_from x)) → FailsAdvertisement said takes old new e
 fails-reading said takes old new x e m (inl k) p is f = record {
   taken = [];
   by_version = subst (λ v. takes v []) (sym k.version) m;
@@ -261,13 +261,13 @@ stopped_known said None b v kind found P f g h = tt
 stopped_known said (Some p) b v kind found P f g h = (found h.0, f p h.0 h.2, g h.0 h.1)
 
 -- a stop in place of the first ref line
-pub reads-no_refs : (said : Pieces → Result Advertised ClientRefusal) (v : Protocol) (old new : Reading) (kind : MessageKind) (found : SetServiceResponse)
-    → old.version ≡ v → found ≡ record { actual_protocol = v; capabilities = []; has_refs = true } → TakesStop old new kind
-    → ((p q : Pieces) → next_of v p ≡ stops kind q → said p ≡ Ok (no_refs v kind q)) → Reads said old new found
-reads-no_refs said v old new kind found version is k f = record {
-  value = stopped_known said old.to_come new.to_come old.version kind (no_refs v kind) (λ a. Answers a new found)
+pub reads-empty_advertisement : (said : Pieces → Result Advertised ClientRefusal) (v : Protocol) (old new : Reading) (kind : MessageKind) (found : SetServiceResponse)
+    → old.version ≡ v → found ≡ record { actual_protocol = v; capabilities = []; refs_follow = true } → TakesStop old new kind
+    → ((p q : Pieces) → next_of v p ≡ stops kind q → said p ≡ Ok (empty_advertisement v kind q)) → ReadsAdvertisement said old new found
+reads-empty_advertisement said v old new kind found version is k f = record {
+  value = stopped_known said old.to_come new.to_come old.version kind (empty_advertisement v kind) (λ a. Answers a new found)
       (λ p q n. f p q (ap (λ w. next_of w p) (sym version) ∙ n))
-      (λ q at. rw is (record { version = refl; capabilities = refl; has_refs = refl; rest = at; stopped = k.stopped }))
+      (λ q at. rw is (record { version = refl; capabilities = refl; refs_follow = refl; rest = at; stopped = k.stopped }))
       k.next;
   version = k.version ∙ version ∙ (rw is refl);
   failures = k.failures;
@@ -328,16 +328,16 @@ gathers-steps old mid texts h = record { turns = at old.to_come mid.to_come h.ne
 
 -- the capability lines up to the stop
 pub reads-lines : (old mid new : Reading) (texts : List (List ℕ)) (found : SetServiceResponse) → Gathers old mid texts → AtStop mid new
-    → found ≡ record { actual_protocol = V2; capabilities = capabilities_of_lines texts; has_refs = false } → Reads from_capability_lines old new found
+    → found ≡ record { actual_protocol = V2; capabilities = capabilities_of_lines texts; refs_follow = false } → ReadsAdvertisement from_capability_lines old new found
 reads-lines old mid new texts found h at is =
     let stop = takes-stop mid new h.running at in
     let kind = stop.0 in
     let k = stop.1 in
-    let said : Pieces → Advertised = λ q. record { version = V2; capabilities = capabilities_of_lines texts; has_refs = false; rest = q; stopped = Some kind } in
+    let said : Pieces → Advertised = λ q. record { version = V2; capabilities = capabilities_of_lines texts; refs_follow = false; rest = q; stopped = Some kind } in
     advertises-then from_capability_lines (said_behind texts) TakesAny TakesAny texts old mid new (Ok found) (λ v ts m. m) (gathers-steps old mid texts h) (record {
       value = stopped_known (said_behind texts) mid.to_come new.to_come mid.version kind said (λ a. Answers a new found)
           (λ p q n. let next : next_of V2 p ≡ stops kind q = ap (λ v. next_of v p) (sym h.version) ∙ n in rw (stops_here V2 p.list p.end kind q next, append-nil) refl)
-          (λ q e. rw is (record { version = refl; capabilities = refl; has_refs = refl; rest = e; stopped = k.stopped }))
+          (λ q e. rw is (record { version = refl; capabilities = refl; refs_follow = refl; rest = e; stopped = k.stopped }))
           k.next;
       version = k.version ∙ h.version ∙ (rw is refl);
       failures = k.failures;
@@ -347,14 +347,14 @@ reads-lines old mid new texts found h at is =
 
 -- a refusal among them
 pub fails-lines : (old mid new : Reading) (texts : List (List ℕ)) (x : Refusal) (e : Error) → Gathers old mid texts → Failing mid new x → IsPlain new x
-    → client_refusal e ≡ client_from x → Fails from_capability_lines TakesAny old new e
+    → client_refusal e ≡ client_from x → FailsAdvertisement from_capability_lines TakesAny old new e
 fails-lines old mid new texts x e h k p is =
     advertises-then from_capability_lines (said_behind texts) TakesAny TakesAny texts old mid new (Err e) (λ v ts m. m) (gathers-steps old mid texts h)
     (fails-reading (said_behind texts) TakesAny mid new x e h.version k p is
     (λ q n. let next : next_of V2 q ≡ refuses x = ap (λ v. next_of v q) (sym h.version) ∙ n in rw (refuses_here V2 q.list q.end x next) refl))
 
 -- no memory for one of them
-pub fails-memory : (old mid new : Reading) (texts : List (List ℕ)) → Gathers old mid texts → TakesLine mid new → Fails from_capability_lines TakesAny old new Memory
+pub fails-memory : (old mid new : Reading) (texts : List (List ℕ)) → Gathers old mid texts → TakesLine mid new → FailsAdvertisement from_capability_lines TakesAny old new Memory
 fails-memory old mid new texts h k = record { why = inr (k.failures ∙ h.failures); taken = texts ++ new.line ∷ []; by_version = k.version ∙ h.version; stands = taken-then texts (new.line ∷ []) old.to_come mid.to_come new.to_come h.lines (one-taken mid.to_come new.to_come mid.version new.line k.next); stopped = k.stopped; left = let a = h.left in let b = k.left in omega arith; held = k.held ∙ h.held }
 
 -- the capabilities of one more line
@@ -425,10 +425,10 @@ module _ {R : Type 0} where
   -- the first ref line was cut before its NUL
   pub reads-cut : (rem : R → Option (List ℕ)) (p : Packets R) (v : Protocol) (cs : List CapabilityValue) (n : ℕ) → p.place ≡ Peeked → p.version ≡ v
       → capabilities_of_line p.window.lent ≡ Some (cs, n)
-      → Reads (from_ref_line v) (packets_reading rem p) (packets_reading rem (shortened p n)) (record { actual_protocol = v; capabilities = cs; has_refs = true })
+      → ReadsAdvertisement (from_ref_line v) (packets_reading rem p) (packets_reading rem (shortened p n)) (record { actual_protocol = v; capabilities = cs; refs_follow = true })
   reads-cut rem p v cs n e version is =
       let new = shortened p n in
-      let found : SetServiceResponse = record { actual_protocol = v; capabilities = cs; has_refs = true } in
+      let found : SetServiceResponse = record { actual_protocol = v; capabilities = cs; refs_follow = true } in
       let P : Option Pieces → Type 0 = λ c. IfSome c (λ q. (a : Advertised) × (from_ref_line v q ≡ Ok a) × Answers a (packets_reading rem new) found) in
       record {
         value = subst P (sym (to_come-peeked rem p e)) (at (option_map stream_pieces (known rem p)) refl);
@@ -442,15 +442,15 @@ module _ {R : Type 0} where
     where
       at : (o : Option Pieces) → option_map stream_pieces (known rem p) ≡ o
           → IfSome (option_map (with_piece (line p.window.lent)) o) (λ q. (a : Advertised) × (from_ref_line v q ≡ Ok a)
-          × Answers a (packets_reading rem (shortened p n)) (record { actual_protocol = v; capabilities = cs; has_refs = true }))
+          × Answers a (packets_reading rem (shortened p n)) (record { actual_protocol = v; capabilities = cs; refs_follow = true }))
       at None k = tt
       at (Some q) k = (
-        record { version = v; capabilities = cs; has_refs = true; rest = with_piece (line (take n p.window.lent)) q; stopped = None },
+        record { version = v; capabilities = cs; refs_follow = true; rest = with_piece (line (take n p.window.lent)) q; stopped = None },
         ap (ref_line v p.window.lent q) is,
         record {
           version = refl;
           capabilities = refl;
-          has_refs = refl;
+          refs_follow = refl;
           rest = to_come-peeked rem (shortened p n) e ∙ ap (option_map (with_piece (line (take n p.window.lent)))) k;
           stopped = ap place_stop e;
         },
@@ -458,14 +458,14 @@ module _ {R : Type 0} where
 
   -- it has no NUL
   pub fails-cut : (rem : R → Option (List ℕ)) (p : Packets R) (v : Protocol) (e : Error) → p.place ≡ Peeked → p.version ≡ v
-      → IsOfLine (capabilities_of_line p.window.lent) (Err e) → Fails (from_ref_line v) (TakesNone v) (packets_reading rem p) (packets_reading rem p) e
+      → IsOfLine (capabilities_of_line p.window.lent) (Err e) → FailsAdvertisement (from_ref_line v) (TakesNone v) (packets_reading rem p) (packets_reading rem p) e
   fails-cut rem p v e peeked version h = by (capabilities_of_line p.window.lent) refl h
     where
       none : (o : Option Pieces) → capabilities_of_line p.window.lent ≡ None → IfSome (option_map (with_piece (line p.window.lent)) o) (λ q. from_ref_line v q ≡ Err no_null_byte)
       none None k = tt
       none (Some q) k = ap (ref_line v p.window.lent q) k
 
-      by : (o : Option (List CapabilityValue × ℕ)) → capabilities_of_line p.window.lent ≡ o → IsOfLine o (Err e) → Fails (from_ref_line v) (TakesNone v) (packets_reading rem p) (packets_reading rem p) e
+      by : (o : Option (List CapabilityValue × ℕ)) → capabilities_of_line p.window.lent ≡ o → IsOfLine o (Err e) → FailsAdvertisement (from_ref_line v) (TakesNone v) (packets_reading rem p) (packets_reading rem p) e
       by None k i =
           let P : Option Pieces → Type 0 = λ c. IfSome c (λ q. from_ref_line v q ≡ Err (client_refusal e)) in
           let refused : client_refusal e ≡ no_null_byte = ap client_refusal i in
@@ -496,7 +496,7 @@ module _ {R : Type 0} where
 
   -- one that names another version is refused
   pub fails-another : (rem : R → Option (List ℕ)) (p : Packets R) (e : Error) → p.version ≡ V0 → p.place ≡ Peeked → version_named p.window.lent ≡ another (trimmed p.window.lent)
-      → (client_refusal e ≡ unsupported_version (trimmed p.window.lent)) ⊎ (e ≡ Memory) → Fails advertisement TakesFirst (packets_reading rem p) (packets_reading rem p) e
+      → (client_refusal e ≡ unsupported_version (trimmed p.window.lent)) ⊎ (e ≡ Memory) → FailsAdvertisement advertisement TakesFirst (packets_reading rem p) (packets_reading rem p) e
   fails-another rem p e version peeked is (inl refused) = record {
     taken = [];
     by_version = subst (λ v. TakesFirst v []) (sym version) refl;

@@ -4,7 +4,7 @@ use Rattle.gixp_wire.specs.declared.client.Error.{Error}
 use Rattle.gixp_wire.specs.declared.client.Error.TheVariants.{Io, Read, LineTooLong, AuthenticationUnsupported, UnsupportedProtocolVersion, MissingDelimitingNullByte, Memory}
 use Rattle.gixp_wire.specs.declared.service.Service.{Service}
 use Rattle.gixp_wire.specs.FrameText.{payload_text}
-use Rattle.gixp_wire.specs.Held.{Greeting}
+use Rattle.gixp_wire.specs.TransportState.{Greeting}
 use Rattle.gixp_wire.specs.Reading.{Reading}
 use Rattle.gixp_wire.specs.Greeting.{Parameter, greeting_text, greeting_fits}
 use Rattle.gixp_wire.specs.Handshake.{GreetsBy}

@@ -8,12 +8,12 @@ use Rattle.gixp_wire.specs.declared.client.Error.{Error as ClientError}
 use Rattle.gixp_wire.specs.declared.client.Error.TheVariants.{Io as ClientIo, Read as ClientRead, LineTooLong, AuthenticationUnsupported, UnsupportedProtocolVersion, MissingDelimitingNullByte, Memory as ClientMemory}
 use Rattle.gixp_wire.specs.declared.service.SetServiceResponse.{SetServiceResponse}
 use Rattle.gixp_wire.specs.Client.{ClientRefusal, client_refusal}
-use Rattle.gixp_wire.specs.Advertisement.{Advertised, Answers, IsFromDevice, StandsIo, Stands, Advertises}
+use Rattle.gixp_wire.specs.CapabilityAdvertisement.{Advertised, Answers, IsFromDevice, StandsIo, Stands, Advertises}
 use Rattle.std.specs.declared.io.ErrorKind.{ErrorKind}
-use Rattle.gixp_wire.specs.Held.{Held}
+use Rattle.gixp_wire.specs.TransportState.{TransportState}
 use Rattle.gixp_wire.specs.Reading.{Reading, refusal_of, is_end, Stays, TakesLine, ShowsLine, TakesStop, AtStop, Refuses, IsFault, Fails, IsPlain, PlainIf, Reads, Peeks}
 
-module _ (h : Held) (a b : Reading) where
+module _ (h : TransportState) (a b : Reading) where
   abbrev A : Reading
   A = record a { held = h }
 
@@ -101,7 +101,7 @@ module _ (h : Held) (a b : Reading) where
   stands_held texts ClientMemory k = k
 
   answers_held : (x : Advertised) (found : SetServiceResponse) → Answers x b found → Answers x B found
-  answers_held x found k = record { version = k.version; capabilities = k.capabilities; has_refs = k.has_refs; rest = k.rest; stopped = k.stopped }
+  answers_held x found k = record { version = k.version; capabilities = k.capabilities; refs_follow = k.refs_follow; rest = k.rest; stopped = k.stopped }
 
   value_held : (said : Pieces → Result Advertised ClientRefusal) (found : SetServiceResponse) (o : Option Pieces)
       → IfSome o (λ p. (x : Advertised) × (said p ≡ Ok x) × Answers x b found) → IfSome o (λ p. (x : Advertised) × (said p ≡ Ok x) × Answers x B found)

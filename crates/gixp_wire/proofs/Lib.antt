@@ -1,3 +1,4 @@
+pub mod ListLemmas
 mod DigitLemmas
 mod FrameLemmas
 mod WindowLemmas
@@ -7,8 +8,8 @@ mod AdvanceLemmas
 mod GrammarLemmas
 mod FrameTextLemmas
 mod ItemLemmas
-mod RunLemmas
-mod LineLemmas
+pub mod RunLemmas
+pub mod LineLemmas
 mod AdvertisementLemmas
 mod TransportLemmas
 mod GreetingLemmas

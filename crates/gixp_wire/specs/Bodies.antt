@@ -10,7 +10,7 @@ use Rattle.gixp_wire.specs.declared.bodies.Body.{Body}
 use Rattle.gixp_wire.specs.declared.bodies.Body.TheVariants.{Bytes, Fail}
 use Rattle.gixp_wire.specs.declared.bodies.Bodies.{Bodies}
 use Rattle.gixp_wire.specs.Pieces.{io, no_pieces, stream_pieces}
-use Rattle.gixp_wire.specs.Held.{Held, Answer, body, fails}
+use Rattle.gixp_wire.specs.TransportState.{TransportState, Answer, body, fails}
 use Rattle.gixp_wire.specs.declared.protocol.Protocol.{Protocol}
 use Rattle.gixp_wire.specs.declared.protocol.Protocol.TheVariants.{V2}
 use Rattle.gixp_wire.specs.Handshake.{account_value}
@@ -26,7 +26,7 @@ answer_of (Fail kind) = fails kind
 abbrev pub memory_remaining : Cursor (Vec ℕ Global) → Option (List ℕ)
 memory_remaining c = cursor_remaining (λ v. Some v.items) c
 
-abbrev pub bodies_held : Bodies → Held
+abbrev pub bodies_held : Bodies → TransportState
 bodies_held b = record {
   persists = false;
   written = Some b.request.items;

@@ -7,7 +7,7 @@ use Rattle.gixp_wire.specs.declared.protocol.Protocol.{Protocol}
 use Rattle.gixp_wire.specs.declared.protocol.Protocol.TheVariants.{V2}
 use Rattle.gixp_wire.specs.Pieces.{stream_pieces}
 use Rattle.gixp_wire.specs.declared.service.Opening.{Opening}
-use Rattle.gixp_wire.specs.Held.{Held, Greeting}
+use Rattle.gixp_wire.specs.TransportState.{TransportState, Greeting}
 use Rattle.gixp_wire.specs.Reading.{Reading}
 use Rattle.gixp_wire.specs.Packets.{packets_reading}
 
@@ -38,7 +38,7 @@ pub record IsNewConnection (known : Option (List ℕ)) (holds : Option (List ℕ
   }
 
 module _ {R W : Type 0} where
-  abbrev pub connection_held : (W → Option (List ℕ)) → Connection R W → Held
+  abbrev pub connection_held : (W → Option (List ℕ)) → Connection R W → TransportState
   connection_held contents c = record {
     persists = true;
     written = contents c.writer;

@@ -8,7 +8,7 @@ use Rattle.gixp_wire.specs.declared.service.Service.{Service}
 use Rattle.gixp_wire.specs.Frames.{Frame, payload}
 use Rattle.gixp_wire.specs.Message.{feature_line}
 use Rattle.gixp_wire.specs.Service.{service_name}
-use Rattle.gixp_wire.specs.Held.{Greeting}
+use Rattle.gixp_wire.specs.TransportState.{Greeting}
 
 -- a parameter: a key, and perhaps its value
 abbrev pub Parameter : Type 0

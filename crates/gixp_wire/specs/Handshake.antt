@@ -8,9 +8,9 @@ use Rattle.gixp_wire.specs.declared.service.Account.{Account}
 use Rattle.gixp_wire.specs.declared.service.SetServiceResponse.{SetServiceResponse}
 use Rattle.std.specs.Prelude.{string_bytes}
 use Rattle.gixp_wire.specs.FrameText.{texts_of}
-use Rattle.gixp_wire.specs.Held.{Greeting}
+use Rattle.gixp_wire.specs.TransportState.{Greeting}
 use Rattle.gixp_wire.specs.Reading.{Reading}
-use Rattle.gixp_wire.specs.Advertisement.{advertisement, TakesFirst, Advertises}
+use Rattle.gixp_wire.specs.CapabilityAdvertisement.{advertisement, TakesFirst, Advertises}
 use Rattle.gixp_wire.specs.Greeting.{Parameter, greeting_frames, greeting_fits}
 use Rattle.gixp_wire.specs.Transport.{Broke, SentBy, TakesAnswer, ByAnswer}
 

@@ -8,7 +8,7 @@ pub mod FrameText
 pub mod Pieces
 pub mod Items
 pub mod Lines
-pub mod Held
+pub mod TransportState
 pub mod Reading
 pub mod Client
 pub mod Message
@@ -25,7 +25,7 @@ pub mod Capability
 pub mod Service
 pub mod Progress
 pub mod Spurious
-pub mod Advertisement
+pub mod CapabilityAdvertisement
 pub mod Named
 pub mod Greeting
 pub mod Handshake

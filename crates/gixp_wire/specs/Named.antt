@@ -2,7 +2,7 @@
 use Rattle.std.specs.Prelude.{ℕ, List}
 use Rattle.gixp_wire.specs.declared.advertisement.Named.{Named as Found}
 use Rattle.gixp_wire.specs.declared.advertisement.Named.TheVariants.{One, Two, Another, Unnamed}
-use Rattle.gixp_wire.specs.Advertisement.{Named, one, two, another, unnamed, trimmed}
+use Rattle.gixp_wire.specs.CapabilityAdvertisement.{Named, one, two, another, unnamed, trimmed}
 
 abbrev pub named_value : List ℕ → Found → Named
 named_value line One = one

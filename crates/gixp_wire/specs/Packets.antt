@@ -13,7 +13,7 @@ use Rattle.gixp_wire.specs.declared.packets.Place.{Place}
 use Rattle.gixp_wire.specs.declared.packets.Place.TheVariants.{Open, Peeked, Stopped, Refused}
 use Rattle.gixp_wire.specs.Frames.{head_of}
 use Rattle.gixp_wire.specs.Pieces.{Refusal, io, decode, server, unexpected_frame, line, Pieces, no_pieces, with_piece, stream_pieces, is_error, error_message}
-use Rattle.gixp_wire.specs.Held.{nothing_held}
+use Rattle.gixp_wire.specs.TransportState.{nothing_held}
 use Rattle.gixp_wire.specs.Reading.{Reading, Rose, is_end}
 
 -- the refusal of the frame at the front, or of what the stream ended in

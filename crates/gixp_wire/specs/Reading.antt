@@ -14,7 +14,7 @@ use Rattle.gixp_wire.specs.declared.read.Error.TheVariants.{Io, Decode, Server, 
 use Rattle.gixp_wire.specs.Pieces.{Refusal, io, decode, server, unexpected_frame, not_utf8, bad_band, interrupted, memory, Pieces, no_pieces, stream_pieces}
 use Rattle.gixp_wire.specs.Lines.{gives, stops, refuses, next_of, Lines, lines_of, no_lines, stop}
 use Rattle.gixp_wire.specs.Items.{is_stop}
-use Rattle.gixp_wire.specs.Held.{Held, nothing_held}
+use Rattle.gixp_wire.specs.TransportState.{TransportState, nothing_held}
 
 -- what a reader means
 pub record Reading : Type 0 where
@@ -35,7 +35,7 @@ pub record Reading : Type 0 where
   -- a bound on the bytes of the lines that may still come, with one more for each line
   pub left : ℕ
   -- what it holds beside the lines
-  pub held : Held
+  pub held : TransportState
 
 -- behind the stop, if it is at one, under the stops of this version
 abbrev pub reset_to : Protocol → Reading → Reading

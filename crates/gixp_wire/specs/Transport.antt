@@ -6,7 +6,7 @@ use Rattle.std.specs.declared.io.ErrorKind.TheVariants.{UnexpectedEof}
 use Rattle.gixp_wire.specs.declared.client.Error.{Error}
 use Rattle.gixp_wire.specs.declared.client.Error.TheVariants.{Io, LineTooLong, Memory}
 use Rattle.gixp_wire.specs.Pieces.{io, Pieces, no_pieces}
-use Rattle.gixp_wire.specs.Held.{Answer, body, fails}
+use Rattle.gixp_wire.specs.TransportState.{Answer, body, fails}
 use Rattle.gixp_wire.specs.Reading.{Reading, Rose}
 
 -- with these bytes written

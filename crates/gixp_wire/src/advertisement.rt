@@ -6,7 +6,7 @@ ghost use Rattle.gixp_wire.specs.Client.{client_refusal, unsupported_version};
 ghost use Rattle.gixp_wire.specs.Reading.{TakesLine};
 ghost use Rattle.gixp_wire.specs.Packets.{packets_reading, is_peeked};
 ghost use Rattle.gixp_wire.specs.Named.{named_value};
-ghost use Rattle.gixp_wire.specs.Advertisement.{version_named, trimmed, advertisement, from_ref_line, from_capability_lines, TakesNone, TakesAny, TakesFirst, Advertises};
+ghost use Rattle.gixp_wire.specs.CapabilityAdvertisement.{version_named, trimmed, advertisement, from_ref_line, from_capability_lines, TakesNone, TakesAny, TakesFirst, Advertises};
 
 use crate::capabilities::Capabilities;
 use crate::client::Error;
@@ -54,13 +54,13 @@ fn unsupported(alloc: Global, line: &[u8]) -> Error
 }
 
 // A stop in place of the first ref line.
-fn no_refs(alloc: Global, version: Protocol) -> SetServiceResponse
-    ensures { result ≡ record { actual_protocol = version; capabilities = []; has_refs = true } }
+fn empty_advertisement(alloc: Global, version: Protocol) -> SetServiceResponse
+    ensures { result ≡ record { actual_protocol = version; capabilities = []; refs_follow = true } }
 {
     SetServiceResponse {
         actual_protocol: version,
         capabilities: Capabilities::empty(alloc),
-        has_refs: true,
+        refs_follow: true,
     }
 }
 
@@ -73,7 +73,7 @@ impl<R: Read> Packets<R> {
         self.reset(Protocol::V0);
         match self.peek_line() {
             Ok(true) => self.by_first_line(alloc),
-            Ok(false) => Ok(no_refs(alloc, Protocol::V0)),
+            Ok(false) => Ok(empty_advertisement(alloc, Protocol::V0)),
             Err(e) => Err(Error::from(e)),
         }
     }
@@ -116,7 +116,7 @@ impl<R: Read> Packets<R> {
     {
         match self.peek_line() {
             Ok(true) => self.cut_ref_line(alloc, version),
-            Ok(false) => Ok(no_refs(alloc, version)),
+            Ok(false) => Ok(empty_advertisement(alloc, version)),
             Err(e) => Err(Error::from(e)),
         }
     }
@@ -137,7 +137,7 @@ impl<R: Read> Packets<R> {
                 Ok(SetServiceResponse {
                     actual_protocol: version,
                     capabilities,
-                    has_refs: true,
+                    refs_follow: true,
                 })
             }
             Err(e) => Err(e),
@@ -158,7 +158,7 @@ impl<R: Read> Packets<R> {
                     return Ok(SetServiceResponse {
                         actual_protocol: Protocol::V2,
                         capabilities,
-                        has_refs: false,
+                        refs_follow: false,
                     });
                 }
                 Err(e) => return Err(Error::from(e)),

@@ -5,9 +5,9 @@ ghost use Rattle.gixp_wire.specs.Cut.{cut};
 
 use bstr::ByteSlice;
 
-// What stands before the first such byte, and what stands behind it.
+/// What stands before the first such byte, and what stands behind it; all of the text where there is none.
 #[inline(always)]
-pub(crate) fn cut(text: &[u8], byte: u8) -> (&[u8], Option<&[u8]>)
+pub fn cut(text: &[u8], byte: u8) -> (&[u8], Option<&[u8]>)
     ensures { cut byte text.now ≡ (result.0.now, option_copied result.1) }
 {
     match text.find_byte(byte) {

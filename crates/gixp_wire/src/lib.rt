@@ -34,6 +34,7 @@ mod window;
 pub use bodies::{Bodies, Body};
 pub use capabilities::{Capabilities, Capability, CapabilityIter};
 pub use connection::Connection;
+pub use cut::cut;
 pub use kind::Kind;
 pub use line_reader::LineReader;
 pub use message::{Feature, MAX_LINE, Message, fits_line};

@@ -7,7 +7,7 @@ ghost use Rattle.gixp_lines.specs.Ref.{RefValue, ref_value};
 ghost use Rattle.gixp_refspec.specs.RefSpec.{value_of, owned_value_of};
 ghost use Rattle.gixp_refspec.specs.MatchGroup.{mapped_of, mapped_in, name_of, names, source_of};
 ghost use Rattle.gixp_refmap.specs.Mapping.{value_name, value_names, joined_specs, spec_at, spec_place, IsRemote, IsMapping, Maps, HoldsOfAll};
-ghost use Rattle.gixp_refmap.specs.Items.{HasItem, HasRemote};
+ghost use Rattle.gixp_refmap.specs.RefMapItems.{HasItem, HasRemote};
 
 use crate::refmap::init::Error;
 use crate::refmap::mapping::{Mapping, Source, SpecIndex, copy_of};

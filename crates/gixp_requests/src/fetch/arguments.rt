@@ -37,9 +37,9 @@ pub struct Arguments {
 }
 
 impl Model for Arguments {
-    ghost use Rattle.gixp_requests.specs.Arguments.{Asked};
+    ghost use Rattle.gixp_requests.specs.Arguments.{ArgumentsValue};
 
-    ghost Value = { Asked };
+    ghost Value = { ArgumentsValue };
 
     ghost use Rattle.gixp_requests.specs.Feature.{feature_values};
     ghost use Rattle.gixp_requests.specs.Command.{texts};

@@ -6,7 +6,7 @@ use mir.Val.{SFits, to_z, of_z}
 use mir.Syntax.{w64}
 use Rattle.std.proofs.lemmas.Int.{ints, to_z-of_z}
 use Rattle.std.specs.List.{flat_map}
-use Rattle.gixp_graph.specs.Held.{GraphData, graph_of, parents_in}
+use Rattle.gixp_graph.specs.GraphData.{GraphData, graph_of, parents_in}
 use Rattle.gixp_graph.specs.Table.{ids_at, AllNamed}
 use Rattle.gixp_graph.specs.Visited.{is_visited}
 use Rattle.gixp_graph.specs.Walk.{Walk, walk_of, IsWalk, AreDue, AllVisited}

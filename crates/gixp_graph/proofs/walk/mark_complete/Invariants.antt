@@ -1,6 +1,6 @@
 -- What the loop keeps.
 use Rattle.std.proofs.Common.{◌≡◌, ◌+◌, ◌≤◌, length, Some}
-use Rattle.gixp_graph.specs.Held.{GraphData, graph_of}
+use Rattle.gixp_graph.specs.GraphData.{GraphData, graph_of}
 use Rattle.gixp_graph.specs.Visited.{is_visited, AllVisitedNamed}
 use Rattle.gixp_graph.specs.Waiting.{AllQueuedNamed}
 use Rattle.gixp_graph.specs.Walk.{walk_of, IsWalk, AllVisited, HasAsked, left}

@@ -3,7 +3,7 @@ use Rattle.std.proofs.Common.{◌≡◌, ℕ, ◌<◌, ◌∙◌, ap, sym, subst
 use Rattle.std.proofs.lemmas.List.{take_all, take_more, take-map}
 use Rattle.gixp_wire.specs.declared.object_id.ObjectId.{ObjectId}
 use Rattle.gixp_graph.specs.Object.{Objects}
-use Rattle.gixp_graph.specs.Held.{graph_of, marked_found}
+use Rattle.gixp_graph.specs.GraphData.{graph_of, marked_found}
 use Rattle.gixp_graph.specs.Table.{id_at, ids_at}
 use Rattle.gixp_graph.specs.Asked.{AsksWhere}
 use Rattle.gixp_graph.specs.Walk.{Walk, walk_of, IsUnread, Visits, VisitsEach, AsksAll}

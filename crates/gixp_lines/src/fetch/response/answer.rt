@@ -3,9 +3,9 @@ ghost use Rattle.std.specs.Prelude.{◌≡◌, MatchResult, OnErr, OnOk, [], ◌
 ghost use Rattle.std.specs.List.{list_any};
 ghost use Rattle.gixp_lines.specs.AnswerLine.{wanted_value};
 ghost use Rattle.gixp_lines.specs.Answer.{no_more, update_items};
-ghost use Rattle.gixp_lines.specs.Beginnings.{asked};
-ghost use Rattle.gixp_lines.specs.Reads.{answer_of, Answered, AnswerFails};
-ghost use Rattle.gixp_lines.specs.RefLine.{is_text};
+ghost use Rattle.gixp_lines.specs.Beginnings.{expected};
+ghost use Rattle.gixp_lines.specs.AnswerReading.{answer_of, Answered, AnswerFails};
+ghost use Rattle.gixp_wire.specs.Capabilities.{is_text};
 ghost use Rattle.gixp_lines.specs.Features.{feature_name, feature_names, has_name, missing_feature, Misses};
 
 use crate::fetch::response::beginnings::read_beginning;
@@ -79,8 +79,8 @@ impl Response {
         wants_to_negotiate: bool,
     ) -> Result<Response, Error>
         ensures answers { MatchResult result
-            (Answered (answer_of version (asked client_expects_pack wants_to_negotiate)) version (R.reading reader.old) (R.reading reader.new))
-            (AnswerFails (answer_of version (asked client_expects_pack wants_to_negotiate)) R.is_plain (R.reading reader.old) (R.reading reader.new)) }
+            (Answered (answer_of version (expected client_expects_pack wants_to_negotiate)) version (R.reading reader.old) (R.reading reader.new))
+            (AnswerFails (answer_of version (expected client_expects_pack wants_to_negotiate)) R.is_plain (R.reading reader.old) (R.reading reader.new)) }
         ensures held { (R.reading reader.new).held ≡ (R.reading reader.old).held }
         ensures version { (R.reading reader.new).version ≡ version }
     {
@@ -145,7 +145,7 @@ impl Response {
         &self.shallow_updates
     }
 
-    /// What the refs that were asked for by their names lead to, in order. Only version 2 has any.
+    /// What the refs that were expected for by their names lead to, in order. Only version 2 has any.
     pub fn wanted_refs(&self) -> &[WantedRef]
         ensures { map wanted_value result.now ≡ self.now.wanted_refs }
     {

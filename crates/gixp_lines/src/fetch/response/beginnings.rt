@@ -2,9 +2,9 @@
 ghost use Rattle.std.specs.Prelude.{◌≡◌, ◌⊎◌, MatchResult, OnOk, Some, not, ◌&&◌, ◌||◌};
 ghost use Rattle.gixp_wire.specs.Reading.{refusal_of};
 ghost use Rattle.gixp_wire.specs.declared.protocol.Protocol.TheVariants.{V0, V1};
-ghost use Rattle.gixp_lines.specs.Beginnings.{asked, is_at_end, is_ready, is_nak, line_item, item_said, said_with, acknowledged, AreCommon, v1_answer};
+ghost use Rattle.gixp_lines.specs.Beginnings.{expected, is_at_end, is_ready, is_nak, line_item, item_said, said_with, acknowledged, AreCommon, v1_answer};
 ghost use Rattle.gixp_lines.specs.declared.fetch.response.line.Acknowledgement.TheVariants.{Common};
-ghost use Rattle.gixp_lines.specs.Reads.{Answered, AnswerFails};
+ghost use Rattle.gixp_lines.specs.AnswerReading.{Answered, AnswerFails};
 
 use crate::fetch::response::answer::Response;
 use crate::fetch::response::error::Error;
@@ -50,8 +50,8 @@ pub(crate) fn read_beginning<R: ExtendedBufRead>(
 ) -> Result<Response, Error>
     requires { (version ≡ V1) ⊎ (version ≡ V0) }
     ensures answers { MatchResult result
-        (Answered (v1_answer version (asked expects_pack negotiates)) version (R.reading reader.old) (R.reading reader.new))
-        (AnswerFails (v1_answer version (asked expects_pack negotiates)) R.is_plain (R.reading reader.old) (R.reading reader.new)) }
+        (Answered (v1_answer version (expected expects_pack negotiates)) version (R.reading reader.old) (R.reading reader.new))
+        (AnswerFails (v1_answer version (expected expects_pack negotiates)) R.is_plain (R.reading reader.old) (R.reading reader.new)) }
     ensures held { (R.reading reader.new).held ≡ (R.reading reader.old).held }
     ensures version { (R.reading reader.new).version ≡ version }
 {

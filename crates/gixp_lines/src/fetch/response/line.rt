@@ -1,11 +1,11 @@
 //! Lines of answers (gitprotocol-v2, "fetch"; gitprotocol-pack, "Packfile Negotiation").
 ghost use Rattle.std.specs.Prelude.{◌≡◌, Some, None, Option};
 ghost use Rattle.std.specs.Option.{option_copied};
-ghost use Rattle.gixp_lines.specs.RefLine.{is_text};
+ghost use Rattle.gixp_wire.specs.Capabilities.{is_text};
 ghost use Rattle.gixp_lines.specs.AnswerLine.{behind, is_word, described, acknowledged, acknowledgement_line, common_id, shallow_update_line, wanted_ref_line, wanted_value};
 ghost use Rattle.gixp_lines.specs.ResponseError.{IsRefusal, unknown_line, ReadsLine, ReadsOwned};
 
-use crate::cut::cut;
+use gixp_wire::cut;
 use crate::fetch::response::error::Error;
 use bstr::{BString, ByteSlice};
 use gixp_wire::ObjectId;

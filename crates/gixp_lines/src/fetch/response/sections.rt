@@ -4,7 +4,7 @@ ghost use Rattle.std.specs.Str.{is_utf8};
 ghost use Rattle.gixp_wire.specs.declared.protocol.Protocol.TheVariants.{V2};
 ghost use Rattle.gixp_lines.specs.ResponseError.{Answers, IsRefusal, unknown_header, unknown_line};
 ghost use Rattle.gixp_lines.specs.Sections.{header_of, item_of, or_refused, is_flush, read_header, read_item, v2_answer};
-ghost use Rattle.gixp_lines.specs.Reads.{Adds, Answered, AnswerFails};
+ghost use Rattle.gixp_lines.specs.AnswerReading.{Adds, Answered, AnswerFails};
 ghost use Rattle.gixp_lines.specs.declared.fetch.response.sections.Header.{Header};
 ghost use Rattle.gixp_lines.specs.declared.fetch.response.sections.Section.TheVariants.{Acknowledgments, ShallowInfo, WantedRefs};
 

@@ -4,10 +4,11 @@ ghost use Rattle.std.specs.Option.{option_copied};
 ghost use Rattle.bstr.specs.Owned.{bstring_bytes};
 ghost use Rattle.gixp_wire.specs.declared.object_id.ObjectId.{ObjectId};
 ghost use Rattle.gixp_lines.specs.Ref.{ref_value};
-ghost use Rattle.gixp_lines.specs.RefLine.{malformed_v2, unknown_attribute, is_text, id_value, with_attribute, attributes_of, first_piece, value_of, v2_line};
+ghost use Rattle.gixp_lines.specs.RefLine.{malformed_v2, unknown_attribute, id_value, with_attribute, attributes_of, first_piece, value_of, v2_line};
+ghost use Rattle.gixp_wire.specs.Capabilities.{is_text};
 ghost use Rattle.gixp_lines.specs.ParseError.{Answers, IsRefusal, attribute_values, object_of};
 
-use crate::cut::cut;
+use gixp_wire::cut;
 use crate::handshake::Ref;
 use crate::handshake::refs::parse::{Error, Invariant};
 use crate::trim::trim_end;

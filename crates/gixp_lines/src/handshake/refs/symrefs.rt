@@ -6,11 +6,11 @@ ghost use Rattle.bstr.specs.Owned.{bstring_bytes};
 ghost use Rattle.gixp_wire.specs.Capability.{capability_value};
 ghost use Rattle.gixp_lines.specs.RefLine.{malformed_symref};
 ghost use Rattle.gixp_lines.specs.ParseError.{Answers, IsRefusal};
-ghost use Rattle.gixp_lines.specs.Cut.{cut};
-ghost use Rattle.gixp_lines.specs.Advertisement.{symref_in, symref_by, made_symref, symref_named, told_target, TellAlike, symref_table};
+ghost use Rattle.gixp_wire.specs.Cut.{cut};
+ghost use Rattle.gixp_lines.specs.RefAdvertisement.{symref_in, symref_by, made_symref, symref_named, told_target, TellAlike, symref_table};
 ghost use Rattle.gixp_lines.specs.V1Refs.{symref_value, symref_values, name_cmp, symrefs_in};
 
-use crate::cut::cut;
+use gixp_wire::cut;
 use crate::handshake::refs::line::{is_null, is_same};
 use crate::handshake::refs::parse::Error;
 use bstr::BString;

@@ -5,11 +5,11 @@ ghost use Rattle.gixp_lines.specs.declared.handshake.refs.parse.Error.TheVariant
 ghost use Rattle.gixp_lines.specs.Ref.{ref_value};
 ghost use Rattle.gixp_lines.specs.RefLine.{bad_id, malformed_v1, id_value};
 ghost use Rattle.gixp_lines.specs.ParseError.{Answers, IsRefusal};
-ghost use Rattle.gixp_lines.specs.Advertisement.{line_by_path, plain_line, peeled_line, v1_line, names, pair, single, closed};
+ghost use Rattle.gixp_lines.specs.RefAdvertisement.{line_by_path, plain_line, peeled_line, v1_line, names, pair, single, closed};
 ghost use Rattle.gixp_lines.specs.V1Refs.{symrefs_in};
 ghost use Rattle.gixp_lines.specs.V1Line.{line_of, named_value, so_far_value, nothing_so_far, with_pair, with_found, with_closed, with_line, with_text};
 
-use crate::cut::cut;
+use gixp_wire::cut;
 use crate::fetch::response::ShallowUpdate;
 use crate::handshake::Ref;
 use crate::handshake::refs::line::{is_same, read_id};

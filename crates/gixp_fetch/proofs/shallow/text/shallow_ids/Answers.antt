@@ -1,6 +1,6 @@
 use Rattle.std.proofs.Common.{[], sym, ap, ◌∙◌, subst}
 use Rattle.gixp_fetch.specs.Boundary.{IsSetOf}
-use Rattle.gixp_fetch.specs.Shallow.{with_ids}
+use Rattle.gixp_fetch.specs.FetchShallow.{with_ids}
 use Rattle.gixp_fetch.proofs.SetLemmas.{set_of}
 use Rattle.gixp_fetch.proofs.shallow.text.shallow_ids.Goals as goal
 

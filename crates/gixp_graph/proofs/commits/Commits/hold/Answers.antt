@@ -7,7 +7,7 @@ use Rattle.std.specs.Prelude.{ℤ}
 use Rattle.std.specs.FinMap as finite
 use Rattle.gixp_wire.specs.declared.object_id.ObjectId.{ObjectId}
 use Rattle.gixp_graph.specs.declared.commits.Node.{Node}
-use Rattle.gixp_graph.specs.Held.{Held}
+use Rattle.gixp_graph.specs.GraphData.{HeldCommit}
 use Rattle.gixp_graph.specs.Table.{id_at, ids_at}
 use Rattle.gixp_graph.specs.Node.{ids_of, IsTable}
 use Rattle.gixp_graph.proofs.NodeLemmas.{held_set, table_set, ids_kept, id_of_node, length_ids}
@@ -81,7 +81,7 @@ returns-clause-ok c =
     let l : c.args.number < length (ids_of nodes) = (v.kept c.args.number c.requires).0 in
     let m : c.args.number < length nodes = omega (arith, length_ids nodes) in
     let own : c.index.result.now.id ≡ id_at (ids_of nodes) c.args.number = ap (λ (x : Node). x.id) c.index.ensures ∙ sym (id_of_node nodes c.args.number _ m) in
-    let h : Held = record { time = to_z w64 (of_z w64 c.args.time); parents = ids_at (ids_of nodes) (take (c.len-end.result - c.len-first.result) (drop c.len-first.result parents)); flags = record { 0 = 0 } } in
+    let h : HeldCommit = record { time = to_z w64 (of_z w64 c.args.time); parents = ids_at (ids_of nodes) (take (c.len-end.result - c.len-first.result) (drop c.len-first.result parents)); flags = record { 0 = 0 } } in
     held_set nodes parents c.loop-id.self-inside.numbers.entries v.table.numbering (id_at (ids_of nodes) c.args.number) c.args.number (v.table.numbering.numbered c.args.number l) _ own refl
     ∙ ap (λ m. finite.insert m (id_at (ids_of nodes) c.args.number) h) v.same
     ∙ ap (λ (i : ObjectId). finite.insert c.args.self.now.held i h) (v.kept c.args.number c.requires).1

@@ -1,6 +1,6 @@
 -- A commit that is held already.
 use Rattle.std.proofs.Common.{sym}
-use Rattle.gixp_graph.specs.Held.{GraphData, graph_of}
+use Rattle.gixp_graph.specs.GraphData.{GraphData, graph_of}
 use Rattle.gixp_graph.proofs.HeldLemmas.{known_looked_up}
 use Rattle.gixp_graph.proofs.commits.Commits.lookup_at.Goals as goal
 

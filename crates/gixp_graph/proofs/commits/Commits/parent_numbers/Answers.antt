@@ -4,7 +4,7 @@ use Rattle.std.proofs.lemmas.List.{take_more, map-append}
 use Rattle.std.proofs.lemmas.List.Concat.{flat_map-append}
 use Rattle.std.proofs.lemmas.List.Elements.{All-append}
 use Rattle.std.specs.List.{flat_map}
-use Rattle.gixp_graph.specs.Held.{parents_in}
+use Rattle.gixp_graph.specs.GraphData.{parents_in}
 use Rattle.gixp_graph.specs.Table.{id_at, ids_at, AllNamed}
 use Rattle.gixp_graph.specs.Node.{ids_of, parent_numbers_of}
 use Rattle.gixp_graph.proofs.NodeLemmas.{parents_at_node, named_node}

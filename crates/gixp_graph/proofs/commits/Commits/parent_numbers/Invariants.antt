@@ -1,7 +1,7 @@
 -- What the loop keeps.
 use Rattle.std.proofs.Common.{◌≡◌, take}
 use Rattle.std.specs.List.{flat_map}
-use Rattle.gixp_graph.specs.Held.{parents_in}
+use Rattle.gixp_graph.specs.GraphData.{parents_in}
 use Rattle.gixp_graph.specs.Table.{ids_at, AllNamed}
 use Rattle.gixp_graph.proofs.commits.Commits.parent_numbers.Given as goal
 

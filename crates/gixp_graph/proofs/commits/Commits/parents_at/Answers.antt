@@ -1,7 +1,7 @@
 -- The parents of a number's commit.
 use Rattle.std.proofs.Common.{◌<◌, ◌∙◌, ap, length}
 use Rattle.std.proofs.lemmas.Result.{IfOk-weaker}
-use Rattle.gixp_graph.specs.Held.{parents_in}
+use Rattle.gixp_graph.specs.GraphData.{parents_in}
 use Rattle.gixp_graph.specs.Table.{Table, id_at, ids_at}
 use Rattle.gixp_graph.specs.Node.{ids_of, parent_numbers_of}
 use Rattle.gixp_graph.proofs.NodeLemmas.{parents_at_node}

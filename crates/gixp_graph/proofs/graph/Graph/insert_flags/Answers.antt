@@ -1,5 +1,5 @@
 -- Marks keep what is held to what the objects have.
-use Rattle.gixp_graph.specs.Held.{graph_of}
+use Rattle.gixp_graph.specs.GraphData.{graph_of}
 use Rattle.gixp_graph.proofs.FaithfulLemmas.{faithful_flagged}
 use Rattle.gixp_graph.proofs.graph.Graph.insert_flags.Goals as goal
 

@@ -1,8 +1,8 @@
 -- A look-up keeps what is held to what the objects have.
 use Rattle.std.proofs.Common.{◌∙◌, ap}
 use Rattle.std.proofs.lemmas.Result.{IfOk-weaker}
-use Rattle.gixp_graph.specs.Held.{GraphData, graph_of, shown_time}
-use Rattle.gixp_graph.specs.Laws.{faithful_time}
+use Rattle.gixp_graph.specs.GraphData.{GraphData, graph_of, shown_time}
+use Rattle.gixp_graph.specs.GraphLaws.{faithful_time}
 use Rattle.gixp_graph.proofs.FaithfulLemmas.{faithful_lookup}
 use Rattle.gixp_graph.proofs.graph.Graph.lookup.Goals as goal
 

@@ -1,6 +1,6 @@
 -- The walk, by what the objects have.
 use Rattle.std.proofs.lemmas.Result.{on_ok_weaker}
-use Rattle.gixp_graph.specs.Held.{GraphData, graph_of}
+use Rattle.gixp_graph.specs.GraphData.{GraphData, graph_of}
 use Rattle.gixp_graph.proofs.ExactLemmas.{sound_exact, complete_exact, held_exact, reads_exact}
 use Rattle.gixp_graph.proofs.AskedLemmas.{asked_exact}
 use Rattle.gixp_graph.proofs.graph.Graph.mark_complete.Goals as goal

@@ -2,7 +2,7 @@
 use Rattle.std.proofs.Common.{◌∙◌, subst, sym, take, [], get_or}
 use Rattle.std.proofs.lemmas.List.{take_more}
 use Rattle.gixp_graph.specs.Run.{IsRun}
-use Rattle.gixp_graph.specs.Laws.{run_more}
+use Rattle.gixp_graph.specs.GraphLaws.{run_more}
 use Rattle.gixp_graph.proofs.tests.run.tell_all.Goals as goal
 
 pub loop-id-preserved : goal.loop-id-preserved

@@ -3,7 +3,7 @@ use Rattle.gixp_negotiate.proofs.LookLemmas.{calls_some}
 use Rattle.std.proofs.Common.{◌∙◌, subst, sym, take, [], get_or, arith}
 use Rattle.std.proofs.lemmas.List.{take_more}
 use Rattle.gixp_graph.specs.Run.{IsRun}
-use Rattle.gixp_graph.specs.Laws.{run_more}
+use Rattle.gixp_graph.specs.GraphLaws.{run_more}
 use Rattle.gixp_negotiate.proofs.negotiate.mark.tell_known.Goals as goal
 
 pub loop-id-preserved : goal.loop-id-preserved

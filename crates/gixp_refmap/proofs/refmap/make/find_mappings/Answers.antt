@@ -7,7 +7,7 @@ use Rattle.gixp_refspec.specs.MatchGroup.{mapped_in}
 use Rattle.gixp_refspec.specs.Validation.{kept}
 use Rattle.gixp_refmap.specs.declared.refmap.init.Error.TheVariants.{MappingValidation}
 use Rattle.gixp_refmap.specs.Mapping.{joined_specs, found_in, IsMapping, Maps}
-use Rattle.gixp_refmap.specs.Items.{HasRemote}
+use Rattle.gixp_refmap.specs.RefMapItems.{HasRemote}
 use Rattle.gixp_refmap.proofs.AllLemmas.{maps_all, kept_are_good, all_have_remotes, specs_are_there}
 use Rattle.gixp_refmap.proofs.refmap.make.find_mappings.Goals as goal
 

@@ -1,6 +1,6 @@
 use Rattle.std.proofs.Common.{inr}
 use Rattle.gixp_wire.specs.Bodies.{bodies_held, bodies_reading}
-use Rattle.gixp_wire.specs.Advertisement.{advertisement, TakesFirst}
+use Rattle.gixp_wire.specs.CapabilityAdvertisement.{advertisement, TakesFirst}
 use Rattle.gixp_wire.proofs.HeldLemmas.{advertises}
 use Rattle.gixp_wire.proofs.bodies.BodiesTransport.handshake.Goals as goal
 

@@ -1,6 +1,6 @@
 use Rattle.std.proofs.Common.{inr}
 use Rattle.gixp_wire.specs.Connection.{connection_held, connection_reading}
-use Rattle.gixp_wire.specs.Advertisement.{advertisement, TakesFirst}
+use Rattle.gixp_wire.specs.CapabilityAdvertisement.{advertisement, TakesFirst}
 use Rattle.gixp_wire.proofs.HeldLemmas.{advertises}
 use Rattle.gixp_wire.proofs.connection.ConnectionTransport.handshake.Goals as goal
 

@@ -3,8 +3,8 @@ use Rattle.gixp_wire.specs.declared.protocol.Protocol.TheVariants.{V0}
 use Rattle.gixp_wire.specs.Lines.{next_of}
 use Rattle.gixp_wire.specs.Packets.{packets_reading}
 use Rattle.gixp_wire.specs.Reading.{Reading}
-use Rattle.gixp_wire.specs.Advertisement.{advertisement, by_first, TakesFirst}
-use Rattle.gixp_wire.proofs.AdvertisementLemmas.{Steps, reset-steps, shows-steps, advertises-then, reads-no_refs, takes-stop, fails-reading}
+use Rattle.gixp_wire.specs.CapabilityAdvertisement.{advertisement, by_first, TakesFirst}
+use Rattle.gixp_wire.proofs.AdvertisementLemmas.{Steps, reset-steps, shows-steps, advertises-then, reads-empty_advertisement, takes-stop, fails-reading}
 use Rattle.gixp_wire.proofs.packets.Packets.advertisement.Goals as goal
 
 pub returns-in-Ok-true : goal.returns-in-Ok-true
@@ -21,8 +21,8 @@ returns-in-Ok-false g c =
     let k = rw c.in-Ok-false.field-0-test at c.in-Ok-false.ensures.peeks in
     let stop = takes-stop _ _ (ap (λ (r : Reading). r.stopped) c.reset.ensures) k in
     let version = ap (λ (r : Reading). r.version) c.reset.ensures in
-    advertises-then advertisement advertisement TakesFirst TakesFirst [] old _ _ (Ok c.no_refs.result) (λ v ts h. h) reset
-    (reads-no_refs advertisement V0 _ _ stop.0 _ version c.no_refs.ensures stop.1 (λ p q n. ap (by_first p) n))
+    advertises-then advertisement advertisement TakesFirst TakesFirst [] old _ _ (Ok c.empty_advertisement.result) (λ v ts h. h) reset
+    (reads-empty_advertisement advertisement V0 _ _ stop.0 _ version c.empty_advertisement.ensures stop.1 (λ p q n. ap (by_first p) n))
 
 pub returns-in-Err : goal.returns-in-Err
 returns-in-Err g c =

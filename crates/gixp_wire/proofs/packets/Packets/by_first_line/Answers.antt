@@ -1,6 +1,6 @@
 use Rattle.std.proofs.Common.{◌≡◌, [], ◌∷◌, refl, ap, sym, ◌∙◌}
 use Rattle.gixp_wire.specs.declared.protocol.Protocol.TheVariants.{V0, V1, V2}
-use Rattle.gixp_wire.specs.Advertisement.{one, two, another, unnamed, version_named, trimmed, from_ref_line, from_capability_lines, TakesNone, TakesAny, TakesFirst}
+use Rattle.gixp_wire.specs.CapabilityAdvertisement.{one, two, another, unnamed, version_named, trimmed, from_ref_line, from_capability_lines, TakesNone, TakesAny, TakesFirst}
 use Rattle.gixp_wire.proofs.AdvertisementLemmas.{advertises-then, unnamed-steps, named-steps, fails-another, peeked-place, first-none, first-one, first-two}
 use Rattle.gixp_wire.proofs.packets.Packets.by_first_line.Goals as goal
 

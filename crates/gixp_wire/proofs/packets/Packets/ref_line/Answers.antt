@@ -1,7 +1,7 @@
 use Rattle.std.proofs.Common.{[], refl, ap, sym, ◌∙◌}
 use Rattle.gixp_wire.specs.Lines.{next_of}
-use Rattle.gixp_wire.specs.Advertisement.{from_ref_line, by_ref_line, TakesNone}
-use Rattle.gixp_wire.proofs.AdvertisementLemmas.{shows-steps, advertises-then, reads-no_refs, takes-stop, fails-reading}
+use Rattle.gixp_wire.specs.CapabilityAdvertisement.{from_ref_line, by_ref_line, TakesNone}
+use Rattle.gixp_wire.proofs.AdvertisementLemmas.{shows-steps, advertises-then, reads-empty_advertisement, takes-stop, fails-reading}
 use Rattle.gixp_wire.proofs.packets.Packets.ref_line.Goals as goal
 
 pub returns-in-Ok-true : goal.returns-in-Ok-true
@@ -13,7 +13,7 @@ pub returns-in-Ok-false : goal.returns-in-Ok-false
 returns-in-Ok-false g c =
     let k = rw c.in-Ok-false.field-0-test at c.in-Ok-false.ensures.peeks in
     let stop = takes-stop _ _ c.requires.running k in
-    reads-no_refs (from_ref_line c.args.version) c.args.version _ _ stop.0 _ c.requires.version c.no_refs.ensures stop.1
+    reads-empty_advertisement (from_ref_line c.args.version) c.args.version _ _ stop.0 _ c.requires.version c.empty_advertisement.ensures stop.1
     (λ p q n. ap (by_ref_line c.args.version) n)
 
 pub returns-in-Err : goal.returns-in-Err

@@ -1,11 +1,11 @@
 use Rattle.std.proofs.Common.{◌+◌, ◌*◌, ℕ, Bool, true, false}
-use Rattle.gixp_lines.specs.Beginnings.{asked, AreCommon}
+use Rattle.gixp_lines.specs.Beginnings.{expected, AreCommon}
 use Rattle.gixp_lines.proofs.BeginningLemmas.{Amid}
 use Rattle.gixp_lines.proofs.fetch.response.beginnings.read_beginning.Given as goal
 
 abbrev pub invariant-loop-answer : goal.invariant-loop-answer
 invariant-loop-answer g l =
-    Amid l.version (asked l.expects_pack l.negotiates) l.answer l.came_ready l.behind_stop (g.R.ExtendedBufRead.reading l.fn.reader) (g.R.ExtendedBufRead.reading l.reader)
+    Amid l.version (expected l.expects_pack l.negotiates) l.answer l.came_ready l.behind_stop (g.R.ExtendedBufRead.reading l.fn.reader) (g.R.ExtendedBufRead.reading l.reader)
     × AreCommon l.answer.acknowledgements l.commons
 
 abbrev stops_left : Bool → ℕ

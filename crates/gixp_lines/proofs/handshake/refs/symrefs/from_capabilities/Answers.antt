@@ -1,6 +1,6 @@
 -- Each capability is a symref, none, or refused.
 use Rattle.gixp_wire.specs.Capability.{capability_value, capabilities_left}
-use Rattle.gixp_lines.specs.Advertisement.{symref_table}
+use Rattle.gixp_lines.specs.RefAdvertisement.{symref_table}
 use Rattle.gixp_lines.specs.V1Refs.{symref_value, symref_values}
 use Rattle.gixp_lines.proofs.SymrefLemmas.{symrefs_skip, symrefs_refused}
 use Rattle.gixp_lines.proofs.handshake.refs.symrefs.from_capabilities.Goals as goal

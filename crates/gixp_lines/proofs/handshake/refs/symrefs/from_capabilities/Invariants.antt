@@ -1,7 +1,7 @@
 -- The symrefs of the capabilities so far stand in front of those to come.
 use Rattle.std.proofs.Common.{◌≡◌}
 use Rattle.gixp_wire.specs.Capability.{capabilities_left}
-use Rattle.gixp_lines.specs.Advertisement.{symref_table}
+use Rattle.gixp_lines.specs.RefAdvertisement.{symref_table}
 use Rattle.gixp_lines.specs.V1Refs.{symref_values}
 use Rattle.gixp_lines.proofs.SymrefLemmas.{symrefs_in_front}
 use Rattle.gixp_lines.proofs.handshake.refs.symrefs.from_capabilities.Given as goal

@@ -10,18 +10,18 @@ use Rattle.gixp_wire.specs.ObjectId.{id_cmp, coded_id}
 use Rattle.gixp_graph.specs.Object.{Objects, Commit, commit_at, coded_object}
 
 -- a commit that a graph holds
-pub record Held : Type 0 where
+pub record HeldCommit : Type 0 where
   pub time : ℤ
   pub parents : List ObjectId
   pub flags : Flags
 
 -- a commit held is stored as the tuple of its fields
-abbrev pub coded_held : Coded Held
+abbrev pub coded_held : Coded HeldCommit
 coded_held = code_by (ℤ × (List ObjectId × ℕ)) (coded× coded_ℤ (coded× (coded_list coded_id) coded_ℕ)) (λ h. (h.time, (h.parents, h.flags.0))) (λ p. record { time = p.0; parents = p.1.0; flags = record { 0 = p.1.1 } }) (λ _. refl)
 
 -- the commits that a graph holds, by their ids
 abbrev pub Commits : Type 0
-Commits = FinMap id_cmp Held
+Commits = FinMap id_cmp HeldCommit
 
 -- a graph: what its objects mean, and the commits held
 pub record GraphData : Type 0 where
@@ -45,11 +45,11 @@ abbrev pub graph_of : Objects → Commits → GraphData
 graph_of objects held = record { objects = objects; held = held }
 
 -- a commit that was read and has no marks
-abbrev pub unmarked : Commit → Held
+abbrev pub unmarked : Commit → HeldCommit
 unmarked c = record { time = c.time; parents = c.parents; flags = record { 0 = 0 } }
 
 -- what a caller sees of a commit: its time and its marks
-abbrev pub shown : Held → ℤ × Flags
+abbrev pub shown : HeldCommit → ℤ × Flags
 shown h = (h.time, h.flags)
 
 -- the time of what a caller sees, where it sees a commit
@@ -57,15 +57,15 @@ abbrev pub shown_time : Option (ℤ × Flags) → Option ℤ
 shown_time found = option_map (λ (x : ℤ × Flags). x.0) found
 
 -- a held commit without its marks
-abbrev pub as_read : Held → Commit
+abbrev pub as_read : HeldCommit → Commit
 as_read h = record { time = h.time; parents = h.parents }
 
 -- with these marks beside its own
-abbrev pub with_flags : Flags → Held → Held
+abbrev pub with_flags : Flags → HeldCommit → HeldCommit
 with_flags flags h = record h { flags = record { 0 = bit_or h.flags.0 flags.0 } }
 
 -- the commit under an id, held or else as the objects have it
-abbrev pub found_in : GraphData → ObjectId → Option Held
+abbrev pub found_in : GraphData → ObjectId → Option HeldCommit
 found_in g id = option_or (finite.get g.held id) (option_map unmarked (commit_at g.objects id))
 
 -- the same without its marks
@@ -73,7 +73,7 @@ abbrev pub commit_in : GraphData → ObjectId → Option Commit
 commit_in g id = option_map as_read (found_in g id)
 
 -- with one commit written
-abbrev pub put : Commits → ObjectId → Option Held → Commits
+abbrev pub put : Commits → ObjectId → Option HeldCommit → Commits
 put m id None = m
 put m id (Some h) = finite.insert m id h
 
@@ -86,7 +86,7 @@ abbrev pub flagged : Commits → ObjectId → Flags → Commits
 flagged m id flags = put m id (option_map (with_flags flags) (finite.get m id))
 
 -- whether a commit has the mark COMPLETE
-abbrev pub is_complete : Held → Bool
+abbrev pub is_complete : HeldCommit → Bool
 is_complete h = bit_and h.flags.0 1 == 1
 
 -- whether a commit is held and has that mark
@@ -94,28 +94,28 @@ abbrev pub is_marked : Commits → ObjectId → Bool
 is_marked m id = option_map_or is_complete (finite.get m id) false
 
 -- with that mark beside its own
-abbrev pub completed : Held → Held
+abbrev pub completed : HeldCommit → HeldCommit
 completed h = with_flags (record { 0 = 1 }) h
 
 -- what is held is what the objects have
 abbrev pub IsFaithful : GraphData → Type 0
-IsFaithful g = (id : ObjectId) (h : Held) → finite.get g.held id ≡ Some h → commit_at g.objects id ≡ Some (as_read h)
+IsFaithful g = (id : ObjectId) (h : HeldCommit) → finite.get g.held id ≡ Some h → commit_at g.objects id ≡ Some (as_read h)
 
 -- the parents of a commit, none where it isn't held
 abbrev pub parents_in : Commits → ObjectId → List ObjectId
-parents_in m id = unwrap_or (option_map (λ (h : Held). h.parents) (finite.get m id)) []
+parents_in m id = unwrap_or (option_map (λ (h : HeldCommit). h.parents) (finite.get m id)) []
 
 -- no commit has the mark COMPLETE
 abbrev pub HasNoMarks : Commits → Type 0
 HasNoMarks m = (id : ObjectId) → is_marked m id ≡ false
 
 -- the commit, unless it has the mark COMPLETE
-abbrev pub if_unmarked : Option Held → Option Held
+abbrev pub if_unmarked : Option HeldCommit → Option HeldCommit
 if_unmarked None = None
 if_unmarked (Some h) = if is_complete h then None else Some h
 
 -- the commit under an id, where it is found and isn't marked yet
-abbrev pub new_in : GraphData → ObjectId → Option Held
+abbrev pub new_in : GraphData → ObjectId → Option HeldCommit
 new_in g id = if_unmarked (found_in g id)
 
 -- what to mark an id leaves: its commit is held and marked, where it is found
@@ -124,4 +124,4 @@ marked_found g id = put g.held id (option_map completed (new_in g id))
 
 -- each commit is held as before, or was found without the mark COMPLETE and is now held with it
 abbrev pub OnlyMarks : GraphData → Commits → Type 0
-OnlyMarks g new = (id : ObjectId) → (finite.get new id ≡ finite.get g.held id) ⊎ ((h : Held) × (new_in g id ≡ Some h) × (finite.get new id ≡ Some (completed h)))
+OnlyMarks g new = (id : ObjectId) → (finite.get new id ≡ finite.get g.held id) ⊎ ((h : HeldCommit) × (new_in g id ≡ Some h) × (finite.get new id ≡ Some (completed h)))

@@ -12,10 +12,10 @@ use Rattle.gixp_lines.specs.declared.fetch.response.error.Error.TheVariants.{Mem
 use Rattle.gixp_lines.specs.ResponseError.{AnswerRefusal, answer_refusal, from_reader, IsRefusal}
 use Rattle.gixp_lines.specs.Answer.{AnswerValue, Found, whole, refused, front, is_of_line, both}
 use Rattle.gixp_lines.specs.Sections.{v2_answer}
-use Rattle.gixp_lines.specs.Beginnings.{Asked, v1_answer}
+use Rattle.gixp_lines.specs.Beginnings.{Expected, v1_answer}
 
 -- the answer in some pieces under a version
-abbrev pub answer_of : Protocol → Asked → Pieces → Found
+abbrev pub answer_of : Protocol → Expected → Pieces → Found
 answer_of V2 asked p = v2_answer p
 answer_of V1 asked p = v1_answer V1 asked p
 answer_of V0 asked p = v1_answer V0 asked p

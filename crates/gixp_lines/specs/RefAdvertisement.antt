@@ -8,9 +8,10 @@ use Rattle.gixp_wire.specs.Capabilities.{CapabilityValue}
 use Rattle.gixp_wire.specs.Lines.{Ending, stop, refusal, Lines}
 use Rattle.gixp_lines.specs.declared.fetch.response.line.ShallowUpdate.{ShallowUpdate}
 use Rattle.gixp_lines.specs.declared.fetch.response.line.ShallowUpdate.TheVariants.{Shallow}
-use Rattle.gixp_lines.specs.Cut.{cut}
+use Rattle.gixp_wire.specs.Cut.{cut}
 use Rattle.gixp_lines.specs.Ref.{RefValue, peeled}
-use Rattle.gixp_lines.specs.RefLine.{RefsRefusal, malformed_symref, malformed_v1, invariant, refusal_from, is_text, id_value, and_then, target_of, born}
+use Rattle.gixp_lines.specs.RefLine.{RefsRefusal, malformed_symref, malformed_v1, invariant, refusal_from, id_value, and_then, target_of, born}
+use Rattle.gixp_wire.specs.Capabilities.{is_text}
 use Rattle.gixp_lines.specs.Refs.{with_ref}
 
 -- a ref that names another one, or none where its target isn't told

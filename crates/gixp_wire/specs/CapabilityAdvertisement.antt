@@ -23,7 +23,7 @@ pub record Advertised : Type 0 where
   pub version : Protocol
   pub capabilities : List CapabilityValue
   -- whether its refs are the lines that come next
-  pub has_refs : Bool
+  pub refs_follow : Bool
   -- the pieces behind it
   pub rest : Pieces
   -- the stop that the reader is at
@@ -48,18 +48,18 @@ version_named text =
     else unnamed
 
 -- a stop in place of the first ref line: no refs, and no capabilities
-abbrev pub no_refs : Protocol → MessageKind → Pieces → Advertised
-no_refs version kind rest = record { version = version; capabilities = []; has_refs = true; rest = rest; stopped = Some kind }
+abbrev pub empty_advertisement : Protocol → MessageKind → Pieces → Advertised
+empty_advertisement version kind rest = record { version = version; capabilities = []; refs_follow = true; rest = rest; stopped = Some kind }
 
 -- the first ref line is still to come, cut before its NUL; the capabilities stand behind that
 abbrev pub ref_line : Protocol → List ℕ → Pieces → Option (List CapabilityValue × ℕ) → Result Advertised ClientRefusal
 ref_line version text rest None = Err no_null_byte
 ref_line version text rest (Some found) =
-    Ok (record { version = version; capabilities = found.0; has_refs = true; rest = with_piece (line (take found.1 text)) rest; stopped = None })
+    Ok (record { version = version; capabilities = found.0; refs_follow = true; rest = with_piece (line (take found.1 text)) rest; stopped = None })
 
 abbrev pub by_ref_line : Protocol → Next → Result Advertised ClientRefusal
 by_ref_line version (gives text rest) = ref_line version text rest (capabilities_of_line text)
-by_ref_line version (stops kind rest) = Ok (no_refs version kind rest)
+by_ref_line version (stops kind rest) = Ok (empty_advertisement version kind rest)
 by_ref_line version (refuses e) = Err (client_from e)
 
 -- the first ref line of version 0 or 1
@@ -67,7 +67,7 @@ abbrev pub from_ref_line : Protocol → Pieces → Result Advertised ClientRefus
 from_ref_line version p = by_ref_line version (next_of version p)
 
 abbrev pub by_lines : List (List ℕ) → Ending → Result Advertised ClientRefusal
-by_lines texts (stop kind rest) = Ok (record { version = V2; capabilities = capabilities_of_lines texts; has_refs = false; rest = rest; stopped = Some kind })
+by_lines texts (stop kind rest) = Ok (record { version = V2; capabilities = capabilities_of_lines texts; refs_follow = false; rest = rest; stopped = Some kind })
 by_lines texts (refusal e) = Err (client_from e)
 
 -- the capability lines of version 2, up to the stop
@@ -83,7 +83,7 @@ by_version unnamed all rest = from_ref_line V0 all
 
 abbrev pub by_first : Pieces → Next → Result Advertised ClientRefusal
 by_first all (gives text rest) = by_version (version_named text) all rest
-by_first all (stops kind rest) = Ok (no_refs V0 kind rest)
+by_first all (stops kind rest) = Ok (empty_advertisement V0 kind rest)
 by_first all (refuses e) = Err (client_from e)
 
 -- what a server says first, read under the stops of version 0 up to where a version is named
@@ -94,12 +94,12 @@ advertisement p = by_first p (next_of V0 p)
 pub record Answers (a : Advertised) (new : Reading) (found : SetServiceResponse) : Type 0 where
   pub version : found.actual_protocol ≡ a.version
   pub capabilities : found.capabilities ≡ a.capabilities
-  pub has_refs : found.has_refs ≡ a.has_refs
+  pub refs_follow : found.refs_follow ≡ a.refs_follow
   pub rest : new.to_come ≡ Some a.rest
   pub stopped : new.stopped ≡ a.stopped
 
 -- what was said was read
-pub record Reads (said : Pieces → Result Advertised ClientRefusal) (old new : Reading) (found : SetServiceResponse) : Type 0 where
+pub record ReadsAdvertisement (said : Pieces → Result Advertised ClientRefusal) (old new : Reading) (found : SetServiceResponse) : Type 0 where
   pub value : IfSome old.to_come (λ p. (a : Advertised) × (said p ≡ Ok a) × Answers a new found)
   pub version : new.version ≡ found.actual_protocol
   pub failures : new.failures ≡ old.failures
@@ -154,7 +154,7 @@ Stands texts old new Memory = LinesTaken texts old.to_come new.to_come
 Stands texts old new _ = ⊥
 
 -- the first refusal of what was said, or that of a device or of memory
-pub record Fails (said : Pieces → Result Advertised ClientRefusal) (takes : Protocol → List (List ℕ) → Type 0) (old new : Reading) (e : Error) : Type 0 where
+pub record FailsAdvertisement (said : Pieces → Result Advertised ClientRefusal) (takes : Protocol → List (List ℕ) → Type 0) (old new : Reading) (e : Error) : Type 0 where
   pub why : (IfSome old.to_come (λ p. said p ≡ Err (client_refusal e)) × (new.failures ≡ old.failures)) ⊎ IsFromDevice old new e
   pub taken : List (List ℕ)
   pub by_version : takes new.version taken
@@ -165,5 +165,5 @@ pub record Fails (said : Pieces → Result Advertised ClientRefusal) (takes : Pr
 
 -- a call that reads what a server says first
 abbrev pub Advertises : (Pieces → Result Advertised ClientRefusal) → (Protocol → List (List ℕ) → Type 0) → Reading → Reading → Result SetServiceResponse Error → Type 0
-Advertises said takes old new (Ok found) = Reads said old new found
-Advertises said takes old new (Err e) = Fails said takes old new e
+Advertises said takes old new (Ok found) = ReadsAdvertisement said old new found
+Advertises said takes old new (Err e) = FailsAdvertisement said takes old new e

@@ -13,7 +13,7 @@ use Rattle.std.specs.FinMap.{get-insert, same_map}
 use Rattle.gixp_wire.specs.declared.object_id.ObjectId.{ObjectId}
 use Rattle.gixp_wire.specs.ObjectId.{id_cmp}
 use Rattle.gixp_graph.specs.Object.{Commit, commit_at, time_at}
-use Rattle.gixp_graph.specs.Held.{Held, Commits, GraphData, found_in, commit_in, as_read, unmarked, shown, shown_time, put, looked_up, is_complete, is_marked, IsFaithful}
+use Rattle.gixp_graph.specs.GraphData.{HeldCommit, Commits, GraphData, found_in, commit_in, as_read, unmarked, shown, shown_time, put, looked_up, is_complete, is_marked, IsFaithful}
 use Rattle.gixp_graph.specs.Run.{Call, IsRun}
 
 -- ---- ids
@@ -37,7 +37,7 @@ pub same_from : (q id : ObjectId) → eq_by_cmp id_cmp q id ≡ true → q ≡ i
 same_from q id e = ids_exact q id (same_at (id_cmp q id) e)
 
 -- to put what is there changes nothing
-pub put_same : (m : Commits) (id : ObjectId) (h : Held) → finite.get m id ≡ Some h → finite.insert m id h ≡ m
+pub put_same : (m : Commits) (id : ObjectId) (h : HeldCommit) → finite.get m id ≡ Some h → finite.insert m id h ≡ m
 put_same m id h is = same_map ids_total ids_exact _ _ (λ q. get-insert ids_total m id h q ∙ at q (id_cmp q id) refl)
   where
     at : (q : ObjectId) (o : Ordering) → id_cmp q id ≡ o → cond (is_eq o) (Some h) (finite.get m q) ≡ finite.get m q
@@ -48,7 +48,7 @@ put_same m id h is = same_map ids_total ids_exact _ _ (λ q. get-insert ids_tota
 -- ---- graphs that hold nothing but what their objects have
 
 -- the same, by what is held
-reads_at : (o : Option Held) (p : Option Commit) → ((h : Held) → o ≡ Some h → p ≡ Some (as_read h)) → option_map as_read (option_or o (option_map unmarked p)) ≡ p
+reads_at : (o : Option HeldCommit) (p : Option Commit) → ((h : HeldCommit) → o ≡ Some h → p ≡ Some (as_read h)) → option_map as_read (option_or o (option_map unmarked p)) ≡ p
 reads_at None None f = refl
 reads_at None (Some c) f = refl
 reads_at (Some h) p f = sym (f h refl)
@@ -58,7 +58,7 @@ pub faithful_reads : (g : GraphData) → IsFaithful g → (id : ObjectId) → co
 faithful_reads g f id = reads_at (finite.get g.held id) (commit_at g.objects id) (f id)
 
 -- the time that is shown is the one that is read
-times_at : (o : Option Held) → shown_time (option_map shown o) ≡ option_map (λ (c : Commit). c.time) (option_map as_read o)
+times_at : (o : Option HeldCommit) → shown_time (option_map shown o) ≡ option_map (λ (c : Commit). c.time) (option_map as_read o)
 times_at None = refl
 times_at (Some h) = refl
 
@@ -69,7 +69,7 @@ faithful_time g f id = times_at (found_in g id) ∙ ap (option_map (λ (c : Comm
 -- ---- look-ups
 
 -- the same, by what is held and what the objects have
-marked_at : (g : GraphData) (id q : ObjectId) (o : Option Held) (p : Option Commit) → finite.get g.held id ≡ o → is_marked (put g.held id (option_or o (option_map unmarked p))) q ≡ is_marked g.held q
+marked_at : (g : GraphData) (id q : ObjectId) (o : Option HeldCommit) (p : Option Commit) → finite.get g.held id ≡ o → is_marked (put g.held id (option_or o (option_map unmarked p))) q ≡ is_marked g.held q
 marked_at g id q (Some h) p is = ap (λ m. is_marked m q) (put_same g.held id h is)
 marked_at g id q None None is = refl
 marked_at g id q None (Some c) is = ap (λ o. option_map_or is_complete o false) (get-insert ids_total g.held id (unmarked c) q) ∙ at (eq_by_cmp id_cmp q id) refl
@@ -83,7 +83,7 @@ pub marked_looked_up : (g : GraphData) (id q : ObjectId) → is_marked (looked_u
 marked_looked_up g id q = marked_at g id q (finite.get g.held id) (commit_at g.objects id) refl
 
 -- the same as the next, by what is held and what the objects have
-held_at : (g : GraphData) (id q : ObjectId) (o : Option Held) (p : Option Commit) → finite.get g.held id ≡ o → IsSome (finite.get (put g.held id (option_or o (option_map unmarked p))) q) → IsSome (finite.get g.held q) ⊎ (q ≡ id)
+held_at : (g : GraphData) (id q : ObjectId) (o : Option HeldCommit) (p : Option Commit) → finite.get g.held id ≡ o → IsSome (finite.get (put g.held id (option_or o (option_map unmarked p))) q) → IsSome (finite.get g.held q) ⊎ (q ≡ id)
 held_at g id q (Some h) p is f = inl (subst (λ m. IsSome (finite.get m q)) (put_same g.held id h is) f)
 held_at g id q None None is f = inl f
 held_at g id q None (Some c) is f = at (eq_by_cmp id_cmp q id) refl (subst IsSome (get-insert ids_total g.held id (unmarked c) q) f)

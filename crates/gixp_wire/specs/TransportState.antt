@@ -17,7 +17,7 @@ pub record Greeting : Type 0 where
   pub version : Protocol
 
 -- what no call that reads changes
-pub record Held : Type 0 where
+pub record TransportState : Type 0 where
   -- whether the answers of all requests stand one behind another
   pub persists : Bool
   -- the bytes written, where they are known: of all requests where it persists, else of the one that isn't finished
@@ -40,5 +40,5 @@ pub record Held : Type 0 where
   pub names : List GName
 
 -- of a reader that writes nothing
-abbrev pub nothing_held : Held
+abbrev pub nothing_held : TransportState
 nothing_held = record { persists = true; written = None; sent = []; answers = []; broken = None; greeting = None; url = []; accepted = []; identity = None; names = [] }
