@@ -171,10 +171,8 @@ impl Transport for Bodies {
         _service: Service,
         _extra_parameters: &[(String, Option<String>)],
     ) -> Result<SetServiceResponse, Error> {
-        match self.take_answer() {
-            Ok(()) => self.packets.advertisement(alloc),
-            Err(e) => Err(e),
-        }
+        self.take_answer()?;
+        self.packets.advertisement(alloc)
     }
 
     fn begin_request(&mut self) -> Result<(), Error> {

@@ -139,10 +139,7 @@ impl<R: Read, W: Write> Connection<R, W> {
         requires { length payload.now ≤ 65516 }
         ensures { Writes (connection_reading R.remaining W.contents self.old) (connection_reading R.remaining W.contents self.new) (payload_text payload.now) result }
     {
-        match self.write_bytes(&frame_text::payload_digits(payload.len())) {
-            Ok(()) => {}
-            Err(e) => return Err(e),
-        }
+        self.write_bytes(&frame_text::payload_digits(payload.len()))?;
         self.write_bytes(payload)
     }
 
@@ -165,10 +162,7 @@ impl<R: Read, W: Write> Connection<R, W> {
         if payload.len() > MAX_PAYLOAD {
             return Err(Error::LineTooLong);
         }
-        match self.write_payload(&payload) {
-            Ok(()) => {}
-            Err(e) => return Err(e),
-        }
+        self.write_payload(&payload)?;
         self.go_on()
     }
 }
@@ -235,10 +229,8 @@ impl<R: Read, W: Write> Transport for Connection<R, W> {
         service: Service,
         extra_parameters: &[(String, Option<String>)],
     ) -> Result<SetServiceResponse, Error> {
-        match self.greet(alloc, service, extra_parameters) {
-            Ok(()) => self.packets.advertisement(alloc),
-            Err(e) => Err(e),
-        }
+        self.greet(alloc, service, extra_parameters)?;
+        self.packets.advertisement(alloc)
     }
 
     fn begin_request(&mut self) -> Result<(), Error> {
@@ -249,14 +241,8 @@ impl<R: Read, W: Write> Transport for Connection<R, W> {
     }
 
     fn write_text(&mut self, line: &[u8]) -> Result<(), Error> {
-        match self.write_bytes(&frame_text::line_digits(line.len())) {
-            Ok(()) => {}
-            Err(e) => return Err(e),
-        }
-        match self.write_bytes(line) {
-            Ok(()) => {}
-            Err(e) => return Err(e),
-        }
+        self.write_bytes(&frame_text::line_digits(line.len()))?;
+        self.write_bytes(line)?;
         self.write_bytes(b"\n")
     }
 

@@ -160,14 +160,8 @@ pub trait Transport: ExtendedBufRead {
         if !all_fit(messages) {
             return Err(Error::LineTooLong);
         }
-        match self.begin_request() {
-            Ok(()) => {}
-            Err(e) => return Err(e),
-        }
-        match self.write_all(messages) {
-            Ok(()) => {}
-            Err(e) => return Err(e),
-        }
+        self.begin_request()?;
+        self.write_all(messages)?;
         self.end_request()
     }
 

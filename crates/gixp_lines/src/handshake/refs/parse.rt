@@ -4,7 +4,7 @@ ghost use Rattle.gixp_wire.specs.Reading.{refusal_of};
 
 use bstr::BString;
 use gixp_wire::{PacketError, decode, read};
-use std::alloc::AllocError;
+use std::alloc::{AllocError, AllocFailed};
 use std::fmt;
 use std::io::ErrorKind;
 use thiserror::Error as DeriveError;
@@ -141,6 +141,16 @@ impl From<AllocError> for Error {
     ghost from_gives = { λ _ error. error ≡ Memory };
 
     fn from(_e: AllocError) -> Error {
+        Error::Memory
+    }
+}
+
+impl<T: Drop> From<AllocFailed<T>> for Error {
+    ghost use Rattle.gixp_lines.specs.declared.handshake.refs.parse.Error.TheVariants.{Memory};
+
+    ghost from_gives = { λ _ error. error ≡ Memory };
+
+    fn from(_e: AllocFailed<T>) -> Error {
         Error::Memory
     }
 }

@@ -181,10 +181,7 @@ impl Advertised {
     pub(crate) fn add(&mut self, alloc: Global, targets: &Targets, line: &[u8]) -> Result<(), Error>
         ensures { Answers (λ _. so_far_value self.new) (with_text (symrefs_in targets.now.entries) (so_far_value self.old) line.now) result }
     {
-        match read_line(alloc, line) {
-            Ok(line) => self.add_line(alloc, targets, line),
-            Err(e) => Err(e),
-        }
+        self.add_line(alloc, targets, read_line(alloc, line)?)
     }
 
     // The refs and the updates of all lines.
@@ -196,17 +193,13 @@ impl Advertised {
             (λ found. (map ref_value found.0.items ≡ (so_far_value self).refs ++ closed (symrefs_in targets.now.entries) (so_far_value self).open_line) × (found.1.items ≡ (so_far_value self).updates))
             (λ e. e ≡ Memory) }
     {
-        match self.close(targets) {
-            Ok(()) => {
-                let Advertised {
-                    refs,
-                    last: _,
-                    updates,
-                } = self;
-                Ok((refs, updates))
-            }
-            Err(e) => Err(e),
-        }
+        self.close(targets)?;
+        let Advertised {
+            refs,
+            last: _,
+            updates,
+        } = self;
+        Ok((refs, updates))
     }
 
     fn add_line(&mut self, alloc: Global, targets: &Targets, line: Line<'_>) -> Result<(), Error>
@@ -214,10 +207,10 @@ impl Advertised {
     {
         match line {
             Line::Nothing => Ok(()),
-            Line::Shallow(id) => match self.updates.push(ShallowUpdate::Shallow(id)) {
-                Ok(()) => Ok(()),
-                Err(_) => Err(Error::Memory),
-            },
+            Line::Shallow(id) => {
+                self.updates.push(ShallowUpdate::Shallow(id))?;
+                Ok(())
+            }
             Line::Named { object, name } => self.add_named(alloc, targets, object, name),
             Line::Peeled { left, base } => self.peel(targets, left, base),
         }
@@ -233,17 +226,10 @@ impl Advertised {
     ) -> Result<(), Error>
         ensures { Answers (λ _. so_far_value self.new) (with_line (symrefs_in targets.now.entries) (so_far_value self.old) (names object.bytes name.now)) result }
     {
-        let name = match BString::from_slice(alloc, name) {
-            Ok(name) => name,
-            Err(_) => return Err(Error::Memory),
-        };
-        match self.close(targets) {
-            Ok(()) => {
-                self.last = Some(RefLine { object, name });
-                Ok(())
-            }
-            Err(e) => Err(e),
-        }
+        let name = BString::from_slice(alloc, name)?;
+        self.close(targets)?;
+        self.last = Some(RefLine { object, name });
+        Ok(())
     }
 
     // The ref line that is open stays without a peeled line.
@@ -267,19 +253,14 @@ impl Advertised {
             None => Err(Error::InvariantViolation {
                 message: Invariant::PeeledAlone,
             }),
-            Some(line) => match make_pair(targets, line, left, base) {
-                Ok(found) => self.push(found),
-                Err(e) => Err(e),
-            },
+            Some(line) => self.push(make_pair(targets, line, left, base)?),
         }
     }
 
     fn push(&mut self, found: Ref) -> Result<(), Error>
         ensures { MatchResult result (λ _. so_far_value self.new ≡ with_found (so_far_value self.old) (ref_value found)) (λ e. e ≡ Memory) }
     {
-        match self.refs.push(found) {
-            Ok(()) => Ok(()),
-            Err(_) => Err(Error::Memory),
-        }
+        self.refs.push(found)?;
+        Ok(())
     }
 }
