@@ -5,6 +5,6 @@ mod clauses;
 mod fetches;
 mod refs;
 
-pub use clauses::{marked_complete, read_answer, read_spec};
+pub use clauses::{marked_complete, read_answer, read_pack, read_spec};
 pub use fetches::fetch_one;
 pub use refs::{recorded_refs, refs_of_bytes, refs_of_file};
