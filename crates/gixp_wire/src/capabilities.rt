@@ -10,7 +10,7 @@ ghost use Rattle.gixp_wire.specs.Capability.{capability_value, capabilities_left
 ghost use Rattle.gixp_wire.specs.declared.client.Error.TheVariants.{Memory};
 
 use crate::client;
-use crate::cut::cut;
+use crate::text::cut;
 use bstr::{BStr, BString, ByteSlice};
 use std::alloc::{AllocError, Global};
 use std::marker::Model;
