@@ -1,5 +1,5 @@
 use Rattle.gixp_wire.proofs.CutLemmas.{cut_at_place, cut_nowhere}
-use Rattle.gixp_wire.proofs.cut.cut.Goals as goal
+use Rattle.gixp_wire.proofs.text.cut.Goals as goal
 
 pub returns-in-Some : goal.returns-in-Some
 returns-in-Some c =
