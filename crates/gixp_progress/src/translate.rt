@@ -50,13 +50,9 @@ fn report_error<P: Progress>(alloc: Global, text: &[u8], progress: &mut P) -> Re
     if text.is_empty() {
         return Ok(());
     }
-    match String::from_utf8_lossy(alloc, text) {
-        Ok(message) => {
-            progress.fail(message);
-            Ok(())
-        }
-        Err(e) => Err(e),
-    }
+    let message = String::from_utf8_lossy(alloc, text)?;
+    progress.fail(message);
+    Ok(())
 }
 
 // How many steps are done, if that is known.
@@ -78,15 +74,11 @@ fn show_line<P: Progress>(
         (set_name (name_for (P.name_of progress.old) (bstr_bytes line.entry.action)) ∷ init line.entry.max (codes "objects") ∷ set_calls line.entry.step) progress.new) }
     ensures err { OnErr result (progress.new ≡ progress.old) }
 {
-    match name_for(alloc, progress, line.action.as_bytes()) {
-        Ok(name) => {
-            progress.set_name(name);
-            progress.init(line.max, "objects");
-            set_step(progress, line.step);
-            Ok(())
-        }
-        Err(e) => Err(e),
-    }
+    let name = name_for(alloc, progress, line.action.as_bytes())?;
+    progress.set_name(name);
+    progress.init(line.max, "objects");
+    set_step(progress, line.step);
+    Ok(())
 }
 
 // Any other text.
@@ -94,13 +86,9 @@ fn show_text<P: Progress>(alloc: Global, text: &[u8], progress: &mut P) -> Resul
     ensures ok { OnOk result (Told P.told progress.old (set_name (name_for (P.name_of progress.old) text.now) ∷ []) progress.new) }
     ensures err { OnErr result (progress.new ≡ progress.old) }
 {
-    match name_for(alloc, progress, text) {
-        Ok(name) => {
-            progress.set_name(name);
-            Ok(())
-        }
-        Err(e) => Err(e),
-    }
+    let name = name_for(alloc, progress, text)?;
+    progress.set_name(name);
+    Ok(())
 }
 
 impl RemoteProgress<'_> {
