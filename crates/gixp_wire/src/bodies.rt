@@ -171,8 +171,10 @@ impl Transport for Bodies {
         _service: Service,
         _extra_parameters: &[(String, Option<String>)],
     ) -> Result<SetServiceResponse, Error> {
-        self.take_answer()?;
-        self.packets.advertisement(alloc)
+        match self.take_answer() {
+            Ok(()) => self.packets.advertisement(alloc),
+            Err(e) => Err(e),
+        }
     }
 
     fn begin_request(&mut self) -> Result<(), Error> {

@@ -162,7 +162,10 @@ impl<R: Read, W: Write> Connection<R, W> {
         if payload.len() > MAX_PAYLOAD {
             return Err(Error::LineTooLong);
         }
-        self.write_payload(&payload)?;
+        match self.write_payload(&payload) {
+            Ok(()) => {}
+            Err(e) => return Err(e),
+        }
         self.go_on()
     }
 }
@@ -229,8 +232,10 @@ impl<R: Read, W: Write> Transport for Connection<R, W> {
         service: Service,
         extra_parameters: &[(String, Option<String>)],
     ) -> Result<SetServiceResponse, Error> {
-        self.greet(alloc, service, extra_parameters)?;
-        self.packets.advertisement(alloc)
+        match self.greet(alloc, service, extra_parameters) {
+            Ok(()) => self.packets.advertisement(alloc),
+            Err(e) => Err(e),
+        }
     }
 
     fn begin_request(&mut self) -> Result<(), Error> {
