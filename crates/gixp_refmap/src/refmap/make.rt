@@ -74,7 +74,10 @@ fn remote_ref(refs: &[Ref], index: usize) -> Result<Source, AllocError>
     requires { (r : RefValue) × (slice_get (map ref_value refs.now) index ≡ Some r) }
     ensures { IfOk result (λ found. (r : Ref) × (found ≡ Source.Ref r) × (slice_get (map ref_value refs.now) index ≡ Some (ref_value r))) }
 {
-    Ok(Source::Ref(copy_of(&refs[index])?))
+    match copy_of(&refs[index]) {
+        Ok(found) => Ok(Source::Ref(found)),
+        Err(e) => Err(e),
+    }
 }
 
 // What a mapping takes.
