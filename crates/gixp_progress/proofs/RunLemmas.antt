@@ -73,14 +73,16 @@ run_is_first text =
     let rest = from_digit text in
     let n = position_or_len is_other rest in
     let run = run_at rest in
-    let behind = behind_at rest in
-    (take (position_or_len is_digit text) text, record {
-      parts = sym (take-append-drop (position_or_len is_digit text) text) ∙ ap (λ l. take (position_or_len is_digit text) text ++ l) (sym (take-append-drop n rest));
-      without = front_passes is_other text;
-      digits = ap (list_all is_digit) run ∙ front_passes is_digit rest;
-      longest = ap (begins_with is_digit) behind ∙ back_fails is_digit rest;
-      found = ap (λ l. is_found l (drop n rest)) run ∙ ap (is_found (take (prefix_len is_digit rest) rest)) behind ∙ found_at rest (back_fails is_other text)
-    })
+    let behind = behind_at rest in (
+      take (position_or_len is_digit text) text,
+      record {
+        parts = sym (take-append-drop (position_or_len is_digit text) text) ∙ ap (λ l. take (position_or_len is_digit text) text ++ l) (sym (take-append-drop n rest));
+        without = front_passes is_other text;
+        digits = ap (list_all is_digit) run ∙ front_passes is_digit rest;
+        longest = ap (begins_with is_digit) behind ∙ back_fails is_digit rest;
+        found = ap (λ l. is_found l (drop n rest)) run ∙ ap (is_found (take (prefix_len is_digit rest) rest)) behind ∙ found_at rest (back_fails is_other text);
+      },
+    )
 
 -- a run and the rest don't begin with another byte
 run_begins : (run rest : List ℕ) → list_all is_digit run ≡ true → is_found run rest ≡ true → begins_with is_other (run ++ rest) ≡ false
