@@ -2,12 +2,13 @@
 use crate::repository::{chain, id, ref_map};
 use gixp_graph::{Flags, Graph, NegotiatorError, ObjectError, Objects, RefStoreError};
 use gixp_lines::fetch::Response;
-use gixp_memory::{Lent, MemoryObjects, MemoryRefs, Recorder};
+use gixp_memory::{MemoryObjects, MemoryRefs, Recorder};
 use gixp_negotiate::negotiate::negotiation::{NegotiateContext, Negotiation};
 use gixp_negotiate::negotiate::one_round::State;
 use gixp_negotiate::negotiate::plain::{HaveList, NoObjects, NoRefs};
 use gixp_negotiate::negotiate::{Action, Error, Negotiate};
 use gixp_negotiate::shallow::Shallow;
+use gixp_refmap::RefMap;
 use gixp_refmap::fetch::Tags;
 use gixp_requests::command::CommandTable;
 use gixp_requests::fetch::Arguments;
@@ -40,41 +41,43 @@ fn answer(alloc: Global, text: &str) -> Result<Response, Fail> {
     Ok(Response::from_line_reader(alloc, Protocol::V2, &mut reader, false, true)?)
 }
 
+// A first step over the refs and this graph.
+fn decide<O: Objects>(
+    alloc: Global,
+    graph: &mut Graph<O>,
+    refs: &mut MemoryRefs,
+    map: &RefMap,
+) -> Result<Action, Error<u8>> {
+    let mut recorder = Recorder::new(alloc, Vec::new(alloc));
+    let context = NegotiateContext {
+        objects: &NoObjects,
+        refs,
+        alternates: Ok(&mut []),
+        negotiator: &mut recorder,
+        graph,
+    };
+    let mut negotiation = Negotiation::new(context, map, &Shallow::NoChange, Tags::None);
+    negotiation.mark_complete_and_common_ref(alloc)
+}
+
 #[test]
 fn marks_all_behind_a_look_that_failed(rt: HostRuntime) -> Result<(), Fail> {
     let alloc = rt.alloc();
     let map = ref_map(alloc, &[2, 9])?;
+    let mut refs = MemoryRefs::new(alloc);
+    refs.targets.push(id(1))?;
     for looks in 0..4u64 {
-        let existing = MemoryObjects::new(alloc);
         let mut objects = chain(alloc)?;
         objects.calls = looks;
         objects.error = ObjectError::Io(ErrorKind::TimedOut);
-        let mut refs = MemoryRefs::new(alloc);
-        refs.targets.push(id(1))?;
-        let mut recorder = Recorder::new(alloc, Vec::new(alloc));
-        let mut graph = Graph::new(
-            alloc,
-            Lent {
-                objects: &mut objects,
-            },
-        );
-        {
-            let context = NegotiateContext {
-                objects: &existing,
-                refs: &mut refs,
-                alternates: Ok(&mut []),
-                negotiator: &mut recorder,
-                graph: &mut graph,
-            };
-            let mut negotiation = Negotiation::new(context, &map, &Shallow::NoChange, Tags::None);
-            let first: Result<Action, Error<u8>> = negotiation.mark_complete_and_common_ref(alloc);
-            let Err(Error::LookupCommitInGraph(e)) = first else {
-                return Err("no look failed".into());
-            };
-            assert_eq!(rt; e, ObjectError::Io(ErrorKind::TimedOut));
-            let second = negotiation.mark_complete_and_common_ref(alloc);
-            assert!(rt; is_to_negotiate(&second));
-        }
+        let mut graph = Graph::new(alloc, objects);
+        let first = decide(alloc, &mut graph, &mut refs, &map);
+        let Err(Error::LookupCommitInGraph(e)) = first else {
+            return Err("no look failed".into());
+        };
+        assert_eq!(rt; e, ObjectError::Io(ErrorKind::TimedOut));
+        let second = decide(alloc, &mut graph, &mut refs, &map);
+        assert!(rt; is_to_negotiate(&second));
         for number in 1..4u8 {
             assert!(rt; is_complete(&graph, number), "{looks} {number}");
         }
