@@ -1,48 +1,112 @@
-//! A planner of fetches over recorded answers: `gixp_plan refs FILE` lists the refs of one.
+//! A planner of fetches over recorded answers: `gixp_plan refs FILE` lists the refs of one, and `gixp_plan plan DIR SPEC..`
+//! prints what a client would send to a server and what it would map.
 #![tactic(auto)]
 
 mod list;
 mod print;
+mod recording;
 #[cfg(test)]
 mod tests;
 mod words;
 
-use crate::words::file_of;
+use crate::recording::{read_bodies, read_haves};
+use crate::words::{file_of, session_of};
+use bstr::BString;
+use gix_protocol::fetch::negotiate::{Graph, HaveList, NoObjects, Objects};
+pub use gixp_planner::{PlanError, parse_haves, plan};
 pub use list::{ListError, list_refs};
+use std::alloc::Global;
 use std::fs::File;
-use std::io::ErrorKind;
+use std::io::{BufWriter, ErrorKind};
 use std::process::ExitCode;
 use std::{env, io};
 
-const USAGE: &str = "usage: gixp_plan refs FILE";
+const USAGE: &str = "usage: gixp_plan refs FILE | plan DIR SPEC..";
 
-// Why the program ends without a list.
+// Why the program ends early.
 #[derive(Drop)]
 enum Failure {
     // The words aren't those of the usage, or no text.
     Usage,
     // What was refused, by its name.
     Refused(&'static str),
+    // What a plan was refused by.
+    Unplanned(PlanError),
 }
 
-// Opens the file that the words name.
-fn open_answer(rt: &HostRuntime) -> Result<File, Failure> {
+// The words of the command line.
+fn read_words(rt: &HostRuntime) -> Result<Vec<String>, Failure> {
     let words = env::args(rt).map_err(|e| match e.kind() {
         ErrorKind::OutOfMemory => Failure::Refused("Memory"),
         _ => Failure::Usage,
     })?;
-    let Ok(words) = words.collect::<Vec<String>>(rt.alloc()) else {
-        return Err(Failure::Refused("Memory"));
-    };
-    let path = file_of(words.as_slice()).ok_or(Failure::Usage)?;
-    File::open(rt, path).map_err(|_| Failure::Refused("Io"))
+    match words.collect::<Vec<String>>(rt.alloc()) {
+        Ok(words) => Ok(words),
+        Err(_) => Err(Failure::Refused("Memory")),
+    }
 }
 
-// Lists the refs of the file that the words name on standard output.
-fn run(rt: &HostRuntime) -> Result<(), Failure> {
-    let mut file = open_answer(rt)?;
+// Lists the refs of a file on standard output.
+fn run_refs(rt: &HostRuntime, path: &str) -> Result<(), Failure> {
+    let mut file = File::open(rt, path).map_err(|_| Failure::Refused("Io"))?;
     let mut writer = io::writer(rt);
     list_refs(rt.alloc(), &mut file, &mut writer).map_err(|e| Failure::Refused(e.variant()))
+}
+
+// The refspecs' texts.
+fn spec_texts(alloc: Global, words: &[String]) -> Result<Vec<BString>, PlanError> {
+    let mut texts = Vec::new(alloc);
+    for word in words {
+        let Ok(text) = BString::from_slice(alloc, word.as_str()) else {
+            return Err(PlanError {
+                step: "spec",
+                variant: "Memory",
+            });
+        };
+        if texts.push(text).is_err() {
+            return Err(PlanError {
+                step: "spec",
+                variant: "Memory",
+            });
+        }
+    }
+    Ok(texts)
+}
+
+// Plans the recorded session of a folder on standard output.
+fn run_plan(rt: &HostRuntime, folder: &str, words: &[String]) -> Result<(), PlanError> {
+    let bodies = read_bodies(rt, folder)?;
+    let haves = read_haves(rt, folder)?;
+    let specs = spec_texts(rt.alloc(), words)?;
+    let mut negotiator = HaveList::new(haves);
+    let mut graph = Graph::new(rt.alloc(), NoObjects);
+    let Ok(mut writer) = BufWriter::new(rt.alloc(), io::writer(rt)) else {
+        return Err(PlanError {
+            step: "file",
+            variant: "Memory",
+        });
+    };
+    plan(
+        rt.alloc(),
+        bodies,
+        &NoObjects,
+        &mut graph,
+        &mut negotiator,
+        &specs,
+        &mut writer,
+    )
+}
+
+// Does what the words say.
+fn run(rt: &HostRuntime) -> Result<(), Failure> {
+    let words = read_words(rt)?;
+    if let Some(path) = file_of(words.as_slice()) {
+        return run_refs(rt, path);
+    }
+    match session_of(words.as_slice()) {
+        Some((folder, specs)) => run_plan(rt, folder, specs).map_err(|e| Failure::Unplanned(e)),
+        None => Err(Failure::Usage),
+    }
 }
 
 fn main(rt: HostRuntime) -> ExitCode {
@@ -54,6 +118,10 @@ fn main(rt: HostRuntime) -> ExitCode {
         }
         Err(Failure::Refused(variant)) => {
             let _ = eprintln!(rt; "{variant}");
+            ExitCode::FAILURE
+        }
+        Err(Failure::Unplanned(e)) => {
+            let _ = eprintln!(rt; "{e}");
             ExitCode::FAILURE
         }
     }

@@ -23,6 +23,7 @@ mod openings;
 mod packs;
 mod places;
 mod progress_lines;
+mod plans;
 mod refs;
 mod report;
 mod requests;
@@ -82,6 +83,7 @@ fn replay_row(alloc: Global, row: &Row<'_>, report: &mut Report) -> Result<(), A
         Mode::Progress => progress_lines::report_line(alloc, row, report),
         Mode::Fetch => fetches::report_fetch(alloc, row, report),
         Mode::Negotiation => negotiations::report_negotiation(alloc, row, report),
+        Mode::Plan => plans::report_plan(alloc, row, report),
     }
 }
 

@@ -79,6 +79,12 @@ impl Report {
             return self.digest(bytes);
         }
         self.word("'")?;
+        self.letters(bytes)?;
+        self.word("'")
+    }
+
+    /// Bytes, those that are no plain letters as two digits behind a backslash.
+    pub fn letters(&mut self, bytes: &[u8]) -> Result<(), AllocError> {
         for byte in bytes {
             let plain = *byte > b' ' && *byte < 127 && *byte != b'\\' && *byte != b'\'';
             if plain {
@@ -89,7 +95,7 @@ impl Report {
                 self.text.push(digit(*byte % 16))?;
             }
         }
-        self.word("'")
+        Ok(())
     }
 
     /// Keeps so many bytes of a longer text, with its length and checksum behind them.

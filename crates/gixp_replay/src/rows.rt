@@ -50,6 +50,8 @@ pub enum Mode {
     Fetch,
     /// `N`: a negotiation.
     Negotiation,
+    /// `T`: a plan over recorded bodies.
+    Plan,
 }
 
 impl Mode {
@@ -73,6 +75,7 @@ impl Mode {
             [b'G'] => Some(Mode::Progress),
             [b'F'] => Some(Mode::Fetch),
             [b'N'] => Some(Mode::Negotiation),
+            [b'T'] => Some(Mode::Plan),
             _ => None,
         }
     }

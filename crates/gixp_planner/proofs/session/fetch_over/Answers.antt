@@ -1,0 +1,7 @@
+use Rattle.std.proofs.Common.{ap}
+use Rattle.gixp_negotiate.specs.Shallow.{shallow_value}
+use Rattle.gixp_planner.proofs.SessionLemmas.{carries}
+use Rattle.gixp_planner.proofs.session.fetch_over.Goals as goal
+
+pub returns : goal.returns
+returns g c = carries _ _ _ _ _ _ _ _ _ c.git.ensures c.requires.agent (ap shallow_value c.requires.stays) c.fetch.ensures.fetched

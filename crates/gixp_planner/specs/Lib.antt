@@ -1,0 +1,6 @@
+pub mod Refusal
+pub mod Haves
+pub mod Specs
+pub mod Text
+pub mod Session
+pub mod PlannedText

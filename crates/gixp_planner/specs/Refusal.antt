@@ -1,0 +1,72 @@
+-- Why a plan isn't made: which step was refused, and the name of the variant of its own error.
+use Rattle.std.specs.Prelude.{ℕ, ◌≡◌, ◌⊎◌, List, codes, Result, Ok, Err}
+use Rattle.std.specs.Io.KnownBytes.{Appends}
+use Rattle.std.specs.Prelude.{Option}
+use Rattle.gixp_refspec.specs.declared.parse.Error.{Error as SpecError}
+use Rattle.gixp_refspec.specs.declared.parse.Error.TheVariants.{NegativeWithDestination, NegativeObjectHash, NegativePartialName, PatternUnbalanced, PatternUnsupported, InvalidName}
+use Rattle.gixp_handshake.specs.declared.handshake.error.Error.{Error as HandshakeError}
+use Rattle.gixp_handshake.specs.declared.handshake.error.Error.TheVariants as handshake
+use Rattle.gixp_refmap.specs.declared.refmap.init.Error.{Error as MapError}
+use Rattle.gixp_refmap.specs.declared.refmap.init.Error.TheVariants as map
+use Rattle.gixp_fetch.specs.declared.error.Error.{Error as FetchError}
+use Rattle.gixp_fetch.specs.declared.error.Error.TheVariants as fetch
+use Rattle.gixp_planner.specs.declared.error.PlanError.{PlanError}
+
+pub record Refusal : Type 0 where
+  pub step : List ℕ
+  pub variant : List ℕ
+
+abbrev pub refusal : List ℕ → List ℕ → Refusal
+refusal step variant = record { step = step; variant = variant }
+
+abbrev pub refusal_of : PlanError → Refusal
+refusal_of e = refusal e.step.now e.variant.now
+
+-- an allocation failed in a step
+abbrev pub IsMemory : List ℕ → PlanError → Type 0
+IsMemory step e = refusal_of e ≡ refusal step (codes "Memory")
+
+-- a write failed, or an allocation for what is written
+abbrev pub IsUnwritten : PlanError → Type 0
+IsUnwritten e = (refusal_of e ≡ refusal (codes "file") (codes "Io")) ⊎ IsMemory (codes "file") e
+
+-- this text was written, or a write failed
+abbrev pub Writes : Option (List ℕ) → Option (List ℕ) → List ℕ → Result (Unit {0}) PlanError → Type 0
+Writes old new text (Ok x) = Appends old new text
+Writes old new text (Err e) = IsUnwritten e
+
+abbrev pub spec_name : SpecError → List ℕ
+spec_name NegativeWithDestination = codes "NegativeWithDestination"
+spec_name NegativeObjectHash = codes "NegativeObjectHash"
+spec_name NegativePartialName = codes "NegativePartialName"
+spec_name PatternUnbalanced = codes "PatternUnbalanced"
+spec_name PatternUnsupported = codes "PatternUnsupported"
+spec_name InvalidName = codes "InvalidName"
+
+abbrev pub handshake_name : HandshakeError → List ℕ
+handshake_name (handshake.Credentials e) = codes "Credentials"
+handshake_name handshake.EmptyCredentials = codes "EmptyCredentials"
+handshake_name (handshake.InvalidCredentials url) = codes "InvalidCredentials"
+handshake_name (handshake.Transport e) = codes "Transport"
+handshake_name (handshake.TransportProtocolPolicyViolation version) = codes "TransportProtocolPolicyViolation"
+handshake_name (handshake.ParseRefs e) = codes "ParseRefs"
+handshake_name handshake.Memory = codes "Memory"
+
+abbrev pub map_name : MapError → List ℕ
+map_name (map.UnknownObjectFormat format) = codes "UnknownObjectFormat"
+map_name (map.MappingValidation e) = codes "MappingValidation"
+map_name (map.ListRefs e) = codes "ListRefs"
+map_name map.Memory = codes "Memory"
+
+abbrev pub fetch_name : {A X : Type 0} → FetchError A X → List ℕ
+fetch_name (fetch.FetchResponse e) = codes "FetchResponse"
+fetch_name (fetch.Negotiate e) = codes "Negotiate"
+fetch_name (fetch.Client e) = codes "Client"
+fetch_name (fetch.MissingServerFeature feature description) = codes "MissingServerFeature"
+fetch_name (fetch.WriteShallowFile e) = codes "WriteShallowFile"
+fetch_name (fetch.ReadShallowFile e) = codes "ReadShallowFile"
+fetch_name (fetch.LockShallowFile e) = codes "LockShallowFile"
+fetch_name fetch.RejectShallowRemote = codes "RejectShallowRemote"
+fetch_name (fetch.ConsumePack e) = codes "ConsumePack"
+fetch_name (fetch.ReadRemainingBytes e) = codes "ReadRemainingBytes"
+fetch_name fetch.Memory = codes "Memory"

@@ -1,0 +1,89 @@
+-- A session of a planner: a handshake without an account, the ref map of the server's refs, and a fetch of what is mapped.
+use Rattle.std.specs.Prelude.{ℕ, ◌≡◌, ◌⊎◌, ⊤, Bool, true, false, List, [], ◌∷◌, codes, Option, Some, None, Result, Ok, Err}
+use Rattle.gixp_wire.specs.declared.service.Service.TheVariants.{UploadPack}
+use Rattle.gixp_wire.specs.Reading.{Reading}
+use Rattle.gixp_requests.specs.Feature.{FeatureValue}
+use Rattle.gixp_requests.specs.Command.{git_table}
+use Rattle.gixp_lines.specs.Answer.{update_items}
+use Rattle.gixp_refmap.specs.declared.fetch.Tags.TheVariants as tags
+use Rattle.gixp_refmap.specs.declared.refmap.init.Context.{Context}
+use Rattle.gixp_refmap.specs.declared.refmap.init.Error.{Error as MapError}
+use Rattle.gixp_refmap.specs.declared.refmap.init.Error.TheVariants as map
+use Rattle.gixp_refmap.specs.declared.refmap.map.RefMap.{RefMap}
+use Rattle.gixp_handshake.specs.declared.handshake.error.Error.{Error as HandshakeError}
+use Rattle.gixp_handshake.specs.declared.handshake.read.Handshake.{Handshake}
+use Rattle.gixp_handshake.specs.Shake.{Turn, Shakes}
+use Rattle.gixp_handshake.specs.Taken.{without_refs}
+use Rattle.gixp_handshake.specs.Obtain.{Obtains}
+use Rattle.gixp_fetch.specs.declared.error.Error.{Error as FetchError}
+use Rattle.gixp_fetch.specs.declared.error.Error.TheVariants as fetch
+use Rattle.gixp_fetch.specs.declared.options.Outcome.{Outcome}
+use Rattle.gixp_fetch.specs.FetchShallow.{no_change}
+use Rattle.gixp_fetch.specs.Fetch.{World, Parties}
+use Rattle.gixp_fetch.specs.Fetched.{Call, Fetches}
+use Rattle.gixp_planner.specs.Refusal.{Refusal, refusal, handshake_name, map_name, fetch_name}
+
+-- how the planner names itself
+abbrev pub planner_agent : FeatureValue
+planner_agent = record { name = codes "agent"; value = Some (codes "git/gixp-plan") }
+
+-- whoever was asked for an account had none
+abbrev pub AreUnanswered : List Turn → Type 0
+AreUnanswered [] = ⊤
+AreUnanswered (t ∷ ts) = (t.answer ≡ Ok None) × AreUnanswered ts
+
+-- a handshake without an account
+pub record Greets (plain : Bool) (old new : Reading) (r : Result Handshake HandshakeError) : Type 0 where
+  pub turns : List Turn
+  pub unanswered : AreUnanswered turns
+  pub shakes : Shakes UploadPack [] plain old new turns r
+
+-- the ref map of the server, which is asked for the refspecs' prefixes
+abbrev pub MapsRefs : Context → Handshake → Bool → Reading → Reading → Result RefMap MapError → Type 0
+MapsRefs context h plain old new r = Obtains git_table planner_agent context h plain old new r ⊎ ((new ≡ old) × (r ≡ Err map.Memory))
+
+-- what a fetch is handed in: the boundary is to stay, and no tags come but those that are mapped
+abbrev pub planner_call : Handshake → Call
+planner_call h = record {
+  table = git_table;
+  version = h.server_protocol_version;
+  capabilities = h.capabilities;
+  agent = planner_agent;
+  tags = tags.None;
+  wishes = record { shallow = no_change; told = update_items h.v1_shallow_updates; reject = false };
+}
+
+-- a fetch of the planner
+pub record Carries {N I A S C P X : Type 0} (parties : Parties N I A S C P X) (h : Handshake) (first : World N I S C) (r : Result (Option Outcome) (FetchError A X)) (last : World N I S C) (progress : P) : Type 0 where
+  pub fetched : Fetches parties (planner_call h) first r last progress
+
+-- a fetch over a negotiation and a store of the boundary that are so
+pub record FetchesOver {N I A S C P X : Type 0} (parties : Parties N I A S C P X) (IsOver : N → Type 0) (IsEmpty : S → Type 0) (h : Handshake) (old new : Reading) (r : Result (Option Outcome) (FetchError A X)) : Type 0 where
+  pub first : World N I S C
+  pub last : World N I S C
+  pub progress : P
+  pub over : IsOver first.negotiate
+  pub empty : IsEmpty first.store
+  pub unlocked : first.locked ≡ false
+  pub begins : first.reading ≡ old
+  pub ends : last.reading ≡ new
+  pub fetched : Carries parties h first r last progress
+
+-- the same, or an allocation failed before it
+abbrev pub FetchesMapped : {N I A S C P X : Type 0} → Parties N I A S C P X → (N → Type 0) → (S → Type 0) → Handshake → Reading → Reading → Result (Option Outcome) (FetchError A X) → Type 0
+FetchesMapped parties IsOver IsEmpty h old new r = FetchesOver parties IsOver IsEmpty h old new r ⊎ ((new ≡ old) × (r ≡ Err fetch.Memory))
+
+-- whether a pack came, or why the fetch was refused
+abbrev pub end_of : {A X : Type 0} → Result (Option Outcome) (FetchError A X) → Result Bool Refusal
+end_of (Ok (Some outcome)) = Ok true
+end_of (Ok None) = Ok false
+end_of (Err e) = Err (refusal (codes "fetch") (fetch_name e))
+
+module _ {A X : Type 0} (Receives : RefMap → Handshake → Reading → Reading → Result (Option Outcome) (FetchError A X) → Type 0) (context : Context) (plain : Bool) (old : Reading) where
+  -- a session: its handshake was refused, or its ref map was, or what is mapped was fetched
+  pub data Runs (new : Reading) (mapped : Option RefMap) (ended : Result Bool Refusal) : Type 0 where
+    ungreeted : (e : HandshakeError) → Greets plain old new (Err e) → mapped ≡ None → ended ≡ Err (refusal (codes "handshake") (handshake_name e)) → Runs new mapped ended
+    unmapped : (h : Handshake) (mid : Reading) (e : MapError) → Greets plain old mid (Ok h) → MapsRefs context h plain mid new (Err e) → mapped ≡ None
+        → ended ≡ Err (refusal (codes "refs") (map_name e)) → Runs new mapped ended
+    fetched : (h : Handshake) (mid behind : Reading) (m : RefMap) (r : Result (Option Outcome) (FetchError A X)) → Greets plain old mid (Ok h) → MapsRefs context h plain mid behind (Ok m)
+        → Receives m (without_refs h) behind new r → mapped ≡ Some m → ended ≡ end_of r → Runs new mapped ended

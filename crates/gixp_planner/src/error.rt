@@ -1,0 +1,42 @@
+//! Why a plan isn't made.
+ghost use Rattle.std.specs.Prelude.{◌≡◌, codes};
+ghost use Rattle.gixp_planner.specs.Refusal.{refusal, refusal_of, IsMemory, IsUnwritten};
+
+use std::io::ErrorKind;
+use thiserror::Error as DeriveError;
+
+/// Why a plan isn't made: which step was refused, and by which variant of its own error.
+#[derive(Clone, Copy, Debug, PartialEq, Eq, Drop, DeriveError)]
+#[error("{step} {variant}")]
+pub struct PlanError {
+    /// `file`, `have`, `spec`, `handshake`, `refs` or `fetch`.
+    pub step: &'static str,
+    /// The name of the variant.
+    pub variant: &'static str,
+}
+
+impl PlanError {
+    // A step that this variant of its error refused.
+    pub(crate) fn new(step: &'static str, variant: &'static str) -> PlanError
+        ensures { refusal_of result ≡ refusal step.now variant.now }
+    {
+        PlanError { step, variant }
+    }
+
+    // A step in which an allocation failed.
+    pub(crate) fn memory(step: &'static str) -> PlanError
+        ensures { IsMemory step.now result }
+    {
+        PlanError::new(step, "Memory")
+    }
+
+    // A write that failed with this kind.
+    pub(crate) fn writing(kind: ErrorKind) -> PlanError
+        ensures { IsUnwritten result }
+    {
+        match kind {
+            ErrorKind::OutOfMemory => PlanError::memory("file"),
+            _ => PlanError::new("file", "Io"),
+        }
+    }
+}

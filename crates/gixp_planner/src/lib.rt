@@ -1,0 +1,15 @@
+//! What a client would send to a server, and what it would map, planned over recorded answers.
+#![tactic(auto)]
+
+mod error;
+mod haves;
+mod names;
+mod planning;
+mod print;
+mod quiet;
+mod refspecs;
+mod session;
+
+pub use error::PlanError;
+pub use haves::parse_haves;
+pub use planning::plan;

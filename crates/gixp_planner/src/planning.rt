@@ -1,0 +1,90 @@
+//! A plan over recorded answers.
+ghost use Rattle.std.specs.Prelude.{◌≡◌, [], true, false, map, Ok, IfOk, IsOk};
+ghost use Rattle.bstr.specs.Owned.{bstring_bytes};
+ghost use Rattle.gixp_planner.specs.Session.{FetchesMapped};
+ghost use Rattle.gixp_planner.specs.PlannedText.{PlannedText, IsOutcome};
+
+use crate::error::PlanError;
+use crate::print::write_course;
+use crate::quiet::Quiet;
+use crate::refspecs::read_specs;
+use crate::session::run;
+use bstr::BString;
+use gix_protocol::fetch::negotiate::{Graph, Negotiate, Negotiation, Negotiator, NoRefs, Objects};
+use gix_protocol::fetch::{ConsumePack, ReadToEnd, Shallow, ShallowMemory, ShallowStore, Tags};
+use gix_protocol::transport::{Bodies, Body, Interrupt, NeverInterrupt};
+use std::alloc::{AllocError, Global};
+use std::io::Write;
+
+// Why a session isn't shown, or else which of its steps was refused.
+fn outcome(written: Result<(), PlanError>, ended: Result<bool, PlanError>) -> Result<(), PlanError>
+    ensures { IsOutcome written ended result }
+{
+    match written {
+        Ok(()) => match ended {
+            Ok(_) => Ok(()),
+            Err(e) => Err(e),
+        },
+        Err(e) => Err(e),
+    }
+}
+
+/// Writes what a client would send to a server whose answers were recorded, and what it would map.
+///
+/// The bodies answer one handshake for `git-upload-pack`, an `ls-refs` command under version 2, and the requests of a
+/// fetch, one behind another; one that is missing is empty. The objects, the graph and the negotiator decide what is asked
+/// for: no refs are there, no tags are added, and the shallow boundary is empty and stays. A pack is read to its end and
+/// dropped. What the graph and the negotiator are afterwards is left open.
+///
+/// For each request a line `request`, with its number from 1 on, and a line for each of its packet lines: `> ` and its
+/// payload without an ending LF, or its four digits where it has none. Then, where the refs were mapped, a line
+/// `map ID NAME LOCAL` for each mapping, with `unborn` for an id that isn't there and `-` for a name that isn't, and a line
+/// `fix LOCAL REFSPEC` for each that was taken out. Then `pack`, or `nothing` where there was nothing to ask for. All is
+/// written behind the session, a line at a time, and the writer is flushed: hand in one that is buffered.
+///
+/// # Errors
+///
+/// `spec` with the variant of a refspec's error, and `file Memory` where no transport can be made: nothing is written then.
+/// `handshake`, `refs` and `fetch` with the outermost variant of that step's error: the requests and mappings so far are
+/// written. `file Io` where a write failed, and `file Memory` where an allocation for what is written did: of the text some
+/// may be written.
+pub fn plan<'a, O: Objects, G: Objects, N: Negotiator, W: Write>(
+    alloc: Global,
+    bodies: Vec<Body>,
+    objects: &'a O,
+    graph: &'a mut Graph<G>,
+    negotiator: &'a mut N,
+    specs: &[BString],
+    writer: &mut W,
+) -> Result<(), PlanError>
+    ensures { PlannedText
+        (λ m h old new r. FetchesMapped
+        (record {
+          office = record { count = ⟦<Negotiation<'a, O, NoRefs, N, G, AllocError> as Negotiate>⟧.count; marks = ⟦<Negotiation<'a, O, NoRefs, N, G, AllocError> as Negotiate>⟧.marks; adds = ⟦<Negotiation<'a, O, NoRefs, N, G, AllocError> as Negotiate>⟧.adds; goes = ⟦<Negotiation<'a, O, NoRefs, N, G, AllocError> as Negotiate>⟧.goes; marking_fails = ⟦<Negotiation<'a, O, NoRefs, N, G, AllocError> as Negotiate>⟧.marking_fails; adding_fails = ⟦<Negotiation<'a, O, NoRefs, N, G, AllocError> as Negotiate>⟧.adding_fails; round_fails = ⟦<Negotiation<'a, O, NoRefs, N, G, AllocError> as Negotiate>⟧.round_fails };
+          shop = record { failures = ⟦<ShallowMemory as ShallowStore>⟧.failures; locks = ⟦<ShallowMemory as ShallowStore>⟧.locks; reads = ⟦<ShallowMemory as ShallowStore>⟧.reads; writes = ⟦<ShallowMemory as ShallowStore>⟧.writes; releases = ⟦<ShallowMemory as ShallowStore>⟧.releases };
+          says = ⟦<NeverInterrupt as Interrupt>⟧.says;
+          consumes = ⟦<ReadToEnd as ConsumePack<Quiet>>⟧.consumes;
+          plain = true;
+        })
+        (λ n. (n.objects.now ≡ objects.now) × (n.graph.now ≡ graph.old) × (n.negotiator.now ≡ negotiator.old) × (n.ref_map.now ≡ m) × (n.shallow.now ≡ Shallow.NoChange) × (n.tags ≡ Tags.None) × IfOk n.alternates (λ a. a.now ≡ []) × IsOk n.alternates)
+        (λ s. (s.ids.items ≡ []) × (s.locked ≡ false)) h old new r)
+        bodies.items (map bstring_bytes specs.now) (W.contents writer.old) (W.contents writer.new) result }
+{
+    let context = match read_specs(alloc, specs) {
+        Ok(context) => context,
+        Err(e) => return Err(e),
+    };
+    let url = BString::new(Vec::new(alloc));
+    let Ok(mut transport) = Bodies::new(alloc, bodies, url, Vec::new(alloc)) else {
+        return Err(PlanError::memory("file"));
+    };
+    let course = run(alloc, objects, graph, negotiator, context, &mut transport);
+    let written = write_course(
+        alloc,
+        writer,
+        transport.sent(),
+        &course.mapped,
+        &course.ended,
+    );
+    outcome(written, course.ended)
+}

@@ -1,0 +1,250 @@
+//! A session over recorded answers.
+ghost use Rattle.std.specs.Prelude.{◌≡◌, ◌∷◌, [], true, false, codes, Some, None, Ok, IfOk, IsOk};
+ghost use Rattle.gixp_requests.specs.Feature.{feature_value};
+ghost use Rattle.gixp_handshake.specs.Taken.{without_refs};
+ghost use Rattle.gixp_planner.specs.Session.{planner_agent, Greets, MapsRefs, FetchesOver, FetchesMapped, Runs, end_of};
+ghost use Rattle.gixp_planner.specs.Text.{ended_of};
+
+use crate::error::PlanError;
+use crate::names::{fetch_variant, handshake_variant, refs_variant};
+use crate::quiet::Quiet;
+use gix_protocol::command::{CommandTable, Feature};
+use gix_protocol::credentials::{self, Action};
+use gix_protocol::fetch::negotiate::{
+    Graph, Negotiate, NegotiateContext, Negotiation, Negotiator, NoRefs, Objects,
+};
+use gix_protocol::fetch::refmap::init;
+use gix_protocol::fetch::{
+    self, ConsumePack, CopyError, Outcome, ReadToEnd, RefMap, Shallow, ShallowMemory, ShallowStore,
+    Tags,
+};
+use gix_protocol::handshake::{self, obtain};
+use gix_protocol::transport::{Interrupt, NeverInterrupt, Service, Transport};
+use gix_protocol::{Handshake, agent};
+use std::alloc::{AllocError, Global};
+
+/// How far a session came.
+#[derive(Drop)]
+pub(crate) struct Course {
+    /// The ref map, where it was made.
+    pub(crate) mapped: Option<RefMap>,
+    /// Whether a pack came, or which step was refused.
+    pub(crate) ended: Result<bool, PlanError>,
+}
+
+// How the planner names itself.
+fn agent_feature(alloc: Global) -> Result<Feature, AllocError>
+    ensures { IfOk result (λ f. feature_value f ≡ planner_agent) }
+{
+    Ok(("agent", Some(agent(alloc, "git/gixp-plan")?)))
+}
+
+// A handshake without an account.
+fn greet<T: Transport>(alloc: Global, transport: &mut T) -> Result<Handshake, handshake::Error>
+    ensures { Greets T.is_plain (T.reading transport.old) (T.reading transport.new) result }
+{
+    let mut quiet = Quiet;
+    handshake::handshake(
+        alloc,
+        transport,
+        Service::UploadPack,
+        |_: Action| -> Result<Option<credentials::Outcome>, credentials::Error>
+            ensures { result ≡ Ok None }
+        { Ok(None) },
+        Vec::new(alloc),
+        &mut quiet,
+    )
+}
+
+// The ref map of the server, which is asked for the refspecs' prefixes.
+fn map_refs<T: Transport>(
+    alloc: Global,
+    handshake: &mut Handshake,
+    context: init::Context,
+    transport: &mut T,
+) -> Result<RefMap, init::Error>
+    ensures map { MapsRefs context handshake.old T.is_plain (T.reading transport.old) (T.reading transport.new) result }
+    ensures handshake { IfOk result (λ _. handshake.new ≡ without_refs handshake.old) }
+{
+    let Ok(agent) = agent_feature(alloc) else {
+        return Err(init::Error::Memory);
+    };
+    let mut quiet = Quiet;
+    let table = CommandTable::git();
+    obtain(
+        alloc, handshake, &table, agent, context, &mut quiet, transport,
+    )
+}
+
+// The fetch of what a negotiation asks for.
+fn fetch_over<N: Negotiate, T: Transport>(
+    alloc: Global,
+    negotiation: &mut N,
+    agent: Feature,
+    handshake: &mut Handshake,
+    transport: &mut T,
+    shallow: &Shallow,
+    boundary: &mut ShallowMemory,
+    reader: &mut ReadToEnd,
+    quiet: &mut Quiet,
+    never: &mut NeverInterrupt,
+) -> Result<Option<Outcome>, fetch::Error<N::AlternatesError, CopyError>>
+    requires agent { feature_value agent ≡ planner_agent }
+    requires stays { shallow.now ≡ Shallow.NoChange }
+    ensures { Carries
+        (record {
+          office = record { count = N.count; marks = N.marks; adds = N.adds; goes = N.goes; marking_fails = N.marking_fails; adding_fails = N.adding_fails; round_fails = N.round_fails };
+          shop = record { failures = ⟦<ShallowMemory as ShallowStore>⟧.failures; locks = ⟦<ShallowMemory as ShallowStore>⟧.locks; reads = ⟦<ShallowMemory as ShallowStore>⟧.reads; writes = ⟦<ShallowMemory as ShallowStore>⟧.writes; releases = ⟦<ShallowMemory as ShallowStore>⟧.releases };
+          says = ⟦<NeverInterrupt as Interrupt>⟧.says;
+          consumes = ⟦<ReadToEnd as ConsumePack<Quiet>>⟧.consumes;
+          plain = T.is_plain;
+        })
+        handshake.old
+        (record { negotiate = negotiation.old; reading = T.reading transport.old; interrupt = never.old; store = boundary.old; locked = false; consumer = reader.old })
+        result
+        (record { negotiate = negotiation.new; reading = T.reading transport.new; interrupt = never.new; store = boundary.new; locked = false; consumer = reader.new }) quiet.new }
+{
+    let context = fetch::Context {
+        handshake,
+        transport,
+        table: &CommandTable::git(),
+    };
+    let options = fetch::Options {
+        shallow_file: boundary,
+        shallow,
+        tags: Tags::None,
+        reject_shallow_remote: false,
+    };
+    fetch::fetch(
+        alloc,
+        negotiation,
+        reader,
+        quiet,
+        never,
+        agent,
+        context,
+        options,
+    )
+}
+
+// The fetch of what is mapped. The pack is read to its end.
+fn fetch_mapped<'a, O: Objects, G: Objects, N: Negotiator, T: Transport>(
+    alloc: Global,
+    objects: &'a O,
+    graph: &'a mut Graph<G>,
+    negotiator: &'a mut N,
+    map: &RefMap,
+    handshake: &mut Handshake,
+    transport: &mut T,
+) -> Result<Option<Outcome>, fetch::Error<AllocError, CopyError>>
+    ensures { FetchesMapped
+        (record {
+          office = record { count = ⟦<Negotiation<'a, O, NoRefs, N, G, AllocError> as Negotiate>⟧.count; marks = ⟦<Negotiation<'a, O, NoRefs, N, G, AllocError> as Negotiate>⟧.marks; adds = ⟦<Negotiation<'a, O, NoRefs, N, G, AllocError> as Negotiate>⟧.adds; goes = ⟦<Negotiation<'a, O, NoRefs, N, G, AllocError> as Negotiate>⟧.goes; marking_fails = ⟦<Negotiation<'a, O, NoRefs, N, G, AllocError> as Negotiate>⟧.marking_fails; adding_fails = ⟦<Negotiation<'a, O, NoRefs, N, G, AllocError> as Negotiate>⟧.adding_fails; round_fails = ⟦<Negotiation<'a, O, NoRefs, N, G, AllocError> as Negotiate>⟧.round_fails };
+          shop = record { failures = ⟦<ShallowMemory as ShallowStore>⟧.failures; locks = ⟦<ShallowMemory as ShallowStore>⟧.locks; reads = ⟦<ShallowMemory as ShallowStore>⟧.reads; writes = ⟦<ShallowMemory as ShallowStore>⟧.writes; releases = ⟦<ShallowMemory as ShallowStore>⟧.releases };
+          says = ⟦<NeverInterrupt as Interrupt>⟧.says;
+          consumes = ⟦<ReadToEnd as ConsumePack<Quiet>>⟧.consumes;
+          plain = T.is_plain;
+        })
+        (λ n. (n.objects.now ≡ objects.now) × (n.graph.now ≡ graph.old) × (n.negotiator.now ≡ negotiator.old) × (n.ref_map.now ≡ map.now) × (n.shallow.now ≡ Shallow.NoChange) × (n.tags ≡ Tags.None) × IfOk n.alternates (λ a. a.now ≡ []) × IsOk n.alternates)
+        (λ s. (s.ids.items ≡ []) × (s.locked ≡ false)) handshake.old (T.reading transport.old) (T.reading transport.new) result }
+{
+    let Ok(agent) = agent_feature(alloc) else {
+        return Err(fetch::Error::Memory);
+    };
+    let mut refs = NoRefs;
+    let alternates: Result<&mut [NoRefs], AllocError> = Ok(&mut []);
+    let shallow = Shallow::NoChange;
+    let context = NegotiateContext {
+        objects,
+        refs: &mut refs,
+        alternates,
+        negotiator,
+        graph,
+    };
+    let mut negotiation = Negotiation::new(context, map, &shallow, Tags::None);
+    let mut boundary = ShallowMemory::new(Vec::new(alloc));
+    let mut reader = ReadToEnd;
+    let mut quiet = Quiet;
+    let mut never = NeverInterrupt;
+    fetch_over(
+        alloc,
+        &mut negotiation,
+        agent,
+        handshake,
+        transport,
+        &shallow,
+        &mut boundary,
+        &mut reader,
+        &mut quiet,
+        &mut never,
+    )
+}
+
+// How a fetch ended.
+fn ended(
+    fetched: Result<Option<Outcome>, fetch::Error<AllocError, CopyError>>,
+) -> Result<bool, PlanError>
+    ensures { ended_of result ≡ end_of fetched }
+{
+    match fetched {
+        Ok(Some(_)) => Ok(true),
+        Ok(None) => Ok(false),
+        Err(e) => Err(PlanError::new("fetch", fetch_variant(&e))),
+    }
+}
+
+// A session of which no ref map came.
+fn unmapped(error: PlanError) -> Course
+    ensures mapped { result.mapped ≡ None }
+    ensures ended { result.ended ≡ Err error }
+{
+    Course {
+        mapped: None,
+        ended: Err(error),
+    }
+}
+
+/// A whole session.
+pub(crate) fn run<'a, O: Objects, G: Objects, N: Negotiator, T: Transport>(
+    alloc: Global,
+    objects: &'a O,
+    graph: &'a mut Graph<G>,
+    negotiator: &'a mut N,
+    context: init::Context,
+    transport: &mut T,
+) -> Course
+    ensures { Runs
+        (λ m h old new r. FetchesMapped
+        (record {
+          office = record { count = ⟦<Negotiation<'a, O, NoRefs, N, G, AllocError> as Negotiate>⟧.count; marks = ⟦<Negotiation<'a, O, NoRefs, N, G, AllocError> as Negotiate>⟧.marks; adds = ⟦<Negotiation<'a, O, NoRefs, N, G, AllocError> as Negotiate>⟧.adds; goes = ⟦<Negotiation<'a, O, NoRefs, N, G, AllocError> as Negotiate>⟧.goes; marking_fails = ⟦<Negotiation<'a, O, NoRefs, N, G, AllocError> as Negotiate>⟧.marking_fails; adding_fails = ⟦<Negotiation<'a, O, NoRefs, N, G, AllocError> as Negotiate>⟧.adding_fails; round_fails = ⟦<Negotiation<'a, O, NoRefs, N, G, AllocError> as Negotiate>⟧.round_fails };
+          shop = record { failures = ⟦<ShallowMemory as ShallowStore>⟧.failures; locks = ⟦<ShallowMemory as ShallowStore>⟧.locks; reads = ⟦<ShallowMemory as ShallowStore>⟧.reads; writes = ⟦<ShallowMemory as ShallowStore>⟧.writes; releases = ⟦<ShallowMemory as ShallowStore>⟧.releases };
+          says = ⟦<NeverInterrupt as Interrupt>⟧.says;
+          consumes = ⟦<ReadToEnd as ConsumePack<Quiet>>⟧.consumes;
+          plain = T.is_plain;
+        })
+        (λ n. (n.objects.now ≡ objects.now) × (n.graph.now ≡ graph.old) × (n.negotiator.now ≡ negotiator.old) × (n.ref_map.now ≡ m) × (n.shallow.now ≡ Shallow.NoChange) × (n.tags ≡ Tags.None) × IfOk n.alternates (λ a. a.now ≡ []) × IsOk n.alternates)
+        (λ s. (s.ids.items ≡ []) × (s.locked ≡ false)) h old new r)
+        context T.is_plain (T.reading transport.old) (T.reading transport.new) result.mapped (ended_of result.ended) }
+{
+    let mut handshake = match greet(alloc, transport) {
+        Ok(handshake) => handshake,
+        Err(e) => return unmapped(PlanError::new("handshake", handshake_variant(&e))),
+    };
+    let map = match map_refs(alloc, &mut handshake, context, transport) {
+        Ok(map) => map,
+        Err(e) => return unmapped(PlanError::new("refs", refs_variant(&e))),
+    };
+    let fetched = fetch_mapped(
+        alloc,
+        objects,
+        graph,
+        negotiator,
+        &map,
+        &mut handshake,
+        transport,
+    );
+    Course {
+        mapped: Some(map),
+        ended: ended(fetched),
+    }
+}
