@@ -19,6 +19,7 @@ pub mod SortedLemmas
 pub mod DifferLemmas
 pub mod UniqueLemmas
 pub mod DistinctLemmas
+pub mod DigestLemmas
 pub mod RowLemmas
 pub mod PlaceLemmas
 pub mod NegativeLemmas

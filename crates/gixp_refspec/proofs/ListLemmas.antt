@@ -108,3 +108,9 @@ pub gathered_here : {B C : Type 0} (f : B → List C) (old now new : List C) (xs
 gathered_here f old now new xs i d l kept step =
     step ∙ ap (λ z. z ++ f (get_or xs i d)) kept ∙ append_assoc old (flat_map f (take i xs)) (f (get_or xs i d))
     ∙ ap (λ z. old ++ z) (sym (flat_map-append_one f (take i xs) (get_or xs i d)) ∙ ap (flat_map f) (sym (take_more xs i d l)))
+
+-- a step of a loop that appends what a function makes of each element
+pub numbered_more : {A B : Type 0} (f : A → B) (now new : List B) (xs : List A) (i : ℕ) (d : A) (made : B) → i < length xs → now ≡ take i (map f xs) → made ≡ f (get_or xs i d) → new ≡ now ++ made ∷ []
+    → new ≡ take (i + 1) (map f xs)
+numbered_more f now new xs i d made l kept is step =
+    step ∙ ap (λ y. now ++ y ∷ []) is ∙ ap (λ z. z ++ f (get_or xs i d) ∷ []) kept ∙ sym (take-map_more f xs i d l)

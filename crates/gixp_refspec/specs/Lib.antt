@@ -16,3 +16,4 @@ pub mod Groups
 pub mod Validate
 pub mod Leaving
 pub mod RefspecLaws
+pub mod Digest

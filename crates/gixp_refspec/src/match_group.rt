@@ -5,6 +5,7 @@ ghost use Rattle.gixp_refspec.specs.Leaving.{AnswersAll};
 ghost use Rattle.gixp_refspec.specs.MatchGroup.{source_of, mapped_of, mapped_in, values, names, group_specs, outcome_specs};
 ghost use Rattle.gixp_refspec.specs.Validation.{has_safe_local};
 
+mod digest;
 mod distinct;
 pub(crate) mod key;
 mod local;

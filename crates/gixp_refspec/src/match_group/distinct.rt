@@ -6,6 +6,7 @@ ghost use Rattle.gixp_refspec.specs.Firsts.{first_flags, flagged};
 ghost use Rattle.gixp_refspec.specs.MatchGroup.{mapped_of, mapped_in, is_marked};
 
 use crate::match_group::Mapping;
+use crate::match_group::digest::key_digests;
 use crate::match_group::key::{Key, key_of};
 use crate::match_group::sorted::are_distinct;
 use std::alloc::{AllocError, Global};
@@ -35,7 +36,8 @@ fn are_all_new(alloc: Global, mappings: &[Mapping]) -> Result<bool, AllocError>
     ensures { IfOk result (λ d. IsTrue d → firsts (map mapped_of mappings.now) ≡ map mapped_of mappings.now) }
 {
     let keys = keys_of(alloc, mappings)?;
-    are_distinct(alloc, keys)
+    let digests = key_digests(alloc, &keys)?;
+    are_distinct(keys, digests)
 }
 
 /// Remembers the source and the local name of a mapping, and returns whether they are new.

@@ -1,4 +1,4 @@
-//! What is compared of mappings, in the order of their bytes. No hash is taken: a server chooses the names.
+//! What is compared of mappings, in the order of their bytes.
 ghost use Rattle.std.specs.Prelude.{◌≡◌};
 ghost use Rattle.std.specs.Option.{option_map};
 ghost use Rattle.bstr.specs.Owned.{bstring_bytes};

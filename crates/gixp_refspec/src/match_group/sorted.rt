@@ -2,8 +2,9 @@
 ghost use Rattle.std.specs.Prelude.{◌≡◌, IsTrue, IfOk, length};
 ghost use Rattle.std.specs.List.{AllAdjacentBelow, IsDistinct};
 ghost use Rattle.std.specs.Ordering.{eq_by_cmp};
+ghost use Rattle.gixp_refspec.specs.Digest.{AreDigests};
 
-use std::alloc::{AllocError, Global};
+use std::alloc::AllocError;
 use std::cmp::Ordering;
 
 /// Whether each key is below the next.
@@ -18,9 +19,8 @@ fn is_rising<K: Ord>(keys: &[K]) -> bool
     true
 }
 
-/// Whether no two keys are equal. Servers send refs in order, so that mostly the keys are some runs in order, which
-/// the sort merges.
-pub(crate) fn are_distinct<K: Ord>(alloc: Global, keys: Vec<K>) -> Result<bool, AllocError>
+/// Whether each key is below the next, once they are in order.
+fn are_rising_sorted<K: Ord>(keys: Vec<K>) -> Result<bool, AllocError>
 where
     K: Drop,
     ensures { IfOk result (λ d. IsTrue d → IsDistinct (eq_by_cmp K.cmp) keys.items) }
@@ -28,4 +28,30 @@ where
     let mut keys = keys;
     keys.sort()?;
     Ok(is_rising(&keys))
+}
+
+/// Whether no two numbers of keys are equal.
+fn digests_differ<K: Ord>(digests: Vec<u64>, keys: &[K]) -> Result<bool, AllocError>
+    requires { AreDigests (eq_by_cmp K.cmp) keys.now digests.items }
+    ensures { IfOk result (λ d. IsTrue d → IsDistinct (eq_by_cmp K.cmp) keys.now) }
+{
+    let _ = keys;
+    are_rising_sorted(digests)
+}
+
+/// Whether no two keys are equal. Servers send refs in order, so that mostly the keys are in order. Else their numbers
+/// are put in order, which is quicker; keys with one number are told apart by a sort of the keys.
+pub(crate) fn are_distinct<K: Ord>(keys: Vec<K>, digests: Vec<u64>) -> Result<bool, AllocError>
+where
+    K: Drop,
+    requires { AreDigests (eq_by_cmp K.cmp) keys.items digests.items }
+    ensures { IfOk result (λ d. IsTrue d → IsDistinct (eq_by_cmp K.cmp) keys.items) }
+{
+    if is_rising(&keys) {
+        return Ok(true);
+    }
+    if digests_differ(digests, &keys)? {
+        return Ok(true);
+    }
+    are_rising_sorted(keys)
 }

@@ -6,6 +6,7 @@ ghost use Rattle.gixp_refspec.specs.Apart.{locals};
 ghost use Rattle.gixp_refspec.specs.MatchGroup.{mapped_of, key_bytes};
 
 use crate::match_group::Mapping;
+use crate::match_group::digest::name_digests;
 use crate::match_group::key::{KeyBytes, name_key};
 use crate::match_group::sorted::are_distinct;
 use std::alloc::{AllocError, Global};
@@ -36,5 +37,6 @@ pub(crate) fn are_apart(alloc: Global, mappings: &[Mapping]) -> Result<bool, All
     ensures { IfOk result (λ d. IsTrue d → IsDistinct bytes_eq (locals (map mapped_of mappings.now))) }
 {
     let names = locals(alloc, mappings)?;
-    are_distinct(alloc, names)
+    let digests = name_digests(alloc, &names)?;
+    are_distinct(names, digests)
 }

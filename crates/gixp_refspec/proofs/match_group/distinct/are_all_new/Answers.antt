@@ -1,10 +1,16 @@
 -- Keys that are all different are those of first ones.
-use Rattle.std.proofs.Common.{map}
+use Rattle.std.proofs.Common.{◌∙◌, ap, map}
 use Rattle.std.proofs.lemmas.Result.{IfOk-weaker}
 use Rattle.gixp_refspec.specs.MatchGroup.{mapped_of}
+use Rattle.gixp_refspec.specs.Apart.{key_parts}
+use Rattle.gixp_refspec.specs.Digest.{parts_digest}
+use Rattle.gixp_refspec.proofs.DigestLemmas.{keys_alike}
 use Rattle.gixp_refspec.proofs.DistinctLemmas.{firsts_are_all}
 use Rattle.gixp_refspec.proofs.match_group.distinct.are_all_new.Goals as goal
 
 pub returns : goal.returns
 returns c =
     IfOk-weaker c.are_distinct.result _ _ (λ d h t. firsts_are_all c.in_ok-keys.keys.items (map mapped_of c.args.mappings.now) c.in_ok-keys.ensures (h t)) c.are_distinct.ensures
+
+pub are_distinct-requires : goal.are_distinct-requires
+are_distinct-requires c = keys_alike c.in_ok-keys.keys.items c.in_ok-digests.digests.items (c.in_ok-digests.ensures ∙ ap (map (λ key. parts_digest (key_parts key))) c.deref.ensures.value)

@@ -1,10 +1,15 @@
 -- Keys that are all different are those of different names.
-use Rattle.std.proofs.Common.{map}
+use Rattle.std.proofs.Common.{◌∙◌, ap, map}
 use Rattle.std.proofs.lemmas.Result.{IfOk-weaker}
-use Rattle.gixp_refspec.specs.MatchGroup.{mapped_of}
+use Rattle.gixp_refspec.specs.MatchGroup.{mapped_of, key_bytes}
+use Rattle.gixp_refspec.specs.Digest.{digest}
+use Rattle.gixp_refspec.proofs.DigestLemmas.{names_alike}
 use Rattle.gixp_refspec.proofs.DistinctLemmas.{locals_are_apart}
 use Rattle.gixp_refspec.proofs.match_group.validate.apart.are_apart.Goals as goal
 
 pub returns : goal.returns
 returns c =
     IfOk-weaker c.are_distinct.result _ _ (λ d h t. locals_are_apart c.in_ok-names.names.items (map mapped_of c.args.mappings.now) c.in_ok-names.ensures (h t)) c.are_distinct.ensures
+
+pub are_distinct-requires : goal.are_distinct-requires
+are_distinct-requires c = names_alike c.in_ok-names.names.items c.in_ok-digests.digests.items (c.in_ok-digests.ensures ∙ ap (map (λ name. digest (key_bytes name))) c.deref.ensures.value)
