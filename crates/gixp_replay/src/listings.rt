@@ -62,14 +62,55 @@ impl Client {
 }
 
 // What was prepared.
-fn report_prepared(
-    prepared: &Result<ObtainRefMap<'_>, Error>,
+fn prepared_word(prepared: &ObtainRefMap<'_>) -> &'static str {
+    match prepared {
+        ObtainRefMap::Existing(_) => "existing ",
+        ObtainRefMap::LsRefsCommand(_, _) => "command ",
+    }
+}
+
+// Prepares a map that isn't fetched.
+fn prepare_alone(
+    alloc: Global,
+    shaken: &mut Handshake,
+    client: Client,
+    context: Context,
     report: &mut Report,
 ) -> Result<(), AllocError> {
-    match prepared {
-        Ok(ObtainRefMap::Existing(_)) => report.word("existing "),
-        Ok(ObtainRefMap::LsRefsCommand(_, _)) => report.word("command "),
-        Err(e) => init_error(report, e),
+    let agent = client.agent(alloc)?;
+    match shaken.prepare_lsrefs_or_extract_refmap(alloc, &client.table, agent, true, context) {
+        Ok(prepared) => {
+            let word = prepared_word(&prepared);
+            drop(prepared);
+            report.word(word)
+        }
+        Err(e) => init_error(report, &e),
+    }
+}
+
+// Prepares a map and fetches it.
+fn prepare_and_fetch<T: Transport>(
+    alloc: Global,
+    shaken: &mut Handshake,
+    client: Client,
+    context: Context,
+    progress: &mut Telling,
+    transport: &mut T,
+    report: &mut Report,
+) -> Result<Option<Result<RefMap, Error>>, AllocError> {
+    let agent = client.agent(alloc)?;
+    let wanted = client.way != 2;
+    match shaken.prepare_lsrefs_or_extract_refmap(alloc, &client.table, agent, wanted, context) {
+        Ok(prepared) => {
+            let word = prepared_word(&prepared);
+            let map = prepared.fetch_blocking(alloc, progress, transport);
+            report.word(word)?;
+            Ok(Some(map))
+        }
+        Err(e) => {
+            init_error(report, &e)?;
+            Ok(None)
+        }
     }
 }
 
@@ -84,28 +125,9 @@ fn prepare<T: Transport>(
     report: &mut Report,
 ) -> Result<Option<Result<RefMap, Error>>, AllocError> {
     if client.way == 3 {
-        let agent = client.agent(alloc)?;
-        let first = shaken.prepare_lsrefs_or_extract_refmap(
-            alloc,
-            &client.table,
-            agent,
-            true,
-            context.clone()?,
-        );
-        report_prepared(&first, report)?;
+        prepare_alone(alloc, shaken, client, context.clone()?, report)?;
     }
-    let prepared = shaken.prepare_lsrefs_or_extract_refmap(
-        alloc,
-        &client.table,
-        client.agent(alloc)?,
-        client.way != 2,
-        context,
-    );
-    report_prepared(&prepared, report)?;
-    match prepared {
-        Ok(prepared) => Ok(Some(prepared.fetch_blocking(alloc, progress, transport))),
-        Err(_) => Ok(None),
-    }
+    prepare_and_fetch(alloc, shaken, client, context, progress, transport, report)
 }
 
 // The ref map behind a handshake.
