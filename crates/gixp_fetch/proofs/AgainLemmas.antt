@@ -1,19 +1,14 @@
 -- What requests name again.
-use Rattle.std.proofs.Common.{◌≡◌, ◌⊎◌, inl, inr, ℕ, Bool, true, false, List, [], ◌∷◌, ◌++◌, map, refl, sym, ap, subst, ◌∙◌, Option, Some, None, true≢false}
+use Rattle.std.proofs.Common.{◌≡◌, ◌⊎◌, inl, inr, ℕ, Bool, true, false, List, [], ◌∷◌, ◌++◌, map, refl, sym, ap, subst, ◌∙◌, Some, true≢false}
 use Rattle.std.specs.Prelude.{◌||◌, if◌then◌else◌}
-use Rattle.std.specs.List.{Contains, list_any}
-use Rattle.std.specs.Ordering.{is_eq}
+use Rattle.std.specs.List.{Contains}
 use Rattle.std.specs.Cmp.Lexicographic.{texts_ties}
 use Rattle.std.proofs.lemmas.List.Elements.{Contains-append_left, Contains-append_right, Contains-append_cases}
 use Rattle.gixp_wire.specs.declared.object_id.ObjectId.{ObjectId}
-use Rattle.gixp_wire.specs.ObjectId.{id_cmp}
-use Rattle.gixp_wire.specs.TransportState.{TransportState}
-use Rattle.gixp_lines.specs.Answer.{AnswerValue}
-use Rattle.gixp_lines.specs.RefLine.{is_text}
 use Rattle.gixp_requests.specs.Arguments.{ArgumentsValue, is_v2}
 use Rattle.gixp_requests.specs.Request.{sent_off}
 use Rattle.gixp_graph.specs.GraphLaws.{same_from}
-use Rattle.gixp_negotiate.specs.Rounds.{commons, commons_of, is_same_id, has_id, keeping, keeping_all, kept_with, kept_ids, have_line, asks_haves}
+use Rattle.gixp_negotiate.specs.Rounds.{commons, commons_of, is_same_id, has_id, keeping, keeping_all, kept_with, kept_ids, have_line}
 use Rattle.gixp_fetch.specs.FetchRounds.{At, Turn, Manner, Turns, Rounds}
 use Rattle.gixp_fetch.specs.Again.{Renames, StandsAlone, NamesAgain}
 use Rattle.gixp_fetch.proofs.SetLemmas.{no_member, first_member, later_member, member_cases}

@@ -1,5 +1,5 @@
 -- What is true of a client's whole run.
-use Rattle.std.proofs.Common.{◌≡◌, ◌⊎◌, inl, inr, ℕ, Bool, true, false, not, List, [], ◌∷◌, ◌++◌, map, refl, sym, ap, subst, ◌∙◌, Option, Some, None}
+use Rattle.std.proofs.Common.{◌≡◌, ◌⊎◌, inl, inr, ℕ, Bool, true, false, List, [], ◌∷◌, ◌++◌, map, refl, sym, ap, subst, ◌∙◌, Option, Some, None}
 use Rattle.std.specs.Prelude.{Result, Ok, Err, IfSome, Vec, ⊤}
 use Rattle.std.specs.declared.alloc.Global.{Global}
 use Rattle.gixp_wire.specs.declared.protocol.Protocol.{Protocol}
@@ -8,24 +8,20 @@ use Rattle.gixp_wire.specs.declared.service.Service.{Service}
 use Rattle.gixp_wire.specs.declared.service.SetServiceResponse.{SetServiceResponse}
 use Rattle.gixp_wire.specs.Capabilities.{CapabilityValue}
 use Rattle.gixp_wire.specs.Greeting.{Parameter}
-use Rattle.gixp_wire.specs.Lines.{Lines, stop, lines_to}
+use Rattle.gixp_wire.specs.Lines.{stop, lines_to}
 use Rattle.gixp_wire.specs.Pieces.{Pieces}
 use Rattle.gixp_wire.specs.Reading.{Reading, lines_ahead}
 use Rattle.gixp_sidebands.specs.Bands.{Side, content_left, content_of, side_content, IsFirstOf}
 use Rattle.gixp_lines.specs.declared.handshake.Ref.{Ref}
-use Rattle.gixp_lines.specs.declared.handshake.refs.parse.Error.{Error as refs_error}
-use Rattle.gixp_lines.specs.declared.fetch.response.error.Error.{Error as answer_error}
 use Rattle.gixp_lines.specs.declared.fetch.response.line.ShallowUpdate.{ShallowUpdate}
 use Rattle.gixp_lines.specs.Ref.{ref_value}
-use Rattle.gixp_lines.specs.RefLine.{RefsRefusal, refusal_from}
-use Rattle.gixp_lines.specs.ParseError.{IsRefusal as IsRefsRefusal}
-use Rattle.gixp_lines.specs.Refs.{v2_refs, RefsFail}
+use Rattle.gixp_lines.specs.RefLine.{refusal_from}
+use Rattle.gixp_lines.specs.Refs.{v2_refs}
 use Rattle.gixp_lines.specs.RefAdvertisement.{Symref, v1_refs}
-use Rattle.gixp_lines.specs.V1Refs.{ReadsV1, V1Fails, GivesAdvertisement}
-use Rattle.gixp_lines.specs.ResponseError.{AnswerRefusal, from_reader, IsRefusal}
-use Rattle.gixp_lines.specs.Answer.{AnswerValue, Found, whole, refused}
-use Rattle.gixp_lines.specs.AnswerReading.{Answered, AnswerFails}
-use Rattle.gixp_requests.specs.Arguments.{ArgumentsValue}
+use Rattle.gixp_lines.specs.V1Refs.{ReadsV1}
+use Rattle.gixp_lines.specs.ResponseError.{from_reader}
+use Rattle.gixp_lines.specs.Answer.{AnswerValue, Found}
+use Rattle.gixp_lines.specs.AnswerReading.{Answered}
 use Rattle.gixp_requests.specs.Feature.{FeatureValue}
 use Rattle.gixp_requests.specs.Command.{Table}
 use Rattle.gixp_refmap.specs.declared.ls_refs.error.Error.{Error as list_error}
@@ -33,24 +29,22 @@ use Rattle.gixp_refmap.specs.declared.refmap.init.Context.{Context}
 use Rattle.gixp_refmap.specs.declared.refmap.init.Error.{Error as map_error}
 use Rattle.gixp_refmap.specs.declared.refmap.map.RefMap.{RefMap}
 use Rattle.gixp_refmap.specs.Listing.{Listing, listing_of, SendsListing, Lists as ListsRefs}
-use Rattle.gixp_refmap.specs.Mapping.{joined_specs, AnswersMap, HoldsOfAll}
 use Rattle.gixp_handshake.specs.declared.handshake.read.Handshake.{Handshake}
 use Rattle.gixp_handshake.specs.declared.handshake.ref_map.ObtainRefMap.{ObtainRefMap}
 use Rattle.gixp_handshake.specs.declared.handshake.ref_map.ObtainRefMap.TheVariants.{Existing, LsRefsCommand}
 use Rattle.gixp_handshake.specs.Shake.{Turn as credential_turn, Opened, Opens, NoMemory, GoesOn, Keeps, ReadsFirst, Shakes, is_accepted}
-use Rattle.gixp_handshake.specs.Obtain.{MakesMap, PreparesBy, ByList, FetchesList, ObtainsBy, Obtains}
-use Rattle.gixp_negotiate.specs.declared.negotiate.Round.{Round}
-use Rattle.gixp_negotiate.specs.Negotiate.{ActionValue, Lawful, IsWide}
+use Rattle.gixp_handshake.specs.Obtain.{MakesMap, PreparesBy, ByList, ObtainsBy, Obtains}
+use Rattle.gixp_negotiate.specs.Negotiate.{Lawful, IsWide}
 use Rattle.gixp_fetch.specs.declared.options.Outcome.{Outcome}
 use Rattle.gixp_fetch.specs.declared.error.Error.{Error}
-use Rattle.gixp_fetch.specs.FetchRounds.{At, Turn, Manner, Turns, Rounds, Packed}
+use Rattle.gixp_fetch.specs.FetchRounds.{At, Turn, Manner, Turns, Rounds}
 use Rattle.gixp_fetch.specs.View.{view}
 use Rattle.gixp_fetch.specs.Sent.{request_of, requests_of, WroteRequests}
 use Rattle.gixp_fetch.specs.Receive.{fresh_side}
 use Rattle.gixp_fetch.specs.Received.{Received}
-use Rattle.gixp_fetch.specs.Fetch.{World, Parties, Session}
-use Rattle.gixp_fetch.specs.Fetched.{Call, Carried, Fetches}
-use Rattle.gixp_fetch.specs.Headline.{AnswersAreRefused, RefsAreRefused, AdvertisementsAreRefused, AnswerFromOutside, RefsFromOutside, Run, Shown, Listed, IsAnswer, AreAnswers, TakesPack, Conversation, Converses, Promise}
+use Rattle.gixp_fetch.specs.Fetch.{World, Parties}
+use Rattle.gixp_fetch.specs.Fetched.{Call, Fetches}
+use Rattle.gixp_fetch.specs.Headline.{AnswersAreRefused, RefsAreRefused, AdvertisementsAreRefused, Run, Shown, Listed, IsAnswer, AreAnswers, TakesPack, Converses, Promise}
 use Rattle.gixp_fetch.proofs.SentLemmas.{last_written, held_written}
 use Rattle.gixp_fetch.proofs.SessionLemmas.{received_held, begins_of, session_held}
 

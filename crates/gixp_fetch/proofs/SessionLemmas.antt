@@ -16,14 +16,14 @@ use Rattle.gixp_fetch.specs.declared.options.Outcome.{Outcome}
 use Rattle.gixp_fetch.specs.declared.error.Error.{Error}
 use Rattle.gixp_fetch.specs.declared.receive.PackFailure.{PackFailure}
 use Rattle.gixp_fetch.specs.declared.receive.PackFailure.TheVariants.{Consumer, Rest}
-use Rattle.gixp_fetch.specs.FetchRounds.{At, Turn, Manner, Packed, Interrupts, DoneWithout, Failed, Refused, TurnFails, told_of, Breaks, before_request, at_request, behind_request, at_answer, behind_answer, RoundsFail}
+use Rattle.gixp_fetch.specs.FetchRounds.{At, Turn, Manner, Packed, Interrupts, DoneWithout, Refused, TurnFails, told_of, Breaks, before_request, at_request, behind_request, at_answer, behind_answer, RoundsFail}
 use Rattle.gixp_fetch.specs.Sent.{request_of, requests_of}
-use Rattle.gixp_fetch.specs.Receive.{Consumed, Finishes, GivesBack, fresh_side}
+use Rattle.gixp_fetch.specs.Receive.{Finishes, GivesBack, fresh_side}
 use Rattle.gixp_fetch.specs.Received.{PackFails, Received, Unreceived}
-use Rattle.gixp_fetch.specs.Session.{Shop, Office, Readied, Delivered, Undelivered, at_lock, at_pack, at_boundary}
-use Rattle.gixp_fetch.specs.Fetch.{Wishes, World, Parties, Negotiated, Fails, unopened, unready, unpacked, untold, undelivered}
-use Rattle.gixp_fetch.specs.Fetched.{Call, Carried, Fetches, unprepared, unlocked}
-use Rattle.gixp_fetch.specs.Sessions.{Begins, Another, Requests, Held, HoldsSession}
+use Rattle.gixp_fetch.specs.Session.{Shop, Office, Readied, Undelivered, at_lock, at_pack, at_boundary}
+use Rattle.gixp_fetch.specs.Fetch.{World, Parties, Negotiated, Fails, unopened, unready, unpacked, untold, undelivered}
+use Rattle.gixp_fetch.specs.Fetched.{Call, Fetches, unprepared, unlocked}
+use Rattle.gixp_fetch.specs.Sessions.{Begins, Requests, Held, HoldsSession}
 use Rattle.gixp_fetch.proofs.SentLemmas.{rounds_written, last_written}
 
 -- ---- what a transport holds stays while a pack is read

@@ -1,5 +1,5 @@
 -- A client's whole run over one connection, and what is true of it: frames, refs, answers and refusals, requests, the pack, the bound on requests, and ref maps of filtered refs.
-use Rattle.std.specs.Prelude.{◌≡◌, ◌⊎◌, ⊤, ℕ, ◌+◌, ◌/◌, ◌≤◌, Bool, true, false, not, List, [], ◌∷◌, ◌++◌, map, length, Option, Some, None, IfSome, Result, Ok, Err}
+use Rattle.std.specs.Prelude.{◌≡◌, ◌⊎◌, ⊤, ℕ, ◌+◌, ◌/◌, ◌≤◌, Bool, true, not, List, [], ◌∷◌, ◌++◌, map, Option, Some, None, IfSome, Result, Ok, Err}
 use Rattle.gixp_wire.specs.declared.protocol.Protocol.{Protocol}
 use Rattle.gixp_wire.specs.declared.service.Service.{Service}
 use Rattle.gixp_wire.specs.declared.service.SetServiceResponse.{SetServiceResponse}
@@ -15,12 +15,12 @@ use Rattle.gixp_lines.specs.declared.handshake.refs.parse.Error.{Error as refs_e
 use Rattle.gixp_lines.specs.declared.handshake.refs.parse.Error.TheVariants.{Memory as refs_memory}
 use Rattle.gixp_lines.specs.declared.fetch.response.error.Error.{Error as answer_error}
 use Rattle.gixp_lines.specs.declared.fetch.response.error.Error.TheVariants.{Memory as answer_memory}
-use Rattle.gixp_lines.specs.Ref.{RefValue, ref_value}
+use Rattle.gixp_lines.specs.Ref.{ref_value}
 use Rattle.gixp_lines.specs.RefLine.{RefsRefusal, refusal_from}
-use Rattle.gixp_lines.specs.ParseError.{parse_refusal, Answers, IsRefusal as IsRefsRefusal}
+use Rattle.gixp_lines.specs.ParseError.{parse_refusal, IsRefusal as IsRefsRefusal}
 use Rattle.gixp_lines.specs.Refs.{v2_refs, RefsFail}
 use Rattle.gixp_lines.specs.RefAdvertisement.{Symref, symref_table, v1_refs}
-use Rattle.gixp_lines.specs.V1Refs.{symref_values, V1Fails}
+use Rattle.gixp_lines.specs.V1Refs.{V1Fails}
 use Rattle.gixp_lines.specs.ResponseError.{AnswerRefusal, answer_refusal, from_reader, IsRefusal}
 use Rattle.gixp_lines.specs.Answer.{AnswerValue, Found, whole, refused}
 use Rattle.gixp_lines.specs.Beginnings.{expected as flags}
