@@ -12,7 +12,7 @@ use crate::histories::History;
 use crate::report::Report;
 use crate::rows::Row;
 use crate::values::{client_error, kind};
-use gixp_graph::{Flags, Graph, ObjectError};
+use gixp_graph::{Flags, Graph, ObjectError, Objects};
 use gixp_lines::fetch::Response;
 use gixp_memory::{Lent, MemoryObjects, MemoryRefs, Recorder};
 use gixp_negotiate::negotiate::negotiation::{NegotiateContext, Negotiation};
@@ -24,6 +24,7 @@ use gixp_requests::command::CommandTable;
 use gixp_requests::fetch::Arguments;
 use gixp_wire::{ObjectId, PacketLine, Protocol, Transport, split_packet_line};
 use std::alloc::{AllocError, Global};
+use std::mem;
 use std::num::NonZeroU32;
 
 // Why lent repositories can't be opened.
@@ -323,8 +324,8 @@ fn tags_of(row: &Row<'_>) -> Tags {
 }
 
 // The commits of the graph, and those that have the mark.
-fn report_marks(
-    graph: &Graph<Lent<'_>>,
+fn report_marks<G: Objects>(
+    graph: &Graph<G>,
     ids: &[ObjectId],
     report: &mut Report,
 ) -> Result<(), AllocError> {
@@ -362,35 +363,48 @@ fn report_looks(objects: &mut MemoryObjects, report: &mut Report) -> Result<(), 
     Ok(())
 }
 
-// The negotiation over its repository. What the graph holds stands behind it.
-fn run_history(
+// The refs of the repositories that lend objects, if they can be opened.
+fn opened(alternates: &mut [MemoryRefs], can_be_opened: bool) -> Result<&mut [MemoryRefs], Closed> {
+    if can_be_opened {
+        Ok(alternates)
+    } else {
+        Err(Closed {})
+    }
+}
+
+// The negotiation over its repository.
+fn run_graph<G: Objects>(
     alloc: Global,
     row: &Row<'_>,
     history: &mut History,
+    graph: &mut Graph<G>,
     recorder: &mut Recorder,
     report: &mut Report,
 ) -> Result<(), AllocError> {
     let shallow = shallow_of(alloc, row);
-    let lent = Lent {
-        objects: &mut history.objects,
+    let tags = tags_of(row);
+    let context = NegotiateContext {
+        objects: &history.existing,
+        refs: &mut history.refs,
+        alternates: opened(&mut history.alternates, history.has_alternates),
+        negotiator: recorder,
+        graph,
     };
-    let mut graph = Graph::new(alloc, lent);
-    let alternates: Result<&mut [MemoryRefs], Closed> = if history.has_alternates {
-        Ok(history.alternates.as_mut_slice())
-    } else {
-        Err(Closed {})
-    };
-    {
-        let context = NegotiateContext {
-            objects: &history.existing,
-            refs: &mut history.refs,
-            alternates,
-            negotiator: recorder,
-            graph: &mut graph,
-        };
-        let mut negotiation = Negotiation::new(context, &history.map, &shallow, tags_of(row));
-        negotiate(alloc, row, &mut negotiation, &history.answers, report)?;
-    }
+    let mut negotiation = Negotiation::new(context, &history.map, &shallow, tags);
+    negotiate(alloc, row, &mut negotiation, &history.answers, report)
+}
+
+// The same. What the graph holds stands behind it.
+fn run_history(
+    alloc: Global,
+    row: &Row<'_>,
+    history: &mut History,
+    objects: &mut MemoryObjects,
+    recorder: &mut Recorder,
+    report: &mut Report,
+) -> Result<(), AllocError> {
+    let mut graph = Graph::new(alloc, Lent { objects });
+    run_graph(alloc, row, history, &mut graph, recorder, report)?;
     report_marks(&graph, &history.ids, report)
 }
 
@@ -401,13 +415,21 @@ pub fn report_negotiation(
     report: &mut Report,
 ) -> Result<(), AllocError> {
     let mut history = History::of_text(alloc, row.payload, row.fail)?;
+    let mut objects = mem::replace(&mut history.objects, MemoryObjects::new(alloc));
     let haves = Vec::from_slice(alloc, &history.haves)?;
     let mut recorder = Recorder::new(alloc, haves);
     if row.settings[4] > 0 {
         recorder.calls = row.settings[4] - 1;
     }
-    run_history(alloc, row, &mut history, &mut recorder, report)?;
-    report_looks(&mut history.objects, report)?;
+    run_history(
+        alloc,
+        row,
+        &mut history,
+        &mut objects,
+        &mut recorder,
+        report,
+    )?;
+    report_looks(&mut objects, report)?;
     report.word("known ")?;
     report_ids(&recorder.known, report)?;
     report.word("tips ")?;
