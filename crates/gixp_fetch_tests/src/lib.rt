@@ -1,5 +1,5 @@
 //! Tests of what rows of data can't say of a whole fetch: devices and repositories that fail, consumers that stop early,
-//! what a progress reporter is told, and the texts of errors. It has no function outside its tests.
+//! boundaries in files, what a progress reporter is told, and the texts of errors. It has no function outside its tests.
 #![tactic(auto)]
 
 #[cfg(test)]
@@ -16,3 +16,5 @@ mod repository;
 mod runs;
 #[cfg(test)]
 mod sessions;
+#[cfg(test)]
+mod stores;

@@ -5,7 +5,7 @@ use gixp_fetch::consume::{ConsumePack, CopyError};
 use gixp_fetch::error::Error;
 use gixp_fetch::fetch::fetch;
 use gixp_fetch::options::{Context, Options, Outcome};
-use gixp_fetch::shallow::ShallowMemory;
+use gixp_fetch::shallow::ShallowStore;
 use gixp_graph::Graph;
 use gixp_handshake::{Handshake, handshake};
 use gixp_negotiate::negotiate::negotiation::{NegotiateContext, Negotiation};
@@ -107,7 +107,7 @@ fn map<T: Transport, P: NestedProgress>(
 pub(crate) type Parts = (Looks, Tips, Picks);
 
 // A whole fetch over a ref map.
-fn fetch_by<T: Transport, P: NestedProgress, C: ConsumePack<P, Error = CopyError>>(
+fn fetch_by<T: Transport, P: NestedProgress, S: ShallowStore, C: ConsumePack<P, Error = CopyError>>(
     alloc: Global,
     transport: &mut T,
     hands: &mut Handshake,
@@ -115,7 +115,7 @@ fn fetch_by<T: Transport, P: NestedProgress, C: ConsumePack<P, Error = CopyError
     parts: Parts,
     consumer: &mut C,
     progress: &mut P,
-    store: &mut ShallowMemory,
+    store: &mut S,
     shallow: &Shallow,
 ) -> Result<Option<Outcome>, Error<AllocError, CopyError>>
 where
@@ -155,13 +155,18 @@ where
 
 /// A handshake and a whole fetch into a repository of these parts, as a text: the first error, or how
 /// many rounds a copy of the outcome has.
-pub(crate) fn run<T: Transport, P: NestedProgress, C: ConsumePack<P, Error = CopyError>>(
+pub(crate) fn run<
+    T: Transport,
+    P: NestedProgress,
+    S: ShallowStore,
+    C: ConsumePack<P, Error = CopyError>,
+>(
     alloc: Global,
     transport: &mut T,
     parts: Parts,
     consumer: &mut C,
     progress: &mut P,
-    store: &mut ShallowMemory,
+    store: &mut S,
     shallow: &Shallow,
 ) -> Result<String, AllocError>
 where
