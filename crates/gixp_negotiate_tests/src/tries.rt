@@ -41,6 +41,10 @@ fn answer(alloc: Global, text: &str) -> Result<Response, Fail> {
     Ok(Response::from_line_reader(alloc, Protocol::V2, &mut reader, false, true)?)
 }
 
+fn opened(alternates: &mut [MemoryRefs]) -> Result<&mut [MemoryRefs], u8> {
+    Ok(alternates)
+}
+
 // A first step over the refs and this graph.
 fn decide<O: Objects>(
     alloc: Global,
@@ -48,15 +52,18 @@ fn decide<O: Objects>(
     refs: &mut MemoryRefs,
     map: &RefMap,
 ) -> Result<Action, Error<u8>> {
+    let existing = MemoryObjects::new(alloc);
+    let shallow = Shallow::NoChange;
     let mut recorder = Recorder::new(alloc, Vec::new(alloc));
+    let mut alternates = Vec::new(alloc);
     let context = NegotiateContext {
-        objects: &NoObjects,
+        objects: &existing,
         refs,
-        alternates: Ok(&mut []),
+        alternates: opened(&mut alternates),
         negotiator: &mut recorder,
         graph,
     };
-    let mut negotiation = Negotiation::new(context, map, &Shallow::NoChange, Tags::None);
+    let mut negotiation = Negotiation::new(context, map, &shallow, Tags::None);
     negotiation.mark_complete_and_common_ref(alloc)
 }
 
