@@ -50,17 +50,17 @@ module _ {N I A S C P X : Type 0} (parties : Parties N I A S C P X) (h : Handsha
   -- a fetch of the planner, by its table, its name and that the boundary stays
   pub carries : (table : Table) (agent : FeatureValue) (shallow : ShallowValue) → table ≡ git_table → agent ≡ planner_agent → shallow ≡ no_change
       → Fetches parties (call_of table agent shallow h) first r last progress → Carries parties h first r last progress
-  carries table agent shallow e f k fetched = record {
+  carries table agent shallow e f k it = record {
     fetched =
         subst (λ t. Fetches parties (call_of t planner_agent no_change h) first r last progress) e
         (subst (λ a. Fetches parties (call_of table a no_change h) first r last progress) f
-        (subst (λ s. Fetches parties (call_of table agent s h) first r last progress) k fetched));
+        (subst (λ s. Fetches parties (call_of table agent s h) first r last progress) k it));
   }
 
   -- over a negotiation and a store that are so
   pub fetches-over : (IsOver : N → Type 0) (IsEmpty : S → Type 0) (old new : Reading) → Carries parties h first r last progress → IsOver first.negotiate → IsEmpty first.store → first.locked ≡ false → first.reading ≡ old
       → last.reading ≡ new → FetchesOver parties IsOver IsEmpty h old new r
-  fetches-over IsOver IsEmpty old new fetched over empty unlocked begins ends = record {
+  fetches-over IsOver IsEmpty old new it over empty unlocked begins ends = record {
     first = first;
     last = last;
     progress = progress;
@@ -69,7 +69,7 @@ module _ {N I A S C P X : Type 0} (parties : Parties N I A S C P X) (h : Handsha
     unlocked = unlocked;
     begins = begins;
     ends = ends;
-    fetched = fetched;
+    fetched = it;
   }
 
 module _ {A X : Type 0} (Receives : RefMap → Handshake → Reading → Reading → Result (Option Outcome) (FetchError A X) → Type 0) where
@@ -92,9 +92,9 @@ module _ {A X : Type 0} (Receives : RefMap → Handshake → Reading → Reading
     sent = sym s;
   }
 
-  -- its text, and its refusal
-  pub shows : (bodies : List Body) (specs : List (List ℕ)) (old new : Option (List ℕ)) (requests : List (Vec ℕ Global)) (mapped : Option RefMap) (ended : Result Bool PlanError) (written r : Result (Unit {0}) PlanError)
-      → Writes old new (course_shown (course_of requests mapped ended)) written → IsOutcome written ended r → Shows Receives bodies specs old new (course_of requests mapped ended) r
-  shows bodies specs old new requests mapped ended (Err e) r w o = subst (Shows Receives bodies specs old new (course_of requests mapped ended)) (sym o) (inr w)
-  shows bodies specs old new requests mapped (Err e) (Ok x) r w o = subst (Shows Receives bodies specs old new (course_of requests mapped (Err e))) (sym o) (inl (w, refl))
-  shows bodies specs old new requests mapped (Ok pack) (Ok x) r w o = subst (Shows Receives bodies specs old new (course_of requests mapped (Ok pack))) (sym o) (w, refl)
+-- its text, and its refusal
+pub shows : (old new : Option (List ℕ)) (requests : List (Vec ℕ Global)) (mapped : Option RefMap) (ended : Result Bool PlanError) (written r : Result (Unit {0}) PlanError)
+    → Writes old new (course_shown (course_of requests mapped ended)) written → IsOutcome written ended r → Shows old new (course_of requests mapped ended) r
+shows old new requests mapped ended (Err e) r w o = subst (Shows old new (course_of requests mapped ended)) (sym o) (inr w)
+shows old new requests mapped (Err e) (Ok x) r w o = subst (Shows old new (course_of requests mapped (Err e))) (sym o) (inl (w, refl))
+shows old new requests mapped (Ok pack) (Ok x) r w o = subst (Shows old new (course_of requests mapped (Ok pack))) (sym o) (w, refl)

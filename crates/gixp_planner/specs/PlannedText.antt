@@ -16,6 +16,11 @@ use Rattle.gixp_planner.specs.Specs.{IsContext, RefusesSpecs}
 use Rattle.gixp_planner.specs.Text.{Course, course_shown}
 use Rattle.gixp_planner.specs.Session.{Runs}
 
+-- the text of a session is written, and its refusal is the error; or a write failed
+abbrev pub Shows : Option (List ℕ) → Option (List ℕ) → Course → Result (Unit {0}) PlanError → Type 0
+Shows old new course (Ok x) = Appends old new (course_shown course) × IsOk course.ended
+Shows old new course (Err e) = (Appends old new (course_shown course) × (course.ended ≡ Err (refusal_of e))) ⊎ IsUnwritten e
+
 module _ {A X : Type 0} (Receives : RefMap → Handshake → Reading → Reading → Result (Option Outcome) (FetchError A X) → Type 0) (bodies : List Body) (specs : List (List ℕ)) where
   -- how far a session over these bodies came, by these refspecs
   pub record IsCourse (course : Course) : Type 0 where
@@ -26,11 +31,6 @@ module _ {A X : Type 0} (Receives : RefMap → Handshake → Reading → Reading
     pub over : IsNewBodies bodies [] [] transport
     pub runs : Runs Receives context true (bodies_reading transport) last course.mapped course.ended
     pub sent : last.held.sent ≡ course.sent
-
-  -- the text of a session is written, and its refusal is the error; or a write failed
-  abbrev pub Shows : Option (List ℕ) → Option (List ℕ) → Course → Result (Unit {0}) PlanError → Type 0
-  Shows old new course (Ok x) = Appends old new (course_shown course) × IsOk course.ended
-  Shows old new course (Err e) = (Appends old new (course_shown course) × (course.ended ≡ Err (refusal_of e))) ⊎ IsUnwritten e
 
   -- a session is shown; or a refspec is refused, or memory for the session, and nothing is written
   pub data PlannedText (old new : Option (List ℕ)) (r : Result (Unit {0}) PlanError) : Type 0 where

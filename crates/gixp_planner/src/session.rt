@@ -2,7 +2,7 @@
 ghost use Rattle.std.specs.Prelude.{◌≡◌, ◌∷◌, [], true, false, codes, Some, None, Ok, IfOk, IsOk};
 ghost use Rattle.gixp_requests.specs.Feature.{feature_value};
 ghost use Rattle.gixp_handshake.specs.Taken.{without_refs};
-ghost use Rattle.gixp_planner.specs.Session.{planner_agent, Greets, MapsRefs, FetchesOver, FetchesMapped, Runs, end_of};
+ghost use Rattle.gixp_planner.specs.Session.{planner_agent, Greets, MapsRefs, Carries, FetchesMapped, Runs, end_of};
 ghost use Rattle.gixp_planner.specs.Text.{ended_of};
 
 use crate::error::PlanError;

@@ -15,4 +15,4 @@ returns g c =
     shown _
     (is-course _ _ _ c.in-Ok.context c.in-Ok-new.transport _ _ _ c.sent.result.now c.run-course.result.mapped c.run-course.result.ended c.in-Ok.ensures (c.new-url.ensures ∙ c.new.ensures.items) c.new-2.ensures.items
     c.in-Ok-new.ensures c.run-course.ensures c.sent.ensures)
-    (shows _ _ _ _ _ _ _ _ _ _ c.write_course-written.ensures c.outcome.ensures)
+    (shows _ _ _ _ _ _ _ c.write_course-written.ensures c.outcome.ensures)
