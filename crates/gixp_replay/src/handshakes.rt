@@ -23,7 +23,11 @@ pub fn report_response(
 ) -> Result<(), AllocError> {
     report.word(version_word(found.actual_protocol))?;
     report.word(" ")?;
-    report.word(if found.refs_follow { "refs " } else { "norefs " })?;
+    report.word(if found.refs_follow {
+        "refs "
+    } else {
+        "norefs "
+    })?;
     capability_list(alloc, report, &found.capabilities)?;
     report.word("; ")
 }

@@ -5,10 +5,10 @@ ghost use Rattle.gixp_wire.specs.Capabilities.{is_text};
 ghost use Rattle.gixp_lines.specs.AnswerLine.{behind, is_word, described, acknowledged, acknowledgement_line, common_id, shallow_update_line, wanted_ref_line, wanted_value};
 ghost use Rattle.gixp_lines.specs.ResponseError.{IsRefusal, unknown_line, ReadsLine, ReadsOwned};
 
-use gixp_wire::text::cut;
 use crate::fetch::response::error::Error;
 use bstr::{BString, ByteSlice};
 use gixp_wire::ObjectId;
+use gixp_wire::text::cut;
 use std::alloc::{AllocError, Global};
 
 /// What a server says of the commits that a client named (gitprotocol-pack, "Packfile Negotiation";

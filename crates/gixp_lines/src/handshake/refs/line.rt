@@ -8,12 +8,12 @@ ghost use Rattle.gixp_lines.specs.RefLine.{malformed_v2, unknown_attribute, id_v
 ghost use Rattle.gixp_wire.specs.Capabilities.{is_text};
 ghost use Rattle.gixp_lines.specs.ParseError.{Answers, IsRefusal, attribute_values, object_of};
 
-use gixp_wire::text::cut;
 use crate::handshake::Ref;
 use crate::handshake::refs::parse::{Error, Invariant};
 use crate::trim::trim_end;
 use bstr::BString;
 use gixp_wire::ObjectId;
+use gixp_wire::text::cut;
 use std::alloc::Global;
 
 // What the attributes of a line say.

@@ -10,10 +10,10 @@ ghost use Rattle.gixp_wire.specs.Cut.{cut};
 ghost use Rattle.gixp_lines.specs.RefAdvertisement.{symref_in, symref_by, made_symref, symref_named, told_target, TellAlike, symref_table};
 ghost use Rattle.gixp_lines.specs.V1Refs.{symref_value, symref_values, name_cmp, symrefs_in};
 
-use gixp_wire::text::cut;
 use crate::handshake::refs::line::{is_null, is_same};
 use crate::handshake::refs::parse::Error;
 use bstr::BString;
+use gixp_wire::text::cut;
 use gixp_wire::{Capabilities, Capability};
 use std::alloc::{AllocError, Global};
 use std::collections::BTreeMap;

@@ -9,7 +9,6 @@ ghost use Rattle.gixp_lines.specs.RefAdvertisement.{line_by_path, plain_line, pe
 ghost use Rattle.gixp_lines.specs.V1Refs.{symrefs_in};
 ghost use Rattle.gixp_lines.specs.V1Line.{line_of, named_value, so_far_value, nothing_so_far, with_pair, with_found, with_closed, with_line, with_text};
 
-use gixp_wire::text::cut;
 use crate::fetch::response::ShallowUpdate;
 use crate::handshake::Ref;
 use crate::handshake::refs::line::{is_same, read_id};
@@ -17,6 +16,7 @@ use crate::handshake::refs::parse::{Error, Invariant};
 use crate::handshake::refs::symrefs::{Targets, is_symref, target_of};
 use crate::trim::trim_end;
 use bstr::BString;
+use gixp_wire::text::cut;
 use gixp_wire::{ObjectId, decode};
 use std::alloc::Global;
 
