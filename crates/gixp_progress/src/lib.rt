@@ -2,10 +2,12 @@
 //! progress reporter show.
 #![tactic(auto)]
 
+mod discard;
 pub mod fetch;
 pub mod laws;
 mod numbers;
 mod remote_progress;
 mod translate;
 
+pub use discard::Discard;
 pub use remote_progress::RemoteProgress;
