@@ -35,6 +35,7 @@ pub use Rattle.gixp_sidebands.specs.Telling
 pub use Rattle.gixp_sidebands.specs.Sidebands
 pub use Rattle.gixp_lines.specs.Ref
 pub use Rattle.gixp_lines.specs.RefLine
+pub use Rattle.gixp_lines.specs.ReadFails
 pub use Rattle.gixp_lines.specs.ParseError
 pub use Rattle.gixp_lines.specs.Runs
 pub use Rattle.gixp_lines.specs.Refs

@@ -63,10 +63,11 @@ refs_refused plain old new e (inr (inr (inl h))) = inr (inl (h.now, h.refusal, h
 refs_refused plain old new e (inr (inr (inr h))) = inr (inr h.error)
 
 pub advertisements_refused : AdvertisementsAreRefused
-advertisements_refused t plain old new e (inl h) = inl (h.refusal, h.first, h.error)
-advertisements_refused t plain old new e (inr (inl h)) = inl (refusal_from h.refusal, h.first, λ _. h.error)
-advertisements_refused t plain old new e (inr (inr (inl h))) = inr (inl (h.now, h.refusal, h.failed, h.error))
-advertisements_refused t plain old new e (inr (inr (inr h))) = inr (inr h.error)
+advertisements_refused t plain old new e (inl (inl h)) = inl (h.refusal, h.first, h.error)
+advertisements_refused t plain old new e (inl (inr (inl h))) = inl (refusal_from h.refusal, h.first, λ _. h.error)
+advertisements_refused t plain old new e (inl (inr (inr (inl h)))) = inr (inl (h.now, h.refusal, h.failed, h.error))
+advertisements_refused t plain old new e (inl (inr (inr (inr h)))) = inr (inr h.error)
+advertisements_refused t plain old new e (inr h) = inr (inr h.error)
 
 -- ---- refs, and the map of them
 

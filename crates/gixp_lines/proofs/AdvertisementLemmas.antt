@@ -154,25 +154,23 @@ first_refused t r s (Some p) n texts text v e h is a =
 pub v1-refused : (t : List Symref) (plain : Bool) (old mid new : Reading) (s : SoFarValue) (e : Error) (o : Result SoFarValue RefsRefusal) {X : Type 0} (view : X → SoFarValue) → V1Known t old mid s → TakesLine mid new
     → with_text t s new.line ≡ o → Answers view o (Err e) → V1Fails t plain old new e
 v1-refused t plain old mid new s e (Ok made) view h k is a =
-    inr (inr (inr (record {
-      texts = h.texts ++ new.line ∷ [];
-      now = new;
-      read = so_far-line old mid new h.texts h.read k;
-      behind = inl refl;
-      error = a;
-    })))
+    inl (inr (inr (inr (record { taken = h.texts ++ new.line ∷ []; read = so_far-line old mid new h.texts h.read k; stopped = k.stopped; error = a }))))
 v1-refused t plain old mid new s e (Err r) view h k is a =
     let read = so_far-line old mid new h.texts h.read k in
-    inl (record {
-      texts = h.texts;
-      text = new.line;
+    inl (inl (record {
+      taken = h.texts ++ new.line ∷ [];
       read = read;
-      before = (s.refs ++ closed t s.open_line, groups-all t h.texts None s h.lines);
       refusal = r;
-      line = ap (λ x. groups x None t None) (sym (append-nil (h.texts ++ new.line ∷ []))) ∙ groups-refused t h.texts new.line [] None s r h.lines is;
+      last = record {
+        before = h.texts;
+        text = new.line;
+        split = refl;
+        refs = (s.refs ++ closed t s.open_line, groups-all t h.texts None s h.lines);
+        line = ap (λ x. groups x None t None) (sym (append-nil (h.texts ++ new.line ∷ []))) ∙ groups-refused t h.texts new.line [] None s r h.lines is;
+      };
       first = first_refused t old new old.to_come new.to_come h.texts new.line s r h.lines is read.next;
       error = a;
-    })
+    }))
 
 reader_known : (t : List Symref) (r : Reading) (o : Option Pieces) (texts : List (List ℕ)) (s : SoFarValue) (e : Refusal) → GroupsSoFar t texts s
     → IfSome o (λ p. lines_ahead r p ≡ lines_to texts (refusal e)) → IfSome o (λ p. v1_refs t (lines_ahead r p) ≡ Err (refusal_from e))
@@ -183,17 +181,17 @@ reader_known t r (Some p) texts s e h a = ap (v1_refs t) a ∙ groups-all t text
 pub v1-reader : (t : List Symref) (plain : Bool) (old mid new : Reading) (s : SoFarValue) (r : ReadError) (e : Error) → V1Known t old mid s → Fails mid new (refusal_of r)
     → (plain ≡ true → IsPlain new (refusal_of r)) → parse_refusal e ≡ refusal_from (refusal_of r) → V1Fails t plain old new e
 v1-reader t plain old mid new s r e h (inl k) p is =
-    inr (inl (record {
+    inl (inr (inl (record {
+      taken = h.texts;
+      now = mid;
+      read = h.read;
       refusal = refusal_of r;
+      refused = k;
       first = reader_known t old old.to_come h.texts s (refusal_of r) h.lines (so_far-refuses old mid new h.texts (refusal_of r) h.read k);
-      refused = k.refused;
-      stopped = k.stopped;
-      version = k.version ∙ h.read.version;
-      held = k.held ∙ h.read.held;
       error = is;
-    }))
+    })))
 v1-reader t plain old mid new s r e h (inr k) p is =
-    inr (inr (inl (record { texts = h.texts; now = mid; read = h.read; refusal = refusal_of r; failed = k; is_plain = p; error = is })))
+    inl (inr (inr (inl (record { taken = h.texts; now = mid; read = h.read; refusal = refusal_of r; failed = k; is_plain = p; error = is }))))
 
 -- at the stop these are all
 pub v1-stop : (t : List Symref) (old mid new : Reading) (s : SoFarValue) (refs : List Ref) (updates : List ShallowUpdate) → V1Known t old mid s → AtStop mid new
@@ -214,7 +212,7 @@ v1-stop t old mid new s refs updates h k is same =
 
 -- memory ran out behind the stop
 pub v1-memory : (t : List Symref) (plain : Bool) (old mid new : Reading) (s : SoFarValue) (e : Error) → V1Known t old mid s → AtStop mid new → e ≡ Memory → V1Fails t plain old new e
-v1-memory t plain old mid new s e h k is = inr (inr (inr (record { texts = h.texts; now = mid; read = h.read; behind = inr k; error = is })))
+v1-memory t plain old mid new s e h k is = inr (record { texts = h.texts; now = mid; read = h.read; at = k; error = is })
 
 -- what is given behind the stop
 pub v1-finish : {A : Type 0} (r : Result A Error) (refs_of : A → List Ref) (updates_of : A → List ShallowUpdate) (t : List Symref) (plain : Bool) (old mid new : Reading) (s : SoFarValue) → V1Known t old mid s → AtStop mid new

@@ -7,7 +7,7 @@ use Rattle.std.specs.declared.io.ErrorKind.TheVariants.{UnexpectedEof}
 use Rattle.gixp_wire.specs.Pieces.{Refusal, io, Piece, line, mark, Pieces, no_pieces, with_piece, unexpected_frame}
 use Rattle.gixp_wire.specs.Items.{is_stop}
 use Rattle.gixp_wire.specs.Lines.{gives, stops, refuses, next_from, next_of}
-use Rattle.gixp_wire.specs.Reading.{Reading, TakesLine, TakesStop, AtStop, Fails, IsOutside, IsPlain, refusal_of, reset_to}
+use Rattle.gixp_wire.specs.Reading.{Reading, TakesLine, TakesStop, AtStop, Fails, IsPlain, refusal_of, reset_to}
 use Rattle.gixp_lines.specs.declared.fetch.response.error.Error.{Error}
 use Rattle.gixp_lines.specs.declared.fetch.response.error.Error.TheVariants.{Memory}
 use Rattle.gixp_lines.specs.ResponseError.{AnswerRefusal, answer_refusal, from_reader, IsRefusal}
@@ -163,24 +163,17 @@ pub going-refused : (plain : Bool) (found k : Pieces → Found) (taken : List Pi
     → new.stopped ≡ last_stop taken → ((q : Pieces) → k q ≡ refused r) → is_of_line r ≡ true → IsRefusal e r → AnswerFails found plain old new e
 going-refused plain found k taken old new r e h at w l is = inl (record {
   taken = taken;
-  took = h.took;
+  read = record { took = h.took; failures = h.failures };
   refusal = r;
-  of_line = l;
-  always = λ q. h.same q ∙ w q;
-  stopped = at;
+  last = record { of_line = l; always = λ q. h.same q ∙ w q; stopped = at };
   first = known_refused found k taken old.to_come new.to_come r h.same w h.took;
   error = is;
-  failures = h.failures;
 })
 
 -- memory ran out behind what was taken
 pub going-memory : (plain : Bool) (found k : Pieces → Found) (taken : List Piece) (old new : Reading) → Going found k taken old new → new.stopped ≡ None → AnswerFails found plain old new Memory
-going-memory plain found k taken old new h at = inr (inr (inr (record { taken = taken; took = h.took; stopped = at; error = refl; failures = h.failures })))
-
--- what comes from outside leaves a reader at no stop
-outside_runs : (mid new : Reading) (r : Refusal) → mid.stopped ≡ None → IsOutside mid new r → new.stopped ≡ None
-outside_runs mid new r run (inl h) = h.stays.stopped ∙ run
-outside_runs mid new r run (inr h) = h.stopped
+going-memory plain found k taken old new h at =
+    inr (inr (inr (record { taken = taken; read = record { took = h.took; failures = h.failures }; stopped = at; error = refl })))
 
 refused_next : (found k : Pieces → Found) (v w : Protocol) (taken : List Piece) (a b c : Option Pieces) (e : Refusal) → w ≡ v → ((q : Pieces) → found (front taken q) ≡ k q)
     → ((q : Pieces) → next_of v q ≡ refuses e → k q ≡ refused (from_reader e)) → Known a b (λ p q. p ≡ front taken q)
@@ -196,22 +189,20 @@ pub going-fails : (plain : Bool) (found k : Pieces → Found) (v : Protocol) (ta
     → ((q : Pieces) → next_of v q ≡ refuses (refusal_of r) → k q ≡ refused (from_reader (refusal_of r)))
     → Fails mid new (refusal_of r) → (plain ≡ true → IsPlain new (refusal_of r)) → answer_refusal e ≡ from_reader (refusal_of r) → AnswerFails found plain old new e
 going-fails plain found k v taken old mid new r e h run n (inl t) p is = inr (inl (record {
+  taken = taken;
+  now = mid;
+  read = record { took = h.took; failures = h.failures };
   refusal = refusal_of r;
-  lasting = t.lasting;
+  refused = t;
   first = refused_next found k v mid.version taken old.to_come mid.to_come new.to_come (refusal_of r) run.version h.same n h.took t.next;
-  refused = t.refused;
-  stopped = t.stopped;
   error = is;
-  failures = t.failures ∙ h.failures;
 }))
 going-fails plain found k v taken old mid new r e h run n (inr t) p is = inr (inr (inl (record {
   taken = taken;
   now = mid;
-  took = h.took;
-  failures = h.failures;
+  read = record { took = h.took; failures = h.failures };
   refusal = refusal_of r;
   failed = t;
-  stopped = outside_runs mid new (refusal_of r) run.stopped t;
   is_plain = p;
   error = is;
 })))

@@ -83,16 +83,14 @@ line_refused r s (Some p) n texts t vs e h is a =
 pub refs-refused : (plain : Bool) (old mid new : Reading) (vs : List RefValue) (e : Error) (o : Result RefValue RefsRefusal) → RefsSoFar old mid vs → TakesLine mid new
     → v2_line new.line ≡ o → Answers ref_value o (Err e) → RefsFail plain old new e
 refs-refused plain old mid new vs e (Ok v) h k is a =
-    inr (inr (inr (record { texts = h.texts ++ new.line ∷ []; read = so_far-line old mid new h.texts h.read k; error = a })))
+    inr (inr (inr (record { taken = h.texts ++ new.line ∷ []; read = so_far-line old mid new h.texts h.read k; stopped = k.stopped; error = a })))
 refs-refused plain old mid new vs e (Err r) h k is a =
     let read = so_far-line old mid new h.texts h.read k in
     inl (record {
-      texts = h.texts;
-      text = new.line;
+      taken = h.texts ++ new.line ∷ [];
       read = read;
-      before = (vs, h.refs);
       refusal = r;
-      line = is;
+      last = record { before = h.texts; text = new.line; split = refl; refs = (vs, h.refs); line = is };
       first = line_refused old new old.to_come new.to_come h.texts new.line vs r h.refs is read.next;
       error = a;
     })
@@ -107,16 +105,16 @@ pub refs-reader : (plain : Bool) (old mid new : Reading) (vs : List RefValue) (r
     → (plain ≡ true → IsPlain new r) → parse_refusal e ≡ refusal_from r → RefsFail plain old new e
 refs-reader plain old mid new vs r e h (inl k) p is =
     inr (inl (record {
+      taken = h.texts;
+      now = mid;
+      read = h.read;
       refusal = r;
+      refused = k;
       first = reader_known old old.to_come h.texts vs r h.refs (so_far-refuses old mid new h.texts r h.read k);
-      refused = k.refused;
-      stopped = k.stopped;
-      version = k.version ∙ h.read.version;
-      held = k.held ∙ h.read.held;
       error = is;
     }))
 refs-reader plain old mid new vs r e h (inr k) p is =
-    inr (inr (inl (record { texts = h.texts; now = mid; read = h.read; refusal = r; failed = k; is_plain = p; error = is })))
+    inr (inr (inl (record { taken = h.texts; now = mid; read = h.read; refusal = r; failed = k; is_plain = p; error = is })))
 
 map_push : (refs more : List Ref) (r : Ref) → more ≡ refs ++ r ∷ [] → map ref_value more ≡ map ref_value refs ++ ref_value r ∷ []
 map_push refs more r e = rw e (map-append ref_value refs (r ∷ []))
@@ -137,7 +135,7 @@ refs-pushed old mid new refs more r (Err x) h k is a e = absurd a
 -- memory ran out behind a line
 pub refs-memory : (plain : Bool) (old mid new : Reading) (vs : List RefValue) → RefsSoFar old mid vs → TakesLine mid new → RefsFail plain old new Memory
 refs-memory plain old mid new vs h k =
-    inr (inr (inr (record { texts = h.texts ++ new.line ∷ []; read = so_far-line old mid new h.texts h.read k; error = refl })))
+    inr (inr (inr (record { taken = h.texts ++ new.line ∷ []; read = so_far-line old mid new h.texts h.read k; stopped = k.stopped; error = refl })))
 
 first_known : (r s : Reading) (o n : Option Pieces) (t : List ℕ) (v : RefValue) → v2_line t ≡ Ok v
     → IfSome o (λ p. (q : Pieces) × (n ≡ Some q) × (lines_ahead r p ≡ before (t ∷ []) (lines_ahead s q)))

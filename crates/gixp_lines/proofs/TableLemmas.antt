@@ -182,27 +182,31 @@ module _ (t u : List Symref) (alike : TellAlike t u) where
 
   -- and refused alike
   pub fails_same : (plain : Bool) (old new : Reading) (e : Error) → V1Fails u plain old new e → V1Fails t plain old new e
-  fails_same plain old new e (inl h) = inl (record {
-    texts = h.texts;
-    text = h.text;
+  fails_same plain old new e (inl (inl h)) = let last = h.last in inl (inl (record {
+    taken = h.taken;
     read = h.read;
-    before = (h.before.0, groups_same h.texts None None ∙ h.before.1);
     refusal = h.refusal;
-    line = groups_same (h.texts ++ h.text ∷ []) None None ∙ h.line;
+    last = record {
+      before = last.before;
+      text = last.text;
+      split = last.split;
+      refs = (last.refs.0, groups_same last.before None None ∙ last.refs.1);
+      line = groups_same h.taken None None ∙ last.line;
+    };
     first = first_same old old.to_come h.refusal h.first;
     error = h.error;
-  })
-  fails_same plain old new e (inr (inl h)) = inr (inl (record {
-    refusal = h.refusal;
-    first = first_same old old.to_come _ h.first;
-    refused = h.refused;
-    stopped = h.stopped;
-    version = h.version;
-    held = h.held;
-    error = h.error;
   }))
-  fails_same plain old new e (inr (inr (inl h))) = inr (inr (inl h))
-  fails_same plain old new e (inr (inr (inr h))) = inr (inr (inr h))
+  fails_same plain old new e (inl (inr (inl h))) = inl (inr (inl (record {
+    taken = h.taken;
+    now = h.now;
+    read = h.read;
+    refusal = h.refusal;
+    refused = h.refused;
+    first = first_same old old.to_come _ h.first;
+    error = h.error;
+  })))
+  fails_same plain old new e (inl (inr (inr h))) = inl (inr (inr h))
+  fails_same plain old new e (inr h) = inr h
 
   pub answers_same : {A : Type 0} (r : Result A Error) (refs_of : A → List Ref) (updates_of : A → List ShallowUpdate) (plain : Bool) (old new : Reading)
       → MatchResult r (λ found. ReadsV1 u old new (refs_of found) (updates_of found)) (V1Fails u plain old new)

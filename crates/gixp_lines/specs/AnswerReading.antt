@@ -5,11 +5,12 @@ use Rattle.gixp_wire.specs.declared.protocol.MessageKind.{MessageKind}
 use Rattle.gixp_wire.specs.declared.protocol.MessageKind.TheVariants.{Flush}
 use Rattle.gixp_wire.specs.declared.protocol.Protocol.{Protocol}
 use Rattle.gixp_wire.specs.declared.protocol.Protocol.TheVariants.{V0, V1, V2}
-use Rattle.gixp_wire.specs.Pieces.{Refusal, io, Piece, line, mark, Pieces, no_pieces}
-use Rattle.gixp_wire.specs.Reading.{Reading, IsLasting, IsOutside, IsPlain, BreaksOff, Rose}
+use Rattle.gixp_wire.specs.Pieces.{io, Piece, line, mark, Pieces, no_pieces}
+use Rattle.gixp_wire.specs.Reading.{Reading, BreaksOff, Rose}
 use Rattle.gixp_lines.specs.declared.fetch.response.error.Error.{Error}
 use Rattle.gixp_lines.specs.declared.fetch.response.error.Error.TheVariants.{Memory}
-use Rattle.gixp_lines.specs.ResponseError.{AnswerRefusal, answer_refusal, from_reader, IsRefusal}
+use Rattle.gixp_lines.specs.ReadFails.{ReadFails}
+use Rattle.gixp_lines.specs.ResponseError.{AnswerRefusal, answer_errors, IsRefusal}
 use Rattle.gixp_lines.specs.Answer.{AnswerValue, Found, whole, refused, front, is_of_line, both}
 use Rattle.gixp_lines.specs.Sections.{v2_answer}
 use Rattle.gixp_lines.specs.Beginnings.{Expected, v1_answer}
@@ -84,51 +85,20 @@ pub record BrokeOff (found : Pieces → Found) (under : Protocol) (old new : Rea
 abbrev pub Answered : (Pieces → Found) → Protocol → Reading → Reading → AnswerValue → Type 0
 Answered found version old new value = ReadsAnswer found version old new value ⊎ BrokeOff found version old new value
 
--- the first refusal was a line's, or that of a stop in its place; it and what stands before it are taken
-pub record LineRefused (found : Pieces → Found) (old new : Reading) (e : Error) : Type 0 where
-  pub taken : List Piece
-  pub took : Took taken old new
-  pub refusal : AnswerRefusal
-  pub of_line : is_of_line refusal ≡ true
-  pub always : (q : Pieces) → found (front taken q) ≡ refused refusal
-  pub stopped : new.stopped ≡ last_stop taken
-  pub first : IfSome old.to_come (λ p. found p ≡ refused refusal)
-  pub error : IsRefusal e refusal
-  pub failures : new.failures ≡ old.failures
-
--- the first refusal was the reader's, which it answers from then on
-pub record ReaderRefused (found : Pieces → Found) (old new : Reading) (e : Error) : Type 0 where
-  pub refusal : Refusal
-  pub lasting : IsLasting refusal
-  pub first : IfSome old.to_come (λ p. found p ≡ refused (from_reader refusal))
-  pub refused : new.refused ≡ Some refusal
-  pub stopped : new.stopped ≡ None
-  pub error : answer_refusal e ≡ from_reader refusal
-  pub failures : new.failures ≡ old.failures
-
--- something came from outside behind some pieces: a device that failed, an interrupt, or want of memory
-pub record ReaderFailed (plain : Bool) (old new : Reading) (e : Error) : Type 0 where
-  pub taken : List Piece
-  pub now : Reading
+-- these pieces were taken, and no I/O error was counted
+pub record Passed (old now : Reading) (taken : List Piece) : Type 0 where
   pub took : Took taken old now
   pub failures : now.failures ≡ old.failures
-  pub refusal : Refusal
-  pub failed : IsOutside now new refusal
-  pub stopped : new.stopped ≡ None
-  pub is_plain : plain ≡ true → IsPlain new refusal
-  pub error : answer_refusal e ≡ from_reader refusal
 
--- there was no memory for what the pieces taken say
-pub record NoMemory (old new : Reading) (e : Error) : Type 0 where
-  pub taken : List Piece
-  pub took : Took taken old new
-  pub stopped : new.stopped ≡ None
-  pub error : e ≡ Memory
-  pub failures : new.failures ≡ old.failures
+-- whatever stands behind these pieces, the last of them is refused, and the reader is at it if it is a stop
+pub record LastRefused (found : Pieces → Found) (taken : List Piece) (refusal : AnswerRefusal) (now : Reading) : Type 0 where
+  pub of_line : is_of_line refusal ≡ true
+  pub always : (q : Pieces) → found (front taken q) ≡ refused refusal
+  pub stopped : now.stopped ≡ last_stop taken
 
 -- the first refusal of what is to come, or something from outside, which a plain reader has less of
 abbrev pub AnswerFails : (Pieces → Found) → Bool → Reading → Reading → Error → Type 0
-AnswerFails found plain old new e = LineRefused found old new e ⊎ ReaderRefused found old new e ⊎ ReaderFailed plain old new e ⊎ NoMemory old new e
+AnswerFails found plain old new e = ReadFails answer_errors Passed (λ _ p r. found p ≡ refused r) (LastRefused found) plain old new e
 
 -- how far an answer was read: these pieces were taken of it, and what is left of it to be found
 pub record Going (found rest : Pieces → Found) (taken : List Piece) (old now : Reading) : Type 0 where

@@ -13,6 +13,7 @@ pub use Rattle.gixp_wire.specs.Reading
 pub use Rattle.gixp_wire.specs.Transport
 pub mod Ref
 pub mod RefLine
+pub mod ReadFails
 pub mod ParseError
 pub mod Runs
 pub mod Refs

@@ -9,7 +9,8 @@ use Rattle.gixp_lines.specs.declared.handshake.refs.parse.Error.{Error}
 use Rattle.gixp_lines.specs.declared.handshake.refs.parse.Error.TheVariants.{Io, DecodePacketline, Id, MalformedSymref, MalformedV1RefLine, MalformedV2RefLine, UnknownAttribute, InvariantViolation, UploadPack, Reader, Memory}
 use Rattle.gixp_lines.specs.declared.handshake.refs.parse.Invariant.{Invariant}
 use Rattle.gixp_lines.specs.declared.handshake.refs.parse.Invariant.TheVariants.{UnbornObject, UnbornTag, UnbornNullTarget, PeeledAlone, PeeledElsewhere}
-use Rattle.gixp_lines.specs.RefLine.{RefsRefusal, io_failed, bad_frame, bad_id, malformed_symref, malformed_v1, malformed_v2, unknown_attribute, invariant, upload_pack, by_reader, no_memory, AttributeValues}
+use Rattle.gixp_lines.specs.RefLine.{RefsRefusal, io_failed, bad_frame, bad_id, malformed_symref, malformed_v1, malformed_v2, unknown_attribute, invariant, upload_pack, by_reader, no_memory, refusal_from, AttributeValues}
+use Rattle.gixp_lines.specs.ReadFails.{Errors}
 
 -- what doesn't go together, as it shows
 abbrev pub invariant_text : Invariant → List ℕ
@@ -51,6 +52,10 @@ abbrev pub is_outside : RefsRefusal → Bool
 is_outside (io_failed kind) = true
 is_outside no_memory = true
 is_outside _ = false
+
+-- how the errors of calls that read refs are compared
+abbrev pub parse_errors : Errors Error RefsRefusal
+parse_errors = record { refusal = parse_refusal; from_reader = refusal_from; memory = Memory; is_no_memory = is_no_memory }
 
 -- a refusal is that of the definition, unless memory ran out
 abbrev pub IsRefusal : Error → RefsRefusal → Type 0

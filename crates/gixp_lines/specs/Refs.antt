@@ -4,13 +4,13 @@ use Rattle.gixp_wire.specs.declared.protocol.MessageKind.{MessageKind}
 use Rattle.gixp_wire.specs.declared.protocol.Protocol.TheVariants.{V2}
 use Rattle.gixp_wire.specs.Pieces.{Refusal, Pieces, stream_pieces}
 use Rattle.gixp_wire.specs.Lines.{Ending, stop, refusal, Lines, lines_of, lines_to}
-use Rattle.gixp_wire.specs.Reading.{Reading, TakesLine, AtStop, Fails, IsOutside, IsPlain, lines_ahead}
+use Rattle.gixp_wire.specs.Reading.{Reading, TakesLine, AtStop, Fails, IsPlain, lines_ahead}
 use Rattle.gixp_lines.specs.declared.handshake.Ref.{Ref}
 use Rattle.gixp_lines.specs.declared.handshake.refs.parse.Error.{Error}
-use Rattle.gixp_lines.specs.declared.handshake.refs.parse.Error.TheVariants.{Memory}
 use Rattle.gixp_lines.specs.Ref.{RefValue, ref_value}
 use Rattle.gixp_lines.specs.RefLine.{RefsRefusal, refusal_from, v2_line}
-use Rattle.gixp_lines.specs.ParseError.{Answers, parse_refusal, IsRefusal}
+use Rattle.gixp_lines.specs.ReadFails.{ReadFails}
+use Rattle.gixp_lines.specs.ParseError.{Answers, parse_refusal, parse_errors}
 use Rattle.gixp_lines.specs.Runs.{SoFar}
 
 -- a line's value in front of the others, or its refusal before theirs
@@ -51,46 +51,17 @@ pub record ReadsRefs (old new : Reading) (refs : List Ref) : Type 0 where
   pub failures : new.failures ≡ old.failures
   pub held : new.held ≡ old.held
 
--- the first refusal was a line's, and it and the lines before it are taken
-pub record LineRefused (old new : Reading) (e : Error) : Type 0 where
-  pub texts : List (List ℕ)
+-- the last of these lines is refused, and none before it
+pub record LastRefused (texts : List (List ℕ)) (refusal : RefsRefusal) : Type 0 where
+  pub before : List (List ℕ)
   pub text : List ℕ
-  pub read : SoFar old new (texts ++ text ∷ [])
-  pub before : (values : List RefValue) × AreRefs texts values
-  pub refusal : RefsRefusal
+  pub split : texts ≡ before ++ text ∷ []
+  pub refs : (values : List RefValue) × AreRefs before values
   pub line : v2_line text ≡ Err refusal
-  pub first : IfSome old.to_come (λ p. v2_refs (lines_ahead old p) ≡ Err refusal)
-  pub error : IsRefusal e refusal
-
--- the first refusal was the reader's, which it answers from then on
-pub record ReaderRefused (old new : Reading) (e : Error) : Type 0 where
-  pub refusal : Refusal
-  pub first : IfSome old.to_come (λ p. v2_refs (lines_ahead old p) ≡ Err (refusal_from refusal))
-  pub refused : new.refused ≡ Some refusal
-  pub stopped : new.stopped ≡ None
-  pub version : new.version ≡ old.version
-  pub held : new.held ≡ old.held
-  pub error : parse_refusal e ≡ refusal_from refusal
-
--- something came from outside behind some lines: a device that failed, an interrupt, or want of memory
-pub record ReaderFailed (plain : Bool) (old new : Reading) (e : Error) : Type 0 where
-  pub texts : List (List ℕ)
-  pub now : Reading
-  pub read : SoFar old now texts
-  pub refusal : Refusal
-  pub failed : IsOutside now new refusal
-  pub is_plain : plain ≡ true → IsPlain new refusal
-  pub error : parse_refusal e ≡ refusal_from refusal
-
--- there was no memory for a ref of the lines taken
-pub record NoMemory (old new : Reading) (e : Error) : Type 0 where
-  pub texts : List (List ℕ)
-  pub read : SoFar old new texts
-  pub error : e ≡ Memory
 
 -- the first refusal of the lines to come, or something from outside, which a plain reader has less of
 abbrev pub RefsFail : Bool → Reading → Reading → Error → Type 0
-RefsFail plain old new e = LineRefused old new e ⊎ ReaderRefused old new e ⊎ ReaderFailed plain old new e ⊎ NoMemory old new e
+RefsFail plain old new e = ReadFails parse_errors SoFar (λ now p r. v2_refs (lines_ahead now p) ≡ Err r) (λ texts r _. LastRefused texts r) plain old new e
 
 -- these refs were read so far
 pub record RefsSoFar (old now : Reading) (values : List RefValue) : Type 0 where

@@ -6,6 +6,7 @@ use Rattle.gixp_wire.specs.Pieces.{Refusal, io, server, memory}
 use Rattle.gixp_wire.specs.Reading.{refusal_of}
 use Rattle.gixp_wire.specs.Spurious.{is_spurious_kind, is_spurious_read, is_spurious_client}
 use Rattle.gixp_wire.specs.Client.{ClientRefusal, no_memory as client_no_memory, client_refusal}
+use Rattle.gixp_lines.specs.ReadFails.{Errors}
 use Rattle.gixp_lines.specs.declared.fetch.response.error.Error.{Error}
 use Rattle.gixp_lines.specs.declared.fetch.response.error.Error.TheVariants.{Io, UploadPack, Transport, MissingServerCapability, UnknownLineType, UnknownSectionHeader, Reader, Memory}
 use Rattle.gixp_lines.specs.declared.fetch.response.error.RequiredFeature.{RequiredFeature}
@@ -61,6 +62,10 @@ from_transport other = by_transport other
 abbrev pub is_no_memory : AnswerRefusal → Bool
 is_no_memory no_memory = true
 is_no_memory _ = false
+
+-- how the errors of calls that read an answer are compared
+abbrev pub answer_errors : Errors Error AnswerRefusal
+answer_errors = record { refusal = answer_refusal; from_reader = from_reader; memory = Memory; is_no_memory = is_no_memory }
 
 -- a refusal is that of the definition, unless memory ran out
 abbrev pub IsRefusal : Error → AnswerRefusal → Type 0

@@ -7,7 +7,7 @@ use Rattle.std.specs.Cmp.Lexicographic.{slice_cmp}
 use Rattle.bstr.specs.Owned.{bstring_bytes}
 use Rattle.bstr.specs.declared.bstring.BString.{BString}
 use Rattle.gixp_wire.specs.declared.protocol.MessageKind.{MessageKind}
-use Rattle.gixp_wire.specs.Pieces.{Refusal, Pieces}
+use Rattle.gixp_wire.specs.Pieces.{Pieces}
 use Rattle.gixp_wire.specs.Lines.{stop, lines_to}
 use Rattle.gixp_wire.specs.Capabilities.{CapabilityValue}
 use Rattle.gixp_wire.specs.Reading.{Reading, AtStop, lines_ahead}
@@ -16,10 +16,10 @@ use Rattle.gixp_lines.specs.declared.fetch.response.line.ShallowUpdate.{ShallowU
 use Rattle.gixp_lines.specs.declared.handshake.refs.parse.Error.{Error}
 use Rattle.gixp_lines.specs.declared.handshake.refs.parse.Error.TheVariants.{Memory}
 use Rattle.gixp_lines.specs.Ref.{RefValue, ref_value}
-use Rattle.gixp_lines.specs.RefLine.{RefsRefusal, refusal_from}
-use Rattle.gixp_lines.specs.ParseError.{Answers, parse_refusal, IsRefusal}
+use Rattle.gixp_lines.specs.RefLine.{RefsRefusal}
+use Rattle.gixp_lines.specs.ParseError.{Answers, parse_errors}
 use Rattle.gixp_lines.specs.Runs.{SoFar}
-use Rattle.gixp_lines.specs.Refs.{ReaderFailed}
+use Rattle.gixp_lines.specs.ReadFails.{ReadFails}
 use Rattle.gixp_lines.specs.RefAdvertisement.{Symref, symref_table, groups, v1_refs, v1_updates}
 
 -- a symref as plain data
@@ -49,38 +49,26 @@ pub record ReadsV1 (t : List Symref) (old new : Reading) (refs : List Ref) (upda
   pub failures : new.failures ≡ old.failures
   pub held : new.held ≡ old.held
 
--- the first refusal was at a line, and it and the lines before it are taken; those were none to refuse
-pub record V1LineRefused (t : List Symref) (old new : Reading) (e : Error) : Type 0 where
-  pub texts : List (List ℕ)
+-- the last of these lines is refused, and none before it
+pub record LastRefused (t : List Symref) (texts : List (List ℕ)) (refusal : RefsRefusal) : Type 0 where
+  pub before : List (List ℕ)
   pub text : List ℕ
-  pub read : SoFar old new (texts ++ text ∷ [])
-  pub before : (values : List RefValue) × (groups texts None t None ≡ Ok values)
-  pub refusal : RefsRefusal
-  pub line : groups (texts ++ text ∷ []) None t None ≡ Err refusal
-  pub first : IfSome old.to_come (λ p. v1_refs t (lines_ahead old p) ≡ Err refusal)
-  pub error : IsRefusal e refusal
+  pub split : texts ≡ before ++ text ∷ []
+  pub refs : (values : List RefValue) × (groups before None t None ≡ Ok values)
+  pub line : groups texts None t None ≡ Err refusal
 
--- the first refusal was the reader's, which it answers from then on
-pub record V1ReaderRefused (t : List Symref) (old new : Reading) (e : Error) : Type 0 where
-  pub refusal : Refusal
-  pub first : IfSome old.to_come (λ p. v1_refs t (lines_ahead old p) ≡ Err (refusal_from refusal))
-  pub refused : new.refused ≡ Some refusal
-  pub stopped : new.stopped ≡ None
-  pub version : new.version ≡ old.version
-  pub held : new.held ≡ old.held
-  pub error : parse_refusal e ≡ refusal_from refusal
-
--- there was no memory for a ref of the lines taken, perhaps behind the stop
-pub record V1NoMemory (old new : Reading) (e : Error) : Type 0 where
+-- an allocation failed behind the stop, for the ref of the last line
+pub record NoMemoryAtStop (old new : Reading) (e : Error) : Type 0 where
   pub texts : List (List ℕ)
   pub now : Reading
   pub read : SoFar old now texts
-  pub behind : (new ≡ now) ⊎ AtStop now new
+  pub at : AtStop now new
   pub error : e ≡ Memory
 
--- the first refusal of the lines to come, or something from outside
+-- the first refusal of the lines to come, or something from outside, which a plain reader has less of
 abbrev pub V1Fails : List Symref → Bool → Reading → Reading → Error → Type 0
-V1Fails t plain old new e = V1LineRefused t old new e ⊎ V1ReaderRefused t old new e ⊎ ReaderFailed plain old new e ⊎ V1NoMemory old new e
+V1Fails t plain old new e =
+    ReadFails parse_errors SoFar (λ now p r. v1_refs t (lines_ahead now p) ≡ Err r) (λ texts r _. LastRefused t texts r) plain old new e ⊎ NoMemoryAtStop old new e
 
 -- the symrefs are read before the first line, and then the lines
 abbrev pub GivesAdvertisement : List CapabilityValue → Reading → Reading → List Ref → List ShallowUpdate → Type 0

@@ -181,13 +181,13 @@ pub printed-refused : (plain : Bool) (old mid new : Reading) (text : List ℕ) (
 printed-refused plain old mid new text e h (inl k) = inl (record {
   why = k.refusal;
   first = printed_rest old mid text (Err k.refusal) h k.first;
-  by = inl (k.text, k.line);
+  by = inl (k.last.text, k.last.line);
   error = k.error;
 })
 printed-refused plain old mid new text e h (inr (inl k)) = inl (record {
   why = refusal_from k.refusal;
   first = printed_rest old mid text (Err (refusal_from k.refusal)) h k.first;
-  by = inr (k.refusal, k.refused, refl);
+  by = inr (k.refusal, k.refused.refused, refl);
   error = λ _. k.error;
 })
 printed-refused plain old mid new text e h (inr (inr (inl k))) = inr (record {

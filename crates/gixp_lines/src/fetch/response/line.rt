@@ -1,7 +1,6 @@
 //! Lines of answers (gitprotocol-v2, "fetch"; gitprotocol-pack, "Packfile Negotiation").
 ghost use Rattle.std.specs.Prelude.{◌≡◌, Some, None, Option};
 ghost use Rattle.std.specs.Option.{option_copied};
-ghost use Rattle.gixp_wire.specs.Capabilities.{is_text};
 ghost use Rattle.gixp_lines.specs.AnswerLine.{behind, is_word, described, acknowledged, acknowledgement_line, common_id, shallow_update_line, wanted_ref_line, wanted_value};
 ghost use Rattle.gixp_lines.specs.ResponseError.{IsRefusal, unknown_line, ReadsLine, ReadsOwned};
 
@@ -149,19 +148,13 @@ fn is_word(text: &[u8], word: &[u8]) -> bool
     }
 }
 
-pub(crate) fn is_same(text: &[u8], word: &[u8]) -> bool
-    ensures { result ≡ is_text text.now word.now }
-{
-    text == word
-}
-
 // What is said of an id.
 fn describe(id: ObjectId, description: &[u8]) -> Option<Acknowledgement>
     ensures { result ≡ described (Some id.bytes) description.now }
 {
-    if is_same(description, b"") || is_same(description, b" common") {
+    if description == b"".as_slice() || description == b" common".as_slice() {
         Some(Acknowledgement::Common(id))
-    } else if is_same(description, b" ready") {
+    } else if description == b" ready".as_slice() {
         Some(Acknowledgement::Ready)
     } else {
         None

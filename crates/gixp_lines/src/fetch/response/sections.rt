@@ -10,7 +10,7 @@ ghost use Rattle.gixp_lines.specs.declared.fetch.response.sections.Section.TheVa
 
 use crate::fetch::response::answer::Response;
 use crate::fetch::response::error::Error;
-use crate::fetch::response::line::{Acknowledgement, WantedRef, is_same, shallow_update_from_line};
+use crate::fetch::response::line::{Acknowledgement, WantedRef, shallow_update_from_line};
 use bstr::ByteSlice;
 use gixp_wire::{ExtendedBufRead, MessageKind, Protocol, read};
 use std::alloc::Global;
@@ -35,13 +35,13 @@ pub(crate) enum Header {
 fn header_of(text: &[u8]) -> Option<Header>
     ensures { result ≡ header_of text.now }
 {
-    if is_same(text, b"acknowledgments") {
+    if text == b"acknowledgments".as_slice() {
         Some(Header::Of(Section::Acknowledgments))
-    } else if is_same(text, b"shallow-info") {
+    } else if text == b"shallow-info".as_slice() {
         Some(Header::Of(Section::ShallowInfo))
-    } else if is_same(text, b"wanted-refs") {
+    } else if text == b"wanted-refs".as_slice() {
         Some(Header::Of(Section::WantedRefs))
-    } else if is_same(text, b"packfile") {
+    } else if text == b"packfile".as_slice() {
         Some(Header::Packfile)
     } else {
         None

@@ -23,17 +23,11 @@ pub(crate) struct Attributes<'a> {
     peeled: Option<ObjectId>,
 }
 
-pub(super) fn is_same(text: &[u8], word: &[u8]) -> bool
-    ensures { result ≡ is_text text.now word.now }
-{
-    text == word
-}
-
 // Whether a target is the word for none.
 pub(super) fn is_null(target: &[u8]) -> bool
     ensures { result ≡ is_text target.now (codes "(null)") }
 {
-    is_same(target, b"(null)")
+    target == b"(null)".as_slice()
 }
 
 #[inline(always)]
@@ -84,7 +78,7 @@ fn read_attribute<'a>(
     if value.is_empty() {
         return Err(malformed(alloc, line));
     }
-    if is_same(name, b"peeled") {
+    if name == b"peeled".as_slice() {
         match read_id(value) {
             Ok(id) => Ok(Attributes {
                 symref_target: had.symref_target,
@@ -92,7 +86,7 @@ fn read_attribute<'a>(
             }),
             Err(e) => Err(e),
         }
-    } else if is_same(name, b"symref-target") {
+    } else if name == b"symref-target".as_slice() {
         Ok(Attributes {
             symref_target: Some(value),
             peeled: had.peeled,
@@ -134,7 +128,7 @@ fn read_attributes<'a>(
 fn read_first(text: &[u8]) -> Result<Option<ObjectId>, Error>
     ensures { Answers object_of (first_piece text.now) result }
 {
-    if is_same(text, b"unborn") {
+    if text == b"unborn".as_slice() {
         return Ok(None);
     }
     match read_id(text) {

@@ -10,7 +10,7 @@ ghost use Rattle.gixp_wire.specs.Cut.{cut};
 ghost use Rattle.gixp_lines.specs.RefAdvertisement.{symref_in, symref_by, made_symref, symref_named, told_target, TellAlike, symref_table};
 ghost use Rattle.gixp_lines.specs.V1Refs.{symref_value, symref_values, name_cmp, symrefs_in};
 
-use crate::handshake::refs::line::{is_null, is_same};
+use crate::handshake::refs::line::is_null;
 use crate::handshake::refs::parse::Error;
 use bstr::BString;
 use gixp_wire::text::cut;
@@ -65,7 +65,7 @@ pub(crate) fn read_symref(
 ) -> Result<Option<Symref>, Error>
     ensures { Answers (option_map symref_value) (symref_in (capability_value capability.entry)) result }
 {
-    if !is_same(capability.name().as_bytes(), b"symref") {
+    if capability.name().as_bytes() != b"symref".as_slice() {
         return Ok(None);
     }
     match capability.value() {

@@ -11,7 +11,7 @@ ghost use Rattle.gixp_lines.specs.V1Line.{line_of, named_value, so_far_value, no
 
 use crate::fetch::response::ShallowUpdate;
 use crate::handshake::Ref;
-use crate::handshake::refs::line::{is_same, read_id};
+use crate::handshake::refs::line::read_id;
 use crate::handshake::refs::parse::{Error, Invariant};
 use crate::handshake::refs::symrefs::{Targets, is_symref, target_of};
 use crate::trim::trim_end;
@@ -57,7 +57,7 @@ fn is_zeros(text: &[u8]) -> bool
 fn peeled_line<'a>(left: &'a [u8], base: &'a [u8]) -> Line<'a>
     ensures { line_of result ≡ peeled_line left.now base.now }
 {
-    if is_zeros(left) && is_same(base, b"capabilities") {
+    if is_zeros(left) && base == b"capabilities".as_slice() {
         Line::Nothing
     } else {
         Line::Peeled { left, base }
@@ -71,7 +71,7 @@ fn read_plain<'a>(left: &[u8], path: &'a [u8]) -> Result<Line<'a>, Error>
     match id_in(left) {
         Ok(object) => Ok(Line::Named { object, name: path }),
         Err(e) => {
-            if !is_same(left, b"shallow") {
+            if left != b"shallow".as_slice() {
                 return Err(Error::Id(e));
             }
             match read_id(path) {
@@ -143,7 +143,7 @@ fn make_pair(targets: &Targets, line: RefLine, left: &[u8], base: &[u8]) -> Resu
             message: Invariant::PeeledAlone,
         });
     }
-    if !is_same(line.name.as_bytes(), base) {
+    if line.name.as_bytes() != base {
         return Err(Error::InvariantViolation {
             message: Invariant::PeeledElsewhere,
         });
