@@ -1,7 +1,7 @@
 -- The text of a shallow boundary, as git keeps it: a line of 40 digits for each id.
-use Rattle.std.specs.Prelude.{◌≡◌, ℕ, ◌==◌, ⊤, if◌then◌else◌, List, [], ◌∷◌, ◌++◌, None, Some, IsSome}
+use Rattle.std.specs.Prelude.{◌≡◌, ℕ, ◌==◌, ⊤, if◌then◌else◌, List, [], ◌∷◌, ◌++◌, length, None, Some, IsSome}
 use Rattle.std.specs.List.{All, AllZip}
-use Rattle.hex.specs.Hex.{encode_lower}
+use Rattle.hex.specs.Hex.{encode_lower, IsBytes}
 use Rattle.bstr.specs.Owned.{bstring_bytes}
 use Rattle.gixp_wire.specs.ObjectId.{id_of}
 use Rattle.gixp_wire.specs.declared.object_id.ObjectId.{ObjectId}
@@ -52,3 +52,7 @@ Unread text (Decode found) = (before : List (List ℕ)) × (line : List ℕ) × 
 Unread text Memory = ⊤
 Unread text (Io kind) = ⊥
 Unread text Locked = ⊥
+
+-- an id is 20 bytes
+abbrev pub IsId : ObjectId → Type 0
+IsId id = (length id.bytes ≡ 20) × IsBytes id.bytes

@@ -46,7 +46,12 @@ fn sends_one_flush_packet_when_dropped(rt: HostRuntime) -> Result<(), Fail> {
             guard.indicate_end_of_interaction()?;
         }
         drop(guard);
-        assert_eq!(rt; bytes.as_slice(), b"0000".as_slice(), "{calls}");
+        // A drop tells of no failure.
+        assert_eq!(rt;
+            bytes.as_slice(),
+            b"0000".as_slice(),
+            "{calls}, without an AllocError"
+        );
     }
     Ok(())
 }

@@ -3,6 +3,8 @@
 #![tactic(auto)]
 
 #[cfg(test)]
+mod commons;
+#[cfg(test)]
 mod repository;
 #[cfg(test)]
 mod texts;
