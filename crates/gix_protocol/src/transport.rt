@@ -1,4 +1,5 @@
 //! Streams, and the lines and bands on them.
+pub use gixp_progress::Discard;
 pub use gixp_sidebands::{BandText, Interrupt, InterruptFlag, NeverInterrupt, WithSidebands};
 pub use gixp_wire::{
     Account, Bodies, Body, Capabilities, Capability, CapabilityIter, Connection, ExtendedBufRead,

@@ -4,7 +4,7 @@
 //! where the fetch is made again for each proper beginning of the bytes. The payload is a script, as `scripts` says, and
 //! the bytes. The report has the error of the first call that is refused, or what the fetch returned; then the pack, how
 //! often the lock was had and released, the boundary, what stands in the transport, and the bytes that were sent.
-ghost use Rattle.std.specs.Prelude.{◌≡◌, None};
+ghost use Rattle.std.specs.Prelude.{◌≡◌};
 ghost use Rattle.gixp_fetch.specs.Store.{IsStoreRefusal};
 
 use crate::device::Device;
@@ -28,10 +28,11 @@ use gixp_handshake::handshake::{handshake, obtain};
 use gixp_negotiate::negotiate::Round;
 use gixp_negotiate::negotiate::negotiation::{NegotiateContext, Negotiation};
 use gixp_negotiate::negotiate::plain::{HaveList, NoObjects, NoRefs};
+use gixp_progress::Discard;
 use gixp_refmap::RefMap;
 use gixp_refmap::refmap::init;
 use gixp_requests::command::Feature;
-use gixp_wire::{NestedProgress, ObjectId, Progress, Service, Transport};
+use gixp_wire::{ObjectId, Service, Transport};
 use std::alloc::{AllocError, Global};
 use std::io::ErrorKind;
 use std::mem;
@@ -123,40 +124,6 @@ impl ShallowStore for Shop {
     }
 }
 
-// Nobody looks.
-#[derive(Drop)]
-struct NoProgress;
-
-impl Progress for NoProgress {
-    ghost told = { λ old call new. Unit {0} };
-
-    ghost name_of = { λ p. None };
-
-    fn init(&mut self, _max: Option<usize>, _unit: &'static str) {}
-
-    fn step(&mut self) {}
-
-    fn set(&mut self, _step: usize) {}
-
-    fn set_name(&mut self, _name: String) {}
-
-    fn name(&self) -> Option<&str> {
-        None
-    }
-
-    fn fail(&mut self, _message: String) {}
-}
-
-impl NestedProgress for NoProgress {
-    type SubProgress = NoProgress;
-
-    ghost adds = { λ old name id child new. Unit {0} };
-
-    fn add_child_with_id(&mut self, _name: &str, _id: [u8; 4]) -> Result<NoProgress, AllocError> {
-        Ok(NoProgress)
-    }
-}
-
 fn agent(alloc: Global) -> Result<Feature, AllocError> {
     Ok(("agent", Some(String::from_str(alloc, "git/oxide")?)))
 }
@@ -199,7 +166,7 @@ fn report_result(
 }
 
 // A fetch over this ref map, by this consumer.
-fn fetch_by<T: Transport, C: ConsumePack<NoProgress, Error = CopyError>>(
+fn fetch_by<T: Transport, C: ConsumePack<Discard, Error = CopyError>>(
     alloc: Global,
     script: &mut Script<'_>,
     hands: &mut Handshake,
@@ -226,7 +193,7 @@ fn fetch_by<T: Transport, C: ConsumePack<NoProgress, Error = CopyError>>(
         alloc,
         &mut negotiation,
         consumer,
-        &mut NoProgress,
+        &mut Discard,
         &mut once,
         agent(alloc)?,
         Context {
@@ -303,7 +270,7 @@ fn obtain_map<T: Transport>(
         &script.table,
         agent,
         context,
-        &mut NoProgress,
+        &mut Discard,
         transport,
     ) {
         Ok(map) => Ok(Some(map)),
@@ -328,7 +295,7 @@ fn shake<T: Transport>(
         Service::UploadPack,
         |_action| Ok(None),
         Vec::new(alloc),
-        &mut NoProgress,
+        &mut Discard,
     ) {
         Ok(found) => Ok(Some(found)),
         Err(e) => {
