@@ -113,10 +113,8 @@ impl WantedRef {
             Ok(id) => id,
             Err(_) => return Err(unknown_line(alloc, line)),
         };
-        match BString::from_slice(alloc, path) {
-            Ok(path) => Ok(WantedRef { id, path }),
-            Err(_) => Err(Error::Memory),
-        }
+        let path = BString::from_slice(alloc, path)?;
+        Ok(WantedRef { id, path })
     }
 }
 

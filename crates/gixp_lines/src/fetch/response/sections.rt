@@ -97,25 +97,17 @@ fn add_acknowledgement(alloc: Global, line: &str, answer: &mut Response) -> Resu
 fn add_shallow_update(alloc: Global, line: &str, answer: &mut Response) -> Result<(), Error>
     ensures { Adds (or_refused (unknown_line line.now) (item_of ShallowInfo line.now)) answer.old answer.new result }
 {
-    match shallow_update_from_line(alloc, line) {
-        Ok(found) => match answer.push_shallow_update(found) {
-            Ok(()) => Ok(()),
-            Err(_) => Err(Error::Memory),
-        },
-        Err(e) => Err(e),
-    }
+    let found = shallow_update_from_line(alloc, line)?;
+    answer.push_shallow_update(found)?;
+    Ok(())
 }
 
 fn add_wanted_ref(alloc: Global, line: &str, answer: &mut Response) -> Result<(), Error>
     ensures { Adds (or_refused (unknown_line line.now) (item_of WantedRefs line.now)) answer.old answer.new result }
 {
-    match WantedRef::from_line(alloc, line) {
-        Ok(found) => match answer.push_wanted_ref(found) {
-            Ok(()) => Ok(()),
-            Err(_) => Err(Error::Memory),
-        },
-        Err(e) => Err(e),
-    }
+    let found = WantedRef::from_line(alloc, line)?;
+    answer.push_wanted_ref(found)?;
+    Ok(())
 }
 
 // What a line in a section adds to the answer.

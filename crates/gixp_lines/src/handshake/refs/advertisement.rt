@@ -31,14 +31,9 @@ pub fn from_v1_refs_received_as_part_of_handshake_and_capabilities<R: ExtendedBu
     ensures held { (R.reading in_refs.new).held ≡ (R.reading in_refs.old).held }
     ensures version { (R.reading in_refs.new).version ≡ (R.reading in_refs.old).version }
 {
-    let symrefs = match from_capabilities(alloc, capabilities) {
-        Ok(symrefs) => symrefs,
-        Err(e) => return Err(e),
-    };
-    match by_name(alloc, symrefs) {
-        Ok(targets) => read_v1(alloc, in_refs, &targets),
-        Err(_) => Err(parse::Error::Memory),
-    }
+    let symrefs = from_capabilities(alloc, capabilities)?;
+    let targets = by_name(alloc, symrefs)?;
+    read_v1(alloc, in_refs, &targets)
 }
 
 // The refs and the updates of the lines, by the symrefs.

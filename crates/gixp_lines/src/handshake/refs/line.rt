@@ -34,10 +34,7 @@ pub(super) fn is_null(target: &[u8]) -> bool
 pub(super) fn read_id(text: &[u8]) -> Result<ObjectId, Error>
     ensures { Answers (λ (id : ObjectId). id.bytes) (id_value text.now) result }
 {
-    match ObjectId::from_hex(text) {
-        Ok(id) => Ok(id),
-        Err(e) => Err(Error::Id(e)),
-    }
+    Ok(ObjectId::from_hex(text)?)
 }
 
 fn malformed(alloc: Global, line: &[u8]) -> Error
@@ -79,13 +76,11 @@ fn read_attribute<'a>(
         return Err(malformed(alloc, line));
     }
     if name == b"peeled".as_slice() {
-        match read_id(value) {
-            Ok(id) => Ok(Attributes {
-                symref_target: had.symref_target,
-                peeled: Some(id),
-            }),
-            Err(e) => Err(e),
-        }
+        let id = read_id(value)?;
+        Ok(Attributes {
+            symref_target: had.symref_target,
+            peeled: Some(id),
+        })
     } else if name == b"symref-target".as_slice() {
         Ok(Attributes {
             symref_target: Some(value),
@@ -131,10 +126,7 @@ fn read_first(text: &[u8]) -> Result<Option<ObjectId>, Error>
     if text == b"unborn".as_slice() {
         return Ok(None);
     }
-    match read_id(text) {
-        Ok(id) => Ok(Some(id)),
-        Err(e) => Err(e),
-    }
+    Ok(Some(read_id(text)?))
 }
 
 // The ref of an id, a name and attributes.
@@ -149,10 +141,7 @@ fn make_born(
 {
     let target = match had.symref_target {
         Some(target) if is_null(target) => None,
-        Some(target) => match BString::from_slice(alloc, target) {
-            Ok(target) => Some(target),
-            Err(_) => return Err(Error::Memory),
-        },
+        Some(target) => Some(BString::from_slice(alloc, target)?),
         None => None,
     };
     match (target, had.peeled) {
@@ -186,15 +175,13 @@ fn make_unborn(alloc: Global, full_ref_name: BString, had: Attributes<'_>) -> Re
 {
     let message = match (had.symref_target, had.peeled) {
         (Some(target), _) if is_null(target) => Invariant::UnbornNullTarget,
-        (Some(target), _) => match BString::from_slice(alloc, target) {
-            Ok(target) => {
-                return Ok(Ref::Unborn {
-                    full_ref_name,
-                    target,
-                });
-            }
-            Err(_) => return Err(Error::Memory),
-        },
+        (Some(target), _) => {
+            let target = BString::from_slice(alloc, target)?;
+            return Ok(Ref::Unborn {
+                full_ref_name,
+                target,
+            });
+        }
         (None, Some(_)) => Invariant::UnbornTag,
         (None, None) => Invariant::UnbornObject,
     };

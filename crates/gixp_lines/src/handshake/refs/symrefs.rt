@@ -34,17 +34,12 @@ fn malformed(alloc: Global, symref: &[u8]) -> Error
 fn make_symref(alloc: Global, name: &[u8], target: &[u8]) -> Result<Symref, Error>
     ensures { Answers symref_value (made_symref name.now target.now) result }
 {
-    let name = match BString::from_slice(alloc, name) {
-        Ok(name) => name,
-        Err(_) => return Err(Error::Memory),
-    };
+    let name = BString::from_slice(alloc, name)?;
     if is_null(target) {
         return Ok((name, None));
     }
-    match BString::from_slice(alloc, target) {
-        Ok(target) => Ok((name, Some(target))),
-        Err(_) => Err(Error::Memory),
-    }
+    let target = BString::from_slice(alloc, target)?;
+    Ok((name, Some(target)))
 }
 
 // The symref of a value of a capability `symref`.
@@ -70,10 +65,7 @@ pub(crate) fn read_symref(
     }
     match capability.value() {
         None => Ok(None),
-        Some(value) => match read_value(alloc, value.as_bytes()) {
-            Ok(symref) => Ok(Some(symref)),
-            Err(e) => Err(e),
-        },
+        Some(value) => Ok(Some(read_value(alloc, value.as_bytes())?)),
     }
 }
 
@@ -86,10 +78,7 @@ pub(crate) fn by_name(alloc: Global, mut symrefs: Vec<Symref>) -> Result<Targets
 {
     let mut targets = BTreeMap::new(alloc);
     while let Some((name, target)) = symrefs.pop() {
-        match put(&mut targets, name, target) {
-            Ok(()) => {}
-            Err(e) => return Err(e),
-        }
+        put(&mut targets, name, target)?;
     }
     Ok(targets)
 }
@@ -98,10 +87,8 @@ pub(crate) fn by_name(alloc: Global, mut symrefs: Vec<Symref>) -> Result<Targets
 fn put(targets: &mut Targets, name: BString, target: Option<BString>) -> Result<(), AllocError>
     ensures { OnOk result (targets.new.entries ≡ insert_entry name_cmp targets.old.entries name target) }
 {
-    match targets.insert(name, target) {
-        Ok(_) => Ok(()),
-        Err(_) => Err(AllocError),
-    }
+    targets.insert(name, target)?;
+    Ok(())
 }
 
 // The target of the symref of this name, if there is one and it is told.

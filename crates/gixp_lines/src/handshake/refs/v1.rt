@@ -74,10 +74,7 @@ fn read_plain<'a>(left: &[u8], path: &'a [u8]) -> Result<Line<'a>, Error>
             if left != b"shallow".as_slice() {
                 return Err(Error::Id(e));
             }
-            match read_id(path) {
-                Ok(id) => Ok(Line::Shallow(id)),
-                Err(e) => Err(e),
-            }
+            Ok(Line::Shallow(read_id(path)?))
         }
     }
 }
@@ -123,15 +120,13 @@ fn make_single(targets: &Targets, line: RefLine) -> Result<Ref, Error>
             });
         }
     };
-    match target.clone() {
-        Ok(target) => Ok(Ref::Symbolic {
-            full_ref_name: line.name,
-            target,
-            tag: None,
-            object: line.object,
-        }),
-        Err(_) => Err(Error::Memory),
-    }
+    let target = target.clone()?;
+    Ok(Ref::Symbolic {
+        full_ref_name: line.name,
+        target,
+        tag: None,
+        object: line.object,
+    })
 }
 
 // The ref of a ref line and the peeled line behind it.
@@ -148,14 +143,12 @@ fn make_pair(targets: &Targets, line: RefLine, left: &[u8], base: &[u8]) -> Resu
             message: Invariant::PeeledElsewhere,
         });
     }
-    match read_id(left) {
-        Ok(object) => Ok(Ref::Peeled {
-            full_ref_name: line.name,
-            tag: line.object,
-            object,
-        }),
-        Err(e) => Err(e),
-    }
+    let object = read_id(left)?;
+    Ok(Ref::Peeled {
+        full_ref_name: line.name,
+        tag: line.object,
+        object,
+    })
 }
 
 // What the lines so far say: whole refs, a ref line that is open, and updates.
@@ -238,10 +231,7 @@ impl Advertised {
     {
         match self.last.take() {
             None => Ok(()),
-            Some(line) => match make_single(targets, line) {
-                Ok(found) => self.push(found),
-                Err(_) => Err(Error::Memory),
-            },
+            Some(line) => self.push(make_single(targets, line)?),
         }
     }
 
