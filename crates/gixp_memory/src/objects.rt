@@ -1,7 +1,10 @@
 //! Objects in memory.
-ghost use Rattle.std.specs.Prelude.{◌≡◌, IfOk, IfErr, option_map};
+ghost use Rattle.std.specs.Prelude.{◌≡◌, ◌-◌, ◌^◌, [], Some, IfOk, IfErr, OnOk, OnErr, option_map};
+ghost use Rattle.std.specs.BTreeMap.{insert_entry};
+ghost use Rattle.gixp_wire.specs.ObjectId.{id_cmp};
 ghost use Rattle.gixp_graph.specs.Object.{commit_of};
 ghost use Rattle.gixp_graph.specs.declared.objects.ObjectError.TheVariants.{Memory};
+ghost use Rattle.gixp_memory.specs.Memory.{stored_commit};
 
 use gixp_graph::{CommitData, ObjectError, ObjectKind, Objects};
 use gixp_wire::ObjectId;
@@ -35,7 +38,11 @@ pub struct MemoryObjects {
 
 impl MemoryObjects {
     /// No objects, and no call fails.
-    pub fn new(alloc: Global) -> MemoryObjects {
+    pub fn new(alloc: Global) -> MemoryObjects
+        ensures objects { result.objects.entries ≡ [] }
+        ensures looked_up { result.looked_up.items ≡ [] }
+        ensures calls { result.calls ≡ 2 ^ 64 - 1 }
+    {
         MemoryObjects {
             objects: BTreeMap::new(alloc),
             looked_up: Vec::new(alloc),
@@ -50,11 +57,12 @@ impl MemoryObjects {
     /// # Errors
     ///
     /// An allocation failure; nothing is added then.
-    pub fn add(&mut self, id: ObjectId, object: StoredObject) -> Result<(), AllocError> {
-        match self.objects.insert(id, object) {
-            Ok(_) => Ok(()),
-            Err(_) => Err(AllocError),
-        }
+    pub fn add(&mut self, id: ObjectId, object: StoredObject) -> Result<(), AllocError>
+        ensures added { OnOk result (self.new.objects.entries ≡ insert_entry id_cmp self.old.objects.entries id object) }
+        ensures failed { OnErr result (self.new.objects.entries ≡ self.old.objects.entries) }
+    {
+        self.objects.insert(id, object)?;
+        Ok(())
     }
 
     /// Adds a commit.
@@ -62,7 +70,10 @@ impl MemoryObjects {
     /// # Errors
     ///
     /// As `add`.
-    pub fn add_commit(&mut self, id: ObjectId, commit: CommitData) -> Result<(), AllocError> {
+    pub fn add_commit(&mut self, id: ObjectId, commit: CommitData) -> Result<(), AllocError>
+        ensures added { OnOk result (self.new.objects.entries ≡ insert_entry id_cmp self.old.objects.entries id (stored_commit commit)) }
+        ensures failed { OnErr result (self.new.objects.entries ≡ self.old.objects.entries) }
+    {
         let object = StoredObject {
             kind: Some(ObjectKind::Commit),
             commit: Some(commit),

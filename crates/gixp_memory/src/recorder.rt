@@ -1,5 +1,5 @@
 //! A negotiator that writes down what it is told.
-ghost use Rattle.std.specs.Prelude.{◌≡◌, ◌+◌, ◌≤◌, ◌⊎◌, ℕ, length, is_some, if◌then◌else◌, IfErr, OnErr, OnOk};
+ghost use Rattle.std.specs.Prelude.{◌≡◌, ◌+◌, ◌-◌, ◌^◌, ◌≤◌, ◌⊎◌, ℕ, [], length, reverse, is_some, if◌then◌else◌, IfErr, OnErr, OnOk};
 ghost use Rattle.gixp_graph.specs.Object.{HasRisen};
 ghost use Rattle.gixp_graph.specs.Negotiation.{IsRefusal};
 
@@ -25,7 +25,13 @@ pub struct Recorder {
 
 impl Recorder {
     /// Offers these ids in turn, and no call fails.
-    pub fn new(alloc: Global, haves: Vec<ObjectId>) -> Recorder {
+    pub fn new(alloc: Global, haves: Vec<ObjectId>) -> Recorder
+        ensures haves { result.haves.items ≡ reverse haves.items }
+        ensures known { result.known.items ≡ [] }
+        ensures tips { result.tips.items ≡ [] }
+        ensures common { result.common.items ≡ [] }
+        ensures calls { result.calls ≡ 2 ^ 64 - 1 }
+    {
         let mut haves = haves;
         haves.reverse();
         Recorder {

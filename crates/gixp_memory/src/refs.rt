@@ -1,5 +1,7 @@
 //! Refs in memory.
-ghost use Rattle.std.specs.Prelude.{◌≡◌};
+ghost use Rattle.std.specs.Prelude.{◌≡◌, [], None, OnOk, OnErr};
+ghost use Rattle.std.specs.BTreeMap.{insert_entry};
+ghost use Rattle.gixp_memory.specs.Memory.{name_cmp};
 
 use bstr::BStr;
 use gixp_graph::{RefStore, RefStoreError};
@@ -21,7 +23,11 @@ pub struct MemoryRefs {
 
 impl MemoryRefs {
     /// No refs.
-    pub fn new(alloc: Global) -> MemoryRefs {
+    pub fn new(alloc: Global) -> MemoryRefs
+        ensures names { result.names.entries ≡ [] }
+        ensures targets { result.targets.items ≡ [] }
+        ensures error { result.error ≡ None }
+    {
         MemoryRefs {
             names: BTreeMap::new(alloc),
             targets: Vec::new(alloc),
@@ -35,11 +41,12 @@ impl MemoryRefs {
     /// # Errors
     ///
     /// An allocation failure; nothing is added then.
-    pub fn add(&mut self, name: Vec<u8>, id: ObjectId) -> Result<(), AllocError> {
-        match self.names.insert(name, id) {
-            Ok(_) => Ok(()),
-            Err(_) => Err(AllocError),
-        }
+    pub fn add(&mut self, name: Vec<u8>, id: ObjectId) -> Result<(), AllocError>
+        ensures added { OnOk result (self.new.names.entries ≡ insert_entry name_cmp self.old.names.entries name id) }
+        ensures failed { OnErr result (self.new.names.entries ≡ self.old.names.entries) }
+    {
+        self.names.insert(name, id)?;
+        Ok(())
     }
 }
 
