@@ -1,5 +1,5 @@
 //! An answer that names commits as common that nobody sent.
-use crate::repository::{id, ref_map};
+use crate::repository::{had_memory, id, ref_map};
 use bstr::BString;
 use gixp_graph::Graph;
 use gixp_lines::fetch::Response;
@@ -72,7 +72,9 @@ fn takes_in_many_ids_that_nobody_sent(rt: HostRuntime) -> Result<(), Fail> {
     let mut asked = Arguments::new(alloc, &CommandTable::git(), Protocol::V2, Vec::new(alloc))?;
     let mut transport = nowhere(alloc)?;
     asked.send(&mut transport, true)?;
-    let Ok((round, is_last)) = negotiation.one_round(&mut state, &mut asked, Some(&common)) else {
+    let round = negotiation.one_round(&mut state, &mut asked, Some(&common));
+    had_memory(&round)?;
+    let Ok((round, is_last)) = round else {
         return Err("a round".into());
     };
     assert!(rt; round.previous_response_had_at_least_one_in_common);

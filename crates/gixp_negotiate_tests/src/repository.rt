@@ -3,6 +3,7 @@ use bstr::BString;
 use gixp_graph::CommitData;
 use gixp_lines::handshake::Ref;
 use gixp_memory::MemoryObjects;
+use gixp_negotiate::negotiate::Error;
 use gixp_refmap::refmap::{Mapping, RefMap, Source, SpecIndex};
 use gixp_wire::ObjectId;
 use std::alloc::{AllocError, Global};
@@ -43,4 +44,12 @@ pub(crate) fn ref_map(alloc: Global, numbers: &[u8]) -> Result<RefMap, AllocErro
         })?;
     }
     Ok(map)
+}
+
+/// Tells of an allocation that failed in a call.
+pub(crate) fn had_memory<T, E>(answer: &Result<T, Error<E>>) -> Result<(), AllocError> {
+    match answer {
+        Err(Error::Memory) => Err(AllocError),
+        _ => Ok(()),
+    }
 }

@@ -1,5 +1,5 @@
 //! What a call finds behind one that was refused.
-use crate::repository::{chain, id, ref_map};
+use crate::repository::{chain, had_memory, id, ref_map};
 use gixp_graph::{Flags, Graph, NegotiatorError, ObjectError, Objects, RefStoreError};
 use gixp_lines::fetch::Response;
 use gixp_memory::{MemoryObjects, MemoryRefs, Recorder};
@@ -79,11 +79,13 @@ fn marks_all_behind_a_look_that_failed(rt: HostRuntime) -> Result<(), Fail> {
         objects.error = ObjectError::Io(ErrorKind::TimedOut);
         let mut graph = Graph::new(alloc, objects);
         let first = decide(alloc, &mut graph, &mut refs, &map);
+        had_memory(&first)?;
         let Err(Error::LookupCommitInGraph(e)) = first else {
             return Err("no look failed".into());
         };
         assert_eq!(rt; e, ObjectError::Io(ErrorKind::TimedOut));
         let second = decide(alloc, &mut graph, &mut refs, &map);
+        had_memory(&second)?;
         assert!(rt; is_to_negotiate(&second));
         for number in 1..4u8 {
             assert!(rt; is_complete(&graph, number), "{looks} {number}");
@@ -110,17 +112,22 @@ fn takes_alternates_that_cannot_be_opened_once(rt: HostRuntime) -> Result<(), Fa
     };
     let mut negotiation = Negotiation::new(context, &map, &Shallow::NoChange, Tags::Included);
     let first = negotiation.mark_complete_and_common_ref(alloc);
+    had_memory(&first)?;
     let Err(Error::AlternateRefsAndObjects(reason)) = first else {
         return Err("alternates".into());
     };
     assert_eq!(rt; reason, 3);
     let second = negotiation.mark_complete_and_common_ref(alloc);
+    had_memory(&second)?;
     assert!(rt; is_to_negotiate(&second));
     let mut asked = arguments(alloc)?;
     let any = negotiation.add_wants(&mut asked, &[false]);
+    had_memory(&any)?;
     assert!(rt; any.is_ok_and(|any| any));
     let mut state = State::new(alloc, true);
-    let Ok((round, is_last)) = negotiation.one_round(&mut state, &mut asked, None) else {
+    let round = negotiation.one_round(&mut state, &mut asked, None);
+    had_memory(&round)?;
+    let Ok((round, is_last)) = round else {
         return Err("a round".into());
     };
     assert_eq!(rt;
@@ -151,6 +158,7 @@ fn lists_refs_again(rt: HostRuntime) -> Result<(), Fail> {
         };
         let mut negotiation = Negotiation::new(context, &map, &Shallow::Deepen(1), Tags::None);
         let action: Result<Action, Error<u8>> = negotiation.mark_complete_and_common_ref(alloc);
+        had_memory(&action)?;
         match action {
             Err(Error::IO(kind)) => assert_eq!(rt; (turn, kind), (0, ErrorKind::TimedOut)),
             Ok(_) => assert_eq!(rt; turn, 1),
@@ -188,6 +196,7 @@ fn keeps_the_window_of_a_refused_round(rt: HostRuntime) -> Result<(), Fail> {
         "0014acknowledgments\n0031ACK cccccccccccccccccccccccccccccccccccccccc\n0000",
     )?;
     let refused = negotiation.one_round(&mut state, &mut asked, Some(&common));
+    had_memory(&refused)?;
     assert!(rt;
         matches!(
             refused,
@@ -195,7 +204,9 @@ fn keeps_the_window_of_a_refused_round(rt: HostRuntime) -> Result<(), Fail> {
         )
     );
     assert_eq!(rt; (state.haves_to_send, copy.haves_to_send), (2, 2));
-    let Ok((round, is_last)) = negotiation.one_round(&mut state, &mut asked, Some(&common)) else {
+    let round = negotiation.one_round(&mut state, &mut asked, Some(&common));
+    had_memory(&round)?;
+    let Ok((round, is_last)) = round else {
         return Err("a round".into());
     };
     assert_eq!(rt; (round.haves_sent, round.in_vain, is_last), (2, 2, false));
