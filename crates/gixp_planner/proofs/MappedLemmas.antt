@@ -18,7 +18,7 @@ use Rattle.gixp_wire.specs.declared.bodies.Body.{Body}
 use Rattle.gixp_wire.specs.declared.bodies.Bodies.{Bodies}
 use Rattle.gixp_wire.specs.Bodies.{answer_of, bodies_held, bodies_reading, IsNewBodies}
 use Rattle.gixp_wire.specs.Pieces.{Pieces}
-use Rattle.gixp_wire.specs.Lines.{Lines, Ending, stop, lines_to}
+use Rattle.gixp_wire.specs.Lines.{Lines, stop, lines_to}
 use Rattle.gixp_wire.specs.TransportState.{TransportState, Answer}
 use Rattle.gixp_wire.specs.Reading.{Reading, lines_from_stop, lines_ahead}
 use Rattle.gixp_wire.specs.Greeting.{Parameter}
@@ -32,16 +32,15 @@ use Rattle.gixp_lines.specs.declared.fetch.response.line.ShallowUpdate.{ShallowU
 use Rattle.gixp_lines.specs.Ref.{RefValue, peeled, direct, symbolic, unborn, ref_value, unpacked_name, unpacked_target}
 use Rattle.gixp_lines.specs.Refs.{v2_refs, ReadsRefs}
 use Rattle.gixp_lines.specs.RefAdvertisement.{Symref, symref_table, groups}
-use Rattle.gixp_lines.specs.V1Refs.{ReadsV1, GivesAdvertisement}
-use Rattle.gixp_requests.specs.Command.{Table, git_table}
-use Rattle.gixp_requests.specs.Feature.{FeatureValue}
+use Rattle.gixp_lines.specs.V1Refs.{ReadsV1}
+use Rattle.gixp_requests.specs.Command.{git_table}
 use Rattle.gixp_refspec.specs.declared.spec.RefSpec.{RefSpec}
 use Rattle.gixp_refspec.specs.declared.match_group.validate.Fix.{Fix}
 use Rattle.gixp_refspec.specs.Spec.{Spec}
 use Rattle.gixp_refspec.specs.RefSpec.{owned_value_of}
 use Rattle.gixp_refspec.specs.Mappings.{Source as SourceValue, FullName, ObjectId as IdOf, Mapped}
 use Rattle.gixp_refspec.specs.Validation.{fixes, kept}
-use Rattle.gixp_refspec.specs.Validate.{removed_of, fixes_in}
+use Rattle.gixp_refspec.specs.Validate.{removed_of}
 use Rattle.gixp_refmap.specs.declared.refmap.mapping.Source.{Source}
 use Rattle.gixp_refmap.specs.declared.refmap.mapping.Source.TheVariants.{ObjectId as the_id, Ref as the_ref}
 use Rattle.gixp_refmap.specs.declared.refmap.mapping.Mapping.{Mapping}
@@ -54,8 +53,8 @@ use Rattle.gixp_refmap.specs.Mapping.{source_id, source_name, value_name, found_
 use Rattle.gixp_handshake.specs.declared.handshake.read.Handshake.{Handshake}
 use Rattle.gixp_handshake.specs.declared.handshake.ref_map.ObtainRefMap.{ObtainRefMap}
 use Rattle.gixp_handshake.specs.declared.handshake.ref_map.ObtainRefMap.TheVariants.{Existing, LsRefsCommand}
-use Rattle.gixp_handshake.specs.Shake.{Turn, Opened, Got, LogsIn, NoMemory, Denied, First, Opens, ReadsFirst, Keeps, GoesOn, Shakes, is_accepted}
-use Rattle.gixp_handshake.specs.Obtain.{prefixes_if, MakesMap, PreparesBy, ByList, ObtainsBy, Obtains}
+use Rattle.gixp_handshake.specs.Shake.{Turn, Opened, Got, NoMemory, Denied, First, Opens, ReadsFirst, Keeps, GoesOn, is_accepted}
+use Rattle.gixp_handshake.specs.Obtain.{prefixes_if, MakesMap, PreparesBy, ByList, ObtainsBy}
 use Rattle.gixp_planner.specs.Specs.{specs_of, IsContext}
 use Rattle.gixp_fetch.specs.declared.error.Error.{Error as FetchError}
 use Rattle.gixp_fetch.specs.declared.options.Outcome.{Outcome}
@@ -67,7 +66,7 @@ use Rattle.gixp_negotiate.specs.declared.negotiate.Round.{Round}
 use Rattle.gixp_handshake.specs.Taken.{without_refs}
 use Rattle.gixp_planner.specs.declared.error.PlanError.{PlanError}
 use Rattle.gixp_planner.specs.Refusal.{Refusal}
-use Rattle.gixp_planner.specs.Text.{joined, id_shown, name_shown, mapping_shown, removed_shown, fix_shown, map_shown, mapped_shown, requests_shown, end_shown, Course, course_shown}
+use Rattle.gixp_planner.specs.Text.{joined, id_shown, name_shown, mapping_shown, removed_shown, fix_shown, map_shown, mapped_shown, requests_shown, end_shown, Course}
 use Rattle.gixp_planner.specs.Session.{planner_agent, planner_call, AreUnanswered, Greets, MapsRefs, FetchesMapped, Runs, ungreeted, unmapped, fetched}
 use Rattle.gixp_planner.specs.PlannedText.{IsCourse, Shows}
 use Rattle.gixp_planner.specs.Mapped.{IsMapped, MappingsFollow, ShowsMapped}
