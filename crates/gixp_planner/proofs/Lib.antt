@@ -1,3 +1,4 @@
 pub mod ListLemmas
 pub mod PrintLemmas
 pub mod SessionLemmas
+pub mod MappedLemmas

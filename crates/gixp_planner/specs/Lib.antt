@@ -4,3 +4,4 @@ pub mod Specs
 pub mod Text
 pub mod Session
 pub mod PlannedText
+pub mod Mapped

@@ -3,6 +3,7 @@
 
 mod error;
 mod haves;
+pub mod laws;
 mod names;
 mod planning;
 mod print;

@@ -3,6 +3,7 @@ ghost use Rattle.std.specs.Prelude.{◌≡◌, [], true, false, map, Ok, IfOk, I
 ghost use Rattle.bstr.specs.Owned.{bstring_bytes};
 ghost use Rattle.gixp_planner.specs.Session.{FetchesMapped};
 ghost use Rattle.gixp_planner.specs.PlannedText.{PlannedText, IsOutcome};
+ghost use Rattle.gixp_planner.specs.Mapped.{ShowsMapped};
 
 use crate::error::PlanError;
 use crate::print::write_course;
@@ -13,6 +14,7 @@ use bstr::BString;
 use gix_protocol::fetch::negotiate::{Graph, Negotiate, Negotiation, Negotiator, NoRefs, Objects};
 use gix_protocol::fetch::{ConsumePack, ReadToEnd, Shallow, ShallowMemory, ShallowStore, Tags};
 use gix_protocol::transport::{Bodies, Body, Interrupt, NeverInterrupt};
+use gixp_fetch::laws::sessions_are_bounded;
 use std::alloc::{AllocError, Global};
 use std::io::Write;
 
@@ -42,6 +44,9 @@ fn outcome(written: Result<(), PlanError>, ended: Result<bool, PlanError>) -> Re
 /// `fix LOCAL REFSPEC` for each that was taken out. Then `pack`, or `nothing` where there was nothing to ask for. All is
 /// written behind the session, a line at a time, and the writer is flushed: hand in one that is buffered.
 ///
+/// The requests up to the ref map, the mappings and those taken out are a function of the bodies and the refspecs alone
+/// ([`mappings_follow_bodies`](crate::laws::mappings_follow_bodies)).
+///
 /// # Errors
 ///
 /// `spec` with the variant of a refspec's error, and `file Memory` where no transport can be made: nothing is written then.
@@ -57,7 +62,7 @@ pub fn plan<'a, O: Objects, G: Objects, N: Negotiator, W: Write>(
     specs: &[BString],
     writer: &mut W,
 ) -> Result<(), PlanError>
-    ensures { PlannedText
+    ensures text { PlannedText
         (λ m h old new r. FetchesMapped
         (record {
           office = record { count = ⟦<Negotiation<'a, O, NoRefs, N, G, AllocError> as Negotiate>⟧.count; marks = ⟦<Negotiation<'a, O, NoRefs, N, G, AllocError> as Negotiate>⟧.marks; adds = ⟦<Negotiation<'a, O, NoRefs, N, G, AllocError> as Negotiate>⟧.adds; goes = ⟦<Negotiation<'a, O, NoRefs, N, G, AllocError> as Negotiate>⟧.goes; marking_fails = ⟦<Negotiation<'a, O, NoRefs, N, G, AllocError> as Negotiate>⟧.marking_fails; adding_fails = ⟦<Negotiation<'a, O, NoRefs, N, G, AllocError> as Negotiate>⟧.adding_fails; round_fails = ⟦<Negotiation<'a, O, NoRefs, N, G, AllocError> as Negotiate>⟧.round_fails };
@@ -69,7 +74,15 @@ pub fn plan<'a, O: Objects, G: Objects, N: Negotiator, W: Write>(
         (λ n. (n.objects.now ≡ objects.now) × (n.graph.now ≡ graph.old) × (n.negotiator.now ≡ negotiator.old) × (n.ref_map.now ≡ m) × (n.shallow.now ≡ Shallow.NoChange) × (n.tags ≡ Tags.None) × IfOk n.alternates (λ a. a.now ≡ []) × IsOk n.alternates)
         (λ s. (s.ids.items ≡ []) × (s.locked ≡ false)) h old new r)
         bodies.items (map bstring_bytes specs.now) (W.contents writer.old) (W.contents writer.new) result }
+    ensures mapped { IfOk result (λ _. ShowsMapped bodies.items (map bstring_bytes specs.now) (W.contents writer.old) (W.contents writer.new)) }
 {
+    sessions_are_bounded::<
+        Negotiation<'a, O, NoRefs, N, G, AllocError>,
+        ShallowMemory,
+        NeverInterrupt,
+        Quiet,
+        ReadToEnd,
+    >();
     let context = match read_specs(alloc, specs) {
         Ok(context) => context,
         Err(e) => return Err(e),

@@ -1,0 +1,615 @@
+-- Two sessions over the same bodies: each step leaves readers of which the same is to come, and which hold the same.
+use Rattle.std.proofs.Common.{◌≡◌, ◌⊎◌, ℕ, Bool, true, false, List, [], ◌∷◌, ◌++◌, map, flat_map, codes, Option, Some, None, Vec, Result, Ok, Err, IfSome, inl, inr, refl, sym, ap, ◌∙◌, subst, append_assoc, append-nil}
+use Rattle.std.specs.Prelude.{IfOk, IsOk}
+use Rattle.std.specs.Io.KnownBytes.{Appends}
+use Rattle.std.specs.List.{AllZip, slice_get}
+use Rattle.std.specs.Option.{option_map}
+use Rattle.std.specs.declared.alloc.Global.{Global}
+use Rattle.bstr.specs.Owned.{bstring_bytes}
+use Rattle.hex.specs.Hex.{encode_lower}
+use Rattle.gixp_wire.specs.declared.protocol.Protocol.{Protocol}
+use Rattle.gixp_wire.specs.declared.protocol.MessageKind.{MessageKind}
+use Rattle.gixp_wire.specs.declared.service.Service.{Service}
+use Rattle.gixp_wire.specs.declared.service.Service.TheVariants.{UploadPack}
+use Rattle.gixp_wire.specs.declared.service.SetServiceResponse.{SetServiceResponse}
+use Rattle.gixp_wire.specs.declared.client.Error.{Error as client_error}
+use Rattle.gixp_wire.specs.declared.client.Error.TheVariants as client
+use Rattle.gixp_wire.specs.declared.bodies.Body.{Body}
+use Rattle.gixp_wire.specs.declared.bodies.Bodies.{Bodies}
+use Rattle.gixp_wire.specs.Bodies.{answer_of, bodies_held, bodies_reading, IsNewBodies}
+use Rattle.gixp_wire.specs.Pieces.{Pieces}
+use Rattle.gixp_wire.specs.Lines.{Lines, stop, lines_to}
+use Rattle.gixp_wire.specs.TransportState.{TransportState, Answer}
+use Rattle.gixp_wire.specs.Reading.{Reading, lines_from_stop, lines_ahead}
+use Rattle.gixp_wire.specs.Greeting.{Parameter}
+use Rattle.gixp_wire.specs.Handshake.{Handshakes, HandshakesBy}
+use Rattle.gixp_wire.specs.Capabilities.{CapabilityValue}
+use Rattle.gixp_wire.specs.CapabilityAdvertisement.{Advertised, advertisement, ReadsAdvertisement}
+use Rattle.gixp_wire.specs.Transport.{TakesAnswer, SentBy, FailsBy, Sends, entered, with_written, first_answer, later_answers, answer_pieces}
+use Rattle.gixp_lines.specs.declared.handshake.Ref.{Ref}
+use Rattle.gixp_lines.specs.declared.handshake.Ref.TheVariants.{Peeled, Direct, Symbolic, Unborn}
+use Rattle.gixp_lines.specs.declared.fetch.response.line.ShallowUpdate.{ShallowUpdate}
+use Rattle.gixp_lines.specs.Ref.{RefValue, peeled, direct, symbolic, unborn, ref_value, unpacked_name, unpacked_target}
+use Rattle.gixp_lines.specs.Refs.{v2_refs, ReadsRefs}
+use Rattle.gixp_lines.specs.RefAdvertisement.{Symref, symref_table, groups}
+use Rattle.gixp_lines.specs.V1Refs.{ReadsV1}
+use Rattle.gixp_requests.specs.Command.{git_table}
+use Rattle.gixp_refspec.specs.declared.spec.RefSpec.{RefSpec}
+use Rattle.gixp_refspec.specs.declared.match_group.validate.Fix.{Fix}
+use Rattle.gixp_refspec.specs.Spec.{Spec}
+use Rattle.gixp_refspec.specs.RefSpec.{owned_value_of}
+use Rattle.gixp_refspec.specs.Mappings.{Source as SourceValue, FullName, ObjectId as IdOf, Mapped}
+use Rattle.gixp_refspec.specs.Validation.{fixes, kept}
+use Rattle.gixp_refspec.specs.Validate.{removed_of}
+use Rattle.gixp_refmap.specs.declared.refmap.mapping.Source.{Source}
+use Rattle.gixp_refmap.specs.declared.refmap.mapping.Source.TheVariants.{ObjectId as the_id, Ref as the_ref}
+use Rattle.gixp_refmap.specs.declared.refmap.mapping.Mapping.{Mapping}
+use Rattle.gixp_refmap.specs.declared.refmap.map.RefMap.{RefMap}
+use Rattle.gixp_refmap.specs.declared.refmap.init.Context.{Context}
+use Rattle.gixp_refmap.specs.declared.refmap.init.Error.{Error as map_error}
+use Rattle.gixp_refmap.specs.declared.ls_refs.error.Error.{Error as list_error}
+use Rattle.gixp_refmap.specs.Listing.{Listing, listing, listing_of, Listed, Lists as ListsRefs}
+use Rattle.gixp_refmap.specs.Mapping.{source_id, source_name, value_name, found_in, IsRemote, IsMapping, AnswersBy, unknown_format, joined_specs}
+use Rattle.gixp_handshake.specs.declared.handshake.read.Handshake.{Handshake}
+use Rattle.gixp_handshake.specs.declared.handshake.ref_map.ObtainRefMap.{ObtainRefMap}
+use Rattle.gixp_handshake.specs.declared.handshake.ref_map.ObtainRefMap.TheVariants.{Existing, LsRefsCommand}
+use Rattle.gixp_handshake.specs.Shake.{Turn, Opened, Got, NoMemory, Denied, First, Opens, ReadsFirst, Keeps, GoesOn, is_accepted}
+use Rattle.gixp_handshake.specs.Obtain.{prefixes_if, MakesMap, PreparesBy, ByList, ObtainsBy}
+use Rattle.gixp_planner.specs.Specs.{specs_of, IsContext}
+use Rattle.gixp_fetch.specs.declared.error.Error.{Error as FetchError}
+use Rattle.gixp_fetch.specs.declared.options.Outcome.{Outcome}
+use Rattle.gixp_fetch.specs.Session.{Office}
+use Rattle.gixp_fetch.specs.Sessions.{Another, Requests, HoldsSession}
+use Rattle.gixp_fetch.specs.Fetch.{World, Parties}
+use Rattle.gixp_fetch.specs.Fetched.{Call, Fetches}
+use Rattle.gixp_negotiate.specs.declared.negotiate.Round.{Round}
+use Rattle.gixp_handshake.specs.Taken.{without_refs}
+use Rattle.gixp_planner.specs.declared.error.PlanError.{PlanError}
+use Rattle.gixp_planner.specs.Refusal.{Refusal}
+use Rattle.gixp_planner.specs.Text.{joined, id_shown, name_shown, mapping_shown, removed_shown, fix_shown, map_shown, mapped_shown, requests_shown, end_shown, Course}
+use Rattle.gixp_planner.specs.Session.{planner_agent, planner_call, AreUnanswered, Greets, MapsRefs, FetchesMapped, Runs, ungreeted, unmapped, fetched}
+use Rattle.gixp_planner.specs.PlannedText.{IsCourse, Shows}
+use Rattle.gixp_planner.specs.Mapped.{IsMapped, MappingsFollow, ShowsMapped}
+
+-- ---- what is printed of a ref map, by the values of its refs
+
+abbrev value_id : RefValue → Option (List ℕ)
+value_id (peeled name tag object) = Some tag
+value_id (direct name object) = Some object
+value_id (symbolic name target None object) = Some object
+value_id (symbolic name target (Some tag) object) = Some tag
+value_id (unborn name target) = None
+
+abbrev bytes_shown : Option (List ℕ) → List ℕ
+bytes_shown (Some id) = encode_lower id
+bytes_shown None = codes "unborn"
+
+abbrev id_at : Option RefValue → List ℕ
+id_at (Some v) = bytes_shown (value_id v)
+id_at None = []
+
+abbrev name_at : Option RefValue → List ℕ
+name_at (Some v) = value_name v
+name_at None = []
+
+abbrev id_text : List RefValue → Option ℕ → SourceValue → List ℕ
+id_text refs (Some i) source = id_at (slice_get refs i)
+id_text refs None (FullName name) = []
+id_text refs None (IdOf bytes) = encode_lower bytes
+
+abbrev name_text : List RefValue → Option ℕ → List ℕ
+name_text refs (Some i) = name_at (slice_get refs i)
+name_text refs None = codes "-"
+
+abbrev mapped_text : List RefValue → Mapped → List ℕ
+mapped_text refs m = joined (codes "map " ∷ id_text refs m.item m.source ∷ codes " " ∷ name_text refs m.item ∷ codes " " ∷ name_shown m.local ∷ codes "\n" ∷ [])
+
+abbrev map_text : List Spec → List RefValue → List ℕ
+map_text specs refs = flat_map (mapped_text refs) (kept (found_in specs refs)) ++ flat_map removed_shown (fixes specs (found_in specs refs))
+
+ref-id : (r : Ref) → id_shown (unpacked_target r) ≡ bytes_shown (value_id (ref_value r))
+ref-id (Peeled name tag object) = refl
+ref-id (Direct name object) = refl
+ref-id (Symbolic name target None object) = refl
+ref-id (Symbolic name target (Some tag) object) = refl
+ref-id (Unborn name target) = refl
+
+ref-name : (r : Ref) → unpacked_name r ≡ value_name (ref_value r)
+ref-name (Peeled name tag object) = refl
+ref-name (Direct name object) = refl
+ref-name (Symbolic name target None object) = refl
+ref-name (Symbolic name target (Some tag) object) = refl
+ref-name (Unborn name target) = refl
+
+remote-id : (refs : List RefValue) (item : Option ℕ) (source : SourceValue) (x : Source) → IsRemote refs item source x → id_shown (source_id x) ≡ id_text refs item source
+remote-id refs (Some i) (FullName name) (the_ref r) h = ref-id r ∙ ap id_at (sym h)
+remote-id refs (Some i) (FullName name) (the_id id) h = absurd h
+remote-id refs (Some i) (IdOf bytes) (the_ref r) h = absurd h
+remote-id refs (Some i) (IdOf bytes) (the_id id) h = absurd h
+remote-id refs None (FullName name) (the_ref r) h = absurd h
+remote-id refs None (FullName name) (the_id id) h = absurd h
+remote-id refs None (IdOf bytes) (the_ref r) h = absurd h
+remote-id refs None (IdOf bytes) (the_id id) h = ap encode_lower h
+
+remote-name : (refs : List RefValue) (item : Option ℕ) (source : SourceValue) (x : Source) → IsRemote refs item source x → name_shown (source_name x) ≡ name_text refs item
+remote-name refs (Some i) (FullName name) (the_ref r) h = ref-name r ∙ ap name_at (sym h)
+remote-name refs (Some i) (FullName name) (the_id id) h = absurd h
+remote-name refs (Some i) (IdOf bytes) (the_ref r) h = absurd h
+remote-name refs (Some i) (IdOf bytes) (the_id id) h = absurd h
+remote-name refs None (FullName name) (the_ref r) h = absurd h
+remote-name refs None (FullName name) (the_id id) h = absurd h
+remote-name refs None (IdOf bytes) (the_ref r) h = absurd h
+remote-name refs None (IdOf bytes) (the_id id) h = refl
+
+mapping-text : (refs : List RefValue) (count : ℕ) (m : Mapped) (x : Mapping) → IsMapping refs count m x → mapping_shown x ≡ mapped_text refs m
+mapping-text refs count m x h =
+    ap (λ t. joined (codes "map " ∷ t ∷ codes " " ∷ name_shown (source_name x.remote) ∷ codes " " ∷ name_shown (option_map bstring_bytes x.local) ∷ codes "\n" ∷ [])) (remote-id refs m.item m.source x.remote h.remote)
+    ∙ ap (λ t. joined (codes "map " ∷ id_text refs m.item m.source ∷ codes " " ∷ t ∷ codes " " ∷ name_shown (option_map bstring_bytes x.local) ∷ codes "\n" ∷ [])) (remote-name refs m.item m.source x.remote h.remote)
+    ∙ ap (λ t. joined (codes "map " ∷ id_text refs m.item m.source ∷ codes " " ∷ name_text refs m.item ∷ codes " " ∷ name_shown t ∷ codes "\n" ∷ [])) h.local
+
+mappings-text : (refs : List RefValue) (count : ℕ) (ms : List Mapped) (xs : List Mapping) → AllZip (IsMapping refs count) ms xs → flat_map mapping_shown xs ≡ flat_map (mapped_text refs) ms
+mappings-text refs count [] [] h = refl
+mappings-text refs count [] (x ∷ xs) h = absurd h
+mappings-text refs count (m ∷ ms) [] h = absurd h
+mappings-text refs count (m ∷ ms) (x ∷ xs) h = ap (λ t. t ++ flat_map mapping_shown xs) (mapping-text refs count m x h.0) ∙ ap (λ t. mapped_text refs m ++ t) (mappings-text refs count ms xs h.1)
+
+fixes-text : (fs : List Fix) → flat_map fix_shown fs ≡ flat_map removed_shown (map removed_of fs)
+fixes-text [] = refl
+fixes-text (f ∷ fs) = ap (λ t. fix_shown f ++ t) (fixes-text fs)
+
+map-text : (unknown : Option (List ℕ)) (specs : List Spec) (count : ℕ) (refs : List RefValue) (m : RefMap) → AnswersBy unknown specs count refs (Ok m) → map_shown m ≡ map_text specs refs
+map-text (Some format) specs count refs m h = absurd h
+map-text None specs count refs m h =
+    ap (λ t. t ++ flat_map fix_shown m.fixes.items) (mappings-text refs count (kept (found_in specs refs)) m.mappings.items h.1)
+    ∙ ap (λ t. flat_map (mapped_text refs) (kept (found_in specs refs)) ++ t) (fixes-text m.fixes.items ∙ ap (flat_map removed_shown) h.2)
+
+-- ---- readers of which the same is to come
+
+-- both know what is to come, and it is the same
+pub record AreAlike (a b : Reading) : Type 0 where
+  pub pieces : Pieces
+  pub first : a.to_come ≡ Some pieces
+  pub second : b.to_come ≡ Some pieces
+  pub stopped : a.stopped ≡ b.stopped
+  pub version : a.version ≡ b.version
+  pub held : a.held ≡ b.held
+  pub alone : a.held.persists ≡ false
+
+same-ok : {A E : Type 0} (r : Result A E) (a b : A) → r ≡ Ok a → r ≡ Ok b → a ≡ b
+same-ok r a b e f = cc
+
+if-known : {A : Type 0} (F : A → Type 0) (o : Option A) (a : A) → o ≡ Some a → IfSome o F → F a
+if-known F o a e h = subst (λ x. IfSome x F) e h
+
+-- of readers that hold the same, the next answer
+answers-alike : (a b c d : Reading) → a.version ≡ b.version → a.held ≡ b.held → a.held.persists ≡ false → TakesAnswer a c → TakesAnswer b d → AreAlike c d
+answers-alike a b c d v h p s t = record {
+  pieces = answer_pieces (first_answer a.held.answers);
+  first = s.to_come;
+  second = t.to_come ∙ ap (λ (x : TransportState). Some (answer_pieces (first_answer x.answers))) (sym h);
+  stopped = s.stopped ∙ sym t.stopped;
+  version = s.version ∙ v ∙ sym t.version;
+  held = s.held ∙ ap (λ (x : TransportState). record x { answers = later_answers x.answers }) h ∙ sym t.held;
+  alone = ap (λ (x : TransportState). x.persists) s.held ∙ p;
+}
+
+-- the lines up to a stop, and what is behind it
+record SameLines (ts us : List (List ℕ)) (k l : MessageKind) (p q : Pieces) : Type 0 where
+  texts : ts ≡ us
+  kind : k ≡ l
+  rest : p ≡ q
+
+same-lines : (l : Lines) (texts others : List (List ℕ)) (kind other : MessageKind) (p q : Pieces) → l ≡ lines_to texts (stop kind p) → l ≡ lines_to others (stop other q) → SameLines texts others kind other p q
+same-lines l texts others kind other p q e f =
+    let ends : stop kind p ≡ stop other q = ap (λ (x : Lines). x.ending) (sym e ∙ f) in
+    record { texts = ap (λ (x : Lines). x.lines) (sym e ∙ f); kind = cc ends; rest = cc ends }
+
+same-ahead : (a b : Reading) (p : Pieces) → a.stopped ≡ b.stopped → a.version ≡ b.version → lines_ahead a p ≡ lines_ahead b p
+same-ahead a b p e f = ap (λ s. lines_from_stop s a.version p) e ∙ ap (λ v. lines_from_stop b.stopped v p) f
+
+-- what reading lines up to a stop says of any reader
+record Stops (old new : Reading) (texts : List (List ℕ)) (kind : MessageKind) : Type 0 where
+  lines : IfSome old.to_come (λ p. (q : Pieces) × (new.to_come ≡ Some q) × (lines_ahead old p ≡ lines_to texts (stop kind q)))
+  stopped : new.stopped ≡ Some kind
+  version : new.version ≡ old.version
+  held : new.held ≡ old.held
+
+record StopAlike (c d : Reading) (ts us : List (List ℕ)) : Type 0 where
+  alike : AreAlike c d
+  texts : ts ≡ us
+
+stops-alike : (a b c d : Reading) (texts others : List (List ℕ)) (kind other : MessageKind) → AreAlike a b → Stops a c texts kind → Stops b d others other → StopAlike c d texts others
+stops-alike a b c d texts others kind other s l r =
+    let x = if-known _ a.to_come s.pieces s.first l.lines in
+    let y = if-known _ b.to_come s.pieces s.second r.lines in
+    let same = same-lines _ texts others kind other x.0 y.0 x.2 (same-ahead a b s.pieces s.stopped s.version ∙ y.2) in
+    record {
+      alike = record {
+        pieces = x.0;
+        first = x.1;
+        second = y.1 ∙ ap Some (sym same.rest);
+        stopped = l.stopped ∙ ap Some same.kind ∙ sym r.stopped;
+        version = l.version ∙ s.version ∙ sym r.version;
+        held = l.held ∙ s.held ∙ sym r.held;
+        alone = ap (λ (x : TransportState). x.persists) l.held ∙ s.alone;
+      };
+      texts = same.texts;
+    }
+
+-- ---- a handshake
+
+record SameAnswer (x y : SetServiceResponse) : Type 0 where
+  capabilities : x.capabilities ≡ y.capabilities
+  follow : x.refs_follow ≡ y.refs_follow
+
+record Said (c d : Reading) (x y : SetServiceResponse) : Type 0 where
+  alike : AreAlike c d
+  same : SameAnswer x y
+
+said-alike : (a b c d : Reading) (x y : SetServiceResponse) → AreAlike a b → ReadsAdvertisement advertisement a c x → ReadsAdvertisement advertisement b d y → Said c d x y
+said-alike a b c d x y s l r =
+    let u = if-known _ a.to_come s.pieces s.first l.value in
+    let w = if-known _ b.to_come s.pieces s.second r.value in
+    let same : u.0 ≡ w.0 = same-ok (advertisement s.pieces) u.0 w.0 u.1 w.1 in
+    record {
+      alike = record {
+        pieces = u.0.rest;
+        first = u.2.rest;
+        second = w.2.rest ∙ ap (λ (z : Advertised). Some z.rest) (sym same);
+        stopped = u.2.stopped ∙ ap (λ (z : Advertised). z.stopped) same ∙ sym w.2.stopped;
+        version = l.version ∙ u.2.version ∙ ap (λ (z : Advertised). z.version) same ∙ sym w.2.version ∙ sym r.version;
+        held = l.held ∙ s.held ∙ sym r.held;
+        alone = ap (λ (x : TransportState). x.persists) l.held ∙ s.alone;
+      };
+      same = record {
+        capabilities = u.2.capabilities ∙ ap (λ (z : Advertised). z.capabilities) same ∙ sym w.2.capabilities;
+        follow = u.2.refs_follow ∙ ap (λ (z : Advertised). z.refs_follow) same ∙ sym w.2.refs_follow;
+      };
+    }
+
+-- the next answer was taken, and read
+record Hears (old new : Reading) (x : SetServiceResponse) : Type 0 where
+  mid : Reading
+  takes : TakesAnswer old mid
+  reads : ReadsAdvertisement advertisement mid new x
+
+hears-by : (service : Service) (ps : List Parameter) (persists : Bool) (old new : Reading) (x : SetServiceResponse) → persists ≡ false → HandshakesBy persists service ps old new (Ok x) → Hears old new x
+hears-by service ps true old new x e h = cc e
+hears-by service ps false old new x e (inl h) = cc h.1
+hears-by service ps false old new x e (inr h) = record { mid = h.0; takes = h.1; reads = h.3 }
+
+abbrev opened_ok : SetServiceResponse → Opened
+opened_ok x = Ok x
+
+module _ (old mid new : Reading) (turns : List Turn) (x : SetServiceResponse) where
+  -- who wants an account gets none
+  undenied : (denied : Bool) (e : client_error) → AreUnanswered turns → Denied denied e UploadPack [] mid new turns (Ok x) → Hears old new x
+  undenied false e u d = cc d.2
+  undenied true e u (inr n) = cc n.error
+  undenied true e u (inl l) =
+      let answered = subst AreUnanswered l.all u in
+      let got : Got UploadPack [] (Ok None) mid.held.url mid new l.later (Ok x) = subst (λ a. Got UploadPack [] a mid.held.url mid new l.later (Ok x)) answered.0 l.got in
+      cc got.2
+
+  first-heard : (first : Result SetServiceResponse client_error) → old.held.persists ≡ false → AreUnanswered turns → Handshakes UploadPack [] old mid first → First first UploadPack [] mid new turns (Ok x) → Hears old new x
+  first-heard (Ok found) p u h f =
+      hears-by UploadPack [] old.held.persists old new x p
+      (subst (λ (n : Reading). Handshakes UploadPack [] old n (Ok x)) (sym f.1) (subst (λ (y : SetServiceResponse). Handshakes UploadPack [] old mid (Ok y)) (sym (by_ok f.2)) h))
+    where
+      by_ok : {y z : SetServiceResponse} → opened_ok y ≡ opened_ok z → y ≡ z
+      by_ok e = cc
+  first-heard (Err e) p u h f = undenied _ e u f
+
+-- a handshake that came to its refs
+record Greeted (plain : Bool) (old new : Reading) (h : Handshake) : Type 0 where
+  mid : Reading
+  found : SetServiceResponse
+  hears : Hears old mid found
+  first : ReadsFirst found.refs_follow found plain mid new (Ok h)
+  capabilities : h.capabilities ≡ found.capabilities
+
+module _ (plain : Bool) (old new : Reading) (h : Handshake) (turns : List Turn) where
+  kept-accepted : (accepted : Bool) (mid : Reading) (found : SetServiceResponse) → Hears old mid found → Keeps accepted found plain mid new (Ok h) → Greeted plain old new h
+  kept-accepted true mid found o k = record { mid = mid; found = found; hears = o; first = k.0; capabilities = k.1.1 }
+  kept-accepted false mid found o k = cc k.1
+
+  greeted-by : (opened : Opened) (mid : Reading) → old.held.persists ≡ false → AreUnanswered turns → Opens UploadPack [] old mid turns opened ⊎ NoMemory old mid turns opened
+      → GoesOn old.held.accepted opened plain mid new (Ok h) → Greeted plain old new h
+  greeted-by (Err e) mid p u o g = cc g.1
+  greeted-by (Ok found) mid p u (inr n) g = cc n.error
+  greeted-by (Ok found) mid p u (inl o) g = kept-accepted (is_accepted old.held.accepted found.actual_protocol) mid found (first-heard old o.1 mid turns found o.0 p u o.2 o.3) g
+
+greeted : (plain : Bool) (old new : Reading) (h : Handshake) → old.held.persists ≡ false → Greets plain old new (Ok h) → Greeted plain old new h
+greeted plain old new h p g = greeted-by plain old new h g.turns g.shakes.opened g.shakes.mid p g.unanswered g.shakes.opens g.shakes.goes_on
+
+-- the refs that came first, as values
+abbrev values_of : Option (Vec Ref Global) → Option (List RefValue)
+values_of refs = option_map (λ (v : Vec Ref Global). map ref_value v.items) refs
+
+record SameGreeting (c d : Reading) (h k : Handshake) : Type 0 where
+  alike : AreAlike c d
+  capabilities : h.capabilities ≡ k.capabilities
+  refs : values_of h.refs ≡ values_of k.refs
+
+record SameRefs (c d : Reading) (h k : Handshake) : Type 0 where
+  alike : AreAlike c d
+  refs : values_of h.refs ≡ values_of k.refs
+
+stops-v1 : (t : List Symref) (old new : Reading) (refs : List Ref) (updates : List ShallowUpdate) (r : ReadsV1 t old new refs updates) → Stops old new r.texts r.kind
+stops-v1 t old new refs updates r = record { lines = r.lines; stopped = r.stopped; version = r.version; held = r.held }
+
+first-refs-alike : (follow : Bool) (plain : Bool) (a b c d : Reading) (x y : SetServiceResponse) (h k : Handshake) → AreAlike a b → x.capabilities ≡ y.capabilities → ReadsFirst follow x plain a c (Ok h)
+    → ReadsFirst follow y plain b d (Ok k) → SameRefs c d h k
+first-refs-alike false plain a b c d x y h k s e l r = record {
+  alike = subst (λ z. AreAlike c z) (sym r.0) (subst (λ z. AreAlike z b) (sym l.0) s);
+  refs = ap values_of l.1 ∙ sym (ap values_of r.1);
+}
+first-refs-alike true plain a b c d x y h k s e l r =
+    let t : l.4.0 ≡ r.4.0 = same-ok (symref_table y.capabilities) l.4.0 r.4.0 (ap symref_table (sym e) ∙ l.4.1) r.4.1 in
+    let o = stops-alike a b c d l.4.2.texts r.4.2.texts l.4.2.kind r.4.2.kind s (stops-v1 _ _ _ _ _ l.4.2) (stops-v1 _ _ _ _ _ r.4.2) in
+    let values : map ref_value l.0.items ≡ map ref_value r.0.items =
+    same-ok (groups r.4.2.texts None r.4.0 None) _ _ (ap (λ ts. groups ts None r.4.0 None) (sym o.texts) ∙ ap (λ z. groups l.4.2.texts None z None) (sym t) ∙ l.4.2.values) r.4.2.values in
+    record {
+      alike = o.alike;
+      refs = ap values_of l.2 ∙ ap Some values ∙ sym (ap values_of r.2);
+    }
+
+greetings-alike : (plain : Bool) (a b c d : Reading) (h k : Handshake) → a.version ≡ b.version → a.held ≡ b.held → a.held.persists ≡ false → Greets plain a c (Ok h) → Greets plain b d (Ok k) → SameGreeting c d h k
+greetings-alike plain a b c d h k v e p l r =
+    let x = greeted plain a c h p l in
+    let y = greeted plain b d k (ap (λ (z : TransportState). z.persists) (sym e) ∙ p) r in
+    let said = said-alike x.hears.mid y.hears.mid x.mid y.mid x.found y.found (answers-alike a b x.hears.mid y.hears.mid v e p x.hears.takes y.hears.takes) x.hears.reads y.hears.reads in
+    let refs = first-refs-alike y.found.refs_follow plain x.mid y.mid c d x.found y.found h k said.alike said.same.capabilities
+    (subst (λ f. ReadsFirst f x.found plain x.mid c (Ok h)) said.same.follow x.first) y.first in
+    record {
+      alike = refs.alike;
+      capabilities = x.capabilities ∙ said.same.capabilities ∙ sym y.capabilities;
+      refs = refs.refs;
+    }
+
+-- ---- a ref map
+
+-- by the refs that came first, or by those of the listing
+abbrev ObtainedBy : Option (Vec Ref Global) → List CapabilityValue → Context → Reading → Reading → RefMap → Type 0
+ObtainedBy (Some refs) caps context old new m = (new ≡ old) × MakesMap caps context refs.items (Ok m)
+ObtainedBy None caps context old new m =
+    (refs : Vec Ref Global) × Listed (listing git_table (prefixes_if true (joined_specs context.fetch_refspecs.items context.extra_refspecs.items)) caps planner_agent) old new refs.items
+    × MakesMap caps context refs.items (Ok m)
+
+abbrev ok_map : RefMap → Result RefMap map_error
+ok_map m = Ok m
+
+listed-ok : (l : Listing) (context : Context) (plain : Bool) (old new : Reading) (m : RefMap) (listed : Result (Vec Ref Global) list_error) → ListsRefs l plain old new listed → ByList l.capabilities context listed (Ok m)
+    → (refs : Vec Ref Global) × Listed l old new refs.items × MakesMap l.capabilities context refs.items (Ok m)
+listed-ok l context plain old new m (Ok refs) h b = (refs, h, b)
+listed-ok l context plain old new m (Err e) h b = cc b
+
+module _ (caps : List CapabilityValue) (context : Context) (plain : Bool) (old new : Reading) (m : RefMap) where
+  obtained-by : (refs : Option (Vec Ref Global)) (prepared : Result ObtainRefMap map_error) → PreparesBy refs git_table true planner_agent context caps prepared → ObtainsBy prepared plain old new (Ok m)
+      → ObtainedBy refs caps context old new m
+  obtained-by refs (Err e) p o = cc o.1
+  obtained-by None (Ok (Existing x)) p o = absurd p
+  obtained-by (Some refs) (Ok (LsRefsCommand command handed)) p o = absurd p
+  obtained-by (Some refs) (Ok (Existing x)) p o = (o.0, subst (λ y. MakesMap caps context refs.items (Ok y)) (sym (by_ok o.1)) p)
+    where
+      by_ok : {y z : RefMap} → ok_map y ≡ ok_map z → y ≡ z
+      by_ok e = cc
+  obtained-by None (Ok (LsRefsCommand command handed)) p o =
+      let found = listed-ok (listing_of command) handed plain old new m o.listed o.lists o.maps in
+      let so = subst (λ (l : Listing). (refs : Vec Ref Global) × Listed l old new refs.items × MakesMap l.capabilities handed refs.items (Ok m)) p.0 found in
+      (so.0, so.1, subst (λ (y : Context). MakesMap caps y so.0.items (Ok m)) p.1 so.2)
+
+obtained : (context : Context) (h : Handshake) (plain : Bool) (old new : Reading) (m : RefMap) → MapsRefs context h plain old new (Ok m) → ObtainedBy h.refs h.capabilities context old new m
+obtained context h plain old new m (inl o) = obtained-by h.capabilities context plain old new m h.refs o.prepared o.prepares o.obtains
+obtained context h plain old new m (inr n) = cc n.1
+
+-- the specs of a context are those of the words
+abbrev all_specs : Context → List Spec
+all_specs context = joined_specs context.fetch_refspecs.items context.extra_refspecs.items
+
+same-specs : (words : List (List ℕ)) (x y : Context) → IsContext words x → IsContext words y → all_specs x ≡ all_specs y
+same-specs words x y l r =
+    ap (λ s. s ++ map owned_value_of x.extra_refspecs.items) (same-ok (specs_of words) _ _ l.specs r.specs)
+    ∙ ap (λ (s : List RefSpec). map owned_value_of y.fetch_refspecs.items ++ map owned_value_of s) (l.extra ∙ sym r.extra)
+
+record SameMap (c d : Reading) (m n : RefMap) : Type 0 where
+  alike : AreAlike c d
+  shown : map_shown m ≡ map_shown n
+
+sent-alike : (a b c d : Reading) (text other : List ℕ) → AreAlike a b → text ≡ other → SentBy a.held.persists a c text → SentBy b.held.persists b d other → AreAlike c d
+sent-alike a b c d text other s e l r =
+    let p : b.held.persists ≡ false = ap (λ (z : TransportState). z.persists) (sym s.held) ∙ s.alone in
+    let x : SentBy false a c text = subst (λ z. SentBy z a c text) s.alone l in
+    let y : SentBy false b d text = subst (λ t. SentBy false b d t) (sym e) (subst (λ z. SentBy z b d other) p r) in
+    answers-alike (entered (with_written a (Some text))) (entered (with_written b (Some text))) c d s.version
+    (ap (λ (z : TransportState). (entered (with_written (record a { held = z }) (Some text))).held) s.held) s.alone x.0 y.0
+
+stops-refs : (old new : Reading) (refs : List Ref) (r : ReadsRefs old new refs) → Stops old new r.texts r.kind
+stops-refs old new refs r = record { lines = r.lines; stopped = r.stopped; version = r.version; held = r.held }
+
+record SameListing (c d : Reading) (xs ys : List Ref) : Type 0 where
+  alike : AreAlike c d
+  refs : map ref_value xs ≡ map ref_value ys
+
+listings-alike : (x y : Listing) (a b c d : Reading) (refs others : List Ref) → x ≡ y → AreAlike a b → Listed x a c refs → Listed y b d others → SameListing c d refs others
+listings-alike x y a b c d refs others e s l m =
+    let r : Listed x b d others = subst (λ z. Listed z b d others) (sym e) m in
+    let mid = sent-alike a b l.mid r.mid _ _ s refl l.sent.1 r.sent.1 in
+    let o = stops-alike l.mid r.mid c d l.read.texts r.read.texts l.read.kind r.read.kind mid (stops-refs _ _ _ l.read) (stops-refs _ _ _ r.read) in
+    record {
+      alike = o.alike;
+      refs =
+          same-ok (v2_refs (lines_ahead r.mid mid.pieces)) _ _ (ap v2_refs (sym (same-ahead l.mid r.mid mid.pieces mid.stopped mid.version)) ∙ if-known _ l.mid.to_come mid.pieces mid.first l.read.value)
+          (if-known _ r.mid.to_come mid.pieces mid.second r.read.value);
+    }
+
+made-alike : (caps others : List CapabilityValue) (x y : Context) (refs more : List Ref) (m n : RefMap) → all_specs x ≡ all_specs y → map ref_value refs ≡ map ref_value more → MakesMap caps x refs (Ok m)
+    → MakesMap others y more (Ok n) → map_shown m ≡ map_shown n
+made-alike caps others x y refs more m n e f l r =
+    map-text (unknown_format caps) (all_specs x) _ (map ref_value refs) m l.maps
+    ∙ ap (λ s. map_text s (map ref_value refs)) e
+    ∙ ap (map_text (all_specs y)) f
+    ∙ sym (map-text (unknown_format others) (all_specs y) _ (map ref_value more) n r.maps)
+
+maps-alike : (refs more : Option (Vec Ref Global)) (caps others : List CapabilityValue) (x y : Context) (a b c d : Reading) (m n : RefMap) → values_of refs ≡ values_of more → caps ≡ others → all_specs x ≡ all_specs y
+    → AreAlike a b → ObtainedBy refs caps x a c m → ObtainedBy more others y b d n → SameMap c d m n
+maps-alike (Some refs) None caps others x y a b c d m n v e f s l r = cc v
+maps-alike None (Some more) caps others x y a b c d m n v e f s l r = cc v
+maps-alike (Some refs) (Some more) caps others x y a b c d m n v e f s l r = record {
+  alike = subst (λ z. AreAlike c z) (sym r.0) (subst (λ z. AreAlike z b) (sym l.0) s);
+  shown = made-alike caps others x y refs.items more.items m n f (cc v) l.1 r.1;
+}
+maps-alike None None caps others x y a b c d m n v e f s l r =
+    let same : listing git_table (prefixes_if true (all_specs x)) caps planner_agent ≡ listing git_table (prefixes_if true (all_specs y)) others planner_agent =
+    ap (λ specs. listing git_table (prefixes_if true specs) caps planner_agent) f ∙ ap (λ z. listing git_table (prefixes_if true (all_specs y)) z planner_agent) e in
+    let o = listings-alike _ _ a b c d l.0.items r.0.items same s l.1 r.1 in
+    record {
+      alike = o.alike;
+      shown = made-alike caps others x y l.0.items r.0.items m n f o.refs l.2 r.2;
+    }
+
+-- ---- both steps
+
+abbrev state : Option (List ℕ) → List (List ℕ) → List Answer → List ℕ → List Protocol → Option (List ℕ × List ℕ) → TransportState
+state written sent answers url accepted identity = record {
+  persists = false;
+  written = written;
+  sent = sent;
+  answers = answers;
+  broken = None;
+  greeting = None;
+  url = url;
+  accepted = accepted;
+  identity = identity;
+  names = [];
+}
+
+new-held : (bodies : List Body) (b : Bodies) → IsNewBodies bodies [] [] b → bodies_held b ≡ state (Some []) [] (map answer_of bodies) [] [] None
+new-held bodies b h =
+    let was = bodies_held b in
+    ap (λ w. state w was.sent was.answers was.url was.accepted was.identity) h.written
+    ∙ ap (λ s. state (Some []) s was.answers was.url was.accepted was.identity) h.sent
+    ∙ ap (λ a. state (Some []) [] a was.url was.accepted was.identity) h.answers
+    ∙ ap (λ u. state (Some []) [] (map answer_of bodies) u was.accepted was.identity) h.url
+    ∙ ap (λ v. state (Some []) [] (map answer_of bodies) [] v was.identity) h.accepted
+    ∙ ap (λ i. state (Some []) [] (map answer_of bodies) [] [] i) h.identity
+
+both-alike : (bodies : List Body) (specs : List (List ℕ)) (sent others : List (List ℕ)) (m n : RefMap) (l : IsMapped bodies specs sent m) (r : IsMapped bodies specs others n) → SameMap l.behind r.behind m n
+both-alike bodies specs sent others m n l r =
+    let greeting = greetings-alike true (bodies_reading l.transport) (bodies_reading r.transport) l.mid r.mid l.handshake r.handshake (l.over.version ∙ sym r.over.version)
+    (new-held bodies l.transport l.over ∙ sym (new-held bodies r.transport r.over)) refl l.greets r.greets in
+    maps-alike l.handshake.refs r.handshake.refs l.handshake.capabilities r.handshake.capabilities l.context r.context l.mid r.mid l.behind r.behind m n greeting.refs greeting.capabilities
+    (same-specs specs l.context r.context l.read r.read) greeting.alike (obtained l.context l.handshake true l.mid l.behind m l.maps) (obtained r.context r.handshake true r.mid r.behind n r.maps)
+
+pub mappings-follow : MappingsFollow
+mappings-follow bodies specs sent others m n l r =
+    let both = both-alike bodies specs sent others m n l r in
+    (sym l.by_then ∙ ap (λ (z : TransportState). z.sent) both.alike.held ∙ r.by_then, both.shown)
+
+-- ---- the requests of a fetch stand behind those before it
+
+pub record Extends (old new : Reading) : Type 0 where
+  pub later : List (List ℕ)
+  pub sent : new.held.sent ≡ old.held.sent ++ later
+
+extends-none : (old new : Reading) → new.held.sent ≡ old.held.sent → Extends old new
+extends-none old new e = record { later = []; sent = e ∙ sym (append-nil old.held.sent) }
+
+extends-one : (old new : Reading) (bytes : List ℕ) → TakesAnswer (entered (with_written old (Some bytes))) new → Extends old new
+extends-one old new bytes t = record { later = bytes ∷ []; sent = ap (λ (z : TransportState). z.sent) t.held }
+
+extends-more : (a b c : Reading) → Extends a b → Extends b c → Extends a c
+extends-more a b c x y = record { later = x.later ++ y.later; sent = y.sent ∙ ap (λ l. l ++ y.later) x.sent ∙ append_assoc a.held.sent x.later y.later }
+
+sends-extends : (old new : Reading) (fit : Bool) (bytes : List ℕ) (r : Result (Unit {0}) client_error) → old.held.persists ≡ false → Sends old new fit bytes r → Extends old new
+sends-extends old new fit bytes (Ok x) p s = let t : SentBy false old new bytes = subst (λ z. SentBy z old new bytes) p s.1 in extends-one old new bytes t.0
+sends-extends old new fit bytes (Err (client.Io kind)) p s = let t : FailsBy false old new bytes kind = subst (λ z. FailsBy z old new bytes kind) p s.1 in extends-one old new bytes t.0
+sends-extends old new fit bytes (Err client.LineTooLong) p s = extends-none old new (ap (λ (z : Reading). z.held.sent) s.1)
+sends-extends old new fit bytes (Err client.Memory) p s = extends-none old new (ap (λ (z : Reading). z.held.sent) s.0)
+sends-extends old new fit bytes (Err (client.Read e)) p s = absurd s
+sends-extends old new fit bytes (Err client.AuthenticationUnsupported) p s = absurd s
+sends-extends old new fit bytes (Err (client.UnsupportedProtocolVersion line)) p s = absurd s
+sends-extends old new fit bytes (Err client.MissingDelimitingNullByte) p s = absurd s
+
+another-extends : (another : Bool) (old new : Reading) → old.held.persists ≡ false → Another another old new → Extends old new
+another-extends false old new p h = extends-none old new (ap (λ (z : TransportState). z.sent) h)
+another-extends true old new p h =
+    let s = sends-extends old h.0 _ _ h.3 p h.4 in
+    record { later = s.later; sent = ap (λ (z : TransportState). z.sent) h.5 ∙ s.sent }
+
+requests-extend : (rounds : List Round) (old new : Reading) → old.held.persists ≡ false → Requests rounds old new → Extends old new
+requests-extend rounds old new p r =
+    extends-more old r.mid new (record { later = r.requests; sent = r.wrote.enters p }) (another-extends r.another r.mid new (r.wrote.persists ∙ p) r.rest)
+
+session-extends : {N A X : Type 0} (office : Office N A) (first : N) (r : Result (Option Outcome) (FetchError A X)) (old new : Reading) → old.held.persists ≡ false → HoldsSession office first r old new → Extends old new
+session-extends office first (Ok (Some outcome)) old new p h = requests-extend _ old new p h.requests
+session-extends office first (Ok None) old new p h = extends-none old new (ap (λ (z : Reading). z.held.sent) h)
+session-extends office first (Err e) old new p (inl h) = extends-none old new (ap (λ (z : Reading). z.held.sent) h)
+session-extends office first (Err e) old new p (inr h) = requests-extend _ old new p h.1.requests
+
+module _ {N I A S C P X : Type 0} (parties : Parties N I A S C P X) where
+  -- what is known of a whole fetch
+  abbrev pub Holds : Type 0
+  Holds = (call : Call) (first : World N I S C) (r : Result (Option Outcome) (FetchError A X)) (last : World N I S C) (progress : P) → Fetches parties call first r last progress
+      → HoldsSession parties.office first.negotiate r first.reading last.reading
+
+  pub fetches-extend : Holds → (IsOver : N → Type 0) (IsEmpty : S → Type 0) (h : Handshake) (old new : Reading) (r : Result (Option Outcome) (FetchError A X)) → old.held.persists ≡ false
+      → FetchesMapped parties IsOver IsEmpty h old new r → Extends old new
+  fetches-extend holds IsOver IsEmpty h old new r p (inr n) = extends-none old new (ap (λ (z : Reading). z.held.sent) n.0)
+  fetches-extend holds IsOver IsEmpty h old new r p (inl f) =
+      let s = holds (planner_call h) f.first r f.last f.progress f.fetched.fetched in
+      session-extends parties.office f.first.negotiate r old new p
+      (subst (λ (z : Reading). HoldsSession parties.office f.first.negotiate r old z) f.ends (subst (λ (z : Reading). HoldsSession parties.office f.first.negotiate r z f.last.reading) f.begins s))
+
+-- ---- a session that is shown
+
+abbrev ends_in : Bool → Result Bool Refusal
+ends_in pack = Ok pack
+
+abbrev ends_refused : Refusal → Result Bool Refusal
+ends_refused e = Err e
+
+not-refused : (pack : Bool) (e : Refusal) → ends_in pack ≡ ends_refused e → ⊥
+not-refused pack e h = cc
+
+not-ok : (e : Refusal) → IsOk (ends_refused e) → ⊥
+not-ok e h = cc
+
+module _ {A X : Type 0} (Receives : RefMap → Handshake → Reading → Reading → Result (Option Outcome) (FetchError A X) → Type 0) (bodies : List Body) (specs : List (List ℕ)) (old new : Option (List ℕ)) where
+  -- a fetch writes behind what was sent
+  abbrev pub ReceivesBehind : Type 0
+  ReceivesBehind = (m : RefMap) (h : Handshake) (from to : Reading) (r : Result (Option Outcome) (FetchError A X)) → from.held.persists ≡ false → Receives m h from to r → Extends from to
+
+  shown-fetched : ReceivesBehind → (context : Context) (transport : Bodies) (mid behind last : Reading) (h : Handshake) (m : RefMap) (r : Result (Option Outcome) (FetchError A X)) (sent : List (List ℕ)) (made : Option RefMap)
+      (pack : Bool) → IsContext specs context → IsNewBodies bodies [] [] transport → Greets true (bodies_reading transport) mid (Ok h) → MapsRefs context h true mid behind (Ok m) → Receives m (without_refs h) behind last r
+      → made ≡ Some m → last.held.sent ≡ sent → Appends old new (requests_shown sent ++ mapped_shown made ++ end_shown (Ok pack)) → ShowsMapped bodies specs old new
+  shown-fetched behind-it context transport mid behind last h m r sent made pack c n g l t e s w =
+      let mapped : IsMapped bodies specs behind.held.sent m =
+      record { context = context; transport = transport; handshake = h; mid = mid; behind = behind; read = c; over = n; greets = g; maps = l; by_then = refl } in
+      let alone = both-alike bodies specs behind.held.sent behind.held.sent m m mapped mapped in
+      let x = behind-it m (without_refs h) behind last r alone.alike.alone t in
+      record {
+        sent = behind.held.sent;
+        made = m;
+        mapped = mapped;
+        later = x.later;
+        pack = pack;
+        text = subst (λ q. Appends old new (requests_shown q ++ map_shown m ++ end_shown (Ok pack))) (sym s ∙ x.sent)
+            (subst (λ o. Appends old new (requests_shown sent ++ mapped_shown o ++ end_shown (Ok pack))) e w);
+      }
+
+  shown-run : ReceivesBehind → (context : Context) (transport : Bodies) (last : Reading) (sent : List (List ℕ)) (made : Option RefMap) (ended : Result Bool Refusal) (pack : Bool) → ended ≡ Ok pack → IsContext specs context
+      → IsNewBodies bodies [] [] transport → Runs Receives context true (bodies_reading transport) last made ended → last.held.sent ≡ sent
+      → Appends old new (requests_shown sent ++ mapped_shown made ++ end_shown (Ok pack)) → ShowsMapped bodies specs old new
+  shown-run behind-it context transport last sent made ended pack k c n (ungreeted e g m f) s w = absurd (not-refused pack _ (sym k ∙ f))
+  shown-run behind-it context transport last sent made ended pack k c n (unmapped h mid e g l m f) s w = absurd (not-refused pack _ (sym k ∙ f))
+  shown-run behind-it context transport last sent made ended pack k c n (fetched h mid behind m r g l t e f) s w = shown-fetched behind-it context transport mid behind last h m r sent made pack c n g l t e s w
+
+  shown-ended : ReceivesBehind → (course : Course) (ended : Result Bool Refusal) → course.ended ≡ ended → IsOk ended → IsCourse Receives bodies specs course
+      → Appends old new (requests_shown course.sent ++ mapped_shown course.mapped ++ end_shown ended) → ShowsMapped bodies specs old new
+  shown-ended behind-it course (Err e) q k c w = absurd (not-ok e k)
+  shown-ended behind-it course (Ok pack) q k c w = shown-run behind-it c.context c.transport c.last course.sent course.mapped course.ended pack q c.read c.over c.runs c.sent w
+
+  pub shows-mapped : ReceivesBehind → (course : Course) (r : Result (Unit {0}) PlanError) → IsCourse Receives bodies specs course → Shows old new course r → IfOk r (λ _. ShowsMapped bodies specs old new)
+  shows-mapped behind-it course (Ok x) c s = shown-ended behind-it course course.ended refl s.1 c s.0
+  shows-mapped behind-it course (Err e) c s = tt

@@ -1,0 +1,40 @@
+-- A session over recorded bodies up to its ref map: what it sent by then, and that this and what is printed of the ref map follow from the bodies and the refspecs.
+use Rattle.std.specs.Prelude.{ℕ, ◌≡◌, ◌++◌, Bool, true, List, [], Option, Ok}
+use Rattle.std.specs.Io.KnownBytes.{Appends}
+use Rattle.gixp_wire.specs.declared.bodies.Body.{Body}
+use Rattle.gixp_wire.specs.declared.bodies.Bodies.{Bodies}
+use Rattle.gixp_wire.specs.Bodies.{bodies_reading, IsNewBodies}
+use Rattle.gixp_wire.specs.Reading.{Reading}
+use Rattle.gixp_refmap.specs.declared.refmap.init.Context.{Context}
+use Rattle.gixp_refmap.specs.declared.refmap.map.RefMap.{RefMap}
+use Rattle.gixp_handshake.specs.declared.handshake.read.Handshake.{Handshake}
+use Rattle.gixp_planner.specs.Specs.{IsContext}
+use Rattle.gixp_planner.specs.Text.{requests_shown, map_shown, end_shown}
+use Rattle.gixp_planner.specs.Session.{Greets, MapsRefs}
+
+-- a session over these bodies came to the ref map of these refspecs, and had sent these requests by then
+pub record IsMapped (bodies : List Body) (specs : List (List ℕ)) (sent : List (List ℕ)) (m : RefMap) : Type 0 where
+  pub context : Context
+  pub transport : Bodies
+  pub handshake : Handshake
+  pub mid : Reading
+  pub behind : Reading
+  pub read : IsContext specs context
+  pub over : IsNewBodies bodies [] [] transport
+  pub greets : Greets true (bodies_reading transport) mid (Ok handshake)
+  pub maps : MapsRefs context handshake true mid behind (Ok m)
+  pub by_then : behind.held.sent ≡ sent
+
+-- whatever objects, graph and negotiator two sessions had: up to the ref map they sent the same, and the same is printed of their ref maps
+abbrev pub MappingsFollow : Type 0
+MappingsFollow = (bodies : List Body) (specs : List (List ℕ)) (sent others : List (List ℕ)) (m n : RefMap) → IsMapped bodies specs sent m → IsMapped bodies specs others n
+    → (sent ≡ others) × (map_shown m ≡ map_shown n)
+
+-- the requests of a session, of which the first are those up to its ref map, then its mappings, and whether a pack came
+pub record ShowsMapped (bodies : List Body) (specs : List (List ℕ)) (old new : Option (List ℕ)) : Type 0 where
+  pub sent : List (List ℕ)
+  pub made : RefMap
+  pub mapped : IsMapped bodies specs sent made
+  pub later : List (List ℕ)
+  pub pack : Bool
+  pub text : Appends old new (requests_shown (sent ++ later) ++ map_shown made ++ end_shown (Ok pack))
