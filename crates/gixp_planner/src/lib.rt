@@ -7,7 +7,6 @@ pub mod laws;
 mod names;
 mod planning;
 mod print;
-mod quiet;
 mod refspecs;
 mod session;
 

@@ -7,13 +7,12 @@ ghost use Rattle.gixp_planner.specs.Mapped.{ShowsMapped};
 
 use crate::error::PlanError;
 use crate::print::write_course;
-use crate::quiet::Quiet;
 use crate::refspecs::read_specs;
 use crate::session::run;
 use bstr::BString;
 use gix_protocol::fetch::negotiate::{Graph, Negotiate, Negotiation, Negotiator, NoRefs, Objects};
 use gix_protocol::fetch::{ConsumePack, ReadToEnd, Shallow, ShallowMemory, ShallowStore, Tags};
-use gix_protocol::transport::{Bodies, Body, Interrupt, NeverInterrupt};
+use gix_protocol::transport::{Bodies, Body, Discard, Interrupt, NeverInterrupt};
 use gixp_fetch::laws::sessions_are_bounded;
 use std::alloc::{AllocError, Global};
 use std::io::Write;
@@ -68,7 +67,7 @@ pub fn plan<'a, O: Objects, G: Objects, N: Negotiator, W: Write>(
           office = record { count = ⟦<Negotiation<'a, O, NoRefs, N, G, AllocError> as Negotiate>⟧.count; marks = ⟦<Negotiation<'a, O, NoRefs, N, G, AllocError> as Negotiate>⟧.marks; adds = ⟦<Negotiation<'a, O, NoRefs, N, G, AllocError> as Negotiate>⟧.adds; goes = ⟦<Negotiation<'a, O, NoRefs, N, G, AllocError> as Negotiate>⟧.goes; marking_fails = ⟦<Negotiation<'a, O, NoRefs, N, G, AllocError> as Negotiate>⟧.marking_fails; adding_fails = ⟦<Negotiation<'a, O, NoRefs, N, G, AllocError> as Negotiate>⟧.adding_fails; round_fails = ⟦<Negotiation<'a, O, NoRefs, N, G, AllocError> as Negotiate>⟧.round_fails };
           shop = record { failures = ⟦<ShallowMemory as ShallowStore>⟧.failures; locks = ⟦<ShallowMemory as ShallowStore>⟧.locks; reads = ⟦<ShallowMemory as ShallowStore>⟧.reads; writes = ⟦<ShallowMemory as ShallowStore>⟧.writes; releases = ⟦<ShallowMemory as ShallowStore>⟧.releases };
           says = ⟦<NeverInterrupt as Interrupt>⟧.says;
-          consumes = ⟦<ReadToEnd as ConsumePack<Quiet>>⟧.consumes;
+          consumes = ⟦<ReadToEnd as ConsumePack<Discard>>⟧.consumes;
           plain = true;
         })
         (λ n. (n.objects.now ≡ objects.now) × (n.graph.now ≡ graph.old) × (n.negotiator.now ≡ negotiator.old) × (n.ref_map.now ≡ m) × (n.shallow.now ≡ Shallow.NoChange) × (n.tags ≡ Tags.None) × IfOk n.alternates (λ a. a.now ≡ []) × IsOk n.alternates)
@@ -80,7 +79,7 @@ pub fn plan<'a, O: Objects, G: Objects, N: Negotiator, W: Write>(
         Negotiation<'a, O, NoRefs, N, G, AllocError>,
         ShallowMemory,
         NeverInterrupt,
-        Quiet,
+        Discard,
         ReadToEnd,
     >();
     let context = match read_specs(alloc, specs) {

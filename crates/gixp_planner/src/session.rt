@@ -7,7 +7,6 @@ ghost use Rattle.gixp_planner.specs.Text.{ended_of};
 
 use crate::error::PlanError;
 use crate::names::{fetch_variant, handshake_variant, refs_variant};
-use crate::quiet::Quiet;
 use gix_protocol::command::{CommandTable, Feature};
 use gix_protocol::credentials::{self, Action};
 use gix_protocol::fetch::negotiate::{
@@ -19,7 +18,7 @@ use gix_protocol::fetch::{
     Tags,
 };
 use gix_protocol::handshake::{self, obtain};
-use gix_protocol::transport::{Interrupt, NeverInterrupt, Service, Transport};
+use gix_protocol::transport::{Discard, Interrupt, NeverInterrupt, Service, Transport};
 use gix_protocol::{Handshake, agent};
 use std::alloc::{AllocError, Global};
 
@@ -43,7 +42,7 @@ fn agent_feature(alloc: Global) -> Result<Feature, AllocError>
 fn greet<T: Transport>(alloc: Global, transport: &mut T) -> Result<Handshake, handshake::Error>
     ensures { Greets T.is_plain (T.reading transport.old) (T.reading transport.new) result }
 {
-    let mut quiet = Quiet;
+    let mut progress = Discard;
     handshake::handshake(
         alloc,
         transport,
@@ -52,7 +51,7 @@ fn greet<T: Transport>(alloc: Global, transport: &mut T) -> Result<Handshake, ha
             ensures { result ≡ Ok None }
         { Ok(None) },
         Vec::new(alloc),
-        &mut quiet,
+        &mut progress,
     )
 }
 
@@ -69,10 +68,10 @@ fn map_refs<T: Transport>(
     let Ok(agent) = agent_feature(alloc) else {
         return Err(init::Error::Memory);
     };
-    let mut quiet = Quiet;
+    let mut progress = Discard;
     let table = CommandTable::git();
     obtain(
-        alloc, handshake, &table, agent, context, &mut quiet, transport,
+        alloc, handshake, &table, agent, context, &mut progress, transport,
     )
 }
 
@@ -86,7 +85,7 @@ fn fetch_over<N: Negotiate, T: Transport>(
     shallow: &Shallow,
     boundary: &mut ShallowMemory,
     reader: &mut ReadToEnd,
-    quiet: &mut Quiet,
+    progress: &mut Discard,
     never: &mut NeverInterrupt,
 ) -> Result<Option<Outcome>, fetch::Error<N::AlternatesError, CopyError>>
     requires agent { feature_value agent ≡ planner_agent }
@@ -96,13 +95,13 @@ fn fetch_over<N: Negotiate, T: Transport>(
           office = record { count = N.count; marks = N.marks; adds = N.adds; goes = N.goes; marking_fails = N.marking_fails; adding_fails = N.adding_fails; round_fails = N.round_fails };
           shop = record { failures = ⟦<ShallowMemory as ShallowStore>⟧.failures; locks = ⟦<ShallowMemory as ShallowStore>⟧.locks; reads = ⟦<ShallowMemory as ShallowStore>⟧.reads; writes = ⟦<ShallowMemory as ShallowStore>⟧.writes; releases = ⟦<ShallowMemory as ShallowStore>⟧.releases };
           says = ⟦<NeverInterrupt as Interrupt>⟧.says;
-          consumes = ⟦<ReadToEnd as ConsumePack<Quiet>>⟧.consumes;
+          consumes = ⟦<ReadToEnd as ConsumePack<Discard>>⟧.consumes;
           plain = T.is_plain;
         })
         handshake.old
         (record { negotiate = negotiation.old; reading = T.reading transport.old; interrupt = never.old; store = boundary.old; locked = false; consumer = reader.old })
         result
-        (record { negotiate = negotiation.new; reading = T.reading transport.new; interrupt = never.new; store = boundary.new; locked = false; consumer = reader.new }) quiet.new }
+        (record { negotiate = negotiation.new; reading = T.reading transport.new; interrupt = never.new; store = boundary.new; locked = false; consumer = reader.new }) progress.new }
 {
     let context = fetch::Context {
         handshake,
@@ -119,7 +118,7 @@ fn fetch_over<N: Negotiate, T: Transport>(
         alloc,
         negotiation,
         reader,
-        quiet,
+        progress,
         never,
         agent,
         context,
@@ -142,7 +141,7 @@ fn fetch_mapped<'a, O: Objects, G: Objects, N: Negotiator, T: Transport>(
           office = record { count = ⟦<Negotiation<'a, O, NoRefs, N, G, AllocError> as Negotiate>⟧.count; marks = ⟦<Negotiation<'a, O, NoRefs, N, G, AllocError> as Negotiate>⟧.marks; adds = ⟦<Negotiation<'a, O, NoRefs, N, G, AllocError> as Negotiate>⟧.adds; goes = ⟦<Negotiation<'a, O, NoRefs, N, G, AllocError> as Negotiate>⟧.goes; marking_fails = ⟦<Negotiation<'a, O, NoRefs, N, G, AllocError> as Negotiate>⟧.marking_fails; adding_fails = ⟦<Negotiation<'a, O, NoRefs, N, G, AllocError> as Negotiate>⟧.adding_fails; round_fails = ⟦<Negotiation<'a, O, NoRefs, N, G, AllocError> as Negotiate>⟧.round_fails };
           shop = record { failures = ⟦<ShallowMemory as ShallowStore>⟧.failures; locks = ⟦<ShallowMemory as ShallowStore>⟧.locks; reads = ⟦<ShallowMemory as ShallowStore>⟧.reads; writes = ⟦<ShallowMemory as ShallowStore>⟧.writes; releases = ⟦<ShallowMemory as ShallowStore>⟧.releases };
           says = ⟦<NeverInterrupt as Interrupt>⟧.says;
-          consumes = ⟦<ReadToEnd as ConsumePack<Quiet>>⟧.consumes;
+          consumes = ⟦<ReadToEnd as ConsumePack<Discard>>⟧.consumes;
           plain = T.is_plain;
         })
         (λ n. (n.objects.now ≡ objects.now) × (n.graph.now ≡ graph.old) × (n.negotiator.now ≡ negotiator.old) × (n.ref_map.now ≡ map.now) × (n.shallow.now ≡ Shallow.NoChange) × (n.tags ≡ Tags.None) × IfOk n.alternates (λ a. a.now ≡ []) × IsOk n.alternates)
@@ -164,7 +163,7 @@ fn fetch_mapped<'a, O: Objects, G: Objects, N: Negotiator, T: Transport>(
     let mut negotiation = Negotiation::new(context, map, &shallow, Tags::None);
     let mut boundary = ShallowMemory::new(Vec::new(alloc));
     let mut reader = ReadToEnd;
-    let mut quiet = Quiet;
+    let mut progress = Discard;
     let mut never = NeverInterrupt;
     fetch_over(
         alloc,
@@ -175,7 +174,7 @@ fn fetch_mapped<'a, O: Objects, G: Objects, N: Negotiator, T: Transport>(
         &shallow,
         &mut boundary,
         &mut reader,
-        &mut quiet,
+        &mut progress,
         &mut never,
     )
 }
@@ -219,7 +218,7 @@ pub(crate) fn run<'a, O: Objects, G: Objects, N: Negotiator, T: Transport>(
           office = record { count = ⟦<Negotiation<'a, O, NoRefs, N, G, AllocError> as Negotiate>⟧.count; marks = ⟦<Negotiation<'a, O, NoRefs, N, G, AllocError> as Negotiate>⟧.marks; adds = ⟦<Negotiation<'a, O, NoRefs, N, G, AllocError> as Negotiate>⟧.adds; goes = ⟦<Negotiation<'a, O, NoRefs, N, G, AllocError> as Negotiate>⟧.goes; marking_fails = ⟦<Negotiation<'a, O, NoRefs, N, G, AllocError> as Negotiate>⟧.marking_fails; adding_fails = ⟦<Negotiation<'a, O, NoRefs, N, G, AllocError> as Negotiate>⟧.adding_fails; round_fails = ⟦<Negotiation<'a, O, NoRefs, N, G, AllocError> as Negotiate>⟧.round_fails };
           shop = record { failures = ⟦<ShallowMemory as ShallowStore>⟧.failures; locks = ⟦<ShallowMemory as ShallowStore>⟧.locks; reads = ⟦<ShallowMemory as ShallowStore>⟧.reads; writes = ⟦<ShallowMemory as ShallowStore>⟧.writes; releases = ⟦<ShallowMemory as ShallowStore>⟧.releases };
           says = ⟦<NeverInterrupt as Interrupt>⟧.says;
-          consumes = ⟦<ReadToEnd as ConsumePack<Quiet>>⟧.consumes;
+          consumes = ⟦<ReadToEnd as ConsumePack<Discard>>⟧.consumes;
           plain = T.is_plain;
         })
         (λ n. (n.objects.now ≡ objects.now) × (n.graph.now ≡ graph.old) × (n.negotiator.now ≡ negotiator.old) × (n.ref_map.now ≡ m) × (n.shallow.now ≡ Shallow.NoChange) × (n.tags ≡ Tags.None) × IfOk n.alternates (λ a. a.now ≡ []) × IsOk n.alternates)
