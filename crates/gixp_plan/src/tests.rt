@@ -1,7 +1,9 @@
 //! Listed answers: rows with known lines, answers of real servers beside what git prints of them,
 //! and devices that fail or give less than was asked for.
-use crate::words::file_of;
-use crate::{ListError, list_refs};
+use crate::recording::{read_bodies, read_haves};
+use crate::words::{file_of, session_of};
+use crate::{ListError, PlanError, list_refs, parse_haves};
+use gix_protocol::handshake::refs::parse;
 use std::alloc::{AllocError, Global};
 use std::io;
 use std::io::{ErrorKind, Read, Write};
@@ -83,6 +85,15 @@ fn listed(alloc: Global, mut from: Source<'_>, mut to: Sink) -> Result<Vec<u8>, 
         Err(e) => to.text.extend_from_slice(e.variant().as_bytes())?,
     }
     Ok(to.text)
+}
+
+// The answer, unless an allocation failed.
+fn unless_memory(answer: Result<(), ListError>) -> Result<Result<(), ListError>, Fail> {
+    match answer {
+        Err(ListError::Parse(parse::Error::Memory)) => Err(Fail::from(AllocError)),
+        Err(ListError::Io(ErrorKind::OutOfMemory)) => Err(Fail::from(AllocError)),
+        answer => Ok(answer),
+    }
 }
 
 // `$`, `%` and `&` of a row stand for three ids.
@@ -269,7 +280,7 @@ fn tells_of_devices_that_fail(rt: HostRuntime) -> Result<(), Fail> {
             step: 15,
             fails,
         };
-        let answer = list_refs(a, &mut steady(bytes, usize::MAX), &mut to);
+        let answer = unless_memory(list_refs(a, &mut steady(bytes, usize::MAX), &mut to))?;
         assert!(rt;
             matches!(answer, Err(ListError::Io(ErrorKind::BrokenPipe))),
             "at write {fails}"
@@ -292,19 +303,64 @@ fn tells_of_devices_that_fail(rt: HostRuntime) -> Result<(), Fail> {
 #[test]
 fn takes_refs_and_a_file(rt: HostRuntime) -> Result<(), Fail> {
     let a = rt.alloc();
-    for (line, want) in [
-        ("gixp_plan refs x y", None),
-        ("gixp_plan refs x", Some("x")),
-        ("gixp_plan refs", None),
-        ("gixp_plan plan x", None),
-        ("gixp_plan Refs x", None),
-        ("gixp_plan", None),
+    for (line, file, session) in [
+        ("gixp_plan refs x y", None, None),
+        ("gixp_plan refs x", Some("x"), None),
+        ("gixp_plan refs", None, None),
+        ("gixp_plan plan", None, None),
+        ("gixp_plan plan x", None, None),
+        ("gixp_plan plan x y", None, Some(("x", 1))),
+        ("gixp_plan plan x y  z", None, Some(("x", 3))),
+        ("gixp_plan Refs x", None, None),
+        ("gixp_plan Plan x y", None, None),
+        ("gixp_plan", None, None),
     ] {
         let mut words = Vec::new(a);
         for word in line.split(' ') {
             words.push(String::from_str(a, word)?)?;
         }
-        assert_eq!(rt; file_of(words.as_slice()), want, "of {line}");
+        assert_eq!(rt; file_of(words.as_slice()), file, "of {line}");
+        let found = match session_of(words.as_slice()) {
+            Some((folder, specs)) => Some((folder, specs.len())),
+            None => None,
+        };
+        assert_eq!(rt; found, session, "of {line}");
+    }
+    Ok(())
+}
+
+// How many were read, or the refusal, unless an allocation failed.
+fn counted<T>(answer: &Result<Vec<T>, PlanError>) -> Result<Result<usize, PlanError>, Fail> {
+    match answer {
+        Ok(found) => Ok(Ok(found.len())),
+        Err(e) if e.variant == "Memory" => Err(Fail::from(AllocError)),
+        Err(e) => Ok(Err(*e)),
+    }
+}
+
+// A file that isn't there ends the bodies, or leaves no haves. One that can't be read is refused: no path has a NUL.
+#[test]
+fn reads_a_folder_up_to_what_is_missing(rt: HostRuntime) -> Result<(), Fail> {
+    let refused = PlanError {
+        step: "file",
+        variant: "Io",
+    };
+    for (folder, want) in [("no such folder", Ok(0)), ("\0", Err(refused))] {
+        let bodies = read_bodies(&rt, folder);
+        assert_eq!(rt; counted(&bodies)?, want, "bodies of {folder}");
+        let haves = read_haves(&rt, folder);
+        assert_eq!(rt; counted(&haves)?, want, "haves of {folder}");
+    }
+    Ok(())
+}
+
+#[test]
+fn tells_the_step_and_the_variant(rt: HostRuntime) -> Result<(), Fail> {
+    let a = rt.alloc();
+    let haves = parse_haves(a, b"no id\n");
+    match counted(&haves)? {
+        Ok(count) => assert_eq!(rt; count, usize::MAX, "it is no id"),
+        Err(e) => assert_eq!(rt; format!(in a; "{e}")?.as_str(), "have Decode"),
     }
     Ok(())
 }

@@ -1,5 +1,5 @@
 //! What no clause over a reader can say: the kind of a read that failed, and how far a reader is read.
-use crate::tests::{Source, collecting, steady};
+use crate::tests::{Source, collecting, steady, unless_memory};
 use crate::{ListError, list_refs};
 use gix_protocol::handshake::refs::parse;
 use std::io::ErrorKind;
@@ -16,7 +16,7 @@ fn keeps_the_kind_of_a_failed_read(rt: HostRuntime) -> Result<(), Fail> {
             fails,
             kind: ErrorKind::ConnectionReset,
         };
-        let answer = list_refs(a, &mut from, &mut collecting(a));
+        let answer = unless_memory(list_refs(a, &mut from, &mut collecting(a)))?;
         assert!(rt;
             matches!(
                 answer,
@@ -35,7 +35,7 @@ fn reads_no_more_than_a_buffer(rt: HostRuntime) -> Result<(), Fail> {
     bytes[..4].copy_from_slice(b"0000");
     for (step, left) in [(4, 69_996), (5, 69_995), (usize::MAX, 70_000 - 65_520)] {
         let mut from = steady(&bytes, step);
-        let answer = list_refs(a, &mut from, &mut collecting(a));
+        let answer = unless_memory(list_refs(a, &mut from, &mut collecting(a)))?;
         assert!(rt; answer.is_ok(), "by {step}");
         assert_eq!(rt; from.bytes.len(), left, "by {step}");
     }
