@@ -15,23 +15,16 @@ import tempfile
 
 HERE = pathlib.Path(__file__).resolve().parent
 TOP = HERE.parent.parent
-LINES = """\
-gixp_wire: bstr hex thiserror
-gixp_lines: gixp_wire bstr thiserror
-gixp_requests: gixp_wire bstr thiserror
-gixp_graph: gixp_wire bstr thiserror bitflags
-gixp_refspec: gixp_wire bstr thiserror
-gixp_refmap: gixp_wire gixp_lines gixp_requests gixp_refspec bstr indexmap thiserror
-gixp_negotiate: gixp_wire gixp_lines gixp_requests gixp_graph gixp_refspec gixp_refmap bstr thiserror
-gixp_memory: gixp_wire gixp_graph bstr
-negotiate_bench: gixp_wire gixp_lines gixp_graph gixp_refmap gixp_negotiate gixp_memory bstr anyhow
-"""
+BELOW = "wire lines requests graph refspec refmap negotiate memory"
+PROGRAM = "negotiate_bench: gixp_wire gixp_lines gixp_graph gixp_refmap gixp_negotiate gixp_memory bstr anyhow\n"
 
 
 def built(work):
     crates = work / "crates"
-    for line in LINES.splitlines()[:-1]:
-        name = line.split(":")[0]
+    names = [f"gixp_{it}" for it in BELOW.split()]
+    # The lines are those of the repository, so that what is proved already counts here.
+    lines = [it for it in (TOP / "crates.txt").read_text().splitlines() if it.split(":")[0] in names]
+    for name in names:
         # What is proved already comes along.
         shutil.copytree(TOP / "crates" / name, crates / name, ignore=shutil.ignore_patterns("incremental", "must-fail"))
     # The program's files end in `.in`, so that no check of the repository reads them; its history is that of `graph`.
@@ -42,7 +35,7 @@ def built(work):
             target.parent.mkdir(parents=True, exist_ok=True)
             target.write_text(source.read_text().replace("graph_bench", "negotiate_bench"))
     (work / "HANDLES").write_text("Handles allowed: none.\n")
-    (work / "crates.txt").write_text(LINES)
+    (work / "crates.txt").write_text("".join(f"{it}\n" for it in lines) + PROGRAM)
     rt = os.environ.get("RT", "rt")
     subprocess.run([rt, "run", "--", "decide", "1000"], cwd=program, check=True, stdout=sys.stderr)
     baseline = work / "baseline"
