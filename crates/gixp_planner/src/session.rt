@@ -42,7 +42,7 @@ fn agent_feature(alloc: Global) -> Result<Feature, AllocError>
 fn greet<T: Transport>(alloc: Global, transport: &mut T) -> Result<Handshake, handshake::Error>
     ensures { Greets T.is_plain (T.reading transport.old) (T.reading transport.new) result }
 {
-    let mut progress = Discard;
+    let mut quiet = Discard;
     handshake::handshake(
         alloc,
         transport,
@@ -51,7 +51,7 @@ fn greet<T: Transport>(alloc: Global, transport: &mut T) -> Result<Handshake, ha
             ensures { result ≡ Ok None }
         { Ok(None) },
         Vec::new(alloc),
-        &mut progress,
+        &mut quiet,
     )
 }
 
@@ -68,10 +68,10 @@ fn map_refs<T: Transport>(
     let Ok(agent) = agent_feature(alloc) else {
         return Err(init::Error::Memory);
     };
-    let mut progress = Discard;
+    let mut quiet = Discard;
     let table = CommandTable::git();
     obtain(
-        alloc, handshake, &table, agent, context, &mut progress, transport,
+        alloc, handshake, &table, agent, context, &mut quiet, transport,
     )
 }
 
@@ -85,7 +85,7 @@ fn fetch_over<N: Negotiate, T: Transport>(
     shallow: &Shallow,
     boundary: &mut ShallowMemory,
     reader: &mut ReadToEnd,
-    progress: &mut Discard,
+    quiet: &mut Discard,
     never: &mut NeverInterrupt,
 ) -> Result<Option<Outcome>, fetch::Error<N::AlternatesError, CopyError>>
     requires agent { feature_value agent ≡ planner_agent }
@@ -101,7 +101,7 @@ fn fetch_over<N: Negotiate, T: Transport>(
         handshake.old
         (record { negotiate = negotiation.old; reading = T.reading transport.old; interrupt = never.old; store = boundary.old; locked = false; consumer = reader.old })
         result
-        (record { negotiate = negotiation.new; reading = T.reading transport.new; interrupt = never.new; store = boundary.new; locked = false; consumer = reader.new }) progress.new }
+        (record { negotiate = negotiation.new; reading = T.reading transport.new; interrupt = never.new; store = boundary.new; locked = false; consumer = reader.new }) quiet.new }
 {
     let context = fetch::Context {
         handshake,
@@ -118,7 +118,7 @@ fn fetch_over<N: Negotiate, T: Transport>(
         alloc,
         negotiation,
         reader,
-        progress,
+        quiet,
         never,
         agent,
         context,
@@ -163,7 +163,7 @@ fn fetch_mapped<'a, O: Objects, G: Objects, N: Negotiator, T: Transport>(
     let mut negotiation = Negotiation::new(context, map, &shallow, Tags::None);
     let mut boundary = ShallowMemory::new(Vec::new(alloc));
     let mut reader = ReadToEnd;
-    let mut progress = Discard;
+    let mut quiet = Discard;
     let mut never = NeverInterrupt;
     fetch_over(
         alloc,
@@ -174,7 +174,7 @@ fn fetch_mapped<'a, O: Objects, G: Objects, N: Negotiator, T: Transport>(
         &shallow,
         &mut boundary,
         &mut reader,
-        &mut progress,
+        &mut quiet,
         &mut never,
     )
 }
