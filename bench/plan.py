@@ -6,7 +6,8 @@ Usage: plan.py PROGRAM [REFS] [RUNS]
 PROGRAM is the built gixp_plan (`rt run` in crates/gixp_plan leaves it in out/). The session is one of version 2: an
 `ls-refs` answer of REFS refs to the commits and the tag of a small repository, and a pack of all of it. git reads the
 same bodies from a script given as its --upload-pack, into an empty repository, with the same refspec
-`+refs/*:refs/mirror/*`. Each is run RUNS times in turn, and the best time of each counts.
+`+refs/*:refs/mirror/*`. Each is run RUNS times in turn, and the best time of each counts. GNU time
+measures the memory.
 """
 import os
 import subprocess
@@ -62,18 +63,11 @@ def write_server(path, folder):
 
 def run(words, environment):
     """Seconds of wall time, and the most memory in KiB, of one run with its output thrown away."""
-    start = time.perf_counter()
-    child = os.fork()
-    if child == 0:
-        null = os.open(os.devnull, os.O_WRONLY)
-        os.dup2(null, 1)
-        os.dup2(null, 2)
-        os.execvpe(words[0], words, environment)
-    _, status, usage = os.wait4(child, 0)
-    seconds = time.perf_counter() - start
-    if status != 0:
-        sys.exit(f"{words[0]} ended with {status}")
-    return seconds, usage.ru_maxrss
+    with tempfile.NamedTemporaryFile("r") as memory:
+        measured = ["time", "-o", memory.name, "-f", "%M", *words]
+        start = time.perf_counter()
+        subprocess.run(measured, env=environment, check=True, stdout=subprocess.DEVNULL, stderr=subprocess.DEVNULL)
+        return time.perf_counter() - start, int(memory.read())
 
 
 def main():

@@ -6,10 +6,11 @@ Usage: refs.py PROGRAM [REFS] [RUNS]
 PROGRAM is the built gixp_plan (`rt run` in crates/gixp_plan leaves it in out/). The answer is a version 2
 `ls-refs` answer of REFS refs behind a symbolic HEAD. git reads it from a script given as its --upload-pack,
 which prints a version 2 advertisement and then the answer. Each is run RUNS times in turn, and the best time
-of each counts.
+of each counts. GNU time measures the memory.
 """
 import hashlib
 import os
+import subprocess
 import sys
 import tempfile
 import time
@@ -47,17 +48,11 @@ def write_server(path, answer):
 
 def run(words, environment):
     """Seconds of wall time, and the most memory in KiB, of one run with its output thrown away."""
-    start = time.perf_counter()
-    child = os.fork()
-    if child == 0:
-        null = os.open(os.devnull, os.O_WRONLY)
-        os.dup2(null, 1)
-        os.execvpe(words[0], words, environment)
-    _, status, usage = os.wait4(child, 0)
-    seconds = time.perf_counter() - start
-    if status != 0:
-        sys.exit(f"{words[0]} ended with {status}")
-    return seconds, usage.ru_maxrss
+    with tempfile.NamedTemporaryFile("r") as memory:
+        measured = ["time", "-o", memory.name, "-f", "%M", *words]
+        start = time.perf_counter()
+        subprocess.run(measured, env=environment, check=True, stdout=subprocess.DEVNULL)
+        return time.perf_counter() - start, int(memory.read())
 
 
 def main():

@@ -2,7 +2,7 @@
 """Times the proved decision, with its marks, beside the same in plain Rust, in one run.
 
 Builds both in a temporary folder, so that the benchmark's program is no part of the repository's crates.
-Needs `rt` (or what RT names), `rustc` and Python 3. Prints, for each size of history: time a commit held, and the
+Needs `rt` (or what RT names), `rustc`, GNU time and Python 3. Prints, for each size of history: time a commit held, and the
 memory that the decision adds to that of the history, the refs and the mappings, a commit held and a ref. There is a
 local ref and a mapping for each ten commits. The better of five runs each, in turn.
 """
@@ -45,13 +45,10 @@ def built(work):
 
 def run(program, mode, commits):
     """What a run printed, and its peak memory in bytes."""
-    child = (
-        "import resource, subprocess, sys;"
-        "out = subprocess.run(sys.argv[1:], capture_output=True, text=True, check=True).stdout;"
-        "print(out.strip(), resource.getrusage(resource.RUSAGE_CHILDREN).ru_maxrss * 1024)"
-    )
-    words = [sys.executable, "-c", child, str(program), mode, str(commits)]
-    return subprocess.run(words, capture_output=True, text=True, check=True).stdout.split()
+    with tempfile.NamedTemporaryFile("r") as memory:
+        words = ["time", "-o", memory.name, "-f", "%M", str(program), mode, str(commits)]
+        printed = subprocess.run(words, capture_output=True, text=True, check=True).stdout.split()
+        return printed + [int(memory.read()) * 1024]
 
 
 def main():

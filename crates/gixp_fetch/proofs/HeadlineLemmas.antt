@@ -2,6 +2,8 @@
 use Rattle.std.proofs.Common.{◌≡◌, ◌⊎◌, inl, inr, ℕ, Bool, true, false, List, [], ◌∷◌, ◌++◌, map, refl, sym, ap, subst, ◌∙◌, Option, Some, None}
 use Rattle.std.specs.Prelude.{Result, Ok, Err, IfSome, Vec, ⊤}
 use Rattle.std.specs.declared.alloc.Global.{Global}
+use Rattle.std.specs.Borrow.{GName}
+use Rattle.gixp_wire.specs.declared.object_id.ObjectId.{ObjectId}
 use Rattle.gixp_wire.specs.declared.protocol.Protocol.{Protocol}
 use Rattle.gixp_wire.specs.declared.protocol.MessageKind.{MessageKind}
 use Rattle.gixp_wire.specs.declared.service.Service.{Service}
@@ -22,6 +24,7 @@ use Rattle.gixp_lines.specs.V1Refs.{ReadsV1}
 use Rattle.gixp_lines.specs.ResponseError.{from_reader}
 use Rattle.gixp_lines.specs.Answer.{AnswerValue, Found}
 use Rattle.gixp_lines.specs.AnswerReading.{Answered}
+use Rattle.gixp_requests.specs.Arguments.{ArgumentsValue}
 use Rattle.gixp_requests.specs.Feature.{FeatureValue}
 use Rattle.gixp_requests.specs.Command.{Table}
 use Rattle.gixp_refmap.specs.declared.ls_refs.error.Error.{Error as list_error}
@@ -34,18 +37,24 @@ use Rattle.gixp_handshake.specs.declared.handshake.ref_map.ObtainRefMap.{ObtainR
 use Rattle.gixp_handshake.specs.declared.handshake.ref_map.ObtainRefMap.TheVariants.{Existing, LsRefsCommand}
 use Rattle.gixp_handshake.specs.Shake.{Turn as credential_turn, Opened, Opens, NoMemory, GoesOn, Keeps, ReadsFirst, Shakes, is_accepted}
 use Rattle.gixp_handshake.specs.Obtain.{MakesMap, PreparesBy, ByList, ObtainsBy, Obtains}
-use Rattle.gixp_negotiate.specs.Negotiate.{Lawful, IsWide}
+use Rattle.gixp_negotiate.specs.declared.negotiate.Round.{Round}
+use Rattle.gixp_negotiate.specs.Negotiate.{ActionValue, Lawful, IsWide}
 use Rattle.gixp_fetch.specs.declared.options.Outcome.{Outcome}
 use Rattle.gixp_fetch.specs.declared.error.Error.{Error}
-use Rattle.gixp_fetch.specs.FetchRounds.{At, Turn, Manner, Turns, Rounds}
+use Rattle.gixp_fetch.specs.declared.receive.PackFailure.{PackFailure}
+use Rattle.gixp_fetch.specs.declared.receive.PackFailure.TheVariants.{Consumer, Rest}
+use Rattle.gixp_fetch.specs.FetchRounds.{At, Turn, Manner, Turns, Rounds, Interrupts, DoneWithout, RoundsFail}
 use Rattle.gixp_fetch.specs.View.{view}
 use Rattle.gixp_fetch.specs.Sent.{request_of, requests_of, WroteRequests}
 use Rattle.gixp_fetch.specs.Receive.{fresh_side}
-use Rattle.gixp_fetch.specs.Received.{Received}
-use Rattle.gixp_fetch.specs.Fetch.{World, Parties}
-use Rattle.gixp_fetch.specs.Fetched.{Call, Fetches}
-use Rattle.gixp_fetch.specs.Headline.{AnswersAreRefused, RefsAreRefused, AdvertisementsAreRefused, Run, Shown, Listed, IsAnswer, AreAnswers, TakesPack, Converses, Promise}
-use Rattle.gixp_fetch.proofs.SentLemmas.{last_written, held_written}
+use Rattle.gixp_fetch.specs.Received.{PackFails, Received}
+use Rattle.gixp_fetch.specs.Session.{Undelivered, at_lock, at_boundary}
+use Rattle.gixp_fetch.specs.Session as session
+use Rattle.gixp_fetch.specs.Sessions.{Begins}
+use Rattle.gixp_fetch.specs.Fetch.{World, Parties, Negotiated, Fails, unopened, unready, unpacked, untold, undelivered}
+use Rattle.gixp_fetch.specs.Fetched.{Call, Fetches, unprepared, unlocked}
+use Rattle.gixp_fetch.specs.Headline.{AnswersAreRefused, RefsAreRefused, AdvertisementsAreRefused, Chain, Run, Shown, Listed, IsAnswer, AreAnswers, TakesPack, manner_of, BreaksOff, at_round, between, at_pack, BrokenOff, Converses, Promise}
+use Rattle.gixp_fetch.proofs.SentLemmas.{none_written, both_written, held_written, turn_written}
 use Rattle.gixp_fetch.proofs.SessionLemmas.{received_held, begins_of, session_held}
 
 -- ---- refusals
@@ -172,14 +181,24 @@ is_answer : (found : Pieces → Found) (version : Protocol) (old new : Reading) 
 is_answer found version old new value (inl r) = inl r.answer
 is_answer found version old new value (inr b) = inr b.failures
 
-module _ {N I A : Type 0} (m : Manner N I A) where
-  are_answers : (start before : At N I) (ts : List (Turn N I)) (last : Turn N I) → Rounds m start ts before → Turns m before last → AreAnswers m.version m.banded (ts ++ last ∷ [])
-  are_answers start before [] last r h = (is_answer _ _ _ _ _ h.answer, tt)
-  are_answers start before (t ∷ ts) last r h = (is_answer _ _ _ _ _ r.0.answer, are_answers t.after before ts last r.3 h)
+-- ---- rounds
 
-requests_more : {N I : Type 0} (ts : List (Turn N I)) (t : Turn N I) → requests_of (ts ++ t ∷ []) ≡ requests_of ts ++ request_of t ∷ []
-requests_more [] t = refl
-requests_more (s ∷ ss) t = ap (λ rs. request_of s ∷ rs) (requests_more ss t)
+module _ {N I A : Type 0} (m : Manner N I A) where
+  chain_of : (start end : At N I) (ts : List (Turn N I)) → Rounds m start ts end → Chain m start ts end
+  chain_of start end [] r = r
+  chain_of start end (t ∷ ts) r = (r.0, chain_of t.after end ts r.3)
+
+  chain_last : (start before : At N I) (ts : List (Turn N I)) (last : Turn N I) → Rounds m start ts before → Turns m before last → Chain m start (ts ++ last ∷ []) last.after
+  chain_last start before [] last r h = (subst (λ x. Turns m x last) r h, refl)
+  chain_last start before (t ∷ ts) last r h = (r.0, chain_last t.after before ts last r.3 h)
+
+  chain_answers : (start end : At N I) (ts : List (Turn N I)) → Chain m start ts end → AreAnswers m.version m.banded ts
+  chain_answers start end [] r = tt
+  chain_answers start end (t ∷ ts) r = (is_answer _ _ _ _ _ r.0.answer, chain_answers t.after end ts r.1)
+
+  chain_written : (start end : At N I) (ts : List (Turn N I)) → Chain m start ts end → WroteRequests start.reading end.reading (requests_of ts)
+  chain_written start end [] r = subst (λ (x : At N I). WroteRequests start.reading x.reading []) (sym r) (none_written start.reading)
+  chain_written start end (t ∷ ts) r = both_written start.reading t.after.reading end.reading (request_of t ∷ []) (requests_of ts) (turn_written m start t r.0) (chain_written t.after end ts r.1)
 
 -- ---- the pack
 
@@ -201,7 +220,7 @@ module _ {N I A S C P X : Type 0} (parties : Parties N I A S C P X) where
   takes_pack : (c : C) (from : Reading) (d : C) (new : Reading) (q : P) → from.stopped ≡ None → Received parties.consumes c from d new q → TakesPack parties c from d
   takes_pack c from d new q e r = record {
     before = r.p;
-    finished = r.finished;
+    returned = Ok r.finished;
     start = fresh_side r.name from;
     end = r.mid;
     behind = q;
@@ -212,14 +231,101 @@ module _ {N I A S C P X : Type 0} (parties : Parties N I A S C P X) where
     begins = begins_content from.to_come from.stopped r.mid r.consumed.read e r.consumed.reads.content;
   }
 
+  -- the consumer refused it, or what stands behind it was refused
+  refuses_pack : (c : C) (from : Reading) (d : C) (q : P) (name : GName) (p : P) (error : PackFailure X) (end : Side) → from.stopped ≡ None → PackFails parties.consumes c (fresh_side name from) p error d end q → TakesPack parties c from d
+  refuses_pack c from d q name p (Consumer e) end s f = record {
+    before = p;
+    returned = Err e;
+    start = fresh_side name from;
+    end = end;
+    behind = q;
+    lent = refl;
+    took = f.took;
+    read = f.read;
+    reads = f.reads;
+    begins = begins_content from.to_come from.stopped end f.read s f.reads.content;
+  }
+  refuses_pack c from d q name p (Rest e) end s f = record {
+    before = p;
+    returned = Ok true;
+    start = fresh_side name from;
+    end = f.0;
+    behind = q;
+    lent = refl;
+    took = f.1.took;
+    read = f.1.read;
+    reads = f.1.reads;
+    begins = begins_content from.to_come from.stopped f.0 f.1.read s f.1.reads.content;
+  }
+
+  module _ (call : Call) (banded : Bool) (given : ArgumentsValue) (old : World N I S C) (e : Error A X) (new : World N I S C) (progress : P) where
+    abbrev Broken : Type 0
+    Broken = BrokenOff parties call old.negotiate old.consumer old.reading e new.negotiate new.consumer new.reading
+
+    broken_at : (start end : At N I) (turns : List (Turn N I)) → Begins parties.office old.negotiate start.negotiate → start.reading ≡ old.reading → Chain (manner_of parties call banded) start turns end
+        → BreaksOff parties call banded old.consumer end e new.negotiate new.consumer new.reading → Broken
+    broken_at start end turns b h c ends = record {
+      banded = banded;
+      start = start;
+      turns = turns;
+      end = end;
+      begins = b;
+      here = h;
+      run = c;
+      answers = chain_answers (manner_of parties call banded) start end turns c;
+      requests = subst (λ (r : Reading). WroteRequests r end.reading (requests_of turns)) h (chain_written (manner_of parties call banded) start end turns c);
+      ends = ends;
+    }
+
+    broken_rounds : (start : At N I) (rounds : List Round) → Begins parties.office old.negotiate start.negotiate → start.reading ≡ old.reading → new.consumer ≡ old.consumer
+        → RoundsFail (manner_of parties call banded) start e rounds new.negotiate new.reading new.interrupt → Broken
+    broken_rounds start rounds b h c (inl f) = by_end f.ends
+      where
+        by_end : Interrupts (manner_of parties call banded) start rounds f.end ⊎ DoneWithout (manner_of parties call banded) start rounds f.end → Broken
+        by_end (inl i) = broken_at start i.before i.turns b h (chain_of (manner_of parties call banded) start i.before i.turns i.run) (between (f.reads ∙ ap (λ (a : At N I). a.reading) i.stands) c)
+        by_end (inr d) = broken_at start d.last.after (d.turns ++ d.last ∷ []) b h (chain_last (manner_of parties call banded) start d.before d.turns d.last d.run d.lasts) (between (f.reads ∙ ap (λ (a : At N I). a.reading) d.stands) c)
+    broken_rounds start rounds b h c (inr f) = broken_at start f.before f.turns b h (chain_of (manner_of parties call banded) start f.before f.turns f.run) (at_round f.refused)
+
+    broken_packed : (ids : List ObjectId) (read : S) (action : ActionValue) (rounds : List Round) (updates : List ShallowUpdate) (reply : AnswerValue) (end : At N I)
+        → Negotiated parties call.version banded call.wishes given old ids read action rounds updates reply end
+        → ((from : At N I) → end ≡ from → from.reading.stopped ≡ None → BreaksOff parties call banded old.consumer from e new.negotiate new.consumer new.reading) → Broken
+    broken_packed ids read action rounds updates reply end n ends =
+        let p = n.packed in
+        broken_at _ p.last.after (p.turns ++ p.last ∷ []) (begins_of parties.office old.negotiate n.begun.asked action n.ready n.wanted n.begun.readied) refl
+        (chain_last (manner_of parties call banded) _ p.before p.turns p.last p.run p.lasts)
+        (ends p.last.after p.stands (sym (view_stopped banded p.last.after.reading) ∙ runs_on _ _ _ _ _ p.pack p.lasts.answer))
+
+    broken_delivery : (from : At N I) (ids : List ObjectId) (read : S) (updates : List ShallowUpdate) → from.reading.stopped ≡ None
+        → Undelivered parties.shop parties.consumes ids updates call.wishes.reject old.consumer read old.locked from.reading e new.consumer new.store new.locked new.reading progress
+        → BreaksOff parties call banded old.consumer from e new.negotiate new.consumer new.reading
+    broken_delivery from ids read updates s (at_lock u d r) = between r d
+    broken_delivery from ids read updates s (session.at_pack h (inl u)) = at_pack (refuses_pack old.consumer from.reading new.consumer progress u.name u.p u.error u.end s u.fails)
+    broken_delivery from ids read updates s (session.at_pack h (inr u)) = between u.2 u.1
+    broken_delivery from ids read updates s (at_boundary held h r u) = at_pack (takes_pack old.consumer from.reading new.consumer new.reading progress s r)
+
+    broken : Fails parties call.version banded call.wishes given old e new progress → (new.reading ≡ old.reading) ⊎ Broken
+    broken (unopened u n r) = inl r.reading
+    broken (unready ids asked o u r) = inl r.reading
+    broken (unpacked rounds u l c) = inr (broken_rounds _ rounds (begins_of parties.office old.negotiate u.begun.asked u.action u.ready u.wanted u.begun.readied) refl c u.fails)
+    broken (untold ids action rounds updates reply end n w g r l c) =
+        inr (broken_packed ids new.store action rounds updates reply end n (λ from at s. between (r ∙ ap (λ (a : At N I). a.reading) at) c))
+    broken (undelivered ids read action rounds updates reply end n g u) =
+        inr (broken_packed ids read action rounds updates reply end n (λ from at s. broken_delivery from ids read (updates ++ call.wishes.told) s
+        (subst (λ (a : At N I). Undelivered parties.shop parties.consumes ids (updates ++ call.wishes.told) call.wishes.reject old.consumer read old.locked a.reading e new.consumer new.store new.locked new.reading progress) at u)))
+
   converses : (call : Call) (old : World N I S C) (result : Result (Option Outcome) (Error A X)) (new : World N I S C) (progress : P) → Fetches parties call old result new progress → Converses parties call old result new
-  converses call old (Err e) new progress h = tt
+  converses call old (Err e) new progress (inl (unprepared u s)) = inl (ap (λ (w : World N I S C). w.reading) s)
+  converses call old (Err e) new progress (inl (unlocked a b p u s)) = inl (ap (λ (w : World N I S C). w.reading) s)
+  converses call old (Err e) new progress (inr h) =
+      subst (λ (w : World N I S C). (w.reading ≡ old.reading) ⊎ BrokenOff parties call old.negotiate old.consumer old.reading e w.negotiate w.consumer w.reading) (sym h.stands)
+      (broken call h.banded h.asked (record old { store = h.held; locked = h.first }) e h.last progress h.meets)
   converses call old (Ok None) new progress h = ap (λ (w : World N I S C). w.reading) h.stands ∙ h.meets.rests.reading
   converses call old (Ok (Some outcome)) new progress h =
       let s = h.meets in
       let n = s.negotiated in
       let p = n.packed in
-      let m : Manner N I A = record { goes = parties.office.goes; fails = parties.office.round_fails; says = parties.says; version = call.version; banded = h.banded; plain = parties.plain } in
+      let m : Manner N I A = manner_of parties call h.banded in
+      let c = chain_last m _ p.before p.turns p.last p.run p.lasts in
       let runs : s.end.reading.stopped ≡ None = ap (λ (a : At N I). a.reading.stopped) p.stands ∙ sym (view_stopped h.banded p.last.after.reading) ∙ runs_on _ _ _ _ _ p.pack p.lasts.answer in
       record {
         banded = h.banded;
@@ -230,10 +336,9 @@ module _ {N I A S C P X : Type 0} (parties : Parties N I A S C P X) where
         begins = begins_of parties.office old.negotiate n.begun.asked _ n.ready n.wanted n.begun.readied;
         here = refl;
         packed = p;
-        answers = are_answers m _ p.before p.turns p.last p.run p.lasts;
-        requests = subst (λ rs. WroteRequests old.reading new.reading rs) (sym (requests_more p.turns p.last))
-            (held_written old.reading p.last.after.reading new.reading _ (last_written m _ p.before p.turns p.last p.run p.lasts)
-            (ap (λ (w : World N I S C). w.reading.held) h.stands ∙ received_held _ _ _ _ _ _ s.delivered.received ∙ ap (λ (a : At N I). a.reading.held) p.stands));
+        answers = chain_answers m _ _ _ c;
+        requests = held_written old.reading p.last.after.reading new.reading _ (chain_written m _ _ _ c)
+            (ap (λ (w : World N I S C). w.reading.held) h.stands ∙ received_held _ _ _ _ _ _ s.delivered.received ∙ ap (λ (a : At N I). a.reading.held) p.stands);
         pack = subst (λ d. TakesPack parties old.consumer s.end.reading d) (ap (λ (w : World N I S C). w.consumer) (sym h.stands)) (takes_pack old.consumer s.end.reading h.last.consumer h.last.reading progress runs s.delivered.received);
       }
 

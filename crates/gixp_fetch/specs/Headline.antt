@@ -38,7 +38,7 @@ use Rattle.gixp_handshake.specs.Obtain.{prefixes_if, Obtains}
 use Rattle.gixp_negotiate.specs.declared.negotiate.Round.{Round}
 use Rattle.gixp_fetch.specs.declared.options.Outcome.{Outcome}
 use Rattle.gixp_fetch.specs.declared.error.Error.{Error}
-use Rattle.gixp_fetch.specs.FetchRounds.{At, Turn, Packed}
+use Rattle.gixp_fetch.specs.FetchRounds.{At, Turn, Manner, Turns, Packed, TurnFails}
 use Rattle.gixp_fetch.specs.View.{view}
 use Rattle.gixp_fetch.specs.Sent.{requests_of, WroteRequests}
 use Rattle.gixp_fetch.specs.Receive.{ReadsOn}
@@ -102,6 +102,11 @@ abbrev pub AreAnswers : {N I : Type 0} → Protocol → Bool → List (Turn N I)
 AreAnswers version banded [] = ⊤
 AreAnswers version banded (t ∷ ts) = IsAnswer (answer_of version (flags t.done (not t.done))) (view banded t.sent) (view banded t.after.reading) t.reply × AreAnswers version banded ts
 
+-- rounds, each from where the one before ended
+abbrev pub Chain : {N I A : Type 0} → Manner N I A → At N I → List (Turn N I) → At N I → Type 0
+Chain m old [] new = new ≡ old
+Chain m old (t ∷ ts) new = Turns m old t × Chain m t.after ts new
+
 module _ {N I A S C P X : Type 0} (parties : Parties N I A S C P X) where
   -- a handshake, the ref map that stands on it, and a fetch, each where the one before left the transport
   pub record Run (call : Call) (context : Context) (start : Reading) (made : RefMap) (old : World N I S C) (result : Result (Option Outcome) (Error A X)) (new : World N I S C) (progress : P) : Type 0 where
@@ -116,18 +121,22 @@ module _ {N I A S C P X : Type 0} (parties : Parties N I A S C P X) where
     pub capabilities : call.capabilities ≡ handshake.capabilities
     pub fetches : Fetches parties call old result new progress
 
-  -- the consumer was lent a reader of the bands here, and what it read begins the joined payloads of band 1
+  -- the consumer was lent a reader of the bands here, and what it read begins the joined payloads of band 1, whatever it returned
   pub record TakesPack (c : C) (from : Reading) (d : C) : Type 0 where
     pub before : P
-    pub finished : Bool
+    pub returned : Result Bool X
     pub start : Side
     pub end : Side
     pub behind : P
     pub lent : start.reading ≡ from
-    pub took : parties.consumes c start before (Ok finished) d end behind
+    pub took : parties.consumes c start before returned d end behind
     pub read : List ℕ
     pub reads : ReadsOn start end read
     pub begins : IfSome from.to_come (λ p. (rest : List ℕ) × (content_of p ≡ read ++ rest))
+
+  -- how the rounds of a call go
+  abbrev pub manner_of : Call → Bool → Manner N I A
+  manner_of call banded = record { goes = parties.office.goes; fails = parties.office.round_fails; says = parties.says; version = call.version; banded = banded; plain = parties.plain }
 
   -- a session that came to a pack: its rounds one behind another, each with its request, which is the stated function of what was asked for, and its answer
   pub record Conversation (call : Call) (old : World N I S C) (rounds : List Round) (new : World N I S C) : Type 0 where
@@ -138,15 +147,34 @@ module _ {N I A S C P X : Type 0} (parties : Parties N I A S C P X) where
     pub end : At N I
     pub begins : Begins parties.office old.negotiate start.negotiate
     pub here : start.reading ≡ old.reading
-    pub packed : Packed (record { goes = parties.office.goes; fails = parties.office.round_fails; says = parties.says; version = call.version; banded = banded; plain = parties.plain }) start rounds updates reply end
+    pub packed : Packed (manner_of call banded) start rounds updates reply end
     pub answers : AreAnswers call.version banded (packed.turns ++ packed.last ∷ [])
     pub requests : WroteRequests old.reading new.reading (requests_of (packed.turns ++ packed.last ∷ []))
     pub pack : TakesPack old.consumer end.reading new.consumer
 
+  -- behind the rounds that were answered one was refused, by the negotiation, in its request or in its answer; or there was no other, and the pack wasn't lent; or it was
+  pub data BreaksOff (call : Call) (banded : Bool) (c : C) (end : At N I) (e : Error A X) (last : N) (d : C) (new : Reading) : Type 0 where
+    at_round : TurnFails (manner_of call banded) end e last new → BreaksOff call banded c end e last d new
+    between : new ≡ end.reading → d ≡ c → BreaksOff call banded c end e last d new
+    at_pack : TakesPack c end.reading d → BreaksOff call banded c end e last d new
+
+  -- a session that broke off: those of its rounds that were answered, each with its request and its answer, and what stands behind them
+  pub record BrokenOff (call : Call) (first : N) (c : C) (old : Reading) (e : Error A X) (last : N) (d : C) (new : Reading) : Type 0 where
+    pub banded : Bool
+    pub start : At N I
+    pub turns : List (Turn N I)
+    pub end : At N I
+    pub begins : Begins parties.office first start.negotiate
+    pub here : start.reading ≡ old
+    pub run : Chain (manner_of call banded) start turns end
+    pub answers : AreAnswers call.version banded turns
+    pub requests : WroteRequests old end.reading (requests_of turns)
+    pub ends : BreaksOff call banded c end e last d new
+
   abbrev pub Converses : Call → World N I S C → Result (Option Outcome) (Error A X) → World N I S C → Type 0
   Converses call old (Ok (Some outcome)) new = Conversation call old outcome.negotiate.rounds.items new
   Converses call old (Ok None) new = new.reading ≡ old.reading
-  Converses call old (Err e) new = ⊤
+  Converses call old (Err e) new = (new.reading ≡ old.reading) ⊎ BrokenOff call old.negotiate old.consumer old.reading e new.negotiate new.consumer new.reading
 
   -- what is true of a run
   pub record Promise (call : Call) (context : Context) (start : Reading) (made : RefMap) (old : World N I S C) (result : Result (Option Outcome) (Error A X)) (new : World N I S C) (progress : P) (run : Run call context start made old result new progress) : Type 0 where
