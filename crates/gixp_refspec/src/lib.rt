@@ -16,6 +16,3 @@ pub use instruction::Instruction;
 pub use match_group::MatchGroup;
 pub use name::PartialName;
 pub use spec::{RefSpec, RefSpecRef};
-
-#[cfg(test)]
-mod tests;

@@ -1,6 +1,6 @@
 //! Names, each with a blank and what `git check-ref-format --allow-onelevel` of git 2.39.5 says of it.
 
-pub(super) const NAMES: [&str; 3] = [
+pub(crate) const NAMES: [&str; 3] = [
     r"refs/heads/x valid
 y valid
 0123456789012345678901234567890123456789 valid

@@ -1,6 +1,6 @@
 //! Texts, each with a blank and the verdict of a slow program that follows the definitions: `= ` and the text of the value, or `! ` and the refusal. Bytes that show nothing are written as `%` and two digits.
 
-pub(super) const FIRST_TEXTS: [&str; 5] = [
+pub(crate) const FIRST_TEXTS: [&str; 5] = [
     r"^refs/heads/x:y ! NegativeWithDestination
 ^0123456789012345678901234567890123456789 ! NegativeObjectHash
 ^main ! NegativePartialName

@@ -1,6 +1,6 @@
 //! The other half of the texts.
 
-pub(super) const SECOND_TEXTS: [&str; 5] = [
+pub(crate) const SECOND_TEXTS: [&str; 5] = [
     r"a//b:a.lock ! InvalidName
 tags/v1:HEAD/x = tags/v1:HEAD/x
 refs/:refs/heads/*.lock ! PatternUnbalanced
