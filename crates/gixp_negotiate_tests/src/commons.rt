@@ -15,11 +15,11 @@ use gixp_wire::{LineReader, ObjectId, Protocol};
 use std::alloc::{AllocError, Global};
 use std::test::Fail;
 
-// Ten thousand ids, which are in no order and those of no commit.
+// A hundred thousand ids, which are in no order and those of no commit.
 fn strangers(alloc: Global) -> Result<Vec<ObjectId>, AllocError> {
     let mut ids = Vec::new(alloc);
     let mut next = 0u32;
-    for _ in 0..10_000 {
+    for _ in 0..100_000 {
         next = next.wrapping_add(2_654_435_769);
         let mut bytes = [0xee; 20];
         bytes[..4].copy_from_slice(&next.to_be_bytes());
