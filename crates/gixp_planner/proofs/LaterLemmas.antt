@@ -1,0 +1,400 @@
+-- Two sessions over the same bodies, whose negotiators offer the same list: their fetches ask for the same, and over version 2 all that they send and print is the same.
+use Rattle.std.proofs.Common.{◌≡◌, ◌⊎◌, ℕ, Bool, true, false, not, ◌||◌, List, [], ◌∷◌, ◌++◌, codes, Option, Some, None, Result, Ok, Err, inl, inr, refl, sym, ap, ◌∙◌, subst, true≢false}
+use Rattle.std.specs.Prelude.{IsOk}
+use Rattle.std.specs.List.{list_any}
+use Rattle.std.specs.Io.KnownBytes.{Appends}
+use Rattle.gixp_wire.specs.declared.bodies.Body.{Body}
+use Rattle.gixp_wire.specs.declared.object_id.ObjectId.{ObjectId}
+use Rattle.gixp_wire.specs.declared.protocol.Protocol.{Protocol}
+use Rattle.gixp_wire.specs.declared.protocol.Protocol.TheVariants.{V2}
+use Rattle.gixp_wire.specs.Bodies.{bodies_reading}
+use Rattle.gixp_wire.specs.Capabilities.{CapabilityValue}
+use Rattle.gixp_wire.specs.Reading.{Reading}
+use Rattle.gixp_wire.specs.TransportState.{TransportState}
+use Rattle.gixp_lines.specs.declared.fetch.response.line.ShallowUpdate.{ShallowUpdate}
+use Rattle.gixp_lines.specs.Answer.{AnswerValue}
+use Rattle.gixp_requests.specs.Feature.{has_feature}
+use Rattle.gixp_requests.specs.Command.{git_table}
+use Rattle.gixp_requests.specs.Arguments.{ArgumentsValue, is_v2, asks_nothing}
+use Rattle.gixp_refmap.specs.declared.fetch.Tags.TheVariants as tags
+use Rattle.gixp_refmap.specs.declared.refmap.map.RefMap.{RefMap}
+use Rattle.gixp_handshake.specs.declared.handshake.read.Handshake.{Handshake}
+use Rattle.gixp_handshake.specs.Taken.{without_refs}
+use Rattle.gixp_negotiate.specs.declared.negotiate.Round.{Round}
+use Rattle.gixp_negotiate.specs.Negotiate.{ActionValue, no_change as nothing_changes, skip, negotiate, Window, first_window}
+use Rattle.gixp_negotiate.specs.Wants.{Wish, asks_for, asking_all, AddsWants}
+use Rattle.gixp_fetch.specs.declared.error.Error.{Error as FetchError}
+use Rattle.gixp_fetch.specs.declared.options.Outcome.{Outcome}
+use Rattle.gixp_fetch.specs.FetchShallow.{no_change, shallow_asks}
+use Rattle.gixp_fetch.specs.FetchRounds.{At, Manner, Packed}
+use Rattle.gixp_fetch.specs.Session.{Office, Readied, Idle, Opened}
+use Rattle.gixp_fetch.specs.Prepare.{features_of, Prepared}
+use Rattle.gixp_fetch.specs.Fetch.{World, Parties}
+use Rattle.gixp_fetch.specs.Fetched.{Carried}
+use Rattle.gixp_fetch.proofs.SessionLemmas.{received_held}
+use Rattle.gixp_planner.specs.declared.error.PlanError.{PlanError}
+use Rattle.gixp_planner.specs.Refusal.{Refusal, refusal, handshake_name, map_name, fetch_name}
+use Rattle.gixp_planner.specs.Text.{Course, requests_shown, mapped_shown, end_shown, course_shown}
+use Rattle.gixp_planner.specs.Session.{planner_agent, planner_call, FetchesOver, FetchesMapped, Runs, ungreeted, unmapped, fetched, end_of}
+use Rattle.gixp_planner.specs.PlannedText.{IsCourse, PlannedText, shown, refused}
+use Rattle.gixp_planner.specs.Mapped.{IsMapped}
+use Rattle.gixp_planner.specs.Follows.{SpeaksV2, BothAsk, BeginAlike, Session, Text, Follow}
+use Rattle.gixp_planner.proofs.SeenLemmas.{LookAlike}
+use Rattle.gixp_planner.proofs.MappedLemmas.{HoldAlike, hold-alike, same-ok, greeted-by-v2, SameGreeting, SameMap, both-greet, both-alike, not-ok}
+use Rattle.gixp_planner.proofs.WantLemmas.{Basis, SameBasis, decided, asked_for, decided-alike, asked-alike}
+use Rattle.gixp_planner.proofs.AnswerLemmas.{AnswersAreSections, SectionsAreAnswers, same-v2}
+use Rattle.gixp_planner.proofs.ListRoundLemmas.{ListRound}
+use Rattle.gixp_planner.proofs.RoundLemmas.{AtAlike, begin-alike, packed-alike}
+
+-- a side that knows the repository and goes by such a basis, and whose negotiator offers a list
+pub record OffersList {N A : Type 0} (office : Office N A) (basis : N → Basis) (haves : N → List ObjectId) : Type 0 where
+  pub marks : (n : N) (action : ActionValue) (m : N) → office.marks n action m
+      → (action ≡ decided (basis n)) × (haves m ≡ haves n) × ((a : ArgumentsValue) (known : List Bool) → asked_for (basis m) a known ≡ asked_for (basis n) a known)
+  pub adds : (n : N) (known : List Bool) (a : ArgumentsValue) (any : Bool) (b : ArgumentsValue) (m : N) → office.adds n known a any b m → AddsWants (asked_for (basis n) a known) any a b × (haves m ≡ haves n)
+  pub goes : (n : N) (s : Window) (a : ArgumentsValue) (p : Option AnswerValue) (r : Round) (done : Bool) (m : N) (t : Window) (b : ArgumentsValue) → office.goes n s a p r done m t b
+      → ListRound (haves n) s a p done (haves m) t b
+
+-- ---- the first two steps of a negotiation
+
+-- by this basis objects are to be asked for, and these lines do so
+record Asks (b : Basis) (given wanted : ArgumentsValue) : Type 0 where
+  known : List Bool
+  must : decided b ≡ negotiate known
+  any : list_any asks_for (asked_for b given known) ≡ true
+  asked : wanted ≡ asking_all (asked_for b given known) given
+
+same-known : (known other : List Bool) → negotiate known ≡ negotiate other → known ≡ other
+same-known known other e = cc
+
+asks-same : (p q : Basis) (given wanted other : ArgumentsValue) → SameBasis p q → Asks p given wanted → Asks q given other → wanted ≡ other
+asks-same p q given wanted other s l r =
+    let known : l.known ≡ r.known = same-known l.known r.known (sym l.must ∙ decided-alike p q s ∙ r.must) in
+    l.asked ∙ ap (λ ws. asking_all ws given) (asked-alike p q given l.known s ∙ ap (asked_for q given) known) ∙ sym r.asked
+
+module _ {N A : Type 0} (office : Office N A) (basis : N → Basis) (haves : N → List ObjectId) (list : OffersList office basis haves) (n : N) (given : ArgumentsValue) where
+  readied-asks : (action : ActionValue) (ready : N) (wanted : ArgumentsValue) → Readied office n given action ready wanted → Asks (basis n) given wanted × (haves ready ≡ haves n)
+  readied-asks action ready wanted r =
+      let m = list.marks n action r.marked r.marks in
+      let a = list.adds r.marked r.known given true wanted ready r.adds in
+      (
+        record {
+          known = r.known;
+          must = sym m.0 ∙ r.must;
+          any = ap (list_any asks_for) (sym (m.2 given r.known)) ∙ sym a.0.any;
+          asked = a.0.asked ∙ ap (λ ws. asking_all ws given) (m.2 given r.known);
+        },
+        a.1 ∙ m.1,
+      )
+
+  -- where there is nothing to ask for, none are asked for by a basis that decides and asks the same
+  idle-asks-none : (b : Basis) (last : N) (wanted : ArgumentsValue) → decided (basis n) ≡ decided b → ((known : List Bool) → asked_for (basis n) given known ≡ asked_for b given known) → Idle office n given last
+      → Asks b given wanted → ⊥
+  idle-asks-none b last wanted d w i a = by_action (list.marks n i.action i.marked i.marks) i.idle
+    where
+      by_action : (i.action ≡ decided (basis n)) × (haves i.marked ≡ haves n) × ((x : ArgumentsValue) (known : List Bool) → asked_for (basis i.marked) x known ≡ asked_for (basis n) x known)
+          → (((i.action ≡ nothing_changes) ⊎ (i.action ≡ skip)) × (last ≡ i.marked)) ⊎ ((known : List Bool) × (wanted : ArgumentsValue) × (i.action ≡ negotiate known) × office.adds i.marked known given false wanted last) → ⊥
+      by_action m (inl (inl e, l)) = not_nothing a.known (sym e ∙ m.0 ∙ d ∙ a.must)
+        where
+          not_nothing : (known : List Bool) → nothing_changes ≡ negotiate known → ⊥
+          not_nothing known f = absurd cc
+      by_action m (inl (inr e, l)) = not_skip a.known (sym e ∙ m.0 ∙ d ∙ a.must)
+        where
+          not_skip : (known : List Bool) → skip ≡ negotiate known → ⊥
+          not_skip known f = absurd cc
+      by_action m (inr (known, wanted, e, adds)) =
+          let same : known ≡ a.known = same-known known a.known (sym e ∙ m.0 ∙ d ∙ a.must) in
+          let none = list.adds i.marked known given false wanted last adds in
+          true≢false (sym a.any ∙ ap (list_any asks_for) (ap (asked_for b given) (sym same) ∙ sym (w known) ∙ sym (m.2 given known)) ∙ sym none.0.any)
+
+-- ---- a fetch
+
+-- what the planner asks for at first, and whether all is banded then
+abbrev first_asks : Protocol → List CapabilityValue → ArgumentsValue
+first_asks v caps = asks_nothing git_table v (features_of git_table v caps planner_agent)
+
+abbrev bands : Protocol → List CapabilityValue → Bool
+bands v caps = has_feature (codes "sideband-all") (features_of git_table v caps planner_agent)
+
+-- how a fetch ended that wasn't refused
+abbrev came_to : Option Outcome → Result Bool Refusal
+came_to (Some out) = Ok true
+came_to None = Ok false
+
+not-refused-ok : {B E : Type 0} (o : B) (e : E) → ◌≡◌ {A = Result B E} (Ok o) (Err e) → ⊥
+not-refused-ok o e h = absurd cc
+
+module _ {N I A S C P X : Type 0} (parties : Parties N I A S C P X) (basis : N → Basis) (haves : N → List ObjectId) (list : OffersList parties.office basis haves) (IsEmpty : S → Type 0)
+    (reads : (s : S) (ids : List ObjectId) (t : S) → IsEmpty s → parties.shop.reads s ids t → ids ≡ []) where
+  abbrev manner_of : Protocol → Bool → Manner N I A
+  manner_of v banded = record { goes = parties.office.goes; fails = parties.office.round_fails; says = parties.says; version = v; banded = banded; plain = parties.plain }
+
+  abbrev start_of : N → ArgumentsValue → Reading → I → At N I
+  start_of ready wanted old interrupt = record {
+    negotiate = ready;
+    window = first_window (not old.held.persists || is_v2 wanted.version);
+    asked = wanted;
+    previous = None;
+    reading = old;
+    interrupt = interrupt;
+  }
+
+  -- it came to a pack
+  record Rounded (v : Protocol) (caps : List CapabilityValue) (n : N) (old new : Reading) : Type 0 where
+    opened : ArgumentsValue
+    opens : shallow_asks no_change [] (first_asks v caps) ≡ Ok opened
+    ready : N
+    wanted : ArgumentsValue
+    asks : Asks (basis n) opened wanted
+    left : haves ready ≡ haves n
+    interrupt : I
+    rounds : List Round
+    updates : List ShallowUpdate
+    reply : AnswerValue
+    end : At N I
+    packed : Packed (manner_of v (bands v caps)) (start_of ready wanted old interrupt) rounds updates reply end
+    held : new.held ≡ end.reading.held
+
+  -- or there was nothing to ask for
+  record Rested (v : Protocol) (caps : List CapabilityValue) (n : N) (old new : Reading) : Type 0 where
+    opened : ArgumentsValue
+    opens : shallow_asks no_change [] (first_asks v caps) ≡ Ok opened
+    last : N
+    idle : Idle parties.office n opened last
+    rests : new ≡ old
+
+  abbrev Came : Protocol → List CapabilityValue → N → Reading → Reading → Option Outcome → Type 0
+  Came v caps n old new (Some out) = Rounded v caps n old new
+  Came v caps n old new None = Rested v caps n old new
+
+  module _ (IsOver : N → Type 0) (h : Handshake) (old new : Reading) where
+    prepared-first : (asked : ArgumentsValue) (banded : Bool) → Prepared git_table h.server_protocol_version (features_of git_table h.server_protocol_version h.capabilities planner_agent) tags.None asked banded
+        → (asked ≡ first_asks h.server_protocol_version h.capabilities) × (banded ≡ bands h.server_protocol_version h.capabilities)
+    prepared-first asked banded p = (sym (same-ok _ (first_asks h.server_protocol_version h.capabilities) asked refl p.asks), p.bands)
+
+    opened-first : (s : S) (ids : List ObjectId) (t : S) (given asked : ArgumentsValue) → IsEmpty s → given ≡ first_asks h.server_protocol_version h.capabilities → Opened parties.shop no_change s given ids t asked
+        → shallow_asks no_change [] (first_asks h.server_protocol_version h.capabilities) ≡ Ok asked
+    opened-first s ids t given asked e f o =
+        ap (λ l. shallow_asks no_change l (first_asks h.server_protocol_version h.capabilities)) (sym (reads s ids t e o.reads)) ∙ ap (λ a. shallow_asks no_change ids a) (sym f) ∙ o.asks
+
+    rounded : (out : Outcome) (f : FetchesOver parties IsOver IsEmpty h old new (Ok (Some out))) → Carried parties (planner_call h) f.first (Ok (Some out)) f.last f.progress
+        → Rounded h.server_protocol_version h.capabilities f.first.negotiate old new
+    rounded out f c =
+        let p = prepared-first c.asked c.banded c.prepared in
+        let s = c.meets in
+        let b = s.negotiated.begun in
+        let a = readied-asks parties.office basis haves list f.first.negotiate b.asked _ s.negotiated.ready s.negotiated.wanted b.readied in
+        record {
+          opened = b.asked;
+          opens = opened-first c.held s.ids s.read c.asked b.asked (subst IsEmpty (sym c.locks.0) f.empty) p.0 b.opened;
+          ready = s.negotiated.ready;
+          wanted = s.negotiated.wanted;
+          asks = a.0;
+          left = a.1;
+          interrupt = f.first.interrupt;
+          rounds = out.negotiate.rounds.items;
+          updates = s.updates;
+          reply = s.reply;
+          end = s.end;
+          packed =
+              subst (λ r. Packed (manner_of h.server_protocol_version (bands h.server_protocol_version h.capabilities)) (start_of s.negotiated.ready s.negotiated.wanted r f.first.interrupt) out.negotiate.rounds.items s.updates s.reply s.end)
+              f.begins
+              (subst (λ d. Packed (manner_of h.server_protocol_version d) (start_of s.negotiated.ready s.negotiated.wanted f.first.reading f.first.interrupt) out.negotiate.rounds.items s.updates s.reply s.end) p.1
+              s.negotiated.packed);
+          held =
+              ap (λ (r : Reading). r.held) (sym f.ends)
+              ∙ ap (λ (w : World N I S C). w.reading.held) c.stands
+              ∙ received_held parties.consumes f.first.consumer s.end.reading c.last.consumer c.last.reading f.progress s.delivered.received;
+        }
+
+    rested : (f : FetchesOver parties IsOver IsEmpty h old new (Ok None)) → Carried parties (planner_call h) f.first (Ok None) f.last f.progress → Rested h.server_protocol_version h.capabilities f.first.negotiate old new
+    rested f c =
+        let p = prepared-first c.asked c.banded c.prepared in
+        let s = c.meets in
+        record {
+          opened = s.asked;
+          opens = opened-first c.held s.ids c.last.store c.asked s.asked (subst IsEmpty (sym c.locks.0) f.empty) p.0 s.opened;
+          last = c.last.negotiate;
+          idle = s.idle;
+          rests = sym f.ends ∙ ap (λ (w : World N I S C). w.reading) c.stands ∙ s.rests.reading ∙ f.begins;
+        }
+
+    came : (o : Option Outcome) → FetchesMapped parties IsOver IsEmpty h old new (Ok o) → (n : N) × IsOver n × Came h.server_protocol_version h.capabilities n old new o
+    came o (inr n) = absurd (not-refused-ok _ _ n.1)
+    came (Some out) (inl f) = (f.first.negotiate, f.over, rounded out f f.fetched.fetched)
+    came None (inl f) = (f.first.negotiate, f.over, rested f f.fetched.fetched)
+
+  -- ---- two fetches
+
+  module _ (v : Protocol) (caps : List CapabilityValue) (n o : N) (a b c d : Reading) (basis_same : SameBasis (basis n) (basis o)) (haves_same : haves n ≡ haves o) (hold : HoldAlike a b) where
+    opened-same : (x y : ArgumentsValue) → shallow_asks no_change [] (first_asks v caps) ≡ Ok x → shallow_asks no_change [] (first_asks v caps) ≡ Ok y → x ≡ y
+    opened-same x y e f = same-ok _ x y e f
+
+    starts-alike : (l : Rounded v caps n a c) (r : Rounded v caps o b d) → AtAlike haves (start_of l.ready l.wanted a l.interrupt) (start_of r.ready r.wanted b r.interrupt)
+    starts-alike l r =
+        let opened = opened-same l.opened r.opened l.opens r.opens in
+        let wanted : l.wanted ≡ r.wanted = asks-same (basis n) (basis o) l.opened l.wanted r.wanted basis_same l.asks (subst (λ x. Asks (basis o) x r.wanted) (sym opened) r.asks) in
+        record {
+          left = l.left ∙ haves_same ∙ sym r.left;
+          window =
+              ap (λ (h : TransportState). first_window (not h.persists || is_v2 l.wanted.version)) hold.held ∙ ap (λ (x : ArgumentsValue). first_window (not b.held.persists || is_v2 x.version)) wanted;
+          asked = wanted;
+          previous = refl;
+          reading = hold;
+        }
+
+    first-rests : Rested v caps n a c → Rounded v caps o b d → ⊥
+    first-rests l r =
+        idle-asks-none parties.office basis haves list n l.opened (basis o) l.last r.wanted (decided-alike (basis n) (basis o) basis_same) (λ known. asked-alike (basis n) (basis o) l.opened known basis_same) l.idle
+        (subst (λ x. Asks (basis o) x r.wanted) (sym (opened-same l.opened r.opened l.opens r.opens)) r.asks)
+
+    other-rests : Rounded v caps n a c → Rested v caps o b d → ⊥
+    other-rests l r =
+        idle-asks-none parties.office basis haves list o r.opened (basis n) r.last l.wanted (sym (decided-alike (basis n) (basis o) basis_same)) (λ known. sym (asked-alike (basis n) (basis o) r.opened known basis_same)) r.idle
+        (subst (λ x. Asks (basis n) x l.wanted) (opened-same l.opened r.opened l.opens r.opens) l.asks)
+
+    -- both came to the same end, and asked for the same first
+    begins : (x y : Option Outcome) → Came v caps n a c x → Came v caps o b d y → (came_to x ≡ came_to y) × BothAsk (came_to x) a.held.sent c.held.sent d.held.sent
+    begins (Some x) (Some y) l r =
+        let s = begin-alike (manner_of v (bands v caps)) haves list.goes _ _ _ _ _ _ _ _ _ _ (starts-alike l r) l.packed r.packed in
+        (
+          refl,
+          (
+            s.first.first,
+            s.first.later,
+            s.first.others,
+            ap (λ (h : TransportState). h.sent) l.held ∙ s.one ∙ ap (λ t. a.held.sent ++ t) s.first.one,
+            ap (λ (h : TransportState). h.sent) r.held ∙ s.other ∙ ap (λ t. b.held.sent ++ t) s.first.other ∙ ap (λ (h : TransportState). h.sent ++ s.first.first ∷ s.first.others) (sym hold.held),
+          ),
+        )
+    begins (Some x) None l r = absurd (other-rests l r)
+    begins None (Some y) l r = absurd (first-rests l r)
+    begins None None l r = (refl, (ap (λ (z : Reading). z.held.sent) l.rests, ap (λ (z : Reading). z.held.sent) r.rests ∙ ap (λ (h : TransportState). h.sent) (sym hold.held)))
+
+  -- under version 2 both sent the same
+  all-alike : AnswersAreSections → SectionsAreAnswers → (caps : List CapabilityValue) (n o : N) (a b c d : Reading) → SameBasis (basis n) (basis o) → haves n ≡ haves o → HoldAlike a b → (x y : Option Outcome) → Came V2 caps n a c x → Came V2 caps o b d y
+      → c.held ≡ d.held
+  all-alike are_sections are_answers caps n o a b c d s e h (Some x) (Some y) l r =
+      l.held
+      ∙ packed-alike (manner_of V2 (bands V2 caps)) haves list.goes (same-v2 are_sections are_answers) _ _ _ _ _ _ _ _ _ _ (starts-alike V2 caps n o a b c d s e h l r) l.packed r.packed
+      ∙ sym r.held
+  all-alike are_sections are_answers caps n o a b c d s e h (Some x) None l r = absurd (other-rests V2 caps n o a b c d s e h l r)
+  all-alike are_sections are_answers caps n o a b c d s e h None (Some y) l r = absurd (first-rests V2 caps n o a b c d s e h l r)
+  all-alike are_sections are_answers caps n o a b c d s e h None None l r = ap (λ (z : Reading). z.held) l.rests ∙ h.held ∙ sym (ap (λ (z : Reading). z.held) r.rests)
+
+-- ---- a session
+
+end-came : (A X : Type 0) (o : Option Outcome) → end_of {A = A} {X = X} (Ok o) ≡ came_to o
+end-came A X (Some out) = refl
+end-came A X None = refl
+
+-- what came to its end wasn't refused
+not-refused : (ended : Result Bool Refusal) (e : Refusal) → IsOk ended → ended ≡ Err e → ⊥
+not-refused ended e k f = not-ok e (subst (λ (r : Result Bool Refusal). IsOk r) f k)
+
+module _ {N I A S C P X : Type 0} (parties : Parties N I A S C P X) (basis : N → Basis) (haves : N → List ObjectId) (list : OffersList parties.office basis haves) (IsOne IsOther : RefMap → N → Type 0) (IsEmpty : S → Type 0)
+    (reads : (s : S) (ids : List ObjectId) (t : S) → IsEmpty s → parties.shop.reads s ids t → ids ≡ [])
+    (same : (m k : RefMap) (n o : N) → IsOne m n → IsOther k o → LookAlike m.mappings.items k.mappings.items → SameBasis (basis n) (basis o) × (haves n ≡ haves o))
+    (are_sections : AnswersAreSections) (are_answers : SectionsAreAnswers) (bodies : List Body) (specs : List (List ℕ)) where
+  -- it came to its ref map, and its fetch to an end
+  record Arrived (IsOver : RefMap → N → Type 0) (course : Course) : Type 0 where
+    sent : List (List ℕ)
+    made : RefMap
+    mapped : IsMapped bodies specs sent made
+    last : Reading
+    outcome : Option Outcome
+    negotiate : N
+    over : IsOver made negotiate
+    came : Came parties basis haves list IsEmpty reads mapped.handshake.server_protocol_version mapped.handshake.capabilities negotiate mapped.behind last outcome
+    ends : last.held.sent ≡ course.sent
+    maps : course.mapped ≡ Some made
+    ended : course.ended ≡ came_to outcome
+
+  arrived : (IsOver : RefMap → N → Type 0) (course : Course) → Session parties IsOne IsOther IsEmpty bodies specs IsOver course → Arrived IsOver course
+  arrived IsOver course s = by_run s.0.runs s.1
+    where
+      by_run : Runs (λ m h from to r. FetchesMapped parties (IsOver m) IsEmpty h from to r) s.0.context true (bodies_reading s.0.transport) s.0.last course.mapped course.ended → IsOk course.ended → Arrived IsOver course
+      by_run (ungreeted e g m f) k = absurd (not-refused course.ended (refusal (codes "handshake") (handshake_name e)) k f)
+      by_run (unmapped h mid e g l m f) k = absurd (not-refused course.ended (refusal (codes "refs") (map_name e)) k f)
+      by_run (fetched h mid behind m (Err e) g l t p f) k = absurd (not-refused course.ended (refusal (codes "fetch") (fetch_name e)) k f)
+      by_run (fetched h mid behind m (Ok o) g l t p f) k =
+          let c = came parties basis haves list IsEmpty reads (IsOver m) (without_refs h) behind s.0.last o t in
+          record {
+            sent = behind.held.sent;
+            made = m;
+            mapped = record { context = s.0.context; transport = s.0.transport; handshake = h; mid = mid; behind = behind; read = s.0.read; over = s.0.over; greets = g; maps = l; by_then = refl };
+            last = s.0.last;
+            outcome = o;
+            negotiate = c.0;
+            over = c.1;
+            came = c.2;
+            ends = s.0.sent;
+            maps = p;
+            ended = f ∙ end-came A X o;
+          }
+
+  -- ---- two sessions
+
+  module _ (c d : Course) (x : Arrived IsOne c) (y : Arrived IsOther d) where
+    greet : SameGreeting x.mapped.mid y.mapped.mid x.mapped.handshake y.mapped.handshake
+    greet = both-greet bodies specs x.sent y.sent x.made y.made x.mapped y.mapped
+
+    maps-same : SameMap x.mapped.behind y.mapped.behind x.made y.made
+    maps-same = both-alike bodies specs x.sent y.sent x.made y.made x.mapped y.mapped
+
+    basis-same : SameBasis (basis x.negotiate) (basis y.negotiate) × (haves x.negotiate ≡ haves y.negotiate)
+    basis-same = same x.made y.made x.negotiate y.negotiate x.over y.over maps-same.mappings
+
+    hold : HoldAlike x.mapped.behind y.mapped.behind
+    hold = hold-alike x.mapped.behind y.mapped.behind maps-same.alike
+
+    came-same : Came parties basis haves list IsEmpty reads x.mapped.handshake.server_protocol_version x.mapped.handshake.capabilities y.negotiate y.mapped.behind y.last y.outcome
+    came-same =
+        subst (λ v. Came parties basis haves list IsEmpty reads v x.mapped.handshake.capabilities y.negotiate y.mapped.behind y.last y.outcome) (sym greet.version)
+        (subst (λ k. Came parties basis haves list IsEmpty reads y.mapped.handshake.server_protocol_version k y.negotiate y.mapped.behind y.last y.outcome) (sym greet.capabilities) y.came)
+
+    begin-same : BeginAlike bodies specs c d
+    begin-same =
+        let b =
+        begins parties basis haves list IsEmpty reads x.mapped.handshake.server_protocol_version x.mapped.handshake.capabilities x.negotiate y.negotiate x.mapped.behind y.mapped.behind x.last y.last basis-same.0 basis-same.1 hold
+        x.outcome y.outcome x.came came-same in
+        record {
+          ended = x.ended ∙ b.0 ∙ sym y.ended;
+          printed = ap mapped_shown x.maps ∙ maps-same.shown ∙ sym (ap mapped_shown y.maps);
+          mapping = x.sent;
+          made = x.made;
+          mapped = x.mapped;
+          asked =
+              subst (λ e. BothAsk e x.sent c.sent d.sent) (sym x.ended)
+              (subst (λ s. BothAsk (came_to x.outcome) s c.sent d.sent) x.mapped.by_then
+              (subst (λ s. BothAsk (came_to x.outcome) x.mapped.behind.held.sent s d.sent) x.ends (subst (λ s. BothAsk (came_to x.outcome) x.mapped.behind.held.sent x.last.held.sent s) y.ends b.1)));
+        }
+
+    all-same : SpeaksV2 bodies → (c.sent ≡ d.sent) × (course_shown c ≡ course_shown d)
+    all-same v =
+        let is : x.mapped.handshake.server_protocol_version ≡ V2 =
+        greeted-by-v2 bodies true (bodies_reading x.mapped.transport) x.mapped.mid x.mapped.handshake refl x.mapped.over.answers v x.mapped.greets in
+        let held : x.last.held ≡ y.last.held =
+        all-alike parties basis haves list IsEmpty reads are_sections are_answers x.mapped.handshake.capabilities x.negotiate y.negotiate x.mapped.behind y.mapped.behind x.last y.last basis-same.0 basis-same.1 hold x.outcome y.outcome
+        (subst (λ k. Came parties basis haves list IsEmpty reads k x.mapped.handshake.capabilities x.negotiate x.mapped.behind x.last x.outcome) is x.came)
+        (subst (λ k. Came parties basis haves list IsEmpty reads k x.mapped.handshake.capabilities y.negotiate y.mapped.behind y.last y.outcome) is came-same) in
+        let sent : c.sent ≡ d.sent = sym x.ends ∙ ap (λ (z : TransportState). z.sent) held ∙ y.ends in
+        (
+          sent,
+          ap (λ s. requests_shown s ++ mapped_shown c.mapped ++ end_shown c.ended) sent
+          ∙ ap (λ t. requests_shown d.sent ++ t ++ end_shown c.ended) begin-same.printed
+          ∙ ap (λ e. requests_shown d.sent ++ mapped_shown d.mapped ++ end_shown e) begin-same.ended,
+        )
+
+  text-same : (One Other : RefMap → N → Type 0) → ((c d : Course) → Session parties IsOne IsOther IsEmpty bodies specs One c → Session parties IsOne IsOther IsEmpty bodies specs Other d → course_shown c ≡ course_shown d)
+      → (old new from to : Option (List ℕ)) → Text parties IsOne IsOther IsEmpty bodies specs One old new → Text parties IsOne IsOther IsEmpty bodies specs Other from to
+      → (written : List ℕ) × Appends old new written × Appends from to written
+  text-same One Other law old new from to (shown c i s) (shown d j t) = (course_shown c, s.0, subst (λ w. Appends from to w) (sym (law c d (i, s.1) (j, t.1))) t.0)
+  text-same One Other law old new from to (refused e r why k) b = absurd (not-refused-ok _ _ r)
+  text-same One Other law old new from to (shown c i s) (refused e r why k) = absurd (not-refused-ok _ _ r)
+
+  pub follow : Follow parties IsOne IsOther IsEmpty bodies specs
+  follow = record {
+    begin = λ c d i j. begin-same c d (arrived IsOne c i) (arrived IsOther d j);
+    all = λ v c d i j. all-same c d (arrived IsOne c i) (arrived IsOther d j) v;
+    text = λ v. text-same IsOne IsOther (λ c d i j. (all-same c d (arrived IsOne c i) (arrived IsOther d j) v).1);
+  }
