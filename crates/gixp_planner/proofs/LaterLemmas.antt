@@ -1,6 +1,6 @@
--- Two sessions over the same bodies, whose negotiators offer the same list: their fetches ask for the same, and over version 2 all that they send and print is the same.
+-- Two sessions over the same bodies, whose negotiators offer the same list: their fetches ask for the same, and where that is settled all that they send and print is the same.
 use Rattle.std.proofs.Common.{◌≡◌, ◌⊎◌, ℕ, Bool, true, false, not, ◌||◌, List, [], ◌∷◌, ◌++◌, codes, Option, Some, None, Result, Ok, Err, inl, inr, refl, sym, ap, ◌∙◌, subst, true≢false}
-use Rattle.std.specs.Prelude.{IsOk}
+use Rattle.std.specs.Prelude.{◌<◌, length, IsOk}
 use Rattle.std.specs.List.{list_any}
 use Rattle.std.specs.Io.KnownBytes.{Appends}
 use Rattle.gixp_wire.specs.declared.bodies.Body.{Body}
@@ -38,13 +38,13 @@ use Rattle.gixp_planner.specs.Text.{Course, requests_shown, mapped_shown, end_sh
 use Rattle.gixp_planner.specs.Session.{planner_agent, planner_call, FetchesOver, FetchesMapped, Runs, ungreeted, unmapped, fetched, end_of}
 use Rattle.gixp_planner.specs.PlannedText.{IsCourse, PlannedText, shown, refused}
 use Rattle.gixp_planner.specs.Mapped.{IsMapped}
-use Rattle.gixp_planner.specs.Follows.{SpeaksV2, BothAsk, BeginAlike, Session, Text, Follow}
+use Rattle.gixp_planner.specs.Follows.{IsSettled, BothAsk, BeginAlike, Ends, IsWritten, Follow}
 use Rattle.gixp_planner.proofs.SeenLemmas.{LookAlike}
 use Rattle.gixp_planner.proofs.MappedLemmas.{HoldAlike, hold-alike, same-ok, greeted-by-v2, SameGreeting, SameMap, both-greet, both-alike, not-ok}
 use Rattle.gixp_planner.proofs.WantLemmas.{Basis, SameBasis, decided, asked_for, decided-alike, asked-alike}
 use Rattle.gixp_planner.proofs.AnswerLemmas.{AnswersAreSections, SectionsAreAnswers, same-v2}
 use Rattle.gixp_planner.proofs.ListRoundLemmas.{ListRound}
-use Rattle.gixp_planner.proofs.RoundLemmas.{AtAlike, begin-alike, packed-alike}
+use Rattle.gixp_planner.proofs.RoundLemmas.{AtAlike, begin-alike, only-alike, packed-alike}
 
 -- a side that knows the repository and goes by such a basis, and whose negotiator offers a list
 pub record OffersList {N A : Type 0} (office : Office N A) (basis : N → Basis) (haves : N → List ObjectId) : Type 0 where
@@ -270,16 +270,22 @@ module _ {N I A S C P X : Type 0} (parties : Parties N I A S C P X) (basis : N �
     begins None (Some y) l r = absurd (first-rests l r)
     begins None None l r = (refl, (ap (λ (z : Reading). z.held.sent) l.rests, ap (λ (z : Reading). z.held.sent) r.rests ∙ ap (λ (h : TransportState). h.sent) (sym hold.held)))
 
-  -- under version 2 both sent the same
-  all-alike : AnswersAreSections → SectionsAreAnswers → (caps : List CapabilityValue) (n o : N) (a b c d : Reading) → SameBasis (basis n) (basis o) → haves n ≡ haves o → HoldAlike a b → (x y : Option Outcome) → Came V2 caps n a c x → Came V2 caps o b d y
-      → c.held ≡ d.held
-  all-alike are_sections are_answers caps n o a b c d s e h (Some x) (Some y) l r =
-      l.held
-      ∙ packed-alike (manner_of V2 (bands V2 caps)) haves list.goes (same-v2 are_sections are_answers) _ _ _ _ _ _ _ _ _ _ (starts-alike V2 caps n o a b c d s e h l r) l.packed r.packed
-      ∙ sym r.held
-  all-alike are_sections are_answers caps n o a b c d s e h (Some x) None l r = absurd (other-rests V2 caps n o a b c d s e h l r)
-  all-alike are_sections are_answers caps n o a b c d s e h None (Some y) l r = absurd (first-rests V2 caps n o a b c d s e h l r)
-  all-alike are_sections are_answers caps n o a b c d s e h None None l r = ap (λ (z : Reading). z.held) l.rests ∙ h.held ∙ sym (ap (λ (z : Reading). z.held) r.rests)
+    -- where their rounds are alike both sent the same
+    sent-same : ((l : Rounded v caps n a c) (r : Rounded v caps o b d) → l.end.reading.held ≡ r.end.reading.held) → (x y : Option Outcome) → Came v caps n a c x → Came v caps o b d y → c.held ≡ d.held
+    sent-same alike (Some x) (Some y) l r = l.held ∙ alike l r ∙ sym r.held
+    sent-same alike (Some x) None l r = absurd (other-rests l r)
+    sent-same alike None (Some y) l r = absurd (first-rests l r)
+    sent-same alike None None l r = ap (λ (z : Reading). z.held) l.rests ∙ hold.held ∙ sym (ap (λ (z : Reading). z.held) r.rests)
+
+    few-same : length (haves n) < 16 → (x y : Option Outcome) → Came v caps n a c x → Came v caps o b d y → c.held ≡ d.held
+    few-same few =
+        sent-same (λ l r. only-alike (manner_of v (bands v caps)) haves list.goes _ _ _ _ _ _ _ _ _ _ (starts-alike l r) (subst (λ ids. length ids < 16) (sym l.left) few) l.packed r.packed)
+
+  v2-same : AnswersAreSections → SectionsAreAnswers → (caps : List CapabilityValue) (n o : N) (a b c d : Reading) → SameBasis (basis n) (basis o) → haves n ≡ haves o → HoldAlike a b → (x y : Option Outcome)
+      → Came V2 caps n a c x → Came V2 caps o b d y → c.held ≡ d.held
+  v2-same are_sections are_answers caps n o a b c d s e h =
+      sent-same V2 caps n o a b c d s e h
+      (λ l r. packed-alike (manner_of V2 (bands V2 caps)) haves list.goes (same-v2 are_sections are_answers) _ _ _ _ _ _ _ _ _ _ (starts-alike V2 caps n o a b c d s e h l r) l.packed r.packed)
 
 -- ---- a session
 
@@ -293,7 +299,7 @@ not-refused ended e k f = not-ok e (subst (λ (r : Result Bool Refusal). IsOk r)
 
 module _ {N I A S C P X : Type 0} (parties : Parties N I A S C P X) (basis : N → Basis) (haves : N → List ObjectId) (list : OffersList parties.office basis haves) (IsOne IsOther : RefMap → N → Type 0) (IsEmpty : S → Type 0)
     (reads : (s : S) (ids : List ObjectId) (t : S) → IsEmpty s → parties.shop.reads s ids t → ids ≡ [])
-    (same : (m k : RefMap) (n o : N) → IsOne m n → IsOther k o → LookAlike m.mappings.items k.mappings.items → SameBasis (basis n) (basis o) × (haves n ≡ haves o))
+    (ids : List ObjectId) (same : (m k : RefMap) (n o : N) → IsOne m n → IsOther k o → LookAlike m.mappings.items k.mappings.items → SameBasis (basis n) (basis o) × (haves n ≡ ids) × (haves o ≡ ids))
     (are_sections : AnswersAreSections) (are_answers : SectionsAreAnswers) (bodies : List Body) (specs : List (List ℕ)) where
   -- it came to its ref map, and its fetch to an end
   record Arrived (IsOver : RefMap → N → Type 0) (course : Course) : Type 0 where
@@ -309,7 +315,7 @@ module _ {N I A S C P X : Type 0} (parties : Parties N I A S C P X) (basis : N �
     maps : course.mapped ≡ Some made
     ended : course.ended ≡ came_to outcome
 
-  arrived : (IsOver : RefMap → N → Type 0) (course : Course) → Session parties IsOne IsOther IsEmpty bodies specs IsOver course → Arrived IsOver course
+  arrived : (IsOver : RefMap → N → Type 0) (course : Course) → Ends parties IsOver IsEmpty bodies specs course → Arrived IsOver course
   arrived IsOver course s = by_run s.0.runs s.1
     where
       by_run : Runs (λ m h from to r. FetchesMapped parties (IsOver m) IsEmpty h from to r) s.0.context true (bodies_reading s.0.transport) s.0.last course.mapped course.ended → IsOk course.ended → Arrived IsOver course
@@ -341,8 +347,11 @@ module _ {N I A S C P X : Type 0} (parties : Parties N I A S C P X) (basis : N �
     maps-same : SameMap x.mapped.behind y.mapped.behind x.made y.made
     maps-same = both-alike bodies specs x.sent y.sent x.made y.made x.mapped y.mapped
 
-    basis-same : SameBasis (basis x.negotiate) (basis y.negotiate) × (haves x.negotiate ≡ haves y.negotiate)
+    basis-same : SameBasis (basis x.negotiate) (basis y.negotiate) × (haves x.negotiate ≡ ids) × (haves y.negotiate ≡ ids)
     basis-same = same x.made y.made x.negotiate y.negotiate x.over y.over maps-same.mappings
+
+    haves-same : haves x.negotiate ≡ haves y.negotiate
+    haves-same = basis-same.1 ∙ sym basis-same.2
 
     hold : HoldAlike x.mapped.behind y.mapped.behind
     hold = hold-alike x.mapped.behind y.mapped.behind maps-same.alike
@@ -355,7 +364,7 @@ module _ {N I A S C P X : Type 0} (parties : Parties N I A S C P X) (basis : N �
     begin-same : BeginAlike bodies specs c d
     begin-same =
         let b =
-        begins parties basis haves list IsEmpty reads x.mapped.handshake.server_protocol_version x.mapped.handshake.capabilities x.negotiate y.negotiate x.mapped.behind y.mapped.behind x.last y.last basis-same.0 basis-same.1 hold
+        begins parties basis haves list IsEmpty reads x.mapped.handshake.server_protocol_version x.mapped.handshake.capabilities x.negotiate y.negotiate x.mapped.behind y.mapped.behind x.last y.last basis-same.0 haves-same hold
         x.outcome y.outcome x.came came-same in
         record {
           ended = x.ended ∙ b.0 ∙ sym y.ended;
@@ -369,15 +378,20 @@ module _ {N I A S C P X : Type 0} (parties : Parties N I A S C P X) (basis : N �
               (subst (λ s. BothAsk (came_to x.outcome) x.mapped.behind.held.sent s d.sent) x.ends (subst (λ s. BothAsk (came_to x.outcome) x.mapped.behind.held.sent x.last.held.sent s) y.ends b.1)));
         }
 
-    all-same : SpeaksV2 bodies → (c.sent ≡ d.sent) × (course_shown c ≡ course_shown d)
-    all-same v =
+    held-same : IsSettled bodies ids → x.last.held ≡ y.last.held
+    held-same (inl v) =
         let is : x.mapped.handshake.server_protocol_version ≡ V2 =
         greeted-by-v2 bodies true (bodies_reading x.mapped.transport) x.mapped.mid x.mapped.handshake refl x.mapped.over.answers v x.mapped.greets in
-        let held : x.last.held ≡ y.last.held =
-        all-alike parties basis haves list IsEmpty reads are_sections are_answers x.mapped.handshake.capabilities x.negotiate y.negotiate x.mapped.behind y.mapped.behind x.last y.last basis-same.0 basis-same.1 hold x.outcome y.outcome
+        v2-same parties basis haves list IsEmpty reads are_sections are_answers x.mapped.handshake.capabilities x.negotiate y.negotiate x.mapped.behind y.mapped.behind x.last y.last basis-same.0 haves-same hold x.outcome y.outcome
         (subst (λ k. Came parties basis haves list IsEmpty reads k x.mapped.handshake.capabilities x.negotiate x.mapped.behind x.last x.outcome) is x.came)
-        (subst (λ k. Came parties basis haves list IsEmpty reads k x.mapped.handshake.capabilities y.negotiate y.mapped.behind y.last y.outcome) is came-same) in
-        let sent : c.sent ≡ d.sent = sym x.ends ∙ ap (λ (z : TransportState). z.sent) held ∙ y.ends in
+        (subst (λ k. Came parties basis haves list IsEmpty reads k x.mapped.handshake.capabilities y.negotiate y.mapped.behind y.last y.outcome) is came-same)
+    held-same (inr few) =
+        few-same parties basis haves list IsEmpty reads x.mapped.handshake.server_protocol_version x.mapped.handshake.capabilities x.negotiate y.negotiate x.mapped.behind y.mapped.behind x.last y.last basis-same.0 haves-same hold
+        (subst (λ l. length l < 16) (sym basis-same.1) few) x.outcome y.outcome x.came came-same
+
+    all-same : IsSettled bodies ids → (c.sent ≡ d.sent) × (course_shown c ≡ course_shown d)
+    all-same settled =
+        let sent : c.sent ≡ d.sent = sym x.ends ∙ ap (λ (z : TransportState). z.sent) (held-same settled) ∙ y.ends in
         (
           sent,
           ap (λ s. requests_shown s ++ mapped_shown c.mapped ++ end_shown c.ended) sent
@@ -385,16 +399,15 @@ module _ {N I A S C P X : Type 0} (parties : Parties N I A S C P X) (basis : N �
           ∙ ap (λ e. requests_shown d.sent ++ mapped_shown d.mapped ++ end_shown e) begin-same.ended,
         )
 
-  text-same : (One Other : RefMap → N → Type 0) → ((c d : Course) → Session parties IsOne IsOther IsEmpty bodies specs One c → Session parties IsOne IsOther IsEmpty bodies specs Other d → course_shown c ≡ course_shown d)
-      → (old new from to : Option (List ℕ)) → Text parties IsOne IsOther IsEmpty bodies specs One old new → Text parties IsOne IsOther IsEmpty bodies specs Other from to
-      → (written : List ℕ) × Appends old new written × Appends from to written
-  text-same One Other law old new from to (shown c i s) (shown d j t) = (course_shown c, s.0, subst (λ w. Appends from to w) (sym (law c d (i, s.1) (j, t.1))) t.0)
-  text-same One Other law old new from to (refused e r why k) b = absurd (not-refused-ok _ _ r)
-  text-same One Other law old new from to (shown c i s) (refused e r why k) = absurd (not-refused-ok _ _ r)
+  text-same : ((c d : Course) → Ends parties IsOne IsEmpty bodies specs c → Ends parties IsOther IsEmpty bodies specs d → course_shown c ≡ course_shown d) → (old new from to : Option (List ℕ))
+      → IsWritten parties IsOne IsEmpty bodies specs old new → IsWritten parties IsOther IsEmpty bodies specs from to → (written : List ℕ) × Appends old new written × Appends from to written
+  text-same law old new from to (shown c i s) (shown d j t) = (course_shown c, s.0, subst (λ w. Appends from to w) (sym (law c d (i, s.1) (j, t.1))) t.0)
+  text-same law old new from to (refused e r why k) b = absurd (not-refused-ok _ _ r)
+  text-same law old new from to (shown c i s) (refused e r why k) = absurd (not-refused-ok _ _ r)
 
-  pub follow : Follow parties IsOne IsOther IsEmpty bodies specs
+  pub follow : Follow parties IsOne IsOther IsEmpty bodies specs ids
   follow = record {
     begin = λ c d i j. begin-same c d (arrived IsOne c i) (arrived IsOther d j);
-    all = λ v c d i j. all-same c d (arrived IsOne c i) (arrived IsOther d j) v;
-    text = λ v. text-same IsOne IsOther (λ c d i j. (all-same c d (arrived IsOne c i) (arrived IsOther d j) v).1);
+    all = λ settled c d i j. all-same c d (arrived IsOne c i) (arrived IsOther d j) settled;
+    text = λ settled. text-same (λ c d i j. (all-same c d (arrived IsOne c i) (arrived IsOther d j) settled).1);
   }

@@ -1,6 +1,6 @@
 -- The rounds of two fetches whose negotiators offer the same list: each sends the same, and takes the same answer.
 use Rattle.std.proofs.Common.{◌≡◌, Bool, true, false, not, List, [], ◌∷◌, ◌++◌, Option, Some, None, refl, sym, ap, ◌∙◌, subst, true≢false}
-use Rattle.std.specs.Prelude.{ℕ, Ok}
+use Rattle.std.specs.Prelude.{ℕ, ◌<◌, length, Ok}
 use Rattle.gixp_wire.specs.declared.object_id.ObjectId.{ObjectId}
 use Rattle.gixp_wire.specs.FrameText.{texts_of}
 use Rattle.gixp_wire.specs.Pieces.{Pieces}
@@ -20,7 +20,7 @@ use Rattle.gixp_fetch.specs.View.{view}
 use Rattle.gixp_fetch.proofs.SentLemmas.{last_written}
 use Rattle.gixp_planner.proofs.MappedLemmas.{AreAlike, HoldAlike, sent-alike}
 use Rattle.gixp_planner.proofs.AnswerLemmas.{viewed, view-come, answered-version}
-use Rattle.gixp_planner.proofs.ListRoundLemmas.{ListRound, same-round}
+use Rattle.gixp_planner.proofs.ListRoundLemmas.{ListRound, few-last, same-round}
 
 -- the same ids are left, the same is asked for, and the same was sent and answered
 pub record AtAlike {N I : Type 0} (haves : N → List ObjectId) (x y : At N I) : Type 0 where
@@ -98,6 +98,22 @@ module _ {N I A : Type 0} (m : Manner N I A) (haves : N → List ObjectId)
         ap (λ (z : At N I). z.reading.held.sent) q.stands
         ∙ (last_written m y q.before q.turns q.last q.run q.lasts).enters (ap (λ (z : TransportState). z.persists) (sym s.reading.held) ∙ s.reading.alone);
   }
+
+  -- ---- the only round, where there are fewer ids than it has room for
+
+  only-turn : (ts : List (Turn N I)) (x b : At N I) (t : Turn N I) → length (haves x.negotiate) < x.window.haves_to_send → Rounds m x ts b → Turns m b t → Turns m x t
+  only-turn [] x b t few r h = subst (λ a. Turns m a t) r h
+  only-turn (w ∷ ts) x b t few r h =
+      absurd (true≢false (sym (few-last _ _ _ _ _ _ _ _ few (goes x.negotiate x.window x.asked x.previous w.round w.done w.after.negotiate w.after.window w.asked r.0.negotiated)) ∙ r.1))
+
+  pub only-alike : (x y : At N I) (rs qs : List Round) (us vs : List ShallowUpdate) (a b : AnswerValue) (end other : At N I) → AtAlike haves x y → length (haves x.negotiate) < x.window.haves_to_send → Packed m x rs us a end
+      → Packed m y qs vs b other → end.reading.held ≡ other.reading.held
+  only-alike x y rs qs us vs a b end other s few p q =
+      let fewer : length (haves y.negotiate) < y.window.haves_to_send = subst (λ (w : Window). length (haves y.negotiate) < w.haves_to_send) s.window (subst (λ l. length l < x.window.haves_to_send) s.left few) in
+      let h = only-turn p.turns x p.before p.last few p.run p.lasts in
+      let k = only-turn q.turns y q.before q.last fewer q.run q.lasts in
+      let asks = asks-alike x y p.last q.last s h k in
+      ap (λ (z : At N I). z.reading.held) p.stands ∙ h.held ∙ asks.sent.held ∙ sym k.held ∙ sym (ap (λ (z : At N I). z.reading.held) q.stands)
 
   -- ---- all rounds, where an answer is a function of what is to come
   module _ (answers : (asked : Expected) (a b c d : Reading) (p : Pieces) (v w : AnswerValue) → a.to_come ≡ Some p → b.to_come ≡ Some p → Answered (answer_of m.version asked) m.version a c v

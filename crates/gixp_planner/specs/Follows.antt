@@ -1,7 +1,8 @@
--- What follows from the bodies, the refspecs, the objects that are there and the haves: how a session ends, the first request of its fetch, and over version 2 all that it sends and writes.
-use Rattle.std.specs.Prelude.{ℕ, ◌≡◌, ◌++◌, ◌∷◌, Bool, true, false, List, map, Option, Result, Ok, Err, IsOk}
+-- What follows from the bodies, the refspecs, the objects that are there and the haves: how a session ends, the first request of its fetch, and mostly all that it sends and writes.
+use Rattle.std.specs.Prelude.{ℕ, ◌≡◌, ◌⊎◌, ◌<◌, ◌++◌, ◌∷◌, Bool, true, false, List, length, map, Option, Result, Ok, Err, IsOk}
 use Rattle.std.specs.Io.KnownBytes.{Appends}
 use Rattle.gixp_wire.specs.declared.bodies.Body.{Body}
+use Rattle.gixp_wire.specs.declared.object_id.ObjectId.{ObjectId}
 use Rattle.gixp_wire.specs.declared.protocol.Protocol.TheVariants.{V2}
 use Rattle.gixp_wire.specs.Bodies.{answer_of}
 use Rattle.gixp_wire.specs.CapabilityAdvertisement.{Advertised, advertisement}
@@ -18,6 +19,10 @@ use Rattle.gixp_planner.specs.Mapped.{IsMapped}
 abbrev pub SpeaksV2 : List Body → Type 0
 SpeaksV2 bodies = (a : Advertised) → advertisement (answer_pieces (first_answer (map answer_of bodies))) ≡ Ok a → a.version ≡ V2
 
+-- no answer that is cut short changes a request: under version 2 it is refused; and with fewer ids than a first request may name no other one follows
+abbrev pub IsSettled : List Body → List ObjectId → Type 0
+IsSettled bodies haves = SpeaksV2 bodies ⊎ (length haves < 16)
+
 -- behind the requests up to their ref maps both sent the same first request of a fetch, or none where nothing came
 abbrev pub BothAsk : Result Bool Refusal → List (List ℕ) → List (List ℕ) → List (List ℕ) → Type 0
 BothAsk (Ok true) mapping one other = (first : List ℕ) × (later others : List (List ℕ)) × (one ≡ mapping ++ first ∷ later) × (other ≡ mapping ++ first ∷ others)
@@ -33,17 +38,19 @@ pub record BeginAlike (bodies : List Body) (specs : List (List ℕ)) (c d : Cour
   pub mapped : IsMapped bodies specs mapping made
   pub asked : BothAsk c.ended mapping c.sent d.sent
 
-module _ {N I A S C P X : Type 0} (parties : Parties N I A S C P X) (IsOne IsOther : RefMap → N → Type 0) (IsEmpty : S → Type 0) (bodies : List Body) (specs : List (List ℕ)) where
+module _ {N I A S C P X : Type 0} (parties : Parties N I A S C P X) (IsOver : RefMap → N → Type 0) (IsEmpty : S → Type 0) (bodies : List Body) (specs : List (List ℕ)) where
   -- a session that came to its end, over a negotiation that is so
-  abbrev pub Session : (RefMap → N → Type 0) → Course → Type 0
-  Session IsOver course = IsCourse (λ m h old new r. FetchesMapped parties (IsOver m) IsEmpty h old new r) bodies specs course × IsOk course.ended
+  abbrev pub Ends : Course → Type 0
+  Ends course = IsCourse (λ m h old new r. FetchesMapped parties (IsOver m) IsEmpty h old new r) bodies specs course × IsOk course.ended
 
-  -- a session that is written whole
-  abbrev pub Text : (RefMap → N → Type 0) → Option (List ℕ) → Option (List ℕ) → Type 0
-  Text IsOver old new = PlannedText (λ m h from to r. FetchesMapped parties (IsOver m) IsEmpty h from to r) bodies specs old new (Ok tt)
+  -- one that is written whole
+  abbrev pub IsWritten : Option (List ℕ) → Option (List ℕ) → Type 0
+  IsWritten old new = PlannedText (λ m h from to r. FetchesMapped parties (IsOver m) IsEmpty h from to r) bodies specs old new (Ok tt)
 
-  -- sessions of both kinds begin alike; over version 2 they send and print the same, and write the same text
+module _ {N I A S C P X : Type 0} (parties : Parties N I A S C P X) (IsOne IsOther : RefMap → N → Type 0) (IsEmpty : S → Type 0) (bodies : List Body) (specs : List (List ℕ)) (haves : List ObjectId) where
+  -- sessions of both kinds begin alike; where that is settled they send and print the same, and the same text is written
   pub record Follow : Type 0 where
-    pub begin : (c d : Course) → Session IsOne c → Session IsOther d → BeginAlike bodies specs c d
-    pub all : SpeaksV2 bodies → (c d : Course) → Session IsOne c → Session IsOther d → (c.sent ≡ d.sent) × (course_shown c ≡ course_shown d)
-    pub text : SpeaksV2 bodies → (old new from to : Option (List ℕ)) → Text IsOne old new → Text IsOther from to → (written : List ℕ) × Appends old new written × Appends from to written
+    pub begin : (c d : Course) → Ends parties IsOne IsEmpty bodies specs c → Ends parties IsOther IsEmpty bodies specs d → BeginAlike bodies specs c d
+    pub all : IsSettled bodies haves → (c d : Course) → Ends parties IsOne IsEmpty bodies specs c → Ends parties IsOther IsEmpty bodies specs d → (c.sent ≡ d.sent) × (course_shown c ≡ course_shown d)
+    pub text : IsSettled bodies haves → (old new from to : Option (List ℕ)) → IsWritten parties IsOne IsEmpty bodies specs old new → IsWritten parties IsOther IsEmpty bodies specs from to
+        → (written : List ℕ) × Appends old new written × Appends from to written

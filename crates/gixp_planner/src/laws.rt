@@ -19,13 +19,12 @@ pub fn mappings_follow_bodies()
 {}
 
 /// With a [`HaveList`], two sessions that weren't refused, over the same bodies, refspecs, objects and ids, end alike, print
-/// the same mappings, and begin their fetches with the same request. Where the server speaks version 2 they send the same,
-/// and [`plan`](crate::plan) writes the same text.
+/// the same mappings, and begin their fetches with the same request. Where the server speaks version 2, or there are fewer
+/// ids than a first request may name, they send the same, and [`plan`](crate::plan) writes the same text.
 ///
-/// Whatever the graphs hold by then: only the objects that they read are to be the same. With `NoObjects` there are none.
-///
-/// Under versions 0 and 1 an answer may end where the stream does. A read that fails as at the stream's end then makes it
-/// another one, and what a transport promises leaves that open, so that nothing is said of the requests behind the first.
+/// The objects are those of the repository and of the graph, whatever the graph holds by then; with `NoObjects` there are
+/// none. Else, under versions 0 and 1, an answer may end where the stream does. What a transport promises leaves open that
+/// a read fails as if there, which makes it another answer: so nothing is said of the requests behind it.
 pub fn texts_follow_bodies<'a, O: Objects + 'a, G: Objects + 'a>()
     ensures { (bodies : List Body) (specs : List (List ℕ)) (haves : List ObjectId) (objects others : O) (graph another : GraphValue)
         → O.contents objects ≡ O.contents others → graph.graph.objects ≡ another.graph.objects
@@ -40,7 +39,7 @@ pub fn texts_follow_bodies<'a, O: Objects + 'a, G: Objects + 'a>()
         (λ m n. (n.objects.now ≡ objects) × (n.graph.now ≡ graph) × (n.negotiator.now ≡ haves) × (n.ref_map.now ≡ m) × (n.shallow.now ≡ Shallow.NoChange) × (n.tags ≡ Tags.None) × IfOk n.alternates (λ a. a.now ≡ []) × IsOk n.alternates)
         (λ m n. (n.objects.now ≡ others) × (n.graph.now ≡ another) × (n.negotiator.now ≡ haves) × (n.ref_map.now ≡ m) × (n.shallow.now ≡ Shallow.NoChange) × (n.tags ≡ Tags.None) × IfOk n.alternates (λ a. a.now ≡ []) × IsOk n.alternates)
         (λ s. (s.ids.items ≡ []) × (s.locked ≡ false))
-        bodies specs }
+        bodies specs haves }
 {
     answers_are_sections();
     sections_are_answers();
