@@ -7,5 +7,6 @@ pub mod WantLemmas
 pub mod AnswerLemmas
 pub mod ListRoundLemmas
 pub mod RoundLemmas
+pub mod FetchLemmas
 pub mod LaterLemmas
 pub mod ListNegotiationLemmas
