@@ -64,8 +64,7 @@ module _ {N A : Type 0} (office : Office N A) (basis : N → Basis) (haves : N �
   readied-asks : (action : ActionValue) (ready : N) (wanted : ArgumentsValue) → Readied office n given action ready wanted → Asks (basis n) given wanted × (haves ready ≡ haves n)
   readied-asks action ready wanted r =
       let m = list.marks n action r.marked r.marks in
-      let a = list.adds r.marked r.known given true wanted ready r.adds in
-      (
+      let a = list.adds r.marked r.known given true wanted ready r.adds in (
         record {
           known = r.known;
           must = sym m.0 ∙ r.must;
@@ -244,8 +243,7 @@ module _ {N I A S C P X : Type 0} (parties : Parties N I A S C P X) (basis : N �
     -- both came to the same end, and asked for the same first
     pub begins : (x y : Option Outcome) → Came v caps n a c x → Came v caps o b d y → (came_to x ≡ came_to y) × BothAsk (came_to x) a.held.sent c.held.sent d.held.sent
     begins (Some x) (Some y) l r =
-        let s = begin-alike (manner_of v (bands v caps)) haves list.goes _ _ _ _ _ _ _ _ _ _ (starts-alike l r) l.packed r.packed in
-        (
+        let s = begin-alike (manner_of v (bands v caps)) haves list.goes _ _ _ _ _ _ _ _ _ _ (starts-alike l r) l.packed r.packed in (
           refl,
           (
             s.first.first,

@@ -128,12 +128,11 @@ module _ {N I A S C P X : Type 0} (parties : Parties N I A S C P X) (basis : N �
 
     all-same : IsSettled bodies ids → (c.sent ≡ d.sent) × (course_shown c ≡ course_shown d)
     all-same settled =
-        let sent : c.sent ≡ d.sent = sym x.ends ∙ ap (λ (z : TransportState). z.sent) (held-same settled) ∙ y.ends in
-        (
+        let sent : c.sent ≡ d.sent = sym x.ends ∙ ap (λ (z : TransportState). z.sent) (held-same settled) ∙ y.ends in (
           sent,
           ap (λ s. requests_shown s ++ mapped_shown c.mapped ++ end_shown c.ended) sent
-          ∙ ap (λ t. requests_shown d.sent ++ t ++ end_shown c.ended) begin-same.printed
-          ∙ ap (λ e. requests_shown d.sent ++ mapped_shown d.mapped ++ end_shown e) begin-same.ended,
+              ∙ ap (λ t. requests_shown d.sent ++ t ++ end_shown c.ended) begin-same.printed
+              ∙ ap (λ e. requests_shown d.sent ++ mapped_shown d.mapped ++ end_shown e) begin-same.ended,
         )
 
   text-same : ((c d : Course) → Ends parties IsOne IsEmpty bodies specs c → Ends parties IsOther IsEmpty bodies specs d → course_shown c ≡ course_shown d) → (old new from to : Option (List ℕ))

@@ -1,16 +1,13 @@
 -- What a negotiation over a repository goes by that has no refs, and whose negotiator offers a list.
-use Rattle.std.proofs.Common.{◌≡◌, Bool, false, List, codes, refl, sym, ap, ◌∙◌, subst}
+use Rattle.std.proofs.Common.{◌≡◌, Bool, List, codes, refl, sym, ap, ◌∙◌, subst}
 use Rattle.std.specs.FinMap as finite
-use Rattle.gixp_wire.specs.declared.object_id.ObjectId.{ObjectId}
 use Rattle.gixp_requests.specs.Arguments.{ArgumentsValue, can_use}
 use Rattle.gixp_graph.specs.Object.{Objects}
 use Rattle.gixp_refmap.specs.declared.fetch.Tags.TheVariants as tags
-use Rattle.gixp_refmap.specs.declared.refmap.mapping.Mapping.{Mapping}
 use Rattle.gixp_refmap.specs.declared.refmap.map.RefMap.{RefMap}
 use Rattle.gixp_negotiate.specs.declared.negotiate.negotiation.Negotiation.{Negotiation}
 use Rattle.gixp_negotiate.specs.declared.negotiate.plain.HaveList.{HaveList}
 use Rattle.gixp_negotiate.specs.declared.negotiate.plain.NoRefs.{NoRefs}
-use Rattle.gixp_negotiate.specs.declared.shallow.Shallow.{Shallow}
 use Rattle.gixp_negotiate.specs.Shallow.{is_no_change}
 use Rattle.gixp_negotiate.specs.Ignored.{is_ignored}
 use Rattle.gixp_negotiate.specs.Wants.{wishes}

@@ -1,5 +1,5 @@
 -- Rounds of a negotiator that offers a list: each is a function of the ids that are left, of what is asked for and of the last answer.
-use Rattle.std.proofs.Common.{◌≡◌, ℕ, ◌<◌, ◌≤◌, Bool, List, [], ◌∷◌, ◌++◌, length, take, drop, Option, Some, None, inl, inr, refl, sym, ap, ◌∙◌, subst, arith, append-nil}
+use Rattle.std.proofs.Common.{◌≡◌, ℕ, ◌<◌, ◌≤◌, Bool, List, [], ◌∷◌, ◌++◌, length, take, drop, Option, inl, inr, sym, ap, ◌∙◌, subst, arith, append-nil}
 use Rattle.std.proofs.lemmas.Bool.{cases_lt}
 use Rattle.std.proofs.lemmas.Bool.Decides.{nat_tests}
 use Rattle.std.specs.Prelude.{nat_lt, not, ◌||◌, ◌&&◌, true}
@@ -41,7 +41,7 @@ acts-stay (negotiate known) n g ids tips m h a = run-stays (tips_in g.objects ti
 offered-first : (w : ℕ) (xs n : List ObjectId) (g : GraphData) (m : List ObjectId) (h : GraphData) → Offered offers_first n g w xs m h → (xs ≡ take w n) × (m ≡ drop w n)
 offered-first w xs n g m h o =
     elim (cases_lt (length xs) w) [
-      inl l ↦ by_end (o.fewer l).0.0 (o.fewer l).0.1 (omega arith)
+      | inl l ↦ by_end (o.fewer l).0.0 (o.fewer l).0.1 (omega arith)
       | inr k ↦ let e : length xs ≡ w = omega (arith, o.within) in by_window e (o.full e).0
     ]
   where

@@ -1,12 +1,9 @@
 -- Two sessions over the same bodies: each step leaves readers of which the same is to come, and which hold the same.
-use Rattle.std.proofs.Common.{◌≡◌, ◌⊎◌, ℕ, Bool, true, false, List, [], ◌∷◌, ◌++◌, map, flat_map, codes, Option, Some, None, Vec, Result, Ok, Err, IfSome, inl, inr, refl, sym, ap, ◌∙◌, subst, append_assoc, append-nil}
+use Rattle.std.proofs.Common.{◌≡◌, ◌⊎◌, ℕ, Bool, true, false, List, [], ◌∷◌, ◌++◌, map, Option, Some, None, Vec, Result, Ok, Err, IfSome, inl, inr, refl, sym, ap, ◌∙◌, subst, append_assoc, append-nil}
 use Rattle.std.specs.Prelude.{IfOk, IsOk}
 use Rattle.std.specs.Io.KnownBytes.{Appends}
-use Rattle.std.specs.List.{AllZip, slice_get}
 use Rattle.std.specs.Option.{option_map}
 use Rattle.std.specs.declared.alloc.Global.{Global}
-use Rattle.bstr.specs.Owned.{bstring_bytes}
-use Rattle.hex.specs.Hex.{encode_lower}
 use Rattle.gixp_wire.specs.declared.protocol.Protocol.{Protocol}
 use Rattle.gixp_wire.specs.declared.protocol.Protocol.TheVariants.{V2}
 use Rattle.gixp_wire.specs.declared.protocol.MessageKind.{MessageKind}
@@ -28,29 +25,21 @@ use Rattle.gixp_wire.specs.Capabilities.{CapabilityValue}
 use Rattle.gixp_wire.specs.CapabilityAdvertisement.{Advertised, advertisement, ReadsAdvertisement}
 use Rattle.gixp_wire.specs.Transport.{TakesAnswer, SentBy, FailsBy, Sends, entered, with_written, first_answer, later_answers, answer_pieces}
 use Rattle.gixp_lines.specs.declared.handshake.Ref.{Ref}
-use Rattle.gixp_lines.specs.declared.handshake.Ref.TheVariants.{Peeled, Direct, Symbolic, Unborn}
 use Rattle.gixp_lines.specs.declared.fetch.response.line.ShallowUpdate.{ShallowUpdate}
-use Rattle.gixp_lines.specs.Ref.{RefValue, peeled, direct, symbolic, unborn, ref_value, unpacked_name, unpacked_target}
+use Rattle.gixp_lines.specs.Ref.{RefValue, ref_value}
 use Rattle.gixp_lines.specs.Refs.{v2_refs, ReadsRefs}
 use Rattle.gixp_lines.specs.RefAdvertisement.{Symref, symref_table, groups}
 use Rattle.gixp_lines.specs.V1Refs.{ReadsV1}
 use Rattle.gixp_requests.specs.Command.{git_table}
 use Rattle.gixp_refspec.specs.declared.spec.RefSpec.{RefSpec}
-use Rattle.gixp_refspec.specs.declared.match_group.validate.Fix.{Fix}
 use Rattle.gixp_refspec.specs.Spec.{Spec}
 use Rattle.gixp_refspec.specs.RefSpec.{owned_value_of}
-use Rattle.gixp_refspec.specs.Mappings.{Source as SourceValue, FullName, ObjectId as IdOf, Mapped}
-use Rattle.gixp_refspec.specs.Validation.{fixes, kept}
-use Rattle.gixp_refspec.specs.Validate.{removed_of}
-use Rattle.gixp_refmap.specs.declared.refmap.mapping.Source.{Source}
-use Rattle.gixp_refmap.specs.declared.refmap.mapping.Source.TheVariants.{ObjectId as the_id, Ref as the_ref}
-use Rattle.gixp_refmap.specs.declared.refmap.mapping.Mapping.{Mapping}
 use Rattle.gixp_refmap.specs.declared.refmap.map.RefMap.{RefMap}
 use Rattle.gixp_refmap.specs.declared.refmap.init.Context.{Context}
 use Rattle.gixp_refmap.specs.declared.refmap.init.Error.{Error as map_error}
 use Rattle.gixp_refmap.specs.declared.ls_refs.error.Error.{Error as list_error}
 use Rattle.gixp_refmap.specs.Listing.{Listing, listing, listing_of, Listed, Lists as ListsRefs}
-use Rattle.gixp_refmap.specs.Mapping.{source_id, source_name, value_name, found_in, IsRemote, IsMapping, AnswersBy, unknown_format, joined_specs}
+use Rattle.gixp_refmap.specs.Mapping.{unknown_format, joined_specs}
 use Rattle.gixp_handshake.specs.declared.handshake.read.Handshake.{Handshake}
 use Rattle.gixp_handshake.specs.declared.handshake.ref_map.ObtainRefMap.{ObtainRefMap}
 use Rattle.gixp_handshake.specs.declared.handshake.ref_map.ObtainRefMap.TheVariants.{Existing, LsRefsCommand}
@@ -67,7 +56,7 @@ use Rattle.gixp_negotiate.specs.declared.negotiate.Round.{Round}
 use Rattle.gixp_handshake.specs.Taken.{without_refs}
 use Rattle.gixp_planner.specs.declared.error.PlanError.{PlanError}
 use Rattle.gixp_planner.specs.Refusal.{Refusal}
-use Rattle.gixp_planner.specs.Text.{joined, id_shown, name_shown, mapping_shown, removed_shown, fix_shown, map_shown, mapped_shown, requests_shown, end_shown, Course}
+use Rattle.gixp_planner.specs.Text.{map_shown, mapped_shown, requests_shown, end_shown, Course}
 use Rattle.gixp_planner.specs.Session.{planner_agent, planner_call, AreUnanswered, Greets, MapsRefs, FetchesMapped, Runs, ungreeted, unmapped, fetched}
 use Rattle.gixp_planner.specs.PlannedText.{IsCourse, Shows}
 use Rattle.gixp_planner.specs.Mapped.{IsMapped, MappingsFollow, ShowsMapped}

@@ -1,6 +1,6 @@
 -- The rounds of two fetches whose negotiators offer the same list: each sends the same, and takes the same answer.
-use Rattle.std.proofs.Common.{◌≡◌, Bool, true, false, not, List, [], ◌∷◌, ◌++◌, Option, Some, None, refl, sym, ap, ◌∙◌, subst, true≢false}
-use Rattle.std.specs.Prelude.{ℕ, ◌<◌, length, Ok}
+use Rattle.std.proofs.Common.{◌≡◌, Bool, true, false, not, List, [], ◌∷◌, ◌++◌, Option, Some, refl, sym, ap, ◌∙◌, subst, true≢false}
+use Rattle.std.specs.Prelude.{ℕ, ◌<◌, length}
 use Rattle.gixp_wire.specs.declared.object_id.ObjectId.{ObjectId}
 use Rattle.gixp_wire.specs.FrameText.{texts_of}
 use Rattle.gixp_wire.specs.Pieces.{Pieces}
@@ -48,7 +48,7 @@ pub record FirstAlike (xs ys : List (List ℕ)) : Type 0 where
 
 module _ {N I A : Type 0} (m : Manner N I A) (haves : N → List ObjectId)
     (goes : (n : N) (s : Window) (a : ArgumentsValue) (p : Option AnswerValue) (r : Round) (done : Bool) (n' : N) (t : Window) (b : ArgumentsValue)
-      → m.goes n s a p r done n' t b → ListRound (haves n) s a p done (haves n') t b) where
+    → m.goes n s a p r done n' t b → ListRound (haves n) s a p done (haves n') t b) where
   asks-alike : (x y : At N I) (t u : Turn N I) → AtAlike haves x y → Turns m x t → Turns m y u → AsksAlike haves t u
   asks-alike x y t u s h k =
       let round = same-round _ _ _ _ _ _ _ _ _ _ _ _ _ _ _ _ s.left s.window s.asked s.previous

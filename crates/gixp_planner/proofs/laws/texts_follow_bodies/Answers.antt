@@ -17,7 +17,7 @@ returns g c = λ bodies specs haves objects others graph another e f.
     _ _ _ (λ s ids t empty read. read.0 ∙ empty.0) haves
     (λ m k n o l r alike. (
       same-basis g.O.Objects.contents n o m k (ap g.O.Objects.contents l.0 ∙ e ∙ sym (ap g.O.Objects.contents r.0)) (ap (λ (v : GraphValue). v.graph.objects) l.1 ∙ f ∙ sym (ap (λ (v : GraphValue). v.graph.objects) r.1))
-      l.3 r.3 (l.4 ∙ sym r.4) l.5 r.5 alike,
+          l.3 r.3 (l.4 ∙ sym r.4) l.5 r.5 alike,
       l.2,
       r.2,
     ))
