@@ -35,7 +35,7 @@ use Rattle.gixp_planner.proofs.AnswerLemmas.{AnswersAreSections, SectionsAreAnsw
 use Rattle.gixp_planner.proofs.ListRoundLemmas.{ListRound}
 use Rattle.gixp_planner.proofs.RoundLemmas.{AtAlike, begin-alike, only-alike, packed-alike}
 
--- a side that knows the repository and goes by such a basis, and whose negotiator offers a list
+-- a side that knows the repository: it goes by a basis, and its negotiator offers a list
 pub record OffersList {N A : Type 0} (office : Office N A) (basis : N → Basis) (haves : N → List ObjectId) : Type 0 where
   pub marks : (n : N) (action : ActionValue) (m : N) → office.marks n action m
       → (action ≡ decided (basis n)) × (haves m ≡ haves n) × ((a : ArgumentsValue) (known : List Bool) → asked_for (basis m) a known ≡ asked_for (basis n) a known)
