@@ -1,4 +1,12 @@
 pub mod ListLemmas
 pub mod PrintLemmas
 pub mod SessionLemmas
+pub mod SeenLemmas
 pub mod MappedLemmas
+pub mod WantLemmas
+pub mod AnswerLemmas
+pub mod ListRoundLemmas
+pub mod RoundLemmas
+pub mod FetchLemmas
+pub mod LaterLemmas
+pub mod ListNegotiationLemmas

@@ -1,13 +1,11 @@
 -- Two sessions over the same bodies: each step leaves readers of which the same is to come, and which hold the same.
-use Rattle.std.proofs.Common.{◌≡◌, ◌⊎◌, ℕ, Bool, true, false, List, [], ◌∷◌, ◌++◌, map, flat_map, codes, Option, Some, None, Vec, Result, Ok, Err, IfSome, inl, inr, refl, sym, ap, ◌∙◌, subst, append_assoc, append-nil}
+use Rattle.std.proofs.Common.{◌≡◌, ◌⊎◌, ℕ, Bool, true, false, List, [], ◌∷◌, ◌++◌, map, Option, Some, None, Vec, Result, Ok, Err, IfSome, inl, inr, refl, sym, ap, ◌∙◌, subst, append_assoc, append-nil}
 use Rattle.std.specs.Prelude.{IfOk, IsOk}
 use Rattle.std.specs.Io.KnownBytes.{Appends}
-use Rattle.std.specs.List.{AllZip, slice_get}
 use Rattle.std.specs.Option.{option_map}
 use Rattle.std.specs.declared.alloc.Global.{Global}
-use Rattle.bstr.specs.Owned.{bstring_bytes}
-use Rattle.hex.specs.Hex.{encode_lower}
 use Rattle.gixp_wire.specs.declared.protocol.Protocol.{Protocol}
+use Rattle.gixp_wire.specs.declared.protocol.Protocol.TheVariants.{V2}
 use Rattle.gixp_wire.specs.declared.protocol.MessageKind.{MessageKind}
 use Rattle.gixp_wire.specs.declared.service.Service.{Service}
 use Rattle.gixp_wire.specs.declared.service.Service.TheVariants.{UploadPack}
@@ -27,29 +25,21 @@ use Rattle.gixp_wire.specs.Capabilities.{CapabilityValue}
 use Rattle.gixp_wire.specs.CapabilityAdvertisement.{Advertised, advertisement, ReadsAdvertisement}
 use Rattle.gixp_wire.specs.Transport.{TakesAnswer, SentBy, FailsBy, Sends, entered, with_written, first_answer, later_answers, answer_pieces}
 use Rattle.gixp_lines.specs.declared.handshake.Ref.{Ref}
-use Rattle.gixp_lines.specs.declared.handshake.Ref.TheVariants.{Peeled, Direct, Symbolic, Unborn}
 use Rattle.gixp_lines.specs.declared.fetch.response.line.ShallowUpdate.{ShallowUpdate}
-use Rattle.gixp_lines.specs.Ref.{RefValue, peeled, direct, symbolic, unborn, ref_value, unpacked_name, unpacked_target}
+use Rattle.gixp_lines.specs.Ref.{RefValue, ref_value}
 use Rattle.gixp_lines.specs.Refs.{v2_refs, ReadsRefs}
 use Rattle.gixp_lines.specs.RefAdvertisement.{Symref, symref_table, groups}
 use Rattle.gixp_lines.specs.V1Refs.{ReadsV1}
 use Rattle.gixp_requests.specs.Command.{git_table}
 use Rattle.gixp_refspec.specs.declared.spec.RefSpec.{RefSpec}
-use Rattle.gixp_refspec.specs.declared.match_group.validate.Fix.{Fix}
 use Rattle.gixp_refspec.specs.Spec.{Spec}
 use Rattle.gixp_refspec.specs.RefSpec.{owned_value_of}
-use Rattle.gixp_refspec.specs.Mappings.{Source as SourceValue, FullName, ObjectId as IdOf, Mapped}
-use Rattle.gixp_refspec.specs.Validation.{fixes, kept}
-use Rattle.gixp_refspec.specs.Validate.{removed_of}
-use Rattle.gixp_refmap.specs.declared.refmap.mapping.Source.{Source}
-use Rattle.gixp_refmap.specs.declared.refmap.mapping.Source.TheVariants.{ObjectId as the_id, Ref as the_ref}
-use Rattle.gixp_refmap.specs.declared.refmap.mapping.Mapping.{Mapping}
 use Rattle.gixp_refmap.specs.declared.refmap.map.RefMap.{RefMap}
 use Rattle.gixp_refmap.specs.declared.refmap.init.Context.{Context}
 use Rattle.gixp_refmap.specs.declared.refmap.init.Error.{Error as map_error}
 use Rattle.gixp_refmap.specs.declared.ls_refs.error.Error.{Error as list_error}
 use Rattle.gixp_refmap.specs.Listing.{Listing, listing, listing_of, Listed, Lists as ListsRefs}
-use Rattle.gixp_refmap.specs.Mapping.{source_id, source_name, value_name, found_in, IsRemote, IsMapping, AnswersBy, unknown_format, joined_specs}
+use Rattle.gixp_refmap.specs.Mapping.{unknown_format, joined_specs}
 use Rattle.gixp_handshake.specs.declared.handshake.read.Handshake.{Handshake}
 use Rattle.gixp_handshake.specs.declared.handshake.ref_map.ObtainRefMap.{ObtainRefMap}
 use Rattle.gixp_handshake.specs.declared.handshake.ref_map.ObtainRefMap.TheVariants.{Existing, LsRefsCommand}
@@ -66,102 +56,12 @@ use Rattle.gixp_negotiate.specs.declared.negotiate.Round.{Round}
 use Rattle.gixp_handshake.specs.Taken.{without_refs}
 use Rattle.gixp_planner.specs.declared.error.PlanError.{PlanError}
 use Rattle.gixp_planner.specs.Refusal.{Refusal}
-use Rattle.gixp_planner.specs.Text.{joined, id_shown, name_shown, mapping_shown, removed_shown, fix_shown, map_shown, mapped_shown, requests_shown, end_shown, Course}
+use Rattle.gixp_planner.specs.Text.{map_shown, mapped_shown, requests_shown, end_shown, Course}
 use Rattle.gixp_planner.specs.Session.{planner_agent, planner_call, AreUnanswered, Greets, MapsRefs, FetchesMapped, Runs, ungreeted, unmapped, fetched}
 use Rattle.gixp_planner.specs.PlannedText.{IsCourse, Shows}
 use Rattle.gixp_planner.specs.Mapped.{IsMapped, MappingsFollow, ShowsMapped}
-
--- ---- what is printed of a ref map, by the values of its refs
-
-abbrev value_id : RefValue → Option (List ℕ)
-value_id (peeled name tag object) = Some tag
-value_id (direct name object) = Some object
-value_id (symbolic name target None object) = Some object
-value_id (symbolic name target (Some tag) object) = Some tag
-value_id (unborn name target) = None
-
-abbrev bytes_shown : Option (List ℕ) → List ℕ
-bytes_shown (Some id) = encode_lower id
-bytes_shown None = codes "unborn"
-
-abbrev id_at : Option RefValue → List ℕ
-id_at (Some v) = bytes_shown (value_id v)
-id_at None = []
-
-abbrev name_at : Option RefValue → List ℕ
-name_at (Some v) = value_name v
-name_at None = []
-
-abbrev id_text : List RefValue → Option ℕ → SourceValue → List ℕ
-id_text refs (Some i) source = id_at (slice_get refs i)
-id_text refs None (FullName name) = []
-id_text refs None (IdOf bytes) = encode_lower bytes
-
-abbrev name_text : List RefValue → Option ℕ → List ℕ
-name_text refs (Some i) = name_at (slice_get refs i)
-name_text refs None = codes "-"
-
-abbrev mapped_text : List RefValue → Mapped → List ℕ
-mapped_text refs m = joined (codes "map " ∷ id_text refs m.item m.source ∷ codes " " ∷ name_text refs m.item ∷ codes " " ∷ name_shown m.local ∷ codes "\n" ∷ [])
-
-abbrev map_text : List Spec → List RefValue → List ℕ
-map_text specs refs = flat_map (mapped_text refs) (kept (found_in specs refs)) ++ flat_map removed_shown (fixes specs (found_in specs refs))
-
-ref-id : (r : Ref) → id_shown (unpacked_target r) ≡ bytes_shown (value_id (ref_value r))
-ref-id (Peeled name tag object) = refl
-ref-id (Direct name object) = refl
-ref-id (Symbolic name target None object) = refl
-ref-id (Symbolic name target (Some tag) object) = refl
-ref-id (Unborn name target) = refl
-
-ref-name : (r : Ref) → unpacked_name r ≡ value_name (ref_value r)
-ref-name (Peeled name tag object) = refl
-ref-name (Direct name object) = refl
-ref-name (Symbolic name target None object) = refl
-ref-name (Symbolic name target (Some tag) object) = refl
-ref-name (Unborn name target) = refl
-
-remote-id : (refs : List RefValue) (item : Option ℕ) (source : SourceValue) (x : Source) → IsRemote refs item source x → id_shown (source_id x) ≡ id_text refs item source
-remote-id refs (Some i) (FullName name) (the_ref r) h = ref-id r ∙ ap id_at (sym h)
-remote-id refs (Some i) (FullName name) (the_id id) h = absurd h
-remote-id refs (Some i) (IdOf bytes) (the_ref r) h = absurd h
-remote-id refs (Some i) (IdOf bytes) (the_id id) h = absurd h
-remote-id refs None (FullName name) (the_ref r) h = absurd h
-remote-id refs None (FullName name) (the_id id) h = absurd h
-remote-id refs None (IdOf bytes) (the_ref r) h = absurd h
-remote-id refs None (IdOf bytes) (the_id id) h = ap encode_lower h
-
-remote-name : (refs : List RefValue) (item : Option ℕ) (source : SourceValue) (x : Source) → IsRemote refs item source x → name_shown (source_name x) ≡ name_text refs item
-remote-name refs (Some i) (FullName name) (the_ref r) h = ref-name r ∙ ap name_at (sym h)
-remote-name refs (Some i) (FullName name) (the_id id) h = absurd h
-remote-name refs (Some i) (IdOf bytes) (the_ref r) h = absurd h
-remote-name refs (Some i) (IdOf bytes) (the_id id) h = absurd h
-remote-name refs None (FullName name) (the_ref r) h = absurd h
-remote-name refs None (FullName name) (the_id id) h = absurd h
-remote-name refs None (IdOf bytes) (the_ref r) h = absurd h
-remote-name refs None (IdOf bytes) (the_id id) h = refl
-
-mapping-text : (refs : List RefValue) (count : ℕ) (m : Mapped) (x : Mapping) → IsMapping refs count m x → mapping_shown x ≡ mapped_text refs m
-mapping-text refs count m x h =
-    ap (λ t. joined (codes "map " ∷ t ∷ codes " " ∷ name_shown (source_name x.remote) ∷ codes " " ∷ name_shown (option_map bstring_bytes x.local) ∷ codes "\n" ∷ [])) (remote-id refs m.item m.source x.remote h.remote)
-    ∙ ap (λ t. joined (codes "map " ∷ id_text refs m.item m.source ∷ codes " " ∷ t ∷ codes " " ∷ name_shown (option_map bstring_bytes x.local) ∷ codes "\n" ∷ [])) (remote-name refs m.item m.source x.remote h.remote)
-    ∙ ap (λ t. joined (codes "map " ∷ id_text refs m.item m.source ∷ codes " " ∷ name_text refs m.item ∷ codes " " ∷ name_shown t ∷ codes "\n" ∷ [])) h.local
-
-mappings-text : (refs : List RefValue) (count : ℕ) (ms : List Mapped) (xs : List Mapping) → AllZip (IsMapping refs count) ms xs → flat_map mapping_shown xs ≡ flat_map (mapped_text refs) ms
-mappings-text refs count [] [] h = refl
-mappings-text refs count [] (x ∷ xs) h = absurd h
-mappings-text refs count (m ∷ ms) [] h = absurd h
-mappings-text refs count (m ∷ ms) (x ∷ xs) h = ap (λ t. t ++ flat_map mapping_shown xs) (mapping-text refs count m x h.0) ∙ ap (λ t. mapped_text refs m ++ t) (mappings-text refs count ms xs h.1)
-
-fixes-text : (fs : List Fix) → flat_map fix_shown fs ≡ flat_map removed_shown (map removed_of fs)
-fixes-text [] = refl
-fixes-text (f ∷ fs) = ap (λ t. fix_shown f ++ t) (fixes-text fs)
-
-map-text : (unknown : Option (List ℕ)) (specs : List Spec) (count : ℕ) (refs : List RefValue) (m : RefMap) → AnswersBy unknown specs count refs (Ok m) → map_shown m ≡ map_text specs refs
-map-text (Some format) specs count refs m h = absurd h
-map-text None specs count refs m h =
-    ap (λ t. t ++ flat_map fix_shown m.fixes.items) (mappings-text refs count (kept (found_in specs refs)) m.mappings.items h.1)
-    ∙ ap (λ t. flat_map (mapped_text refs) (kept (found_in specs refs)) ++ t) (fixes-text m.fixes.items ∙ ap (flat_map removed_shown) h.2)
+use Rattle.gixp_planner.specs.Follows.{SpeaksV2}
+use Rattle.gixp_planner.proofs.SeenLemmas.{map_text, map-text, LookAlike, look-alike}
 
 -- ---- readers of which the same is to come
 
@@ -175,22 +75,31 @@ pub record AreAlike (a b : Reading) : Type 0 where
   pub held : a.held ≡ b.held
   pub alone : a.held.persists ≡ false
 
-same-ok : {A E : Type 0} (r : Result A E) (a b : A) → r ≡ Ok a → r ≡ Ok b → a ≡ b
+-- both hold the same, whatever is to come
+pub record HoldAlike (a b : Reading) : Type 0 where
+  pub version : a.version ≡ b.version
+  pub held : a.held ≡ b.held
+  pub alone : a.held.persists ≡ false
+
+pub hold-alike : (a b : Reading) → AreAlike a b → HoldAlike a b
+hold-alike a b s = record { version = s.version; held = s.held; alone = s.alone }
+
+pub same-ok : {A E : Type 0} (r : Result A E) (a b : A) → r ≡ Ok a → r ≡ Ok b → a ≡ b
 same-ok r a b e f = cc
 
-if-known : {A : Type 0} (F : A → Type 0) (o : Option A) (a : A) → o ≡ Some a → IfSome o F → F a
+pub if-known : {A : Type 0} (F : A → Type 0) (o : Option A) (a : A) → o ≡ Some a → IfSome o F → F a
 if-known F o a e h = subst (λ x. IfSome x F) e h
 
 -- of readers that hold the same, the next answer
-answers-alike : (a b c d : Reading) → a.version ≡ b.version → a.held ≡ b.held → a.held.persists ≡ false → TakesAnswer a c → TakesAnswer b d → AreAlike c d
-answers-alike a b c d v h p s t = record {
+answers-alike : (a b c d : Reading) → HoldAlike a b → TakesAnswer a c → TakesAnswer b d → AreAlike c d
+answers-alike a b c d h s t = record {
   pieces = answer_pieces (first_answer a.held.answers);
   first = s.to_come;
-  second = t.to_come ∙ ap (λ (x : TransportState). Some (answer_pieces (first_answer x.answers))) (sym h);
+  second = t.to_come ∙ ap (λ (x : TransportState). Some (answer_pieces (first_answer x.answers))) (sym h.held);
   stopped = s.stopped ∙ sym t.stopped;
-  version = s.version ∙ v ∙ sym t.version;
-  held = s.held ∙ ap (λ (x : TransportState). record x { answers = later_answers x.answers }) h ∙ sym t.held;
-  alone = ap (λ (x : TransportState). x.persists) s.held ∙ p;
+  version = s.version ∙ h.version ∙ sym t.version;
+  held = s.held ∙ ap (λ (x : TransportState). record x { answers = later_answers x.answers }) h.held ∙ sym t.held;
+  alone = ap (λ (x : TransportState). x.persists) s.held ∙ h.alone;
 }
 
 -- the lines up to a stop, and what is behind it
@@ -239,6 +148,7 @@ stops-alike a b c d texts others kind other s l r =
 -- ---- a handshake
 
 record SameAnswer (x y : SetServiceResponse) : Type 0 where
+  version : x.actual_protocol ≡ y.actual_protocol
   capabilities : x.capabilities ≡ y.capabilities
   follow : x.refs_follow ≡ y.refs_follow
 
@@ -262,6 +172,7 @@ said-alike a b c d x y s l r =
         alone = ap (λ (x : TransportState). x.persists) l.held ∙ s.alone;
       };
       same = record {
+        version = u.2.version ∙ ap (λ (z : Advertised). z.version) same ∙ sym w.2.version;
         capabilities = u.2.capabilities ∙ ap (λ (z : Advertised). z.capabilities) same ∙ sym w.2.capabilities;
         follow = u.2.refs_follow ∙ ap (λ (z : Advertised). z.refs_follow) same ∙ sym w.2.refs_follow;
       };
@@ -306,11 +217,12 @@ record Greeted (plain : Bool) (old new : Reading) (h : Handshake) : Type 0 where
   found : SetServiceResponse
   hears : Hears old mid found
   first : ReadsFirst found.refs_follow found plain mid new (Ok h)
+  version : h.server_protocol_version ≡ found.actual_protocol
   capabilities : h.capabilities ≡ found.capabilities
 
 module _ (plain : Bool) (old new : Reading) (h : Handshake) (turns : List Turn) where
   kept-accepted : (accepted : Bool) (mid : Reading) (found : SetServiceResponse) → Hears old mid found → Keeps accepted found plain mid new (Ok h) → Greeted plain old new h
-  kept-accepted true mid found o k = record { mid = mid; found = found; hears = o; first = k.0; capabilities = k.1.1 }
+  kept-accepted true mid found o k = record { mid = mid; found = found; hears = o; first = k.0; version = k.1.0; capabilities = k.1.1 }
   kept-accepted false mid found o k = cc k.1
 
   greeted-by : (opened : Opened) (mid : Reading) → old.held.persists ≡ false → AreUnanswered turns → Opens UploadPack [] old mid turns opened ⊎ NoMemory old mid turns opened
@@ -326,9 +238,10 @@ greeted plain old new h p g = greeted-by plain old new h g.turns g.shakes.opened
 abbrev values_of : Option (Vec Ref Global) → Option (List RefValue)
 values_of refs = option_map (λ (v : Vec Ref Global). map ref_value v.items) refs
 
-record SameGreeting (c d : Reading) (h k : Handshake) : Type 0 where
+pub record SameGreeting (c d : Reading) (h k : Handshake) : Type 0 where
   alike : AreAlike c d
-  capabilities : h.capabilities ≡ k.capabilities
+  pub version : h.server_protocol_version ≡ k.server_protocol_version
+  pub capabilities : h.capabilities ≡ k.capabilities
   refs : values_of h.refs ≡ values_of k.refs
 
 record SameRefs (c d : Reading) (h k : Handshake) : Type 0 where
@@ -354,18 +267,27 @@ first-refs-alike true plain a b c d x y h k s e l r =
       refs = ap values_of l.2 ∙ ap Some values ∙ sym (ap values_of r.2);
     }
 
-greetings-alike : (plain : Bool) (a b c d : Reading) (h k : Handshake) → a.version ≡ b.version → a.held ≡ b.held → a.held.persists ≡ false → Greets plain a c (Ok h) → Greets plain b d (Ok k) → SameGreeting c d h k
-greetings-alike plain a b c d h k v e p l r =
-    let x = greeted plain a c h p l in
-    let y = greeted plain b d k (ap (λ (z : TransportState). z.persists) (sym e) ∙ p) r in
-    let said = said-alike x.hears.mid y.hears.mid x.mid y.mid x.found y.found (answers-alike a b x.hears.mid y.hears.mid v e p x.hears.takes y.hears.takes) x.hears.reads y.hears.reads in
+greetings-alike : (plain : Bool) (a b c d : Reading) (h k : Handshake) → HoldAlike a b → Greets plain a c (Ok h) → Greets plain b d (Ok k) → SameGreeting c d h k
+greetings-alike plain a b c d h k s l r =
+    let x = greeted plain a c h s.alone l in
+    let y = greeted plain b d k (ap (λ (z : TransportState). z.persists) (sym s.held) ∙ s.alone) r in
+    let said = said-alike x.hears.mid y.hears.mid x.mid y.mid x.found y.found (answers-alike a b x.hears.mid y.hears.mid s x.hears.takes y.hears.takes) x.hears.reads y.hears.reads in
     let refs = first-refs-alike y.found.refs_follow plain x.mid y.mid c d x.found y.found h k said.alike said.same.capabilities
     (subst (λ f. ReadsFirst f x.found plain x.mid c (Ok h)) said.same.follow x.first) y.first in
     record {
       alike = refs.alike;
+      version = x.version ∙ said.same.version ∙ sym y.version;
       capabilities = x.capabilities ∙ said.same.capabilities ∙ sym y.capabilities;
       refs = refs.refs;
     }
+
+-- the version is that of what the server says first
+pub greeted-by-v2 : (bodies : List Body) (plain : Bool) (old new : Reading) (h : Handshake) → old.held.persists ≡ false → old.held.answers ≡ map answer_of bodies → SpeaksV2 bodies → Greets plain old new (Ok h)
+    → h.server_protocol_version ≡ V2
+greeted-by-v2 bodies plain old new h p e v g =
+    let x = greeted plain old new h p g in
+    let said = if-known _ x.hears.mid.to_come (answer_pieces (first_answer (map answer_of bodies))) (x.hears.takes.to_come ∙ ap (λ a. Some (answer_pieces (first_answer a))) e) x.hears.reads.value in
+    x.version ∙ said.2.version ∙ v said.0 said.1
 
 -- ---- a ref map
 
@@ -412,17 +334,19 @@ same-specs words x y l r =
     ap (λ s. s ++ map owned_value_of x.extra_refspecs.items) (same-ok (specs_of words) _ _ l.specs r.specs)
     ∙ ap (λ (s : List RefSpec). map owned_value_of y.fetch_refspecs.items ++ map owned_value_of s) (l.extra ∙ sym r.extra)
 
-record SameMap (c d : Reading) (m n : RefMap) : Type 0 where
-  alike : AreAlike c d
-  shown : map_shown m ≡ map_shown n
+pub record SameMap (c d : Reading) (m n : RefMap) : Type 0 where
+  pub alike : AreAlike c d
+  pub shown : map_shown m ≡ map_shown n
+  pub mappings : LookAlike m.mappings.items n.mappings.items
 
-sent-alike : (a b c d : Reading) (text other : List ℕ) → AreAlike a b → text ≡ other → SentBy a.held.persists a c text → SentBy b.held.persists b d other → AreAlike c d
+-- behind the same request the next answer
+pub sent-alike : (a b c d : Reading) (text other : List ℕ) → HoldAlike a b → text ≡ other → SentBy a.held.persists a c text → SentBy b.held.persists b d other → AreAlike c d
 sent-alike a b c d text other s e l r =
     let p : b.held.persists ≡ false = ap (λ (z : TransportState). z.persists) (sym s.held) ∙ s.alone in
     let x : SentBy false a c text = subst (λ z. SentBy z a c text) s.alone l in
     let y : SentBy false b d text = subst (λ t. SentBy false b d t) (sym e) (subst (λ z. SentBy z b d other) p r) in
-    answers-alike (entered (with_written a (Some text))) (entered (with_written b (Some text))) c d s.version
-    (ap (λ (z : TransportState). (entered (with_written (record a { held = z }) (Some text))).held) s.held) s.alone x.0 y.0
+    answers-alike (entered (with_written a (Some text))) (entered (with_written b (Some text))) c d
+    (record { version = s.version; held = ap (λ (z : TransportState). (entered (with_written (record a { held = z }) (Some text))).held) s.held; alone = s.alone }) x.0 y.0
 
 stops-refs : (old new : Reading) (refs : List Ref) (r : ReadsRefs old new refs) → Stops old new r.texts r.kind
 stops-refs old new refs r = record { lines = r.lines; stopped = r.stopped; version = r.version; held = r.held }
@@ -434,7 +358,7 @@ record SameListing (c d : Reading) (xs ys : List Ref) : Type 0 where
 listings-alike : (x y : Listing) (a b c d : Reading) (refs others : List Ref) → x ≡ y → AreAlike a b → Listed x a c refs → Listed y b d others → SameListing c d refs others
 listings-alike x y a b c d refs others e s l m =
     let r : Listed x b d others = subst (λ z. Listed z b d others) (sym e) m in
-    let mid = sent-alike a b l.mid r.mid _ _ s refl l.sent.1 r.sent.1 in
+    let mid = sent-alike a b l.mid r.mid _ _ (hold-alike a b s) refl l.sent.1 r.sent.1 in
     let o = stops-alike l.mid r.mid c d l.read.texts r.read.texts l.read.kind r.read.kind mid (stops-refs _ _ _ l.read) (stops-refs _ _ _ r.read) in
     record {
       alike = o.alike;
@@ -458,6 +382,7 @@ maps-alike None (Some more) caps others x y a b c d m n v e f s l r = cc v
 maps-alike (Some refs) (Some more) caps others x y a b c d m n v e f s l r = record {
   alike = subst (λ z. AreAlike c z) (sym r.0) (subst (λ z. AreAlike z b) (sym l.0) s);
   shown = made-alike caps others x y refs.items more.items m n f (cc v) l.1 r.1;
+  mappings = look-alike (unknown_format caps) (unknown_format others) (all_specs x) (all_specs y) _ _ (map ref_value refs.items) (map ref_value more.items) m n f (cc v) l.1.maps r.1.maps;
 }
 maps-alike None None caps others x y a b c d m n v e f s l r =
     let same : listing git_table (prefixes_if true (all_specs x)) caps planner_agent ≡ listing git_table (prefixes_if true (all_specs y)) others planner_agent =
@@ -466,6 +391,7 @@ maps-alike None None caps others x y a b c d m n v e f s l r =
     record {
       alike = o.alike;
       shown = made-alike caps others x y l.0.items r.0.items m n f o.refs l.2 r.2;
+      mappings = look-alike (unknown_format caps) (unknown_format others) (all_specs x) (all_specs y) _ _ (map ref_value l.0.items) (map ref_value r.0.items) m n f o.refs l.2.maps r.2.maps;
     }
 
 -- ---- both steps
@@ -494,10 +420,15 @@ new-held bodies b h =
     ∙ ap (λ v. state (Some []) [] (map answer_of bodies) [] v was.identity) h.accepted
     ∙ ap (λ i. state (Some []) [] (map answer_of bodies) [] [] i) h.identity
 
-both-alike : (bodies : List Body) (specs : List (List ℕ)) (sent others : List (List ℕ)) (m n : RefMap) (l : IsMapped bodies specs sent m) (r : IsMapped bodies specs others n) → SameMap l.behind r.behind m n
+pub both-greet : (bodies : List Body) (specs : List (List ℕ)) (sent others : List (List ℕ)) (m n : RefMap) (l : IsMapped bodies specs sent m) (r : IsMapped bodies specs others n)
+    → SameGreeting l.mid r.mid l.handshake r.handshake
+both-greet bodies specs sent others m n l r =
+    greetings-alike true (bodies_reading l.transport) (bodies_reading r.transport) l.mid r.mid l.handshake r.handshake
+    (record { version = l.over.version ∙ sym r.over.version; held = new-held bodies l.transport l.over ∙ sym (new-held bodies r.transport r.over); alone = refl }) l.greets r.greets
+
+pub both-alike : (bodies : List Body) (specs : List (List ℕ)) (sent others : List (List ℕ)) (m n : RefMap) (l : IsMapped bodies specs sent m) (r : IsMapped bodies specs others n) → SameMap l.behind r.behind m n
 both-alike bodies specs sent others m n l r =
-    let greeting = greetings-alike true (bodies_reading l.transport) (bodies_reading r.transport) l.mid r.mid l.handshake r.handshake (l.over.version ∙ sym r.over.version)
-    (new-held bodies l.transport l.over ∙ sym (new-held bodies r.transport r.over)) refl l.greets r.greets in
+    let greeting = both-greet bodies specs sent others m n l r in
     maps-alike l.handshake.refs r.handshake.refs l.handshake.capabilities r.handshake.capabilities l.context r.context l.mid r.mid l.behind r.behind m n greeting.refs greeting.capabilities
     (same-specs specs l.context r.context l.read r.read) greeting.alike (obtained l.context l.handshake true l.mid l.behind m l.maps) (obtained r.context r.handshake true r.mid r.behind n r.maps)
 
@@ -572,7 +503,7 @@ ends_refused e = Err e
 not-refused : (pack : Bool) (e : Refusal) → ends_in pack ≡ ends_refused e → ⊥
 not-refused pack e h = cc
 
-not-ok : (e : Refusal) → IsOk (ends_refused e) → ⊥
+pub not-ok : (e : Refusal) → IsOk (ends_refused e) → ⊥
 not-ok e h = cc
 
 module _ {A X : Type 0} (Receives : RefMap → Handshake → Reading → Reading → Result (Option Outcome) (FetchError A X) → Type 0) (bodies : List Body) (specs : List (List ℕ)) (old new : Option (List ℕ)) where

@@ -5,3 +5,4 @@ pub mod Text
 pub mod Session
 pub mod PlannedText
 pub mod Mapped
+pub mod Follows

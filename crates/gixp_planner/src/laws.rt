@@ -1,8 +1,46 @@
 //! Laws of the definitions that contracts cite. The functions do nothing: a caller that cites a law calls one.
+ghost use Rattle.std.specs.Prelude.{◌≡◌, ℕ, true, false, [], List, IfOk, IsOk};
+ghost use Rattle.gixp_wire.specs.declared.bodies.Body.{Body};
+ghost use Rattle.gixp_wire.specs.declared.object_id.ObjectId.{ObjectId};
+ghost use Rattle.gixp_graph.specs.GraphData.{GraphValue};
 ghost use Rattle.gixp_planner.specs.Mapped.{MappingsFollow};
+ghost use Rattle.gixp_planner.specs.Follows.{Follow};
+
+use gix_protocol::fetch::negotiate::{HaveList, Negotiate, Negotiation, NoRefs, Objects};
+use gix_protocol::fetch::{ConsumePack, ReadToEnd, Shallow, ShallowMemory, ShallowStore, Tags};
+use gix_protocol::transport::{Discard, Interrupt, NeverInterrupt};
+use gixp_lines::laws::{answers_are_sections, sections_are_answers};
+use std::alloc::AllocError;
 
 /// What a client sends up to its ref map, and the lines of the mappings and of those taken out, are a function of the
 /// bodies and the refspecs: two sessions over the same have the same, whatever their objects, graphs and negotiators.
 pub fn mappings_follow_bodies()
     ensures { MappingsFollow }
 {}
+
+/// With a [`HaveList`], two sessions that weren't refused, over the same bodies, refspecs, objects and ids, end alike, print
+/// the same mappings, and begin their fetches with the same request. Where the server speaks version 2, or there are fewer
+/// ids than a first request may name, they send the same, and [`plan`](crate::plan) writes the same text.
+///
+/// The objects are those of the repository and of the graph, whatever the graph holds by then; with `NoObjects` there are
+/// none. Else, under versions 0 and 1, an answer may end where the stream does. What a transport promises leaves open that
+/// a read fails as if there, which makes it another answer: so nothing is said of the requests behind it.
+pub fn texts_follow_bodies<'a, O: Objects + 'a, G: Objects + 'a>()
+    ensures { (bodies : List Body) (specs : List (List ℕ)) (haves : List ObjectId) (objects others : O) (graph another : GraphValue)
+        → O.contents objects ≡ O.contents others → graph.graph.objects ≡ another.graph.objects
+        → Follow
+        (record {
+          office = record { count = ⟦<Negotiation<'a, O, NoRefs, HaveList, G, AllocError> as Negotiate>⟧.count; marks = ⟦<Negotiation<'a, O, NoRefs, HaveList, G, AllocError> as Negotiate>⟧.marks; adds = ⟦<Negotiation<'a, O, NoRefs, HaveList, G, AllocError> as Negotiate>⟧.adds; goes = ⟦<Negotiation<'a, O, NoRefs, HaveList, G, AllocError> as Negotiate>⟧.goes; marking_fails = ⟦<Negotiation<'a, O, NoRefs, HaveList, G, AllocError> as Negotiate>⟧.marking_fails; adding_fails = ⟦<Negotiation<'a, O, NoRefs, HaveList, G, AllocError> as Negotiate>⟧.adding_fails; round_fails = ⟦<Negotiation<'a, O, NoRefs, HaveList, G, AllocError> as Negotiate>⟧.round_fails };
+          shop = record { failures = ⟦<ShallowMemory as ShallowStore>⟧.failures; locks = ⟦<ShallowMemory as ShallowStore>⟧.locks; reads = ⟦<ShallowMemory as ShallowStore>⟧.reads; writes = ⟦<ShallowMemory as ShallowStore>⟧.writes; releases = ⟦<ShallowMemory as ShallowStore>⟧.releases };
+          says = ⟦<NeverInterrupt as Interrupt>⟧.says;
+          consumes = ⟦<ReadToEnd as ConsumePack<Discard>>⟧.consumes;
+          plain = true;
+        })
+        (λ m n. (n.objects.now ≡ objects) × (n.graph.now ≡ graph) × (n.negotiator.now ≡ haves) × (n.ref_map.now ≡ m) × (n.shallow.now ≡ Shallow.NoChange) × (n.tags ≡ Tags.None) × IfOk n.alternates (λ a. a.now ≡ []) × IsOk n.alternates)
+        (λ m n. (n.objects.now ≡ others) × (n.graph.now ≡ another) × (n.negotiator.now ≡ haves) × (n.ref_map.now ≡ m) × (n.shallow.now ≡ Shallow.NoChange) × (n.tags ≡ Tags.None) × IfOk n.alternates (λ a. a.now ≡ []) × IsOk n.alternates)
+        (λ s. (s.ids.items ≡ []) × (s.locked ≡ false))
+        bodies specs haves }
+{
+    answers_are_sections();
+    sections_are_answers();
+}

@@ -44,7 +44,9 @@ fn outcome(written: Result<(), PlanError>, ended: Result<bool, PlanError>) -> Re
 /// written behind the session, a line at a time, and the writer is flushed: hand in one that is buffered.
 ///
 /// The requests up to the ref map, the mappings and those taken out are a function of the bodies and the refspecs alone
-/// ([`mappings_follow_bodies`](crate::laws::mappings_follow_bodies)).
+/// ([`mappings_follow_bodies`](crate::laws::mappings_follow_bodies)). With a [`HaveList`](gix_protocol::fetch::negotiate::HaveList)
+/// the ending and the first request of the fetch are one of these, the objects and the ids, and where the server speaks
+/// version 2 or there are fewer than 16 ids the whole text is ([`texts_follow_bodies`](crate::laws::texts_follow_bodies)).
 ///
 /// # Errors
 ///
