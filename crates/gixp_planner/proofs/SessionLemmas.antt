@@ -1,6 +1,5 @@
 -- The steps of a session, one behind another.
-use Rattle.std.proofs.Common.{◌≡◌, ◌⊎◌, ℕ, Bool, true, false, List, [], ◌∷◌, map, Option, Some, None, Vec, vec_items, Result, Ok, Err, inl, inr, refl, sym, ap, ◌∙◌, subst}
-use Rattle.std.specs.Prelude.{IsOk}
+use Rattle.std.proofs.Common.{◌≡◌, ℕ, Bool, true, false, List, [], ◌∷◌, map, Option, Some, None, Vec, vec_items, Result, Ok, Err, inl, inr, refl, sym, subst}
 use Rattle.std.specs.declared.alloc.Global.{Global}
 use Rattle.gixp_wire.specs.declared.protocol.Protocol.{Protocol}
 use Rattle.gixp_wire.specs.declared.bodies.Body.{Body}
@@ -25,8 +24,8 @@ use Rattle.gixp_fetch.specs.Fetched.{Call, Fetches}
 use Rattle.gixp_planner.specs.declared.error.PlanError.{PlanError}
 use Rattle.gixp_planner.specs.Refusal.{Refusal, Writes}
 use Rattle.gixp_planner.specs.Specs.{IsContext}
-use Rattle.gixp_planner.specs.Text.{Course, course_shown, course_of, ended_of}
-use Rattle.gixp_planner.specs.Session.{planner_agent, planner_call, AreUnanswered, Greets, MapsRefs, Carries, FetchesOver, Runs, fetched, end_of}
+use Rattle.gixp_planner.specs.Text.{course_shown, course_of, ended_of}
+use Rattle.gixp_planner.specs.Session.{planner_agent, AreUnanswered, Greets, MapsRefs, Carries, FetchesOver, Runs, fetched, end_of}
 use Rattle.gixp_planner.specs.PlannedText.{IsCourse, Shows, IsOutcome}
 
 -- where each call answers that there is no account, all did

@@ -1,5 +1,5 @@
 -- A session of a planner: a handshake without an account, the ref map of the server's refs, and a fetch of what is mapped.
-use Rattle.std.specs.Prelude.{ℕ, ◌≡◌, ◌⊎◌, ⊤, Bool, true, false, List, [], ◌∷◌, codes, Option, Some, None, Result, Ok, Err}
+use Rattle.std.specs.Prelude.{◌≡◌, ◌⊎◌, ⊤, Bool, true, false, List, [], ◌∷◌, codes, Option, Some, None, Result, Ok, Err}
 use Rattle.gixp_wire.specs.declared.service.Service.TheVariants.{UploadPack}
 use Rattle.gixp_wire.specs.Reading.{Reading}
 use Rattle.gixp_requests.specs.Feature.{FeatureValue}

@@ -1,5 +1,5 @@
 -- The refspecs that some texts are, or the first refusal (git-fetch, "<refspec>").
-use Rattle.std.specs.Prelude.{ℕ, ◌≡◌, ◌⊎◌, List, [], ◌∷◌, map, codes, Option, Some, None, Result, Ok, Err}
+use Rattle.std.specs.Prelude.{ℕ, ◌≡◌, ◌⊎◌, List, [], ◌∷◌, map, codes, Result, Ok, Err}
 use Rattle.gixp_refspec.specs.declared.parse.Error.{Error as SpecError}
 use Rattle.gixp_refspec.specs.declared.spec.RefSpec.{RefSpec}
 use Rattle.gixp_refspec.specs.Spec.{Spec, spec_of}
