@@ -1,5 +1,5 @@
 -- A client's whole run over one connection, and what is true of it: frames, refs, answers and refusals, requests, the pack, the bound on requests, and ref maps of filtered refs.
-use Rattle.std.specs.Prelude.{◌≡◌, ◌⊎◌, ⊤, ℕ, ◌+◌, ◌/◌, ◌≤◌, Bool, true, not, List, [], ◌∷◌, ◌++◌, map, Option, Some, None, IfSome, Result, Ok, Err}
+use Rattle.std.specs.Prelude.{◌≡◌, ◌⊎◌, ⊤, ℕ, ◌+◌, Bool, true, not, List, [], ◌∷◌, ◌++◌, map, Option, Some, None, IfSome, Result, Ok, Err}
 use Rattle.gixp_wire.specs.declared.protocol.Protocol.{Protocol}
 use Rattle.gixp_wire.specs.declared.service.Service.{Service}
 use Rattle.gixp_wire.specs.declared.service.SetServiceResponse.{SetServiceResponse}

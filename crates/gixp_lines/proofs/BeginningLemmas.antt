@@ -20,8 +20,8 @@ use Rattle.gixp_lines.specs.declared.fetch.response.beginnings.Said.TheVariants.
 use Rattle.gixp_lines.specs.ResponseError.{from_reader, by_reader, answer_refusal}
 use Rattle.gixp_lines.specs.Answer.{AnswerValue, no_more, Found, whole, refused, front}
 use Rattle.gixp_lines.specs.Beginnings.{AnswerItem, acknowledged, updated, other, stopped, line_item, item_said, is_ready, is_nak, is_stopped, is_other, is_at_end, last_is, last_two_are, Expected, ends_by_nak, ends_before, ends, said_in, said_with, unless_ends, beginnings_from, v1_answer}
-use Rattle.gixp_lines.specs.AnswerReading.{stop_behind, last_stop, Going, IsRunning, EndsBare, ReadsAnswer, Answered, AnswerFails}
-use Rattle.gixp_lines.proofs.AnswerRunLemmas.{line_is, going-start, going-turn, going-line, going-stop, going-reset, going-whole, going-memory, going-fails, stop_taken, stands_last, last_line, last_mark}
+use Rattle.gixp_lines.specs.AnswerReading.{last_stop, Going, IsRunning, EndsBare, ReadsAnswer, Answered, AnswerFails}
+use Rattle.gixp_lines.proofs.AnswerRunLemmas.{line_is, going-start, going-turn, going-line, going-stop, going-reset, going-whole, going-memory, going-fails, stop_taken, stands_last, last_mark}
 
 -- what is left behind a beginning
 abbrev pub longer_of : Protocol → Expected → List AnswerItem → Pieces → Found

@@ -1,11 +1,11 @@
 -- The refs of an advertisement are those of its groups, and its refusal is that of the first line that goes with none.
-use Rattle.std.proofs.Common.{◌≡◌, ℕ, Bool, true, false, List, [], ◌∷◌, ◌++◌, Option, Some, None, Result, Ok, Err, refl, sym, ap, subst, ◌∙◌}
+use Rattle.std.proofs.Common.{◌≡◌, ℕ, false, List, [], ◌∷◌, ◌++◌, Option, Some, None, Result, Ok, Err, refl, sym, ap, subst, ◌∙◌}
 use Rattle.std.specs.Prelude.{filter}
 use Rattle.gixp_lines.specs.Ref.{RefValue}
 use Rattle.gixp_lines.specs.RefLine.{RefsRefusal}
 use Rattle.gixp_lines.specs.Refs.{with_ref}
 use Rattle.gixp_lines.specs.RefAdvertisement.{Symref, V1Line, nothing, peels, names, shallows, v1_line, Named, single, pair, closed, in_front, group_with, group_end, groups}
-use Rattle.gixp_lines.specs.RefGroups.{Group, alone, with_peeled, group_lines, lines_in, is_grouped, AreLines, AreGroups, group_ref, AreGroupRefs}
+use Rattle.gixp_lines.specs.RefGroups.{Group, alone, with_peeled, lines_in, is_grouped, AreLines, AreGroups, group_ref, AreGroupRefs}
 
 -- a ref line that is open, as lines, as a group, and as its ref
 abbrev pub open_lines : Option Named → List V1Line

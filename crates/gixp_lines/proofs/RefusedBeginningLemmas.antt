@@ -3,11 +3,11 @@ use Rattle.std.proofs.Common.{◌≡◌, Bool, true, false, cond, List, [], ◌�
 use Rattle.gixp_wire.specs.declared.protocol.Protocol.{Protocol}
 use Rattle.gixp_wire.specs.declared.protocol.MessageKind.{MessageKind}
 use Rattle.gixp_wire.specs.Items.{is_stop}
-use Rattle.gixp_wire.specs.Lines.{Next, gives, stops, refuses, next_from, next_of}
+use Rattle.gixp_wire.specs.Lines.{gives, stops, refuses, next_from, next_of}
 use Rattle.gixp_wire.specs.Pieces.{Refusal, Piece, line, mark, Pieces, no_pieces, with_piece, unexpected_frame}
 use Rattle.gixp_lines.specs.ResponseError.{AnswerRefusal, by_reader, from_reader}
-use Rattle.gixp_lines.specs.Answer.{Found, whole, refused, front}
-use Rattle.gixp_lines.specs.Beginnings.{AnswerItem, line_item, stopped, Expected, ends, said_in, unless_ends, beginnings_from, v1_answer}
+use Rattle.gixp_lines.specs.Answer.{Found, refused, front}
+use Rattle.gixp_lines.specs.Beginnings.{AnswerItem, line_item, stopped, Expected, ends, unless_ends, beginnings_from, v1_answer}
 use Rattle.gixp_lines.specs.BeginningGrammar.{items_behind, AreStops, IsRefused}
 
 -- the same behind items that were read before

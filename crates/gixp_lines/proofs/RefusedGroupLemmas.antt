@@ -1,11 +1,11 @@
 -- The refusal of an advertisement is that of the first line, or of the end, that goes with no group before it.
-use Rattle.std.proofs.Common.{◌≡◌, ℕ, Bool, true, false, List, [], ◌∷◌, ◌++◌, Option, Some, None, Result, Ok, Err, refl, sym, ap, subst, ◌∙◌, inl, inr}
-use Rattle.std.specs.Prelude.{◌⊎◌, filter}
+use Rattle.std.proofs.Common.{◌≡◌, ℕ, false, List, [], ◌∷◌, ◌++◌, Option, Some, None, Result, Ok, Err, refl, sym, ap, subst, ◌∙◌, inl, inr}
+use Rattle.std.specs.Prelude.{filter}
 use Rattle.gixp_lines.specs.Ref.{RefValue}
 use Rattle.gixp_lines.specs.RefLine.{RefsRefusal}
 use Rattle.gixp_lines.specs.Refs.{with_ref}
 use Rattle.gixp_lines.specs.RefAdvertisement.{Symref, V1Line, nothing, peels, names, shallows, v1_line, Named, single, pair, closed, in_front, group_with, group_end, groups}
-use Rattle.gixp_lines.specs.RefGroups.{Group, alone, with_peeled, lines_in, is_grouped, AreLines, AreGroups, group_ref, AreGroupRefs, open_in, NextRefused, AreRefusedBehind}
+use Rattle.gixp_lines.specs.RefGroups.{Group, alone, with_peeled, lines_in, is_grouped, AreLines, AreGroupRefs, open_in, NextRefused, AreRefusedBehind}
 use Rattle.gixp_lines.proofs.GroupLemmas.{open_lines, open_groups, first_alone, no_peels_first, first_peeled, first_ref, open_at_end}
 
 -- the same behind a ref line that may be open

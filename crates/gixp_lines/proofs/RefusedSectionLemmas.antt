@@ -1,16 +1,16 @@
 -- A version 2 answer is refused exactly where, behind some sections, a header or an item is refused.
-use Rattle.std.proofs.Common.{◌≡◌, ℕ, true, false, List, [], ◌∷◌, ◌++◌, map, Option, Some, None, Result, Ok, Err, refl, sym, ap, ◌∙◌, inl, inr}
+use Rattle.std.proofs.Common.{◌≡◌, ℕ, List, [], ◌∷◌, ◌++◌, map, Option, Some, None, Result, Ok, Err, refl, sym, ap, ◌∙◌, inl, inr}
 use Rattle.std.specs.Prelude.{◌⊎◌}
 use Rattle.gixp_wire.specs.declared.protocol.MessageKind.{MessageKind}
 use Rattle.gixp_wire.specs.declared.protocol.MessageKind.TheVariants.{Flush, Delimiter, ResponseEnd, Text}
-use Rattle.gixp_wire.specs.Pieces.{Refusal, Piece, line, mark, Pieces, unexpected_frame}
+use Rattle.gixp_wire.specs.Pieces.{Refusal, Piece, line, mark, unexpected_frame}
 use Rattle.gixp_lines.specs.declared.fetch.response.sections.Section.{Section}
 use Rattle.gixp_lines.specs.declared.fetch.response.sections.Header.{Header}
 use Rattle.gixp_lines.specs.declared.fetch.response.sections.Header.TheVariants.{Of, Packfile}
 use Rattle.gixp_lines.specs.ResponseError.{AnswerRefusal, by_reader, from_reader}
 use Rattle.gixp_lines.specs.Answer.{AnswerValue, Found, whole, refused, in_front}
 use Rattle.gixp_lines.specs.Sections.{read_header, read_item, opened, added, closed, sections_from}
-use Rattle.gixp_lines.specs.SectionGrammar.{SectionText, AreItems, IsSection, lines_to_stop, section_text, HeaderRefused, ItemRefused, IsCut, AreRefused}
+use Rattle.gixp_lines.specs.SectionGrammar.{SectionText, AreItems, lines_to_stop, HeaderRefused, ItemRefused, IsCut, AreRefused}
 use Rattle.gixp_lines.proofs.SectionGrammarLemmas.{items_before, section_read}
 
 -- ---- what is refused is read as refused

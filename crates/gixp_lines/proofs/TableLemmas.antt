@@ -16,17 +16,15 @@ use Rattle.bstr.specs.Owned.{bstring_bytes}
 use Rattle.bstr.specs.declared.bstring.BString.{BString}
 use Rattle.gixp_wire.specs.Pieces.{Pieces}
 use Rattle.gixp_wire.specs.Reading.{Reading, lines_ahead}
-use Rattle.gixp_wire.specs.Lines.{Lines}
 use Rattle.gixp_lines.specs.declared.handshake.Ref.{Ref}
 use Rattle.gixp_lines.specs.declared.fetch.response.line.ShallowUpdate.{ShallowUpdate}
 use Rattle.gixp_lines.specs.declared.handshake.refs.parse.Error.{Error}
 use Rattle.gixp_lines.specs.Ref.{RefValue}
 use Rattle.gixp_lines.specs.RefLine.{RefsRefusal}
 use Rattle.gixp_wire.specs.Capabilities.{is_text}
-use Rattle.gixp_lines.specs.Refs.{with_ref}
 use Rattle.gixp_lines.specs.ParseError.{Answers}
 use Rattle.gixp_wire.specs.Capabilities.{CapabilityValue}
-use Rattle.gixp_lines.specs.RefAdvertisement.{Symref, symref_named, tells, TellAlike, told_target, V1Line, nothing, peels, names, shallows, v1_line, Named, single, pair_by, pair, closed, in_front, group_with, group_end, end_refusal, groups, v1_refs, symref_table}
+use Rattle.gixp_lines.specs.RefAdvertisement.{Symref, symref_named, tells, TellAlike, told_target, V1Line, nothing, peels, names, shallows, v1_line, Named, pair_by, pair, closed, group_with, group_end, end_refusal, groups, v1_refs, symref_table}
 use Rattle.gixp_lines.specs.V1Refs.{symref_value, name_cmp, symrefs_in, ReadsV1, V1Fails, GivesAdvertisement, AdvertisementFails}
 
 -- ---- what a map tells

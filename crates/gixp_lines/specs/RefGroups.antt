@@ -2,7 +2,7 @@
 use Rattle.std.specs.Prelude.{◌≡◌, ◌⊎◌, ℕ, ⊤, Bool, true, false, List, [], ◌∷◌, ◌++◌, filter, Option, Some, None, Result, Ok, Err}
 use Rattle.gixp_lines.specs.Ref.{RefValue}
 use Rattle.gixp_lines.specs.RefLine.{RefsRefusal}
-use Rattle.gixp_lines.specs.RefAdvertisement.{Symref, V1Line, nothing, peels, names, shallows, v1_line, Named, single, pair}
+use Rattle.gixp_lines.specs.RefAdvertisement.{Symref, V1Line, peels, names, v1_line, Named, single, pair}
 
 -- a ref line alone, or with its peeled line behind it
 pub data Group : Type 0 where

@@ -1,6 +1,5 @@
 -- What a line of an `ls-refs` answer stands for (gitprotocol-v2, "ls-refs").
-use Rattle.std.specs.Prelude.{ℕ, ◌==◌, Bool, if◌then◌else◌, List, [], ◌∷◌, length, nat_eq, codes, Option, Some, None, Result, Ok, Err}
-use Rattle.std.specs.Cmp.Lexicographic.{pointwise}
+use Rattle.std.specs.Prelude.{ℕ, ◌==◌, if◌then◌else◌, List, [], ◌∷◌, length, codes, Option, Some, None, Result, Ok, Err}
 use Rattle.std.specs.Char.{is_whitespace}
 use Rattle.std.specs.declared.io.ErrorKind.{ErrorKind}
 use Rattle.bstr.specs.Trim.{trim_end_by}

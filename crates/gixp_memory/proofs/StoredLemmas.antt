@@ -11,7 +11,6 @@ use Rattle.std.specs.declared.vec.Vec.{Vec}
 use Rattle.std.specs.declared.alloc.Global.{Global}
 use Rattle.gixp_wire.specs.declared.object_id.ObjectId.{ObjectId}
 use Rattle.gixp_wire.specs.ObjectId.{id_cmp}
-use Rattle.gixp_graph.specs.declared.objects.CommitData.{CommitData}
 use Rattle.gixp_graph.specs.declared.objects.ObjectKind.{ObjectKind}
 use Rattle.gixp_graph.specs.Object.{Object, Commit, kind_at, commit_at, commit_of}
 use Rattle.gixp_graph.specs.GraphLaws.{ids_total}

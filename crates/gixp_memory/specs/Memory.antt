@@ -1,5 +1,5 @@
 -- What a repository in memory means.
-use Rattle.std.specs.Prelude.{ℕ, false, List, Option, Some, map, option_map}
+use Rattle.std.specs.Prelude.{ℕ, false, List, Some, map, option_map}
 use Rattle.std.specs.Ordering.{nat_cmp}
 use Rattle.std.specs.Cmp.Lexicographic.{slice_cmp}
 use Rattle.std.specs.FinMap as finite

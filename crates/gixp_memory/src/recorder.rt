@@ -1,7 +1,6 @@
 //! A negotiator that writes down what it is told.
-ghost use Rattle.std.specs.Prelude.{◌≡◌, ◌+◌, ◌-◌, ◌^◌, ◌≤◌, ◌⊎◌, ℕ, [], length, reverse, is_some, if◌then◌else◌, IfErr, OnErr, OnOk};
+ghost use Rattle.std.specs.Prelude.{◌≡◌, ◌+◌, ◌-◌, ◌^◌, ◌≤◌, [], length, reverse, is_some, if◌then◌else◌, OnErr};
 ghost use Rattle.gixp_graph.specs.Object.{HasRisen};
-ghost use Rattle.gixp_graph.specs.Negotiation.{IsRefusal};
 
 use gixp_graph::{Graph, Negotiator, NegotiatorError, ObjectError, Objects};
 use gixp_wire::ObjectId;
@@ -80,10 +79,7 @@ impl Negotiator for Recorder {
         id: ObjectId,
         _graph: &mut Graph<O>,
     ) -> Result<(), NegotiatorError> {
-        match self.step() {
-            Ok(()) => {}
-            Err(e) => return Err(e),
-        }
+        self.step()?;
         match self.known.push(id) {
             Ok(_) => Ok(()),
             Err(_) => Err(NegotiatorError::Memory),
@@ -95,10 +91,7 @@ impl Negotiator for Recorder {
         id: ObjectId,
         _graph: &mut Graph<O>,
     ) -> Result<(), NegotiatorError> {
-        match self.step() {
-            Ok(()) => {}
-            Err(e) => return Err(e),
-        }
+        self.step()?;
         match self.tips.push(id) {
             Ok(_) => Ok(()),
             Err(_) => Err(NegotiatorError::Memory),
@@ -110,10 +103,7 @@ impl Negotiator for Recorder {
         id: ObjectId,
         _graph: &mut Graph<O>,
     ) -> Result<(), NegotiatorError> {
-        match self.step() {
-            Ok(()) => {}
-            Err(e) => return Err(e),
-        }
+        self.step()?;
         match self.common.push(id) {
             Ok(_) => Ok(()),
             Err(_) => Err(NegotiatorError::Memory),

@@ -4,18 +4,14 @@ use Rattle.std.specs.List.{list_any}
 use Rattle.std.proofs.lemmas.List.{map-append}
 use Rattle.std.proofs.lemmas.List.Folds.{list_any-append}
 use Rattle.std.specs.Prelude.{option_map, is_some, IsSome, IsTrue, Contains}
-use Rattle.std.specs.Option.{option_or, option_map_or}
-use Rattle.std.specs.Ordering.{eq_by_cmp}
 use Rattle.std.proofs.lemmas.List.{take_more, take-append-drop}
 use Rattle.std.proofs.Math.Seq.{drop-cons}
 use Rattle.std.proofs.lemmas.List.Elements.{filter-append}
 use Rattle.std.specs.FinMap as finite
-use Rattle.std.specs.FinMap.{get-insert}
 use Rattle.gixp_wire.specs.declared.object_id.ObjectId.{ObjectId}
-use Rattle.gixp_wire.specs.ObjectId.{id_cmp}
 use Rattle.gixp_graph.specs.declared.flags.Flags.{Flags}
 use Rattle.gixp_graph.specs.Object.{Objects, Commit, commit_at}
-use Rattle.gixp_graph.specs.GraphData.{HeldCommit, GraphData, found_in, put, shown, as_read, unmarked, is_complete, is_marked, IsFaithful}
+use Rattle.gixp_graph.specs.GraphData.{HeldCommit, GraphData, found_in, shown, as_read, is_marked, IsFaithful}
 use Rattle.gixp_graph.specs.Complete.{IsComplete}
 use Rattle.gixp_graph.specs.Run.{Call, IsRun}
 use Rattle.gixp_graph.specs.GraphLaws.{faithful_reads, marked_looked_up, held_looked_up}

@@ -1,5 +1,5 @@
 //! Why a plan isn't made.
-ghost use Rattle.std.specs.Prelude.{◌≡◌, codes};
+ghost use Rattle.std.specs.Prelude.{◌≡◌};
 ghost use Rattle.gixp_planner.specs.Refusal.{refusal, refusal_of, IsMemory, IsUnwritten};
 
 use std::io::ErrorKind;

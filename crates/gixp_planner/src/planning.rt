@@ -84,10 +84,7 @@ pub fn plan<'a, O: Objects, G: Objects, N: Negotiator, W: Write>(
         Discard,
         ReadToEnd,
     >();
-    let context = match read_specs(alloc, specs) {
-        Ok(context) => context,
-        Err(e) => return Err(e),
-    };
+    let context = read_specs(alloc, specs)?;
     let url = BString::new(Vec::new(alloc));
     let Ok(mut transport) = Bodies::new(alloc, bodies, url, Vec::new(alloc)) else {
         return Err(PlanError::memory("file"));

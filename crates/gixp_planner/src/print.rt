@@ -1,12 +1,12 @@
 //! What is printed of a session.
-ghost use Rattle.std.specs.Prelude.{◌≡◌, ◌++◌, ◌∷◌, [], OnOk, flat_map, map, codes, vec_items};
+ghost use Rattle.std.specs.Prelude.{◌≡◌, ◌++◌, OnOk, flat_map, map, vec_items};
 ghost use Rattle.std.specs.Option.{option_map};
 ghost use Rattle.bstr.specs.Owned.{bstring_bytes};
 ghost use Rattle.gixp_wire.specs.Frames.{frames_of};
 ghost use Rattle.gixp_wire.specs.FrameText.{message_text};
 ghost use Rattle.gixp_wire.specs.PacketLine.{frame_of};
-ghost use Rattle.gixp_refmap.specs.Mapping.{source_id, source_name};
-ghost use Rattle.gixp_planner.specs.Refusal.{refusal_of, Writes};
+ghost use Rattle.gixp_refmap.specs.Mapping.{source_name};
+ghost use Rattle.gixp_planner.specs.Refusal.{Writes};
 ghost use Rattle.gixp_planner.specs.Text.{frame_content, frame_shown, request_shown, requests_shown, name_shown, mapping_shown, fix_shown, map_shown, mapped_shown, end_shown, ended_of, course_shown, course_of};
 
 use crate::error::PlanError;
@@ -84,10 +84,7 @@ fn write_packet_lines<W: Write>(
     'lines: loop {
         match split_packet_line(rest) {
             Ok(Some((line, behind))) => {
-                match write_line(writer, text, &[b"> ", content(line), b"\n"]) {
-                    Ok(()) => {}
-                    Err(e) => return Err(e),
-                }
+                write_line(writer, text, &[b"> ", content(line), b"\n"])?;
                 rest = behind;
             }
             Ok(None) => return Ok(()),
@@ -109,10 +106,8 @@ fn write_request<W: Write>(
     let Ok(number) = number.to_string(alloc) else {
         return Err(PlanError::memory("file"));
     };
-    match write_line(writer, text, &[b"request ", number.as_bytes(), b"\n"]) {
-        Ok(()) => write_packet_lines(writer, text, request),
-        Err(e) => Err(e),
-    }
+    write_line(writer, text, &[b"request ", number.as_bytes(), b"\n"])?;
+    write_packet_lines(writer, text, request)
 }
 
 // The requests, numbered from 1 on.
@@ -125,10 +120,7 @@ fn write_requests<W: Write>(
     ensures { Writes (W.contents writer.old) (W.contents writer.new) (requests_shown (map vec_items requests.now)) result }
 {
     for (place, request) in requests.iter().enumerate() {
-        match write_request(alloc, writer, text, place + 1, request) {
-            Ok(()) => {}
-            Err(e) => return Err(e),
-        }
+        write_request(alloc, writer, text, place + 1, request)?;
     }
     Ok(())
 }
@@ -189,10 +181,7 @@ fn write_mappings<W: Write>(
     ensures { Writes (W.contents writer.old) (W.contents writer.new) (flat_map mapping_shown mappings.now) result }
 {
     for mapping in mappings {
-        match write_mapping(writer, text, mapping) {
-            Ok(()) => {}
-            Err(e) => return Err(e),
-        }
+        write_mapping(writer, text, mapping)?;
     }
     Ok(())
 }
@@ -214,10 +203,7 @@ fn write_fixes<W: Write>(writer: &mut W, text: &mut Vec<u8>, fixes: &[Fix]) -> R
     ensures { Writes (W.contents writer.old) (W.contents writer.new) (flat_map fix_shown fixes.now) result }
 {
     for fix in fixes {
-        match write_fix(writer, text, fix) {
-            Ok(()) => {}
-            Err(e) => return Err(e),
-        }
+        write_fix(writer, text, fix)?;
     }
     Ok(())
 }
@@ -226,10 +212,8 @@ fn write_fixes<W: Write>(writer: &mut W, text: &mut Vec<u8>, fixes: &[Fix]) -> R
 fn write_map<W: Write>(writer: &mut W, text: &mut Vec<u8>, map: &RefMap) -> Result<(), PlanError>
     ensures { Writes (W.contents writer.old) (W.contents writer.new) (map_shown map.now) result }
 {
-    match write_mappings(writer, text, &map.mappings) {
-        Ok(()) => write_fixes(writer, text, &map.fixes),
-        Err(e) => Err(e),
-    }
+    write_mappings(writer, text, &map.mappings)?;
+    write_fixes(writer, text, &map.fixes)
 }
 
 // Where the refs were mapped.
@@ -272,14 +256,9 @@ fn write_parts<W: Write>(
     ensures { Writes (W.contents writer.old) (W.contents writer.new) (course_shown (course_of requests.now mapped.now ended.now)) result }
 {
     let mut text = Vec::new(alloc);
-    match write_requests(alloc, writer, &mut text, requests) {
-        Ok(()) => {}
-        Err(e) => return Err(e),
-    }
-    match write_mapped(writer, &mut text, mapped) {
-        Ok(()) => write_end(writer, &mut text, ended),
-        Err(e) => Err(e),
-    }
+    write_requests(alloc, writer, &mut text, requests)?;
+    write_mapped(writer, &mut text, mapped)?;
+    write_end(writer, &mut text, ended)
 }
 
 // The same, and no byte of it left in the writer.
@@ -292,11 +271,9 @@ pub(crate) fn write_course<W: Write>(
 ) -> Result<(), PlanError>
     ensures { Writes (W.contents writer.old) (W.contents writer.new) (course_shown (course_of requests.now mapped.now ended.now)) result }
 {
-    match write_parts(alloc, writer, requests, mapped, ended) {
-        Ok(()) => match writer.flush() {
-            Ok(()) => Ok(()),
-            Err(e) => Err(PlanError::writing(e.kind())),
-        },
-        Err(e) => Err(e),
+    write_parts(alloc, writer, requests, mapped, ended)?;
+    match writer.flush() {
+        Ok(()) => Ok(()),
+        Err(e) => Err(PlanError::writing(e.kind())),
     }
 }

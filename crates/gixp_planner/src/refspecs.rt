@@ -1,8 +1,6 @@
 //! The refspecs of a plan.
-ghost use Rattle.std.specs.Prelude.{◌≡◌, map, Ok, MatchResult};
+ghost use Rattle.std.specs.Prelude.{map, Ok};
 ghost use Rattle.bstr.specs.Owned.{bstring_bytes};
-ghost use Rattle.gixp_refspec.specs.Spec.{spec_of};
-ghost use Rattle.gixp_refspec.specs.RefSpec.{owned_value_of};
 ghost use Rattle.gixp_planner.specs.Specs.{ReadsSpec, ReadsSpecs};
 
 use crate::error::PlanError;
@@ -32,12 +30,10 @@ pub(crate) fn read_specs(alloc: Global, texts: &[BString]) -> Result<Context, Pl
 {
     let mut specs = Vec::new(alloc);
     for text in texts {
-        match read_spec(alloc, text) {
-            Ok(spec) => match specs.push(spec) {
-                Ok(()) => {}
-                Err(_) => return Err(PlanError::memory("spec")),
-            },
-            Err(e) => return Err(e),
+        let spec = read_spec(alloc, text)?;
+        match specs.push(spec) {
+            Ok(()) => {}
+            Err(_) => return Err(PlanError::memory("spec")),
         }
     }
     Ok(Context {

@@ -1,5 +1,5 @@
 //! A session over recorded answers.
-ghost use Rattle.std.specs.Prelude.{◌≡◌, ◌∷◌, [], true, false, codes, Some, None, Ok, IfOk, IsOk};
+ghost use Rattle.std.specs.Prelude.{◌≡◌, [], true, false, Some, None, Ok, IfOk, IsOk};
 ghost use Rattle.gixp_requests.specs.Feature.{feature_value};
 ghost use Rattle.gixp_handshake.specs.Taken.{without_refs};
 ghost use Rattle.gixp_planner.specs.Session.{planner_agent, Greets, MapsRefs, Carries, FetchesMapped, Runs, end_of};
@@ -65,9 +65,7 @@ fn map_refs<T: Transport>(
     ensures map { MapsRefs context handshake.old T.is_plain (T.reading transport.old) (T.reading transport.new) result }
     ensures handshake { IfOk result (λ _. handshake.new ≡ without_refs handshake.old) }
 {
-    let Ok(agent) = agent_feature(alloc) else {
-        return Err(init::Error::Memory);
-    };
+    let agent = agent_feature(alloc)?;
     let mut quiet = Discard;
     let table = CommandTable::git();
     obtain(
@@ -147,9 +145,7 @@ fn fetch_mapped<'a, O: Objects, G: Objects, N: Negotiator, T: Transport>(
         (λ n. (n.objects.now ≡ objects.now) × (n.graph.now ≡ graph.old) × (n.negotiator.now ≡ negotiator.old) × (n.ref_map.now ≡ map.now) × (n.shallow.now ≡ Shallow.NoChange) × (n.tags ≡ Tags.None) × IfOk n.alternates (λ a. a.now ≡ []) × IsOk n.alternates)
         (λ s. (s.ids.items ≡ []) × (s.locked ≡ false)) handshake.old (T.reading transport.old) (T.reading transport.new) result }
 {
-    let Ok(agent) = agent_feature(alloc) else {
-        return Err(fetch::Error::Memory);
-    };
+    let agent = agent_feature(alloc)?;
     let mut refs = NoRefs;
     let alternates: Result<&mut [NoRefs], AllocError> = Ok(&mut []);
     let shallow = Shallow::NoChange;

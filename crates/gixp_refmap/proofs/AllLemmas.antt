@@ -1,25 +1,22 @@
 -- Leaving out refs that no prefix covers.
-use Rattle.std.proofs.Common.{◌≡◌, ℕ, ◌+◌, ◌-◌, ◌<◌, nat_lt, arith, Bool, true, false, List, [], ◌∷◌, ◌++◌, Option, Some, None, ◌⊎◌, inl, inr, length, map, ap, sym, ◌∙◌, refl, subst, Vec, Result, Ok, Err}
-use Rattle.std.specs.Prelude.{find, filter, not, IsSome}
-use Rattle.std.specs.Option.{option_map}
-use Rattle.std.specs.List.{slice_get, AllZip, AllByRecursion}
-use Rattle.std.specs.Str.{bytes_eq}
+use Rattle.std.proofs.Common.{◌≡◌, ℕ, ◌+◌, ◌-◌, ◌<◌, nat_lt, arith, Bool, true, false, List, [], ◌∷◌, Option, Some, None, inl, inr, length, map, ap, sym, ◌∙◌, refl, subst, Vec, Result, Ok, Err}
+use Rattle.std.specs.Prelude.{find, not, IsSome}
+use Rattle.std.specs.List.{AllZip, AllByRecursion}
 use Rattle.std.specs.declared.alloc.Global.{Global}
 use Rattle.std.proofs.lemmas.Bool.{cases_Bool, false≢true}
 use Rattle.std.proofs.lemmas.Slice.Eq.{bytes_eq-Decides}
 use Rattle.std.proofs.lemmas.Bool.Decides.{nat_tests}
 use Rattle.std.proofs.lemmas.List.{length-append, length-map}
-use Rattle.bstr.specs.Owned.{bstring_bytes}
-use Rattle.gixp_lines.specs.Ref.{RefValue, ref_value}
+use Rattle.gixp_lines.specs.Ref.{RefValue}
 use Rattle.gixp_refspec.specs.declared.match_group.validate.Fix.{Fix}
 use Rattle.gixp_refspec.specs.declared.spec.RefSpec.{RefSpec}
 use Rattle.gixp_refspec.specs.Spec.{Spec}
 use Rattle.gixp_refspec.specs.RefSpec.{owned_value_of}
 use Rattle.gixp_refspec.specs.Matching.{is_covered}
 use Rattle.gixp_refspec.specs.Mappings.{Source as SourceValue, FullName, ObjectId as IdOf, Mapped, mappings}
-use Rattle.gixp_refspec.specs.Validation.{conflicts, fixes, kept, is_partial}
+use Rattle.gixp_refspec.specs.Validation.{kept, is_partial}
 use Rattle.gixp_refspec.specs.RefspecLaws.{MappingsHaveOrigins}
-use Rattle.gixp_refspec.specs.Leaving.{LeavesOut, CoversAll, all_prefixes, without_item, SameAnswers, KeepsAnswers}
+use Rattle.gixp_refspec.specs.Leaving.{LeavesOut, all_prefixes, without_item, KeepsAnswers}
 use Rattle.gixp_refmap.specs.declared.refmap.mapping.Mapping.{Mapping}
 use Rattle.gixp_refmap.specs.declared.refmap.mapping.Source.{Source}
 use Rattle.gixp_refmap.specs.declared.refmap.mapping.Source.TheVariants.{ObjectId as the_id, Ref as the_ref}

@@ -1,6 +1,6 @@
 -- A mapping takes the first ref of its name, whose name a prefix covers.
-use Rattle.std.proofs.Common.{◌≡◌, ℕ, ◌+◌, ◌<◌, Bool, true, false, nat_eq, zero, suc, List, [], ◌∷◌, Option, Some, None, inl, inr, length, ap, sym, ◌∙◌, refl, subst, arith}
-use Rattle.std.specs.Prelude.{find, ◌||◌}
+use Rattle.std.proofs.Common.{◌≡◌, ℕ, ◌+◌, ◌<◌, Bool, true, nat_eq, zero, suc, List, [], ◌∷◌, Option, Some, None, inl, inr, length, ap, ◌∙◌, refl, arith}
+use Rattle.std.specs.Prelude.{find}
 use Rattle.std.specs.List.{slice_get, position_from, starts_with, AllByRecursion}
 use Rattle.std.proofs.lemmas.Bool.{cases_Bool, or_left, or_right}
 use Rattle.std.proofs.lemmas.List.Folds.{list_any-append}

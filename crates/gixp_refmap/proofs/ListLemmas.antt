@@ -1,8 +1,6 @@
 -- Lists.
-use Rattle.std.proofs.Common.{◌≡◌, ℕ, ◌+◌, ◌<◌, List, [], ◌∷◌, ◌++◌, length, take, map, get_or, ap, sym, ◌∙◌, refl, append_assoc}
-use Rattle.std.specs.Prelude.{◌||◌, Bool}
-use Rattle.std.specs.List.{list_any}
-use Rattle.std.proofs.lemmas.List.{take_more, get_or-map, length-map, map-append}
+use Rattle.std.proofs.Common.{◌≡◌, ℕ, ◌+◌, ◌<◌, List, [], ◌∷◌, ◌++◌, length, take, map, get_or, ap, sym, ◌∙◌, refl}
+use Rattle.std.proofs.lemmas.List.{map-append}
 use Rattle.gixp_wire.proofs.ListLemmas.{take-map_more}
 
 -- a step of a loop that appends what it makes of each element

@@ -1,5 +1,5 @@
 //! The bands of a stream: content, and the texts of progress and errors.
-ghost use Rattle.std.specs.Prelude.{◌≡◌, ℕ, Bool, List, true, false, Option, None, Some, Result, Ok, OnOk, IfOk, IfSome, [], ◌++◌, drop, take, length, min};
+ghost use Rattle.std.specs.Prelude.{◌≡◌, ℕ, Bool, List, true, false, Option, None, Some, Ok, OnOk, IfOk, IfSome, [], ◌++◌, drop, take, length, min};
 ghost use Rattle.std.specs.Option.{option_map};
 ghost use Rattle.std.specs.Io.{ReadsAtMost, StartsWith};
 ghost use Rattle.std.specs.Io.KnownBytes.{ReadConsumes};
@@ -7,8 +7,8 @@ ghost use Rattle.std.specs.Io.BufRead.{DropsConsumable, FillKeeps, Rests};
 ghost use types.Logic.{sem};
 ghost use mir.Syntax.{named};
 ghost use Rattle.gixp_wire.specs.Reading.{Reading, Reads, Peeks, ReadsLent, PeeksLent, PlainIf, TakesLine, refusal_of};
-ghost use Rattle.gixp_sidebands.specs.Bands.{Side, Fills, FillsLent, ShowsFirst, ReadsContent, ReadsBytes, KeepsMessages, is_begun, place_after, shown, message_in, io_kind};
-ghost use Rattle.gixp_sidebands.specs.Telling.{Listener, Told, TellsPacket, refusal_in};
+ghost use Rattle.gixp_sidebands.specs.Bands.{Fills, ShowsFirst, ReadsContent, ReadsBytes, KeepsMessages, is_begun, place_after, shown, message_in, io_kind};
+ghost use Rattle.gixp_sidebands.specs.Telling.{Told, TellsPacket, refusal_in};
 
 mod band;
 mod front;
@@ -203,10 +203,8 @@ impl<'a, T: ExtendedBufRead, P: BandText + Drop, I: Interrupt> WithSidebands<'a,
     {
         self.front.leave();
         'packets: loop {
-            match self.front.peek() {
-                Ok(true) => {}
-                Ok(false) => return Ok(false),
-                Err(e) => return Err(e),
+            if !self.front.peek()? {
+                return Ok(false);
             }
             match band_of(self.front.line()) {
                 Band::Content => {
@@ -215,10 +213,7 @@ impl<'a, T: ExtendedBufRead, P: BandText + Drop, I: Interrupt> WithSidebands<'a,
                 }
                 Band::Unknown(band) => return Err(Error::BadBand(band)),
                 Band::Empty => self.front.take(),
-                Band::Text(is_error) => match self.tell(is_error) {
-                    Ok(()) => {}
-                    Err(e) => return Err(e),
-                },
+                Band::Text(is_error) => self.tell(is_error)?,
             }
         }
     }
@@ -240,11 +235,10 @@ impl<'a, T: ExtendedBufRead, P: BandText + Drop, I: Interrupt> ExtendedBufRead
         ensures fault { (side T.reading self.new).fault ≡ (side T.reading self.old).fault }
         ensures interrupt { self.new.interrupt.ghost_name ≡ self.old.interrupt.ghost_name }
     {
-        match self.settle() {
-            Ok(true) => self.front.take(),
-            Ok(false) => return Ok(false),
-            Err(e) => return Err(e),
+        if !self.settle()? {
+            return Ok(false);
         }
+        self.front.take();
         Ok(true)
     }
 
@@ -311,10 +305,8 @@ impl<'a, T: ExtendedBufRead, P: BandText + Drop, I: Interrupt> Read for WithSide
             (listener self.old) (listener self.new) }
         ensures interrupt { self.new.interrupt.ghost_name ≡ self.old.interrupt.ghost_name }
     {
-        match self.fill() {
-            Ok(true) => {}
-            Ok(false) => return Ok(0),
-            Err(e) => return Err(e),
+        if !self.fill()? {
+            return Ok(0);
         }
         let count = copy_front(self.front.rest(), buf);
         self.front.advance(count);

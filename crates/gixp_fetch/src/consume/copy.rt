@@ -1,7 +1,5 @@
 //! Consumers that are at hand.
-ghost use Rattle.std.specs.Prelude.{◌≡◌, None};
-ghost use Rattle.gixp_sidebands.specs.Bands.{Side, side_reading, Passes};
-ghost use Rattle.gixp_sidebands.specs.Sidebands.{side};
+ghost use Rattle.std.specs.Prelude.{None};
 ghost use Rattle.gixp_fetch.specs.Consume.{Copies, copies_owes};
 
 use crate::consume::ConsumePack;

@@ -231,10 +231,7 @@ impl<'a, F: Files> ShallowStore for ShallowFile<'a, F> {
         if self.held {
             return self.write_locked(boundary);
         }
-        match self.take_lock() {
-            Ok(()) => {}
-            Err(e) => return Err(e),
-        }
+        self.take_lock()?;
         let result = self.write_locked(boundary);
         self.drop_lock();
         result

@@ -1,5 +1,5 @@
 //! A shallow boundary in memory.
-ghost use Rattle.std.specs.Prelude.{◌≡◌, [], true, false};
+ghost use Rattle.std.specs.Prelude.{◌≡◌, true, false};
 
 use crate::shallow::{ShallowError, ShallowStore};
 use gixp_wire::ObjectId;

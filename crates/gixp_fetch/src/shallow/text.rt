@@ -1,5 +1,5 @@
 //! The text of a shallow boundary.
-ghost use Rattle.std.specs.Prelude.{◌≡◌, ◌≢◌, ◌<◌, ◌==◌, [], ◌∷◌, ◌++◌, IfOk, IfErr, OnOk, length, MatchResult};
+ghost use Rattle.std.specs.Prelude.{◌≡◌, ◌<◌, ◌==◌, [], ◌∷◌, IfOk, IfErr, length, MatchResult};
 ghost use Rattle.std.specs.List.{position, AllZip};
 ghost use Rattle.gixp_fetch.specs.ShallowText.{lines, text_of, IsTextOf, IsIdOf, Reads, Unread, IsNoId};
 
@@ -47,10 +47,7 @@ pub fn shallow_ids(alloc: Global, text: &[u8]) -> Result<Vec<ObjectId>, ShallowE
     ensures ids { IfOk result (λ ids. Reads text.now ids.items) }
     ensures refused { IfErr result (Unread text.now) }
 {
-    let ids = match line_ids(alloc, text) {
-        Ok(ids) => ids,
-        Err(e) => return Err(e),
-    };
+    let ids = line_ids(alloc, text)?;
     match sorted_ids(alloc, &ids) {
         Ok(ids) => Ok(ids),
         Err(_) => Err(ShallowError::Memory),
@@ -66,10 +63,7 @@ fn line_ids(alloc: Global, text: &[u8]) -> Result<Vec<ObjectId>, ShallowError>
     let mut rest = text;
     while !rest.is_empty() {
         let (line, behind) = first_line(rest);
-        let id = match line_id(alloc, line) {
-            Ok(id) => id,
-            Err(e) => return Err(e),
-        };
+        let id = line_id(alloc, line)?;
         match ids.push(id) {
             Ok(()) => {}
             Err(_) => return Err(ShallowError::Memory),

@@ -64,15 +64,8 @@ pub fn from_v2_refs<R: ExtendedBufRead>(
     ensures version { (R.reading in_refs.new).version ≡ (R.reading in_refs.old).version }
 {
     let mut refs = Vec::new(alloc);
-    loop {
-        match next_v2_ref(alloc, in_refs) {
-            Ok(Some(found)) => {
-                if refs.push(found).is_err() {
-                    return Err(parse::Error::Memory);
-                }
-            }
-            Ok(None) => return Ok(refs),
-            Err(e) => return Err(e),
-        }
+    while let Some(found) = next_v2_ref(alloc, in_refs)? {
+        refs.push(found)?;
     }
+    Ok(refs)
 }

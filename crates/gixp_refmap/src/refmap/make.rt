@@ -1,8 +1,6 @@
 //! How the mappings of a ref map are made.
-ghost use Rattle.std.specs.Prelude.{◌≡◌, ◌++◌, ◌∷◌, [], IfOk, OnOk, IsSome, length, map};
-ghost use Rattle.std.specs.Option.{option_map};
+ghost use Rattle.std.specs.Prelude.{◌≡◌, ◌++◌, IfOk, OnOk, IsSome, length, map};
 ghost use Rattle.std.specs.List.{AllByRecursion, AllZip, slice_get};
-ghost use Rattle.bstr.specs.Owned.{bstring_bytes};
 ghost use Rattle.gixp_lines.specs.Ref.{RefValue, ref_value};
 ghost use Rattle.gixp_refspec.specs.RefSpec.{value_of, owned_value_of};
 ghost use Rattle.gixp_refspec.specs.MatchGroup.{mapped_of, mapped_in, name_of, names, source_of};
@@ -161,24 +159,12 @@ pub(crate) fn find_mappings(
 {
     laws::filtering_keeps_answers();
     laws::mappings_have_origins();
-    let Ok(specs) = all_specs(alloc, explicit, extra) else {
-        return Err(Error::Memory);
-    };
+    let specs = all_specs(alloc, explicit, extra)?;
     let null = ObjectId::null();
-    let Ok(items) = items(alloc, refs, &null) else {
-        return Err(Error::Memory);
-    };
-    let Ok(outcome) = MatchGroup::from_fetch_specs(&specs).match_lhs(alloc, &items) else {
-        return Err(Error::Memory);
-    };
-    let Ok(validated) = outcome.validated(alloc) else {
-        return Err(Error::Memory);
-    };
-    match validated {
-        Ok((outcome, fixes)) => match mappings(alloc, refs, explicit.len(), outcome.mappings) {
-            Ok(mappings) => Ok((mappings, fixes)),
-            Err(_) => Err(Error::Memory),
-        },
-        Err(e) => Err(Error::MappingValidation(e)),
-    }
+    let items = items(alloc, refs, &null)?;
+    let outcome = MatchGroup::from_fetch_specs(&specs).match_lhs(alloc, &items)?;
+    drop(items);
+    let (outcome, fixes) = outcome.validated(alloc)??;
+    let mappings = mappings(alloc, refs, explicit.len(), outcome.mappings)?;
+    Ok((mappings, fixes))
 }

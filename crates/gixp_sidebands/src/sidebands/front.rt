@@ -1,5 +1,5 @@
 //! A transport, and a place in the packet of band 1 that is peeked at.
-ghost use Rattle.std.specs.Prelude.{◌≡◌, ◌+◌, ◌<◌, true, false, Option, None, Some, take, is_some};
+ghost use Rattle.std.specs.Prelude.{◌≡◌, ◌+◌, ◌<◌, true, false, None, Some, take, is_some};
 ghost use Rattle.gixp_sidebands.specs.Bands.{is_held, is_begun, shown, HandsOut};
 ghost use Rattle.gixp_wire.specs.Reading.{Peeks, PlainIf, TakesLine, reset_to};
 

@@ -84,10 +84,7 @@ pub(crate) fn read_beginning<R: ExtendedBufRead>(
         };
         let _ = reader.next_line();
         behind_stop = false;
-        match keep(&mut answer, &mut commons, said) {
-            Ok(()) => {}
-            Err(_) => return Err(Error::Memory),
-        }
+        keep(&mut answer, &mut commons, said)?;
         came_ready = ready_by(said, came_ready);
         if ends_by_nak(said, expects_pack, negotiates, came_ready) {
             return Ok(answer);

@@ -161,15 +161,11 @@ pub(crate) fn read_sections<R: ExtendedBufRead>(
             Err(e) => return Err(Error::from(e)),
         }
         match at {
-            None => match read_header(alloc, reader.line()) {
-                Ok(Header::Of(section)) => at = Some(section),
-                Ok(Header::Packfile) => return Ok(answer.with_pack()),
-                Err(e) => return Err(e),
+            None => match read_header(alloc, reader.line())? {
+                Header::Of(section) => at = Some(section),
+                Header::Packfile => return Ok(answer.with_pack()),
             },
-            Some(section) => match add_item(alloc, section, reader.line(), &mut answer) {
-                Ok(()) => {}
-                Err(e) => return Err(e),
-            },
+            Some(section) => add_item(alloc, section, reader.line(), &mut answer)?,
         }
     }
 }

@@ -55,9 +55,6 @@ fn read_v1<R: ExtendedBufRead>(
             Ok(false) => return found.finish(targets),
             Err(e) => return Err(parse::Error::from(e)),
         }
-        match found.add(alloc, targets, in_refs.line()) {
-            Ok(()) => {}
-            Err(e) => return Err(e),
-        }
+        found.add(alloc, targets, in_refs.line())?;
     }
 }

@@ -108,10 +108,7 @@ fn read_attributes<'a>(
         None => return Ok(none),
     };
     let (third, fourth) = cut(rest, b' ');
-    let first = match read_attribute(alloc, line, third, none) {
-        Ok(first) => first,
-        Err(e) => return Err(e),
-    };
+    let first = read_attribute(alloc, line, third, none)?;
     match fourth {
         Some(fourth) => read_attribute(alloc, line, fourth, first),
         None => Ok(first),
@@ -199,22 +196,13 @@ pub(crate) fn parse_v2(alloc: Global, line: &[u8]) -> Result<Ref, Error>
         Some(rest) => rest,
         None => return Err(malformed(alloc, line)),
     };
-    let object = match read_first(first) {
-        Ok(object) => object,
-        Err(e) => return Err(e),
-    };
+    let object = read_first(first)?;
     let (name, rest) = cut(rest, b' ');
     if name.is_empty() {
         return Err(malformed(alloc, line));
     }
-    let had = match read_attributes(alloc, line, rest) {
-        Ok(had) => had,
-        Err(e) => return Err(e),
-    };
-    let name = match BString::from_slice(alloc, name) {
-        Ok(name) => name,
-        Err(_) => return Err(Error::Memory),
-    };
+    let had = read_attributes(alloc, line, rest)?;
+    let name = BString::from_slice(alloc, name)?;
     match object {
         Some(object) => make_born(alloc, object, name, had),
         None => make_unborn(alloc, name, had),

@@ -125,15 +125,10 @@ pub fn from_capabilities(
 {
     let mut symrefs = Vec::new(alloc);
     for capability in capabilities.iter() {
-        match read_symref(alloc, capability) {
-            Ok(None) => {}
-            Ok(Some(symref)) => {
-                if symrefs.push(symref).is_err() {
-                    return Err(Error::Memory);
-                }
-            }
-            Err(e) => return Err(e),
-        }
+        let Some(symref) = read_symref(alloc, capability)? else {
+            continue;
+        };
+        symrefs.push(symref)?;
     }
     Ok(symrefs)
 }

@@ -1,6 +1,5 @@
-use Rattle.std.proofs.Common.{◌≡◌, [], sym, ap, ◌∙◌, subst}
+use Rattle.std.proofs.Common.{◌≡◌, [], ap, ◌∙◌}
 use Rattle.std.proofs.lemmas.Result.{IfOk-weaker}
-use Rattle.gixp_fetch.specs.Boundary.{IsSetOf}
 use Rattle.gixp_fetch.specs.FetchShallow.{with_ids}
 use Rattle.gixp_fetch.specs.ShallowText.{IsTextOf, text_of}
 use Rattle.gixp_fetch.proofs.SetLemmas.{set_of}

@@ -1,5 +1,5 @@
 -- One ref more.
-use Rattle.std.proofs.Common.{[], ◌∷◌, ◌++◌, ◌∙◌, ap, map}
+use Rattle.std.proofs.Common.{[], ◌∷◌, ◌++◌, ◌∙◌, ap}
 use Rattle.std.proofs.lemmas.List.{map-append}
 use Rattle.gixp_lines.specs.Ref.{ref_value}
 use Rattle.gixp_refspec.specs.MatchGroup.{name_of, names}

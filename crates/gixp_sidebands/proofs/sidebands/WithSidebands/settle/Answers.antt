@@ -1,4 +1,5 @@
 use Rattle.std.proofs.Common.{◌≡◌, ap, sym, subst, ◌∙◌, refl, Some, None}
+use Rattle.std.proofs.lemmas.Result.{err_from_is_err_and}
 use Rattle.gixp_sidebands.specs.declared.sidebands.band.Band.TheVariants.{Text}
 use Rattle.gixp_sidebands.specs.Bands.{band_of, IsPassed}
 use Rattle.gixp_sidebands.proofs.BandLemmas.{skipping-init, seen_by, fails_above, shows_content, skips_line}
@@ -20,48 +21,48 @@ packets-init g c =
       place = c.leave.ensures.place;
     }
 
-pub returns-in-Err-clause-peeks : goal.returns-in-Err-clause-peeks
-returns-in-Err-clause-peeks g c =
+pub returns-in_err-peek-clause-peeks : goal.returns-in_err-peek-clause-peeks
+returns-in_err-peek-clause-peeks g c =
     let reading = g.T.ExtendedBufRead.reading in
     let n = c.peek.new.self in
     let e = seen_by n.place None _ n.at.ghost_name (reading n.at.now) c.peek.ensures.place refl c.peek.ensures.same in
-    rw e (fails_above _ _ _ _ _ c.packets.invariant.skips c.in-Err.ensures.peeks)
+    let p = err_from_is_err_and c.from_residual.result c.from_residual.ensures.1 in rw (e, p.1, p.2) (fails_above _ _ _ _ _ c.packets.invariant.skips c.in_err-peek.ensures.peeks)
 
-pub returns-in-Err-clause-told : goal.returns-in-Err-clause-told
-returns-in-Err-clause-told g c = told-fails _ _ _ _ _ _ _ _ _ c.packets.invariant.skips.failures c.packets.invariant.told c.in-Err.ensures.peeks c.in-Err.ensures.plain
+pub returns-in_err-peek-clause-told : goal.returns-in_err-peek-clause-told
+returns-in_err-peek-clause-told g c = let p = err_from_is_err_and c.from_residual.result c.from_residual.ensures.1 in rw (p.1, p.2) (told-fails _ _ _ _ _ _ _ _ _ c.packets.invariant.skips.failures c.packets.invariant.told c.in_err-peek.ensures.peeks c.in_err-peek.ensures.plain)
 
 pub returns-in-Content-clause-peeks : goal.returns-in-Content-clause-peeks
 returns-in-Content-clause-peeks g c =
     let reading = g.T.ExtendedBufRead.reading in
     let n = c.open.new.self in
-    let h = rw c.in-Ok-true.field-0-test at c.in-Ok-true.ensures.peeks in
+    let h = rw c.if-not-branch.false at c.in_ok-peek.ensures.peeks in
     let k = ap band_of (sym c.line.ensures) ∙ sym c.in-Content.ensures in
     let s = shows_content _ _ _ _ c.packets.invariant.skips h k in
     let e = seen_by n.place (Some 0) _ n.at.ghost_name (reading n.at.now) c.open.ensures.place refl (c.open.ensures.same ∙ c.peek.ensures.same) in
     rw (e, c.open.ensures.now) s
 
-pub returns-in-Err-tell-clause-told : goal.returns-in-Err-tell-clause-told
-returns-in-Err-tell-clause-told g c =
-    let h = rw c.in-Ok-true.field-0-test at c.in-Ok-true.ensures.peeks in
+pub returns-in_err-tell-in-Text-clause-told : goal.returns-in_err-tell-in-Text-clause-told
+returns-in_err-tell-in-Text-clause-told g c =
+    let h = rw c.if-not-branch.false at c.in_ok-peek.ensures.peeks in
     let k = ap band_of (sym c.line.ensures) ∙ sym c.in-Text.ensures in
-    told-tell _ _ (Unit {0}) _ _ _ _ _ _ _ _ _ c.in-Err-tell.e c.packets.invariant.told h k c.in-Err-tell.ensures.tells
+    let p = err_from_is_err_and c.from_residual-in_err-tell-in-Text.result c.from_residual-in_err-tell-in-Text.ensures.1 in rw (p.1, p.2) (told-tell _ _ (Unit {0}) _ _ _ _ _ _ _ _ _ c.in_err-tell-in-Text.field-0.0 c.packets.invariant.told h k c.in_err-tell-in-Text.ensures.tells)
 
 pub packets-preserved : goal.packets-preserved
 packets-preserved g c =
-    let h = rw c.in-Ok-true.field-0-test at c.in-Ok-true.ensures.peeks in
+    let h = rw c.if-not-branch.false at c.in_ok-peek.ensures.peeks in
     let k : band_of (g.T.ExtendedBufRead.reading c.peek.new.self.at.now).line ≡ Text c.in-Text.is_error = ap band_of (sym c.line.ensures) ∙ sym c.in-Text.ensures in
-    let t = c.in-Ok.ensures.tells in
-    let name = c.in-Ok.ensures.same ∙ c.peek.ensures.same in
+    let t = c.in_ok-tell-in-Text.ensures.tells in
+    let name = c.in_ok-tell-in-Text.ensures.same ∙ c.peek.ensures.same in
     record {
       skips = rw name (skips_line _ _ _ _ _ c.packets.invariant.skips h (subst IsPassed (sym k) tt) t.0);
       told = told-text _ _ _ _ _ _ _ _ _ c.in-Text.is_error c.packets.invariant.told h k t.0 t.1;
       same = name ∙ c.packets.invariant.same;
-      interrupt = c.in-Ok.ensures.interrupt ∙ c.packets.invariant.interrupt;
-      fault = c.in-Ok.ensures.fault ∙ c.packets.invariant.fault;
-      place = c.in-Ok.ensures.place;
+      interrupt = c.in_ok-tell-in-Text.ensures.interrupt ∙ c.packets.invariant.interrupt;
+      fault = c.in_ok-tell-in-Text.ensures.fault ∙ c.packets.invariant.fault;
+      place = c.in_ok-tell-in-Text.ensures.place;
     }
 
 pub returns-in-Content-clause-first : goal.returns-in-Content-clause-first
 returns-in-Content-clause-first g c =
-    let h = rw c.in-Ok-true.field-0-test at c.in-Ok-true.ensures.peeks in
+    let h = rw c.if-not-branch.false at c.in_ok-peek.ensures.peeks in
     rw c.open.ensures.now (shows_first _ _ _ (told-known _ _ _ _ _ _ c.packets.invariant.told) h)

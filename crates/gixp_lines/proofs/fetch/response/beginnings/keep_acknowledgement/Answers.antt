@@ -1,4 +1,4 @@
-use Rattle.std.proofs.Common.{◌≡◌, ap, ◌∙◌, subst, sym}
+use Rattle.std.proofs.Common.{ap, ◌∙◌, subst, sym}
 use Rattle.gixp_lines.specs.Answer.{AnswerValue}
 use Rattle.gixp_lines.specs.Beginnings.{AreCommon}
 use Rattle.gixp_lines.proofs.CommonLemmas.{with_ready, with_nak, common_ready, common_nak, on_ok}

@@ -1,4 +1,5 @@
 use Rattle.std.proofs.Common.{sym, ap, ◌∙◌}
+use Rattle.std.proofs.lemmas.Result.{err_from_is_err_and}
 use Rattle.gixp_lines.specs.Beginnings.{line_item}
 use Rattle.gixp_lines.proofs.BeginningLemmas.{amid-start, amid-stop, amid-stops, amid-end, amid-fails, amid-pack, amid-line, amid-said, amid-nak, amid-memory}
 use Rattle.gixp_lines.proofs.CommonLemmas.{none_common}
@@ -31,20 +32,20 @@ returns-in-None-clause-answers g c =
     let k = rw c.in-Ok-true.field-0-test at c.in-Ok-true.ensures.peeks in
     rw c.with_pack.ensures (amid-pack _ _ _ _ _ _ _ _ c.loop-answer.invariant.0 k (ap line_item (sym c.line.ensures) ∙ sym c.in-None.ensures))
 
-pub returns-in-Err-keep-clause-answers : goal.returns-in-Err-keep-clause-answers
-returns-in-Err-keep-clause-answers g c =
+pub returns-in_err-keep-clause-answers : goal.returns-in_err-keep-clause-answers
+returns-in_err-keep-clause-answers g c =
     let k = rw c.in-Ok-true.field-0-test at c.in-Ok-true.ensures.peeks in
     let t = amid-line _ _ _ _ _ c.in-Some.said _ _ _ _ _ c.loop-answer.invariant.0 k (c.in-Some.ensures ∙ ap line_item c.line.ensures) c.next_line.ensures.reads in
-    amid-memory _ _ _ c.in-Some.said _ _ _ t
+    let p = err_from_is_err_and c.from_residual.result c.from_residual.ensures.1 in rw (p.1, p.2) (amid-memory _ _ _ c.in-Some.said _ _ _ t)
 
 pub returns-then-ends_by_nak-clause-answers : goal.returns-then-ends_by_nak-clause-answers
 returns-then-ends_by_nak-clause-answers g c =
     let k = rw c.in-Ok-true.field-0-test at c.in-Ok-true.ensures.peeks in
     let t = amid-line _ _ _ _ _ c.in-Some.said _ _ _ _ _ c.loop-answer.invariant.0 k (c.in-Some.ensures ∙ ap line_item c.line.ensures) c.next_line.ensures.reads in
-    amid-nak _ c.requires _ _ _ _ _ _ c.in-Some.said _ _ _ c.loop-answer.invariant.0 t c.in-Ok.ensures.ok c.ready_by-came_ready.ensures c.if-ends_by_nak.ensures
+    amid-nak _ c.requires _ _ _ _ _ _ c.in-Some.said _ _ _ c.loop-answer.invariant.0 t c.in_ok-keep.ensures.ok c.ready_by-came_ready.ensures c.if-ends_by_nak.ensures
 
 pub loop-answer-preserved : goal.loop-answer-preserved
 loop-answer-preserved g c =
     let k = rw c.in-Ok-true.field-0-test at c.in-Ok-true.ensures.peeks in
     let t = amid-line _ _ _ _ _ c.in-Some.said _ _ _ _ _ c.loop-answer.invariant.0 k (c.in-Some.ensures ∙ ap line_item c.line.ensures) c.next_line.ensures.reads in
-    (amid-said _ _ _ _ _ _ _ c.in-Some.said _ _ _ c.loop-answer.invariant.0 t c.in-Ok.ensures.ok c.ready_by-came_ready.ensures c.if-ends_by_nak.ensures, c.in-Ok.ensures.common)
+    (amid-said _ _ _ _ _ _ _ c.in-Some.said _ _ _ c.loop-answer.invariant.0 t c.in_ok-keep.ensures.ok c.ready_by-came_ready.ensures c.if-ends_by_nak.ensures, c.in_ok-keep.ensures.common)

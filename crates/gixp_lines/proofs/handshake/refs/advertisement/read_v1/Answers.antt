@@ -1,4 +1,5 @@
 use Rattle.std.proofs.Common.{sym, ap, ◌∙◌}
+use Rattle.std.proofs.lemmas.Result.{err_from_is_err_and}
 use Rattle.gixp_wire.specs.Reading.{refusal_of}
 use Rattle.gixp_lines.specs.V1Line.{so_far_value, with_text}
 use Rattle.gixp_lines.specs.V1Refs.{symrefs_in}
@@ -21,13 +22,13 @@ pub loop-found-preserved : goal.loop-found-preserved
 loop-found-preserved g c =
     let k = rw c.in-Ok-true.field-0-test at c.in-Ok-true.ensures.reads in
     v1-line _ _ _ _ (so_far_value c.loop-found.found) _ _ c.loop-found.invariant k
-    (ap (with_text (symrefs_in c.args.targets.now.entries) (so_far_value c.loop-found.found)) (sym c.line.ensures)) c.in-Ok.ensures
+    (ap (with_text (symrefs_in c.args.targets.now.entries) (so_far_value c.loop-found.found)) (sym c.line.ensures)) c.in_ok-add.ensures
 
-pub returns-in-Err-add-clause-answers : goal.returns-in-Err-add-clause-answers
-returns-in-Err-add-clause-answers g c =
+pub returns-in_err-add-clause-answers : goal.returns-in_err-add-clause-answers
+returns-in_err-add-clause-answers g c =
     let k = rw c.in-Ok-true.field-0-test at c.in-Ok-true.ensures.reads in
-    v1-refused _ _ _ _ _ (so_far_value c.loop-found.found) _ _ _ c.loop-found.invariant k
-    (ap (with_text (symrefs_in c.args.targets.now.entries) (so_far_value c.loop-found.found)) (sym c.line.ensures)) c.in-Err-add.ensures
+    let p = err_from_is_err_and c.from_residual.result c.from_residual.ensures.1 in rw (p.1, p.2) (v1-refused _ _ _ _ _ (so_far_value c.loop-found.found) _ _ _ c.loop-found.invariant k
+    (ap (with_text (symrefs_in c.args.targets.now.entries) (so_far_value c.loop-found.found)) (sym c.line.ensures)) c.in_err-add.ensures)
 
 pub returns-in-Ok-false-clause-held : goal.returns-in-Ok-false-clause-held
 returns-in-Ok-false-clause-held g c =
@@ -45,12 +46,12 @@ returns-in-Err-clause-held g c = (fails-keep _ _ (refusal_of c.in-Err.e) c.in-Er
 pub returns-in-Err-clause-version : goal.returns-in-Err-clause-version
 returns-in-Err-clause-version g c = (fails-keep _ _ (refusal_of c.in-Err.e) c.in-Err.ensures.reads).version ∙ c.loop-found.invariant.read.version
 
-pub returns-in-Err-add-clause-held : goal.returns-in-Err-add-clause-held
-returns-in-Err-add-clause-held g c =
+pub returns-in_err-add-clause-held : goal.returns-in_err-add-clause-held
+returns-in_err-add-clause-held g c =
     let k = rw c.in-Ok-true.field-0-test at c.in-Ok-true.ensures.reads in
     k.held ∙ c.loop-found.invariant.read.held
 
-pub returns-in-Err-add-clause-version : goal.returns-in-Err-add-clause-version
-returns-in-Err-add-clause-version g c =
+pub returns-in_err-add-clause-version : goal.returns-in_err-add-clause-version
+returns-in_err-add-clause-version g c =
     let k = rw c.in-Ok-true.field-0-test at c.in-Ok-true.ensures.reads in
     k.version ∙ c.loop-found.invariant.read.version
