@@ -62,16 +62,10 @@ fn print_refs<R: ExtendedBufRead>(alloc: Global, lines: &mut R) -> Result<Vec<u8
         (RefusesAhead R.is_plain (R.reading lines.old) (R.reading lines.new)) }
 {
     let mut text = Vec::new(alloc);
-    loop {
-        match next_v2_ref(alloc, lines) {
-            Ok(Some(found)) => match print_ref(&mut text, found) {
-                Ok(()) => {}
-                Err(AllocError) => return Err(parse::Error::Memory),
-            },
-            Ok(None) => return Ok(text),
-            Err(e) => return Err(e),
-        }
+    while let Some(found) = next_v2_ref(alloc, lines)? {
+        print_ref(&mut text, found)?;
     }
+    Ok(text)
 }
 
 // The text, and no byte of it left in the writer.

@@ -7,5 +7,5 @@ use Rattle.gixp_refmap.proofs.ls_refs.prefixes.RefPrefixes.add.Goals as goal
 
 pub returns-clause-ok : goal.returns-clause-ok
 returns-clause-ok c =
-    ap (map bstring_bytes) c.in_ok-insert.ensures.keys ∙ inserted_text _ (λ a b. refl) c.self.inside.prefixes.keys c.args.prefix
+    ap (map bstring_bytes) c.in-Ok.ensures.keys ∙ inserted_text _ (λ a b. refl) c.self.inside.prefixes.keys c.args.prefix
     ∙ ap (λ known. with_text known (bstring_bytes c.args.prefix)) c.self.view_is
