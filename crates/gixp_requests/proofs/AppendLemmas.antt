@@ -1,9 +1,8 @@
 -- Steps of loops that append what a function makes of each element.
 use Rattle.std.proofs.Common.{◌≡◌, ℕ, ◌+◌, ◌<◌, Bool, true, false, cond, Option, Some, List, [], ◌∷◌, ◌++◌, length, take, map, get_or, ap, sym, ◌∙◌, refl, append_assoc}
-use Rattle.std.specs.Prelude.{◌||◌, filter, find}
+use Rattle.std.specs.Prelude.{filter, find}
 use Rattle.std.specs.Option.{option_map}
-use Rattle.std.specs.List.{list_any}
-use Rattle.std.proofs.lemmas.List.{take_more, get_or-map, length-map, map-append}
+use Rattle.std.proofs.lemmas.List.{map-append}
 use Rattle.std.proofs.lemmas.List.Elements.{filter-append}
 use Rattle.gixp_wire.proofs.ListLemmas.{take-map_more}
 

@@ -379,19 +379,12 @@ impl Arguments {
         ensures { Sends (T.reading transport.old) (T.reading transport.new) (request_fits self.now done) (texts_of (request self.now done)) result }
     {
         if self.version == Protocol::V2 {
-            let features = match sent_features(self.alloc, &self.features) {
-                Ok(features) => features,
-                Err(_) => return Err(Error::Memory),
-            };
-            return match command_messages(self.alloc, &features, &self.lines, &self.haves, done) {
-                Ok(messages) => request(transport, &messages),
-                Err(_) => Err(Error::Memory),
-            };
+            let features = sent_features(self.alloc, &self.features)?;
+            let messages = command_messages(self.alloc, &features, &self.lines, &self.haves, done)?;
+            return request(transport, &messages);
         }
-        match upload_messages(self.alloc, &self.lines, &self.haves, done) {
-            Ok(messages) => request(transport, &messages),
-            Err(_) => Err(Error::Memory),
-        }
+        let messages = upload_messages(self.alloc, &self.lines, &self.haves, done)?;
+        request(transport, &messages)
     }
 
     /// Sends the next request, with the line `done` where it is asked for (gitprotocol-v2,
@@ -418,10 +411,7 @@ impl Arguments {
         ensures err { OnErr result (self.new ≡ self.old) }
     {
         let persists = transport.connection_persists_across_multiple_requests();
-        match self.transmit(transport, add_done_argument) {
-            Ok(()) => {}
-            Err(e) => return Err(e),
-        }
+        self.transmit(transport, add_done_argument)?;
         self.haves.clear();
         if persists && self.version != Protocol::V2 {
             self.lines.clear();
