@@ -16,7 +16,7 @@ use Rattle.bstr.specs.Owned.{bstring_bytes}
 use Rattle.gixp_wire.specs.Items.{is_stop}
 use Rattle.gixp_wire.specs.declared.read.Error.{Error as ReadError}
 use Rattle.gixp_wire.proofs.RunLemmas.{mark_not_gives}
-use Rattle.gixp_wire.specs.Lines.{gives, stops, refuses, next_from, next_of, Lines, stop, refusal, lines_of, before}
+use Rattle.gixp_wire.specs.Lines.{gives, stops, refuses, next_from, next_of, Lines, lines_of, before}
 use Rattle.gixp_wire.specs.declared.packets.Place.{Place}
 use Rattle.gixp_wire.specs.declared.packets.Place.TheVariants.{Open, Peeked, Stopped, Refused}
 use Rattle.gixp_wire.specs.declared.packets.Packets.{Packets}

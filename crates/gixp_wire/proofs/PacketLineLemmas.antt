@@ -1,6 +1,5 @@
 -- The packet line at the front, by what stands there.
-use Rattle.std.proofs.Common.{◌≡◌, ℕ, ◌<◌, ◌≤◌, List, length, sym, ◌∙◌, ap, subst}
-use Rattle.std.specs.Prelude.{take, drop}
+use Rattle.std.proofs.Common.{◌≡◌, ℕ, List, length, sym, ◌∙◌, ap, subst}
 use Rattle.gixp_wire.specs.declared.packet.Head.{Head}
 use Rattle.gixp_wire.specs.Frames.{head_of, frames_by, frames_of, FitsFront}
 use Rattle.gixp_wire.proofs.FrameLemmas.{frames_of-step, head_fits}

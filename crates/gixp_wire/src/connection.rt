@@ -156,16 +156,11 @@ impl<R: Read, W: Write> Connection<R, W> {
         let Some(opening) = &self.opening else {
             return self.go_on();
         };
-        let Ok(payload) = greeting(alloc, opening, service, self.version, extra_parameters) else {
-            return Err(Error::Memory);
-        };
+        let payload = greeting(alloc, opening, service, self.version, extra_parameters)?;
         if payload.len() > MAX_PAYLOAD {
             return Err(Error::LineTooLong);
         }
-        match self.write_payload(&payload) {
-            Ok(()) => {}
-            Err(e) => return Err(e),
-        }
+        self.write_payload(&payload)?;
         self.go_on()
     }
 }
@@ -232,10 +227,8 @@ impl<R: Read, W: Write> Transport for Connection<R, W> {
         service: Service,
         extra_parameters: &[(String, Option<String>)],
     ) -> Result<SetServiceResponse, Error> {
-        match self.greet(alloc, service, extra_parameters) {
-            Ok(()) => self.packets.advertisement(alloc),
-            Err(e) => Err(e),
-        }
+        self.greet(alloc, service, extra_parameters)?;
+        self.packets.advertisement(alloc)
     }
 
     fn begin_request(&mut self) -> Result<(), Error> {

@@ -145,10 +145,7 @@ impl<R: Read> Packets<R> {
             if self.ended {
                 return Err(Error::Io(ErrorKind::UnexpectedEof));
             }
-            match self.fill() {
-                Ok(()) => {}
-                Err(e) => return Err(e),
-            }
+            self.fill()?;
         }
     }
 

@@ -131,10 +131,8 @@ pub trait ExtendedBufRead {
         ensures text { ReadsText (reading self.old) (reading self.new) (string_bytes text.old) (string_bytes text.new) result }
         ensures plain { PlainText is_plain (reading self.old) (reading self.new) result }
     {
-        match self.peek_line() {
-            Ok(true) => {}
-            Ok(false) => return Ok(0),
-            Err(e) => return Err(e),
+        if !self.peek_line()? {
+            return Ok(0);
         }
         let Ok(line) = str::from_utf8(self.line()) else {
             let _ = self.next_line();

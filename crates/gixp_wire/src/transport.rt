@@ -137,10 +137,7 @@ pub trait Transport: ExtendedBufRead {
         ensures { WritesAll (Self.reading self.old) (Self.reading self.new) (texts_of (request_frames messages.now)) result }
     {
         for message in messages {
-            match self.write(message) {
-                Ok(()) => {}
-                Err(e) => return Err(e),
-            }
+            self.write(message)?;
         }
         Ok(())
     }
@@ -184,12 +181,8 @@ pub trait Transport: ExtendedBufRead {
             (command_fits command.now (feature_lines features.now) (map bstring_bytes arguments.now))
             (texts_of (command_frames command.now (feature_lines features.now) (map bstring_bytes arguments.now))) result }
     {
-        let Ok(lines) = command_lines(alloc, command, features) else {
-            return Err(Error::Memory);
-        };
-        let Ok(messages) = command_messages(alloc, &lines, arguments) else {
-            return Err(Error::Memory);
-        };
+        let lines = command_lines(alloc, command, features)?;
+        let messages = command_messages(alloc, &lines, arguments)?;
         self.request(&messages)
     }
 }

@@ -4,13 +4,13 @@ use Rattle.gixp_wire.specs.CapabilityAdvertisement.{advertisement, TakesFirst}
 use Rattle.gixp_wire.proofs.HeldLemmas.{advertises}
 use Rattle.gixp_wire.proofs.connection.ConnectionTransport.handshake.Goals as goal
 
-pub returns-in-Ok : goal.returns-in-Ok
-returns-in-Ok g c =
+pub returns : goal.returns
+returns g c =
     let mid = c.greet.new.self in
     record {
       handshakes = inr (
         connection_reading g.R.Read.remaining g.W.Write.contents mid,
-        c.in-Ok.ensures,
+        c.in_ok-greet.ensures,
         advertises (connection_held g.W.Write.contents mid) _ _ advertisement TakesFirst _ c.advertisement.ensures,
       );
     }

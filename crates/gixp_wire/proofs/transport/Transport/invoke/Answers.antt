@@ -9,6 +9,6 @@ returns g c =
     let arguments = map bstring_bytes c.args.arguments.now in
     let around : List (List ℕ) → List MessageValue = λ lines. map text lines ++ argument_values arguments ++ flush ∷ [] in
     let is : map message_value c.deref-2.result.now ≡ command_values c.args.command.now (feature_lines c.args.features.now) arguments =
-    ap (map message_value) c.deref-2.ensures.value ∙ c.in-Ok-command_messages.ensures
-    ∙ ap around (ap (map bstring_bytes) c.deref.ensures.value ∙ c.in-Ok.ensures) in
+    ap (map message_value) c.deref-2.ensures.value ∙ c.in_ok-messages.ensures
+    ∙ ap around (ap (map bstring_bytes) c.deref.ensures.value ∙ c.in_ok-lines.ensures) in
     record { sends = sends-values _ _ _ _ _ is c.request.ensures.sends }
