@@ -30,7 +30,8 @@ pub enum Body {
 /// body of its own, and what was left of the one before is dropped. It doesn't persist.
 ///
 /// Before the first handshake it reads as empty, and so does a body that is missing. Its stops are
-/// those of version 2 until a `handshake` or `reset`.
+/// those of version 2 until a `handshake` or `reset`. A body is freed at a stop behind which it has
+/// no more.
 #[derive(Drop)]
 pub struct Bodies {
     alloc: Global,
@@ -84,6 +85,13 @@ impl Bodies {
         &self.sent
     }
 
+    /// How many reads and answers failed, up to 2^64 - 1.
+    pub fn failures(&self) -> u64
+        ensures { result ≡ (bodies_reading self.now).failures }
+    {
+        self.packets.failures()
+    }
+
     /// The account that it was given last.
     pub fn identity(&self) -> Option<&Account>
         ensures { option_map (λ a. account_value a.now) result ≡ (bodies_reading self.now).held.identity }
@@ -121,7 +129,11 @@ impl ExtendedBufRead for Bodies {
     ghost is_plain = { true };
 
     fn next_line(&mut self) -> Result<bool, read::Error> {
-        self.packets.next_line()
+        let read = self.packets.next_line();
+        if let Ok(false) = read {
+            self.packets.free_read();
+        }
+        read
     }
 
     fn peek_line(&mut self) -> Result<bool, read::Error> {

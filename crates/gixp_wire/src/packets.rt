@@ -16,7 +16,7 @@ use crate::read::{Error, ExtendedBufRead};
 use crate::window::Window;
 use bstr::BString;
 use std::alloc::{AllocError, Global};
-use std::io::{ErrorKind, Read};
+use std::io::{Cursor, ErrorKind, Read};
 
 /// Where a reader of lines is.
 #[derive(Clone, Copy, Debug, PartialEq, Eq, Drop)]
@@ -82,6 +82,19 @@ impl<R: Read + Drop> Packets<R> {
     }
 }
 
+impl Packets<Cursor<Vec<u8>>> {
+    ghost use Rattle.gixp_wire.specs.Bodies.{memory_remaining};
+
+    /// Frees the bytes in memory, if the last of them is read.
+    pub(crate) fn free_read(&mut self)
+        ensures { packets_reading memory_remaining self.new ≡ packets_reading memory_remaining self.old }
+    {
+        if self.reader.position() >= self.reader.get_ref().len() as u64 {
+            self.reader = Cursor::new(Vec::new(self.alloc));
+        }
+    }
+}
+
 impl<R: Read> Packets<R> {
     /// Lends only the first bytes of the line that it lends.
     pub(crate) fn shorten_line(&mut self, len: usize)
@@ -96,6 +109,13 @@ impl<R: Read> Packets<R> {
         ensures { result ≡ self.now.version }
     {
         self.version
+    }
+
+    /// How often the device failed, up to the greatest value of the count.
+    pub(crate) fn failures(&self) -> u64
+        ensures { result ≡ self.now.failures }
+    {
+        self.failures
     }
 
     /// Counts one more failure of a device, up to the greatest value of the count.
