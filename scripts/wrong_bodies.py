@@ -7,9 +7,9 @@ An edit is a file of lines `file: src/x.rt`, `old: TEXT`, `new: TEXT`, of which 
 Those of wrong-bodies/CRATE/ are tried, with --must-fail those of crates/CRATE/must-fail/ too, with --only those whose
 name has that word. With no crate all are, N crates side by side.
 
-Each edit is applied by itself to a copy of the repository with what its out/ folders keep, and the crate is checked by
-`rt check`, so a crate that was checked before takes some seconds an edit; RT names another command than `rt`. A line
-says of an edit
+Each edit is applied by itself to a copy of the repository with what its out/ folders keep. The crate is checked once
+without an edit; then of each edit the function around it alone (`rt check --only`, some seconds), and the whole crate where
+that refuses nothing. RT names another command than `rt`. A line says of an edit
 
     goal          a goal is left open: a contract refuses it
     name          only a proof file names what it took away, which shows nothing
@@ -34,7 +34,9 @@ TOP = Path(__file__).resolve().parent.parent
 RT = os.environ.get("RT", "rt")
 CAN_NOT_READ = r"is not in scope|is no name|operand is missing|expected the end|cannot continue"
 LOST_NAME = re.compile(r"(\./)?proofs/.*(has no field|is not in scope|has no `|was not admitted)")
-NO_GOAL = re.compile(r"borrow checker|does not cover|error\[[\w-]+\]|was not admitted")
+NO_GOAL = re.compile(r"borrow checker|does not cover|error\[[\w-]+\]|was not admitted|no function `|functions are named")
+FUNCTION = re.compile(r"( *)(?:pub(?:\([\w ]+\))? |final |const )*fn (\w+)")
+BLOCK = re.compile(r"(?:pub(?:\([\w ]+\))? )?(impl|trait)\b(.*)")
 
 
 def crates_of_list():
@@ -83,13 +85,57 @@ def edited(edit, crate):
     return (texts, None) if texts else (None, "it has no pair of texts")
 
 
+def edited_places(edit, crate):
+    """Each old text's file, and the lines of that file in front of it."""
+    path = None
+    for line in edit.read_text().split("\n"):
+        if line.startswith("file: "):
+            path = crate / line.removeprefix("file: ").strip()
+        elif line.startswith("old: "):
+            front, found, _ = path.read_text().partition(line.removeprefix("old: "))
+            if found:
+                yield path, (front + found.split("\n")[0]).split("\n")
+
+
+def without_generics(text):
+    while True:
+        shorter = re.sub(r"<[^<>]*>", "", text.replace("->", ""))
+        if shorter == text:
+            return text
+        text = shorter
+
+
+def function_around(path, lines, crate):
+    """The end of the name by which `rt check` knows the function that these lines of a file end in, if there is one."""
+    module = [it for it in path.relative_to(crate / "src").with_suffix("").parts if it not in ("lib", "main")][-1:]
+    at = next((it for it in range(len(lines) - 1, -1, -1) if FUNCTION.match(lines[it])), None)
+    if at is None:
+        return None
+    margin, function = FUNCTION.match(lines[at]).groups()
+    blocks = [BLOCK.match(it) for it in lines[:at] if BLOCK.match(it)] if margin else []
+    if margin and not blocks:
+        return None
+    block = []
+    if blocks:
+        named, _, whose = without_generics(blocks[-1][2]).partition(" for ")
+        # `Trait for module::Type` is TypeTrait
+        block = ["".join(re.findall(r"\w+", it)[-1:]) for it in (whose, named.partition(":")[0])]
+        block = ["".join(block)]
+    return "::".join(module + block + [function])
+
+
+def functions_around(edit, crate):
+    found = {function_around(path, lines, crate) for path, lines in edited_places(edit, crate) if crate / "src" in path.parents}
+    return [] if None in found else sorted(found)
+
+
 def verdict_of(done):
     """What refuses a checked crate, and the line that says so."""
     if done.returncode == 0:
         return "STILL PROVED", ""
     # a message may go on in lines that are set in
     lines = re.sub(r"\n  +", " ", done.stdout).splitlines()
-    told = [it for it in lines if re.match(r"(note: )?(\./)?\S+:\d+:\d+: ", it)]
+    told = [it for it in lines if re.match(r"(note: )?(\./)?\S+:\d+:\d+: ", it) and "large solution" not in it]
     errors = [it for it in told if ": error" in it] or told
     goals = [it for it in errors if not LOST_NAME.match(it) and not NO_GOAL.search(it)]
     unread = [it for it in goals if re.search(CAN_NOT_READ, re.sub(r"`[^`]*`", "", it))]
@@ -104,8 +150,9 @@ def verdict_of(done):
     return "types", (errors or rest or lines[-1:] or [""])[0]
 
 
-def check(crate):
-    return subprocess.run([RT, "check"], cwd=crate, stdin=subprocess.DEVNULL, stdout=subprocess.PIPE,
+def check(crate, functions=()):
+    only = [word for it in functions for word in ("--only", it)]
+    return subprocess.run([RT, "check", *only], cwd=crate, stdin=subprocess.DEVNULL, stdout=subprocess.PIPE,
                           stderr=subprocess.STDOUT, text=True, errors="replace")
 
 
@@ -114,10 +161,12 @@ def try_edit(edit, crate):
     if why:
         return "BAD EDIT", why
     kept = {path: path.read_text() for path in texts}
+    functions = functions_around(edit, crate)
     try:
         for path, text in texts.items():
             path.write_text(text)
-        return verdict_of(check(crate))
+        verdict = verdict_of(check(crate, functions)) if functions else ("", "")
+        return verdict if verdict[0] == "goal" else verdict_of(check(crate))
     finally:
         for path, text in kept.items():
             path.write_text(text)
