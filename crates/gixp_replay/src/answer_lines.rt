@@ -24,7 +24,11 @@ fn report_id(text: &[u8], report: &mut Report) -> Result<(), AllocError> {
 }
 
 /// The value, or the error, of each reading of the text.
-pub fn report_line(alloc: Global, row: &Row<'_>, report: &mut Report) -> Result<(), AllocError> {
+pub(crate) fn report_line(
+    alloc: Global,
+    row: &Row<'_>,
+    report: &mut Report,
+) -> Result<(), AllocError> {
     report_id(row.payload, report)?;
     let Ok(text) = str::from_utf8(row.payload) else {
         return report.word("notext");

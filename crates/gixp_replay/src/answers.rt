@@ -17,11 +17,11 @@ use std::alloc::{AllocError, Global};
 
 /// How an answer is read.
 #[derive(Clone, Copy)]
-pub struct Reading {
-    pub version: Protocol,
-    pub expects_pack: bool,
-    pub wants_to_negotiate: bool,
-    pub is_banded: bool,
+pub(crate) struct Reading {
+    pub(crate) version: Protocol,
+    pub(crate) expects_pack: bool,
+    pub(crate) wants_to_negotiate: bool,
+    pub(crate) is_banded: bool,
 }
 
 impl Reading {
@@ -37,7 +37,7 @@ impl Reading {
 }
 
 /// An answer by these settings, whether or not they say bands. What was read, if there was no error.
-pub fn read_response<R: ExtendedBufRead>(
+pub(crate) fn read_response<R: ExtendedBufRead>(
     alloc: Global,
     reader: &mut R,
     reading: Reading,
@@ -115,7 +115,11 @@ fn request_and_report<T: Transport>(
 }
 
 /// An answer over a line reader, a connection or memory.
-pub fn report_answer(alloc: Global, row: &Row<'_>, report: &mut Report) -> Result<(), AllocError> {
+pub(crate) fn report_answer(
+    alloc: Global,
+    row: &Row<'_>,
+    report: &mut Report,
+) -> Result<(), AllocError> {
     match row.settings[2] {
         0 => {
             let mut device = Device::of_row(row);

@@ -63,7 +63,11 @@ fn call<T: ExtendedBufRead, I: Interrupt>(
 }
 
 /// What each call gives, the texts, and what stands in the line reader once the reader of bands is dropped.
-pub fn report_calls(alloc: Global, row: &Row<'_>, report: &mut Report) -> Result<(), AllocError> {
+pub(crate) fn report_calls(
+    alloc: Global,
+    row: &Row<'_>,
+    report: &mut Report,
+) -> Result<(), AllocError> {
     let [version, letters, _, interrupt, memory] = row.settings;
     let version = values::version_of(version);
     let (letters, stream) = cut_at(row.payload, letters);

@@ -125,7 +125,7 @@ fn read_list(
 }
 
 /// The list, each look-up, and the offers.
-pub fn report_capabilities(
+pub(crate) fn report_capabilities(
     alloc: Global,
     row: &Row<'_>,
     report: &mut Report,

@@ -6,7 +6,7 @@ use std::io::{ErrorKind, Read, Write};
 
 /// A reader that gives bytes in pieces, and of which one read may fail.
 #[derive(Drop)]
-pub struct Device<'a> {
+pub(crate) struct Device<'a> {
     bytes: &'a [u8],
     // What comes behind them, and how often.
     chunk: &'a [u8],
@@ -17,11 +17,11 @@ pub struct Device<'a> {
     fails: u64,
     kind: ErrorKind,
     /// How many reads failed.
-    pub failures: u64,
+    pub(crate) failures: u64,
 }
 
 /// The number behind this one in a sequence that looks random.
-pub fn next_random(number: u64) -> u64 {
+pub(crate) fn next_random(number: u64) -> u64 {
     number
         .wrapping_mul(6364136223846793005)
         .wrapping_add(1442695040888963407)
@@ -29,7 +29,7 @@ pub fn next_random(number: u64) -> u64 {
 
 impl<'a> Device<'a> {
     /// These bytes, cut so, of which this read fails.
-    pub fn new(bytes: &'a [u8], cut: u64, fail: u64) -> Device<'a> {
+    pub(crate) fn new(bytes: &'a [u8], cut: u64, fail: u64) -> Device<'a> {
         let (fails, kind) = if fail == 0 {
             (u64::MAX, ErrorKind::Other)
         } else if fail < 1_000_000 {
@@ -55,7 +55,7 @@ impl<'a> Device<'a> {
     }
 
     /// The bytes of a row, and those that come again.
-    pub fn of_row(row: &Row<'a>) -> Device<'a> {
+    pub(crate) fn of_row(row: &Row<'a>) -> Device<'a> {
         let mut device = Device::new(row.payload, row.cut, row.fail);
         let (_, chunk) = cut_at(row.payload, row.repeat.start);
         device.chunk = chunk;
@@ -102,15 +102,15 @@ impl Read for Device<'_> {
 
 /// A writer that keeps what it takes, at most 1,000 bytes a write where reads give few.
 #[derive(Drop)]
-pub struct Paper {
+pub(crate) struct Paper {
     /// What it took.
-    pub bytes: Vec<u8>,
+    pub(crate) bytes: Vec<u8>,
     step: usize,
 }
 
 impl Paper {
     /// Nothing yet, for bytes that are cut so.
-    pub fn new(alloc: Global, cut: u64) -> Paper {
+    pub(crate) fn new(alloc: Global, cut: u64) -> Paper {
         let step = if cut > 0 && cut < 1000 {
             1000
         } else {

@@ -374,7 +374,11 @@ fn report_once(
 }
 
 /// A fetch over a connection or memory, or over each proper beginning of the bytes.
-pub fn report_fetch(alloc: Global, row: &Row<'_>, report: &mut Report) -> Result<(), AllocError> {
+pub(crate) fn report_fetch(
+    alloc: Global,
+    row: &Row<'_>,
+    report: &mut Report,
+) -> Result<(), AllocError> {
     let (script, bytes) = Script::read(alloc, row.payload)?;
     if row.settings[2] != 1 {
         return report_once(alloc, row, script, bytes, report);

@@ -16,7 +16,7 @@ use gixp_wire::{
 use std::alloc::{AllocError, Global};
 
 /// The version, whether refs come, and the capabilities.
-pub fn report_response(
+pub(crate) fn report_response(
     alloc: Global,
     found: &SetServiceResponse,
     report: &mut Report,
@@ -33,7 +33,7 @@ pub fn report_response(
 }
 
 /// The refs and shallow updates of versions 0 and 1. Whether there was no error.
-pub fn report_early_refs<T: Transport>(
+pub(crate) fn report_early_refs<T: Transport>(
     alloc: Global,
     transport: &mut T,
     capabilities: &Capabilities,
@@ -61,7 +61,7 @@ pub fn report_early_refs<T: Transport>(
 }
 
 /// A handshake. What it found, if there was no error.
-pub fn shake_hands<T: Transport>(
+pub(crate) fn shake_hands<T: Transport>(
     alloc: Global,
     transport: &mut T,
     report: &mut Report,
@@ -94,20 +94,20 @@ fn report_over<T: Transport>(
 }
 
 /// A transport over memory that has these answers.
-pub fn bodies(alloc: Global, answers: Vec<Body>) -> Result<Bodies, AllocError> {
+pub(crate) fn bodies(alloc: Global, answers: Vec<Body>) -> Result<Bodies, AllocError> {
     let url = BString::new(Vec::new(alloc));
     Bodies::new(alloc, answers, url, Vec::new(alloc))
 }
 
 /// A transport over memory with one answer.
-pub fn one_body(alloc: Global, answer: &[u8]) -> Result<Bodies, AllocError> {
+pub(crate) fn one_body(alloc: Global, answer: &[u8]) -> Result<Bodies, AllocError> {
     let mut answers = Vec::new(alloc);
     answers.push(Body::Bytes(answer.to_vec(alloc)?))?;
     bodies(alloc, answers)
 }
 
 /// A connection that reads from this device, and whose writer takes bytes that are cut so.
-pub fn connection<'a>(
+pub(crate) fn connection<'a>(
     alloc: Global,
     device: Device<'a>,
     cut: u64,
@@ -129,7 +129,7 @@ pub fn connection<'a>(
 }
 
 /// A handshake, the refs, and what stands behind them.
-pub fn report_handshake(
+pub(crate) fn report_handshake(
     alloc: Global,
     row: &Row<'_>,
     report: &mut Report,

@@ -31,24 +31,24 @@ use std::io::ErrorKind;
 
 /// What a negotiation is about.
 #[derive(Drop)]
-pub struct History {
+pub(crate) struct History {
     /// The ids of the graph's objects, in the order of their lines.
-    pub ids: Vec<ObjectId>,
+    pub(crate) ids: Vec<ObjectId>,
     /// The objects of the graph.
-    pub objects: MemoryObjects,
+    pub(crate) objects: MemoryObjects,
     /// Those that are asked whether they exist.
-    pub existing: MemoryObjects,
-    pub refs: MemoryRefs,
-    pub alternates: Vec<MemoryRefs>,
-    pub has_alternates: bool,
-    pub map: RefMap,
-    pub haves: Vec<ObjectId>,
+    pub(crate) existing: MemoryObjects,
+    pub(crate) refs: MemoryRefs,
+    pub(crate) alternates: Vec<MemoryRefs>,
+    pub(crate) has_alternates: bool,
+    pub(crate) map: RefMap,
+    pub(crate) haves: Vec<ObjectId>,
     /// What the server says, in turn.
-    pub answers: Vec<Response>,
+    pub(crate) answers: Vec<Response>,
 }
 
 /// The id of a number.
-pub fn id_of(number: u64) -> ObjectId {
+pub(crate) fn id_of(number: u64) -> ObjectId {
     let [a, b, c, d, e, f, g, h] = number.to_be_bytes();
     ObjectId {
         bytes: [0, 0, 0, 0, 0, 0, 0, 0, 0, 0, 0, 0, a, b, c, d, e, f, g, h],
@@ -345,7 +345,7 @@ fn add_line(alloc: Global, history: &mut History, line: &[u8]) -> Result<(), All
 
 impl History {
     /// That of a text. The look of this number fails as a row's read does.
-    pub fn of_text(alloc: Global, lines: &[u8], fail: u64) -> Result<History, AllocError> {
+    pub(crate) fn of_text(alloc: Global, lines: &[u8], fail: u64) -> Result<History, AllocError> {
         let mut history = History {
             ids: Vec::new(alloc),
             objects: MemoryObjects::new(alloc),

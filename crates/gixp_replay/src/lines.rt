@@ -12,7 +12,7 @@ use std::alloc::{AllocError, Global};
 use std::io::ErrorKind;
 
 /// Whether a read failed, and the stream didn't end.
-pub fn is_failure(kind: ErrorKind) -> bool {
+pub(crate) fn is_failure(kind: ErrorKind) -> bool {
     match kind {
         ErrorKind::UnexpectedEof => false,
         _ => true,
@@ -44,7 +44,7 @@ fn report_line(report: &mut Report, line: Option<&[u8]>) -> Result<bool, AllocEr
 }
 
 /// The next line, a stop or an error. False where a read failed.
-pub fn take_line<R: ExtendedBufRead>(
+pub(crate) fn take_line<R: ExtendedBufRead>(
     reader: &mut R,
     report: &mut Report,
 ) -> Result<bool, AllocError> {
@@ -102,7 +102,7 @@ fn take_text<R: ExtendedBufRead>(
 }
 
 /// The call of a letter. False where a read failed.
-pub fn call<R: ExtendedBufRead>(
+pub(crate) fn call<R: ExtendedBufRead>(
     alloc: Global,
     reader: &mut R,
     letter: u8,
@@ -138,7 +138,7 @@ fn call_again<R: ExtendedBufRead>(
 }
 
 /// What stands in a reader: its stop, two lines, and three more behind a reset.
-pub fn report_rest<R: ExtendedBufRead>(
+pub(crate) fn report_rest<R: ExtendedBufRead>(
     reader: &mut R,
     version: Protocol,
     report: &mut Report,
@@ -156,7 +156,11 @@ pub fn report_rest<R: ExtendedBufRead>(
 }
 
 /// Nothing where each read that failed was told once.
-pub fn report_failures(report: &mut Report, told: u64, failed: u64) -> Result<(), AllocError> {
+pub(crate) fn report_failures(
+    report: &mut Report,
+    told: u64,
+    failed: u64,
+) -> Result<(), AllocError> {
     if told != failed {
         report.word("!failed ")?;
         report.number(failed)?;
@@ -167,7 +171,11 @@ pub fn report_failures(report: &mut Report, told: u64, failed: u64) -> Result<()
 }
 
 /// What each call gives.
-pub fn report_calls(alloc: Global, row: &Row<'_>, report: &mut Report) -> Result<(), AllocError> {
+pub(crate) fn report_calls(
+    alloc: Global,
+    row: &Row<'_>,
+    report: &mut Report,
+) -> Result<(), AllocError> {
     let [version, letters, ..] = row.settings;
     let (letters, stream) = cut_at(row.payload, letters);
     let mut device = Device::new(stream, row.cut, row.fail);

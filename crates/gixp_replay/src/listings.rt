@@ -219,7 +219,11 @@ fn report_sent(sent: &[u8], report: &mut Report) -> Result<(), AllocError> {
 }
 
 /// A ref map over a connection or memory, and what was sent.
-pub fn report_listing(alloc: Global, row: &Row<'_>, report: &mut Report) -> Result<(), AllocError> {
+pub(crate) fn report_listing(
+    alloc: Global,
+    row: &Row<'_>,
+    report: &mut Report,
+) -> Result<(), AllocError> {
     let [over, version, ..] = row.settings;
     let (explicit, rest) = cut_at_byte(row.payload, b'\n');
     let (extra, rest) = cut_at_byte(rest, b'\n');

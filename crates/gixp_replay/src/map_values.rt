@@ -9,7 +9,7 @@ use gixp_refspec::parse;
 use std::alloc::AllocError;
 
 /// Why a text is no refspec.
-pub fn spec_error(report: &mut Report, e: parse::Error) -> Result<(), AllocError> {
+pub(crate) fn spec_error(report: &mut Report, e: parse::Error) -> Result<(), AllocError> {
     report.word(match e {
         parse::Error::NegativeWithDestination => "NegativeWithDestination",
         parse::Error::NegativeObjectHash => "NegativeObjectHash",
@@ -54,7 +54,7 @@ fn report_mapping(report: &mut Report, mapping: &Mapping) -> Result<(), AllocErr
 }
 
 /// Mappings, fixes, and whether something is missing.
-pub fn report_map(report: &mut Report, map: &RefMap) -> Result<(), AllocError> {
+pub(crate) fn report_map(report: &mut Report, map: &RefMap) -> Result<(), AllocError> {
     report.word("map ")?;
     for mapping in &map.mappings {
         report_mapping(report, mapping)?;
@@ -119,7 +119,7 @@ fn list_error(report: &mut Report, e: &ls_refs::Error) -> Result<(), AllocError>
 }
 
 /// Why there is no ref map.
-pub fn init_error(report: &mut Report, e: &init::Error) -> Result<(), AllocError> {
+pub(crate) fn init_error(report: &mut Report, e: &init::Error) -> Result<(), AllocError> {
     match e {
         init::Error::UnknownObjectFormat { format } => {
             report.word("UnknownObjectFormat(")?;

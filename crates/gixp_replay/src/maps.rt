@@ -43,7 +43,7 @@ fn specs_of(
 }
 
 /// The refspecs of two lines, or nothing where one is refused.
-pub fn context_of(
+pub(crate) fn context_of(
     alloc: Global,
     explicit: &[u8],
     extra: &[u8],
@@ -160,7 +160,11 @@ fn report_maps(
 }
 
 /// The prefixes and the ref map.
-pub fn report_row(alloc: Global, row: &Row<'_>, report: &mut Report) -> Result<(), AllocError> {
+pub(crate) fn report_row(
+    alloc: Global,
+    row: &Row<'_>,
+    report: &mut Report,
+) -> Result<(), AllocError> {
     let [are_prefixes, with_tags, leaves_out, ..] = row.settings;
     let (explicit, rest) = cut_at_byte(row.payload, b'\n');
     let (extra, rest) = cut_at_byte(rest, b'\n');

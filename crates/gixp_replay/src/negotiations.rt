@@ -409,7 +409,7 @@ fn run_history(
 }
 
 /// The decision, what is asked for and told, and what is known of the commits then.
-pub fn report_negotiation(
+pub(crate) fn report_negotiation(
     alloc: Global,
     row: &Row<'_>,
     report: &mut Report,

@@ -52,7 +52,7 @@ fn report_validation(
 }
 
 /// The feature of this name, if it has one.
-pub fn name_of(text: &[u8]) -> Option<&'static str> {
+pub(crate) fn name_of(text: &[u8]) -> Option<&'static str> {
     for name in NAMES {
         if name.as_bytes() == text {
             return Some(name);
@@ -71,7 +71,7 @@ fn value_of(alloc: Global, length: u64) -> Result<String, AllocError> {
 }
 
 /// The features of a mask, those of the second mask with a value of this length.
-pub fn features_of(
+pub(crate) fn features_of(
     alloc: Global,
     mask: u64,
     mask_of_values: u64,
@@ -125,7 +125,7 @@ fn report_version(
 
 /// What is asked for and validated by each command under each version, and whether the features of the row's masks
 /// are enough.
-pub fn report_offers(
+pub(crate) fn report_offers(
     alloc: Global,
     row: &Row<'_>,
     found: &Capabilities,

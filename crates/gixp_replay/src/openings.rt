@@ -18,7 +18,7 @@ fn text_of(alloc: Global, bytes: &[u8]) -> Result<String, AllocError> {
 }
 
 /// Names with such bytes between them, each with its value behind an equals sign if it has one.
-pub fn parameters_of(
+pub(crate) fn parameters_of(
     alloc: Global,
     text: &[u8],
     between: u8,
@@ -40,7 +40,11 @@ pub fn parameters_of(
 }
 
 /// What the handshake gives, and the bytes that were written.
-pub fn report_opening(alloc: Global, row: &Row<'_>, report: &mut Report) -> Result<(), AllocError> {
+pub(crate) fn report_opening(
+    alloc: Global,
+    row: &Row<'_>,
+    report: &mut Report,
+) -> Result<(), AllocError> {
     let [version, service, has_host, length, _] = row.settings;
     let (path, rest) = cut_at_byte(row.payload, 0);
     let (host, rest) = cut_at_byte(rest, 0);

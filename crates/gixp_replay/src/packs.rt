@@ -17,14 +17,14 @@ use std::io::{BufRead, Read};
 
 /// A listener that writes texts down. The text of number `fails` can't be allocated, once.
 #[derive(Drop)]
-pub struct Notes<'a> {
+pub(crate) struct Notes<'a> {
     told: &'a mut Report,
     fails: u64,
 }
 
 impl<'a> Notes<'a> {
     /// A listener that adds to this report.
-    pub fn new(told: &'a mut Report, fails: u64) -> Notes<'a> {
+    pub(crate) fn new(told: &'a mut Report, fails: u64) -> Notes<'a> {
         Notes { told, fails }
     }
 }
@@ -46,13 +46,13 @@ impl BandText for Notes<'_> {
 
 /// An interrupt that says true to the question of one number.
 #[derive(Drop)]
-pub struct Once {
+pub(crate) struct Once {
     questions: u64,
 }
 
 impl Once {
     /// True to the question of this number, from 0 on.
-    pub fn new(question: u64) -> Once {
+    pub(crate) fn new(question: u64) -> Once {
         Once {
             questions: question,
         }
@@ -170,7 +170,10 @@ fn lend_some<R: BufRead>(
 }
 
 /// The error that stands in a reader of bands, if there is one.
-pub fn report_fault(fault: Option<&read::Error>, report: &mut Report) -> Result<(), AllocError> {
+pub(crate) fn report_fault(
+    fault: Option<&read::Error>,
+    report: &mut Report,
+) -> Result<(), AllocError> {
     match fault {
         Some(e) => values::read_error(report, e)?,
         None => report.word("nofault")?,
@@ -290,19 +293,19 @@ fn drain<T: ExtendedBufRead, I: Interrupt>(
 
 /// How a pack is read.
 #[derive(Clone, Copy)]
-pub struct Settings {
+pub(crate) struct Settings {
     /// The most bytes.
-    pub limit: u64,
+    pub(crate) limit: u64,
     /// From what the sizes and kinds of reads follow.
-    pub seed: u64,
+    pub(crate) seed: u64,
     /// Which question for an interrupt is answered with true.
-    pub interrupt: u64,
+    pub(crate) interrupt: u64,
     /// Which text can't be allocated.
-    pub memory: u64,
+    pub(crate) memory: u64,
 }
 
 /// The content of a pack that stands before a reader, and its texts. How many reads failed.
-pub fn read_pack<T: ExtendedBufRead>(
+pub(crate) fn read_pack<T: ExtendedBufRead>(
     alloc: Global,
     reader: &mut T,
     settings: Settings,
@@ -331,7 +334,11 @@ pub fn read_pack<T: ExtendedBufRead>(
 }
 
 /// A pack over a line reader.
-pub fn report_pack(alloc: Global, row: &Row<'_>, report: &mut Report) -> Result<(), AllocError> {
+pub(crate) fn report_pack(
+    alloc: Global,
+    row: &Row<'_>,
+    report: &mut Report,
+) -> Result<(), AllocError> {
     let [version, limit, seed, interrupt, memory] = row.settings;
     let version = values::version_of(version);
     let settings = Settings {

@@ -9,7 +9,11 @@ use crate::rows::{Row, cut_at};
 use std::alloc::{AllocError, Global};
 
 /// The handshakes, one behind the other.
-pub fn report_places(alloc: Global, row: &Row<'_>, report: &mut Report) -> Result<(), AllocError> {
+pub(crate) fn report_places(
+    alloc: Global,
+    row: &Row<'_>,
+    report: &mut Report,
+) -> Result<(), AllocError> {
     let ends = row.settings[0] == 0;
     for place in 0..row.payload.len() as u64 {
         let mut one = *row;

@@ -104,7 +104,11 @@ fn plan_parts(alloc: Global, parts: Parts<'_>, page: &mut Page) -> Result<(), Pl
 }
 
 /// What is planned, and the step and the variant of its refusal.
-pub fn report_plan(alloc: Global, row: &Row<'_>, report: &mut Report) -> Result<(), AllocError> {
+pub(crate) fn report_plan(
+    alloc: Global,
+    row: &Row<'_>,
+    report: &mut Report,
+) -> Result<(), AllocError> {
     let parts = parts_of(alloc, row)?;
     let mut page = Page {
         text: Vec::new(alloc),

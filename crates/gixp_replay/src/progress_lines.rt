@@ -26,7 +26,11 @@ fn report_parts(report: &mut Report, line: &RemoteProgress<'_>) -> Result<(), Al
 }
 
 /// The parts of the line, and what was told.
-pub fn report_line(alloc: Global, row: &Row<'_>, report: &mut Report) -> Result<(), AllocError> {
+pub(crate) fn report_line(
+    alloc: Global,
+    row: &Row<'_>,
+    report: &mut Report,
+) -> Result<(), AllocError> {
     let [is_error, ..] = row.settings;
     let (shown, text) = cut_at_byte(row.payload, b'\n');
     match RemoteProgress::from_bytes(text) {

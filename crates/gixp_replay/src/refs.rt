@@ -13,7 +13,7 @@ use gixp_wire::{ExtendedBufRead, LineReader};
 use std::alloc::{AllocError, Global};
 
 /// A list of refs.
-pub fn report_list(report: &mut Report, refs: &[Ref]) -> Result<(), AllocError> {
+pub(crate) fn report_list(report: &mut Report, refs: &[Ref]) -> Result<(), AllocError> {
     report.word("refs ")?;
     for found in refs {
         reference(report, found)?;
@@ -87,7 +87,7 @@ fn report_error(report: &mut Report, e: &parse::Error) -> Result<(), AllocError>
 }
 
 /// All refs of version 2. Whether there was no error.
-pub fn report_all<R: ExtendedBufRead>(
+pub(crate) fn report_all<R: ExtendedBufRead>(
     alloc: Global,
     reader: &mut R,
     report: &mut Report,
@@ -105,7 +105,11 @@ pub fn report_all<R: ExtendedBufRead>(
 }
 
 /// The refs of an `ls-refs` answer.
-pub fn report_refs(alloc: Global, row: &Row<'_>, report: &mut Report) -> Result<(), AllocError> {
+pub(crate) fn report_refs(
+    alloc: Global,
+    row: &Row<'_>,
+    report: &mut Report,
+) -> Result<(), AllocError> {
     let [version, calls, ..] = row.settings;
     let version = version_of(version);
     let mut device = Device::of_row(row);

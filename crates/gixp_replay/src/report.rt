@@ -4,7 +4,7 @@ use std::alloc::{AllocError, Global};
 
 /// What a row gives, as text.
 #[derive(Drop)]
-pub struct Report {
+pub(crate) struct Report {
     alloc: Global,
     text: Vec<u8>,
 }
@@ -31,7 +31,7 @@ fn digit(value: u8) -> u8 {
 
 impl Report {
     /// No text.
-    pub fn new(alloc: Global) -> Report {
+    pub(crate) fn new(alloc: Global) -> Report {
         Report {
             alloc,
             text: Vec::new(alloc),
@@ -39,28 +39,28 @@ impl Report {
     }
 
     /// Drops the text.
-    pub fn clear(&mut self) {
+    pub(crate) fn clear(&mut self) {
         self.text.clear();
     }
 
     /// The text so far.
-    pub fn bytes(&self) -> &[u8] {
+    pub(crate) fn bytes(&self) -> &[u8] {
         &self.text
     }
 
     /// A word as it is.
-    pub fn word(&mut self, word: &str) -> Result<(), AllocError> {
+    pub(crate) fn word(&mut self, word: &str) -> Result<(), AllocError> {
         self.text.extend_from_slice(word.as_bytes())
     }
 
     /// A number in decimal digits.
-    pub fn number(&mut self, value: u64) -> Result<(), AllocError> {
+    pub(crate) fn number(&mut self, value: u64) -> Result<(), AllocError> {
         let text = value.to_string(self.alloc)?;
         self.word(text.as_str())
     }
 
     /// An id in hexadecimal digits.
-    pub fn id(&mut self, id: &ObjectId) -> Result<(), AllocError> {
+    pub(crate) fn id(&mut self, id: &ObjectId) -> Result<(), AllocError> {
         self.text.extend_from_slice(&id.to_hex())
     }
 
@@ -74,7 +74,7 @@ impl Report {
 
     /// Bytes in quotes, those that are no plain letters as two digits behind a backslash; more than 120 as their
     /// length and checksum.
-    pub fn quote(&mut self, bytes: &[u8]) -> Result<(), AllocError> {
+    pub(crate) fn quote(&mut self, bytes: &[u8]) -> Result<(), AllocError> {
         if bytes.len() > 120 {
             return self.digest(bytes);
         }
@@ -84,7 +84,7 @@ impl Report {
     }
 
     /// Bytes, those that are no plain letters as two digits behind a backslash.
-    pub fn letters(&mut self, bytes: &[u8]) -> Result<(), AllocError> {
+    pub(crate) fn letters(&mut self, bytes: &[u8]) -> Result<(), AllocError> {
         for byte in bytes {
             let plain = *byte > b' ' && *byte < 127 && *byte != b'\\' && *byte != b'\'';
             if plain {
@@ -99,7 +99,7 @@ impl Report {
     }
 
     /// Keeps so many bytes of a longer text, with its length and checksum behind them.
-    pub fn shorten(&mut self, width: usize) -> Result<(), AllocError> {
+    pub(crate) fn shorten(&mut self, width: usize) -> Result<(), AllocError> {
         if self.text.len() <= width {
             return Ok(());
         }

@@ -161,7 +161,7 @@ fn report_calls<T: Transport>(
 }
 
 /// What each call gives, and the bytes that were sent.
-pub fn report_requests(
+pub(crate) fn report_requests(
     alloc: Global,
     row: &Row<'_>,
     report: &mut Report,

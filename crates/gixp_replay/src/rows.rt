@@ -13,7 +13,7 @@ use thiserror::Error as DeriveError;
 
 /// What a row asks for.
 #[derive(Clone, Copy)]
-pub enum Mode {
+pub(crate) enum Mode {
     /// `L`: calls of a line reader.
     Lines,
     /// `B`: calls of a reader of bands.
@@ -83,29 +83,29 @@ impl Mode {
 
 /// Bytes that come again.
 #[derive(Clone, Copy)]
-pub struct Repeat {
+pub(crate) struct Repeat {
     /// How often they come again.
-    pub times: u64,
+    pub(crate) times: u64,
     /// The place of the first of them.
-    pub start: u64,
+    pub(crate) start: u64,
 }
 
 /// One row.
 #[derive(Clone, Copy)]
-pub struct Row<'a> {
-    pub mode: Mode,
-    pub settings: [u64; 5],
+pub(crate) struct Row<'a> {
+    pub(crate) mode: Mode,
+    pub(crate) settings: [u64; 5],
     /// How the bytes come.
-    pub cut: u64,
+    pub(crate) cut: u64,
     /// Which read fails.
-    pub fail: u64,
-    pub payload: &'a [u8],
-    pub repeat: Repeat,
+    pub(crate) fail: u64,
+    pub(crate) payload: &'a [u8],
+    pub(crate) repeat: Repeat,
 }
 
 /// Why a row can't be read.
 #[derive(Clone, Copy, Debug, Drop, DeriveError)]
-pub enum RowError {
+pub(crate) enum RowError {
     #[error("no mode of that name")]
     Mode,
     #[error("a word is no number")]
@@ -119,7 +119,7 @@ pub enum RowError {
 }
 
 /// The text before the first such byte and that behind it.
-pub fn cut_at_byte(text: &[u8], byte: u8) -> (&[u8], &[u8]) {
+pub(crate) fn cut_at_byte(text: &[u8], byte: u8) -> (&[u8], &[u8]) {
     match text.iter().position(|b| *b == byte) {
         Some(place) => {
             if place >= text.len() {
@@ -136,7 +136,7 @@ pub fn cut_at_byte(text: &[u8], byte: u8) -> (&[u8], &[u8]) {
 }
 
 /// The first bytes, as many as are asked for and there, and the others.
-pub fn cut_at(text: &[u8], place: u64) -> (&[u8], &[u8]) {
+pub(crate) fn cut_at(text: &[u8], place: u64) -> (&[u8], &[u8]) {
     let place = match usize::try_from(place) {
         Ok(place) => place.min(text.len()),
         Err(_) => text.len(),
@@ -145,7 +145,7 @@ pub fn cut_at(text: &[u8], place: u64) -> (&[u8], &[u8]) {
 }
 
 /// A number in decimal digits.
-pub fn number(text: &[u8]) -> Option<u64> {
+pub(crate) fn number(text: &[u8]) -> Option<u64> {
     let Ok(text) = str::from_utf8(text) else {
         return None;
     };
@@ -176,7 +176,7 @@ fn numbers_of(words: &[u8]) -> Result<[u64; 10], RowError> {
 }
 
 /// The first row, and what stands behind it.
-pub fn next_row(text: &[u8]) -> Result<(Row<'_>, &[u8]), RowError> {
+pub(crate) fn next_row(text: &[u8]) -> Result<(Row<'_>, &[u8]), RowError> {
     let (line, rest) = cut_at_byte(text, b'\n');
     let (word, words) = cut_at_byte(line, b' ');
     let Some(mode) = Mode::from_word(word) else {

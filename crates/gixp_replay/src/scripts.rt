@@ -20,7 +20,7 @@ use std::num::NonZeroU32;
 
 /// Why a call of a store is refused.
 #[derive(Clone, Copy)]
-pub enum Fault {
+pub(crate) enum Fault {
     Device,
     Locked,
     Line,
@@ -29,35 +29,35 @@ pub enum Fault {
 
 /// What a fetch is asked to do.
 #[derive(Drop)]
-pub struct Script<'a> {
+pub(crate) struct Script<'a> {
     /// The lengths of the bodies.
-    pub lengths: &'a [u8],
+    pub(crate) lengths: &'a [u8],
     /// The refspecs.
-    pub specs: Vec<RefSpec>,
+    pub(crate) specs: Vec<RefSpec>,
     /// What is offered.
-    pub haves: Vec<ObjectId>,
+    pub(crate) haves: Vec<ObjectId>,
     /// The shallow boundary.
-    pub boundary: Vec<ObjectId>,
+    pub(crate) boundary: Vec<ObjectId>,
     /// The depth.
-    pub shallow: Shallow,
+    pub(crate) shallow: Shallow,
     /// The refs that are left out.
-    pub excluded: Vec<PartialName>,
+    pub(crate) excluded: Vec<PartialName>,
     /// The time behind which commits are asked for.
-    pub cutoff: Option<i64>,
+    pub(crate) cutoff: Option<i64>,
     /// Which tags come.
-    pub tags: Tags,
+    pub(crate) tags: Tags,
     /// What the client asks for by default.
-    pub table: CommandTable,
+    pub(crate) table: CommandTable,
     /// Whether shallow servers are refused.
-    pub rejects: bool,
+    pub(crate) rejects: bool,
     /// Whether the pack is kept.
-    pub copies: bool,
+    pub(crate) copies: bool,
     /// Which question for an interrupt is answered with true.
-    pub interrupt: u64,
+    pub(crate) interrupt: u64,
     /// Which call of the store is refused.
-    pub call: u64,
+    pub(crate) call: u64,
     /// Why it is refused.
-    pub fault: Fault,
+    pub(crate) fault: Fault,
 }
 
 static RECORDED: [(&str, Option<&str>); 4] = [
@@ -216,7 +216,10 @@ impl<'a> Script<'a> {
     }
 
     /// What these lines ask for, and what stands behind the empty line.
-    pub fn read(alloc: Global, payload: &'a [u8]) -> Result<(Script<'a>, &'a [u8]), AllocError> {
+    pub(crate) fn read(
+        alloc: Global,
+        payload: &'a [u8],
+    ) -> Result<(Script<'a>, &'a [u8]), AllocError> {
         let mut script = Script::new(alloc);
         let mut rest = payload;
         for _ in 0..u64::MAX {

@@ -160,7 +160,11 @@ fn report_over<T: Transport>(
 }
 
 /// Bodies of these lengths.
-pub fn cut_bodies(alloc: Global, lengths: &[u8], bytes: &[u8]) -> Result<Vec<Body>, AllocError> {
+pub(crate) fn cut_bodies(
+    alloc: Global,
+    lengths: &[u8],
+    bytes: &[u8],
+) -> Result<Vec<Body>, AllocError> {
     let mut answers = Vec::new(alloc);
     let mut rest = bytes;
     for word in lengths.split(|b| *b == b' ') {
@@ -172,7 +176,11 @@ pub fn cut_bodies(alloc: Global, lengths: &[u8], bytes: &[u8]) -> Result<Vec<Bod
 }
 
 /// A session over a connection or memory.
-pub fn report_session(alloc: Global, row: &Row<'_>, report: &mut Report) -> Result<(), AllocError> {
+pub(crate) fn report_session(
+    alloc: Global,
+    row: &Row<'_>,
+    report: &mut Report,
+) -> Result<(), AllocError> {
     let [over, version, ..] = row.settings;
     let (lengths, bytes) = cut_at_byte(row.payload, b'\n');
     if over == 1 {

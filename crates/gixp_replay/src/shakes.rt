@@ -22,7 +22,7 @@ use std::io::ErrorKind;
 
 /// A credential helper that follows a script, and writes down what it is asked for.
 #[derive(Drop)]
-pub struct Helper<'a> {
+pub(crate) struct Helper<'a> {
     alloc: Global,
     script: &'a [u8],
     asked: Report,
@@ -30,7 +30,7 @@ pub struct Helper<'a> {
 
 impl<'a> Helper<'a> {
     /// A helper that wasn't asked yet.
-    pub fn new(alloc: Global, script: &'a [u8]) -> Helper<'a> {
+    pub(crate) fn new(alloc: Global, script: &'a [u8]) -> Helper<'a> {
         Helper {
             alloc,
             script,
@@ -70,7 +70,7 @@ impl<'a> Helper<'a> {
     }
 
     /// What it says to an action.
-    pub fn answer(&mut self, action: Action) -> Result<Option<Outcome>, credentials::Error> {
+    pub(crate) fn answer(&mut self, action: Action) -> Result<Option<Outcome>, credentials::Error> {
         if self.write_down(&action).is_err() {
             return Err(self.failure());
         }
@@ -87,7 +87,7 @@ impl<'a> Helper<'a> {
     }
 
     /// Writes what it was asked for.
-    pub fn report(&self, report: &mut Report) -> Result<(), AllocError> {
+    pub(crate) fn report(&self, report: &mut Report) -> Result<(), AllocError> {
         report.word("asked ")?;
         report.quote(self.asked.bytes())?;
         report.word(" ")
@@ -113,7 +113,11 @@ fn body_of<'a>(
 
 /// The bodies of words: the length of each, or `d`, `t` or `p` where getting it fails as one that is denied, too slow or
 /// whose server hung up.
-pub fn bodies_of(alloc: Global, words: &[u8], bytes: &[u8]) -> Result<Vec<Body>, AllocError> {
+pub(crate) fn bodies_of(
+    alloc: Global,
+    words: &[u8],
+    bytes: &[u8],
+) -> Result<Vec<Body>, AllocError> {
     let mut bodies = Vec::new(alloc);
     let mut rest = bytes;
     for word in words.split(|b| *b == b' ') {
@@ -142,12 +146,12 @@ fn accepted_of(alloc: Global, mask: u64) -> Result<Vec<Protocol>, AllocError> {
 }
 
 /// A transport over these bodies that accepts the versions of a mask.
-pub fn memory(alloc: Global, bodies: Vec<Body>, mask: u64) -> Result<Bodies, AllocError> {
+pub(crate) fn memory(alloc: Global, bodies: Vec<Body>, mask: u64) -> Result<Bodies, AllocError> {
     Bodies::new(alloc, bodies, url(alloc)?, accepted_of(alloc, mask)?)
 }
 
 /// A connection over a device, for a client that asks for a version and accepts those of a mask.
-pub fn connection<'a>(
+pub(crate) fn connection<'a>(
     alloc: Global,
     device: Device<'a>,
     cut: u64,
@@ -170,7 +174,7 @@ pub fn connection<'a>(
 }
 
 /// Why a handshake is refused.
-pub fn shake_error(report: &mut Report, e: &Error) -> Result<(), AllocError> {
+pub(crate) fn shake_error(report: &mut Report, e: &Error) -> Result<(), AllocError> {
     match e {
         Error::Credentials(e) => {
             report.word("Credentials(")?;
@@ -204,7 +208,7 @@ pub fn shake_error(report: &mut Report, e: &Error) -> Result<(), AllocError> {
 }
 
 /// The version, the capabilities, and the refs and shallow updates if they came.
-pub fn report_shaken(
+pub(crate) fn report_shaken(
     alloc: Global,
     found: &Handshake,
     report: &mut Report,
@@ -270,7 +274,11 @@ fn report_over<T: Transport>(
 }
 
 /// A handshake over a connection or memory, and the bytes or the account that the transport was given.
-pub fn report_shake(alloc: Global, row: &Row<'_>, report: &mut Report) -> Result<(), AllocError> {
+pub(crate) fn report_shake(
+    alloc: Global,
+    row: &Row<'_>,
+    report: &mut Report,
+) -> Result<(), AllocError> {
     let [over, version, mask, ..] = row.settings;
     let (script, rest) = cut_at_byte(row.payload, b'\n');
     let (words, rest) = cut_at_byte(rest, b'\n');

@@ -8,7 +8,7 @@ use std::alloc::{AllocError, Global};
 
 /// Writes each call down.
 #[derive(Drop)]
-pub struct Telling {
+pub(crate) struct Telling {
     words: Report,
     name: Option<String>,
     is_refused: bool,
@@ -16,7 +16,7 @@ pub struct Telling {
 
 impl Telling {
     /// Nothing was told yet.
-    pub fn new(alloc: Global) -> Telling {
+    pub(crate) fn new(alloc: Global) -> Telling {
         Telling {
             words: Report::new(alloc),
             name: None,
@@ -32,7 +32,7 @@ impl Telling {
     }
 
     /// Writes what was told.
-    pub fn report(&self, report: &mut Report) -> Result<(), AllocError> {
+    pub(crate) fn report(&self, report: &mut Report) -> Result<(), AllocError> {
         if self.is_refused {
             return Err(AllocError);
         }

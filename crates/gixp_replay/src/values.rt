@@ -10,7 +10,7 @@ use std::alloc::{AllocError, Global};
 use std::io::ErrorKind;
 
 /// The version of this number, 2 for all above.
-pub fn version_of(number: u64) -> Protocol {
+pub(crate) fn version_of(number: u64) -> Protocol {
     match number {
         0 => Protocol::V0,
         1 => Protocol::V1,
@@ -19,7 +19,7 @@ pub fn version_of(number: u64) -> Protocol {
 }
 
 /// The name of a version.
-pub fn version_word(version: Protocol) -> &'static str {
+pub(crate) fn version_word(version: Protocol) -> &'static str {
     match version {
         Protocol::V0 => "V0",
         Protocol::V1 => "V1",
@@ -28,7 +28,7 @@ pub fn version_word(version: Protocol) -> &'static str {
 }
 
 /// A kind of I/O error.
-pub fn kind(report: &mut Report, kind: ErrorKind) -> Result<(), AllocError> {
+pub(crate) fn kind(report: &mut Report, kind: ErrorKind) -> Result<(), AllocError> {
     report.word(match kind {
         ErrorKind::UnexpectedEof => "UnexpectedEof",
         ErrorKind::Interrupted => "Interrupted",
@@ -65,7 +65,7 @@ fn with_bytes(report: &mut Report, name: &str, bytes: &[u8]) -> Result<(), Alloc
 }
 
 /// The error of a reader.
-pub fn read_error(report: &mut Report, e: &read::Error) -> Result<(), AllocError> {
+pub(crate) fn read_error(report: &mut Report, e: &read::Error) -> Result<(), AllocError> {
     match e {
         read::Error::Io(kind) => io_error(report, *kind),
         read::Error::Decode(e) => {
@@ -87,7 +87,7 @@ pub fn read_error(report: &mut Report, e: &read::Error) -> Result<(), AllocError
 }
 
 /// The error of a transport.
-pub fn client_error(report: &mut Report, e: &client::Error) -> Result<(), AllocError> {
+pub(crate) fn client_error(report: &mut Report, e: &client::Error) -> Result<(), AllocError> {
     match e {
         client::Error::Io(kind) => io_error(report, *kind),
         client::Error::Read(e) => { wrapped(report, "Read", e) }
@@ -102,7 +102,7 @@ pub fn client_error(report: &mut Report, e: &client::Error) -> Result<(), AllocE
 }
 
 /// Why a text is no id.
-pub fn id_error(report: &mut Report, e: decode::Error) -> Result<(), AllocError> {
+pub(crate) fn id_error(report: &mut Report, e: decode::Error) -> Result<(), AllocError> {
     match e {
         decode::Error::InvalidLength(len) => {
             report.word("InvalidLength(")?;
@@ -122,7 +122,7 @@ fn wrapped(report: &mut Report, name: &str, e: &read::Error) -> Result<(), Alloc
 }
 
 /// The error of a list of refs.
-pub fn parse_error(report: &mut Report, e: &parse::Error) -> Result<(), AllocError> {
+pub(crate) fn parse_error(report: &mut Report, e: &parse::Error) -> Result<(), AllocError> {
     match e {
         parse::Error::Io(kind) => io_error(report, *kind),
         parse::Error::DecodePacketline(e) => {
@@ -160,7 +160,7 @@ pub fn parse_error(report: &mut Report, e: &parse::Error) -> Result<(), AllocErr
 }
 
 /// The error of an answer to a fetch.
-pub fn response_error(report: &mut Report, e: &response::Error) -> Result<(), AllocError> {
+pub(crate) fn response_error(report: &mut Report, e: &response::Error) -> Result<(), AllocError> {
     match e {
         response::Error::Io(kind) => io_error(report, *kind),
         response::Error::UploadPack { message } => {
@@ -190,7 +190,7 @@ pub fn response_error(report: &mut Report, e: &response::Error) -> Result<(), Al
 }
 
 /// Why what a client asks for isn't valid.
-pub fn validation_error(
+pub(crate) fn validation_error(
     report: &mut Report,
     e: &validate_argument_prefixes::Error,
 ) -> Result<(), AllocError> {
@@ -246,7 +246,7 @@ fn reference_parts(report: &mut Report, found: &Ref) -> Result<(), AllocError> {
 }
 
 /// A ref, and how many ids `unpack` gives of it.
-pub fn reference(report: &mut Report, found: &Ref) -> Result<(), AllocError> {
+pub(crate) fn reference(report: &mut Report, found: &Ref) -> Result<(), AllocError> {
     reference_parts(report, found)?;
     let (_name, target, peeled) = found.unpack();
     report.word(match (target, peeled) {
@@ -259,7 +259,10 @@ pub fn reference(report: &mut Report, found: &Ref) -> Result<(), AllocError> {
 }
 
 /// An acknowledgement.
-pub fn acknowledgement(report: &mut Report, found: Acknowledgement) -> Result<(), AllocError> {
+pub(crate) fn acknowledgement(
+    report: &mut Report,
+    found: Acknowledgement,
+) -> Result<(), AllocError> {
     match found {
         Acknowledgement::Common(id) => {
             report.word("C")?;
@@ -272,7 +275,7 @@ pub fn acknowledgement(report: &mut Report, found: Acknowledgement) -> Result<()
 }
 
 /// A shallow update.
-pub fn update(report: &mut Report, found: ShallowUpdate) -> Result<(), AllocError> {
+pub(crate) fn update(report: &mut Report, found: ShallowUpdate) -> Result<(), AllocError> {
     match found {
         ShallowUpdate::Shallow(id) => {
             report.word("+")?;
@@ -287,7 +290,7 @@ pub fn update(report: &mut Report, found: ShallowUpdate) -> Result<(), AllocErro
 }
 
 /// An answer to a fetch.
-pub fn answer(report: &mut Report, found: &Response) -> Result<(), AllocError> {
+pub(crate) fn answer(report: &mut Report, found: &Response) -> Result<(), AllocError> {
     report.word("acks ")?;
     for one in found.acknowledgements() {
         acknowledgement(report, *one)?;
@@ -306,7 +309,7 @@ pub fn answer(report: &mut Report, found: &Response) -> Result<(), AllocError> {
 }
 
 /// Where a reader stands.
-pub fn stop(report: &mut Report, kind: Option<MessageKind>) -> Result<(), AllocError> {
+pub(crate) fn stop(report: &mut Report, kind: Option<MessageKind>) -> Result<(), AllocError> {
     report.word(match kind {
         None => "@open ",
         Some(MessageKind::Flush) => "@Flush ",
@@ -317,7 +320,7 @@ pub fn stop(report: &mut Report, kind: Option<MessageKind>) -> Result<(), AllocE
 }
 
 /// Capabilities, each with its value and how many words that has.
-pub fn capability_list(
+pub(crate) fn capability_list(
     alloc: Global,
     report: &mut Report,
     found: &Capabilities,
