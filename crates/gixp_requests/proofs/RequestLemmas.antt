@@ -9,7 +9,7 @@ use Rattle.gixp_wire.specs.declared.client.Error.{Error}
 use Rattle.gixp_wire.specs.declared.message.Message.{Message}
 use Rattle.gixp_wire.specs.Frames.{Frame}
 use Rattle.gixp_wire.specs.FrameText.{texts_of}
-use Rattle.gixp_wire.specs.Message.{MessageValue, text, flush, delimiter, value_frame, value_fits, message_value, message_frame, message_fits, request_frames, all_fit, argument_values, command_values}
+use Rattle.gixp_wire.specs.Message.{MessageValue, text, flush, delimiter, value_frame, value_fits, message_value, message_frame, message_fits, request_frames, all_fit, argument_values, command_lines, command_values}
 use Rattle.gixp_wire.specs.Reading.{Reading}
 use Rattle.gixp_wire.specs.Transport.{Sends}
 use Rattle.gixp_requests.specs.Feature.{FeatureValue, feature_text}
@@ -74,13 +74,6 @@ pub three_parts : {A : Type 0} (a b c d x y z : List A) → b ≡ a ++ x → c �
 three_parts a b c d x y z e1 e2 e3 =
     e3 ∙ ap (λ t. t ++ z) (e2 ∙ ap (λ t. t ++ y) e1) ∙ append_assoc (a ++ x) y z ∙ append_assoc a x (y ++ z)
 
--- the arguments, part by part
-pub arguments_joined : (old now : List MessageValue) (lines haves : List (List ℕ)) (done : Bool)
-    → now ≡ old ++ (map text lines ++ (map text haves ++ map text (done_lines done))) → now ≡ old ++ map text (fetch_arguments lines haves done)
-arguments_joined old now lines haves done e =
-    e ∙ ap (λ t. old ++ (map text lines ++ t)) (sym (texts-append haves (done_lines done)))
-    ∙ ap (λ t. old ++ t) (sym (texts-append lines (haves ++ done_lines done)))
-
 -- a delimiter stands before arguments that are there
 pub some_arguments : (arguments : List (List ℕ)) → 0 < length arguments → delimiter ∷ map text arguments ≡ argument_values arguments
 some_arguments [] h = absurd (omega arith)
@@ -91,12 +84,16 @@ pub any_argument : (lines haves : List (List ℕ)) (done : Bool) → (done ≡ f
 any_argument lines haves true h = omega (arith, length-append lines (haves ++ done_line ∷ []), length-append haves (done_line ∷ []))
 any_argument lines haves false h = omega (arith, length-append lines (haves ++ []), length-append haves [], h refl)
 
+-- six parts, joined in another order
+regroup : {A : Type 0} (f d x y z e : List A) → f ++ d ++ (x ++ (y ++ (z ++ e))) ≡ f ++ (d ++ (x ++ (y ++ z))) ++ e
+regroup f d x y z e = simp append_assoc
+
 -- the messages of a fetch, part by part
-pub command_joined : (a b c d e : List MessageValue) (features arguments : List (List ℕ)) → 0 < length arguments → a ≡ text (codes "command=fetch") ∷ [] → b ≡ a ++ map text features
-    → c ≡ b ++ delimiter ∷ [] → d ≡ c ++ map text arguments → e ≡ d ++ flush ∷ [] → e ≡ command_values (codes "fetch") features arguments
-command_joined a b c d e features arguments some e1 e2 e3 e4 e5 =
-    let front = text (codes "command=fetch") ∷ map text features in
-    let b' : b ≡ front = e2 ∙ ap (λ t. t ++ map text features) e1 in
-    let d' : d ≡ front ++ (delimiter ∷ map text arguments) =
-    e4 ∙ ap (λ t. t ++ map text arguments) (e3 ∙ ap (λ t. t ++ delimiter ∷ []) b') ∙ append_assoc front (delimiter ∷ []) (map text arguments) in
-    e5 ∙ ap (λ t. t ++ flush ∷ []) (d' ∙ ap (λ t. front ++ t) (some_arguments arguments some))
+pub command_joined : (front behind : List MessageValue) (features lines haves : List (List ℕ)) (done : Bool) → (done ≡ false → 0 < length haves)
+    → front ≡ map text (command_lines (codes "fetch") features) ++ delimiter ∷ [] → behind ≡ map text (done_lines done) ++ flush ∷ []
+    → front ++ (map text lines ++ (map text haves ++ behind)) ≡ command_values (codes "fetch") features (fetch_arguments lines haves done)
+command_joined front behind features lines haves done some e1 e2 =
+    let head = map text (command_lines (codes "fetch") features) in
+    let parts = texts-append lines (haves ++ done_lines done) ∙ ap (λ t. map text lines ++ t) (texts-append haves (done_lines done)) in
+    let arguments = ap (λ t. delimiter ∷ t) (sym parts) ∙ some_arguments (fetch_arguments lines haves done) (any_argument lines haves done some) in
+    rw (e1, e2) (regroup head (delimiter ∷ []) (map text lines) (map text haves) (map text (done_lines done)) (flush ∷ []) ∙ ap (λ t. head ++ t ++ flush ∷ []) arguments)

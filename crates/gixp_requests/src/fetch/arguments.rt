@@ -16,7 +16,7 @@ use std::marker::Model;
 mod messages;
 mod text;
 
-use messages::{command_messages, request, sent_features, upload_messages};
+use messages::{request, send_command, sent_features, upload_messages};
 use text::{features_text, has_want, joined, push_text, want_line};
 
 /// What the next request for a pack asks for: argument lines, and the objects that are there
@@ -380,8 +380,14 @@ impl Arguments {
     {
         if self.version == Protocol::V2 {
             let features = sent_features(self.alloc, &self.features)?;
-            let messages = command_messages(self.alloc, &features, &self.lines, &self.haves, done)?;
-            return request(transport, &messages);
+            return send_command(
+                transport,
+                self.alloc,
+                &features,
+                &self.lines,
+                &self.haves,
+                done,
+            );
         }
         let messages = upload_messages(self.alloc, &self.lines, &self.haves, done)?;
         request(transport, &messages)

@@ -3,7 +3,7 @@ ghost use Rattle.std.specs.Prelude.{◌≡◌, ◌<◌, false, [], ◌∷◌, �
 ghost use Rattle.bstr.specs.Owned.{bstring_bytes};
 ghost use Rattle.std.specs.List.{list_all};
 ghost use Rattle.gixp_wire.specs.FrameText.{texts_of};
-ghost use Rattle.gixp_wire.specs.Message.{text, message_value, value_frame, value_fits, command_values};
+ghost use Rattle.gixp_wire.specs.Message.{text, flush, delimiter, message_value, value_frame, value_fits, command_lines, command_fits, command_frames};
 ghost use Rattle.gixp_wire.specs.Transport.{Sends};
 ghost use Rattle.gixp_requests.specs.Feature.{feature_value, feature_values};
 ghost use Rattle.gixp_requests.specs.Command.{texts};
@@ -69,50 +69,46 @@ fn push_lines<'a>(messages: &mut Vec<Message<'a>>, lines: &'a [BString]) -> Resu
     Ok(())
 }
 
-// Appends `done`, where it is asked for.
-fn push_done<'a>(messages: &mut Vec<Message<'a>>, done: bool) -> Result<(), AllocError>
-    ensures { OnOk result (map message_value messages.new.items ≡ map message_value messages.old.items ++ map text (done_lines done)) }
-{
-    if done {
-        push(messages, Message::Line(b"done"))?;
-    }
-    Ok(())
-}
-
-// Appends the arguments of a fetch of version 2.
-fn push_arguments<'a>(
-    messages: &mut Vec<Message<'a>>,
-    lines: &'a [BString],
-    haves: &'a [BString],
-    done: bool,
-) -> Result<(), AllocError>
-    ensures { OnOk result (map message_value messages.new.items ≡ map message_value messages.old.items ++ map text (fetch_arguments (map bstring_bytes lines.now) (map bstring_bytes haves.now) done)) }
-{
-    push_lines(messages, lines)?;
-    push_lines(messages, haves)?;
-    push_done(messages, done)?;
-    Ok(())
-}
-
-// The messages of a fetch of version 2.
-pub(crate) fn command_messages<'a>(
+// The messages in front of the arguments of a fetch of version 2.
+fn command_messages<'a>(
     alloc: Global,
     features: &'a [BString],
-    lines: &'a [BString],
-    haves: &'a [BString],
-    done: bool,
 ) -> Result<Vec<Message<'a>>, AllocError>
-    requires { done ≡ false → 0 < length haves.now }
-    ensures { IfOk result (λ messages. map message_value messages.items ≡ command_values (codes "fetch") (map bstring_bytes features.now)
-        (fetch_arguments (map bstring_bytes lines.now) (map bstring_bytes haves.now) done)) }
+    ensures { IfOk result (λ messages. map message_value messages.items ≡ map text (command_lines (codes "fetch") (map bstring_bytes features.now)) ++ delimiter ∷ []) }
 {
-    let mut messages = Vec::new(alloc);
+    let mut messages = Vec::with_capacity(alloc, features.len().saturating_add(2))?;
     push(&mut messages, Message::Line(b"command=fetch"))?;
     push_lines(&mut messages, features)?;
     push(&mut messages, Message::Delimiter)?;
-    push_arguments(&mut messages, lines, haves, done)?;
-    push(&mut messages, Message::Flush)?;
     Ok(messages)
+}
+
+// The messages behind its haves: `done`, where it is asked for, and the flush packet.
+fn command_end(done: bool) -> &'static [Message<'static>]
+    ensures { map message_value result.now ≡ map text (done_lines done) ++ flush ∷ [] }
+{
+    if done {
+        return &[Message::Line(b"done"), Message::Flush];
+    }
+    &[Message::Flush]
+}
+
+// Sends a fetch of version 2. Its lines and haves are written from where they stand.
+pub(crate) fn send_command<T: Transport>(
+    transport: &mut T,
+    alloc: Global,
+    features: &[BString],
+    lines: &[BString],
+    haves: &[BString],
+    done: bool,
+) -> Result<(), Error>
+    requires { done ≡ false → 0 < length haves.now }
+    ensures { Sends (T.reading transport.old) (T.reading transport.new)
+        (command_fits (codes "fetch") (map bstring_bytes features.now) (fetch_arguments (map bstring_bytes lines.now) (map bstring_bytes haves.now) done))
+        (texts_of (command_frames (codes "fetch") (map bstring_bytes features.now) (fetch_arguments (map bstring_bytes lines.now) (map bstring_bytes haves.now) done))) result }
+{
+    let messages = command_messages(alloc, features)?;
+    transport.request_with_lines(&messages, lines, haves, command_end(done))
 }
 
 fn want_at(lines: &[BString]) -> Option<usize>
@@ -130,11 +126,15 @@ fn first_want(lines: &[BString]) -> Option<usize>
     want_at(lines)
 }
 
-// The lines, of which the first want changes places with the first.
-fn front<'a>(alloc: Global, lines: &'a [BString]) -> Result<Vec<Message<'a>>, AllocError>
+// The lines, of which the first want changes places with the first, in a list with this capacity.
+fn front<'a>(
+    alloc: Global,
+    lines: &'a [BString],
+    capacity: usize,
+) -> Result<Vec<Message<'a>>, AllocError>
     ensures { IfOk result (λ messages. map message_value messages.items ≡ map text (want_first (map bstring_bytes lines.now))) }
 {
-    let mut messages = Vec::new(alloc);
+    let mut messages = Vec::with_capacity(alloc, capacity)?;
     push_lines(&mut messages, lines)?;
     match first_want(lines) {
         Some(place) => {
@@ -174,7 +174,8 @@ pub(crate) fn upload_messages<'a>(
 ) -> Result<Vec<Message<'a>>, AllocError>
     ensures { IfOk result (λ messages. map message_value messages.items ≡ upload_values (map bstring_bytes lines.now) (map bstring_bytes haves.now) done) }
 {
-    let mut messages = front(alloc, lines)?;
+    let capacity = lines.len().saturating_add(haves.len()).saturating_add(2);
+    let mut messages = front(alloc, lines, capacity)?;
     push_flush(&mut messages, lines)?;
     push_lines(&mut messages, haves)?;
     push_end(&mut messages, done)?;

@@ -10,13 +10,13 @@ use Rattle.gixp_requests.proofs.fetch.arguments.messages.front.Goals as goal
 pub returns-in-Some : goal.returns-in-Some
 returns-in-Some c =
     let lines = map bstring_bytes c.args.lines.now in
-    let all = c.in_ok-push_lines.ensures ∙ ap (λ t. map message_value t ++ map text lines) c.new-messages.ensures.items in
+    let all = c.in_ok-push_lines.ensures ∙ ap (λ t. map message_value t ++ map text lines) c.in_ok-messages.ensures.items in
     ap (map message_value) c.swap.ensures.items ∙ texts_exchanged _ lines c.in-Some.place all ∙ ap (λ o. map text (exchanged lines o)) c.in-Some.ensures.place
 
 pub swap-requires : goal.swap-requires
 swap-requires c =
     let lines = map bstring_bytes c.args.lines.now in
-    let all = c.in_ok-push_lines.ensures ∙ ap (λ t. map message_value t ++ map text lines) c.new-messages.ensures.items in
+    let all = c.in_ok-push_lines.ensures ∙ ap (λ t. map message_value t ++ map text lines) c.in_ok-messages.ensures.items in
     let n = count_of_texts c.push_lines.new.messages.items lines all in
     let m = length-map c.args.lines.now bstring_bytes in
     let within : c.in-Some.place < length c.args.lines.now = c.in-Some.ensures.within in
