@@ -44,7 +44,7 @@ use Rattle.gixp_handshake.specs.declared.handshake.read.Handshake.{Handshake}
 use Rattle.gixp_handshake.specs.declared.handshake.ref_map.ObtainRefMap.{ObtainRefMap}
 use Rattle.gixp_handshake.specs.declared.handshake.ref_map.ObtainRefMap.TheVariants.{Existing, LsRefsCommand}
 use Rattle.gixp_handshake.specs.Shake.{Turn, Opened, Got, NoMemory, Denied, First, Opens, ReadsFirst, Keeps, GoesOn, is_accepted}
-use Rattle.gixp_handshake.specs.Obtain.{prefixes_if, MakesMap, PreparesBy, ByList, ObtainsBy}
+use Rattle.gixp_handshake.specs.Obtain.{prefixes_if, MakesMap, PreparesBy, ByList, ObtainsBy, Obtains}
 use Rattle.gixp_planner.specs.Specs.{specs_of, IsContext}
 use Rattle.gixp_fetch.specs.declared.error.Error.{Error as FetchError}
 use Rattle.gixp_fetch.specs.declared.options.Outcome.{Outcome}
@@ -321,9 +321,8 @@ module _ (caps : List CapabilityValue) (context : Context) (plain : Bool) (old n
       let so = subst (λ (l : Listing). (refs : Vec Ref Global) × Listed l old new refs.items × MakesMap l.capabilities handed refs.items (Ok m)) p.0 found in
       (so.0, so.1, subst (λ (y : Context). MakesMap caps y so.0.items (Ok m)) p.1 so.2)
 
-obtained : (context : Context) (h : Handshake) (plain : Bool) (old new : Reading) (m : RefMap) → MapsRefs context h plain old new (Ok m) → ObtainedBy h.refs h.capabilities context old new m
-obtained context h plain old new m (inl o) = obtained-by h.capabilities context plain old new m h.refs o.prepared o.prepares o.obtains
-obtained context h plain old new m (inr n) = cc n.1
+obtained : (context : Context) (h : Handshake) (plain : Bool) (old new : Reading) (made : RefMap) → Obtains git_table planner_agent context h plain old new (Ok made) → ObtainedBy h.refs h.capabilities context old new made
+obtained context h plain old new made o = obtained-by h.capabilities context plain old new made h.refs o.prepared o.prepares o.obtains
 
 -- the specs of a context are those of the words
 abbrev all_specs : Context → List Spec
@@ -429,8 +428,18 @@ both-greet bodies specs sent others m n l r =
 pub both-alike : (bodies : List Body) (specs : List (List ℕ)) (sent others : List (List ℕ)) (m n : RefMap) (l : IsMapped bodies specs sent m) (r : IsMapped bodies specs others n) → SameMap l.behind r.behind m n
 both-alike bodies specs sent others m n l r =
     let greeting = both-greet bodies specs sent others m n l r in
-    maps-alike l.handshake.refs r.handshake.refs l.handshake.capabilities r.handshake.capabilities l.context r.context l.mid r.mid l.behind r.behind m n greeting.refs greeting.capabilities
-    (same-specs specs l.context r.context l.read r.read) greeting.alike (obtained l.context l.handshake true l.mid l.behind m l.maps) (obtained r.context r.handshake true r.mid r.behind n r.maps)
+    let one = l.maps in
+    let other = r.maps in
+    let made =
+    maps-alike l.handshake.refs r.handshake.refs l.handshake.capabilities r.handshake.capabilities l.context r.context l.mid r.mid l.behind r.behind one.0 other.0 greeting.refs greeting.capabilities
+    (same-specs specs l.context r.context l.read r.read) greeting.alike (obtained l.context l.handshake true l.mid l.behind one.0 one.1) (obtained r.context r.handshake true r.mid r.behind other.0 other.1) in
+    record {
+      alike = made.alike;
+      shown = ap map_shown one.2.0 ∙ made.shown ∙ sym (ap map_shown other.2.0);
+      mappings =
+          subst (λ xs. LookAlike xs n.mappings.items) (sym (ap (λ (x : RefMap). x.mappings.items) one.2.0))
+          (subst (λ ys. LookAlike one.0.mappings.items ys) (sym (ap (λ (x : RefMap). x.mappings.items) other.2.0)) made.mappings);
+    }
 
 pub mappings-follow : MappingsFollow
 mappings-follow bodies specs sent others m n l r =

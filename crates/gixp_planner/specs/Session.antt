@@ -38,9 +38,14 @@ pub record Greets (plain : Bool) (old new : Reading) (r : Result Handshake Hands
   pub unanswered : AreUnanswered turns
   pub shakes : Shakes UploadPack [] plain old new turns r
 
+-- a ref map without the refs that it was made of
+abbrev pub IsWithoutRefs : RefMap → RefMap → Type 0
+IsWithoutRefs made m = (m ≡ record made { remote_refs = m.remote_refs }) × (m.remote_refs.items ≡ [])
+
 -- the ref map of the server, which is asked for the refspecs' prefixes
 abbrev pub MapsRefs : Context → Handshake → Bool → Reading → Reading → Result RefMap MapError → Type 0
-MapsRefs context h plain old new r = Obtains git_table planner_agent context h plain old new r ⊎ ((new ≡ old) × (r ≡ Err map.Memory))
+MapsRefs context h plain old new (Ok m) = (made : RefMap) × Obtains git_table planner_agent context h plain old new (Ok made) × IsWithoutRefs made m
+MapsRefs context h plain old new (Err e) = Obtains git_table planner_agent context h plain old new (Err e) ⊎ ((new ≡ old) × (e ≡ map.Memory))
 
 -- what a fetch is handed in: the boundary is to stay, and no tags come but those that are mapped
 abbrev pub planner_call : Handshake → Call

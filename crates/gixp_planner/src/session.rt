@@ -55,7 +55,8 @@ fn greet<T: Transport>(alloc: Global, transport: &mut T) -> Result<Handshake, ha
     )
 }
 
-// The ref map of the server, which is asked for the refspecs' prefixes.
+// The ref map of the server, which is asked for the refspecs' prefixes. The refs that it was made of are freed: the
+// mappings hold those that are fetched.
 fn map_refs<T: Transport>(
     alloc: Global,
     handshake: &mut Handshake,
@@ -68,9 +69,11 @@ fn map_refs<T: Transport>(
     let agent = agent_feature(alloc)?;
     let mut quiet = Discard;
     let table = CommandTable::git();
-    obtain(
+    let mut map = obtain(
         alloc, handshake, &table, agent, context, &mut quiet, transport,
-    )
+    )?;
+    map.remote_refs = Vec::new(alloc);
+    Ok(map)
 }
 
 // The fetch of what a negotiation asks for.
