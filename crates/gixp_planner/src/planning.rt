@@ -60,17 +60,17 @@ fn counted(failures: u64, ended: Result<bool, PlanError>) -> Result<bool, PlanEr
 /// `fix LOCAL REFSPEC` for each that was taken out. Then `pack`, or `nothing` where there was nothing to ask for. All is
 /// written behind the session, a line at a time, and the writer is flushed: hand in one that is buffered.
 ///
-/// The requests up to the ref map, the mappings and those taken out are a function of the bodies and the refspecs alone
-/// ([`mappings_follow_bodies`](crate::laws::mappings_follow_bodies)). With a [`HaveList`](gix_protocol::fetch::negotiate::HaveList)
-/// the whole text is a function of these, the objects and the ids, whatever version the server speaks
-/// ([`texts_follow_bodies`](crate::laws::texts_follow_bodies)).
+/// Of a plan that isn't refused, the requests up to the ref map, the mappings and those taken out are a function of the
+/// bodies and the refspecs alone ([`mappings_follow_bodies`](crate::laws::mappings_follow_bodies)). With a
+/// [`HaveList`](gix_protocol::fetch::negotiate::HaveList) the whole text is one of these, the objects and the ids, whatever
+/// version the server speaks ([`texts_follow_bodies`](crate::laws::texts_follow_bodies)).
 ///
 /// # Errors
 ///
 /// `spec` with the variant of a refspec's error, and `file Memory` where no transport can be made: nothing is written then.
 /// `handshake`, `refs` and `fetch` with the outermost variant of that step's error: the requests and mappings so far are
-/// written. `fetch Io` where the fetch came to its end, but the transport counted a failure on the way: a read that failed
-/// may have cut an answer short, so all is written but for whether a pack came. `file Io` where a write failed, and
+/// written. `fetch Io` where the fetch came to its end, but the transport has counted a failure: a read that failed may have
+/// cut an answer short, so all is written but for whether a pack came. `file Io` where a write failed, and
 /// `file Memory` where an allocation for what is written did: of the text some may be written.
 pub fn plan<'a, O: Objects, G: Objects, N: Negotiator, W: Write>(
     alloc: Global,
