@@ -34,13 +34,14 @@ passes_more a b c xs ys h k = at a.reading.to_come b.reading.to_come h k
         (v.0, v.1, v.2, u.3 ∙ (ap (λ z. xs ++ side_content b z) (sym same) ∙ (ap (λ z. xs ++ z) v.3 ∙ sym (append_assoc xs ys (side_content c v.0)))))
 
 pub copied_none : (w : Option (List ℕ)) (s : Side) → Copied w s [] w s
-copied_none w s = record { reads = record { content = passes_none s }; held = refl; written = appends_nil w }
+copied_none w s = record { reads = record { content = passes_none s }; failures = refl; held = refl; written = appends_nil w }
 
 -- one piece more
 pub copied_more : (old w w' : Option (List ℕ)) (start now mid next : Side) (read piece : List ℕ) → Copied old start read w now → ShowsContent now mid → ReadsBytes mid next piece → Appends w w' piece
     → Copied old start (read ++ piece) w' next
 copied_more old w w' start now mid next read piece h s r a = record {
   reads = record { content = passes_more start now next read piece h.reads.content (passes_more now mid next [] piece s.content r.content) };
+  failures = r.failures ∙ s.failures ∙ h.failures;
   held = r.held ∙ (s.held ∙ h.held);
   written = appends_trans old w w' read piece h.written a;
 }
@@ -48,6 +49,10 @@ copied_more old w w' start now mid next read piece h s r a = record {
 pub at_stop_held : (old new : Reading) → AtStop old new → new.held ≡ old.held
 at_stop_held old new (inl h) = h.stays.held
 at_stop_held old new (inr h) = h.1.held
+
+at_stop_failures : (old new : Reading) → AtStop old new → new.failures ≡ old.failures
+at_stop_failures old new (inl h) = h.failures
+at_stop_failures old new (inr h) = h.1.failures
 
 pub fails_held : (old new : Reading) (e : Refusal) → Fails old new e → new.held ≡ old.held
 fails_held old new e (inl h) = h.held
@@ -81,6 +86,7 @@ copied_all old w start now end read h t = (
   read,
   record {
     reads = record { content = subst (λ x. Passes start end x) (append-nil read) (passes_more start now end read [] h.reads.content t.rest) };
+    failures = at_stop_failures (side_reading now) (side_reading end) t.at_stop ∙ h.failures;
     held = at_stop_held (side_reading now) (side_reading end) t.at_stop ∙ h.held;
     written = h.written;
   },

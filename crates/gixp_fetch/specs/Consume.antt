@@ -6,9 +6,10 @@ use Rattle.gixp_fetch.specs.declared.consume.copy.CopyError.{CopyError}
 use Rattle.gixp_fetch.specs.declared.consume.copy.CopyError.TheVariants.{Read, Write}
 use Rattle.gixp_fetch.specs.Receive.{ReadsOn}
 
--- these bytes of content were read, and this writer got them
+-- these bytes of content were read, and this writer got them; no read failed
 pub record Copied (old : Option (List ℕ)) (start : Side) (read : List ℕ) (new : Option (List ℕ)) (end : Side) : Type 0 where
   pub reads : ReadsOn start end read
+  pub failures : end.reading.failures ≡ start.reading.failures
   pub held : (side_reading end).held ≡ (side_reading start).held
   pub written : Appends old new read
 

@@ -1,10 +1,8 @@
--- Two fetches of the planner over the same mappings, whose negotiators offer the same list: they ask for the same first, and where their rounds are alike they send the same.
-use Rattle.std.proofs.Common.{◌≡◌, ◌⊎◌, Bool, true, false, not, ◌||◌, List, [], ◌∷◌, ◌++◌, codes, Option, Some, None, Result, Ok, Err, inl, inr, refl, sym, ap, ◌∙◌, subst, true≢false}
-use Rattle.std.specs.Prelude.{◌<◌, length}
+-- Two fetches of the planner over the same mappings, whose negotiators offer the same list: they come to the same end, and where no failure is counted they send the same.
+use Rattle.std.proofs.Common.{◌≡◌, ◌⊎◌, Bool, true, false, not, ◌||◌, List, [], codes, Option, Some, None, Result, Ok, Err, inl, inr, refl, sym, ap, ◌∙◌, subst, true≢false}
 use Rattle.std.specs.List.{list_any}
 use Rattle.gixp_wire.specs.declared.object_id.ObjectId.{ObjectId}
 use Rattle.gixp_wire.specs.declared.protocol.Protocol.{Protocol}
-use Rattle.gixp_wire.specs.declared.protocol.Protocol.TheVariants.{V2}
 use Rattle.gixp_wire.specs.Capabilities.{CapabilityValue}
 use Rattle.gixp_wire.specs.Reading.{Reading}
 use Rattle.gixp_wire.specs.TransportState.{TransportState}
@@ -28,12 +26,12 @@ use Rattle.gixp_fetch.specs.Fetched.{Carried}
 use Rattle.gixp_fetch.proofs.SessionLemmas.{received_held}
 use Rattle.gixp_planner.specs.Refusal.{Refusal}
 use Rattle.gixp_planner.specs.Session.{planner_agent, planner_call, FetchesOver, FetchesMapped}
-use Rattle.gixp_planner.specs.Follows.{BothAsk}
+use Rattle.gixp_planner.specs.Follows.{AsksBehind}
 use Rattle.gixp_planner.proofs.MappedLemmas.{HoldAlike, same-ok}
 use Rattle.gixp_planner.proofs.WantLemmas.{Basis, SameBasis, decided, asked_for, decided-alike, asked-alike}
-use Rattle.gixp_planner.proofs.AnswerLemmas.{AnswersAreSections, SectionsAreAnswers, same-v2}
+use Rattle.gixp_planner.proofs.CountLemmas.{CountsNone, received-failures}
 use Rattle.gixp_planner.proofs.ListRoundLemmas.{ListRound}
-use Rattle.gixp_planner.proofs.RoundLemmas.{AtAlike, begin-alike, only-alike, packed-alike}
+use Rattle.gixp_planner.proofs.RoundLemmas.{AtAlike, asks-behind, packed-alike}
 
 -- a side that knows the repository: it goes by a basis, and its negotiator offers a list
 pub record OffersList {N A : Type 0} (office : Office N A) (basis : N → Basis) (haves : N → List ObjectId) : Type 0 where
@@ -112,7 +110,7 @@ pub not-refused-ok : {B E : Type 0} (o : B) (e : E) → ◌≡◌ {A = Result B 
 not-refused-ok o e h = absurd cc
 
 module _ {N I A S C P X : Type 0} (parties : Parties N I A S C P X) (basis : N → Basis) (haves : N → List ObjectId) (list : OffersList parties.office basis haves) (IsEmpty : S → Type 0)
-    (reads : (s : S) (ids : List ObjectId) (t : S) → IsEmpty s → parties.shop.reads s ids t → ids ≡ []) where
+    (reads : (s : S) (ids : List ObjectId) (t : S) → IsEmpty s → parties.shop.reads s ids t → ids ≡ []) (none : CountsNone parties.consumes) where
   abbrev manner_of : Protocol → Bool → Manner N I A
   manner_of v banded = record { goes = parties.office.goes; fails = parties.office.round_fails; says = parties.says; version = v; banded = banded; plain = parties.plain }
 
@@ -141,6 +139,7 @@ module _ {N I A S C P X : Type 0} (parties : Parties N I A S C P X) (basis : N �
     end : At N I
     packed : Packed (manner_of v (bands v caps)) (start_of ready wanted old interrupt) rounds updates reply end
     held : new.held ≡ end.reading.held
+    failures : new.failures ≡ end.reading.failures
 
   -- or there was nothing to ask for
   pub record Rested (v : Protocol) (caps : List CapabilityValue) (n : N) (old new : Reading) : Type 0 where
@@ -192,6 +191,10 @@ module _ {N I A S C P X : Type 0} (parties : Parties N I A S C P X) (basis : N �
               ap (λ (r : Reading). r.held) (sym f.ends)
               ∙ ap (λ (w : World N I S C). w.reading.held) c.stands
               ∙ received_held parties.consumes f.first.consumer s.end.reading c.last.consumer c.last.reading f.progress s.delivered.received;
+          failures =
+              ap (λ (r : Reading). r.failures) (sym f.ends)
+              ∙ ap (λ (w : World N I S C). w.reading.failures) c.stands
+              ∙ received-failures parties.consumes none f.first.consumer s.end.reading c.last.consumer c.last.reading f.progress s.delivered.received;
         }
 
     rested : (f : FetchesOver parties IsOver IsEmpty h old new (Ok None)) → Carried parties (planner_call h) f.first (Ok None) f.last f.progress → Rested h.server_protocol_version h.capabilities f.first.negotiate old new
@@ -210,6 +213,12 @@ module _ {N I A S C P X : Type 0} (parties : Parties N I A S C P X) (basis : N �
     came o (inr n) = absurd (not-refused-ok _ _ n.1)
     came (Some out) (inl f) = (f.first.negotiate, f.over, rounded out f f.fetched.fetched)
     came None (inl f) = (f.first.negotiate, f.over, rested f f.fetched.fetched)
+
+  -- what it asked for behind the requests up to its ref map
+  pub asked-behind : (v : Protocol) (caps : List CapabilityValue) (n : N) (old new : Reading) → old.held.persists ≡ false → (o : Option Outcome) → Came v caps n old new o → AsksBehind (came_to o) old.held.sent new.held.sent
+  asked-behind v caps n old new alone (Some out) r =
+      let s = asks-behind (manner_of v (bands v caps)) _ r.rounds r.updates r.reply r.end alone r.packed in (s.0, s.1, ap (λ (h : TransportState). h.sent) r.held ∙ s.2)
+  asked-behind v caps n old new alone None r = ap (λ (z : Reading). z.held.sent) r.rests
 
   -- ---- two fetches
 
@@ -240,36 +249,17 @@ module _ {N I A S C P X : Type 0} (parties : Parties N I A S C P X) (basis : N �
         idle-asks-none parties.office basis haves list o r.opened (basis n) r.last l.wanted (sym (decided-alike (basis n) (basis o) basis_same)) (λ known. sym (asked-alike (basis n) (basis o) r.opened known basis_same)) r.idle
         (subst (λ x. Asks (basis n) x l.wanted) (opened-same l.opened r.opened l.opens r.opens) l.asks)
 
-    -- both came to the same end, and asked for the same first
-    pub begins : (x y : Option Outcome) → Came v caps n a c x → Came v caps o b d y → (came_to x ≡ came_to y) × BothAsk (came_to x) a.held.sent c.held.sent d.held.sent
-    begins (Some x) (Some y) l r =
-        let s = begin-alike (manner_of v (bands v caps)) haves list.goes _ _ _ _ _ _ _ _ _ _ (starts-alike l r) l.packed r.packed in (
-          refl,
-          (
-            s.first.first,
-            s.first.later,
-            s.first.others,
-            ap (λ (h : TransportState). h.sent) l.held ∙ s.one ∙ ap (λ t. a.held.sent ++ t) s.first.one,
-            ap (λ (h : TransportState). h.sent) r.held ∙ s.other ∙ ap (λ t. b.held.sent ++ t) s.first.other ∙ ap (λ (h : TransportState). h.sent ++ s.first.first ∷ s.first.others) (sym hold.held),
-          ),
-        )
-    begins (Some x) None l r = absurd (other-rests l r)
-    begins None (Some y) l r = absurd (first-rests l r)
-    begins None None l r = (refl, (ap (λ (z : Reading). z.held.sent) l.rests, ap (λ (z : Reading). z.held.sent) r.rests ∙ ap (λ (h : TransportState). h.sent) (sym hold.held)))
+    -- both came to the same end
+    pub ends-same : (x y : Option Outcome) → Came v caps n a c x → Came v caps o b d y → came_to x ≡ came_to y
+    ends-same (Some x) (Some y) l r = refl
+    ends-same (Some x) None l r = absurd (other-rests l r)
+    ends-same None (Some y) l r = absurd (first-rests l r)
+    ends-same None None l r = refl
 
-    -- where their rounds are alike both sent the same
-    sent-same : ((l : Rounded v caps n a c) (r : Rounded v caps o b d) → l.end.reading.held ≡ r.end.reading.held) → (x y : Option Outcome) → Came v caps n a c x → Came v caps o b d y → c.held ≡ d.held
-    sent-same alike (Some x) (Some y) l r = l.held ∙ alike l r ∙ sym r.held
-    sent-same alike (Some x) None l r = absurd (other-rests l r)
-    sent-same alike None (Some y) l r = absurd (first-rests l r)
-    sent-same alike None None l r = ap (λ (z : Reading). z.held) l.rests ∙ hold.held ∙ sym (ap (λ (z : Reading). z.held) r.rests)
-
-    pub few-same : length (haves n) < 16 → (x y : Option Outcome) → Came v caps n a c x → Came v caps o b d y → c.held ≡ d.held
-    few-same few =
-        sent-same (λ l r. only-alike (manner_of v (bands v caps)) haves list.goes _ _ _ _ _ _ _ _ _ _ (starts-alike l r) (subst (λ ids. length ids < 16) (sym l.left) few) l.packed r.packed)
-
-  pub v2-same : AnswersAreSections → SectionsAreAnswers → (caps : List CapabilityValue) (n o : N) (a b c d : Reading) → SameBasis (basis n) (basis o) → haves n ≡ haves o → HoldAlike a b → (x y : Option Outcome)
-      → Came V2 caps n a c x → Came V2 caps o b d y → c.held ≡ d.held
-  v2-same are_sections are_answers caps n o a b c d s e h =
-      sent-same V2 caps n o a b c d s e h
-      (λ l r. packed-alike (manner_of V2 (bands V2 caps)) haves list.goes (same-v2 are_sections are_answers) _ _ _ _ _ _ _ _ _ _ (starts-alike V2 caps n o a b c d s e h l r) l.packed r.packed)
+    -- where none is counted both sent the same
+    pub sent-same : c.failures ≡ 0 → d.failures ≡ 0 → (x y : Option Outcome) → Came v caps n a c x → Came v caps o b d y → c.held ≡ d.held
+    sent-same z w (Some x) (Some y) l r =
+        l.held ∙ packed-alike (manner_of v (bands v caps)) haves list.goes _ _ _ _ _ _ _ _ _ _ (starts-alike l r) l.packed (sym l.failures ∙ z) r.packed (sym r.failures ∙ w) ∙ sym r.held
+    sent-same z w (Some x) None l r = absurd (other-rests l r)
+    sent-same z w None (Some y) l r = absurd (first-rests l r)
+    sent-same z w None None l r = ap (λ (z : Reading). z.held) l.rests ∙ hold.held ∙ sym (ap (λ (z : Reading). z.held) r.rests)

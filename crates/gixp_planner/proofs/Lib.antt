@@ -5,6 +5,7 @@ pub mod SeenLemmas
 pub mod MappedLemmas
 pub mod WantLemmas
 pub mod AnswerLemmas
+pub mod CountLemmas
 pub mod ListRoundLemmas
 pub mod RoundLemmas
 pub mod FetchLemmas

@@ -1,8 +1,6 @@
 -- Rounds of a negotiator that offers a list: each is a function of the ids that are left, of what is asked for and of the last answer.
-use Rattle.std.proofs.Common.{◌≡◌, ℕ, ◌<◌, ◌≤◌, Bool, List, [], ◌∷◌, ◌++◌, length, take, drop, Option, inl, inr, sym, ap, ◌∙◌, subst, arith, append-nil}
+use Rattle.std.proofs.Common.{◌≡◌, ℕ, ◌≤◌, Bool, List, [], ◌∷◌, ◌++◌, length, take, drop, Option, inl, inr, sym, ap, ◌∙◌, subst, arith, append-nil}
 use Rattle.std.proofs.lemmas.Bool.{cases_lt}
-use Rattle.std.proofs.lemmas.Bool.Decides.{nat_tests}
-use Rattle.std.specs.Prelude.{nat_lt, not, ◌||◌, ◌&&◌, true}
 use Rattle.std.proofs.lemmas.List.{take_all, take_at, drop_at}
 use Rattle.std.proofs.Math.ListN.{drop_of_length-le}
 use Rattle.gixp_wire.specs.declared.object_id.ObjectId.{ObjectId}
@@ -75,17 +73,6 @@ by-list n g s a p r done m h t b o =
       asked = o.asked ∙ ap (λ (xs : List ObjectId). asks_haves (kept_ids t.kept ++ xs) a) haves;
       last = o.last ∙ ap (λ (xs : List ObjectId). is_last t s.haves_to_send (length xs)) haves;
     }
-
-below : (m n : ℕ) → m < n → nat_lt m n ≡ true
-below m n l = grind (arith, nat_tests)
-
--- with fewer ids than the window has room for it is the last
-pub few-last : (n : List ObjectId) (s : Window) (a : ArgumentsValue) (p : Option AnswerValue) (done : Bool) (m : List ObjectId) (t : Window) (b : ArgumentsValue) → length n < s.haves_to_send → ListRound n s a p done m t b
-    → done ≡ true
-few-last n s a p done m t b few r =
-    r.last
-    ∙ ap (λ (k : ℕ). is_last t s.haves_to_send k) (ap length (take_all s.haves_to_send n (omega arith)))
-    ∙ ap (λ x. x || (t.seen_common && not (nat_lt t.in_vain 256))) (below (length n) s.haves_to_send few)
 
 -- two rounds of the same are the same
 pub record SameRound (one other : Bool) (m l : List ObjectId) (t u : Window) (b c : ArgumentsValue) : Type 0 where

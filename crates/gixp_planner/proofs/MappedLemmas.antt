@@ -1,11 +1,11 @@
 -- Two sessions over the same bodies: each step leaves readers of which the same is to come, and which hold the same.
-use Rattle.std.proofs.Common.{◌≡◌, ◌⊎◌, ℕ, Bool, true, false, List, [], ◌∷◌, ◌++◌, map, Option, Some, None, Vec, Result, Ok, Err, IfSome, inl, inr, refl, sym, ap, ◌∙◌, subst, append_assoc, append-nil}
-use Rattle.std.specs.Prelude.{IfOk, IsOk}
+use Rattle.std.proofs.Common.{◌≡◌, ◌⊎◌, ℕ, Bool, true, false, List, [], ◌∷◌, ◌++◌, map, Option, Some, None, Vec, Result, Ok, Err, IfSome, inl, inr, refl, sym, ap, ◌∙◌, subst, append_assoc, append-nil, arith}
+use Rattle.std.proofs.lemmas.Bool.Decides.{nat_tests}
+use Rattle.std.specs.Prelude.{IfOk, IsOk, ◌==◌, codes}
 use Rattle.std.specs.Io.KnownBytes.{Appends}
 use Rattle.std.specs.Option.{option_map}
 use Rattle.std.specs.declared.alloc.Global.{Global}
 use Rattle.gixp_wire.specs.declared.protocol.Protocol.{Protocol}
-use Rattle.gixp_wire.specs.declared.protocol.Protocol.TheVariants.{V2}
 use Rattle.gixp_wire.specs.declared.protocol.MessageKind.{MessageKind}
 use Rattle.gixp_wire.specs.declared.service.Service.{Service}
 use Rattle.gixp_wire.specs.declared.service.Service.TheVariants.{UploadPack}
@@ -55,12 +55,11 @@ use Rattle.gixp_fetch.specs.Fetched.{Call, Fetches}
 use Rattle.gixp_negotiate.specs.declared.negotiate.Round.{Round}
 use Rattle.gixp_handshake.specs.Taken.{without_refs}
 use Rattle.gixp_planner.specs.declared.error.PlanError.{PlanError}
-use Rattle.gixp_planner.specs.Refusal.{Refusal}
+use Rattle.gixp_planner.specs.Refusal.{Refusal, refusal}
 use Rattle.gixp_planner.specs.Text.{map_shown, mapped_shown, requests_shown, end_shown, Course}
-use Rattle.gixp_planner.specs.Session.{planner_agent, planner_call, AreUnanswered, Greets, MapsRefs, FetchesMapped, Runs, ungreeted, unmapped, fetched}
+use Rattle.gixp_planner.specs.Session.{planner_agent, planner_call, AreUnanswered, Greets, MapsRefs, FetchesMapped, Runs, ungreeted, unmapped, fetched, end_counted}
 use Rattle.gixp_planner.specs.PlannedText.{IsCourse, Shows}
 use Rattle.gixp_planner.specs.Mapped.{IsMapped, MappingsFollow, ShowsMapped}
-use Rattle.gixp_planner.specs.Follows.{SpeaksV2}
 use Rattle.gixp_planner.proofs.SeenLemmas.{map_text, map-text, LookAlike, look-alike}
 
 -- ---- readers of which the same is to come
@@ -280,14 +279,6 @@ greetings-alike plain a b c d h k s l r =
       capabilities = x.capabilities ∙ said.same.capabilities ∙ sym y.capabilities;
       refs = refs.refs;
     }
-
--- the version is that of what the server says first
-pub greeted-by-v2 : (bodies : List Body) (plain : Bool) (old new : Reading) (h : Handshake) → old.held.persists ≡ false → old.held.answers ≡ map answer_of bodies → SpeaksV2 bodies → Greets plain old new (Ok h)
-    → h.server_protocol_version ≡ V2
-greeted-by-v2 bodies plain old new h p e v g =
-    let x = greeted plain old new h p g in
-    let said = if-known _ x.hears.mid.to_come (answer_pieces (first_answer (map answer_of bodies))) (x.hears.takes.to_come ∙ ap (λ a. Some (answer_pieces (first_answer a))) e) x.hears.reads.value in
-    x.version ∙ said.2.version ∙ v said.0 said.1
 
 -- ---- a ref map
 
@@ -515,6 +506,22 @@ not-refused pack e h = cc
 pub not-ok : (e : Refusal) → IsOk (ends_refused e) → ⊥
 not-ok e h = cc
 
+-- the steps of a session that came to its end came to the same one, and no failure was counted
+pub record EndedWhole (failures : ℕ) (ran ended : Result Bool Refusal) : Type 0 where
+  pub uncounted : failures ≡ 0
+  pub same : ended ≡ ran
+  pub whole : IsOk ran
+
+pub ended-whole : (failures : ℕ) (ran ended : Result Bool Refusal) → ended ≡ end_counted failures ran → IsOk ended → EndedWhole failures ran ended
+ended-whole failures (Err e) ended h k = absurd (not-ok e (subst (λ (r : Result Bool Refusal). IsOk r) h k))
+ended-whole failures (Ok pack) ended h k = by_count (failures == 0) refl
+  where
+    by_count : (b : Bool) → (failures == 0) ≡ b → EndedWhole failures (Ok pack) ended
+    by_count true e =
+        let same : ended ≡ Ok pack = rw e at h in
+        record { uncounted = grind (arith, nat_tests); same = same; whole = subst (λ (r : Result Bool Refusal). IsOk r) same k }
+    by_count false e = let refused : ended ≡ Err (refusal (codes "fetch") (codes "Io")) = rw e at h in absurd (not-ok (refusal (codes "fetch") (codes "Io")) (subst (λ (r : Result Bool Refusal). IsOk r) refused k))
+
 module _ {A X : Type 0} (Receives : RefMap → Handshake → Reading → Reading → Result (Option Outcome) (FetchError A X) → Type 0) (bodies : List Body) (specs : List (List ℕ)) (old new : Option (List ℕ)) where
   -- a fetch writes behind what was sent
   abbrev pub ReceivesBehind : Type 0
@@ -548,7 +555,9 @@ module _ {A X : Type 0} (Receives : RefMap → Handshake → Reading → Reading
   shown-ended : ReceivesBehind → (course : Course) (ended : Result Bool Refusal) → course.ended ≡ ended → IsOk ended → IsCourse Receives bodies specs course
       → Appends old new (requests_shown course.sent ++ mapped_shown course.mapped ++ end_shown ended) → ShowsMapped bodies specs old new
   shown-ended behind-it course (Err e) q k c w = absurd (not-ok e k)
-  shown-ended behind-it course (Ok pack) q k c w = shown-run behind-it c.context c.transport c.last course.sent course.mapped course.ended pack q c.read c.over c.runs c.sent w
+  shown-ended behind-it course (Ok pack) q k c w =
+      let h = ended-whole c.last.failures c.ran course.ended c.ended (subst (λ (r : Result Bool Refusal). IsOk r) (sym q) k) in
+      shown-run behind-it c.context c.transport c.last course.sent course.mapped c.ran pack (sym h.same ∙ q) c.read c.over c.runs c.sent w
 
   pub shows-mapped : ReceivesBehind → (course : Course) (r : Result (Unit {0}) PlanError) → IsCourse Receives bodies specs course → Shows old new course r → IfOk r (λ _. ShowsMapped bodies specs old new)
   shows-mapped behind-it course (Ok x) c s = shown-ended behind-it course course.ended refl s.1 c s.0

@@ -1,5 +1,5 @@
 -- The steps of a session, one behind another.
-use Rattle.std.proofs.Common.{◌≡◌, ℕ, Bool, true, false, List, [], ◌∷◌, map, Option, Some, None, Vec, vec_items, Result, Ok, Err, inl, inr, refl, sym, subst}
+use Rattle.std.proofs.Common.{◌≡◌, ℕ, Bool, true, false, List, [], ◌∷◌, map, Option, Some, None, Vec, vec_items, Result, Ok, Err, inl, inr, refl, sym, ap, ◌∙◌, subst}
 use Rattle.std.specs.declared.alloc.Global.{Global}
 use Rattle.gixp_wire.specs.declared.protocol.Protocol.{Protocol}
 use Rattle.gixp_wire.specs.declared.bodies.Body.{Body}
@@ -25,7 +25,7 @@ use Rattle.gixp_planner.specs.declared.error.PlanError.{PlanError}
 use Rattle.gixp_planner.specs.Refusal.{Refusal, Writes}
 use Rattle.gixp_planner.specs.Specs.{IsContext}
 use Rattle.gixp_planner.specs.Text.{course_shown, course_of, ended_of}
-use Rattle.gixp_planner.specs.Session.{planner_agent, AreUnanswered, Greets, MapsRefs, Carries, FetchesOver, Runs, fetched, end_of}
+use Rattle.gixp_planner.specs.Session.{planner_agent, AreUnanswered, Greets, MapsRefs, Carries, FetchesOver, Runs, fetched, end_of, end_counted}
 use Rattle.gixp_planner.specs.PlannedText.{IsCourse, Shows, IsOutcome}
 
 -- where each call answers that there is no account, all did
@@ -79,15 +79,18 @@ module _ {A X : Type 0} (Receives : RefMap → Handshake → Reading → Reading
 
   -- a session over new bodies
   pub is-course : (bodies : List Body) (specs : List (List ℕ)) (context : Context) (transport : Bodies) (last : Reading) (url : List ℕ) (versions : List Protocol) (requests : List (Vec ℕ Global)) (mapped : Option RefMap)
-      (ended : Result Bool PlanError) → IsContext specs context → url ≡ [] → versions ≡ [] → IsNewBodies bodies url versions transport → Runs Receives context true (bodies_reading transport) last mapped (ended_of ended)
-      → map vec_items requests ≡ last.held.sent → IsCourse Receives bodies specs (course_of requests mapped ended)
-  is-course bodies specs context transport last url versions requests mapped ended c e f n r s = record {
+      (failures : ℕ) (ran ended : Result Bool PlanError) → IsContext specs context → url ≡ [] → versions ≡ [] → IsNewBodies bodies url versions transport
+      → Runs Receives context true (bodies_reading transport) last mapped (ended_of ran) → failures ≡ last.failures → ended_of ended ≡ end_counted failures (ended_of ran) → map vec_items requests ≡ last.held.sent
+      → IsCourse Receives bodies specs (course_of requests mapped ended)
+  is-course bodies specs context transport last url versions requests mapped failures ran ended c e f n r l k s = record {
     context = context;
     transport = transport;
     last = last;
+    ran = ended_of ran;
     read = c;
     over = subst (λ u. IsNewBodies bodies u [] transport) e (subst (λ v. IsNewBodies bodies url v transport) f n);
     runs = r;
+    ended = k ∙ ap (λ n. end_counted n (ended_of ran)) l;
     sent = sym s;
   }
 

@@ -11,10 +11,10 @@ use Rattle.gixp_handshake.specs.declared.handshake.read.Handshake.{Handshake}
 use Rattle.gixp_fetch.specs.declared.error.Error.{Error as FetchError}
 use Rattle.gixp_fetch.specs.declared.options.Outcome.{Outcome}
 use Rattle.gixp_planner.specs.declared.error.PlanError.{PlanError}
-use Rattle.gixp_planner.specs.Refusal.{refusal_of, IsMemory, IsUnwritten}
+use Rattle.gixp_planner.specs.Refusal.{Refusal, refusal_of, IsMemory, IsUnwritten}
 use Rattle.gixp_planner.specs.Specs.{IsContext, RefusesSpecs}
 use Rattle.gixp_planner.specs.Text.{Course, course_shown}
-use Rattle.gixp_planner.specs.Session.{Runs}
+use Rattle.gixp_planner.specs.Session.{Runs, end_counted}
 
 -- the text of a session is written, and its refusal is the error; or a write failed
 abbrev pub Shows : Option (List ℕ) → Option (List ℕ) → Course → Result (Unit {0}) PlanError → Type 0
@@ -22,14 +22,16 @@ Shows old new course (Ok x) = Appends old new (course_shown course) × IsOk cour
 Shows old new course (Err e) = (Appends old new (course_shown course) × (course.ended ≡ Err (refusal_of e))) ⊎ IsUnwritten e
 
 module _ {A X : Type 0} (Receives : RefMap → Handshake → Reading → Reading → Result (Option Outcome) (FetchError A X) → Type 0) (bodies : List Body) (specs : List (List ℕ)) where
-  -- how far a session over these bodies came, by these refspecs
+  -- how far a session over these bodies came, by these refspecs; it came to its end only where nothing failed on the way
   pub record IsCourse (course : Course) : Type 0 where
     pub context : Context
     pub transport : Bodies
     pub last : Reading
+    pub ran : Result Bool Refusal
     pub read : IsContext specs context
     pub over : IsNewBodies bodies [] [] transport
-    pub runs : Runs Receives context true (bodies_reading transport) last course.mapped course.ended
+    pub runs : Runs Receives context true (bodies_reading transport) last course.mapped ran
+    pub ended : course.ended ≡ end_counted last.failures ran
     pub sent : last.held.sent ≡ course.sent
 
   -- a session is shown; or a refspec is refused, or memory for the session, and nothing is written

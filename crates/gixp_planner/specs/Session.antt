@@ -1,5 +1,5 @@
 -- A session of a planner: a handshake without an account, the ref map of the server's refs, and a fetch of what is mapped.
-use Rattle.std.specs.Prelude.{◌≡◌, ◌⊎◌, ⊤, Bool, true, false, List, [], ◌∷◌, codes, Option, Some, None, Result, Ok, Err}
+use Rattle.std.specs.Prelude.{ℕ, ◌≡◌, ◌==◌, ◌⊎◌, ⊤, Bool, true, false, if◌then◌else◌, List, [], ◌∷◌, codes, Option, Some, None, Result, Ok, Err}
 use Rattle.gixp_wire.specs.declared.service.Service.TheVariants.{UploadPack}
 use Rattle.gixp_wire.specs.Reading.{Reading}
 use Rattle.gixp_requests.specs.Feature.{FeatureValue}
@@ -83,6 +83,11 @@ abbrev pub end_of : {A X : Type 0} → Result (Option Outcome) (FetchError A X) 
 end_of (Ok (Some outcome)) = Ok true
 end_of (Ok None) = Ok false
 end_of (Err e) = Err (refusal (codes "fetch") (fetch_name e))
+
+-- how a session ended, by how often its transport failed: behind a failure an answer may have been cut short, so it didn't come to its end
+abbrev pub end_counted : ℕ → Result Bool Refusal → Result Bool Refusal
+end_counted failures (Ok pack) = if failures == 0 then Ok pack else Err (refusal (codes "fetch") (codes "Io"))
+end_counted failures (Err e) = Err e
 
 module _ {A X : Type 0} (Receives : RefMap → Handshake → Reading → Reading → Result (Option Outcome) (FetchError A X) → Type 0) (context : Context) (plain : Bool) (old : Reading) where
   -- a session: its handshake was refused, or its ref map was, or what is mapped was fetched

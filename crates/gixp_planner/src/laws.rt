@@ -9,7 +9,6 @@ ghost use Rattle.gixp_planner.specs.Follows.{Follow};
 use gix_protocol::fetch::negotiate::{HaveList, Negotiate, Negotiation, NoRefs, Objects};
 use gix_protocol::fetch::{ConsumePack, ReadToEnd, Shallow, ShallowMemory, ShallowStore, Tags};
 use gix_protocol::transport::{Discard, Interrupt, NeverInterrupt};
-use gixp_lines::laws::{answers_are_sections, sections_are_answers};
 use std::alloc::AllocError;
 
 /// What a client sends up to its ref map, and the lines of the mappings and of those taken out, are a function of the
@@ -18,13 +17,12 @@ pub fn mappings_follow_bodies()
     ensures { MappingsFollow }
 {}
 
-/// With a [`HaveList`], two sessions that weren't refused, over the same bodies, refspecs, objects and ids, end alike, print
-/// the same mappings, and begin their fetches with the same request. Where the server speaks version 2, or there are fewer
-/// ids than a first request may name, they send the same, and [`plan`](crate::plan) writes the same text.
+/// With a [`HaveList`], what a client sends and how its session ends are a function of the bodies, the refspecs, the objects
+/// and the ids, unless it is refused: two sessions over the same that weren't refused send the same requests and end alike,
+/// and [`plan`](crate::plan) writes the same text.
 ///
 /// The objects are those of the repository and of the graph, whatever the graph holds by then; with `NoObjects` there are
-/// none. Else, under versions 0 and 1, an answer may end where the stream does. What a transport promises leaves open that
-/// a read fails as if there, which makes it another answer: so nothing is said of the requests behind it.
+/// none. A session whose transport counted a failure is refused, so each answer is the one that its body holds.
 pub fn texts_follow_bodies<'a, O: Objects + 'a, G: Objects + 'a>()
     ensures { (bodies : List Body) (specs : List (List ℕ)) (haves : List ObjectId) (objects others : O) (graph another : GraphValue)
         → O.contents objects ≡ O.contents others → graph.graph.objects ≡ another.graph.objects
@@ -39,8 +37,5 @@ pub fn texts_follow_bodies<'a, O: Objects + 'a, G: Objects + 'a>()
         (λ m n. (n.objects.now ≡ objects) × (n.graph.now ≡ graph) × (n.negotiator.now ≡ haves) × (n.ref_map.now ≡ m) × (n.shallow.now ≡ Shallow.NoChange) × (n.tags ≡ Tags.None) × IfOk n.alternates (λ a. a.now ≡ []) × IsOk n.alternates)
         (λ m n. (n.objects.now ≡ others) × (n.graph.now ≡ another) × (n.negotiator.now ≡ haves) × (n.ref_map.now ≡ m) × (n.shallow.now ≡ Shallow.NoChange) × (n.tags ≡ Tags.None) × IfOk n.alternates (λ a. a.now ≡ []) × IsOk n.alternates)
         (λ s. (s.ids.items ≡ []) × (s.locked ≡ false))
-        bodies specs haves }
-{
-    answers_are_sections();
-    sections_are_answers();
-}
+        bodies specs }
+{}

@@ -1,7 +1,8 @@
 //! A plan over recorded answers.
 ghost use Rattle.std.specs.Prelude.{◌≡◌, [], true, false, map, Ok, IfOk, IsOk};
 ghost use Rattle.bstr.specs.Owned.{bstring_bytes};
-ghost use Rattle.gixp_planner.specs.Session.{FetchesMapped};
+ghost use Rattle.gixp_planner.specs.Session.{FetchesMapped, end_counted};
+ghost use Rattle.gixp_planner.specs.Text.{ended_of};
 ghost use Rattle.gixp_planner.specs.PlannedText.{PlannedText, IsOutcome};
 ghost use Rattle.gixp_planner.specs.Mapped.{ShowsMapped};
 
@@ -30,6 +31,22 @@ fn outcome(written: Result<(), PlanError>, ended: Result<bool, PlanError>) -> Re
     }
 }
 
+// How a session ended by its steps: behind a failure that its transport counted it didn't come to its end.
+fn counted(failures: u64, ended: Result<bool, PlanError>) -> Result<bool, PlanError>
+    ensures { ended_of result ≡ end_counted failures (ended_of ended) }
+{
+    match ended {
+        Ok(pack) => {
+            if failures == 0 {
+                Ok(pack)
+            } else {
+                Err(PlanError::new("fetch", "Io"))
+            }
+        }
+        Err(e) => Err(e),
+    }
+}
+
 /// Writes what a client would send to a server whose answers were recorded, and what it would map.
 ///
 /// The bodies answer one handshake for `git-upload-pack`, an `ls-refs` command under version 2, and the requests of a
@@ -43,17 +60,18 @@ fn outcome(written: Result<(), PlanError>, ended: Result<bool, PlanError>) -> Re
 /// `fix LOCAL REFSPEC` for each that was taken out. Then `pack`, or `nothing` where there was nothing to ask for. All is
 /// written behind the session, a line at a time, and the writer is flushed: hand in one that is buffered.
 ///
-/// The requests up to the ref map, the mappings and those taken out are a function of the bodies and the refspecs alone
-/// ([`mappings_follow_bodies`](crate::laws::mappings_follow_bodies)). With a [`HaveList`](gix_protocol::fetch::negotiate::HaveList)
-/// the ending and the first request of the fetch are one of these, the objects and the ids, and where the server speaks
-/// version 2 or there are fewer than 16 ids the whole text is ([`texts_follow_bodies`](crate::laws::texts_follow_bodies)).
+/// Of a plan that isn't refused, the requests up to the ref map, the mappings and those taken out are a function of the
+/// bodies and the refspecs alone ([`mappings_follow_bodies`](crate::laws::mappings_follow_bodies)). With a
+/// [`HaveList`](gix_protocol::fetch::negotiate::HaveList) the whole text is one of these, the objects and the ids, whatever
+/// version the server speaks ([`texts_follow_bodies`](crate::laws::texts_follow_bodies)).
 ///
 /// # Errors
 ///
 /// `spec` with the variant of a refspec's error, and `file Memory` where no transport can be made: nothing is written then.
 /// `handshake`, `refs` and `fetch` with the outermost variant of that step's error: the requests and mappings so far are
-/// written. `file Io` where a write failed, and `file Memory` where an allocation for what is written did: of the text some
-/// may be written.
+/// written. `fetch Io` where the fetch came to its end, but the transport has counted a failure: a read that failed may have
+/// cut an answer short, so all is written but for whether a pack came. `file Io` where a write failed, and
+/// `file Memory` where an allocation for what is written did: of the text some may be written.
 pub fn plan<'a, O: Objects, G: Objects, N: Negotiator, W: Write>(
     alloc: Global,
     bodies: Vec<Body>,
@@ -90,12 +108,7 @@ pub fn plan<'a, O: Objects, G: Objects, N: Negotiator, W: Write>(
         return Err(PlanError::memory("file"));
     };
     let course = run(alloc, objects, graph, negotiator, context, &mut transport);
-    let written = write_course(
-        alloc,
-        writer,
-        transport.sent(),
-        &course.mapped,
-        &course.ended,
-    );
-    outcome(written, course.ended)
+    let ended = counted(transport.failures(), course.ended);
+    let written = write_course(alloc, writer, transport.sent(), &course.mapped, &ended);
+    outcome(written, ended)
 }

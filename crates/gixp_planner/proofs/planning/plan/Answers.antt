@@ -16,12 +16,12 @@ pub returns : goal.returns
 returns g c = record {
   text =
       shown _
-      (is-course _ _ _ c.in_ok-context.context c.in-Ok.transport _ _ _ c.sent.result.now c.run-course.result.mapped c.run-course.result.ended c.in_ok-context.ensures (c.new-url.ensures ∙ c.new.ensures.items) c.new-2.ensures.items
-      c.in-Ok.ensures c.run-course.ensures c.sent.ensures)
+      (is-course _ _ _ c.in_ok-context.context c.in-Ok.transport _ _ _ c.sent.result.now c.run-course.result.mapped c.failures.result c.run-course.result.ended c.counted-ended.result c.in_ok-context.ensures (c.new-url.ensures ∙ c.new.ensures.items) c.new-2.ensures.items
+      c.in-Ok.ensures c.run-course.ensures c.failures.ensures c.counted-ended.ensures c.sent.ensures)
       (shows _ _ _ _ _ _ _ c.write_course-written.ensures c.outcome.ensures);
   mapped =
       shows-mapped _ _ _ _ _ (λ m h from to r p it. fetches-extend _ (c.sessions_are_bounded.ensures true) _ _ h from to r p it) _ _
-      (is-course _ _ _ c.in_ok-context.context c.in-Ok.transport _ _ _ c.sent.result.now c.run-course.result.mapped c.run-course.result.ended c.in_ok-context.ensures (c.new-url.ensures ∙ c.new.ensures.items) c.new-2.ensures.items
-      c.in-Ok.ensures c.run-course.ensures c.sent.ensures)
+      (is-course _ _ _ c.in_ok-context.context c.in-Ok.transport _ _ _ c.sent.result.now c.run-course.result.mapped c.failures.result c.run-course.result.ended c.counted-ended.result c.in_ok-context.ensures (c.new-url.ensures ∙ c.new.ensures.items) c.new-2.ensures.items
+      c.in-Ok.ensures c.run-course.ensures c.failures.ensures c.counted-ended.ensures c.sent.ensures)
       (shows _ _ _ _ _ _ _ c.write_course-written.ensures c.outcome.ensures);
 }
