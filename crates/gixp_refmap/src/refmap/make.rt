@@ -1,5 +1,6 @@
 //! How the mappings of a ref map are made.
-ghost use Rattle.std.specs.Prelude.{◌≡◌, ◌++◌, IfOk, OnOk, IsSome, length, map};
+ghost use Rattle.std.specs.Prelude.{◌≡◌, ◌++◌, IfOk, OnOk, IsSome, None, [], length, map};
+ghost use Rattle.std.specs.Option.{option_to_list};
 ghost use Rattle.std.specs.List.{AllByRecursion, AllZip, slice_get};
 ghost use Rattle.gixp_lines.specs.Ref.{RefValue, ref_value};
 ghost use Rattle.gixp_refspec.specs.RefSpec.{value_of, owned_value_of};
@@ -129,18 +130,33 @@ fn mapping(
     })
 }
 
-// The mappings, as they are answered.
+// How many mappings are taken off between two times that their memory is given back.
+const FREED_AT_ONCE: usize = 4096;
+
+// Takes the last mapping off a list, which gives back the memory of those that were taken before.
+fn take_last(found: &mut Vec<match_group::Mapping>) -> Option<match_group::Mapping>
+    ensures last { found.old.items ≡ found.new.items ++ option_to_list result }
+    ensures none { result ≡ None → found.old.items ≡ [] }
+{
+    if found.len().is_multiple_of(FREED_AT_ONCE) {
+        found.shrink_to_fit();
+    }
+    found.pop()
+}
+
+// The mappings, as they are answered. Those that were found are freed on the way, so that a long list isn't held twice.
 fn mappings(
     alloc: Global,
     refs: &[Ref],
     explicit: usize,
-    found: Vec<match_group::Mapping>,
+    mut found: Vec<match_group::Mapping>,
 ) -> Result<Vec<Mapping>, AllocError>
     requires { AllByRecursion (HasRemote (map ref_value refs.now)) (mapped_in found) }
     ensures { IfOk result (λ made. AllZip (IsMapping (map ref_value refs.now) explicit) (mapped_in found) made.items) }
 {
-    let mut made = Vec::new(alloc);
-    'found: for one in found {
+    let mut made = Vec::with_capacity(alloc, found.len())?;
+    found.reverse();
+    while let Some(one) = take_last(&mut found) {
         made.push(mapping(refs, explicit, one)?)?;
     }
     Ok(made)
