@@ -8,7 +8,7 @@ ghost use Rattle.gixp_refspec.specs.MatchGroup.{mapped_of, mapped_in, is_marked}
 use crate::match_group::Mapping;
 use crate::match_group::digest::key_digests;
 use crate::match_group::key::{Key, key_of};
-use crate::match_group::sorted::are_distinct;
+use crate::match_group::sorted::{are_distinct, are_in_order};
 use std::alloc::{AllocError, Global};
 use std::collections::BTreeSet;
 
@@ -36,6 +36,9 @@ fn are_all_new(alloc: Global, mappings: &[Mapping]) -> Result<bool, AllocError>
     ensures { IfOk result (λ d. IsTrue d → firsts (map mapped_of mappings.now) ≡ map mapped_of mappings.now) }
 {
     let keys = keys_of(alloc, mappings)?;
+    if are_in_order(&keys) {
+        return Ok(true);
+    }
     let digests = key_digests(alloc, &keys)?;
     are_distinct(keys, digests)
 }

@@ -39,17 +39,21 @@ fn digests_differ<K: Ord>(digests: Vec<u64>, keys: &[K]) -> Result<bool, AllocEr
     are_rising_sorted(digests)
 }
 
-/// Whether no two keys are equal. Servers send refs in order, so that mostly the keys are in order. Else their numbers
-/// are put in order, which is quicker; keys with one number are told apart by a sort of the keys.
+/// Whether each key is below the next, so that no two are equal. Servers send refs in order, so mostly this tells enough.
+pub(crate) fn are_in_order<K: Ord>(keys: &[K]) -> bool
+    ensures { IsTrue result → IsDistinct (eq_by_cmp K.cmp) keys.now }
+{
+    is_rising(keys)
+}
+
+/// Whether no two keys are equal. Their numbers are put in order, which is quicker than with the keys; keys with one number
+/// are told apart by a sort of the keys.
 pub(crate) fn are_distinct<K: Ord>(keys: Vec<K>, digests: Vec<u64>) -> Result<bool, AllocError>
 where
     K: Drop,
     requires { AreDigests (eq_by_cmp K.cmp) keys.items digests.items }
     ensures { IfOk result (λ d. IsTrue d → IsDistinct (eq_by_cmp K.cmp) keys.items) }
 {
-    if is_rising(&keys) {
-        return Ok(true);
-    }
     if digests_differ(digests, &keys)? {
         return Ok(true);
     }

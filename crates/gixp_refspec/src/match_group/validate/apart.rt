@@ -8,7 +8,7 @@ ghost use Rattle.gixp_refspec.specs.MatchGroup.{mapped_of, key_bytes};
 use crate::match_group::Mapping;
 use crate::match_group::digest::name_digests;
 use crate::match_group::key::{KeyBytes, name_key};
-use crate::match_group::sorted::are_distinct;
+use crate::match_group::sorted::{are_distinct, are_in_order};
 use std::alloc::{AllocError, Global};
 
 /// Appends the local name of a mapping, where it has one.
@@ -37,6 +37,9 @@ pub(crate) fn are_apart(alloc: Global, mappings: &[Mapping]) -> Result<bool, All
     ensures { IfOk result (λ d. IsTrue d → IsDistinct bytes_eq (locals (map mapped_of mappings.now))) }
 {
     let names = locals(alloc, mappings)?;
+    if are_in_order(&names) {
+        return Ok(true);
+    }
     let digests = name_digests(alloc, &names)?;
     are_distinct(names, digests)
 }
