@@ -82,6 +82,8 @@ def edited(edit, crate):
                 return None, f"an old text stands {text.count(old)} times in {path.relative_to(crate)}"
             texts[path] = text.replace(old, line.removeprefix("new:").removeprefix(" "))
             old = None
+        elif line:
+            return None, "a line is none of file, old and new"
     return (texts, None) if texts else (None, "it has no pair of texts")
 
 
