@@ -63,7 +63,7 @@ module _ (now mid next : Side) (piece : List ℕ) (n : ℕ) (s : ShowsContent no
   whole_piece : take n (shown mid.place mid.reading) ≡ piece
   whole_piece = ap (λ x. take n x) (sym e) ∙ take_all n piece (omega (arith, l))
 
-  -- a piece that was lent is copied and handed out
+  -- a piece that was lent is copied and returned
   pub copied_piece : (old w w' : Option (List ℕ)) (start : Side) (read : List ℕ) → Copied old start read w now → Appends w w' piece → (read' : List ℕ) × Copied old start read' w' next
   copied_piece old w w' start read h a = (read ++ piece, copied_more old w w' start now mid next read piece h s (subst (λ x. ReadsBytes mid next x) whole_piece r) a)
 

@@ -262,7 +262,7 @@ module _ {N I A S C P X : Type 0} (parties : Parties N I A S C P X) where
     abbrev Broken : Type 0
     Broken = BrokenOff parties call old.negotiate old.consumer old.reading e new.negotiate new.consumer new.reading
 
-    broken_at : (start end : At N I) (turns : List (Turn N I)) → Begins parties.office old.negotiate start.negotiate → start.reading ≡ old.reading → Chain (manner_of parties call banded) start turns end
+    broken_at : (start end : At N I) (turns : List (Turn N I)) → Begins parties.negotiation_calls old.negotiate start.negotiate → start.reading ≡ old.reading → Chain (manner_of parties call banded) start turns end
         → BreaksOff parties call banded old.consumer end e new.negotiate new.consumer new.reading → Broken
     broken_at start end turns b h c ends = record {
       banded = banded;
@@ -277,7 +277,7 @@ module _ {N I A S C P X : Type 0} (parties : Parties N I A S C P X) where
       ends = ends;
     }
 
-    broken_rounds : (start : At N I) (rounds : List Round) → Begins parties.office old.negotiate start.negotiate → start.reading ≡ old.reading → new.consumer ≡ old.consumer
+    broken_rounds : (start : At N I) (rounds : List Round) → Begins parties.negotiation_calls old.negotiate start.negotiate → start.reading ≡ old.reading → new.consumer ≡ old.consumer
         → RoundsFail (manner_of parties call banded) start e rounds new.negotiate new.reading new.interrupt → Broken
     broken_rounds start rounds b h c (inl f) = by_end f.ends
       where
@@ -291,12 +291,12 @@ module _ {N I A S C P X : Type 0} (parties : Parties N I A S C P X) where
         → ((from : At N I) → end ≡ from → from.reading.stopped ≡ None → BreaksOff parties call banded old.consumer from e new.negotiate new.consumer new.reading) → Broken
     broken_packed ids read action rounds updates reply end n ends =
         let p = n.packed in
-        broken_at _ p.last.after (p.turns ++ p.last ∷ []) (begins_of parties.office old.negotiate n.begun.asked action n.ready n.wanted n.begun.readied) refl
+        broken_at _ p.last.after (p.turns ++ p.last ∷ []) (begins_of parties.negotiation_calls old.negotiate n.begun.asked action n.ready n.wanted n.begun.readied) refl
         (chain_last (manner_of parties call banded) _ p.before p.turns p.last p.run p.lasts)
         (ends p.last.after p.stands (sym (view_stopped banded p.last.after.reading) ∙ runs_on _ _ _ _ _ p.pack p.lasts.answer))
 
     broken_delivery : (from : At N I) (ids : List ObjectId) (read : S) (updates : List ShallowUpdate) → from.reading.stopped ≡ None
-        → Undelivered parties.shop parties.consumes ids updates call.wishes.reject old.consumer read old.locked from.reading e new.consumer new.store new.locked new.reading progress
+        → Undelivered parties.store_calls parties.consumes ids updates call.wishes.reject old.consumer read old.locked from.reading e new.consumer new.store new.locked new.reading progress
         → BreaksOff parties call banded old.consumer from e new.negotiate new.consumer new.reading
     broken_delivery from ids read updates s (at_lock u d r) = between r d
     broken_delivery from ids read updates s (session.at_pack h (inl u)) = at_pack (refuses_pack old.consumer from.reading new.consumer progress u.name u.p u.error u.end s u.fails)
@@ -306,12 +306,12 @@ module _ {N I A S C P X : Type 0} (parties : Parties N I A S C P X) where
     broken : Fails parties call.version banded call.wishes given old e new progress → (new.reading ≡ old.reading) ⊎ Broken
     broken (unopened u n r) = inl r.reading
     broken (unready ids asked o u r) = inl r.reading
-    broken (unpacked rounds u l c) = inr (broken_rounds _ rounds (begins_of parties.office old.negotiate u.begun.asked u.action u.ready u.wanted u.begun.readied) refl c u.fails)
+    broken (unpacked rounds u l c) = inr (broken_rounds _ rounds (begins_of parties.negotiation_calls old.negotiate u.begun.asked u.action u.ready u.wanted u.begun.readied) refl c u.fails)
     broken (untold ids action rounds updates reply end n w g r l c) =
         inr (broken_packed ids new.store action rounds updates reply end n (λ from at s. between (r ∙ ap (λ (a : At N I). a.reading) at) c))
     broken (undelivered ids read action rounds updates reply end n g u) =
         inr (broken_packed ids read action rounds updates reply end n (λ from at s. broken_delivery from ids read (updates ++ call.wishes.told) s
-        (subst (λ (a : At N I). Undelivered parties.shop parties.consumes ids (updates ++ call.wishes.told) call.wishes.reject old.consumer read old.locked a.reading e new.consumer new.store new.locked new.reading progress) at u)))
+        (subst (λ (a : At N I). Undelivered parties.store_calls parties.consumes ids (updates ++ call.wishes.told) call.wishes.reject old.consumer read old.locked a.reading e new.consumer new.store new.locked new.reading progress) at u)))
 
   converses : (call : Call) (old : World N I S C) (result : Result (Option Outcome) (Error A X)) (new : World N I S C) (progress : P) → Fetches parties call old result new progress → Converses parties call old result new
   converses call old (Err e) new progress (inl (unprepared u s)) = inl (ap (λ (w : World N I S C). w.reading) s)
@@ -333,7 +333,7 @@ module _ {N I A S C P X : Type 0} (parties : Parties N I A S C P X) where
         updates = s.updates;
         reply = s.reply;
         end = s.end;
-        begins = begins_of parties.office old.negotiate n.begun.asked _ n.ready n.wanted n.begun.readied;
+        begins = begins_of parties.negotiation_calls old.negotiate n.begun.asked _ n.ready n.wanted n.begun.readied;
         here = refl;
         packed = p;
         answers = chain_answers m _ _ _ c;
@@ -342,7 +342,7 @@ module _ {N I A S C P X : Type 0} (parties : Parties N I A S C P X) where
         pack = subst (λ d. TakesPack parties old.consumer s.end.reading d) (ap (λ (w : World N I S C). w.consumer) (sym h.stands)) (takes_pack old.consumer s.end.reading h.last.consumer h.last.reading progress runs s.delivered.received);
       }
 
-  pub promised : Lawful parties.office.goes parties.office.count → IsWide parties.office.goes
+  pub promised : Lawful parties.negotiation_calls.goes parties.negotiation_calls.count → IsWide parties.negotiation_calls.goes
       → (call : Call) (context : Context) (start : Reading) (made : RefMap) (old : World N I S C) (result : Result (Option Outcome) (Error A X)) (new : World N I S C) (progress : P)
       (run : Run parties call context start made old result new progress) → Promise parties call context start made old result new progress run
   promised lawful wide call context start made old result new progress run =

@@ -20,7 +20,7 @@ use Rattle.gixp_fetch.specs.FetchRounds.{At, Turn, Manner, Packed, Interrupts, D
 use Rattle.gixp_fetch.specs.Sent.{request_of, requests_of}
 use Rattle.gixp_fetch.specs.Receive.{Finishes, GivesBack, fresh_side}
 use Rattle.gixp_fetch.specs.Received.{PackFails, Received, Unreceived}
-use Rattle.gixp_fetch.specs.Session.{Shop, Office, Readied, Undelivered, at_lock, at_pack, at_boundary}
+use Rattle.gixp_fetch.specs.Session.{StoreCalls, NegotiationCalls, Readied, Undelivered, at_lock, at_pack, at_boundary}
 use Rattle.gixp_fetch.specs.Fetch.{World, Parties, Negotiated, Fails, unopened, unready, unpacked, untold, undelivered}
 use Rattle.gixp_fetch.specs.Fetched.{Call, Fetches, unprepared, unlocked}
 use Rattle.gixp_fetch.specs.Sessions.{Begins, Requests, Held, HoldsSession}
@@ -63,9 +63,9 @@ module _ {C P X : Type 0} (consumes : C → Side → P → Result Bool X → C �
   unreceived_held from e d new q (inl r) = back_held r.end new r.back ∙ pack_held (fresh_side r.name from) r.p r.error d r.end q r.fails
   unreceived_held from e d new q (inr m) = ap (λ (r : Reading). r.held) m.2
 
-  module _ {S : Type 0} (shop : Shop S) (ids : List ObjectId) (updates : List ShallowUpdate) (reject : Bool) (store : S) (locked : Bool) (from : Reading) where
+  module _ {S : Type 0} (store_calls : StoreCalls S) (ids : List ObjectId) (updates : List ShallowUpdate) (reject : Bool) (store : S) (locked : Bool) (from : Reading) where
     undelivered_held : {A : Type 0} (e : Error A X) (d : C) (store' : S) (locked' : Bool) (reading : Reading) (q : P)
-        → Undelivered shop consumes ids updates reject c store locked from e d store' locked' reading q → reading.held ≡ from.held
+        → Undelivered store_calls consumes ids updates reject c store locked from e d store' locked' reading q → reading.held ≡ from.held
     undelivered_held e d store' locked' reading q (at_lock u x r) = ap (λ (r : Reading). r.held) r
     undelivered_held e d store' locked' reading q (at_pack h u) = unreceived_held from e d reading q u
     undelivered_held e d store' locked' reading q (at_boundary held h r u) = received_held from d reading q r
@@ -193,37 +193,37 @@ module _ {N I A : Type 0} (m : Manner N I A) where
 
 -- ---- a whole fetch
 
-pub begins_of : {N A : Type 0} (office : Office N A) (first : N) (given : ArgumentsValue) (action : ActionValue) (ready : N) (wanted : ArgumentsValue) → Readied office first given action ready wanted → Begins office first ready
-begins_of office first given action ready wanted r = record {
+pub begins_of : {N A : Type 0} (negotiation_calls : NegotiationCalls N A) (first : N) (given : ArgumentsValue) (action : ActionValue) (ready : N) (wanted : ArgumentsValue) → Readied negotiation_calls first given action ready wanted → Begins negotiation_calls first ready
+begins_of negotiation_calls first given action ready wanted r = record {
   known = r.known;
   marked = r.marked;
   given = given;
   wanted = wanted;
-  marks = subst (λ a. office.marks first a r.marked) r.must r.marks;
+  marks = subst (λ a. negotiation_calls.marks first a r.marked) r.must r.marks;
   adds = r.adds;
 }
 
-module _ {N I A S C P X : Type 0} (parties : Parties N I A S C P X) (lawful : Lawful parties.office.goes parties.office.count) (wide : IsWide parties.office.goes) where
+module _ {N I A S C P X : Type 0} (parties : Parties N I A S C P X) (lawful : Lawful parties.negotiation_calls.goes parties.negotiation_calls.count) (wide : IsWide parties.negotiation_calls.goes) where
   module _ (call : Call) (banded : Bool) (given : ArgumentsValue) (old : World N I S C) where
     negotiated_held : (ids : List ObjectId) (read : S) (action : ActionValue) (rounds : List Round) (updates : List ShallowUpdate) (reply : AnswerValue) (end : At N I) (new : Reading)
-        → Negotiated parties call.version banded call.wishes given old ids read action rounds updates reply end → new.held ≡ end.reading.held → Held parties.office old.negotiate rounds old.reading new
+        → Negotiated parties call.version banded call.wishes given old ids read action rounds updates reply end → new.held ≡ end.reading.held → Held parties.negotiation_calls old.negotiate rounds old.reading new
     negotiated_held ids read action rounds updates reply end new n h = record {
       ready = n.ready;
-      begins = begins_of parties.office old.negotiate n.begun.asked action n.ready n.wanted n.begun.readied;
+      begins = begins_of parties.negotiation_calls old.negotiate n.begun.asked action n.ready n.wanted n.begun.readied;
       haves = n.bounded.haves lawful;
       few = n.bounded.requests lawful wide;
       requests = packed_requests _ _ rounds updates reply end new n.packed h;
     }
 
     refused_held : (e : Error A X) (new : World N I S C) (progress : P) → Fails parties call.version banded call.wishes given old e new progress
-        → (new.reading ≡ old.reading) ⊎ ((rounds : List Round) × Held parties.office old.negotiate rounds old.reading new.reading)
+        → (new.reading ≡ old.reading) ⊎ ((rounds : List Round) × Held parties.negotiation_calls old.negotiate rounds old.reading new.reading)
     refused_held e new progress (unopened u n r) = inl r.reading
     refused_held e new progress (unready ids asked o u r) = inl r.reading
     refused_held e new progress (unpacked rounds u l c) = inr (
       rounds,
       record {
         ready = u.ready;
-        begins = begins_of parties.office old.negotiate u.begun.asked u.action u.ready u.wanted u.begun.readied;
+        begins = begins_of parties.negotiation_calls old.negotiate u.begun.asked u.action u.ready u.wanted u.begun.readied;
         haves = u.bounded.haves lawful;
         few = u.bounded.requests lawful wide;
         requests = failed_requests _ _ e rounds new.negotiate new.reading new.interrupt u.fails;
@@ -235,7 +235,7 @@ module _ {N I A S C P X : Type 0} (parties : Parties N I A S C P X) (lawful : La
         inr (rounds, negotiated_held ids read action rounds updates reply end new.reading n (undelivered_held _ _ _ _ _ _ _ _ _ _ _ _ _ _ _ u))
 
   pub session_held : (call : Call) (old : World N I S C) (result : Result (Option Outcome) (Error A X)) (new : World N I S C) (progress : P) → Fetches parties call old result new progress
-      → HoldsSession parties.office old.negotiate result old.reading new.reading
+      → HoldsSession parties.negotiation_calls old.negotiate result old.reading new.reading
   session_held call old (Ok (Some outcome)) new progress h =
       let s = h.meets in
       negotiated_held call h.banded h.asked (record old { store = h.held; locked = h.first }) s.ids s.read _ _ s.updates s.reply s.end new.reading s.negotiated
@@ -248,7 +248,7 @@ module _ {N I A S C P X : Type 0} (parties : Parties N I A S C P X) (lawful : La
       same : new.reading ≡ h.last.reading
       same = ap (λ (w : World N I S C). w.reading) h.stands
 
-      by_failure : (h.last.reading ≡ old.reading) ⊎ ((rounds : List Round) × Held parties.office old.negotiate rounds old.reading h.last.reading)
-          → (new.reading ≡ old.reading) ⊎ ((rounds : List Round) × Held parties.office old.negotiate rounds old.reading new.reading)
+      by_failure : (h.last.reading ≡ old.reading) ⊎ ((rounds : List Round) × Held parties.negotiation_calls old.negotiate rounds old.reading h.last.reading)
+          → (new.reading ≡ old.reading) ⊎ ((rounds : List Round) × Held parties.negotiation_calls old.negotiate rounds old.reading new.reading)
       by_failure (inl a) = inl (same ∙ a)
-      by_failure (inr b) = inr (b.0, subst (λ r. Held parties.office old.negotiate b.0 old.reading r) (sym same) b.1)
+      by_failure (inr b) = inr (b.0, subst (λ r. Held parties.negotiation_calls old.negotiate b.0 old.reading r) (sym same) b.1)

@@ -13,7 +13,7 @@ pub record Copied (old : Option (List ℕ)) (start : Side) (read : List ℕ) (ne
   pub held : (side_reading end).held ≡ (side_reading start).held
   pub written : Appends old new read
 
--- all content up to the stop was copied; or a read was refused behind some, of which the writer got all but what a broken device lost; or the writer failed behind some
+-- all content up to the stop was copied; or a read was refused behind some, of which the writer got all but what the failed read lost; or the writer failed behind some
 abbrev pub Copies : Option (List ℕ) → Side → Result Bool CopyError → Option (List ℕ) → Side → Type 0
 Copies old start (Ok finished) new end = (finished ≡ true) × (read : List ℕ) × Copied old start read new end × IfSome start.reading.to_come (λ p. IsFirstOf start p → side_content start p ≡ read)
 Copies old start (Err (Read kind)) new end = (read : List ℕ) × (lost : List ℕ) × Appends old new read × ReadsOn start end (read ++ lost) × ((side_reading end).held ≡ (side_reading start).held)

@@ -41,15 +41,15 @@ module _ {N I A S C P X : Type 0} (parties : Parties N I A S C P X) (call : Call
     pub first : Bool
     pub last : World N I S C
     pub prepared : Prepared call.table call.version (features call) call.tags asked banded
-    pub locks : LocksFirst parties.shop.locks (is_change call.wishes.shallow) old.store held first
+    pub locks : LocksFirst parties.store_calls.locks (is_change call.wishes.shallow) old.store held first
     pub meets : Meets parties call.version banded call.wishes asked (record old { store = held; locked = first }) result last progress
-    pub releases : ReleasesIf parties.shop.releases last.locked last.store new.store
+    pub releases : ReleasesIf parties.store_calls.releases last.locked last.store new.store
     pub stands : new ≡ record last { store = new.store; locked = false }
 
   -- the first arguments or the lock were refused, and nothing else changed
   pub data Unstarted (e : Error A X) (new : World N I S C) : Type 0 where
     unprepared : Unprepared call.table call.version (features call) call.tags e → new ≡ old → Unstarted e new
-    unlocked : (asked : ArgumentsValue) (banded : Bool) → Prepared call.table call.version (features call) call.tags asked banded → Unlocked parties.shop.failures old.store e new.store
+    unlocked : (asked : ArgumentsValue) (banded : Bool) → Prepared call.table call.version (features call) call.tags asked banded → Unlocked parties.store_calls.failures old.store e new.store
         → new ≡ record old { store = new.store } → Unstarted e new
 
   -- by its result, before and after which no lock is had

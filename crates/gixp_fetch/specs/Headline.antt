@@ -56,7 +56,7 @@ FramesAreGrammar = (bytes : List ℕ) (r : Reading) → IsFresh (Some bytes) r
 
 -- ---- refusals
 
--- a device failed, an interrupt came, or memory ran out: nothing that the stream says
+-- a read or write failed, an interrupt came, or an allocation failed: nothing that the stream says
 abbrev pub AnswerFromOutside : Reading → answer_error → Type 0
 AnswerFromOutside new e = ((now : Reading) × (refusal : Refusal) × IsOutside now new refusal × (answer_refusal e ≡ from_reader refusal)) ⊎ (e ≡ answer_memory)
 
@@ -94,7 +94,7 @@ pub record Listed (table : Table) (agent : FeatureValue) (context : Context) (ca
   pub sends : SendsListing (listing table (prefixes_if true (joined_specs context.fetch_refspecs.items context.extra_refspecs.items)) capabilities agent) shaken from (Ok tt)
   pub refs : IfSome from.to_come (λ p. v2_refs (lines_ahead from p) ≡ Ok (map ref_value given))
 
--- an answer is that of the grammar, unless the device broke off as at the stream's end
+-- an answer is that of the grammar, unless a read failed as at the stream's end
 abbrev pub IsAnswer : (Pieces → Found) → Reading → Reading → AnswerValue → Type 0
 IsAnswer found old new value = IfSome old.to_come (λ p. (q : Pieces) × (new.to_come ≡ Some q) × (found p ≡ whole value q)) ⊎ Rose old.failures new.failures
 
@@ -136,7 +136,7 @@ module _ {N I A S C P X : Type 0} (parties : Parties N I A S C P X) where
 
   -- how the rounds of a call go
   abbrev pub manner_of : Call → Bool → Manner N I A
-  manner_of call banded = record { goes = parties.office.goes; fails = parties.office.round_fails; says = parties.says; version = call.version; banded = banded; plain = parties.plain }
+  manner_of call banded = record { goes = parties.negotiation_calls.goes; fails = parties.negotiation_calls.round_fails; says = parties.says; version = call.version; banded = banded; plain = parties.plain }
 
   -- a session that came to a pack: its rounds one behind another, each with its request, which is the stated function of what was asked for, and its answer
   pub record Conversation (call : Call) (old : World N I S C) (rounds : List Round) (new : World N I S C) : Type 0 where
@@ -145,7 +145,7 @@ module _ {N I A S C P X : Type 0} (parties : Parties N I A S C P X) where
     pub updates : List ShallowUpdate
     pub reply : AnswerValue
     pub end : At N I
-    pub begins : Begins parties.office old.negotiate start.negotiate
+    pub begins : Begins parties.negotiation_calls old.negotiate start.negotiate
     pub here : start.reading ≡ old.reading
     pub packed : Packed (manner_of call banded) start rounds updates reply end
     pub answers : AreAnswers call.version banded (packed.turns ++ packed.last ∷ [])
@@ -164,7 +164,7 @@ module _ {N I A S C P X : Type 0} (parties : Parties N I A S C P X) where
     pub start : At N I
     pub turns : List (Turn N I)
     pub end : At N I
-    pub begins : Begins parties.office first start.negotiate
+    pub begins : Begins parties.negotiation_calls first start.negotiate
     pub here : start.reading ≡ old
     pub run : Chain (manner_of call banded) start turns end
     pub answers : AreAnswers call.version banded turns
@@ -182,4 +182,4 @@ module _ {N I A S C P X : Type 0} (parties : Parties N I A S C P X) where
     pub mappings : HoldsOfAll (joined_specs context.fetch_refspecs.items context.extra_refspecs.items) (map ref_value made.remote_refs.items)
         (λ all. AnswersMap run.handshake.capabilities context.fetch_refspecs.items context.extra_refspecs.items all (Ok made))
     pub conversation : Converses call old result new
-    pub bound : HoldsSession parties.office old.negotiate result old.reading new.reading
+    pub bound : HoldsSession parties.negotiation_calls old.negotiate result old.reading new.reading

@@ -39,14 +39,14 @@ pub record Reads (text : List ℕ) (set : List ObjectId) : Type 0 where
   pub each : AllZip IsIdOf (lines text) ids
   pub is_set : IsSetOf ids set
 
--- a line is no id, or there was no memory
+-- a line is no id, or an allocation failed
 abbrev pub IsNoId : List ℕ → ShallowError → Type 0
 IsNoId line (Decode text) = (id_of line ≡ None) × (bstring_bytes text ≡ line)
 IsNoId line Memory = ⊤
 IsNoId line (Io kind) = ⊥
 IsNoId line Locked = ⊥
 
--- the first line that is no id, or there was no memory
+-- the first line that is no id, or an allocation failed
 abbrev pub Unread : List ℕ → ShallowError → Type 0
 Unread text (Decode found) = (before : List (List ℕ)) × (line : List ℕ) × (behind : List (List ℕ)) × (lines text ≡ before ++ line ∷ behind) × All (λ l. IsSome (id_of l)) before × (id_of line ≡ None) × (bstring_bytes found ≡ line)
 Unread text Memory = ⊤

@@ -32,7 +32,7 @@ pub struct CommitData {
 /// Why an object can't be read. Nothing that a graph holds is lost by it.
 #[derive(Clone, Copy, Debug, PartialEq, Eq, Drop, Error)]
 pub enum ObjectError {
-    /// The device failed.
+    /// An I/O error, with its kind.
     #[error("Io")]
     Io(io::ErrorKind),
     /// The object isn't what its name or its kind says.

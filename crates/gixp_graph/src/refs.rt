@@ -26,7 +26,7 @@ pub enum RefStoreError {
     /// A ref can't be followed to an object that is no tag.
     #[error("Peel")]
     Peel,
-    /// The device failed.
+    /// An I/O error, with its kind.
     #[error("Io")]
     Io(io::ErrorKind),
     /// An allocation failed.

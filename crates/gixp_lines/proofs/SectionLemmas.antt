@@ -159,7 +159,7 @@ within-bad_header plain had old mid new (Err r) e h t is a =
     let l : is_of_line r ≡ true = of_header (is_utf8 new.line) (header_of (trimmed new.line)) new.line r is in
     going-refused plain v2_answer _ _ old new r e all.0 (last_line h.taken new.line new.stopped all.1.stopped) (λ q. rw is refl) l a
 
--- a line that is no item of its section, or for which there was no memory
+-- a line that is no item of its section, or for which an allocation failed
 pub within-bad_item : (plain : Bool) (had more : AnswerValue) (s : Section) (old mid new : Reading) (o : Result AnswerValue AnswerRefusal) (e : Error) → Within had (Some s) old mid → TakesLine mid new
     → read_item s new.line ≡ o → Adds o had more (Err e) → AnswerFails v2_answer plain old new e
 within-bad_item plain had more s old mid new (Ok x) e h t is a =

@@ -25,7 +25,7 @@ use Rattle.gixp_wire.specs.Capabilities.{is_text}
 use Rattle.gixp_lines.specs.ParseError.{Answers}
 use Rattle.gixp_wire.specs.Capabilities.{CapabilityValue}
 use Rattle.gixp_lines.specs.RefAdvertisement.{Symref, symref_named, tells, TellAlike, told_target, V1Line, nothing, peels, names, shallows, v1_line, Named, pair_by, pair, closed, group_with, group_end, end_refusal, groups, v1_refs, symref_table}
-use Rattle.gixp_lines.specs.V1Refs.{symref_value, name_cmp, symrefs_in, ReadsV1, V1Fails, GivesAdvertisement, AdvertisementFails}
+use Rattle.gixp_lines.specs.V1Refs.{symref_value, name_cmp, symref_values, ReadsV1, V1Fails, GivesAdvertisement, AdvertisementFails}
 
 -- ---- what a map tells
 
@@ -67,28 +67,28 @@ apart k e n g h i =
 
 -- a symref that is put into the map stands in front of the others
 pub insert_tells : (es : List Entry) (k : BString) (v : Option BString) (n : List ℕ)
-    → tells (symrefs_in (insert_entry name_cmp es k v)) n ≡ cond (is_text (bstring_bytes k) n) (Some (option_map bstring_bytes v)) (tells (symrefs_in es) n)
+    → tells (symref_values (insert_entry name_cmp es k v)) n ≡ cond (is_text (bstring_bytes k) n) (Some (option_map bstring_bytes v)) (tells (symref_values es) n)
 insert_tells [] k v n = tells_cons (symref_value (k, v)) [] n
 insert_tells (e ∷ es) k v n = at (name_cmp k e.0) (insert_tells es k v n) refl
   where
-    at : (o : Ordering) → tells (symrefs_in (insert_entry name_cmp es k v)) n ≡ cond (is_text (bstring_bytes k) n) (Some (option_map bstring_bytes v)) (tells (symrefs_in es) n) → name_cmp k e.0 ≡ o
-        → tells (symrefs_in (match_ordering o ((k, v) ∷ e ∷ es) ((e.0, v) ∷ es) (e ∷ insert_entry name_cmp es k v))) n
-        ≡ cond (is_text (bstring_bytes k) n) (Some (option_map bstring_bytes v)) (tells (symrefs_in (e ∷ es)) n)
-    at Less more h = tells_cons (symref_value (k, v)) (symrefs_in (e ∷ es)) n
+    at : (o : Ordering) → tells (symref_values (insert_entry name_cmp es k v)) n ≡ cond (is_text (bstring_bytes k) n) (Some (option_map bstring_bytes v)) (tells (symref_values es) n) → name_cmp k e.0 ≡ o
+        → tells (symref_values (match_ordering o ((k, v) ∷ e ∷ es) ((e.0, v) ∷ es) (e ∷ insert_entry name_cmp es k v))) n
+        ≡ cond (is_text (bstring_bytes k) n) (Some (option_map bstring_bytes v)) (tells (symref_values (e ∷ es)) n)
+    at Less more h = tells_cons (symref_value (k, v)) (symref_values (e ∷ es)) n
     at Equal more h =
         let same : bstring_bytes k ≡ bstring_bytes e.0 = exact_bytes (bstring_bytes k) (bstring_bytes e.0) h in
         let value = Some (option_map bstring_bytes v) in
-        tells_cons (symref_value (e.0, v)) (symrefs_in es) n
-        ∙ twice (is_text (bstring_bytes e.0) n) value (Some (option_map bstring_bytes e.1)) (tells (symrefs_in es) n)
-        ∙ ap (λ x. cond (is_text (bstring_bytes e.0) n) value x) (sym (tells_cons (symref_value e) (symrefs_in es) n))
-        ∙ ap (λ x. cond (is_text x n) value (tells (symrefs_in (e ∷ es)) n)) (sym same)
+        tells_cons (symref_value (e.0, v)) (symref_values es) n
+        ∙ twice (is_text (bstring_bytes e.0) n) value (Some (option_map bstring_bytes e.1)) (tells (symref_values es) n)
+        ∙ ap (λ x. cond (is_text (bstring_bytes e.0) n) value x) (sym (tells_cons (symref_value e) (symref_values es) n))
+        ∙ ap (λ x. cond (is_text x n) value (tells (symref_values (e ∷ es)) n)) (sym same)
     at Greater more h =
         let value = Some (option_map bstring_bytes v) in
         let had = Some (option_map bstring_bytes e.1) in
-        tells_cons (symref_value e) (symrefs_in (insert_entry name_cmp es k v)) n
+        tells_cons (symref_value e) (symref_values (insert_entry name_cmp es k v)) n
         ∙ ap (λ x. cond (is_text (bstring_bytes e.0) n) had x) more
-        ∙ not_both (is_text (bstring_bytes e.0) n) (is_text (bstring_bytes k) n) had value (tells (symrefs_in es) n) (apart (bstring_bytes k) (bstring_bytes e.0) n h)
-        ∙ ap (λ x. cond (is_text (bstring_bytes k) n) value x) (sym (tells_cons (symref_value e) (symrefs_in es) n))
+        ∙ not_both (is_text (bstring_bytes e.0) n) (is_text (bstring_bytes k) n) had value (tells (symref_values es) n) (apart (bstring_bytes k) (bstring_bytes e.0) n h)
+        ∙ ap (λ x. cond (is_text (bstring_bytes k) n) value x) (sym (tells_cons (symref_value e) (symref_values es) n))
 
 lookup_at : (b c : Bool) (e : Entry) (o : Option (Option BString)) (r : Option (Option (List ℕ))) → b ≡ c → option_map (λ (t : Option BString). option_map bstring_bytes t) o ≡ r
     → option_map (λ (t : Option BString). option_map bstring_bytes t) (cond b (Some e.1) o) ≡ cond c (Some (option_map bstring_bytes e.1)) r
@@ -96,13 +96,13 @@ lookup_at true c e o r h k = rw (← h) refl
 lookup_at false c e o r h k = rw (← h) k
 
 -- what is found in the map is what its symrefs tell
-pub lookup_tells : (es : List Entry) (q : BString) → option_map (λ (t : Option BString). option_map bstring_bytes t) (lookup (is_at (name_cmp q)) es) ≡ tells (symrefs_in es) (bstring_bytes q)
+pub lookup_tells : (es : List Entry) (q : BString) → option_map (λ (t : Option BString). option_map bstring_bytes t) (lookup (is_at (name_cmp q)) es) ≡ tells (symref_values es) (bstring_bytes q)
 lookup_tells [] q = refl
 lookup_tells (e ∷ es) q =
     let same : is_eq (name_cmp q e.0) ≡ is_text (bstring_bytes e.0) (bstring_bytes q) =
     sym (texts_ties (bstring_bytes q) (bstring_bytes e.0)) ∙ nat_list_eq_equiv.symm (bstring_bytes q) (bstring_bytes e.0) in
-    lookup_at (is_eq (name_cmp q e.0)) (is_text (bstring_bytes e.0) (bstring_bytes q)) e (lookup (is_at (name_cmp q)) es) (tells (symrefs_in es) (bstring_bytes q)) same (lookup_tells es q)
-    ∙ sym (tells_cons (symref_value e) (symrefs_in es) (bstring_bytes q))
+    lookup_at (is_eq (name_cmp q e.0)) (is_text (bstring_bytes e.0) (bstring_bytes q)) e (lookup (is_at (name_cmp q)) es) (tells (symref_values es) (bstring_bytes q)) same (lookup_tells es q)
+    ∙ sym (tells_cons (symref_value e) (symref_values es) (bstring_bytes q))
 
 -- what was found: whether there is one
 pub found_some : (r : Option (Bor (Option BString))) (x : Option Symref) → option_map (λ (t : Option BString). option_map bstring_bytes t) (option_copied r) ≡ option_map (λ (s : Symref). s.target) x
@@ -231,7 +231,7 @@ taken_off view old now x h = ap (map view) h ∙ map-append view now (x ∷ [])
 
 -- those behind the ones that are left are in the map
 abbrev pub MakesTable : List Symref → List Symref → List Entry → Type 0
-MakesTable all left entries = (done : List Symref) × (all ≡ left ++ done) × TellAlike done (symrefs_in entries)
+MakesTable all left entries = (done : List Symref) × (all ≡ left ++ done) × TellAlike done (symref_values entries)
 
 pub table-start : (all : List Symref) (entries : List Entry) → entries ≡ [] → MakesTable all all entries
 table-start all entries h = ([], sym (append-nil all), λ n. rw h refl)
@@ -242,8 +242,8 @@ table-put all left now entries more name target h l m = (
   symref_value (name, target) ∷ h.0,
   h.1 ∙ ap (λ x. x ++ h.0) l ∙ append_assoc now (symref_value (name, target) ∷ []) h.0,
   λ n. tells_cons (symref_value (name, target)) h.0 n ∙ ap (λ x. cond (is_text (bstring_bytes name) n) (Some (option_map bstring_bytes target)) x) (h.2 n)
-      ∙ sym (ap (λ es. tells (symrefs_in es) n) m ∙ insert_tells entries name target n),
+      ∙ sym (ap (λ es. tells (symref_values es) n) m ∙ insert_tells entries name target n),
 )
 
-pub table-done : (all left : List Symref) (entries : List Entry) → MakesTable all left entries → left ≡ [] → TellAlike all (symrefs_in entries)
-table-done all left entries h l = subst (λ x. TellAlike x (symrefs_in entries)) (sym (h.1 ∙ ap (λ x. x ++ h.0) l)) h.2
+pub table-done : (all left : List Symref) (entries : List Entry) → MakesTable all left entries → left ≡ [] → TellAlike all (symref_values entries)
+table-done all left entries h l = subst (λ x. TellAlike x (symref_values entries)) (sym (h.1 ∙ ap (λ x. x ++ h.0) l)) h.2

@@ -71,7 +71,7 @@ pub record ReadsAnswer (found : Pieces → Found) (under : Protocol) (old new : 
   pub version : new.version ≡ under
   pub failures : new.failures ≡ old.failures
 
--- the device broke off as at the stream's end behind some pieces, which are then the answer
+-- a read failed as at the stream's end behind some pieces, which are then the answer
 pub record BrokeOff (found : Pieces → Found) (under : Protocol) (old new : Reading) (value : AnswerValue) : Type 0 where
   pub taken : List Piece
   pub now : Reading

@@ -42,12 +42,12 @@ object_of o = option_map (λ (id : ObjectId). id.bytes) o
 abbrev pub attribute_values : Attributes → AttributeValues
 attribute_values a = record { target = option_copied a.symref_target; peeled = object_of a.peeled }
 
--- whether it is want of memory
+-- whether it is an allocation failure
 abbrev pub is_no_memory : RefsRefusal → Bool
 is_no_memory no_memory = true
 is_no_memory _ = false
 
--- whether it is that of a device that failed, or want of memory
+-- whether it is that of a read that failed, or an allocation failure
 abbrev pub is_outside : RefsRefusal → Bool
 is_outside (io_failed kind) = true
 is_outside no_memory = true
@@ -61,7 +61,7 @@ parse_errors = record { refusal = parse_refusal; from_reader = refusal_from; mem
 abbrev pub IsRefusal : Error → RefsRefusal → Type 0
 IsRefusal e r = is_no_memory (parse_refusal e) ≡ false → parse_refusal e ≡ r
 
--- the error of a device that failed, or of want of memory
+-- the error of a read that failed, or of an allocation failure
 abbrev pub IsFromOutside : Error → Type 0
 IsFromOutside e = is_outside (parse_refusal e) ≡ true
 

@@ -58,7 +58,7 @@ abbrev pub from_transport : ClientRefusal → AnswerRefusal
 from_transport client_no_memory = no_memory
 from_transport other = by_transport other
 
--- whether it is want of memory
+-- whether it is an allocation failure
 abbrev pub is_no_memory : AnswerRefusal → Bool
 is_no_memory no_memory = true
 is_no_memory _ = false
@@ -71,14 +71,14 @@ answer_errors = record { refusal = answer_refusal; from_reader = from_reader; me
 abbrev pub IsRefusal : Error → AnswerRefusal → Type 0
 IsRefusal e r = is_no_memory (answer_refusal e) ≡ false → answer_refusal e ≡ r
 
--- a line's value, which takes no memory, or the refusal that carries the line
+-- a line's value, which allocates nothing, or the refusal that carries the line
 abbrev pub ReadsLine : {A : Type 0} → Option A → List ℕ → Result A Error → Type 0
 ReadsLine (Some value) line (Ok x) = x ≡ value
 ReadsLine (Some value) line (Err e) = ⊥
 ReadsLine None line (Ok x) = ⊥
 ReadsLine None line (Err e) = IsRefusal e (unknown_line line)
 
--- the same where the value takes memory
+-- the same where the value allocates
 abbrev pub ReadsOwned : {A B : Type 0} → (A → B) → Option B → List ℕ → Result A Error → Type 0
 ReadsOwned view (Some value) line (Ok x) = view x ≡ value
 ReadsOwned view (Some value) line (Err e) = e ≡ Memory

@@ -33,10 +33,6 @@ symref_values ss = map symref_value ss
 abbrev pub name_cmp : BString → BString → Ordering
 name_cmp a b = slice_cmp nat_cmp (bstring_bytes a) (bstring_bytes b)
 
--- the symrefs that a map by names has
-abbrev pub symrefs_in : List (BString × Option BString) → List Symref
-symrefs_in entries = map symref_value entries
-
 -- the lines to come up to a stop: the refs of their groups, their shallow updates, and the reader is at that stop
 pub record ReadsV1 (t : List Symref) (old new : Reading) (refs : List Ref) (updates : List ShallowUpdate) : Type 0 where
   pub kind : MessageKind
@@ -74,7 +70,7 @@ V1Fails t plain old new e =
 abbrev pub GivesAdvertisement : List CapabilityValue → Reading → Reading → List Ref → List ShallowUpdate → Type 0
 GivesAdvertisement caps old new refs updates = (t : List Symref) × (symref_table caps ≡ Ok t) × ReadsV1 t old new refs updates
 
--- before the first line it was the symrefs' refusal or want of memory, and nothing was read
+-- before the first line it was the symrefs' refusal or an allocation failure, and nothing was read
 abbrev pub AdvertisementFails : List CapabilityValue → Bool → Reading → Reading → Error → Type 0
 AdvertisementFails caps plain old new e =
     ((new ≡ old) × Answers symref_values (symref_table caps) (Err e)) ⊎ ((t : List Symref) × (symref_table caps ≡ Ok t) × V1Fails t plain old new e)

@@ -149,7 +149,7 @@ printed-all old mid new text h k = record {
     at None a = tt
     at (Some p) a = rw (a, append-nil) h.printed
 
--- a refusal that came from outside is a device's or want of memory
+-- a refusal that came from outside is a failed read's or an allocation failure's
 outside_is : (r : Refusal) (now new : Reading) → IsOutside now new r → IsPlain new r → is_outside (refusal_from r) ≡ true
 outside_is (io kind) now new h p = refl
 outside_is memory now new h p = refl
@@ -164,7 +164,7 @@ outside_is not_utf8 now new (inr h) p = absurd (let e = h.refusal in cc)
 outside_is (bad_band b) now new h p = absurd p
 outside_is interrupted now new h p = absurd p
 
--- a device that failed was counted
+-- a read that failed was counted
 device_rose : (r : Refusal) (now new : Reading) → IsOutside now new r → is_device (refusal_from r) ≡ true → Rose now.failures new.failures
 device_rose (io kind) now new (inl h) d = h.fault.2
 device_rose (io kind) now new (inr h) d = h.failures

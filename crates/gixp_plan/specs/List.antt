@@ -58,12 +58,12 @@ pub record RefusedFirst (old new : Reading) (e : Error) : Type 0 where
   pub by : ((text : List ℕ) × (v2_line text ≡ Err why)) ⊎ ((r : Refusal) × (new.refused ≡ Some r) × (why ≡ refusal_from r))
   pub error : IsRefusal e why
 
--- whether it is that of a device that failed
+-- whether it is that of a read that failed
 abbrev pub is_device : RefsRefusal → Bool
 is_device (io_failed kind) = true
 is_device _ = false
 
--- it came from outside, where a plain reader has no more than a device's failures, each of which it counts, and want of memory
+-- it came from outside, where a plain reader has no more than failed reads, each of which it counts, and allocation failures
 pub record CameFromOutside (plain : Bool) (old new : Reading) (e : Error) : Type 0 where
   pub outside : plain ≡ true → IsFromOutside e
   pub counted : is_device (parse_refusal e) ≡ true → Rose old.failures new.failures

@@ -19,7 +19,7 @@ use Rattle.gixp_negotiate.specs.Wants.{asks_for, asking_all, AddsWants}
 use Rattle.gixp_fetch.specs.declared.options.Outcome.{Outcome}
 use Rattle.gixp_fetch.specs.FetchShallow.{no_change, shallow_asks}
 use Rattle.gixp_fetch.specs.FetchRounds.{At, Manner, Packed}
-use Rattle.gixp_fetch.specs.Session.{Office, Readied, Idle, Opened}
+use Rattle.gixp_fetch.specs.Session.{NegotiationCalls, Readied, Idle, Opened}
 use Rattle.gixp_fetch.specs.Prepare.{features_of, Prepared}
 use Rattle.gixp_fetch.specs.Fetch.{World, Parties}
 use Rattle.gixp_fetch.specs.Fetched.{Carried}
@@ -34,11 +34,11 @@ use Rattle.gixp_planner.proofs.ListRoundLemmas.{ListRound}
 use Rattle.gixp_planner.proofs.RoundLemmas.{AtAlike, asks-behind, packed-alike}
 
 -- a side that knows the repository: it goes by a basis, and its negotiator offers a list
-pub record OffersList {N A : Type 0} (office : Office N A) (basis : N → Basis) (haves : N → List ObjectId) : Type 0 where
-  pub marks : (n : N) (action : ActionValue) (m : N) → office.marks n action m
+pub record OffersList {N A : Type 0} (negotiation_calls : NegotiationCalls N A) (basis : N → Basis) (haves : N → List ObjectId) : Type 0 where
+  pub marks : (n : N) (action : ActionValue) (m : N) → negotiation_calls.marks n action m
       → (action ≡ decided (basis n)) × (haves m ≡ haves n) × ((a : ArgumentsValue) (known : List Bool) → asked_for (basis m) a known ≡ asked_for (basis n) a known)
-  pub adds : (n : N) (known : List Bool) (a : ArgumentsValue) (any : Bool) (b : ArgumentsValue) (m : N) → office.adds n known a any b m → AddsWants (asked_for (basis n) a known) any a b × (haves m ≡ haves n)
-  pub goes : (n : N) (s : Window) (a : ArgumentsValue) (p : Option AnswerValue) (r : Round) (done : Bool) (m : N) (t : Window) (b : ArgumentsValue) → office.goes n s a p r done m t b
+  pub adds : (n : N) (known : List Bool) (a : ArgumentsValue) (any : Bool) (b : ArgumentsValue) (m : N) → negotiation_calls.adds n known a any b m → AddsWants (asked_for (basis n) a known) any a b × (haves m ≡ haves n)
+  pub goes : (n : N) (s : Window) (a : ArgumentsValue) (p : Option AnswerValue) (r : Round) (done : Bool) (m : N) (t : Window) (b : ArgumentsValue) → negotiation_calls.goes n s a p r done m t b
       → ListRound (haves n) s a p done (haves m) t b
 
 -- ---- the first two steps of a negotiation
@@ -58,8 +58,8 @@ asks-same p q given wanted other s l r =
     let known : l.known ≡ r.known = same-known l.known r.known (sym l.must ∙ decided-alike p q s ∙ r.must) in
     l.asked ∙ ap (λ ws. asking_all ws given) (asked-alike p q given l.known s ∙ ap (asked_for q given) known) ∙ sym r.asked
 
-module _ {N A : Type 0} (office : Office N A) (basis : N → Basis) (haves : N → List ObjectId) (list : OffersList office basis haves) (n : N) (given : ArgumentsValue) where
-  readied-asks : (action : ActionValue) (ready : N) (wanted : ArgumentsValue) → Readied office n given action ready wanted → Asks (basis n) given wanted × (haves ready ≡ haves n)
+module _ {N A : Type 0} (negotiation_calls : NegotiationCalls N A) (basis : N → Basis) (haves : N → List ObjectId) (list : OffersList negotiation_calls basis haves) (n : N) (given : ArgumentsValue) where
+  readied-asks : (action : ActionValue) (ready : N) (wanted : ArgumentsValue) → Readied negotiation_calls n given action ready wanted → Asks (basis n) given wanted × (haves ready ≡ haves n)
   readied-asks action ready wanted r =
       let m = list.marks n action r.marked r.marks in
       let a = list.adds r.marked r.known given true wanted ready r.adds in (
@@ -73,12 +73,12 @@ module _ {N A : Type 0} (office : Office N A) (basis : N → Basis) (haves : N �
       )
 
   -- where there is nothing to ask for, none are asked for by a basis that decides and asks the same
-  idle-asks-none : (b : Basis) (last : N) (wanted : ArgumentsValue) → decided (basis n) ≡ decided b → ((known : List Bool) → asked_for (basis n) given known ≡ asked_for b given known) → Idle office n given last
+  idle-asks-none : (b : Basis) (last : N) (wanted : ArgumentsValue) → decided (basis n) ≡ decided b → ((known : List Bool) → asked_for (basis n) given known ≡ asked_for b given known) → Idle negotiation_calls n given last
       → Asks b given wanted → ⊥
   idle-asks-none b last wanted d w i a = by_action (list.marks n i.action i.marked i.marks) i.idle
     where
       by_action : (i.action ≡ decided (basis n)) × (haves i.marked ≡ haves n) × ((x : ArgumentsValue) (known : List Bool) → asked_for (basis i.marked) x known ≡ asked_for (basis n) x known)
-          → (((i.action ≡ nothing_changes) ⊎ (i.action ≡ skip)) × (last ≡ i.marked)) ⊎ ((known : List Bool) × (wanted : ArgumentsValue) × (i.action ≡ negotiate known) × office.adds i.marked known given false wanted last) → ⊥
+          → (((i.action ≡ nothing_changes) ⊎ (i.action ≡ skip)) × (last ≡ i.marked)) ⊎ ((known : List Bool) × (wanted : ArgumentsValue) × (i.action ≡ negotiate known) × negotiation_calls.adds i.marked known given false wanted last) → ⊥
       by_action m (inl (inl e, l)) = not_nothing a.known (sym e ∙ m.0 ∙ d ∙ a.must)
         where
           not_nothing : (known : List Bool) → nothing_changes ≡ negotiate known → ⊥
@@ -109,10 +109,10 @@ came_to None = Ok false
 pub not-refused-ok : {B E : Type 0} (o : B) (e : E) → ◌≡◌ {A = Result B E} (Ok o) (Err e) → ⊥
 not-refused-ok o e h = absurd cc
 
-module _ {N I A S C P X : Type 0} (parties : Parties N I A S C P X) (basis : N → Basis) (haves : N → List ObjectId) (list : OffersList parties.office basis haves) (IsEmpty : S → Type 0)
-    (reads : (s : S) (ids : List ObjectId) (t : S) → IsEmpty s → parties.shop.reads s ids t → ids ≡ []) (none : CountsNone parties.consumes) where
+module _ {N I A S C P X : Type 0} (parties : Parties N I A S C P X) (basis : N → Basis) (haves : N → List ObjectId) (list : OffersList parties.negotiation_calls basis haves) (IsEmpty : S → Type 0)
+    (reads : (s : S) (ids : List ObjectId) (t : S) → IsEmpty s → parties.store_calls.reads s ids t → ids ≡ []) (none : CountsNone parties.consumes) where
   abbrev manner_of : Protocol → Bool → Manner N I A
-  manner_of v banded = record { goes = parties.office.goes; fails = parties.office.round_fails; says = parties.says; version = v; banded = banded; plain = parties.plain }
+  manner_of v banded = record { goes = parties.negotiation_calls.goes; fails = parties.negotiation_calls.round_fails; says = parties.says; version = v; banded = banded; plain = parties.plain }
 
   abbrev start_of : N → ArgumentsValue → Reading → I → At N I
   start_of ready wanted old interrupt = record {
@@ -146,7 +146,7 @@ module _ {N I A S C P X : Type 0} (parties : Parties N I A S C P X) (basis : N �
     opened : ArgumentsValue
     opens : shallow_asks no_change [] (first_asks v caps) ≡ Ok opened
     last : N
-    idle : Idle parties.office n opened last
+    idle : Idle parties.negotiation_calls n opened last
     rests : new ≡ old
 
   abbrev pub Came : Protocol → List CapabilityValue → N → Reading → Reading → Option Outcome → Type 0
@@ -158,7 +158,7 @@ module _ {N I A S C P X : Type 0} (parties : Parties N I A S C P X) (basis : N �
         → (asked ≡ first_asks h.server_protocol_version h.capabilities) × (banded ≡ bands h.server_protocol_version h.capabilities)
     prepared-first asked banded p = (sym (same-ok _ (first_asks h.server_protocol_version h.capabilities) asked refl p.asks), p.bands)
 
-    opened-first : (s : S) (ids : List ObjectId) (t : S) (given asked : ArgumentsValue) → IsEmpty s → given ≡ first_asks h.server_protocol_version h.capabilities → Opened parties.shop no_change s given ids t asked
+    opened-first : (s : S) (ids : List ObjectId) (t : S) (given asked : ArgumentsValue) → IsEmpty s → given ≡ first_asks h.server_protocol_version h.capabilities → Opened parties.store_calls no_change s given ids t asked
         → shallow_asks no_change [] (first_asks h.server_protocol_version h.capabilities) ≡ Ok asked
     opened-first s ids t given asked e f o =
         ap (λ l. shallow_asks no_change l (first_asks h.server_protocol_version h.capabilities)) (sym (reads s ids t e o.reads)) ∙ ap (λ a. shallow_asks no_change ids a) (sym f) ∙ o.asks
@@ -169,7 +169,7 @@ module _ {N I A S C P X : Type 0} (parties : Parties N I A S C P X) (basis : N �
         let p = prepared-first c.asked c.banded c.prepared in
         let s = c.meets in
         let b = s.negotiated.begun in
-        let a = readied-asks parties.office basis haves list f.first.negotiate b.asked _ s.negotiated.ready s.negotiated.wanted b.readied in
+        let a = readied-asks parties.negotiation_calls basis haves list f.first.negotiate b.asked _ s.negotiated.ready s.negotiated.wanted b.readied in
         record {
           opened = b.asked;
           opens = opened-first c.held s.ids s.read c.asked b.asked (subst IsEmpty (sym c.locks.0) f.empty) p.0 b.opened;
@@ -241,12 +241,12 @@ module _ {N I A S C P X : Type 0} (parties : Parties N I A S C P X) (basis : N �
 
     first-rests : Rested v caps n a c → Rounded v caps o b d → ⊥
     first-rests l r =
-        idle-asks-none parties.office basis haves list n l.opened (basis o) l.last r.wanted (decided-alike (basis n) (basis o) basis_same) (λ known. asked-alike (basis n) (basis o) l.opened known basis_same) l.idle
+        idle-asks-none parties.negotiation_calls basis haves list n l.opened (basis o) l.last r.wanted (decided-alike (basis n) (basis o) basis_same) (λ known. asked-alike (basis n) (basis o) l.opened known basis_same) l.idle
         (subst (λ x. Asks (basis o) x r.wanted) (sym (opened-same l.opened r.opened l.opens r.opens)) r.asks)
 
     other-rests : Rounded v caps n a c → Rested v caps o b d → ⊥
     other-rests l r =
-        idle-asks-none parties.office basis haves list o r.opened (basis n) r.last l.wanted (sym (decided-alike (basis n) (basis o) basis_same)) (λ known. sym (asked-alike (basis n) (basis o) r.opened known basis_same)) r.idle
+        idle-asks-none parties.negotiation_calls basis haves list o r.opened (basis n) r.last l.wanted (sym (decided-alike (basis n) (basis o) basis_same)) (λ known. sym (asked-alike (basis n) (basis o) r.opened known basis_same)) r.idle
         (subst (λ x. Asks (basis n) x l.wanted) (opened-same l.opened r.opened l.opens r.opens) l.asks)
 
     -- both came to the same end

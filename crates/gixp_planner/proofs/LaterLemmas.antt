@@ -33,8 +33,8 @@ end-came A X None = refl
 not-refused : (ended : Result Bool Refusal) (e : Refusal) → IsOk ended → ended ≡ Err e → ⊥
 not-refused ended e k f = not-ok e (subst (λ (r : Result Bool Refusal). IsOk r) f k)
 
-module _ {N I A S C P X : Type 0} (parties : Parties N I A S C P X) (basis : N → Basis) (haves : N → List ObjectId) (list : OffersList parties.office basis haves) (IsOne IsOther : RefMap → N → Type 0) (IsEmpty : S → Type 0)
-    (reads : (s : S) (ids : List ObjectId) (t : S) → IsEmpty s → parties.shop.reads s ids t → ids ≡ [])
+module _ {N I A S C P X : Type 0} (parties : Parties N I A S C P X) (basis : N → Basis) (haves : N → List ObjectId) (list : OffersList parties.negotiation_calls basis haves) (IsOne IsOther : RefMap → N → Type 0) (IsEmpty : S → Type 0)
+    (reads : (s : S) (ids : List ObjectId) (t : S) → IsEmpty s → parties.store_calls.reads s ids t → ids ≡ [])
     (ids : List ObjectId) (same : (m k : RefMap) (n o : N) → IsOne m n → IsOther k o → LookAlike m.mappings.items k.mappings.items → SameBasis (basis n) (basis o) × (haves n ≡ ids) × (haves o ≡ ids))
     (none : CountsNone parties.consumes) (bodies : List Body) (specs : List (List ℕ)) where
   -- it came to its ref map, and its fetch to an end

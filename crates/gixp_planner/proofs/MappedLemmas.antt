@@ -48,7 +48,7 @@ use Rattle.gixp_handshake.specs.Obtain.{prefixes_if, MakesMap, PreparesBy, ByLis
 use Rattle.gixp_planner.specs.Specs.{specs_of, IsContext}
 use Rattle.gixp_fetch.specs.declared.error.Error.{Error as FetchError}
 use Rattle.gixp_fetch.specs.declared.options.Outcome.{Outcome}
-use Rattle.gixp_fetch.specs.Session.{Office}
+use Rattle.gixp_fetch.specs.Session.{NegotiationCalls}
 use Rattle.gixp_fetch.specs.Sessions.{Another, Requests, HoldsSession}
 use Rattle.gixp_fetch.specs.Fetch.{World, Parties}
 use Rattle.gixp_fetch.specs.Fetched.{Call, Fetches}
@@ -472,25 +472,25 @@ requests-extend : (rounds : List Round) (old new : Reading) → old.held.persist
 requests-extend rounds old new p r =
     extends-more old r.mid new (record { later = r.requests; sent = r.wrote.enters p }) (another-extends r.another r.mid new (r.wrote.persists ∙ p) r.rest)
 
-session-extends : {N A X : Type 0} (office : Office N A) (first : N) (r : Result (Option Outcome) (FetchError A X)) (old new : Reading) → old.held.persists ≡ false → HoldsSession office first r old new → Extends old new
-session-extends office first (Ok (Some outcome)) old new p h = requests-extend _ old new p h.requests
-session-extends office first (Ok None) old new p h = extends-none old new (ap (λ (z : Reading). z.held.sent) h)
-session-extends office first (Err e) old new p (inl h) = extends-none old new (ap (λ (z : Reading). z.held.sent) h)
-session-extends office first (Err e) old new p (inr h) = requests-extend _ old new p h.1.requests
+session-extends : {N A X : Type 0} (negotiation_calls : NegotiationCalls N A) (first : N) (r : Result (Option Outcome) (FetchError A X)) (old new : Reading) → old.held.persists ≡ false → HoldsSession negotiation_calls first r old new → Extends old new
+session-extends negotiation_calls first (Ok (Some outcome)) old new p h = requests-extend _ old new p h.requests
+session-extends negotiation_calls first (Ok None) old new p h = extends-none old new (ap (λ (z : Reading). z.held.sent) h)
+session-extends negotiation_calls first (Err e) old new p (inl h) = extends-none old new (ap (λ (z : Reading). z.held.sent) h)
+session-extends negotiation_calls first (Err e) old new p (inr h) = requests-extend _ old new p h.1.requests
 
 module _ {N I A S C P X : Type 0} (parties : Parties N I A S C P X) where
   -- what is known of a whole fetch
   abbrev pub Holds : Type 0
   Holds = (call : Call) (first : World N I S C) (r : Result (Option Outcome) (FetchError A X)) (last : World N I S C) (progress : P) → Fetches parties call first r last progress
-      → HoldsSession parties.office first.negotiate r first.reading last.reading
+      → HoldsSession parties.negotiation_calls first.negotiate r first.reading last.reading
 
   pub fetches-extend : Holds → (IsOver : N → Type 0) (IsEmpty : S → Type 0) (h : Handshake) (old new : Reading) (r : Result (Option Outcome) (FetchError A X)) → old.held.persists ≡ false
       → FetchesMapped parties IsOver IsEmpty h old new r → Extends old new
   fetches-extend holds IsOver IsEmpty h old new r p (inr n) = extends-none old new (ap (λ (z : Reading). z.held.sent) n.0)
   fetches-extend holds IsOver IsEmpty h old new r p (inl f) =
       let s = holds (planner_call h) f.first r f.last f.progress f.fetched.fetched in
-      session-extends parties.office f.first.negotiate r old new p
-      (subst (λ (z : Reading). HoldsSession parties.office f.first.negotiate r old z) f.ends (subst (λ (z : Reading). HoldsSession parties.office f.first.negotiate r z f.last.reading) f.begins s))
+      session-extends parties.negotiation_calls f.first.negotiate r old new p
+      (subst (λ (z : Reading). HoldsSession parties.negotiation_calls f.first.negotiate r old z) f.ends (subst (λ (z : Reading). HoldsSession parties.negotiation_calls f.first.negotiate r z f.last.reading) f.begins s))
 
 -- ---- a session that is shown
 

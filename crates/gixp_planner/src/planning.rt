@@ -84,8 +84,8 @@ pub fn plan<'a, O: Objects, G: Objects, N: Negotiator, W: Write>(
     ensures text { PlannedText
         (λ m h old new r. FetchesMapped
         (record {
-          office = record { count = ⟦<Negotiation<'a, O, NoRefs, N, G, AllocError> as Negotiate>⟧.count; marks = ⟦<Negotiation<'a, O, NoRefs, N, G, AllocError> as Negotiate>⟧.marks; adds = ⟦<Negotiation<'a, O, NoRefs, N, G, AllocError> as Negotiate>⟧.adds; goes = ⟦<Negotiation<'a, O, NoRefs, N, G, AllocError> as Negotiate>⟧.goes; marking_fails = ⟦<Negotiation<'a, O, NoRefs, N, G, AllocError> as Negotiate>⟧.marking_fails; adding_fails = ⟦<Negotiation<'a, O, NoRefs, N, G, AllocError> as Negotiate>⟧.adding_fails; round_fails = ⟦<Negotiation<'a, O, NoRefs, N, G, AllocError> as Negotiate>⟧.round_fails };
-          shop = record { failures = ⟦<ShallowMemory as ShallowStore>⟧.failures; locks = ⟦<ShallowMemory as ShallowStore>⟧.locks; reads = ⟦<ShallowMemory as ShallowStore>⟧.reads; writes = ⟦<ShallowMemory as ShallowStore>⟧.writes; releases = ⟦<ShallowMemory as ShallowStore>⟧.releases };
+          negotiation_calls = record { count = ⟦<Negotiation<'a, O, NoRefs, N, G, AllocError> as Negotiate>⟧.count; marks = ⟦<Negotiation<'a, O, NoRefs, N, G, AllocError> as Negotiate>⟧.marks; adds = ⟦<Negotiation<'a, O, NoRefs, N, G, AllocError> as Negotiate>⟧.adds; goes = ⟦<Negotiation<'a, O, NoRefs, N, G, AllocError> as Negotiate>⟧.goes; marking_fails = ⟦<Negotiation<'a, O, NoRefs, N, G, AllocError> as Negotiate>⟧.marking_fails; adding_fails = ⟦<Negotiation<'a, O, NoRefs, N, G, AllocError> as Negotiate>⟧.adding_fails; round_fails = ⟦<Negotiation<'a, O, NoRefs, N, G, AllocError> as Negotiate>⟧.round_fails };
+          store_calls = record { failures = ⟦<ShallowMemory as ShallowStore>⟧.failures; locks = ⟦<ShallowMemory as ShallowStore>⟧.locks; reads = ⟦<ShallowMemory as ShallowStore>⟧.reads; writes = ⟦<ShallowMemory as ShallowStore>⟧.writes; releases = ⟦<ShallowMemory as ShallowStore>⟧.releases };
           says = ⟦<NeverInterrupt as Interrupt>⟧.says;
           consumes = ⟦<ReadToEnd as ConsumePack<Discard>>⟧.consumes;
           plain = true;

@@ -93,8 +93,8 @@ fn fetch_over<N: Negotiate, T: Transport>(
     requires stays { shallow.now ≡ Shallow.NoChange }
     ensures { Carries
         (record {
-          office = record { count = N.count; marks = N.marks; adds = N.adds; goes = N.goes; marking_fails = N.marking_fails; adding_fails = N.adding_fails; round_fails = N.round_fails };
-          shop = record { failures = ⟦<ShallowMemory as ShallowStore>⟧.failures; locks = ⟦<ShallowMemory as ShallowStore>⟧.locks; reads = ⟦<ShallowMemory as ShallowStore>⟧.reads; writes = ⟦<ShallowMemory as ShallowStore>⟧.writes; releases = ⟦<ShallowMemory as ShallowStore>⟧.releases };
+          negotiation_calls = record { count = N.count; marks = N.marks; adds = N.adds; goes = N.goes; marking_fails = N.marking_fails; adding_fails = N.adding_fails; round_fails = N.round_fails };
+          store_calls = record { failures = ⟦<ShallowMemory as ShallowStore>⟧.failures; locks = ⟦<ShallowMemory as ShallowStore>⟧.locks; reads = ⟦<ShallowMemory as ShallowStore>⟧.reads; writes = ⟦<ShallowMemory as ShallowStore>⟧.writes; releases = ⟦<ShallowMemory as ShallowStore>⟧.releases };
           says = ⟦<NeverInterrupt as Interrupt>⟧.says;
           consumes = ⟦<ReadToEnd as ConsumePack<Discard>>⟧.consumes;
           plain = T.is_plain;
@@ -139,8 +139,8 @@ fn fetch_mapped<'a, O: Objects, G: Objects, N: Negotiator, T: Transport>(
 ) -> Result<Option<Outcome>, fetch::Error<AllocError, CopyError>>
     ensures { FetchesMapped
         (record {
-          office = record { count = ⟦<Negotiation<'a, O, NoRefs, N, G, AllocError> as Negotiate>⟧.count; marks = ⟦<Negotiation<'a, O, NoRefs, N, G, AllocError> as Negotiate>⟧.marks; adds = ⟦<Negotiation<'a, O, NoRefs, N, G, AllocError> as Negotiate>⟧.adds; goes = ⟦<Negotiation<'a, O, NoRefs, N, G, AllocError> as Negotiate>⟧.goes; marking_fails = ⟦<Negotiation<'a, O, NoRefs, N, G, AllocError> as Negotiate>⟧.marking_fails; adding_fails = ⟦<Negotiation<'a, O, NoRefs, N, G, AllocError> as Negotiate>⟧.adding_fails; round_fails = ⟦<Negotiation<'a, O, NoRefs, N, G, AllocError> as Negotiate>⟧.round_fails };
-          shop = record { failures = ⟦<ShallowMemory as ShallowStore>⟧.failures; locks = ⟦<ShallowMemory as ShallowStore>⟧.locks; reads = ⟦<ShallowMemory as ShallowStore>⟧.reads; writes = ⟦<ShallowMemory as ShallowStore>⟧.writes; releases = ⟦<ShallowMemory as ShallowStore>⟧.releases };
+          negotiation_calls = record { count = ⟦<Negotiation<'a, O, NoRefs, N, G, AllocError> as Negotiate>⟧.count; marks = ⟦<Negotiation<'a, O, NoRefs, N, G, AllocError> as Negotiate>⟧.marks; adds = ⟦<Negotiation<'a, O, NoRefs, N, G, AllocError> as Negotiate>⟧.adds; goes = ⟦<Negotiation<'a, O, NoRefs, N, G, AllocError> as Negotiate>⟧.goes; marking_fails = ⟦<Negotiation<'a, O, NoRefs, N, G, AllocError> as Negotiate>⟧.marking_fails; adding_fails = ⟦<Negotiation<'a, O, NoRefs, N, G, AllocError> as Negotiate>⟧.adding_fails; round_fails = ⟦<Negotiation<'a, O, NoRefs, N, G, AllocError> as Negotiate>⟧.round_fails };
+          store_calls = record { failures = ⟦<ShallowMemory as ShallowStore>⟧.failures; locks = ⟦<ShallowMemory as ShallowStore>⟧.locks; reads = ⟦<ShallowMemory as ShallowStore>⟧.reads; writes = ⟦<ShallowMemory as ShallowStore>⟧.writes; releases = ⟦<ShallowMemory as ShallowStore>⟧.releases };
           says = ⟦<NeverInterrupt as Interrupt>⟧.says;
           consumes = ⟦<ReadToEnd as ConsumePack<Discard>>⟧.consumes;
           plain = T.is_plain;
@@ -214,8 +214,8 @@ pub(crate) fn run<'a, O: Objects, G: Objects, N: Negotiator, T: Transport>(
     ensures { Runs
         (λ m h old new r. FetchesMapped
         (record {
-          office = record { count = ⟦<Negotiation<'a, O, NoRefs, N, G, AllocError> as Negotiate>⟧.count; marks = ⟦<Negotiation<'a, O, NoRefs, N, G, AllocError> as Negotiate>⟧.marks; adds = ⟦<Negotiation<'a, O, NoRefs, N, G, AllocError> as Negotiate>⟧.adds; goes = ⟦<Negotiation<'a, O, NoRefs, N, G, AllocError> as Negotiate>⟧.goes; marking_fails = ⟦<Negotiation<'a, O, NoRefs, N, G, AllocError> as Negotiate>⟧.marking_fails; adding_fails = ⟦<Negotiation<'a, O, NoRefs, N, G, AllocError> as Negotiate>⟧.adding_fails; round_fails = ⟦<Negotiation<'a, O, NoRefs, N, G, AllocError> as Negotiate>⟧.round_fails };
-          shop = record { failures = ⟦<ShallowMemory as ShallowStore>⟧.failures; locks = ⟦<ShallowMemory as ShallowStore>⟧.locks; reads = ⟦<ShallowMemory as ShallowStore>⟧.reads; writes = ⟦<ShallowMemory as ShallowStore>⟧.writes; releases = ⟦<ShallowMemory as ShallowStore>⟧.releases };
+          negotiation_calls = record { count = ⟦<Negotiation<'a, O, NoRefs, N, G, AllocError> as Negotiate>⟧.count; marks = ⟦<Negotiation<'a, O, NoRefs, N, G, AllocError> as Negotiate>⟧.marks; adds = ⟦<Negotiation<'a, O, NoRefs, N, G, AllocError> as Negotiate>⟧.adds; goes = ⟦<Negotiation<'a, O, NoRefs, N, G, AllocError> as Negotiate>⟧.goes; marking_fails = ⟦<Negotiation<'a, O, NoRefs, N, G, AllocError> as Negotiate>⟧.marking_fails; adding_fails = ⟦<Negotiation<'a, O, NoRefs, N, G, AllocError> as Negotiate>⟧.adding_fails; round_fails = ⟦<Negotiation<'a, O, NoRefs, N, G, AllocError> as Negotiate>⟧.round_fails };
+          store_calls = record { failures = ⟦<ShallowMemory as ShallowStore>⟧.failures; locks = ⟦<ShallowMemory as ShallowStore>⟧.locks; reads = ⟦<ShallowMemory as ShallowStore>⟧.reads; writes = ⟦<ShallowMemory as ShallowStore>⟧.writes; releases = ⟦<ShallowMemory as ShallowStore>⟧.releases };
           says = ⟦<NeverInterrupt as Interrupt>⟧.says;
           consumes = ⟦<ReadToEnd as ConsumePack<Discard>>⟧.consumes;
           plain = T.is_plain;

@@ -80,8 +80,8 @@ fn with_numbers(action: &[u8], numbers: Numbers) -> Option<RemoteProgress<'_>>
 impl<'a> RemoteProgress<'a> {
     /// Reads a line: what stands before its first colon is the action, and the longest runs of decimal digits behind
     /// the colon are the numbers. The first run is the percentage where a `%` follows it, and none where it exceeds 32
-    /// bits; the next is the step, and the one behind it the maximum. A run that exceeds 64 bits is no number. It takes
-    /// no memory.
+    /// bits; the next is the step, and the one behind it the maximum. A run that exceeds 64 bits is no number. It
+    /// allocates nothing.
     ///
     /// `None` for a line without an action or without a number.
     pub fn from_bytes(line: &'a [u8]) -> Option<RemoteProgress<'a>>

@@ -147,7 +147,7 @@ impl<'s> MatchGroup<'s> {
     ///
     /// # Errors
     ///
-    /// Only where memory runs out; what was lent stands as it was.
+    /// Only when an allocation fails; what was lent stands as it was.
     pub fn match_lhs(&self, alloc: Global, items: &[Item<'_>]) -> Result<Outcome<'s>, AllocError>
         ensures mappings { IfOk result (λ outcome. mapped_in outcome.mappings ≡ mappings (group_specs self.now) (names items.now)) }
         ensures specs { IfOk result (λ outcome. outcome_specs outcome ≡ group_specs self.now) }
@@ -171,7 +171,7 @@ impl<'s> Outcome<'s> {
     ///
     /// # Errors
     ///
-    /// The outer one only where memory runs out, the inner one for conflicts. The mappings are dropped then.
+    /// The outer one only when an allocation fails, the inner one for conflicts. The mappings are dropped then.
     pub fn validated(
         self,
         alloc: Global,

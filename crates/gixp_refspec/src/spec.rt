@@ -101,7 +101,7 @@ impl<'a> RefSpecRef<'a> {
     ///
     /// # Errors
     ///
-    /// Only where memory runs out; nothing is kept then.
+    /// Only when an allocation fails; nothing is kept then.
     pub fn to_owned(&self, alloc: Global) -> Result<RefSpec, AllocError>
         ensures { IfOk result (λ s. owned_value_of s ≡ value_of self.now) }
     {
@@ -120,7 +120,7 @@ impl<'a> RefSpecRef<'a> {
     ///
     /// # Errors
     ///
-    /// Only where memory runs out; the first of the prefixes may be there then, and nothing else is changed.
+    /// Only when an allocation fails; the first of the prefixes may be there then, and nothing else is changed.
     pub fn expand_prefixes(&self, alloc: Global, out: &mut Vec<BString>) -> Result<(), AllocError>
         ensures adds { AddsSome result (texts out.old) (prefixes_of (value_of self.now)) (texts out.new) }
         ensures covers { OnOk result (Covers (texts out.new) (value_of self.now)) }
@@ -144,7 +144,7 @@ impl<'a> RefSpecRef<'a> {
     ///
     /// # Errors
     ///
-    /// Only where memory runs out.
+    /// Only when an allocation fails.
     pub fn to_bstring(&self, alloc: Global) -> Result<BString, AllocError>
         ensures text { IfOk result (λ t. bstring_bytes t ≡ text_of (value_of self.now)) }
         ensures reads { IfOk result (λ t. spec_of (bstring_bytes t) ≡ Ok (value_of self.now)) }
@@ -219,7 +219,7 @@ impl RefSpec {
     ///
     /// # Errors
     ///
-    /// Only where memory runs out.
+    /// Only when an allocation fails.
     pub fn to_bstring(&self, alloc: Global) -> Result<BString, AllocError>
         ensures text { IfOk result (λ t. bstring_bytes t ≡ text_of (owned_value_of self.now)) }
         ensures reads { IfOk result (λ t. spec_of (bstring_bytes t) ≡ Ok (owned_value_of self.now)) }

@@ -39,7 +39,7 @@ use std::mem;
 
 // A shallow boundary that counts calls, and refuses one of them.
 #[derive(Drop)]
-struct Shop {
+struct ScriptedStore {
     ids: Vec<ObjectId>,
     locks: u64,
     releases: u64,
@@ -48,7 +48,7 @@ struct Shop {
     failures: u64,
 }
 
-impl Shop {
+impl ScriptedStore {
     // Whether this call is refused.
     fn refuses(&mut self) -> bool
         ensures { self.new.failures ≡ self.old.failures }
@@ -77,7 +77,7 @@ impl Shop {
     }
 }
 
-impl ShallowStore for Shop {
+impl ShallowStore for ScriptedStore {
     ghost failures = { λ s. s.failures };
 
     ghost locks = { λ s t. Unit {0} };
@@ -171,7 +171,7 @@ fn fetch_by<T: Transport, C: ConsumePack<Discard, Error = CopyError>>(
     script: &mut Script<'_>,
     hands: &mut Handshake,
     map: &RefMap,
-    shop: &mut Shop,
+    store: &mut ScriptedStore,
     transport: &mut T,
     consumer: &mut C,
     report: &mut Report,
@@ -202,7 +202,7 @@ fn fetch_by<T: Transport, C: ConsumePack<Discard, Error = CopyError>>(
             table: &script.table,
         },
         Options {
-            shallow_file: shop,
+            shallow_file: store,
             shallow: &script.shallow,
             tags: script.tags,
             reject_shallow_remote: script.rejects,
@@ -217,7 +217,7 @@ fn fetch_pack<T: Transport>(
     script: &mut Script<'_>,
     hands: &mut Handshake,
     map: &RefMap,
-    shop: &mut Shop,
+    store: &mut ScriptedStore,
     transport: &mut T,
     report: &mut Report,
 ) -> Result<(), AllocError> {
@@ -228,7 +228,7 @@ fn fetch_pack<T: Transport>(
             script,
             hands,
             map,
-            shop,
+            store,
             transport,
             &mut consumer,
             report,
@@ -242,7 +242,7 @@ fn fetch_pack<T: Transport>(
         script,
         hands,
         map,
-        shop,
+        store,
         transport,
         &mut consumer,
         report,
@@ -308,12 +308,12 @@ fn shake<T: Transport>(
 }
 
 // The boundary, and how often its lock was had.
-fn report_shop(shop: &Shop, report: &mut Report) -> Result<(), AllocError> {
+fn report_store(store: &ScriptedStore, report: &mut Report) -> Result<(), AllocError> {
     report.word("locks ")?;
-    report.number(shop.locks)?;
+    report.number(store.locks)?;
     report.word("/")?;
-    report.number(shop.releases)?;
-    for id in &shop.ids {
+    report.number(store.releases)?;
+    for id in &store.ids {
         report.word(" ")?;
         report.id(id)?;
     }
@@ -330,7 +330,7 @@ fn report_over<T: Transport>(
         return Ok(());
     };
     let version = hands.server_protocol_version;
-    let mut shop = Shop {
+    let mut store = ScriptedStore {
         ids: mem::replace(&mut script.boundary, Vec::new(alloc)),
         locks: 0,
         releases: 0,
@@ -340,11 +340,11 @@ fn report_over<T: Transport>(
     };
     match obtain_map(alloc, script, &mut hands, transport, report)? {
         Some(map) => fetch_pack(
-            alloc, script, &mut hands, &map, &mut shop, transport, report,
+            alloc, script, &mut hands, &map, &mut store, transport, report,
         )?,
         None => {}
     }
-    report_shop(&shop, report)?;
+    report_store(&store, report)?;
     report_rest(transport, version, report)
 }
 

@@ -7,7 +7,7 @@
 //!     e ID KIND            one that the graph's objects haven't, also of the kind `c` commit
 //!     b ID                 a commit of which a look fails
 //!     r NAME ID            a ref               p ID..               what refs lead to
-//!     R ERROR              the refs can't be listed: `o`, `i`, `p` or `f`, the first letter of the error, `f` for a device that failed
+//!     R ERROR              the refs can't be listed: `o`, `i`, `p` or `f`, the first letter of the error, `f` for a read that failed
 //!     a ID..               an alternate, and what its refs lead to
 //!     A ERROR              one of which the refs can't be listed
 //!     x                    the alternates can't be opened

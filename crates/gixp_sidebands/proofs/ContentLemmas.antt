@@ -1,4 +1,4 @@
--- Bytes of band 1 that are handed out.
+-- Bytes of band 1 that are returned.
 use Rattle.std.proofs.Common.{◌≡◌, ℕ, ◌+◌, ◌-◌, ◌<◌, ◌≤◌, ◌⊎◌, Bool, true, false, List, [], ◌∷◌, ◌++◌, length, drop, take, refl, sym, ap, ◌∙◌, arith, Option, Some, None, IfSome, Ok, min, inl, inr, subst, length-append, take-append-drop, take_all, length-drop, append-nil, IsSome}
 use Rattle.std.specs.Prelude.{◌&&◌, nat_lt, is_some}
 use Rattle.std.proofs.lemmas.List.{drop-drop, take-append-le, drop-append-le, length-take-le}
@@ -70,14 +70,14 @@ content_gives v (line t ∷ ps) end text q h k =
       messages_skip (band_of t) t (messages_from ps) (ap band_of e1 ∙ k) ∙ ap messages_of e2,
     )
 
--- a part of a front is handed out
+-- a part of a front is returned
 split_front : (all xs rest : List ℕ) (n k : ℕ) → all ≡ xs ++ rest → n + k ≤ length xs → drop n all ≡ take k (drop n xs) ++ drop (n + k) all
 split_front all xs rest n k e h =
     let a : drop n all ≡ drop n xs ++ rest = ap (drop n) e ∙ drop-append-le n xs rest (omega arith) in
     let b : take k (drop n all) ≡ take k (drop n xs) = ap (take k) a ∙ take-append-le k (drop n xs) rest (omega (arith, length-drop n xs)) in
     sym (take-append-drop k (drop n all)) ∙ ap (λ x. x ++ drop k (drop n all)) b ∙ ap (λ x. take k (drop n xs) ++ x) (drop-drop k n all)
 
--- all of a front is handed out
+-- all of a front is returned
 whole_front : (all xs rest : List ℕ) (n k : ℕ) → all ≡ xs ++ rest → n ≤ length xs → length xs ≤ n + k → drop n all ≡ take k (drop n xs) ++ rest
 whole_front all xs rest n k e h more =
     ap (drop n) e ∙ drop-append-le n xs rest h ∙ ap (λ x. x ++ rest) (sym (take_all k (drop n xs) (omega (arith, length-drop n xs))))
@@ -283,7 +283,7 @@ pub fills_by : (old new : Side) (more : Bool) → old.place ≡ None → new.pla
 fills_by old new true o n f held first h = shows_content_at old new o n f held first (rw (o, n) at h)
 fills_by old new false o n f held first h = ends_content_at old new o n f h
 
--- content that was at hand is handed out
+-- content that was at hand is returned
 pub reads_bytes : (old mid new : Side) (n : ℕ) (rest buf buf' : List ℕ) → ShowsContent old mid → HandsOut mid.place mid.reading (take n (shown mid.place mid.reading)) new.place new.reading
     → new.name ≡ mid.name → new.fault ≡ mid.fault → rest ≡ shown mid.place mid.reading → n ≡ min (length rest) (length buf) → buf' ≡ take n rest ++ drop n buf
     → ReadsBytes old new (take n buf') × (n ≡ 0 → length buf' ≡ 0)
@@ -379,7 +379,7 @@ ends_at old new x o r = rw o (by (rw o at r))
     by : Refuses (banded_reading false old.name old.reading) (side_reading new) x → IfSome old.reading.to_come (λ p. content_left None old.reading.stopped p ≡ [])
     by h = at old.reading.to_come (side_reading new).to_come old.reading.stopped h.running h.next
 
--- a device that failed as at its end didn't leave what is to come
+-- a read that failed as at the end didn't leave what is to come
 not_both : (old new : Reading) (x : Refusal) → x ≡ io UnexpectedEof → Faults old new x → ⊥
 not_both old new x e h = absurd (let y : is_end UnexpectedEof ≡ false = (subst (IsFault old new) e h.fault).0 in cc)
 

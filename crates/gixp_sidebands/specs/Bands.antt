@@ -98,7 +98,7 @@ messages_from (mark kind ∷ ps) = []
 abbrev pub messages_of : Pieces → List Message
 messages_of ps = messages_from ps.list
 
--- how many bytes were handed out of the packet that is peeked at, and that a byte of it was
+-- how many bytes were returned of the packet that is peeked at, and that a byte of it was
 abbrev pub handed : Option ℕ → ℕ
 handed None = 0
 handed (Some n) = n
@@ -106,7 +106,7 @@ handed (Some n) = n
 abbrev pub is_begun : Option ℕ → Bool
 is_begun place = nat_lt 0 (handed place)
 
--- where there is a place, a line of content is peeked at, with more bytes than were handed out, and all of them are within the bound
+-- where there is a place, a line of content is peeked at, with more bytes than were returned, and all of them are within the bound
 abbrev pub is_held : Option ℕ → Reading → Bool
 is_held None r = true
 is_held (Some n) r = r.peeked && (is_content (band_of r.line) && (nat_lt (n + 1) (length r.line) && nat_lt (length r.line) r.left))
@@ -121,12 +121,12 @@ abbrev pub IsFirst : Option ℕ → Reading → Pieces → Type 0
 IsFirst None r p = Unit {0}
 IsFirst (Some n) r p = front_line p.list ≡ r.line
 
--- the bytes of the packet at the place that were not handed out
+-- the bytes of the packet at the place that were not returned
 abbrev pub shown : Option ℕ → Reading → List ℕ
 shown None r = []
 shown (Some n) r = drop (n + 1) r.line
 
--- the bytes of band 1 still to be handed out before the next stop, of which there are none at one
+-- the bytes of band 1 still to be returned before the next stop, of which there are none at one
 abbrev pub content_left : Option ℕ → Option MessageKind → Pieces → List ℕ
 content_left (Some n) stopped p = drop n (content_of p)
 content_left None (Some kind) p = []
@@ -155,7 +155,7 @@ banded_reading begun name r = record {
   held = record r.held { names = name ∷ r.held.names };
 }
 
--- the next bytes of band 1 were handed out
+-- the next bytes of band 1 were returned
 pub record HandsOut (place : Option ℕ) (old : Reading) (bytes : List ℕ) (place' : Option ℕ) (new : Reading) : Type 0 where
   pub content : IfSome old.to_come (λ p. IsFirst place old p → (q : Pieces) × (new.to_come ≡ Some q) × IsFirst place' new q × (content_left place old.stopped p ≡ bytes ++ content_left place' new.stopped q))
   pub messages : IfSome old.to_come (λ p. (q : Pieces) × (new.to_come ≡ Some q) × (messages_left new.stopped q ≡ messages_left old.stopped p))
@@ -196,7 +196,7 @@ IsFirstOf s p = IsFirst s.place s.reading p
 abbrev pub Passes : Side → Side → List ℕ → Type 0
 Passes old new bytes = IfSome old.reading.to_come (λ p. IsFirstOf old p → (q : Pieces) × (new.reading.to_come ≡ Some q) × IsFirstOf new q × (side_content old p ≡ bytes ++ side_content new q))
 
--- a bound on the bytes of content that may still come, which falls with each that is handed out
+-- a bound on the bytes of content that may still come, which falls with each that is returned
 abbrev pub content_bound : Side → ℕ
 content_bound s = s.reading.left - handed s.place
 
@@ -220,7 +220,7 @@ pub record EndsContent (old new : Side) : Type 0 where
   pub place : new.place ≡ None
   pub fault : new.fault ≡ None
 
--- a refusal, which stands until the next call, and with its kind. It comes only where no packet is at hand. What is left to come is an end of what was: all of it, but where the device broke off, and in front of a refusal of the stream there is none
+-- a refusal, which stands until the next call, and with its kind. It comes only where no packet is at hand. What is left to come is an end of what was: all of it, but where a read failed, and in front of a refusal of the stream there is none
 pub record RefusesContent (old new : Side) (e : io_error) : Type 0 where
   pub refusal : Refusal
   pub fault : new.fault ≡ Some refusal
@@ -255,7 +255,7 @@ abbrev pub ShowsFirst : Reading → Reading → Result Bool Error → Type 0
 ShowsFirst old new (Ok true) = IfSome old.to_come (λ p. (q : Pieces) × (new.to_come ≡ Some q) × (front_line q.list ≡ new.line))
 ShowsFirst old new _ = Unit {0}
 
--- these bytes of content were handed out
+-- these bytes of content were returned
 pub record ReadsBytes (old new : Side) (bytes : List ℕ) : Type 0 where
   pub content : Passes old new bytes
   pub bound : length bytes + content_bound new ≤ content_bound old

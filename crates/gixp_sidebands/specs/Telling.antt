@@ -56,7 +56,7 @@ module _ {P I : Type 0} (hears : P → Bool → List ℕ → P → Type 0) (says
     pub messages : messages_left old.stopped p ≡ told ++ rest
     pub tells : Tells told a b
 
-  -- the messages up to what is left were told, or only some where the device broke off as at the end, which counts as a failure
+  -- the messages up to what is left were told, or only some where a read failed as at the end, which counts as a failure
   abbrev pub ToldUnless : Bool → Reading → Reading → Listener P I → Listener P I → Pieces → Type 0
   ToldUnless true old new a b p = ((q : Pieces) × ToldTo old new a b p q) ⊎ (ToldSome old a b p × Rose old.failures new.failures)
   ToldUnless false old new a b p = (q : Pieces) × ToldTo old new a b p q

@@ -50,7 +50,7 @@ pub trait BandText {
 /// dropped or gives the transport back, and a call for lines goes on behind it.
 ///
 /// Beside the refusals of the transport there are `BadBand`, at a packet of no band, which is never
-/// taken, so that every reader over this transport answers the same; `Interrupted`, where the
+/// taken, so that every reader over this transport returns the same; `Interrupted`, where the
 /// interrupt said so, after which the text isn't told again; and `Memory`, where the listener had
 /// none, after which the same text is told again.
 pub struct WithSidebands<'a, T: ExtendedBufRead, P, I> {
@@ -129,7 +129,7 @@ impl<'a, T: ExtendedBufRead, P: BandText + Drop, I: Interrupt> WithSidebands<'a,
         self.fault.as_ref()
     }
 
-    /// Sees to it that bytes of content are at hand, which `buffer` then lends, and answers true; at
+    /// Sees to it that bytes of content are at hand, which `buffer` then lends, and returns true; at
     /// a stop false. Of content it takes nothing.
     ///
     /// # Errors
@@ -354,7 +354,7 @@ fn copy_front(from: &[u8], to: &mut [u8]) -> usize
     count
 }
 
-// The kind with which `Read` and `BufRead` answer a refusal.
+// The kind with which `Read` and `BufRead` return a refusal.
 fn io_kind(e: &Error) -> ErrorKind
     ensures { result ≡ io_kind (refusal_of e.now) }
 {

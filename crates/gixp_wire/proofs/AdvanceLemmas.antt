@@ -153,7 +153,7 @@ if_same : (o : Option Refusal) → IfSome o (λ y. o ≡ Some y)
 if_same None = tt
 if_same (Some x) = refl
 
--- a device that failed is a fault
+-- a read that failed is a fault
 io_fault : (old new : Reading) (e : Error) → IsIo e → old.refused ≡ None → Rose old.failures new.failures → IsFault old new (refusal_of e)
 io_fault old new (Io kind) h n r = (h, n, r)
 io_fault old new (Decode x) h n r = absurd h
@@ -348,7 +348,7 @@ module _ {R : Type 0} where
       subst (IsPlain (packets_reading rem mid)) (sym (ap refusal_of m))
       (error_message (drop 4 (take size mid.window.pending)), refused-is rem mid (h.kept.place ∙ op) ∙ now)
 
-  -- the device failed as at its end, and so the stream ends
+  -- the read failed as at the end, and so the stream ends
   breaks_off : (rem : R → Option (List ℕ)) (old mid : Packets R) (e : Error) → SettledBreak old mid e → old.place ≡ Open → BreaksOff (packets_reading rem old) (packets_reading rem mid) (refusal_of e)
   breaks_off rem old mid e h op =
       let b = h.breaks in

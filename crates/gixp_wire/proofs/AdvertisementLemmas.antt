@@ -146,7 +146,7 @@ advertises-then said then takes more texts old mid new (Err e) f s h = record {
     why (inl k) = inl (turned_refusal said then old.to_come mid.to_come (client_refusal e) s.turns k.0, k.1 ∙ s.failures)
     why (inr k) = inr (from_device old mid new e s.failures k)
 
--- the errors that a device and memory bring
+-- the errors that failed reads and allocations bring
 is_io : (e : Error) (kind : ErrorKind) → client_refusal e ≡ failed kind → e ≡ Io kind
 is_io (Io k) kind h = let same : k ≡ kind = cc in ap Io same
 is_io (Read e) kind h = absurd (cc)
@@ -353,7 +353,7 @@ fails-lines old mid new texts x e h k p is =
     (fails-reading (said_behind texts) TakesAny mid new x e h.version k p is
     (λ q n. let next : next_of V2 q ≡ refuses x = ap (λ v. next_of v q) (sym h.version) ∙ n in rw (refuses_here V2 q.list q.end x next) refl))
 
--- no memory for one of them
+-- an allocation failed for one of them
 pub fails-memory : (old mid new : Reading) (texts : List (List ℕ)) → Gathers old mid texts → TakesLine mid new → FailsAdvertisement from_capability_lines TakesAny old new Memory
 fails-memory old mid new texts h k = record { why = inr (k.failures ∙ h.failures); taken = texts ++ new.line ∷ []; by_version = k.version ∙ h.version; stands = taken-then texts (new.line ∷ []) old.to_come mid.to_come new.to_come h.lines (one-taken mid.to_come new.to_come mid.version new.line k.next); stopped = k.stopped; left = let a = h.left in let b = k.left in omega arith; held = k.held ∙ h.held }
 

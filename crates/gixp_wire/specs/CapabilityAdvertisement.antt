@@ -106,7 +106,7 @@ pub record ReadsAdvertisement (said : Pieces → Result Advertised ClientRefusal
   pub left : new.left ≤ old.left
   pub held : new.held ≡ old.held
 
--- a device failed, or there was no memory
+-- a read or write failed, or an allocation
 abbrev pub IsFromDevice : Reading → Reading → Error → Type 0
 IsFromDevice old new (Io kind) = Rose old.failures new.failures
 IsFromDevice old new Memory = new.failures ≡ old.failures
@@ -139,7 +139,7 @@ TakesFirst V2 texts = (first : List ℕ) × (more : List (List ℕ)) × (version
 abbrev pub StandsRefused : Reading → Reading → Refusal → Type 0
 StandsRefused old new e = (new.refused ≡ Some e) × IfSome old.to_come (λ p. new.to_come ≡ Some (no_pieces e))
 
--- behind a failure of the device no line is peeked at, and one as at the end of the stream stands
+-- behind a failed read no line is peeked at, and one as at the end of the stream stands
 abbrev pub StandsIo : Bool → List (List ℕ) → Reading → Reading → ErrorKind → Type 0
 StandsIo true texts old new kind = StandsRefused old new (io kind)
 StandsIo false texts old new kind = (new.peeked ≡ false) × LinesTaken texts old.to_come new.to_come
@@ -153,7 +153,7 @@ Stands texts old new MissingDelimitingNullByte = (new.peeked ≡ true) × (capab
 Stands texts old new Memory = LinesTaken texts old.to_come new.to_come
 Stands texts old new _ = ⊥
 
--- the first refusal of what was said, or that of a device or of memory
+-- the first refusal of what was said, or that of a failed read or write, or of an allocation
 pub record FailsAdvertisement (said : Pieces → Result Advertised ClientRefusal) (takes : Protocol → List (List ℕ) → Type 0) (old new : Reading) (e : Error) : Type 0 where
   pub why : (IfSome old.to_come (λ p. said p ≡ Err (client_refusal e)) × (new.failures ≡ old.failures)) ⊎ IsFromDevice old new e
   pub taken : List (List ℕ)

@@ -23,7 +23,7 @@ standing ended (Bad e) bytes = Some (decode e)
 standing ended (Special kind) bytes = None
 standing ended (Data size) bytes = let text = drop 4 (take size bytes) in if is_error text then Some (server (error_message text)) else None
 
--- it is a failure of the device, but none as at its end
+-- it is a failed read, but none as at the end
 abbrev pub IsIo : Error → Type 0
 IsIo (Io kind) = is_end kind ≡ false
 IsIo _ = ⊥
@@ -115,7 +115,7 @@ module _ {R : Type 0} where
     pub ended : new.ended ≡ true
     pub failures : new.failures ≡ old.failures
 
-  -- the device failed
+  -- the read failed
   pub record Broke (remaining : R → Option (List ℕ)) (old new : Packets R) (e : Error) : Type 0 where
     pub kept : Kept remaining old new
     pub error : IsIo e
@@ -124,7 +124,7 @@ module _ {R : Type 0} where
     pub is_open : new.ended ≡ false
     pub failures : Rose old.failures new.failures
 
-  -- the device failed as at its end
+  -- the read failed as at the end
   pub record BrokeOff (old new : Packets R) (e : Error) : Type 0 where
     pub error : e ≡ Io UnexpectedEof
     pub front : head_of new.window.pending ≡ Partial
@@ -154,7 +154,7 @@ module _ {R : Type 0} where
     pub front : head_of old.window.pending ≡ Partial
     pub same : old.ended ≡ true → new ≡ old
 
-  -- the device failed where more bytes were wanted
+  -- the read failed where more bytes were wanted
   pub record SettledFault (remaining : R → Option (List ℕ)) (old new : Packets R) (e : Error) : Type 0 where
     pub breaks : Broke remaining old new e
     pub front : head_of old.window.pending ≡ Partial

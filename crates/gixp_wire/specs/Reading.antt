@@ -20,7 +20,7 @@ use Rattle.gixp_wire.specs.TransportState.{TransportState, nothing_held}
 pub record Reading : Type 0 where
   -- the pieces to come, where the bytes are known
   pub to_come : Option Pieces
-  -- the refusal that stands next, whatever a device does
+  -- the refusal that stands next, whatever a read does
   pub refused : Option Refusal
   -- the stop that it is at
   pub stopped : Option MessageKind
@@ -30,7 +30,7 @@ pub record Reading : Type 0 where
   pub line : List ℕ
   -- whether that line is still to come
   pub peeked : Bool
-  -- how often the device failed
+  -- how many reads and writes failed
   pub failures : ℕ
   -- a bound on the bytes of the lines that may still come, with one more for each line
   pub left : ℕ
@@ -146,7 +146,7 @@ IsLasting unexpected_frame = ⊤
 IsLasting (bad_band band) = ⊤
 IsLasting _ = ⊥
 
--- this refusal came next, and every later call answers it
+-- this refusal came next, and every later call returns it
 pub record Refuses (old new : Reading) (e : Refusal) : Type 0 where
   pub running : old.stopped ≡ None
   pub lasting : IsLasting e
@@ -170,7 +170,7 @@ abbrev pub is_end : ErrorKind → Bool
 is_end UnexpectedEof = true
 is_end _ = false
 
--- what may come at any time: a device that failed, an interrupt, and memory. The first two never come in place of a refusal that stands
+-- what may come at any time: a read that failed, an interrupt, and an allocation failure. The first two never come in place of a refusal that stands
 abbrev pub IsFault : Reading → Reading → Refusal → Type 0
 IsFault old new (io kind) = (is_end kind ≡ false) × (old.refused ≡ None) × Rose old.failures new.failures
 IsFault old new memory = new.failures ≡ old.failures
@@ -183,7 +183,7 @@ pub record Faults (old new : Reading) (e : Refusal) : Type 0 where
   pub fault : IsFault old new e
   pub stays : Stays old new
 
--- a device failed as at its end, which is then the end of the stream: every later call answers it
+-- a read failed as at the end, which is then the end of the stream: every later call returns it
 pub record BreaksOff (old new : Reading) (e : Refusal) : Type 0 where
   pub running : old.stopped ≡ None
   pub sound : old.refused ≡ None
@@ -198,7 +198,7 @@ pub record BreaksOff (old new : Reading) (e : Refusal) : Type 0 where
   pub left : new.left ≤ old.left
   pub held : new.held ≡ old.held
 
--- something came from outside: a device that failed, an interrupt, or want of memory
+-- something came from outside: a read that failed, an interrupt, or an allocation failure
 abbrev pub IsOutside : Reading → Reading → Refusal → Type 0
 IsOutside old new e = Faults old new e ⊎ BreaksOff old new e
 
@@ -206,7 +206,7 @@ IsOutside old new e = Faults old new e ⊎ BreaksOff old new e
 abbrev pub Fails : Reading → Reading → Refusal → Type 0
 Fails old new e = Refuses old new e ⊎ IsOutside old new e
 
--- an error of a reader that knows no bands, asks no interrupt, and takes memory for the text of a server's error alone
+-- an error of a reader that knows no bands, asks no interrupt, and allocates for the text of a server's error alone
 abbrev pub IsPlain : Reading → Refusal → Type 0
 IsPlain new memory = (message : List ℕ) × (new.refused ≡ Some (server message))
 IsPlain new interrupted = ⊥

@@ -138,7 +138,7 @@ SentBy false old new bytes = TakesAnswer (entered (with_written old (Some bytes)
 abbrev pub Unsent : Reading → Reading → Type 0
 Unsent old new = (new ≡ with_written old new.held.written) × (old.held.persists ≡ true → new ≡ old)
 
--- a request that a device refused: over a connection nothing is said of what went out, and else its answer is one that fails
+-- a request whose write failed: over a connection nothing is said of what went out, and else its answer is one that fails
 abbrev pub FailsBy : Bool → Reading → Reading → List ℕ → ErrorKind → Type 0
 FailsBy true old new bytes kind = Broke old new kind
 FailsBy false old new bytes kind = TakesAnswer (entered (with_written old (Some bytes))) new × ByAnswer old new (Some kind)

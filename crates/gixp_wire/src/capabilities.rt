@@ -123,7 +123,7 @@ impl Capabilities {
     }
 
     // Appends the capability that a line stands for, without one LF at its end. Nothing changes where
-    // there is no memory.
+    // an allocation fails.
     pub(crate) fn push_line(&mut self, line: &[u8]) -> Result<(), AllocError>
         ensures ok { OnOk result (self.new ≡ self.old ++ capability_of_line line.now ∷ []) }
         ensures err { OnErr result (self.new ≡ self.old) }

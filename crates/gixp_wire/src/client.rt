@@ -10,7 +10,7 @@ use thiserror::Error as DeriveError;
 /// Why a call that speaks to a server is refused.
 ///
 /// After `LineTooLong` nothing was written. After a failed write nothing is said of what went out,
-/// and every later request over the same connection answers the same `Io`.
+/// and every later request over the same connection returns the same `Io`.
 #[derive(Debug, Drop, DeriveError)]
 pub enum Error {
     /// A read or write failed with this kind, or the stream ended (`UnexpectedEof`).

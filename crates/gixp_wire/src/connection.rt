@@ -26,7 +26,7 @@ use std::io::{ErrorKind, Read, Write};
 ///
 /// A line is written in three pieces, and the writer is flushed at the end of each request: a
 /// buffered writer saves calls of the system. After a failed write nothing is said of what went
-/// out, and every later request answers the same fault.
+/// out, and every later request returns the same fault.
 #[derive(Drop)]
 pub struct Connection<R, W> {
     packets: Packets<R>,

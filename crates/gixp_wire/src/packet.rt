@@ -40,7 +40,7 @@ impl From<MessageKind> for Frame {
 }
 
 /// Why four bytes begin no frame (gitprotocol-common, "pkt-line Format"). A reader that met one
-/// answers it again at each later read.
+/// returns it again at each later read.
 #[derive(Clone, Copy, Debug, PartialEq, Eq, Drop, Error)]
 pub enum PacketError {
     /// They are no hexadecimal digits.

@@ -111,14 +111,14 @@ impl<R: Read> Packets<R> {
         self.version
     }
 
-    /// How often the device failed, up to the greatest value of the count.
+    /// How many reads and writes failed, up to the greatest value of the count.
     pub(crate) fn failures(&self) -> u64
         ensures { result ≡ self.now.failures }
     {
         self.failures
     }
 
-    /// Counts one more failure of a device, up to the greatest value of the count.
+    /// Counts one more failed read or write, up to the greatest value of the count.
     pub(crate) fn note_failure(&mut self)
         ensures rose { Rose self.old.failures self.new.failures }
         ensures rest { self.new ≡ record self.old { failures = self.new.failures } }

@@ -1,13 +1,13 @@
-//! Who is told how far a call has come.
+//! Progress reporters.
 ghost use Rattle.std.specs.Prelude.{◌≡◌, ℕ, List, Option, IfOk, string_bytes};
 ghost use Rattle.std.specs.Option.{option_copied};
 ghost use Rattle.gixp_wire.specs.Progress.{ProgressCall, init, step, set, set_name, fail};
 
 use std::alloc::AllocError;
 
-/// Someone who is told how far something has come.
+/// A progress reporter: it is told how far a call has come.
 ///
-/// Nothing is asked of them: each call says what it does as one relation of before and after.
+/// Nothing is asked of it: each call says what it does as one relation of before and after.
 pub trait Progress {
     /// What a call does.
     ghost told: { Self → ProgressCall → Self → Type 0 };

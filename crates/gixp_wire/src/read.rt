@@ -11,7 +11,7 @@ use thiserror::Error as DeriveError;
 /// Why a call of a reader of lines is refused.
 ///
 /// After `Decode`, `Server`, `UnexpectedFrame`, `BadBand` and the stream's end, which is
-/// `Io(UnexpectedEof)`, every later read answers the same. After `Io` of another kind,
+/// `Io(UnexpectedEof)`, every later read returns the same. After `Io` of another kind,
 /// `Interrupted` and `Memory` nothing is lost: the next call goes on with what was read so far.
 /// After `NotUtf8` the line is taken.
 #[derive(Debug, Drop, DeriveError)]
@@ -59,7 +59,7 @@ pub trait ExtendedBufRead {
     // Whether it knows no bands, asks no interrupt, and allocates for a server's error alone.
     ghost is_plain: { Bool };
 
-    /// Takes the next line, which `line` then lends, and answers true; at a stop false.
+    /// Takes the next line, which `line` then lends, and returns true; at a stop false.
     ///
     /// # Errors
     ///
@@ -68,7 +68,7 @@ pub trait ExtendedBufRead {
         ensures reads { Reads (reading self.old) (reading self.new) result }
         ensures plain { PlainIf is_plain (reading self.new) result };
 
-    /// Makes `line` lend the next line, which is still to come, and answers true; at a stop false.
+    /// Makes `line` lend the next line, which is still to come, and returns true; at a stop false.
     ///
     /// # Errors
     ///
@@ -121,7 +121,7 @@ pub trait ExtendedBufRead {
         }
     }
 
-    /// Takes the next line, appends it to the text, and answers its number of bytes; at a stop 0.
+    /// Takes the next line, appends it to the text, and returns its number of bytes; at a stop 0.
     ///
     /// # Errors
     ///

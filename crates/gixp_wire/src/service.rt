@@ -1,4 +1,4 @@
-//! What a handshake names, and what it answers.
+//! What a handshake names, and what it returns.
 ghost use Rattle.std.specs.Prelude.{◌≡◌};
 ghost use Rattle.gixp_wire.specs.Service.{service_name};
 

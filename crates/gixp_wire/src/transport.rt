@@ -23,7 +23,7 @@ use std::alloc::Global;
 ///
 /// A request is begun, written and ended; its answer is then read from the transport itself. Over
 /// a connection that persists, the answers stand one behind another, and after a failed write
-/// nothing is said of what went out: every later request answers the same `Io`. Else each request
+/// nothing is said of what went out: every later request returns the same `Io`. Else each request
 /// has an answer of its own.
 pub trait Transport: ExtendedBufRead {
     /// Whether all requests go over one connection, so that the server remembers the earlier ones.
@@ -59,7 +59,7 @@ pub trait Transport: ExtendedBufRead {
     /// otherwise. `UnsupportedProtocolVersion` for a version other than 1 and 2.
     /// `MissingDelimitingNullByte` where the first ref line has no NUL. `Memory`. After
     /// `UnsupportedProtocolVersion` and `MissingDelimitingNullByte` the line that it is about is still
-    /// to come. A refusal of the reader stands, and the stream's end: every later read answers it.
+    /// to come. A refusal of the reader stands, and the stream's end: every later read returns it.
     /// After `Memory`, and `Io` of a read that failed, only lines that were taken are gone: none, the
     /// line that names version 1, or the line that names version 2 and capability lines behind it.
     fn handshake(

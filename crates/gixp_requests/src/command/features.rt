@@ -33,7 +33,7 @@ impl CommandTable {
     ///
     /// # Errors
     ///
-    /// Only where memory runs out.
+    /// Only when an allocation fails.
     pub fn default_features(
         &self,
         alloc: Global,

@@ -92,7 +92,7 @@ impl CommandTable {
     ///
     /// # Errors
     ///
-    /// Only where memory runs out.
+    /// Only when an allocation fails.
     pub fn initial_v2_arguments(
         &self,
         alloc: Global,

@@ -59,7 +59,7 @@ impl Arguments {
     ///
     /// # Errors
     ///
-    /// Only where memory runs out.
+    /// Only when an allocation fails.
     pub fn new(
         alloc: Global,
         table: &CommandTable,
@@ -126,7 +126,7 @@ impl Arguments {
     ///
     /// # Errors
     ///
-    /// Only where memory runs out.
+    /// Only when an allocation fails.
     pub fn want(&mut self, id: &ObjectId) -> Result<(), AllocError>
         ensures { Becomes result self.old (asks_want (id_text id.now) self.old) self.new }
     {
@@ -140,7 +140,7 @@ impl Arguments {
     ///
     /// # Errors
     ///
-    /// Only where memory runs out.
+    /// Only when an allocation fails.
     pub fn want_ref(&mut self, path: BStr<'_>) -> Result<(), AllocError>
         ensures { Becomes result self.old (asks_want_ref (bstr_bytes path.entry) self.old) self.new }
     {
@@ -151,7 +151,7 @@ impl Arguments {
     ///
     /// # Errors
     ///
-    /// Only where memory runs out.
+    /// Only when an allocation fails.
     pub fn have(&mut self, id: &ObjectId) -> Result<(), AllocError>
         ensures { Becomes result self.old (asks_have (id_text id.now) self.old) self.new }
     {
@@ -163,7 +163,7 @@ impl Arguments {
     ///
     /// # Errors
     ///
-    /// Only where memory runs out.
+    /// Only when an allocation fails.
     pub fn shallow(&mut self, id: &ObjectId) -> Result<(), AllocError>
         requires { can_use (codes "shallow") self.old ≡ true }
         ensures { Becomes result self.old (asks_shallow (id_text id.now) self.old) self.new }
@@ -175,7 +175,7 @@ impl Arguments {
     ///
     /// # Errors
     ///
-    /// Only where memory runs out.
+    /// Only when an allocation fails.
     pub fn deepen(&mut self, depth: usize) -> Result<(), AllocError>
         requires { can_use (codes "shallow") self.old ≡ true }
         ensures { Becomes result self.old (asks_deepen depth self.old) self.new }
@@ -189,7 +189,7 @@ impl Arguments {
     ///
     /// # Errors
     ///
-    /// Only where memory runs out.
+    /// Only when an allocation fails.
     pub fn deepen_since(&mut self, seconds: i64) -> Result<(), AllocError>
         requires { can_use_deepening (codes "deepen-since") self.old ≡ true }
         ensures { Becomes result self.old (asks_deepen_since seconds self.old) self.new }
@@ -202,7 +202,7 @@ impl Arguments {
     ///
     /// # Errors
     ///
-    /// Only where memory runs out.
+    /// Only when an allocation fails.
     pub fn deepen_not(&mut self, ref_path: BStr<'_>) -> Result<(), AllocError>
         requires { can_use_deepening (codes "deepen-not") self.old ≡ true }
         ensures { Becomes result self.old (asks_deepen_not (bstr_bytes ref_path.entry) self.old) self.new }
@@ -217,7 +217,7 @@ impl Arguments {
     ///
     /// # Errors
     ///
-    /// Only where memory runs out.
+    /// Only when an allocation fails.
     pub fn deepen_relative(&mut self) -> Result<(), AllocError>
         requires { can_use_deepening (codes "deepen-relative") self.old ≡ true }
         ensures { Becomes result self.old (asks_deepen_relative self.old) self.new }
@@ -233,7 +233,7 @@ impl Arguments {
     ///
     /// # Errors
     ///
-    /// Only where memory runs out.
+    /// Only when an allocation fails.
     pub fn filter(&mut self, spec: &str) -> Result<(), AllocError>
         requires { can_use (codes "filter") self.old ≡ true }
         ensures { Becomes result self.old (asks_filter spec.now self.old) self.new }
@@ -248,7 +248,7 @@ impl Arguments {
     ///
     /// # Errors
     ///
-    /// Only where memory runs out.
+    /// Only when an allocation fails.
     pub fn use_include_tag(&mut self) -> Result<(), AllocError>
         requires { can_use_include_tag self.old ≡ true }
         ensures { Becomes result self.old (asks_include_tag self.old) self.new }
@@ -265,7 +265,7 @@ impl Arguments {
     ///
     /// # Errors
     ///
-    /// Only where memory runs out.
+    /// Only when an allocation fails.
     pub fn add_feature(&mut self, feature: &str) -> Result<(), AllocError>
         requires { may_add_feature self.old ≡ true }
         ensures { Becomes result self.old (asks_feature feature.now self.old) self.new }

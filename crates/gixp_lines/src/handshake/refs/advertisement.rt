@@ -1,6 +1,6 @@
 //! The refs that a server says first under versions 0 and 1 (gitprotocol-pack, "Reference Discovery").
 ghost use Rattle.std.specs.Prelude.{◌≡◌, MatchResult};
-ghost use Rattle.gixp_lines.specs.V1Refs.{symrefs_in, ReadsV1, V1Fails, GivesAdvertisement, AdvertisementFails};
+ghost use Rattle.gixp_lines.specs.V1Refs.{symref_values, ReadsV1, V1Fails, GivesAdvertisement, AdvertisementFails};
 
 use crate::fetch::response::ShallowUpdate;
 use crate::handshake::Ref;
@@ -43,8 +43,8 @@ fn read_v1<R: ExtendedBufRead>(
     targets: &Targets,
 ) -> Result<(Vec<Ref>, Vec<ShallowUpdate>), parse::Error>
     ensures answers { MatchResult result
-        (λ found. ReadsV1 (symrefs_in targets.now.entries) (R.reading in_refs.old) (R.reading in_refs.new) found.0.items found.1.items)
-        (V1Fails (symrefs_in targets.now.entries) R.is_plain (R.reading in_refs.old) (R.reading in_refs.new)) }
+        (λ found. ReadsV1 (symref_values targets.now.entries) (R.reading in_refs.old) (R.reading in_refs.new) found.0.items found.1.items)
+        (V1Fails (symref_values targets.now.entries) R.is_plain (R.reading in_refs.old) (R.reading in_refs.new)) }
     ensures held { (R.reading in_refs.new).held ≡ (R.reading in_refs.old).held }
     ensures version { (R.reading in_refs.new).version ≡ (R.reading in_refs.old).version }
 {

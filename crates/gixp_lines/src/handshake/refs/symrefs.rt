@@ -8,7 +8,7 @@ ghost use Rattle.gixp_lines.specs.RefLine.{malformed_symref};
 ghost use Rattle.gixp_lines.specs.ParseError.{Answers, IsRefusal};
 ghost use Rattle.gixp_wire.specs.Cut.{cut};
 ghost use Rattle.gixp_lines.specs.RefAdvertisement.{symref_in, symref_by, made_symref, symref_named, told_target, TellAlike, symref_table};
-ghost use Rattle.gixp_lines.specs.V1Refs.{symref_value, symref_values, name_cmp, symrefs_in};
+ghost use Rattle.gixp_lines.specs.V1Refs.{symref_value, symref_values, name_cmp};
 
 use crate::handshake::refs::line::is_null;
 use crate::handshake::refs::parse::Error;
@@ -74,7 +74,7 @@ pub(crate) type Targets = BTreeMap<BString, Option<BString>>;
 
 // The targets by their names; of a name that comes again the first counts.
 pub(crate) fn by_name(alloc: Global, mut symrefs: Vec<Symref>) -> Result<Targets, AllocError>
-    ensures { IfOk result (λ targets. TellAlike (symref_values symrefs.items) (symrefs_in targets.entries)) }
+    ensures { IfOk result (λ targets. TellAlike (symref_values symrefs.items) (symref_values targets.entries)) }
 {
     let mut targets = BTreeMap::new(alloc);
     while let Some((name, target)) = symrefs.pop() {
@@ -93,7 +93,7 @@ fn put(targets: &mut Targets, name: BString, target: Option<BString>) -> Result<
 
 // The target of the symref of this name, if there is one and it is told.
 pub(crate) fn target_of<'a>(targets: &'a Targets, name: &BString) -> Option<&'a BString>
-    ensures { option_map (λ s. bstring_bytes s.now) result ≡ told_target (symref_named (symrefs_in targets.now.entries) (bstring_bytes name.now)) }
+    ensures { option_map (λ s. bstring_bytes s.now) result ≡ told_target (symref_named (symref_values targets.now.entries) (bstring_bytes name.now)) }
 {
     match targets.get(name) {
         Some(target) => target.as_ref(),
@@ -103,7 +103,7 @@ pub(crate) fn target_of<'a>(targets: &'a Targets, name: &BString) -> Option<&'a 
 
 // Whether a symref has this name.
 pub(crate) fn is_symref(targets: &Targets, name: &BString) -> bool
-    ensures { result ≡ is_some (symref_named (symrefs_in targets.now.entries) (bstring_bytes name.now)) }
+    ensures { result ≡ is_some (symref_named (symref_values targets.now.entries) (bstring_bytes name.now)) }
 {
     targets.get(name).is_some()
 }

@@ -6,7 +6,7 @@ ghost use Rattle.gixp_lines.specs.Ref.{ref_value};
 ghost use Rattle.gixp_lines.specs.RefLine.{bad_id, malformed_v1, id_value};
 ghost use Rattle.gixp_lines.specs.ParseError.{Answers, IsRefusal};
 ghost use Rattle.gixp_lines.specs.RefAdvertisement.{line_by_path, plain_line, peeled_line, v1_line, names, pair, single, closed};
-ghost use Rattle.gixp_lines.specs.V1Refs.{symrefs_in};
+ghost use Rattle.gixp_lines.specs.V1Refs.{symref_values};
 ghost use Rattle.gixp_lines.specs.V1Line.{line_of, named_value, so_far_value, nothing_so_far, with_pair, with_found, with_closed, with_line, with_text};
 
 use crate::fetch::response::ShallowUpdate;
@@ -109,7 +109,7 @@ pub(crate) struct RefLine {
 
 // The ref of a ref line alone.
 fn make_single(targets: &Targets, line: RefLine) -> Result<Ref, Error>
-    ensures { Answers ref_value (Ok (single (symrefs_in targets.now.entries) (named_value line))) result }
+    ensures { Answers ref_value (Ok (single (symref_values targets.now.entries) (named_value line))) result }
 {
     let target = match target_of(targets, &line.name) {
         Some(target) => target,
@@ -131,7 +131,7 @@ fn make_single(targets: &Targets, line: RefLine) -> Result<Ref, Error>
 
 // The ref of a ref line and the peeled line behind it.
 fn make_pair(targets: &Targets, line: RefLine, left: &[u8], base: &[u8]) -> Result<Ref, Error>
-    ensures { Answers ref_value (pair (symrefs_in targets.now.entries) (Some (named_value line)) left.now base.now) result }
+    ensures { Answers ref_value (pair (symref_values targets.now.entries) (Some (named_value line)) left.now base.now) result }
 {
     if is_symref(targets, &line.name) {
         return Err(Error::InvariantViolation {
@@ -172,7 +172,7 @@ impl Advertised {
 
     // Takes in one more line. What it is after a refusal is left open.
     pub(crate) fn add(&mut self, alloc: Global, targets: &Targets, line: &[u8]) -> Result<(), Error>
-        ensures { Answers (λ _. so_far_value self.new) (with_text (symrefs_in targets.now.entries) (so_far_value self.old) line.now) result }
+        ensures { Answers (λ _. so_far_value self.new) (with_text (symref_values targets.now.entries) (so_far_value self.old) line.now) result }
     {
         self.add_line(alloc, targets, read_line(alloc, line)?)
     }
@@ -183,7 +183,7 @@ impl Advertised {
         targets: &Targets,
     ) -> Result<(Vec<Ref>, Vec<ShallowUpdate>), Error>
         ensures { MatchResult result
-            (λ found. (map ref_value found.0.items ≡ (so_far_value self).refs ++ closed (symrefs_in targets.now.entries) (so_far_value self).open_line) × (found.1.items ≡ (so_far_value self).updates))
+            (λ found. (map ref_value found.0.items ≡ (so_far_value self).refs ++ closed (symref_values targets.now.entries) (so_far_value self).open_line) × (found.1.items ≡ (so_far_value self).updates))
             (λ e. e ≡ Memory) }
     {
         self.close(targets)?;
@@ -196,7 +196,7 @@ impl Advertised {
     }
 
     fn add_line(&mut self, alloc: Global, targets: &Targets, line: Line<'_>) -> Result<(), Error>
-        ensures { Answers (λ _. so_far_value self.new) (with_line (symrefs_in targets.now.entries) (so_far_value self.old) (line_of line.entry)) result }
+        ensures { Answers (λ _. so_far_value self.new) (with_line (symref_values targets.now.entries) (so_far_value self.old) (line_of line.entry)) result }
     {
         match line {
             Line::Nothing => Ok(()),
@@ -217,7 +217,7 @@ impl Advertised {
         object: ObjectId,
         name: &[u8],
     ) -> Result<(), Error>
-        ensures { Answers (λ _. so_far_value self.new) (with_line (symrefs_in targets.now.entries) (so_far_value self.old) (names object.bytes name.now)) result }
+        ensures { Answers (λ _. so_far_value self.new) (with_line (symref_values targets.now.entries) (so_far_value self.old) (names object.bytes name.now)) result }
     {
         let name = BString::from_slice(alloc, name)?;
         self.close(targets)?;
@@ -227,7 +227,7 @@ impl Advertised {
 
     // The ref line that is open stays without a peeled line.
     fn close(&mut self, targets: &Targets) -> Result<(), Error>
-        ensures { MatchResult result (λ _. so_far_value self.new ≡ with_closed (symrefs_in targets.now.entries) (so_far_value self.old)) (λ e. e ≡ Memory) }
+        ensures { MatchResult result (λ _. so_far_value self.new ≡ with_closed (symref_values targets.now.entries) (so_far_value self.old)) (λ e. e ≡ Memory) }
     {
         match self.last.take() {
             None => Ok(()),
@@ -237,7 +237,7 @@ impl Advertised {
 
     // A peeled line.
     fn peel(&mut self, targets: &Targets, left: &[u8], base: &[u8]) -> Result<(), Error>
-        ensures { Answers (λ _. so_far_value self.new) (with_pair (so_far_value self.old) (pair (symrefs_in targets.now.entries) (so_far_value self.old).open_line left.now base.now)) result }
+        ensures { Answers (λ _. so_far_value self.new) (with_pair (so_far_value self.old) (pair (symref_values targets.now.entries) (so_far_value self.old).open_line left.now base.now)) result }
     {
         match self.last.take() {
             None => Err(Error::InvariantViolation {

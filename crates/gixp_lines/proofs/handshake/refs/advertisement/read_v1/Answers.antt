@@ -2,7 +2,7 @@ use Rattle.std.proofs.Common.{sym, ap, ◌∙◌}
 use Rattle.std.proofs.lemmas.Result.{err_from_is_err_and}
 use Rattle.gixp_wire.specs.Reading.{refusal_of}
 use Rattle.gixp_lines.specs.V1Line.{so_far_value, with_text}
-use Rattle.gixp_lines.specs.V1Refs.{symrefs_in}
+use Rattle.gixp_lines.specs.V1Refs.{symref_values}
 use Rattle.gixp_lines.proofs.AdvertisementLemmas.{v1-start, v1-line, v1-refused, v1-reader, v1-finish}
 use Rattle.gixp_lines.proofs.RunLemmas.{at_stop-keeps, fails-keep}
 use Rattle.gixp_lines.proofs.handshake.refs.advertisement.read_v1.Goals as goal
@@ -22,13 +22,13 @@ pub loop-found-preserved : goal.loop-found-preserved
 loop-found-preserved g c =
     let k = rw c.in-Ok-true.field-0-test at c.in-Ok-true.ensures.reads in
     v1-line _ _ _ _ (so_far_value c.loop-found.found) _ _ c.loop-found.invariant k
-    (ap (with_text (symrefs_in c.args.targets.now.entries) (so_far_value c.loop-found.found)) (sym c.line.ensures)) c.in_ok-add.ensures
+    (ap (with_text (symref_values c.args.targets.now.entries) (so_far_value c.loop-found.found)) (sym c.line.ensures)) c.in_ok-add.ensures
 
 pub returns-in_err-add-clause-answers : goal.returns-in_err-add-clause-answers
 returns-in_err-add-clause-answers g c =
     let k = rw c.in-Ok-true.field-0-test at c.in-Ok-true.ensures.reads in
     let p = err_from_is_err_and c.from_residual.result c.from_residual.ensures.1 in rw (p.1, p.2) (v1-refused _ _ _ _ _ (so_far_value c.loop-found.found) _ _ _ c.loop-found.invariant k
-    (ap (with_text (symrefs_in c.args.targets.now.entries) (so_far_value c.loop-found.found)) (sym c.line.ensures)) c.in_err-add.ensures)
+    (ap (with_text (symref_values c.args.targets.now.entries) (so_far_value c.loop-found.found)) (sym c.line.ensures)) c.in_err-add.ensures)
 
 pub returns-in-Ok-false-clause-held : goal.returns-in-Ok-false-clause-held
 returns-in-Ok-false-clause-held g c =
