@@ -4,47 +4,42 @@ use crate::rows::Row;
 use crate::values;
 use gixp_lines::fetch::response::{Acknowledgement, WantedRef, shallow_update_from_line};
 use gixp_wire::{Kind, ObjectId};
-use std::alloc::{AllocError, Global};
+use std::alloc::Global;
 
-fn report_id(text: &[u8], report: &mut Report) -> Result<(), AllocError> {
+fn report_id(text: &[u8], report: &mut Report) {
     match ObjectId::from_hex(text) {
         Ok(id) => {
-            report.id(&id)?;
-            report.word(if id.is_null() { " null " } else { " " })?;
+            report.id(&id);
+            report.word(if id.is_null() { " null " } else { " " });
         }
         Err(e) => {
-            values::id_error(report, e)?;
-            report.word(" ")?;
+            values::id_error(report, e);
+            report.word(" ");
         }
     }
     if Kind::from_name(text).is_some() {
-        report.word("sha1 ")?;
+        report.word("sha1 ");
     }
-    Ok(())
 }
 
 /// The value, or the error, of each reading of the text.
-pub(crate) fn report_line(
-    alloc: Global,
-    row: &Row<'_>,
-    report: &mut Report,
-) -> Result<(), AllocError> {
-    report_id(row.payload, report)?;
+pub(crate) fn report_line(alloc: Global, row: &Row<'_>, report: &mut Report) {
+    report_id(row.payload, report);
     let Ok(text) = str::from_utf8(row.payload) else {
         return report.word("notext");
     };
     match Acknowledgement::from_line(alloc, text) {
-        Ok(found) => values::acknowledgement(report, found)?,
-        Err(e) => values::response_error(report, &e)?,
+        Ok(found) => values::acknowledgement(report, found),
+        Err(e) => values::response_error(report, &e),
     }
     match shallow_update_from_line(alloc, text) {
-        Ok(found) => values::update(report, found)?,
-        Err(e) => values::response_error(report, &e)?,
+        Ok(found) => values::update(report, found),
+        Err(e) => values::response_error(report, &e),
     }
     match WantedRef::from_line(alloc, text) {
         Ok(found) => {
-            report.id(&found.id)?;
-            report.quote(found.path.as_bytes())
+            report.id(&found.id);
+            report.quote(found.path.as_bytes());
         }
         Err(e) => values::response_error(report, &e),
     }

@@ -42,7 +42,7 @@ pub(crate) fn read_response<R: ExtendedBufRead>(
     reader: &mut R,
     reading: Reading,
     report: &mut Report,
-) -> Result<Option<Response>, AllocError> {
+) -> Option<Response> {
     let Reading {
         version,
         expects_pack,
@@ -51,13 +51,13 @@ pub(crate) fn read_response<R: ExtendedBufRead>(
     } = reading;
     match Response::from_line_reader(alloc, version, reader, expects_pack, wants_to_negotiate) {
         Ok(found) => {
-            values::answer(report, &found)?;
-            Ok(Some(found))
+            values::answer(report, &found);
+            Some(found)
         }
         Err(e) => {
-            values::response_error(report, &e)?;
-            report.word(" ")?;
-            Ok(None)
+            values::response_error(report, &e);
+            report.word(" ");
+            None
         }
     }
 }
@@ -75,15 +75,16 @@ fn report_banded<R: ExtendedBufRead>(
         let mut never = NeverInterrupt;
         let notes = Notes::new(&mut told, u64::MAX);
         let mut banded = WithSidebands::new(reader, notes, &mut never);
-        let _ = read_response(alloc, &mut banded, reading, report)?;
-        values::stop(report, banded.stopped_at())?;
+        let _ = read_response(alloc, &mut banded, reading, report);
+        values::stop(report, banded.stopped_at());
         for _ in 0..lines {
-            let _ = take_line(&mut banded, report)?;
+            let _ = take_line(&mut banded, report);
         }
     }
-    report.word("told ")?;
-    report.quote(told.bytes())?;
-    report.word(" ")
+    report.word("told ");
+    report.quote_report(&told);
+    report.word(" ");
+    Ok(())
 }
 
 fn report_over<R: ExtendedBufRead>(
@@ -96,9 +97,10 @@ fn report_over<R: ExtendedBufRead>(
     if reading.is_banded {
         report_banded(alloc, reader, reading, row.settings[3], report)?;
     } else {
-        let _ = read_response(alloc, reader, reading, report)?;
+        let _ = read_response(alloc, reader, reading, report);
     }
-    report_rest(reader, reading.version, report)
+    report_rest(reader, reading.version, report);
+    Ok(())
 }
 
 // An empty request, and its answer.
@@ -109,7 +111,7 @@ fn request_and_report<T: Transport>(
     report: &mut Report,
 ) -> Result<(), AllocError> {
     if transport.request(&[]).is_err() {
-        report.word("!request ")?;
+        report.word("!request ");
     }
     report_over(alloc, row, transport, report)
 }

@@ -16,16 +16,16 @@ use std::io;
 use std::io::{BufRead, Read};
 
 // The bytes that a call gives, or the kind of its error.
-fn report_bytes(report: &mut Report, bytes: io::Result<&[u8]>) -> Result<(), AllocError> {
+fn report_bytes(report: &mut Report, bytes: io::Result<&[u8]>) {
     match bytes {
-        Ok(bytes) => report.quote(bytes)?,
-        Err(e) => values::kind(report, e.kind())?,
+        Ok(bytes) => report.quote(bytes),
+        Err(e) => values::kind(report, e.kind()),
     }
-    report.word(" ")
+    report.word(" ");
 }
 
 // A read of at most nine bytes.
-fn read<R: Read>(reader: &mut R, size: usize, report: &mut Report) -> Result<(), AllocError> {
+fn read<R: Read>(reader: &mut R, size: usize, report: &mut Report) {
     let mut room = [0u8; 9];
     let size = size.min(9);
     match reader.read(&mut room[..size]) {
@@ -46,20 +46,14 @@ fn call<T: ExtendedBufRead, I: Interrupt>(
         b'f' => report_bytes(report, reader.fill_buf()),
         b'b' => report_bytes(report, Ok(reader.buffer())),
         b'e' => report_fault(reader.fault(), report),
-        b'z' => {
-            reader.consume(0);
-            Ok(())
+        b'z' => reader.consume(0),
+        b'c' => reader.consume(1),
+        b'a' => reader.consume(9),
+        _ => {
+            let _ = lines::call(alloc, reader, letter, report)?;
         }
-        b'c' => {
-            reader.consume(1);
-            Ok(())
-        }
-        b'a' => {
-            reader.consume(9);
-            Ok(())
-        }
-        _ => lines::call(alloc, reader, letter, report).map(|_| ()),
     }
+    Ok(())
 }
 
 /// What each call gives, the texts, and what stands in the line reader once the reader of bands is dropped.
@@ -83,8 +77,9 @@ pub(crate) fn report_calls(
             call(alloc, &mut banded, *letter, report)?;
         }
     }
-    report.word("told ")?;
-    report.quote(told.bytes())?;
-    report.word(" ")?;
-    lines::report_rest(&mut reader, version, report)
+    report.word("told ");
+    report.quote_report(&told);
+    report.word(" ");
+    lines::report_rest(&mut reader, version, report);
+    Ok(())
 }

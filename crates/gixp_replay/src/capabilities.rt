@@ -20,14 +20,14 @@ fn report_capability(
     report: &mut Report,
 ) -> Result<(), AllocError> {
     match found.value() {
-        None => report.word("none")?,
-        Some(value) => report.quote(value.as_bytes())?,
+        None => report.word("none"),
+        Some(value) => report.quote(value.as_bytes()),
     }
     match found.values(alloc)? {
-        None => report.word("-")?,
+        None => report.word("-"),
         Some(values) => {
             for value in &values {
-                report.quote(value.as_bytes())?;
+                report.quote(value.as_bytes());
             }
         }
     }
@@ -36,7 +36,7 @@ fn report_capability(
             None => "-",
             Some(true) => "1",
             Some(false) => "0",
-        })?;
+        });
     }
     Ok(())
 }
@@ -52,12 +52,12 @@ fn report_look_ups(
             "y"
         } else {
             "n"
-        })?;
+        });
         match found.capability(name.as_bytes()) {
-            None => report.word("-")?,
+            None => report.word("-"),
             Some(capability) => report_capability(alloc, &capability, names, report)?,
         }
-        report.word(" ")?;
+        report.word(" ");
     }
     Ok(())
 }
@@ -71,18 +71,19 @@ fn report_symrefs(
     let symrefs = match from_capabilities(alloc, found) {
         Ok(symrefs) => symrefs,
         Err(e) => {
-            values::parse_error(report, &e)?;
-            return report.word(" ");
+            values::parse_error(report, &e);
+            report.word(" ");
+            return Ok(());
         }
     };
     for (name, target) in &symrefs {
-        report.quote(name.as_bytes())?;
-        report.word(":")?;
+        report.quote(name.as_bytes());
+        report.word(":");
         match target {
-            Some(target) => report.quote(target.as_bytes())?,
-            None => report.word("-")?,
+            Some(target) => report.quote(target.as_bytes()),
+            None => report.word("-"),
         }
-        report.word(" ")?;
+        report.word(" ");
     }
     Ok(())
 }
@@ -112,13 +113,13 @@ fn read_list(
     match read {
         Ok((found, place)) => {
             if let Some(place) = place {
-                report.number(place as u64)?;
-                report.word(" ")?;
+                report.number(place as u64);
+                report.word(" ");
             }
             Ok(Some(found))
         }
         Err(e) => {
-            values::client_error(report, &e)?;
+            values::client_error(report, &e);
             Ok(None)
         }
     }

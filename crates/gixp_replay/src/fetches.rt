@@ -129,20 +129,19 @@ fn agent(alloc: Global) -> Result<Feature, AllocError> {
 }
 
 // The number of each round, and whether a commit was common.
-fn report_rounds(rounds: &[Round], report: &mut Report) -> Result<(), AllocError> {
+fn report_rounds(rounds: &[Round], report: &mut Report) {
     for round in rounds {
-        report.number(round.haves_sent as u64)?;
-        report.word("/")?;
-        report.number(round.haves_to_send as u64)?;
-        report.word("/")?;
-        report.number(round.in_vain as u64)?;
+        report.number(round.haves_sent as u64);
+        report.word("/");
+        report.number(round.haves_to_send as u64);
+        report.word("/");
+        report.number(round.in_vain as u64);
         report.word(if round.previous_response_had_at_least_one_in_common {
             "c "
         } else {
             " "
-        })?;
+        });
     }
-    Ok(())
 }
 
 // What a fetch returned.
@@ -153,16 +152,17 @@ fn report_result(
 ) -> Result<(), AllocError> {
     match fetched {
         Ok(Some(outcome)) => {
-            report_rounds(&outcome.negotiate.rounds, report)?;
-            values::answer(report, &outcome.last_response)
+            report_rounds(&outcome.negotiate.rounds, report);
+            values::answer(report, &outcome.last_response);
         }
         Ok(None) => report.word("nothing "),
         Err(e) => {
-            report.word("fetch ")?;
-            report.word(format!(in alloc; "{e:?}")?.as_str())?;
-            report.word(" ")
+            report.word("fetch ");
+            report.word(format!(in alloc; "{e:?}")?.as_str());
+            report.word(" ");
         }
     }
+    Ok(())
 }
 
 // A fetch over this ref map, by this consumer.
@@ -247,8 +247,9 @@ fn fetch_pack<T: Transport>(
         &mut consumer,
         report,
     )?;
-    report.quote(&consumer.writer)?;
-    report.word(" ")
+    report.quote(&consumer.writer);
+    report.word(" ");
+    Ok(())
 }
 
 // The ref map, if there is one.
@@ -275,9 +276,9 @@ fn obtain_map<T: Transport>(
     ) {
         Ok(map) => Ok(Some(map)),
         Err(e) => {
-            report.word("refs ")?;
-            report.word(format!(in alloc; "{e:?}")?.as_str())?;
-            report.word(" ")?;
+            report.word("refs ");
+            report.word(format!(in alloc; "{e:?}")?.as_str());
+            report.word(" ");
             Ok(None)
         }
     }
@@ -299,25 +300,25 @@ fn shake<T: Transport>(
     ) {
         Ok(found) => Ok(Some(found)),
         Err(e) => {
-            report.word("handshake ")?;
-            report.word(format!(in alloc; "{e:?}")?.as_str())?;
-            report.word(" ")?;
+            report.word("handshake ");
+            report.word(format!(in alloc; "{e:?}")?.as_str());
+            report.word(" ");
             Ok(None)
         }
     }
 }
 
 // The boundary, and how often its lock was had.
-fn report_store(store: &ScriptedStore, report: &mut Report) -> Result<(), AllocError> {
-    report.word("locks ")?;
-    report.number(store.locks)?;
-    report.word("/")?;
-    report.number(store.releases)?;
+fn report_store(store: &ScriptedStore, report: &mut Report) {
+    report.word("locks ");
+    report.number(store.locks);
+    report.word("/");
+    report.number(store.releases);
     for id in &store.ids {
-        report.word(" ")?;
-        report.id(id)?;
+        report.word(" ");
+        report.id(id);
     }
-    report.word(" ")
+    report.word(" ");
 }
 
 fn report_over<T: Transport>(
@@ -344,8 +345,9 @@ fn report_over<T: Transport>(
         )?,
         None => {}
     }
-    report_store(&store, report)?;
-    report_rest(transport, version, report)
+    report_store(&store, report);
+    report_rest(transport, version, report);
+    Ok(())
 }
 
 // A fetch over these bytes.
@@ -361,14 +363,15 @@ fn report_once(
         let device = Device::new(bytes, row.cut, row.fail);
         let mut transport = connection(alloc, device, row.cut, version, None)?;
         report_over(alloc, &mut script, &mut transport, report)?;
-        return report.quote(&transport.writer().bytes);
+        report.quote(&transport.writer().bytes);
+        return Ok(());
     }
     let answers = cut_bodies(alloc, script.lengths, bytes)?;
     let mut transport = bodies(alloc, answers)?;
     report_over(alloc, &mut script, &mut transport, report)?;
     for request in transport.sent() {
-        report.quote(request)?;
-        report.word(" ")?;
+        report.quote(request);
+        report.word(" ");
     }
     Ok(())
 }

@@ -21,15 +21,16 @@ pub(crate) fn report_response(
     found: &SetServiceResponse,
     report: &mut Report,
 ) -> Result<(), AllocError> {
-    report.word(version_word(found.actual_protocol))?;
-    report.word(" ")?;
+    report.word(version_word(found.actual_protocol));
+    report.word(" ");
     report.word(if found.refs_follow {
         "refs "
     } else {
         "norefs "
-    })?;
+    });
     capability_list(alloc, report, &found.capabilities)?;
-    report.word("; ")
+    report.word("; ");
+    Ok(())
 }
 
 /// The refs and shallow updates of versions 0 and 1. Whether there was no error.
@@ -38,24 +39,24 @@ pub(crate) fn report_early_refs<T: Transport>(
     transport: &mut T,
     capabilities: &Capabilities,
     report: &mut Report,
-) -> Result<bool, AllocError> {
+) -> bool {
     match from_v1_refs_received_as_part_of_handshake_and_capabilities(
         alloc,
         transport,
         capabilities,
     ) {
         Ok((refs, updates)) => {
-            report_list(report, &refs)?;
-            report.word("updates ")?;
+            report_list(report, &refs);
+            report.word("updates ");
             for found in &updates {
-                update(report, *found)?;
+                update(report, *found);
             }
-            Ok(true)
+            true
         }
         Err(e) => {
-            parse_error(report, &e)?;
-            report.word(" ")?;
-            Ok(false)
+            parse_error(report, &e);
+            report.word(" ");
+            false
         }
     }
 }
@@ -72,8 +73,8 @@ pub(crate) fn shake_hands<T: Transport>(
             Ok(Some(found))
         }
         Err(e) => {
-            client_error(report, &e)?;
-            report.word(" ")?;
+            client_error(report, &e);
+            report.word(" ");
             Ok(None)
         }
     }
@@ -88,9 +89,10 @@ fn report_over<T: Transport>(
         return Ok(());
     };
     if found.refs_follow {
-        let _ = report_early_refs(alloc, transport, &found.capabilities, report)?;
+        let _ = report_early_refs(alloc, transport, &found.capabilities, report);
     }
-    report_rest(transport, found.actual_protocol, report)
+    report_rest(transport, found.actual_protocol, report);
+    Ok(())
 }
 
 /// A transport over memory that has these answers.
@@ -142,5 +144,6 @@ pub(crate) fn report_handshake(
     let device = Device::of_row(row);
     let mut transport = connection(alloc, device, row.cut, version, None)?;
     report_over(alloc, &mut transport, report)?;
-    report.quote(&transport.writer().bytes)
+    report.quote(&transport.writer().bytes);
+    Ok(())
 }

@@ -20,48 +20,45 @@ pub(crate) fn is_failure(kind: ErrorKind) -> bool {
 }
 
 // An error; false, and nothing, where a read failed.
-fn report_error(report: &mut Report, e: &read::Error) -> Result<bool, AllocError> {
+fn report_error(report: &mut Report, e: &read::Error) -> bool {
     if let read::Error::Io(kind) = e
         && is_failure(*kind)
     {
-        return Ok(false);
+        return false;
     }
-    read_error(report, e)?;
-    report.word(" ")?;
-    Ok(true)
+    read_error(report, e);
+    report.word(" ");
+    true
 }
 
 // A line, or a stop.
-fn report_line(report: &mut Report, line: Option<&[u8]>) -> Result<bool, AllocError> {
+fn report_line(report: &mut Report, line: Option<&[u8]>) -> bool {
     match line {
         Some(line) => {
-            report.quote(line)?;
-            report.word(" ")?;
+            report.quote(line);
+            report.word(" ");
         }
-        None => report.word("| ")?,
+        None => report.word("| "),
     }
-    Ok(true)
+    true
 }
 
 /// The next line, a stop or an error. False where a read failed.
-pub(crate) fn take_line<R: ExtendedBufRead>(
-    reader: &mut R,
-    report: &mut Report,
-) -> Result<bool, AllocError> {
+pub(crate) fn take_line<R: ExtendedBufRead>(reader: &mut R, report: &mut Report) -> bool {
     match reader.readline() {
         Ok(line) => report_line(report, line),
         Err(e) => report_error(report, &e),
     }
 }
 
-fn peek_line<R: ExtendedBufRead>(reader: &mut R, report: &mut Report) -> Result<bool, AllocError> {
+fn peek_line<R: ExtendedBufRead>(reader: &mut R, report: &mut Report) -> bool {
     match reader.peek_data_line() {
         Ok(line) => report_line(report, line),
         Err(e) => report_error(report, &e),
     }
 }
 
-fn take_plain<R: ExtendedBufRead>(reader: &mut R, report: &mut Report) -> Result<bool, AllocError> {
+fn take_plain<R: ExtendedBufRead>(reader: &mut R, report: &mut Report) -> bool {
     match reader.next_line() {
         Ok(true) => report_line(report, Some(reader.line())),
         Ok(false) => report_line(report, None),
@@ -69,7 +66,7 @@ fn take_plain<R: ExtendedBufRead>(reader: &mut R, report: &mut Report) -> Result
     }
 }
 
-fn peek_plain<R: ExtendedBufRead>(reader: &mut R, report: &mut Report) -> Result<bool, AllocError> {
+fn peek_plain<R: ExtendedBufRead>(reader: &mut R, report: &mut Report) -> bool {
     match reader.peek_line() {
         Ok(true) => report_line(report, Some(reader.line())),
         Ok(false) => report_line(report, None),
@@ -86,17 +83,17 @@ fn take_text<R: ExtendedBufRead>(
     let mut text = String::from_str(alloc, "x")?;
     match reader.readline_str(&mut text) {
         Ok(count) => {
-            report.number(count as u64)?;
-            report.word(":")?;
-            report.quote(text.as_bytes())?;
-            report.word(" ")?;
+            report.number(count as u64);
+            report.word(":");
+            report.quote(text.as_bytes());
+            report.word(" ");
             Ok(true)
         }
         Err(e) => {
             if text.as_str() != "x" {
-                report.word("changed ")?;
+                report.word("changed ");
             }
-            report_error(report, &e)
+            Ok(report_error(report, &e))
         }
     }
 }
@@ -109,12 +106,12 @@ pub(crate) fn call<R: ExtendedBufRead>(
     report: &mut Report,
 ) -> Result<bool, AllocError> {
     match letter {
-        b'r' => return take_line(reader, report),
-        b'p' => return peek_line(reader, report),
-        b'n' => return take_plain(reader, report),
-        b'k' => return peek_plain(reader, report),
+        b'r' => return Ok(take_line(reader, report)),
+        b'p' => return Ok(peek_line(reader, report)),
+        b'n' => return Ok(take_plain(reader, report)),
+        b'k' => return Ok(peek_plain(reader, report)),
         b's' => return take_text(alloc, reader, report),
-        b't' => stop(report, reader.stopped_at())?,
+        b't' => stop(report, reader.stopped_at()),
         b'0' => reader.reset(Protocol::V0),
         b'1' => reader.reset(Protocol::V1),
         _ => reader.reset(Protocol::V2),
@@ -142,32 +139,26 @@ pub(crate) fn report_rest<R: ExtendedBufRead>(
     reader: &mut R,
     version: Protocol,
     report: &mut Report,
-) -> Result<(), AllocError> {
-    stop(report, reader.stopped_at())?;
+) {
+    stop(report, reader.stopped_at());
     for _ in 0..2usize {
-        let _ = take_line(reader, report)?;
+        let _ = take_line(reader, report);
     }
     reader.reset(version);
-    report.word("/ ")?;
+    report.word("/ ");
     for _ in 0..3usize {
-        let _ = take_line(reader, report)?;
+        let _ = take_line(reader, report);
     }
-    Ok(())
 }
 
 /// Nothing where each read that failed was told once.
-pub(crate) fn report_failures(
-    report: &mut Report,
-    told: u64,
-    failed: u64,
-) -> Result<(), AllocError> {
+pub(crate) fn report_failures(report: &mut Report, told: u64, failed: u64) {
     if told != failed {
-        report.word("!failed ")?;
-        report.number(failed)?;
-        report.word(", told ")?;
-        report.number(told)?;
+        report.word("!failed ");
+        report.number(failed);
+        report.word(", told ");
+        report.number(told);
     }
-    Ok(())
 }
 
 /// What each call gives.
@@ -188,5 +179,6 @@ pub(crate) fn report_calls(
             told = told.saturating_add(failed);
         }
     }
-    report_failures(report, told, device.failures)
+    report_failures(report, told, device.failures);
+    Ok(())
 }

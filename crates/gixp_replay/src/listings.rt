@@ -82,10 +82,11 @@ fn prepare_alone(
         Ok(prepared) => {
             let word = prepared_word(&prepared);
             drop(prepared);
-            report.word(word)
+            report.word(word);
         }
         Err(e) => init_error(report, &e),
     }
+    Ok(())
 }
 
 // Prepares a map and fetches it.
@@ -104,11 +105,11 @@ fn prepare_and_fetch<T: Transport>(
         Ok(prepared) => {
             let word = prepared_word(&prepared);
             let map = prepared.fetch_blocking(alloc, progress, transport);
-            report.word(word)?;
+            report.word(word);
             Ok(Some(map))
         }
         Err(e) => {
-            init_error(report, &e)?;
+            init_error(report, &e);
             Ok(None)
         }
     }
@@ -163,15 +164,16 @@ fn report_mapped<T: Transport>(
         )?
     };
     match &map {
-        Some(Ok(map)) => report_map(report, map)?,
-        Some(Err(e)) => init_error(report, e)?,
+        Some(Ok(map)) => report_map(report, map),
+        Some(Err(e)) => init_error(report, e),
         None => {}
     }
-    progress.report(report)?;
+    progress.report(report);
     report.word(match &shaken.refs {
         Some(_) => "kept ",
         None => "taken ",
-    })
+    });
+    Ok(())
 }
 
 // A handshake, and the ref map behind it.
@@ -195,27 +197,27 @@ fn report_over<T: Transport>(
     match outcome {
         Ok(mut shaken) => {
             report_mapped(alloc, &mut shaken, client, context, transport, report)?;
-            report_rest(transport, shaken.server_protocol_version, report)
+            report_rest(transport, shaken.server_protocol_version, report);
         }
         Err(e) => shake_error(report, &e),
     }
+    Ok(())
 }
 
 // The lines and the other packets of what was sent.
-fn report_sent(sent: &[u8], report: &mut Report) -> Result<(), AllocError> {
+fn report_sent(sent: &[u8], report: &mut Report) {
     let mut rest = sent;
-    report.word("sent ")?;
+    report.word("sent ");
     for _ in 0..sent.len() {
         let Ok(Some((packet, others))) = split_packet_line(rest) else {
             break;
         };
         match packet {
-            PacketLine::Data(line) => report.quote(line)?,
-            PacketLine::Special(_) => report.word("| ")?,
+            PacketLine::Data(line) => report.quote(line),
+            PacketLine::Special(_) => report.word("| "),
         }
         rest = others;
     }
-    Ok(())
 }
 
 /// A ref map over a connection or memory, and what was sent.
@@ -236,12 +238,13 @@ pub(crate) fn report_listing(
         let device = Device::new(bytes, row.cut, row.fail);
         let mut transport = connection(alloc, device, row.cut, version, 0)?;
         report_over(alloc, &mut transport, client, context, report)?;
-        return report_sent(&transport.writer().bytes, report);
+        report_sent(&transport.writer().bytes, report);
+        return Ok(());
     }
     let mut transport = memory(alloc, bodies_of(alloc, words, bytes)?, 0)?;
     report_over(alloc, &mut transport, client, context, report)?;
     for request in transport.sent() {
-        report_sent(request, report)?;
+        report_sent(request, report);
     }
     Ok(())
 }

@@ -74,7 +74,10 @@ fn replay_row(alloc: Global, row: &Row<'_>, report: &mut Report) -> Result<(), A
         Mode::Answer => answers::report_answer(alloc, row, report),
         Mode::Pack => packs::report_pack(alloc, row, report),
         Mode::Capabilities => capabilities::report_capabilities(alloc, row, report),
-        Mode::AnswerLine => answer_lines::report_line(alloc, row, report),
+        Mode::AnswerLine => {
+            answer_lines::report_line(alloc, row, report);
+            Ok(())
+        }
         Mode::Requests => requests::report_requests(alloc, row, report),
         Mode::Session => sessions::report_session(alloc, row, report),
         Mode::Map => maps::report_row(alloc, row, report),
@@ -101,16 +104,13 @@ fn replay<W: Write>(alloc: Global, bytes: &[u8], width: usize, out: &mut W) -> R
         };
         rest = behind;
         report.clear();
-        if replay_row(alloc, &row, &mut report).is_err() || report.shorten(width).is_err() {
+        if replay_row(alloc, &row, &mut report).is_err() {
             return Err(Failure::Memory);
         }
-        match out
-            .write_all(report.bytes())
-            .and_then(|_| out.write_all(b"\n"))
-        {
-            Ok(()) => {}
-            Err(e) => return Err(failure_of(&e)),
-        }
+        report.shorten(width);
+        let line = report.bytes().map_err(|_| Failure::Memory)?;
+        out.write_all(line).map_err(|e| failure_of(&e))?;
+        out.write_all(b"\n").map_err(|e| failure_of(&e))?;
     }
     Ok(())
 }

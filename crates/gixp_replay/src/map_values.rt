@@ -9,7 +9,7 @@ use gixp_refspec::parse;
 use std::alloc::AllocError;
 
 /// Why a text is no refspec.
-pub(crate) fn spec_error(report: &mut Report, e: parse::Error) -> Result<(), AllocError> {
+pub(crate) fn spec_error(report: &mut Report, e: parse::Error) {
     report.word(match e {
         parse::Error::NegativeWithDestination => "NegativeWithDestination",
         parse::Error::NegativeObjectHash => "NegativeObjectHash",
@@ -17,101 +17,100 @@ pub(crate) fn spec_error(report: &mut Report, e: parse::Error) -> Result<(), All
         parse::Error::PatternUnbalanced => "PatternUnbalanced",
         parse::Error::PatternUnsupported => "PatternUnsupported",
         parse::Error::InvalidName => "InvalidName",
-    })
+    });
 }
 
 // The place of the refspec: `e` and a number among the explicit ones, `x` among the extra ones.
-fn report_place(report: &mut Report, place: SpecIndex) -> Result<(), AllocError> {
+fn report_place(report: &mut Report, place: SpecIndex) {
     match place {
         SpecIndex::ExplicitInRemote(index) => {
-            report.word("e")?;
+            report.word("e");
             report.number(index as u64)
         }
         SpecIndex::Implicit(index) => {
-            report.word("x")?;
+            report.word("x");
             report.number(index as u64)
         }
     }
 }
 
-fn report_mapping(report: &mut Report, mapping: &Mapping) -> Result<(), AllocError> {
-    report_place(report, mapping.spec_index)?;
-    report.word(" ")?;
+fn report_mapping(report: &mut Report, mapping: &Mapping) {
+    report_place(report, mapping.spec_index);
+    report.word(" ");
     match &mapping.remote {
         Source::ObjectId(id) => {
-            report.word("id:")?;
-            report.id(id)?;
-            report.word(" ")?;
+            report.word("id:");
+            report.id(id);
+            report.word(" ");
         }
-        Source::Ref(found) => reference(report, found)?,
+        Source::Ref(found) => reference(report, found),
     }
     if let Some(local) = &mapping.local {
-        report.word(">")?;
-        report.quote(local.as_bytes())?;
-        report.word(" ")?;
+        report.word(">");
+        report.quote(local.as_bytes());
+        report.word(" ");
     }
-    Ok(())
 }
 
 /// Mappings, fixes, and whether something is missing.
-pub(crate) fn report_map(report: &mut Report, map: &RefMap) -> Result<(), AllocError> {
-    report.word("map ")?;
+pub(crate) fn report_map(report: &mut Report, map: &RefMap) {
+    report.word("map ");
     for mapping in &map.mappings {
-        report_mapping(report, mapping)?;
+        report_mapping(report, mapping);
     }
     for fix in &map.fixes {
         let Fix::MappingWithPartialDestinationRemoved { name, spec } = fix;
-        report.word("fix ")?;
-        report.quote(name.as_bytes())?;
-        report.quote(spec.as_bytes())?;
-        report.word(" ")?;
+        report.word("fix ");
+        report.quote(name.as_bytes());
+        report.quote(spec.as_bytes());
+        report.word(" ");
     }
     report.word(if map.is_missing_required_mapping() {
         "missing "
     } else {
         "whole "
-    })
+    });
 }
 
 // A local name with two sources: its name, and the refspec and the source of each mapping.
-fn report_issue(report: &mut Report, issue: &Issue) -> Result<(), AllocError> {
+fn report_issue(report: &mut Report, issue: &Issue) {
     let Issue::Conflict {
         destination_full_ref_name,
         specs,
         sources,
     } = issue;
-    report.quote(destination_full_ref_name.as_bytes())?;
-    report.word("<")?;
+    report.quote(destination_full_ref_name.as_bytes());
+    report.word("<");
     for spec in specs {
-        report.quote(spec.as_bytes())?;
+        report.quote(spec.as_bytes());
     }
-    report.word("<")?;
+    report.word("<");
     for source in sources {
         match source {
-            SourceRef::FullName(name) => report.quote(name.as_bytes())?,
-            SourceRef::ObjectId(id) => report.id(id)?,
+            SourceRef::FullName(name) => report.quote(name.as_bytes()),
+            SourceRef::ObjectId(id) => report.id(id),
         }
     }
-    report.word(";")
+    report.word(";");
 }
 
 // Why refs aren't listed.
-fn list_error(report: &mut Report, e: &ls_refs::Error) -> Result<(), AllocError> {
+fn list_error(report: &mut Report, e: &ls_refs::Error) {
     match e {
         ls_refs::Error::Io(_) => report.word("Io"),
         ls_refs::Error::Transport(e) => {
-            report.word("Transport(")?;
-            client_error(report, e)?;
+            report.word("Transport(");
+            client_error(report, e);
             report.word(")")
         }
         ls_refs::Error::Parse(e) => {
-            report.word("Parse(")?;
-            parse_error(report, e)?;
+            report.word("Parse(");
+            parse_error(report, e);
             report.word(")")
         }
         ls_refs::Error::ArgumentValidation(e) => {
-            report.word("ArgumentValidation(")?;
-            validation_error(report, e)?;
+            report.word("ArgumentValidation(");
+            validation_error(report, e);
             report.word(")")
         }
         ls_refs::Error::Memory => report.word("Memory"),
@@ -119,26 +118,26 @@ fn list_error(report: &mut Report, e: &ls_refs::Error) -> Result<(), AllocError>
 }
 
 /// Why there is no ref map.
-pub(crate) fn init_error(report: &mut Report, e: &init::Error) -> Result<(), AllocError> {
+pub(crate) fn init_error(report: &mut Report, e: &init::Error) {
     match e {
         init::Error::UnknownObjectFormat { format } => {
-            report.word("UnknownObjectFormat(")?;
-            report.quote(format.as_bytes())?;
-            report.word(")")?;
+            report.word("UnknownObjectFormat(");
+            report.quote(format.as_bytes());
+            report.word(")");
         }
         init::Error::MappingValidation(e) => {
-            report.word("MappingValidation(")?;
+            report.word("MappingValidation(");
             for issue in &e.issues {
-                report_issue(report, issue)?;
+                report_issue(report, issue);
             }
-            report.word(")")?;
+            report.word(")");
         }
         init::Error::ListRefs(e) => {
-            report.word("ListRefs(")?;
-            list_error(report, e)?;
-            report.word(")")?;
+            report.word("ListRefs(");
+            list_error(report, e);
+            report.word(")");
         }
-        init::Error::Memory => report.word("Memory")?,
+        init::Error::Memory => report.word("Memory"),
     }
-    report.word(" ")
+    report.word(" ");
 }

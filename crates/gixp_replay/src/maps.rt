@@ -34,7 +34,7 @@ fn specs_of(
         match parse(BStr::new(word), Operation::Fetch) {
             Ok(spec) => specs.push(spec.to_owned(alloc)?)?,
             Err(e) => {
-                spec_error(report, e)?;
+                spec_error(report, e);
                 return Ok(None);
             }
         }
@@ -62,12 +62,12 @@ pub(crate) fn context_of(
 }
 
 // The argument lines that ask for the prefixes.
-fn report_prefixes(report: &mut Report, lines: &[BString]) -> Result<(), AllocError> {
-    report.word("prefixes ")?;
+fn report_prefixes(report: &mut Report, lines: &[BString]) {
+    report.word("prefixes ");
     for line in lines {
-        report.quote(line.as_bytes())?;
+        report.quote(line.as_bytes());
     }
-    report.word(" ")
+    report.word(" ");
 }
 
 // Adds the words of a line as prefixes.
@@ -78,7 +78,8 @@ fn extend_prefixes(alloc: Global, line: &[u8], report: &mut Report) -> Result<()
     }
     let mut prefixes = RefPrefixes::new(alloc);
     prefixes.extend(words)?;
-    report_prefixes(report, &prefixes.into_args(alloc)?)
+    report_prefixes(report, &prefixes.into_args(alloc)?);
+    Ok(())
 }
 
 // Whether one of the argument lines asks for a name.
@@ -111,7 +112,7 @@ fn refs_of(
     match from_v2_refs(alloc, &mut reader) {
         Ok(refs) => Ok(Some(refs)),
         Err(e) => {
-            parse_error(report, &e)?;
+            parse_error(report, &e);
             Ok(None)
         }
     }
@@ -129,7 +130,7 @@ fn capabilities_of(
     match Capabilities::from_bytes(alloc, &text) {
         Ok((found, _)) => Ok(Some(found)),
         Err(e) => {
-            client_error(report, &e)?;
+            client_error(report, &e);
             Ok(None)
         }
     }
@@ -157,6 +158,7 @@ fn report_maps(
         Ok(map) => report_map(report, &map.clone()?),
         Err(e) => init_error(report, &e),
     }
+    Ok(())
 }
 
 /// The prefixes and the ref map.
@@ -183,7 +185,7 @@ pub(crate) fn report_row(
     let mut prefixes = RefPrefixes::from_refspecs(alloc, &context.fetch_refspecs)?;
     prefixes.extend_from_refspecs(alloc, &context.extra_refspecs)?;
     let lines = prefixes.into_args(alloc)?;
-    report_prefixes(report, &lines)?;
+    report_prefixes(report, &lines);
     let lines = if leaves_out == 1 {
         Some(lines.as_slice())
     } else {

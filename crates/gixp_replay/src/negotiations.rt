@@ -37,19 +37,18 @@ fn number_of(id: &ObjectId) -> u64 {
     u64::from_be_bytes([a, b, c, d, e, f, g, h])
 }
 
-fn report_ids(ids: &[ObjectId], report: &mut Report) -> Result<(), AllocError> {
+fn report_ids(ids: &[ObjectId], report: &mut Report) {
     for id in ids {
-        report.number(number_of(id))?;
-        report.word(" ")?;
+        report.number(number_of(id));
+        report.word(" ");
     }
-    Ok(())
 }
 
-fn object_error(report: &mut Report, e: ObjectError) -> Result<(), AllocError> {
+fn object_error(report: &mut Report, e: ObjectError) {
     match e {
         ObjectError::Io(of) => {
-            report.word("Io(")?;
-            kind(report, of)?;
+            report.word("Io(");
+            kind(report, of);
             report.word(")")
         }
         ObjectError::Corrupt => report.word("Corrupt"),
@@ -57,29 +56,29 @@ fn object_error(report: &mut Report, e: ObjectError) -> Result<(), AllocError> {
     }
 }
 
-fn report_error(report: &mut Report, e: &Error<Closed>) -> Result<(), AllocError> {
+fn report_error(report: &mut Report, e: &Error<Closed>) {
     match e {
         Error::NegotiationFailed { rounds } => {
-            report.word("NegotiationFailed ")?;
-            report.number(*rounds as u64)?;
+            report.word("NegotiationFailed ");
+            report.number(*rounds as u64);
         }
         Error::LookupCommitInGraph(e) => {
-            report.word("LookupCommitInGraph(")?;
-            object_error(report, *e)?;
-            report.word(")")?;
+            report.word("LookupCommitInGraph(");
+            object_error(report, *e);
+            report.word(")");
         }
-        Error::OpenPackedRefsBuffer => report.word("OpenPackedRefsBuffer")?,
+        Error::OpenPackedRefsBuffer => report.word("OpenPackedRefsBuffer"),
         Error::IO(of) => {
-            report.word("IO(")?;
-            kind(report, *of)?;
-            report.word(")")?;
+            report.word("IO(");
+            kind(report, *of);
+            report.word(")");
         }
-        Error::InitRefIter => report.word("InitRefIter")?,
-        Error::PeelToId => report.word("PeelToId")?,
-        Error::AlternateRefsAndObjects(_) => report.word("AlternateRefsAndObjects")?,
-        Error::Memory => report.word("Memory")?,
+        Error::InitRefIter => report.word("InitRefIter"),
+        Error::PeelToId => report.word("PeelToId"),
+        Error::AlternateRefsAndObjects(_) => report.word("AlternateRefsAndObjects"),
+        Error::Memory => report.word("Memory"),
     }
-    report.word(" ")
+    report.word(" ");
 }
 
 // The known targets, where something is to be negotiated.
@@ -88,40 +87,40 @@ fn report_action(
     action: Result<Action, Error<Closed>>,
 ) -> Result<Option<Vec<bool>>, AllocError> {
     match action {
-        Ok(Action::NoChange) => report.word("NoChange ")?,
-        Ok(Action::SkipToRefUpdate) => report.word("SkipToRefUpdate ")?,
+        Ok(Action::NoChange) => report.word("NoChange "),
+        Ok(Action::SkipToRefUpdate) => report.word("SkipToRefUpdate "),
         Ok(
             Action::MustNegotiate {
                 remote_ref_target_known,
             },
         ) => {
-            report.word("MustNegotiate ")?;
+            report.word("MustNegotiate ");
             for is_known in &remote_ref_target_known {
-                report.word(if *is_known { "1" } else { "0" })?;
+                report.word(if *is_known { "1" } else { "0" });
             }
-            report.word(" ")?;
+            report.word(" ");
             return Ok(Some(remote_ref_target_known));
         }
-        Err(e) => report_error(report, &e)?,
+        Err(e) => report_error(report, &e),
     }
     Ok(None)
 }
 
 // A line of a request, with the number of the id that it ends in, if it has one.
-fn report_line(report: &mut Report, line: &[u8]) -> Result<(), AllocError> {
+fn report_line(report: &mut Report, line: &[u8]) {
     let line = line.strip_suffix(b"\n").unwrap_or(line);
     let (front, back) = line.split_at(line.len().saturating_sub(40));
     match ObjectId::from_hex(back) {
         Ok(id) => {
-            report.word(str::from_utf8(front).unwrap_or("?"))?;
-            report.number(number_of(&id))?;
+            report.word(str::from_utf8(front).unwrap_or("?"));
+            report.number(number_of(&id));
         }
-        Err(_) => report.word(str::from_utf8(line).unwrap_or("?"))?,
+        Err(_) => report.word(str::from_utf8(line).unwrap_or("?")),
     }
-    report.word(" ")
+    report.word(" ");
 }
 
-fn report_requests(report: &mut Report, bytes: &[u8]) -> Result<(), AllocError> {
+fn report_requests(report: &mut Report, bytes: &[u8]) {
     let mut rest = bytes;
     for _ in 0..bytes.len() {
         let Ok(Some((line, behind))) = split_packet_line(rest) else {
@@ -129,41 +128,34 @@ fn report_requests(report: &mut Report, bytes: &[u8]) -> Result<(), AllocError> 
         };
         rest = behind;
         match line {
-            PacketLine::Data(text) => report_line(report, text)?,
-            _ => report.word("/ ")?,
+            PacketLine::Data(text) => report_line(report, text),
+            _ => report.word("/ "),
         }
     }
-    Ok(())
 }
 
-fn report_round(report: &mut Report, round: Round, is_last: bool) -> Result<(), AllocError> {
-    report.word("round ")?;
-    report.number(round.haves_to_send as u64)?;
-    report.word(" ")?;
-    report.number(round.haves_sent as u64)?;
-    report.word(" ")?;
-    report.number(round.in_vain as u64)?;
+fn report_round(report: &mut Report, round: Round, is_last: bool) {
+    report.word("round ");
+    report.number(round.haves_to_send as u64);
+    report.word(" ");
+    report.number(round.haves_sent as u64);
+    report.word(" ");
+    report.number(round.in_vain as u64);
     report.word(if round.previous_response_had_at_least_one_in_common {
         " common"
     } else {
         ""
-    })?;
-    report.word(if is_last { " last " } else { " " })
+    });
+    report.word(if is_last { " last " } else { " " });
 }
 
 // A request, where there is something to send.
-fn send<T: Transport>(
-    report: &mut Report,
-    asked: &mut Arguments,
-    transport: &mut T,
-    done: bool,
-) -> Result<(), AllocError> {
+fn send<T: Transport>(report: &mut Report, asked: &mut Arguments, transport: &mut T, done: bool) {
     if !done && !asked.has_haves() {
-        return Ok(());
+        return;
     }
-    match asked.send(transport, done) {
-        Ok(()) => Ok(()),
-        Err(e) => client_error(report, &e),
+    if let Err(e) = asked.send(transport, done) {
+        client_error(report, &e);
     }
 }
 
@@ -175,21 +167,21 @@ fn run_round<N: Negotiate<AlternatesError = Closed>, T: Transport>(
     asked: &mut Arguments,
     transport: &mut T,
     previous: Option<&Response>,
-) -> Result<bool, AllocError> {
+) -> bool {
     for _ in 0..2usize {
         if state.haves_to_send == 0 {
-            return Ok(false);
+            return false;
         }
         match negotiation.one_round(state, asked, previous) {
             Ok((round, is_last)) => {
-                report_round(report, round, is_last)?;
-                send(report, asked, transport, is_last)?;
-                return Ok(!is_last);
+                report_round(report, round, is_last);
+                send(report, asked, transport, is_last);
+                return !is_last;
             }
-            Err(e) => report_error(report, &e)?,
+            Err(e) => report_error(report, &e),
         }
     }
-    Ok(false)
+    false
 }
 
 // All rounds, as far as there are answers.
@@ -200,15 +192,14 @@ fn run_rounds<N: Negotiate<AlternatesError = Closed>, T: Transport>(
     asked: &mut Arguments,
     transport: &mut T,
     answers: &[Response],
-) -> Result<(), AllocError> {
-    let mut goes_on = run_round(report, negotiation, state, asked, transport, None)?;
+) {
+    let mut goes_on = run_round(report, negotiation, state, asked, transport, None);
     for answer in answers {
         if !goes_on {
             break;
         }
-        goes_on = run_round(report, negotiation, state, asked, transport, Some(answer))?;
+        goes_on = run_round(report, negotiation, state, asked, transport, Some(answer));
     }
-    Ok(())
 }
 
 // What is asked for, and then the rounds.
@@ -233,9 +224,15 @@ fn run_over<N: Negotiate<AlternatesError = Closed>, T: Transport>(
     };
     let mut asked = Arguments::new(alloc, &CommandTable::git(), version, features)?;
     match negotiation.add_wants(&mut asked, known) {
-        Ok(true) => report.word("wants ")?,
-        Ok(false) => return report.word("nothing "),
-        Err(e) => return report_error(report, &e),
+        Ok(true) => report.word("wants "),
+        Ok(false) => {
+            report.word("nothing ");
+            return Ok(());
+        }
+        Err(e) => {
+            report_error(report, &e);
+            return Ok(());
+        }
     }
     let is_stateless = asked.is_stateless(
         !transport.connection_persists_across_multiple_requests(),
@@ -248,7 +245,8 @@ fn run_over<N: Negotiate<AlternatesError = Closed>, T: Transport>(
         &mut asked,
         transport,
         answers,
-    )
+    );
+    Ok(())
 }
 
 // The same, and the requests behind it.
@@ -275,8 +273,9 @@ fn negotiate<N: Negotiate<AlternatesError = Closed>>(
             answers,
             report,
         )?;
-        report.word("> ")?;
-        return report_requests(report, &transport.writer().bytes);
+        report.word("> ");
+        report_requests(report, &transport.writer().bytes);
+        return Ok(());
     }
     let mut transport = bodies(alloc, Vec::new(alloc))?;
     run_over(
@@ -289,8 +288,8 @@ fn negotiate<N: Negotiate<AlternatesError = Closed>>(
         report,
     )?;
     for request in transport.sent() {
-        report.word("> ")?;
-        report_requests(report, request)?;
+        report.word("> ");
+        report_requests(report, request);
     }
     Ok(())
 }
@@ -324,41 +323,36 @@ fn tags_of(row: &Row<'_>) -> Tags {
 }
 
 // The commits of the graph, and those that have the mark.
-fn report_marks<G: Objects>(
-    graph: &Graph<G>,
-    ids: &[ObjectId],
-    report: &mut Report,
-) -> Result<(), AllocError> {
-    report.word("held ")?;
+fn report_marks<G: Objects>(graph: &Graph<G>, ids: &[ObjectId], report: &mut Report) {
+    report.word("held ");
     for id in ids {
         if let Some((_, flags)) = graph.get(id) {
-            report.number(number_of(id))?;
+            report.number(number_of(id));
             report.word(if flags.0 & Flags::COMPLETE.0 == 0 {
                 " "
             } else {
                 "+ "
-            })?;
+            });
         }
     }
-    Ok(())
 }
 
 // The ids that were looked up, in order, those of commits that were read twice with a mark.
 fn report_looks(objects: &mut MemoryObjects, report: &mut Report) -> Result<(), AllocError> {
-    report.word("looked ")?;
+    report.word("looked ");
     objects.looked_up.sort()?;
     let mut last = None;
     for id in &objects.looked_up {
         if last == Some(*id) {
             match objects.objects.get(id) {
-                Some(object) if object.commit.is_some() => report.word("twice ")?,
+                Some(object) if object.commit.is_some() => report.word("twice "),
                 _ => {}
             }
             continue;
         }
         last = Some(*id);
-        report.number(number_of(id))?;
-        report.word(" ")?;
+        report.number(number_of(id));
+        report.word(" ");
     }
     Ok(())
 }
@@ -405,7 +399,8 @@ fn run_history(
 ) -> Result<(), AllocError> {
     let mut graph = Graph::new(alloc, Lent { objects });
     run_graph(alloc, row, history, &mut graph, recorder, report)?;
-    report_marks(&graph, &history.ids, report)
+    report_marks(&graph, &history.ids, report);
+    Ok(())
 }
 
 /// The decision, what is asked for and told, and what is known of the commits then.
@@ -430,10 +425,11 @@ pub(crate) fn report_negotiation(
         report,
     )?;
     report_looks(&mut objects, report)?;
-    report.word("known ")?;
-    report_ids(&recorder.known, report)?;
-    report.word("tips ")?;
-    report_ids(&recorder.tips, report)?;
-    report.word("common ")?;
-    report_ids(&recorder.common, report)
+    report.word("known ");
+    report_ids(&recorder.known, report);
+    report.word("tips ");
+    report_ids(&recorder.tips, report);
+    report.word("common ");
+    report_ids(&recorder.common, report);
+    Ok(())
 }

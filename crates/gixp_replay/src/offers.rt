@@ -29,26 +29,23 @@ const NAMES: [&str; 16] = [
     "no-such",
 ];
 
-fn report_features(features: &[Feature], report: &mut Report) -> Result<(), AllocError> {
+fn report_features(features: &[Feature], report: &mut Report) {
     for (name, value) in features {
-        report.word(name)?;
+        report.word(name);
         if value.is_some() {
-            report.word("=")?;
+            report.word("=");
         }
-        report.word(",")?;
+        report.word(",");
     }
-    report.word(" ")
+    report.word(" ");
 }
 
-fn report_validation(
-    outcome: Result<(), validate_argument_prefixes::Error>,
-    report: &mut Report,
-) -> Result<(), AllocError> {
+fn report_validation(outcome: Result<(), validate_argument_prefixes::Error>, report: &mut Report) {
     match outcome {
-        Ok(()) => report.word("valid")?,
-        Err(e) => values::validation_error(report, &e)?,
+        Ok(()) => report.word("valid"),
+        Err(e) => values::validation_error(report, &e),
     }
-    report.word(" ")
+    report.word(" ");
 }
 
 /// The feature of this name, if it has one.
@@ -108,19 +105,20 @@ fn report_version(
 ) -> Result<(), AllocError> {
     let table = CommandTable::git();
     let features = table.default_features(alloc, command, version, found)?;
-    report_features(&features, report)?;
+    report_features(&features, report);
     report.word(
         match Response::check_required_features(version, &features) {
             Ok(()) => "has ",
             Err(_) => "lacks ",
         },
-    )?;
+    );
     let outcome = table.validate_argument_prefixes(
         alloc, command, version, found, arguments, given,
     );
-    report_validation(outcome, report)?;
+    report_validation(outcome, report);
     let outcome = table.validate_argument_prefixes(alloc, command, version, found, &[], given);
-    report_validation(outcome, report)
+    report_validation(outcome, report);
+    Ok(())
 }
 
 /// What is asked for and validated by each command under each version, and whether the features of the row's masks
@@ -141,14 +139,14 @@ pub(crate) fn report_offers(
         }
         let lines = CommandTable::git().initial_v2_arguments(alloc, command, &given)?;
         for line in &lines {
-            report.quote(line.as_bytes())?;
+            report.quote(line.as_bytes());
         }
-        report.word(" ")?;
+        report.word(" ");
     }
     for version in versions {
         match Response::check_required_features(version, &given) {
-            Ok(()) => report.word("has ")?,
-            Err(e) => values::response_error(report, &e)?,
+            Ok(()) => report.word("has "),
+            Err(e) => values::response_error(report, &e),
         }
     }
     Ok(())

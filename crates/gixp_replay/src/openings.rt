@@ -71,8 +71,9 @@ pub(crate) fn report_opening(
     let mut transport = connection(alloc, device, row.cut, version, Some(opening))?;
     match transport.handshake(alloc, service, &parameters) {
         Ok(found) => report_response(alloc, &found, report)?,
-        Err(e) => client_error(report, &e)?,
+        Err(e) => client_error(report, &e),
     }
-    report.word(" ")?;
-    report.quote(&transport.writer().bytes)
+    report.word(" ");
+    report.quote(&transport.writer().bytes);
+    Ok(())
 }

@@ -38,9 +38,10 @@ impl BandText for Notes<'_> {
             return Err(AllocError);
         }
         self.fails -= 1;
-        self.told.word(if is_error { "[3:" } else { "[2:" })?;
-        self.told.quote(text)?;
-        self.told.word("]")
+        self.told.word(if is_error { "[3:" } else { "[2:" });
+        self.told.quote(text);
+        self.told.word("]");
+        Ok(())
     }
 }
 
@@ -170,15 +171,12 @@ fn lend_some<R: BufRead>(
 }
 
 /// The error that stands in a reader of bands, if there is one.
-pub(crate) fn report_fault(
-    fault: Option<&read::Error>,
-    report: &mut Report,
-) -> Result<(), AllocError> {
+pub(crate) fn report_fault(fault: Option<&read::Error>, report: &mut Report) {
     match fault {
-        Some(e) => values::read_error(report, e)?,
-        None => report.word("nofault")?,
+        Some(e) => values::read_error(report, e),
+        None => report.word("nofault"),
     }
-    report.word(" ")
+    report.word(" ");
 }
 
 // How often a read was refused and the next one went on.
@@ -224,14 +222,14 @@ impl Counts {
 fn report_last_error<T: ExtendedBufRead, I: Interrupt>(
     reader: &mut WithSidebands<'_, T, Notes<'_>, I>,
     report: &mut Report,
-) -> Result<(), AllocError> {
-    report_fault(reader.fault(), report)?;
+) {
+    report_fault(reader.fault(), report);
     let mut one = [0u8; 1];
     match reader.read(&mut one) {
-        Ok(_) => report.word("!read ")?,
-        Err(e) => values::kind(report, e.kind())?,
+        Ok(_) => report.word("!read "),
+        Err(e) => values::kind(report, e.kind()),
     }
-    report.word(" ")
+    report.word(" ");
 }
 
 // One read of a kind and size that follow from a number, 0 for a large one.
@@ -264,7 +262,7 @@ fn drain<T: ExtendedBufRead, I: Interrupt>(
     for _ in 0..u64::MAX {
         let left = limit.saturating_sub(content.len() as u64);
         if left == 0 {
-            report.word("limit ")?;
+            report.word("limit ");
             break;
         }
         let left = usize::try_from(left).unwrap_or(usize::MAX);
@@ -277,13 +275,13 @@ fn drain<T: ExtendedBufRead, I: Interrupt>(
         match step {
             Step::Took => {}
             Step::Ended => {
-                report.word("end ")?;
-                report_fault(reader.fault(), report)?;
+                report.word("end ");
+                report_fault(reader.fault(), report);
                 break;
             }
             Step::Refused if counts.count(reader.fault()) => {}
             Step::Refused => {
-                report_last_error(reader, report)?;
+                report_last_error(reader, report);
                 break;
             }
         }
@@ -319,17 +317,17 @@ pub(crate) fn read_pack<T: ExtendedBufRead>(
         let mut banded = WithSidebands::new(reader, notes, &mut once);
         let Settings { limit, seed, .. } = settings;
         let counts = drain(alloc, &mut banded, limit, seed, &mut content, report)?;
-        values::stop(report, banded.stopped_at())?;
+        values::stop(report, banded.stopped_at());
         counts
     };
-    report.quote(&content)?;
-    report.word(" told ")?;
-    report.quote(told.bytes())?;
-    report.word(" ")?;
-    report.number(counts.interrupted)?;
-    report.word(" ")?;
-    report.number(counts.memory)?;
-    report.word(" ")?;
+    report.quote(&content);
+    report.word(" told ");
+    report.quote_report(&told);
+    report.word(" ");
+    report.number(counts.interrupted);
+    report.word(" ");
+    report.number(counts.memory);
+    report.word(" ");
     Ok(counts.failed)
 }
 
@@ -353,9 +351,10 @@ pub(crate) fn report_pack(
         reader.reset(version);
         let told = read_pack(alloc, &mut reader, settings, report)?;
         if row.fail == 0 {
-            report_rest(&mut reader, version, report)?;
+            report_rest(&mut reader, version, report);
         }
         told
     };
-    report_failures(report, told, device.failures)
+    report_failures(report, told, device.failures);
+    Ok(())
 }

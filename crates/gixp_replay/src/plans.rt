@@ -115,14 +115,15 @@ pub(crate) fn report_plan(
         room: room_of(row.settings[1]),
     };
     let planned = plan_parts(alloc, parts, &mut page);
-    report.letters(&page.text)?;
+    report.letters(&page.text);
     match planned {
         Ok(()) => report.word(" Ok"),
         Err(e) => {
-            report.word(" ")?;
-            report.word(e.step)?;
-            report.word(" ")?;
-            report.word(e.variant)
+            report.word(" ");
+            report.word(e.step);
+            report.word(" ");
+            report.word(e.variant);
         }
     }
+    Ok(())
 }

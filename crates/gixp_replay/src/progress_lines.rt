@@ -9,20 +9,20 @@ use gixp_progress::RemoteProgress;
 use gixp_wire::Progress;
 use std::alloc::{AllocError, Global};
 
-fn report_number(report: &mut Report, number: Option<u64>) -> Result<(), AllocError> {
+fn report_number(report: &mut Report, number: Option<u64>) {
     match number {
-        Some(number) => report.number(number)?,
-        None => report.word("-")?,
+        Some(number) => report.number(number),
+        None => report.word("-"),
     }
-    report.word(" ")
+    report.word(" ");
 }
 
-fn report_parts(report: &mut Report, line: &RemoteProgress<'_>) -> Result<(), AllocError> {
-    report.quote(line.action.as_bytes())?;
-    report.word(" ")?;
-    report_number(report, line.percent.map(|number| number as u64))?;
-    report_number(report, line.step.map(|number| number as u64))?;
-    report_number(report, line.max.map(|number| number as u64))
+fn report_parts(report: &mut Report, line: &RemoteProgress<'_>) {
+    report.quote(line.action.as_bytes());
+    report.word(" ");
+    report_number(report, line.percent.map(|number| number as u64));
+    report_number(report, line.step.map(|number| number as u64));
+    report_number(report, line.max.map(|number| number as u64));
 }
 
 /// The parts of the line, and what was told.
@@ -34,13 +34,14 @@ pub(crate) fn report_line(
     let [is_error, ..] = row.settings;
     let (shown, text) = cut_at_byte(row.payload, b'\n');
     match RemoteProgress::from_bytes(text) {
-        Some(line) => report_parts(report, &line)?,
-        None => report.word("none ")?,
+        Some(line) => report_parts(report, &line),
+        None => report.word("none "),
     }
     let mut progress = Telling::new(alloc);
     if !shown.is_empty() {
         progress.set_name(String::from_utf8_lossy(alloc, shown)?);
     }
     RemoteProgress::translate_to_progress(alloc, is_error == 1, text, &mut progress)?;
-    progress.report(report)
+    progress.report(report);
+    Ok(())
 }

@@ -13,12 +13,11 @@ use gixp_wire::{ExtendedBufRead, LineReader};
 use std::alloc::{AllocError, Global};
 
 /// A list of refs.
-pub(crate) fn report_list(report: &mut Report, refs: &[Ref]) -> Result<(), AllocError> {
-    report.word("refs ")?;
+pub(crate) fn report_list(report: &mut Report, refs: &[Ref]) {
+    report.word("refs ");
     for found in refs {
-        reference(report, found)?;
+        reference(report, found);
     }
-    Ok(())
 }
 
 // What an error says of the calls behind it.
@@ -48,21 +47,17 @@ fn outlook_of(e: &parse::Error) -> Outlook {
 }
 
 // Refs one by one, and a last error twice. How often a read failed.
-fn report_each<R: ExtendedBufRead>(
-    alloc: Global,
-    reader: &mut R,
-    report: &mut Report,
-) -> Result<u64, AllocError> {
+fn report_each<R: ExtendedBufRead>(alloc: Global, reader: &mut R, report: &mut Report) -> u64 {
     let mut failed = 0u64;
     let mut is_over = false;
     for _ in 0..u64::MAX {
         let e = match next_v2_ref(alloc, reader) {
             Ok(Some(found)) => {
-                reference(report, &found)?;
+                reference(report, &found);
                 continue;
             }
             Ok(None) => {
-                report.word("| ")?;
+                report.word("| ");
                 break;
             }
             Err(e) => e,
@@ -73,17 +68,20 @@ fn report_each<R: ExtendedBufRead>(
                 continue;
             }
             Outlook::Next => {}
-            Outlook::Over if is_over => return report_error(report, &e).map(|_| failed),
+            Outlook::Over if is_over => {
+                report_error(report, &e);
+                break;
+            }
             Outlook::Over => is_over = true,
         }
-        report_error(report, &e)?;
+        report_error(report, &e);
     }
-    Ok(failed)
+    failed
 }
 
-fn report_error(report: &mut Report, e: &parse::Error) -> Result<(), AllocError> {
-    parse_error(report, e)?;
-    report.word(" ")
+fn report_error(report: &mut Report, e: &parse::Error) {
+    parse_error(report, e);
+    report.word(" ");
 }
 
 /// All refs of version 2. Whether there was no error.
@@ -91,15 +89,15 @@ pub(crate) fn report_all<R: ExtendedBufRead>(
     alloc: Global,
     reader: &mut R,
     report: &mut Report,
-) -> Result<bool, AllocError> {
+) -> bool {
     match from_v2_refs(alloc, reader) {
         Ok(refs) => {
-            report_list(report, &refs)?;
-            Ok(true)
+            report_list(report, &refs);
+            true
         }
         Err(e) => {
-            report_error(report, &e)?;
-            Ok(false)
+            report_error(report, &e);
+            false
         }
     }
 }
@@ -118,13 +116,14 @@ pub(crate) fn report_refs(
         let mut reader = LineReader::new(alloc, &mut device)?;
         reader.reset(version);
         if calls == 0 {
-            let _ = report_all(alloc, &mut reader, report)?;
+            let _ = report_all(alloc, &mut reader, report);
         } else {
-            told = report_each(alloc, &mut reader, report)?;
+            told = report_each(alloc, &mut reader, report);
         }
         if row.fail == 0 {
-            report_rest(&mut reader, version, report)?;
+            report_rest(&mut reader, version, report);
         }
     }
-    report_failures(report, told, device.failures)
+    report_failures(report, told, device.failures);
+    Ok(())
 }

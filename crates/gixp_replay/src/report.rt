@@ -2,11 +2,12 @@
 use gixp_wire::ObjectId;
 use std::alloc::{AllocError, Global};
 
-/// What a row gives, as text.
+/// What a row gives, as text. An allocation failure is kept, so that those who write need not look at each word.
 #[derive(Drop)]
 pub(crate) struct Report {
     alloc: Global,
     text: Vec<u8>,
+    has_failed: bool,
 }
 
 // The Adler-32 checksum.
@@ -35,80 +36,96 @@ impl Report {
         Report {
             alloc,
             text: Vec::new(alloc),
+            has_failed: false,
         }
     }
 
     /// Drops the text.
     pub(crate) fn clear(&mut self) {
         self.text.clear();
+        self.has_failed = false;
     }
 
-    /// The text so far.
-    pub(crate) fn bytes(&self) -> &[u8] {
-        &self.text
+    /// The text, where no allocation failed.
+    pub(crate) fn bytes(&self) -> Result<&[u8], AllocError> {
+        if self.has_failed {
+            return Err(AllocError);
+        }
+        Ok(&self.text)
+    }
+
+    fn push(&mut self, bytes: &[u8]) {
+        if self.text.extend_from_slice(bytes).is_err() {
+            self.has_failed = true;
+        }
     }
 
     /// A word as it is.
-    pub(crate) fn word(&mut self, word: &str) -> Result<(), AllocError> {
-        self.text.extend_from_slice(word.as_bytes())
+    pub(crate) fn word(&mut self, word: &str) {
+        self.push(word.as_bytes());
     }
 
     /// A number in decimal digits.
-    pub(crate) fn number(&mut self, value: u64) -> Result<(), AllocError> {
-        let text = value.to_string(self.alloc)?;
-        self.word(text.as_str())
+    pub(crate) fn number(&mut self, value: u64) {
+        match value.to_string(self.alloc) {
+            Ok(text) => self.word(text.as_str()),
+            Err(_) => self.has_failed = true,
+        }
     }
 
     /// An id in hexadecimal digits.
-    pub(crate) fn id(&mut self, id: &ObjectId) -> Result<(), AllocError> {
-        self.text.extend_from_slice(&id.to_hex())
+    pub(crate) fn id(&mut self, id: &ObjectId) {
+        self.push(&id.to_hex());
     }
 
     // The length and the checksum.
-    fn digest(&mut self, bytes: &[u8]) -> Result<(), AllocError> {
-        self.word("#")?;
-        self.number(bytes.len() as u64)?;
-        self.word(":")?;
-        self.number(u64::from(checksum(bytes)))
+    fn digest(&mut self, bytes: &[u8]) {
+        self.word("#");
+        self.number(bytes.len() as u64);
+        self.word(":");
+        self.number(u64::from(checksum(bytes)));
     }
 
     /// Bytes in quotes, those that are no plain letters as two digits behind a backslash; more than 120 as their
     /// length and checksum.
-    pub(crate) fn quote(&mut self, bytes: &[u8]) -> Result<(), AllocError> {
+    pub(crate) fn quote(&mut self, bytes: &[u8]) {
         if bytes.len() > 120 {
             return self.digest(bytes);
         }
-        self.word("'")?;
-        self.letters(bytes)?;
-        self.word("'")
+        self.word("'");
+        self.letters(bytes);
+        self.word("'");
+    }
+
+    /// The text of another report in quotes.
+    pub(crate) fn quote_report(&mut self, other: &Report) {
+        self.quote(&other.text);
+        self.has_failed |= other.has_failed;
     }
 
     /// Bytes, those that are no plain letters as two digits behind a backslash.
-    pub(crate) fn letters(&mut self, bytes: &[u8]) -> Result<(), AllocError> {
+    pub(crate) fn letters(&mut self, bytes: &[u8]) {
         for byte in bytes {
             let plain = *byte > b' ' && *byte < 127 && *byte != b'\\' && *byte != b'\'';
             if plain {
-                self.text.push(*byte)?;
+                self.push(&[*byte]);
             } else {
-                self.text.push(b'\\')?;
-                self.text.push(digit(*byte / 16))?;
-                self.text.push(digit(*byte % 16))?;
+                self.push(&[b'\\', digit(*byte / 16), digit(*byte % 16)]);
             }
         }
-        Ok(())
     }
 
     /// Keeps so many bytes of a longer text, with its length and checksum behind them.
-    pub(crate) fn shorten(&mut self, width: usize) -> Result<(), AllocError> {
+    pub(crate) fn shorten(&mut self, width: usize) {
         if self.text.len() <= width {
-            return Ok(());
+            return;
         }
         let sum = checksum(&self.text);
         let len = self.text.len() as u64;
         self.text.truncate(width);
-        self.word("..#")?;
-        self.number(len)?;
-        self.word(":")?;
-        self.number(u64::from(sum))
+        self.word("..#");
+        self.number(len);
+        self.word(":");
+        self.number(u64::from(sum));
     }
 }

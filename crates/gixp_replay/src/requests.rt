@@ -40,7 +40,7 @@ fn push_named(alloc: Global, script: &[u8], features: &mut Vec<Feature>) -> Resu
 }
 
 // What may be called now.
-fn report_state(asked: &Arguments, report: &mut Report) -> Result<(), AllocError> {
+fn report_state(asked: &Arguments, report: &mut Report) {
     for can in [
         asked.can_use_filter(),
         asked.can_use_shallow(),
@@ -56,9 +56,9 @@ fn report_state(asked: &Arguments, report: &mut Report) -> Result<(), AllocError
         asked.is_empty(),
         asked.has_haves(),
     ] {
-        report.word(if can { "1" } else { "0" })?;
+        report.word(if can { "1" } else { "0" });
     }
-    report.word(" ")
+    report.word(" ");
 }
 
 // So many letters where the text is a number behind a `#`, else the text.
@@ -122,10 +122,10 @@ fn send<T: Transport>(
         return Ok(false);
     }
     match asked.send(transport, done) {
-        Ok(()) => report.word("sent ")?,
+        Ok(()) => report.word("sent "),
         Err(e) => {
-            client_error(report, &e)?;
-            report.word(" ")?;
+            client_error(report, &e);
+            report.word(" ");
         }
     }
     Ok(true)
@@ -139,7 +139,7 @@ fn report_calls<T: Transport>(
     transport: &mut T,
     report: &mut Report,
 ) -> Result<(), AllocError> {
-    report_state(asked, report)?;
+    report_state(asked, report);
     for line in script.split(|b| *b == b'\n') {
         let [letter, rest @ ..] = line else {
             continue;
@@ -153,9 +153,9 @@ fn report_calls<T: Transport>(
             _ => add(alloc, asked, *letter, rest)?,
         };
         if !was_possible {
-            report.word("x")?;
+            report.word("x");
         }
-        report_state(asked, report)?;
+        report_state(asked, report);
     }
     Ok(())
 }
@@ -175,13 +175,14 @@ pub(crate) fn report_requests(
         let mut transport = bodies(alloc, Vec::new(alloc))?;
         report_calls(alloc, row.payload, &mut asked, &mut transport, report)?;
         for request in transport.sent() {
-            report.quote(request)?;
-            report.word(" ")?;
+            report.quote(request);
+            report.word(" ");
         }
         return Ok(());
     }
     let device = Device::new(b"", row.cut, 0);
     let mut transport = connection(alloc, device, row.cut, version, None)?;
     report_calls(alloc, row.payload, &mut asked, &mut transport, report)?;
-    report.quote(&transport.writer().bytes)
+    report.quote(&transport.writer().bytes);
+    Ok(())
 }

@@ -39,11 +39,11 @@ fn list_refs<T: Transport>(
     match transport.invoke(alloc, Command::LsRefs.as_str(), &features, &arguments) {
         Ok(()) => {}
         Err(e) => {
-            client_error(report, &e)?;
+            client_error(report, &e);
             return Ok(false);
         }
     }
-    report_all(alloc, transport, report)
+    Ok(report_all(alloc, transport, report))
 }
 
 // The answer to a request, in bands where the settings say so.
@@ -52,7 +52,7 @@ fn read_answer<T: Transport>(
     transport: &mut T,
     reading: Reading,
     report: &mut Report,
-) -> Result<Option<Response>, AllocError> {
+) -> Option<Response> {
     if !reading.is_banded {
         return read_response(alloc, transport, reading, report);
     }
@@ -79,14 +79,14 @@ fn run_round<T: Transport>(
     }
     let done = reading.expects_pack;
     match asked.send(transport, done) {
-        Ok(()) => report.word("sent ")?,
+        Ok(()) => report.word("sent "),
         Err(e) => {
-            client_error(report, &e)?;
-            report.word(" ")?;
+            client_error(report, &e);
+            report.word(" ");
             return Ok(false);
         }
     }
-    let Some(found) = read_answer(alloc, transport, reading, report)? else {
+    let Some(found) = read_answer(alloc, transport, reading, report) else {
         return Ok(false);
     };
     if found.has_pack() {
@@ -141,7 +141,7 @@ fn report_over<T: Transport>(
     };
     let version = found.actual_protocol;
     let goes_on = if found.refs_follow {
-        report_early_refs(alloc, transport, &found.capabilities, report)?
+        report_early_refs(alloc, transport, &found.capabilities, report)
     } else {
         list_refs(alloc, transport, report)?
     };
@@ -156,7 +156,8 @@ fn report_over<T: Transport>(
         features.push(agent(alloc)?)?;
         fetch(alloc, row, transport, version, features, report)?;
     }
-    report_rest(transport, version, report)
+    report_rest(transport, version, report);
+    Ok(())
 }
 
 /// Bodies of these lengths.
@@ -187,14 +188,15 @@ pub(crate) fn report_session(
         let device = Device::new(bytes, row.cut, 0);
         let mut transport = connection(alloc, device, row.cut, version, None)?;
         report_over(alloc, row, &mut transport, report)?;
-        report.word(" ")?;
-        return report.quote(&transport.writer().bytes);
+        report.word(" ");
+        report.quote(&transport.writer().bytes);
+        return Ok(());
     }
     let mut transport = bodies(alloc, cut_bodies(alloc, lengths, bytes)?)?;
     report_over(alloc, row, &mut transport, report)?;
     for request in transport.sent() {
-        report.word(" ")?;
-        report.quote(request)?;
+        report.word(" ");
+        report.quote(request);
     }
     Ok(())
 }

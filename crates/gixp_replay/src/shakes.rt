@@ -38,15 +38,15 @@ impl<'a> Helper<'a> {
         }
     }
 
-    fn write_down(&mut self, action: &Action) -> Result<(), AllocError> {
+    fn write_down(&mut self, action: &Action) {
         let (word, text) = match action {
             Action::Get { url } => ("Get", url),
             Action::Store(output) => ("Store", output),
             Action::Erase(output) => ("Erase", output),
         };
-        self.asked.word(word)?;
-        self.asked.quote(text.as_bytes())?;
-        self.asked.word(" ")
+        self.asked.word(word);
+        self.asked.quote(text.as_bytes());
+        self.asked.word(" ");
     }
 
     fn account(&self) -> Result<Outcome, AllocError> {
@@ -71,9 +71,7 @@ impl<'a> Helper<'a> {
 
     /// What it says to an action.
     pub(crate) fn answer(&mut self, action: Action) -> Result<Option<Outcome>, credentials::Error> {
-        if self.write_down(&action).is_err() {
-            return Err(self.failure());
-        }
+        self.write_down(&action);
         let (letter, rest) = cut_at(self.script, 1);
         self.script = rest;
         match letter {
@@ -87,10 +85,10 @@ impl<'a> Helper<'a> {
     }
 
     /// Writes what it was asked for.
-    pub(crate) fn report(&self, report: &mut Report) -> Result<(), AllocError> {
-        report.word("asked ")?;
-        report.quote(self.asked.bytes())?;
-        report.word(" ")
+    pub(crate) fn report(&self, report: &mut Report) {
+        report.word("asked ");
+        report.quote_report(&self.asked);
+        report.word(" ");
     }
 }
 
@@ -174,37 +172,37 @@ pub(crate) fn connection<'a>(
 }
 
 /// Why a handshake is refused.
-pub(crate) fn shake_error(report: &mut Report, e: &Error) -> Result<(), AllocError> {
+pub(crate) fn shake_error(report: &mut Report, e: &Error) {
     match e {
         Error::Credentials(e) => {
-            report.word("Credentials(")?;
-            report.quote(e.message.as_bytes())?;
-            report.word(")")?;
+            report.word("Credentials(");
+            report.quote(e.message.as_bytes());
+            report.word(")");
         }
-        Error::EmptyCredentials => report.word("EmptyCredentials")?,
+        Error::EmptyCredentials => report.word("EmptyCredentials"),
         Error::InvalidCredentials { url } => {
-            report.word("InvalidCredentials(")?;
-            report.quote(url.as_bytes())?;
-            report.word(")")?;
+            report.word("InvalidCredentials(");
+            report.quote(url.as_bytes());
+            report.word(")");
         }
         Error::Transport(e) => {
-            report.word("Transport(")?;
-            client_error(report, e)?;
-            report.word(")")?;
+            report.word("Transport(");
+            client_error(report, e);
+            report.word(")");
         }
         Error::TransportProtocolPolicyViolation { actual_version } => {
-            report.word("TransportProtocolPolicyViolation(")?;
-            report.word(version_word(*actual_version))?;
-            report.word(")")?;
+            report.word("TransportProtocolPolicyViolation(");
+            report.word(version_word(*actual_version));
+            report.word(")");
         }
         Error::ParseRefs(e) => {
-            report.word("ParseRefs(")?;
-            parse_error(report, e)?;
-            report.word(")")?;
+            report.word("ParseRefs(");
+            parse_error(report, e);
+            report.word(")");
         }
-        Error::Memory => report.word("Memory")?,
+        Error::Memory => report.word("Memory"),
     }
-    report.word(" ")
+    report.word(" ");
 }
 
 /// The version, the capabilities, and the refs and shallow updates if they came.
@@ -213,24 +211,24 @@ pub(crate) fn report_shaken(
     found: &Handshake,
     report: &mut Report,
 ) -> Result<(), AllocError> {
-    report.word(version_word(found.server_protocol_version))?;
-    report.word(" ")?;
+    report.word(version_word(found.server_protocol_version));
+    report.word(" ");
     capability_list(alloc, report, &found.capabilities)?;
-    report.word("; ")?;
+    report.word("; ");
     match &found.refs {
-        Some(refs) => report_list(report, refs)?,
-        None => report.word("norefs ")?,
+        Some(refs) => report_list(report, refs),
+        None => report.word("norefs "),
     }
     match &found.v1_shallow_updates {
         Some(updates) => {
-            report.word("updates ")?;
+            report.word("updates ");
             for found in updates {
-                update(report, *found)?;
+                update(report, *found);
             }
-            Ok(())
         }
         None => report.word("noupdates "),
     }
+    Ok(())
 }
 
 // The version that a handshake found, if it came so far.
@@ -261,16 +259,16 @@ fn report_over<T: Transport>(
         parameters,
         &mut progress,
     );
-    helper.report(report)?;
-    progress.report(report)?;
+    helper.report(report);
+    progress.report(report);
     match &outcome {
         Ok(found) => report_shaken(alloc, &found.clone()?, report)?,
-        Err(e) => shake_error(report, e)?,
+        Err(e) => shake_error(report, e),
     }
-    match version_found(&outcome) {
-        Some(version) => report_rest(transport, version, report),
-        None => Ok(()),
+    if let Some(version) = version_found(&outcome) {
+        report_rest(transport, version, report);
     }
+    Ok(())
 }
 
 /// A handshake over a connection or memory, and the bytes or the account that the transport was given.
@@ -287,15 +285,17 @@ pub(crate) fn report_shake(
         let device = Device::new(bytes, row.cut, row.fail);
         let mut transport = connection(alloc, device, row.cut, version, mask)?;
         report_over(alloc, &mut transport, script, parameters, report)?;
-        return report.quote(&transport.writer().bytes);
+        report.quote(&transport.writer().bytes);
+        return Ok(());
     }
     let mut transport = memory(alloc, bodies_of(alloc, words, bytes)?, mask)?;
     report_over(alloc, &mut transport, script, parameters, report)?;
     match transport.identity() {
         Some(account) => {
-            report.quote(account.username.as_bytes())?;
-            report.quote(account.password.as_bytes())
+            report.quote(account.username.as_bytes());
+            report.quote(account.password.as_bytes());
         }
         None => report.word("nobody"),
     }
+    Ok(())
 }

@@ -4,14 +4,13 @@ ghost use Rattle.std.specs.Option.{option_map};
 
 use crate::report::Report;
 use gixp_wire::Progress;
-use std::alloc::{AllocError, Global};
+use std::alloc::Global;
 
 /// Writes each call down.
 #[derive(Drop)]
 pub(crate) struct Telling {
     words: Report,
     name: Option<String>,
-    is_refused: bool,
 }
 
 impl Telling {
@@ -20,47 +19,20 @@ impl Telling {
         Telling {
             words: Report::new(alloc),
             name: None,
-            is_refused: false,
-        }
-    }
-
-    // A call could not be written down.
-    fn keep(&mut self, outcome: Result<(), AllocError>) {
-        if outcome.is_err() {
-            self.is_refused = true;
         }
     }
 
     /// Writes what was told.
-    pub(crate) fn report(&self, report: &mut Report) -> Result<(), AllocError> {
-        if self.is_refused {
-            return Err(AllocError);
-        }
-        report.word("told ")?;
-        report.quote(self.words.bytes())?;
-        report.word(" ")
+    pub(crate) fn report(&self, report: &mut Report) {
+        report.word("told ");
+        report.quote_report(&self.words);
+        report.word(" ");
     }
 
-    fn begin(&mut self, max: Option<usize>, unit: &str) -> Result<(), AllocError> {
-        self.words.word("init ")?;
-        if let Some(max) = max {
-            self.words.number(max as u64)?;
-            self.words.word(" ")?;
-        }
-        self.words.word(unit)?;
-        self.words.word("; ")
-    }
-
-    fn count(&mut self, step: usize) -> Result<(), AllocError> {
-        self.words.word("set ")?;
-        self.words.number(step as u64)?;
-        self.words.word("; ")
-    }
-
-    fn call(&mut self, word: &str, text: &str) -> Result<(), AllocError> {
-        self.words.word(word)?;
-        self.words.word(text)?;
-        self.words.word("; ")
+    fn call(&mut self, word: &str, text: &str) {
+        self.words.word(word);
+        self.words.word(text);
+        self.words.word("; ");
     }
 }
 
@@ -70,23 +42,27 @@ impl Progress for Telling {
     ghost name_of = { λ t. option_map string_bytes t.name };
 
     fn init(&mut self, max: Option<usize>, unit: &'static str) {
-        let outcome = self.begin(max, unit);
-        self.keep(outcome);
+        self.words.word("init ");
+        if let Some(max) = max {
+            self.words.number(max as u64);
+            self.words.word(" ");
+        }
+        self.words.word(unit);
+        self.words.word("; ");
     }
 
     fn step(&mut self) {
-        let outcome = self.words.word("step; ");
-        self.keep(outcome);
+        self.words.word("step; ");
     }
 
     fn set(&mut self, step: usize) {
-        let outcome = self.count(step);
-        self.keep(outcome);
+        self.words.word("set ");
+        self.words.number(step as u64);
+        self.words.word("; ");
     }
 
     fn set_name(&mut self, name: String) {
-        let outcome = self.call("name ", name.as_str());
-        self.keep(outcome);
+        self.call("name ", name.as_str());
         self.name = Some(name);
     }
 
@@ -98,7 +74,6 @@ impl Progress for Telling {
     }
 
     fn fail(&mut self, message: String) {
-        let outcome = self.call("fail ", message.as_str());
-        self.keep(outcome);
+        self.call("fail ", message.as_str());
     }
 }
