@@ -60,13 +60,11 @@ pub use Rattle.gixp_graph.specs.Asked
 pub use Rattle.gixp_graph.specs.Complete
 pub use Rattle.gixp_graph.specs.GraphData
 pub use Rattle.gixp_graph.specs.GraphLaws
-pub use Rattle.gixp_graph.specs.Listed
 pub use Rattle.gixp_graph.specs.Negotiation
 pub use Rattle.gixp_graph.specs.Node
 pub use Rattle.gixp_graph.specs.Object
 pub use Rattle.gixp_graph.specs.Queue
 pub use Rattle.gixp_graph.specs.Run
-pub use Rattle.gixp_graph.specs.Slow
 pub use Rattle.gixp_graph.specs.Table
 pub use Rattle.gixp_graph.specs.Visited
 pub use Rattle.gixp_graph.specs.Waiting

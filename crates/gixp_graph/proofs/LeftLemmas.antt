@@ -1,5 +1,5 @@
 -- How much is left to mark.
-use Rattle.std.proofs.Common.{◌≡◌, ℕ, ◌+◌, ◌≤◌, ◌∙◌, ⊎_elim, Bool, true, false, cond, not, ◌||◌, List, [], ◌∷◌, ◌++◌, length, suc, Option, Some, None, refl, sym, ap, subst, arith}
+use Rattle.std.proofs.Common.{◌≡◌, ◌+◌, ◌≤◌, ◌∙◌, ⊎_elim, Bool, true, false, not, ◌||◌, List, [], ◌∷◌, ◌++◌, length, suc, Option, Some, None, refl, sym, ap, arith}
 use Rattle.std.specs.Prelude.{option_map, is_some, IsSome, option_and_then}
 use Rattle.std.specs.Option.{option_or}
 use Rattle.std.specs.List.{list_any}
@@ -13,34 +13,10 @@ use Rattle.gixp_wire.specs.ObjectId.{id_cmp}
 use Rattle.gixp_graph.specs.Object.{Objects, Object, Commit, commit_at}
 use Rattle.gixp_graph.specs.GraphData.{HeldCommit, GraphData, graph_of, found_in, commit_in, as_read, unmarked, OnlyMarks}
 use Rattle.gixp_graph.specs.Waiting.{Queues}
-use Rattle.gixp_graph.specs.Walk.{Walk, Visits, count, all_ids, left}
-use Rattle.gixp_graph.specs.GraphLaws.{same_from}
+use Rattle.gixp_graph.specs.Walk.{Walk, Visits, all_ids, left}
+use Rattle.gixp_graph.specs.CountLaws.{count_le, count_lt}
 use Rattle.gixp_graph.proofs.VisitedLemmas.{or_true}
 use Rattle.gixp_graph.proofs.StepLemmas.{visit_keeps, visit_visited, visit_reads}
-
--- a test that follows from another counts no more
-one_at : (a b : Bool) → (b ≡ true → a ≡ true) → cond b 1 0 ≤ cond a 1 0
-one_at true true h = omega arith
-one_at true false h = omega arith
-one_at false true h = absurd (let e : false ≡ true = h refl in cc)
-one_at false false h = omega arith
-
--- a stronger test passes no more
-count_le : (p q : ObjectId → Bool) → ((x : ObjectId) → q x ≡ true → p x ≡ true) → (xs : List ObjectId) → count q xs ≤ count p xs
-count_le p q h [] = omega arith
-count_le p q h (x ∷ xs) = omega (arith, count_le p q h xs, one_at (p x) (q x) (h x))
-
--- one that no longer passes is one less
-pub count_lt : (p q : ObjectId → Bool) → ((x : ObjectId) → q x ≡ true → p x ≡ true) → (id : ObjectId) → p id ≡ true → q id ≡ false → (xs : List ObjectId) → list_any (eq_by_cmp id_cmp id) xs ≡ true → count q xs + 1 ≤ count p xs
-count_lt p q h id a b [] w = cc
-count_lt p q h id a b (x ∷ xs) w = ⊎_elim
-    (λ e.
-    let s : id ≡ x = same_from id x e in
-    let one : ◌≡◌ {A = ℕ} (cond (p x) 1 0) 1 = ap (λ v. cond {A = ℕ} v 1 0) (subst (λ y. p y ≡ true) s a) in
-    let none : ◌≡◌ {A = ℕ} (cond (q x) 1 0) 0 = ap (λ v. cond {A = ℕ} v 1 0) (subst (λ y. q y ≡ false) s b) in
-    omega (arith, count_le p q h xs))
-    (λ e. omega (arith, count_lt p q h id a b xs e, one_at (p x) (q x) (h x)))
-    (or_cases (eq_by_cmp id_cmp id x) (list_any (eq_by_cmp id_cmp id) xs) w)
 
 -- what is in the first of two lists is in both
 any_left : (t : ObjectId → Bool) (xs ys : List ObjectId) → list_any t xs ≡ true → list_any t (xs ++ ys) ≡ true

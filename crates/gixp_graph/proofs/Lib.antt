@@ -5,12 +5,10 @@ pub mod FaithfulLemmas
 pub mod GrowLemmas
 pub mod HeldLemmas
 pub mod LeftLemmas
-pub mod ListedLemmas
 pub mod MarkLemmas
 pub mod NewestLemmas
 pub mod NodeLemmas
 pub mod QueueLemmas
-pub mod SlowLemmas
 pub mod StepLemmas
 pub mod TableLemmas
 pub mod VisitedLemmas

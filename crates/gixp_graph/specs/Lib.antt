@@ -1,14 +1,13 @@
 pub mod Asked
 pub mod Complete
+pub mod CountLaws
 pub mod GraphData
 pub mod GraphLaws
-pub mod Listed
 pub mod Negotiation
 pub mod Node
 pub mod Object
 pub mod Queue
 pub mod Run
-pub mod Slow
 pub mod Table
 pub mod Visited
 pub mod Waiting

@@ -8,8 +8,6 @@ pub mod negotiator;
 pub mod objects;
 mod queue;
 pub mod refs;
-#[cfg(test)]
-mod tests;
 mod visited;
 mod walk;
 

@@ -1,0 +1,102 @@
+//! Each public call once, by hand and through a box.
+use crate::repository::{Repository, add, id, never_failing};
+use bitflags::Flags as _;
+use gixp_graph::{CommitData, Flags, Graph, ObjectError, ObjectKind, Objects};
+use gixp_wire::ObjectId;
+use std::alloc::{AllocError, Global};
+use std::collections::BTreeMap;
+use std::io;
+use std::process::Abort;
+use std::test::Fail;
+
+/// A merge (1) of 2 and 3.
+fn merge(alloc: Global) -> Result<BTreeMap<ObjectId, CommitData>, AllocError> {
+    let mut commits = BTreeMap::new(alloc);
+    add(alloc, &mut commits, 1, 10, &[2, 3])?;
+    add(alloc, &mut commits, 2, -5, &[])?;
+    Ok(commits)
+}
+
+/// A graph over the merge.
+fn graph_of_merge(alloc: Global) -> Result<Graph<Repository>, AllocError> {
+    Ok(Graph::new(alloc, never_failing(merge(alloc)?)))
+}
+
+#[test]
+fn graph(rt: HostRuntime) -> Result<(), Fail> {
+    let mut graph = graph_of_merge(rt.alloc())?;
+    assert!(rt; graph.get(&id(1)).is_none() && !graph.insert_flags(&id(1), Flags::SEEN));
+    let seen = graph.lookup(&id(1))?;
+    assert!(rt; seen == Some((10, Flags(0))) && graph.get(&id(2)).is_none());
+    Ok(())
+}
+
+#[test]
+fn marks(rt: HostRuntime) -> Result<(), Fail> {
+    let mut graph = graph_of_merge(rt.alloc())?;
+    let _ = graph.lookup(&id(1))?;
+    assert!(rt; graph.insert_flags(&id(1), Flags::SEEN));
+    assert!(rt; graph.insert_flags(&id(1), Flags::COMMON_REF));
+    assert_eq!(rt; graph.lookup(&id(1))?, Some((10, Flags(12))));
+    Ok(())
+}
+
+#[test]
+fn parents(rt: HostRuntime) -> Result<(), Fail> {
+    let mut graph = graph_of_merge(rt.alloc())?;
+    assert!(rt; graph.parents(rt.alloc(), &id(1))?.is_empty());
+    let _ = graph.lookup(&id(1))?;
+    let parents = graph.parents(rt.alloc(), &id(1))?;
+    assert!(rt; parents.as_slice() == [id(2), id(3)].as_slice());
+    Ok(())
+}
+
+#[test]
+fn commits_without_parents(rt: HostRuntime) -> Result<(), Fail> {
+    let mut graph = graph_of_merge(rt.alloc())?;
+    assert_eq!(rt; graph.lookup(&id(2))?, Some((-5, Flags(0))));
+    assert!(rt; graph.lookup(&id(3))?.is_none() && !graph.insert_flags(&id(3), Flags::SEEN));
+    Ok(())
+}
+
+#[test]
+fn refused_lookup(rt: HostRuntime) -> Result<(), Fail> {
+    let repository = Repository {
+        commits: merge(rt.alloc())?,
+        looks: 1,
+        failures: 0,
+    };
+    let mut graph = Graph::new(rt.alloc(), repository);
+    assert!(rt; graph.lookup(&id(2))? == Some((-5, Flags(0))));
+    assert!(rt; graph.lookup(&id(1)) == Err(ObjectError::Io(io::ErrorKind::Other)));
+    assert!(rt; graph.get(&id(1)).is_none());
+    assert!(rt; graph.lookup(&id(2))? == Some((-5, Flags(0))));
+    Ok(())
+}
+
+/// The calls of objects that have the merge.
+fn reads<O: Objects>(rt: &impl Abort, alloc: Global, objects: &mut O) -> Result<(), ObjectError> {
+    assert!(rt; objects.exists(&id(1)) && !objects.exists(&id(3)));
+    assert!(rt; objects.kind(&id(1)) == Some(ObjectKind::Commit) && objects.kind(&id(3)).is_none());
+    assert!(rt; objects.commit(alloc, &id(2))?.is_some());
+    Ok(())
+}
+
+/// They are marked through a graph.
+fn is_marked<O: Objects + Drop>(alloc: Global, objects: O) -> Result<bool, ObjectError> {
+    let mut graph = Graph::new(alloc, objects);
+    graph.mark_complete(&[id(1)], Some(0))?;
+    Ok(
+        graph.get(&id(1)) == Some((10, Flags::COMPLETE))
+            && graph.get(&id(2)) == Some((-5, Flags::COMPLETE)),
+    )
+}
+
+#[test]
+fn boxed_objects(rt: HostRuntime) -> Result<(), Fail> {
+    let repository = never_failing(merge(rt.alloc())?);
+    let mut objects: Box<dyn Objects + Drop> = Box::new(rt.alloc(), repository)?;
+    reads(&rt, rt.alloc(), &mut objects)?;
+    assert!(rt; is_marked(rt.alloc(), objects)?);
+    Ok(())
+}

@@ -1,0 +1,51 @@
+//! A store without refs, and a caller that knows only a store's contract.
+ghost use Rattle.std.specs.Prelude.{◌≡◌, IfOk, []};
+ghost use Rattle.std.specs.FinMap as map;
+
+use bstr::BStr;
+use gixp_graph::{RefStore, RefStoreError};
+use gixp_wire::ObjectId;
+use std::alloc::Global;
+use std::test::Fail;
+
+/// No refs.
+#[derive(Drop)]
+struct NoRefs {}
+
+impl RefStore for NoRefs {
+    ghost refs = { λ _. map.empty };
+
+    ghost targets = { λ _. [] };
+
+    ghost failures = { λ _. 0 };
+
+    fn find(&self, _name: BStr<'_>) -> Option<ObjectId> {
+        None
+    }
+
+    fn peeled(&mut self, alloc: Global) -> Result<Vec<ObjectId>, RefStoreError> {
+        Ok(Vec::new(alloc))
+    }
+}
+
+/// What the refs peel to, listed twice: the same ids.
+fn list_twice<R: RefStore>(
+    alloc: Global,
+    refs: &mut R,
+) -> Result<(Vec<ObjectId>, Vec<ObjectId>), RefStoreError>
+    ensures { IfOk result (λ lists. lists.0.items ≡ lists.1.items) }
+{
+    let first = refs.peeled(alloc)?;
+    let second = refs.peeled(alloc)?;
+    Ok((first, second))
+}
+
+#[test]
+fn no_refs(rt: HostRuntime) -> Result<(), Fail> {
+    let alloc = rt.alloc();
+    let mut refs = NoRefs {};
+    assert_eq!(rt; refs.find(BStr::new(b"refs/heads/main")), None);
+    let (first, second) = list_twice(alloc, &mut refs)?;
+    assert!(rt; first.is_empty() && second.is_empty());
+    Ok(())
+}
