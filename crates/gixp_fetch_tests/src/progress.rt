@@ -97,14 +97,17 @@ impl NestedProgress for Log<'_> {
     }
 }
 
+// Two texts of a server for a reporter.
+fn say_two(alloc: Global, said: &mut Vec<u8>) -> Result<(), AllocError> {
+    let mut text = RemoteText::new(alloc, Log { said });
+    text.band_text(false, b"Receiving objects:  42% (21/50)")?;
+    text.band_text(true, b"no access")
+}
+
 #[test]
 fn shows_the_texts_of_a_server(rt: HostRuntime) -> Result<(), Fail> {
-    let a = rt.alloc();
-    let mut said = room(a)?;
-    let mut text = RemoteText::new(a, Log { said: &mut said });
-    text.band_text(false, b"Receiving objects:  42% (21/50)")?;
-    text.band_text(true, b"no access")?;
-    drop(text);
+    let mut said = room(rt.alloc())?;
+    say_two(rt.alloc(), &mut said)?;
     let want = "Receiving objects\nobjects\n21\nno access\n";
     assert_eq!(rt; str::from_utf8(&said)?, want);
     Ok(())

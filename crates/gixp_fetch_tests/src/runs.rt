@@ -14,11 +14,13 @@ use gixp_negotiate::shallow::Shallow;
 use gixp_refmap::RefMap;
 use gixp_refmap::fetch::Tags;
 use gixp_refmap::refmap::init;
+use gixp_refspec::RefSpec;
 use gixp_refspec::parse::{Operation, parse};
 use gixp_requests::command::{CommandTable, Feature};
 use gixp_sidebands::NeverInterrupt;
 use gixp_wire::{Bodies, Body, NestedProgress, Service, Transport};
 use std::alloc::{AllocError, Global};
+use std::fmt::Debug;
 
 /// What a server of version 2 says: its capabilities, its refs, an answer without a pack, and one with it.
 pub(crate) const V2: [&[u8]; 4] = [
@@ -39,14 +41,21 @@ pub(crate) const V1: [&[u8]; 3] = [
 ];
 
 fn agent(alloc: Global) -> Result<Feature, AllocError> {
-    Ok(("agent", Some(String::from_str(alloc, "git/oxide")?)))
+    let version = String::from_str(alloc, "git/oxide")?;
+    Ok(("agent", Some(version)))
+}
+
+fn push_body(alloc: Global, list: &mut Vec<Body>, answer: &[u8]) -> Result<(), AllocError> {
+    let bytes = answer.to_vec(alloc)?;
+    list.push(Body::Bytes(bytes))?;
+    Ok(())
 }
 
 /// A transport over these bodies.
 pub(crate) fn bodies(alloc: Global, answers: &[&[u8]]) -> Result<Bodies, AllocError> {
     let mut list = Vec::new(alloc);
     for answer in answers {
-        list.push(Body::Bytes(answer.to_vec(alloc)?))?;
+        push_body(alloc, &mut list, answer)?;
     }
     Bodies::new(alloc, list, BString::from(Vec::new(alloc)), Vec::new(alloc))
 }
@@ -60,12 +69,17 @@ pub(crate) fn joined(alloc: Global, answers: &[&[u8]]) -> Result<Vec<u8>, AllocE
     Ok(stream)
 }
 
+fn push_spec(alloc: Global, specs: &mut Vec<RefSpec>) -> Result<(), AllocError> {
+    if let Ok(spec) = parse(BStr::new(b"refs/heads/main:refs/heads/x"), Operation::Fetch) {
+        specs.push(spec.to_owned(alloc)?)?;
+    }
+    Ok(())
+}
+
 // The refspec that maps the server's ref.
 fn specs(alloc: Global) -> Result<init::Context, AllocError> {
     let mut fetch_refspecs = Vec::new(alloc);
-    if let Ok(spec) = parse(BStr::new(b"refs/heads/main:refs/heads/x"), Operation::Fetch) {
-        fetch_refspecs.push(spec.to_owned(alloc)?)?;
-    }
+    push_spec(alloc, &mut fetch_refspecs)?;
     Ok(init::Context {
         fetch_refspecs,
         extra_refspecs: Vec::new(alloc),
@@ -97,9 +111,9 @@ fn map<T: Transport, P: NestedProgress>(
     transport: &mut T,
     progress: &mut P,
 ) -> Result<RefMap, init::Error> {
-    let table = CommandTable::git();
-    let agent = agent(alloc)?;
     let specs = specs(alloc)?;
+    let agent = agent(alloc)?;
+    let table = CommandTable::git();
     handshake::obtain(alloc, hands, &table, agent, specs, progress, transport)
 }
 
@@ -121,6 +135,7 @@ fn fetch_by<T: Transport, P: NestedProgress, S: ShallowStore, C: ConsumePack<P, 
 where
     P::SubProgress: Drop,
 {
+    let agent = agent(alloc)?;
     let (looks, mut tips, mut picks) = parts;
     let mut graph = Graph::new(alloc, looks);
     let context: NegotiateContext<'_, NoObjects, Tips, Picks, Looks, AllocError> =
@@ -138,7 +153,7 @@ where
         consumer,
         progress,
         &mut NeverInterrupt,
-        agent(alloc)?,
+        agent,
         Context {
             handshake: hands,
             transport,
@@ -151,6 +166,49 @@ where
             reject_shallow_remote: false,
         },
     )
+}
+
+// Why there is no answer.
+fn shown<E: Debug + Drop>(alloc: Global, error: E) -> Result<String, AllocError> {
+    format!(in alloc; "{error:?}")
+}
+
+// How many rounds a copy of an outcome has.
+fn rounds(alloc: Global, outcome: &Outcome) -> Result<String, AllocError> {
+    let copy = outcome.clone()?;
+    format!(in alloc; "{} rounds", copy.negotiate.rounds.len())
+}
+
+// A whole fetch behind a handshake, as a text.
+fn run_shaken<
+    T: Transport,
+    P: NestedProgress,
+    S: ShallowStore,
+    C: ConsumePack<P, Error = CopyError>,
+>(
+    alloc: Global,
+    transport: &mut T,
+    hands: &mut Handshake,
+    parts: Parts,
+    consumer: &mut C,
+    progress: &mut P,
+    store: &mut S,
+    shallow: &Shallow,
+) -> Result<String, AllocError>
+where
+    P::SubProgress: Drop,
+{
+    let map = match map(alloc, hands, transport, progress) {
+        Ok(map) => map,
+        Err(e) => return shown(alloc, e),
+    };
+    match fetch_by(
+        alloc, transport, hands, &map, parts, consumer, progress, store, shallow,
+    ) {
+        Ok(Some(outcome)) => rounds(alloc, &outcome),
+        Ok(None) => String::from_str(alloc, "nothing"),
+        Err(e) => shown(alloc, e),
+    }
 }
 
 /// A handshake and a whole fetch into a repository of these parts, as a text: the first error, or how
@@ -172,22 +230,10 @@ pub(crate) fn run<
 where
     P::SubProgress: Drop,
 {
-    let mut hands = match shake(alloc, transport, progress) {
-        Ok(hands) => hands,
-        Err(e) => return format!(in alloc; "{e:?}"),
-    };
-    let map = match map(alloc, &mut hands, transport, progress) {
-        Ok(map) => map,
-        Err(e) => return format!(in alloc; "{e:?}"),
-    };
-    match fetch_by(
-        alloc, transport, &mut hands, &map, parts, consumer, progress, store, shallow,
-    ) {
-        Ok(Some(outcome)) => {
-            let copy = outcome.clone()?;
-            format!(in alloc; "{} rounds", copy.negotiate.rounds.len())
-        }
-        Ok(None) => String::from_str(alloc, "nothing"),
-        Err(e) => format!(in alloc; "{e:?}"),
+    match shake(alloc, transport, progress) {
+        Ok(mut hands) => run_shaken(
+            alloc, transport, &mut hands, parts, consumer, progress, store, shallow,
+        ),
+        Err(e) => shown(alloc, e),
     }
 }

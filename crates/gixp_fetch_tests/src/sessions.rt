@@ -43,18 +43,37 @@ fn fetch_by<T: Transport, C: ConsumePack<Part, Error = CopyError>>(
 
 const DONE: &str = "2 rounds, 1 at the boundary, locked false";
 
+// What became of a fetch over bodies, and where the transport stopped.
+fn fetch_bodies<C: ConsumePack<Part, Error = CopyError>>(
+    alloc: Global,
+    answers: &[&[u8]],
+    parts: Parts,
+    consumer: &mut C,
+) -> Result<(String, Option<MessageKind>), AllocError> {
+    let mut transport = bodies(alloc, answers)?;
+    let text = fetch_by(alloc, &mut transport, parts, consumer)?;
+    Ok((text, transport.stopped_at()))
+}
+
+// The same with the pack.
+fn copy_pack(
+    alloc: Global,
+    answers: &[&[u8]],
+) -> Result<(String, Vec<u8>, Option<MessageKind>), AllocError> {
+    let mut consumer = CopyPack {
+        writer: Vec::new(alloc),
+    };
+    let (text, stop) = fetch_bodies(alloc, answers, sound(20), &mut consumer)?;
+    Ok((text, consumer.writer, stop))
+}
+
 #[test]
 fn fetches_over_bodies(rt: HostRuntime) -> Result<(), Fail> {
-    let a = rt.alloc();
     for answers in [V1.as_slice(), V2.as_slice()] {
-        let mut transport = bodies(a, answers)?;
-        let mut consumer = CopyPack {
-            writer: Vec::new(a),
-        };
-        let text = fetch_by(a, &mut transport, sound(20), &mut consumer)?;
+        let (text, pack, stop) = copy_pack(rt.alloc(), answers)?;
         assert_eq!(rt; text.as_str(), DONE);
-        assert_eq!(rt; consumer.writer.as_slice(), b"PAC".as_slice());
-        assert_eq!(rt; transport.stopped_at(), Some(MessageKind::Flush));
+        assert_eq!(rt; pack.as_slice(), b"PAC".as_slice());
+        assert_eq!(rt; stop, Some(MessageKind::Flush));
     }
     Ok(())
 }
@@ -83,34 +102,41 @@ fn connection<'a>(
 // What became of a fetch over a connection, or of its handshake.
 fn fetch_over(
     alloc: Global,
-    bytes: &[u8],
+    answers: &[&[u8]],
     reads: usize,
     writes: usize,
 ) -> Result<String, AllocError> {
-    let mut transport = connection(alloc, bytes, reads, writes)?;
+    let stream = joined(alloc, answers)?;
+    let mut transport = connection(alloc, &stream, reads, writes)?;
     fetch_by(alloc, &mut transport, sound(20), &mut ReadToEnd)
 }
 
 #[test]
 fn fetches_over_connections(rt: HostRuntime) -> Result<(), Fail> {
-    let a = rt.alloc();
     for answers in [V1.as_slice(), V2.as_slice()] {
-        let stream = joined(a, answers)?;
-        let text = fetch_over(a, &stream, usize::MAX, usize::MAX)?;
+        let text = fetch_over(rt.alloc(), answers, usize::MAX, usize::MAX)?;
         assert_eq!(rt; text.as_str(), DONE);
     }
     Ok(())
 }
 
+// Whether a text tells of this error, and of no lock.
+fn tells_of(text: &str, error: &str) -> bool {
+    text.contains(error) && !text.contains("locked true")
+}
+
+// How many reads take these answers.
+fn count_reads(alloc: Global, answers: &[&[u8]]) -> Result<usize, AllocError> {
+    let stream = joined(alloc, answers)?;
+    Ok(stream.len().div_ceil(16))
+}
+
 #[test]
 fn tells_of_each_read_that_fails(rt: HostRuntime) -> Result<(), Fail> {
-    let a = rt.alloc();
     for answers in [V1.as_slice(), V2.as_slice()] {
-        let stream = joined(a, answers)?;
-        for reads in 0..stream.len().div_ceil(16) {
-            let text = fetch_over(a, &stream, reads, usize::MAX)?;
-            assert!(rt; text.as_str().contains("TimedOut"), "{reads}: {text}");
-            assert!(rt; !text.as_str().contains("locked true"), "{reads}: {text}");
+        for reads in 0..count_reads(rt.alloc(), answers)? {
+            let text = fetch_over(rt.alloc(), answers, reads, usize::MAX)?;
+            assert!(rt; tells_of(text.as_str(), "TimedOut"), "{reads}: {text}");
         }
     }
     Ok(())
@@ -118,24 +144,32 @@ fn tells_of_each_read_that_fails(rt: HostRuntime) -> Result<(), Fail> {
 
 #[test]
 fn tells_of_each_write_that_fails(rt: HostRuntime) -> Result<(), Fail> {
-    let a = rt.alloc();
     for answers in [V1.as_slice(), V2.as_slice()] {
-        let stream = joined(a, answers)?;
         for writes in 0..60usize {
-            let text = fetch_over(a, &stream, usize::MAX, writes)?;
+            let text = fetch_over(rt.alloc(), answers, usize::MAX, writes)?;
             assert!(rt;
-                text.as_str().contains("Io(BrokenPipe)"),
+                tells_of(text.as_str(), "Io(BrokenPipe)"),
                 "{writes}: {text}"
             );
-            assert!(rt; !text.as_str().contains("locked true"), "{writes}: {text}");
         }
     }
     Ok(())
 }
 
+// What became of a fetch whose consumer says this, where the transport stopped, and the byte of the pack.
+fn taste(
+    alloc: Global,
+    answers: &[&[u8]],
+    parts: Parts,
+    says: Says,
+) -> Result<(String, Option<MessageKind>, [u8; 1]), AllocError> {
+    let mut consumer = Taste { says, byte: [0] };
+    let (text, stop) = fetch_bodies(alloc, answers, parts, &mut consumer)?;
+    Ok((text, stop, consumer.byte))
+}
+
 #[test]
 fn leaves_what_a_consumer_leaves(rt: HostRuntime) -> Result<(), Fail> {
-    let a = rt.alloc();
     for (says, want, stop) in [
         (Says::ReadOn, DONE, Some(MessageKind::Flush)),
         (Says::Leave, DONE, None),
@@ -145,12 +179,10 @@ fn leaves_what_a_consumer_leaves(rt: HostRuntime) -> Result<(), Fail> {
             None,
         ),
     ] {
-        let mut transport = bodies(a, &V2)?;
-        let mut consumer = Taste { says, byte: [0] };
-        let text = fetch_by(a, &mut transport, sound(20), &mut consumer)?;
+        let (text, stopped_at, byte) = taste(rt.alloc(), &V2, sound(20), says)?;
         assert_eq!(rt; text.as_str(), want);
-        assert_eq!(rt; consumer.byte, [b'P']);
-        assert_eq!(rt; transport.stopped_at(), stop);
+        assert_eq!(rt; byte, [b'P']);
+        assert_eq!(rt; stopped_at, stop);
     }
     Ok(())
 }
@@ -160,7 +192,7 @@ const REFUSED: &[u8] = b"000dpackfile\n0007\x01PA0011ERR no access0006\x01C0000"
 
 #[test]
 fn tells_what_stands_behind_a_consumer(rt: HostRuntime) -> Result<(), Fail> {
-    let a = rt.alloc();
+    let [greeting, refs, ..] = V2;
     for (says, want) in [
         (
             Says::ReadOn,
@@ -168,51 +200,61 @@ fn tells_what_stands_behind_a_consumer(rt: HostRuntime) -> Result<(), Fail> {
         ),
         (Says::Leave, "1 rounds, 0 at the boundary, locked false"),
     ] {
-        let [greeting, refs, ..] = V2;
-        let mut transport = bodies(a, &[greeting, refs, REFUSED])?;
-        let mut consumer = Taste { says, byte: [0] };
-        let text = fetch_by(a, &mut transport, sound(0), &mut consumer)?;
+        let (text, _, _) = taste(rt.alloc(), &[greeting, refs, REFUSED], sound(0), says)?;
         assert_eq!(rt; text.as_str(), want);
     }
     Ok(())
 }
 
+// What became of a fetch whose pack goes to a writer that fails.
+fn fetch_to_paper(alloc: Global, fails: usize) -> Result<String, AllocError> {
+    let bytes = Vec::new(alloc);
+    let mut consumer = CopyPack {
+        writer: Paper { bytes, fails },
+    };
+    let (text, _) = fetch_bodies(alloc, &V2, sound(20), &mut consumer)?;
+    Ok(text)
+}
+
 #[test]
 fn tells_of_a_writer_that_takes_no_pack(rt: HostRuntime) -> Result<(), Fail> {
-    let a = rt.alloc();
     for fails in 0..2usize {
-        let mut transport = bodies(a, &V2)?;
-        let bytes = Vec::new(a);
-        let mut consumer = CopyPack {
-            writer: Paper { bytes, fails },
-        };
-        let text = fetch_by(a, &mut transport, sound(20), &mut consumer)?;
+        let text = fetch_to_paper(rt.alloc(), fails)?;
         let want = "ConsumePack(Write(BrokenPipe)), 0 at the boundary, locked false";
         assert_eq!(rt; text.as_str(), want);
     }
     Ok(())
 }
 
-#[test]
-fn keeps_a_lock_that_is_there(rt: HostRuntime) -> Result<(), Fail> {
-    let a = rt.alloc();
-    let mut transport = bodies(a, &V2)?;
-    let mut store = ShallowMemory::new(Vec::new(a));
-    store.lock()?;
-    let parts = sound(20);
-    let mut consumer = ReadToEnd;
+// What became of a fetch into this store, and how many requests were sent.
+fn fetch_into(alloc: Global, store: &mut ShallowMemory) -> Result<(String, usize), AllocError> {
+    let mut transport = bodies(alloc, &V2)?;
     let text = run(
-        a,
+        alloc,
         &mut transport,
-        parts,
-        &mut consumer,
+        sound(20),
+        &mut ReadToEnd,
         &mut Part,
-        &mut store,
+        store,
         &depth(),
     )?;
+    Ok((text, transport.sent().len()))
+}
+
+// The same where the store is locked, and whether it is locked behind that.
+fn fetch_into_locked(alloc: Global) -> Result<(String, usize, bool), Fail> {
+    let mut store = ShallowMemory::new(Vec::new(alloc));
+    store.lock()?;
+    let (text, sent) = fetch_into(alloc, &mut store)?;
+    Ok((text, sent, store.is_locked()))
+}
+
+#[test]
+fn keeps_a_lock_that_is_there(rt: HostRuntime) -> Result<(), Fail> {
+    let (text, sent, is_locked) = fetch_into_locked(rt.alloc())?;
     assert_eq!(rt; text.as_str(), "LockShallowFile(Locked)");
-    assert!(rt; store.is_locked());
-    assert_eq!(rt; transport.sent().len(), 1);
+    assert!(rt; is_locked);
+    assert_eq!(rt; sent, 1);
     Ok(())
 }
 
@@ -227,20 +269,25 @@ fn failing(part: usize, number: u64) -> Parts {
     (looks, tips, picks)
 }
 
+// What became of a fetch into it.
+fn fetch_failing(alloc: Global, part: usize, number: u64) -> Result<String, AllocError> {
+    let parts = failing(part, number);
+    let (text, _) = fetch_bodies(alloc, &V2, parts, &mut ReadToEnd)?;
+    Ok(text)
+}
+
 #[test]
 fn tells_of_each_call_of_the_repository_that_fails(rt: HostRuntime) -> Result<(), Fail> {
-    let a = rt.alloc();
     for (part, calls, want) in [
         (0usize, 2u64, "Negotiate(LookupCommitInGraph(Io(TimedOut)))"),
         (1, 22, "Negotiate(LookupCommitInGraph(Corrupt))"),
         (2, 1, "Negotiate(InitRefIter)"),
     ] {
         for number in 0..calls {
-            let mut transport = bodies(a, &V2)?;
-            let parts = failing(part, number);
-            let text = fetch_by(a, &mut transport, parts, &mut ReadToEnd)?;
-            assert!(rt; text.as_str().starts_with(want), "{part}, {number}: {text}");
-            assert!(rt; text.as_str().ends_with(" 0 at the boundary, locked false"));
+            let text = fetch_failing(rt.alloc(), part, number)?;
+            let is_told = text.as_str().starts_with(want)
+                && text.as_str().ends_with(" 0 at the boundary, locked false");
+            assert!(rt; is_told, "{part}, {number}: {text}");
         }
     }
     Ok(())
@@ -250,27 +297,26 @@ fn tells_of_each_call_of_the_repository_that_fails(rt: HostRuntime) -> Result<()
 const CALLS: &str = "steps\nhandshake\nstep\nstep\nlist refs\n\
     step\nnegotiate (round 1)\nstep\nnegotiate (round 2)\nstep\nnegotiate (round 3)\nstep\nreceiving pack\n";
 
-#[test]
-fn tells_each_round(rt: HostRuntime) -> Result<(), Fail> {
-    let a = rt.alloc();
+// What became of a fetch of three rounds, of which a progress reporter is told.
+fn fetch_told(alloc: Global, said: &mut Vec<u8>) -> Result<String, AllocError> {
     let [greeting, refs, answer, last] = V2;
-    let mut transport = bodies(a, &[greeting, refs, answer, answer, last])?;
-    let mut store = ShallowMemory::new(Vec::new(a));
-    let mut said = room(a)?;
-    let mut progress = Log { said: &mut said };
-    let parts = sound(50);
-    let mut consumer = ReadToEnd;
-    let text = run(
-        a,
+    let mut transport = bodies(alloc, &[greeting, refs, answer, answer, last])?;
+    let mut store = ShallowMemory::new(Vec::new(alloc));
+    run(
+        alloc,
         &mut transport,
-        parts,
-        &mut consumer,
-        &mut progress,
+        sound(50),
+        &mut ReadToEnd,
+        &mut Log { said },
         &mut store,
         &depth(),
-    )?;
-    drop(progress);
-    assert_eq!(rt; text.as_str(), "3 rounds");
+    )
+}
+
+#[test]
+fn tells_each_round(rt: HostRuntime) -> Result<(), Fail> {
+    let mut said = room(rt.alloc())?;
+    assert_eq!(rt; fetch_told(rt.alloc(), &mut said)?.as_str(), "3 rounds");
     // Where a name can't be allocated, the step alone is told.
     assert_eq!(rt; str::from_utf8(&said)?, CALLS, "without an AllocError");
     Ok(())

@@ -55,30 +55,48 @@ fn fetch_into(rt: &HostRuntime, path: &str, answer: &[u8]) -> Result<String, All
 #[test]
 fn keeps_a_boundary_in_a_file(rt: HostRuntime) -> Result<(), Fail> {
     let path = path(&rt, "kept")?;
-    fs::write(&rt, path.as_str(), HAD)?;
-    let text = fetch_into(&rt, path.as_str(), MOVES)?;
-    assert_eq!(rt; text.as_str(), "1 rounds");
-    assert_eq!(rt; fs::read_to_string(&rt, path.as_str())?.as_str(), KEPT);
-    let text = fetch_into(&rt, path.as_str(), GOES)?;
-    assert_eq!(rt; text.as_str(), "1 rounds");
-    assert!(rt; fs::read(&rt, path.as_str()).is_err());
+    let path = path.as_str();
+    fs::write(&rt, path, HAD)?;
+    assert_eq!(rt; fetch_into(&rt, path, MOVES)?.as_str(), "1 rounds");
+    assert_eq!(rt; fs::read_to_string(&rt, path)?.as_str(), KEPT);
+    assert_eq!(rt; fetch_into(&rt, path, GOES)?.as_str(), "1 rounds");
+    assert!(rt; fs::read(&rt, path).is_err());
     Ok(())
 }
+
+// What became of such a fetch, and whether there is a lock behind it.
+fn fetch_and_look(rt: &HostRuntime, path: &str, lock: &str) -> Result<String, AllocError> {
+    let text = fetch_into(rt, path, GOES)?;
+    let is_locked = fs::read(rt, lock).is_ok();
+    format!(in rt.alloc(); "{text}, locked {is_locked}")
+}
+
+// The same where there is a lock before it, which goes then.
+fn fetch_beside_lock(rt: &HostRuntime, path: &str, lock: &str) -> Result<String, Fail> {
+    fs::write(rt, lock, "")?;
+    let text = fetch_and_look(rt, path, lock)?;
+    fs::remove_file(rt, lock)?;
+    Ok(text)
+}
+
+// What became of a fetch beside a lock and of one without it, a line each.
+fn fetch_twice(rt: &HostRuntime, path: &str) -> Result<String, Fail> {
+    let lock = format!(in rt.alloc(); "{path}.lock")?;
+    let first = fetch_beside_lock(rt, path, lock.as_str())?;
+    let second = fetch_and_look(rt, path, lock.as_str())?;
+    Ok(format!(in rt.alloc(); "{first}\n{second}\n")?)
+}
+
+const REFUSALS: &str = "LockShallowFile(Locked), locked true\n\
+    ReadShallowFile(Decode { line: \"zz\" }), locked false\n";
 
 #[test]
 fn keeps_away_from_a_lock_file(rt: HostRuntime) -> Result<(), Fail> {
     let path = path(&rt, "locked")?;
-    let lock = format!(in rt.alloc(); "{path}.lock")?;
-    fs::write(&rt, path.as_str(), "zz\n")?;
-    fs::write(&rt, lock.as_str(), "")?;
-    let text = fetch_into(&rt, path.as_str(), GOES)?;
-    assert_eq!(rt; text.as_str(), "LockShallowFile(Locked)");
-    assert!(rt; fs::read(&rt, lock.as_str()).is_ok());
-    fs::remove_file(&rt, lock.as_str())?;
-    let text = fetch_into(&rt, path.as_str(), GOES)?;
-    assert_eq!(rt; text.as_str(), "ReadShallowFile(Decode { line: \"zz\" })");
-    assert!(rt; fs::read(&rt, lock.as_str()).is_err());
-    assert_eq!(rt; fs::read_to_string(&rt, path.as_str())?.as_str(), "zz\n");
-    fs::remove_file(&rt, path.as_str())?;
+    let path = path.as_str();
+    fs::write(&rt, path, "zz\n")?;
+    assert_eq!(rt; fetch_twice(&rt, path)?.as_str(), REFUSALS);
+    assert_eq!(rt; fs::read_to_string(&rt, path)?.as_str(), "zz\n");
+    fs::remove_file(&rt, path)?;
     Ok(())
 }

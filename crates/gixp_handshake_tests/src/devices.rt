@@ -2,6 +2,7 @@
 use bstr::BString;
 use gixp_wire::{Bodies, Body, Connection, Opening, Protocol};
 use std::alloc::{AllocError, Global};
+use std::fmt::Debug;
 use std::io;
 use std::io::{ErrorKind, Read, Write};
 
@@ -50,6 +51,11 @@ impl Write for Broken {
 
 pub(crate) fn text(alloc: Global, bytes: &[u8]) -> Result<BString, AllocError> {
     BString::from_slice(alloc, bytes)
+}
+
+// A value as it shows itself.
+pub(crate) fn shown<T: Debug + Drop>(alloc: Global, value: T) -> Result<String, AllocError> {
+    format!(in alloc; "{value:?}")
 }
 
 // A connection that opens `/p.git`, and accepts each version.

@@ -8,78 +8,73 @@ use gixp_refmap::refmap::init;
 use gixp_refspec::match_group::validate;
 use gixp_requests::command::validate_argument_prefixes;
 use gixp_wire::{IsSpuriousError, PacketError, Protocol, client};
-use std::alloc::AllocError;
+use std::alloc::{AllocError, Global};
+use std::fmt::Display;
 use std::io::ErrorKind;
 use std::test::Fail;
+
+// The texts of these errors, a line for each.
+fn texts<E: Display>(alloc: Global, errors: &[E]) -> Result<String, AllocError> {
+    let mut lines = String::new(alloc);
+    for error in errors {
+        lines.push_str(error.to_string(alloc)?.as_str())?;
+        lines.push('\n')?;
+    }
+    Ok(lines)
+}
 
 #[test]
 fn texts_of_a_handshake(rt: HostRuntime) -> Result<(), Fail> {
     let a = rt.alloc();
     let message = String::from_str(a, "no helper")?;
     let url = text(a, b"git://h/p.git")?;
-    for (error, want) in [
-        (
-            Error::from(credentials::Error { message }),
-            "Failed to obtain credentials",
-        ),
-        (
-            Error::EmptyCredentials,
-            "No credentials were returned at all as if the credential helper isn't functioning unknowingly",
-        ),
-        (
-            Error::InvalidCredentials { url },
-            "Credentials provided for \"git://h/p.git\" were not accepted by the remote",
-        ),
-        (Error::from(client::Error::LineTooLong), "LineTooLong"),
-        (
-            Error::TransportProtocolPolicyViolation {
-                actual_version: Protocol::V1,
-            },
-            "The transport didn't accept the advertised server version V1 and closed the connection client side",
-        ),
-        (
-            Error::from(parse::Error::from(PacketError::HexDecode)),
-            "HexDecode",
-        ),
-        (Error::from(client::Error::Memory), "Memory"),
-        (Error::from(parse::Error::Memory), "Memory"),
-        (Error::from(AllocError), "Memory"),
-    ] {
-        assert_eq!(rt; format!(in a; "{error}")?.as_str(), want);
-        assert!(rt; !error.is_spurious());
-    }
+    let errors = [
+        Error::from(credentials::Error { message }),
+        Error::EmptyCredentials,
+        Error::InvalidCredentials { url },
+        Error::from(client::Error::LineTooLong),
+        Error::TransportProtocolPolicyViolation {
+            actual_version: Protocol::V1,
+        },
+        Error::from(parse::Error::from(PacketError::HexDecode)),
+        Error::from(client::Error::Memory),
+        Error::from(parse::Error::Memory),
+        Error::from(AllocError),
+    ];
+    assert!(rt; !errors.iter().any(|error| error.is_spurious()));
+    assert_eq!(rt;
+        texts(a, &errors)?.as_str(),
+        "Failed to obtain credentials\n\
+        No credentials were returned at all as if the credential helper isn't functioning unknowingly\n\
+        Credentials provided for \"git://h/p.git\" were not accepted by the remote\n\
+        LineTooLong\n\
+        The transport didn't accept the advertised server version V1 and closed the connection client side\n\
+        HexDecode\nMemory\nMemory\nMemory\n"
+    );
     Ok(())
 }
 
 #[test]
 fn texts_of_a_list(rt: HostRuntime) -> Result<(), Fail> {
     let a = rt.alloc();
-    let argument = text(a, b"unborn")?;
     let refused = validate_argument_prefixes::Error::UnsupportedArgument {
         command: "ls-refs",
-        argument,
+        argument: text(a, b"unborn")?,
     };
-    for (error, want) in [
-        (ls_refs::Error::Io(ErrorKind::Other), "Io"),
-        (
-            ls_refs::Error::from(client::Error::LineTooLong),
-            "LineTooLong",
-        ),
-        (
-            ls_refs::Error::from(parse::Error::from(PacketError::HexDecode)),
-            "HexDecode",
-        ),
-        (ls_refs::Error::from(refused), "UnsupportedArgument"),
-        (ls_refs::Error::from(client::Error::Memory), "Memory"),
-        (ls_refs::Error::from(parse::Error::Memory), "Memory"),
-        (
-            ls_refs::Error::from(validate_argument_prefixes::Error::Memory),
-            "Memory",
-        ),
-        (ls_refs::Error::from(AllocError), "Memory"),
-    ] {
-        assert_eq!(rt; format!(in a; "{error}")?.as_str(), want);
-    }
+    let errors = [
+        ls_refs::Error::Io(ErrorKind::Other),
+        ls_refs::Error::from(client::Error::LineTooLong),
+        ls_refs::Error::from(parse::Error::from(PacketError::HexDecode)),
+        ls_refs::Error::from(refused),
+        ls_refs::Error::from(client::Error::Memory),
+        ls_refs::Error::from(parse::Error::Memory),
+        ls_refs::Error::from(validate_argument_prefixes::Error::Memory),
+        ls_refs::Error::from(AllocError),
+    ];
+    assert_eq!(rt;
+        texts(a, &errors)?.as_str(),
+        "Io\nLineTooLong\nHexDecode\nUnsupportedArgument\nMemory\nMemory\nMemory\nMemory\n"
+    );
     Ok(())
 }
 
@@ -88,20 +83,16 @@ fn texts_of_a_map(rt: HostRuntime) -> Result<(), Fail> {
     let a = rt.alloc();
     let format = text(a, b"sha256")?;
     let issues = Vec::new(a);
-    for (error, want) in [
-        (
-            init::Error::UnknownObjectFormat { format },
-            "The object format \"sha256\" as used by the remote is unsupported",
-        ),
-        (init::Error::from(validate::Error { issues }), "Error"),
-        (
-            init::Error::from(ls_refs::Error::Io(ErrorKind::Other)),
-            "Io",
-        ),
-        (init::Error::from(ls_refs::Error::Memory), "Memory"),
-        (init::Error::from(AllocError), "Memory"),
-    ] {
-        assert_eq!(rt; format!(in a; "{error}")?.as_str(), want);
-    }
+    let errors = [
+        init::Error::UnknownObjectFormat { format },
+        init::Error::from(validate::Error { issues }),
+        init::Error::from(ls_refs::Error::Io(ErrorKind::Other)),
+        init::Error::from(ls_refs::Error::Memory),
+        init::Error::from(AllocError),
+    ];
+    assert_eq!(rt;
+        texts(a, &errors)?.as_str(),
+        "The object format \"sha256\" as used by the remote is unsupported\nError\nIo\nMemory\nMemory\n"
+    );
     Ok(())
 }

@@ -1,7 +1,7 @@
 //! The flush packet that ends a conversation.
 use crate::devices::{Broken, Device, connection, memory};
 use gixp_handshake::{SendFlushOnDrop, indicate_end_of_interaction};
-use gixp_wire::{Connection, Protocol, client};
+use gixp_wire::{Connection, Protocol, Transport, client};
 use std::alloc::{AllocError, Global};
 use std::io;
 use std::io::{ErrorKind, Write};
@@ -36,16 +36,21 @@ fn silent<W: Write + Drop>(alloc: Global, writer: W) -> Result<Connection<Device
     connection(alloc, device, writer, Protocol::V2)
 }
 
+// Ends a conversation by this many calls, and by a drop.
+fn end<T: Transport + Drop>(transport: T, calls: usize) -> Result<(), client::Error> {
+    let mut guard = SendFlushOnDrop::new(transport);
+    for _ in 0..calls {
+        guard.indicate_end_of_interaction()?;
+    }
+    Ok(())
+}
+
 #[test]
 fn sends_one_flush_packet_when_dropped(rt: HostRuntime) -> Result<(), Fail> {
     let a = rt.alloc();
     for calls in 0..3usize {
         let mut bytes = Vec::new(a);
-        let mut guard = SendFlushOnDrop::new(silent(a, Paper { bytes: &mut bytes })?);
-        for _ in 0..calls {
-            guard.indicate_end_of_interaction()?;
-        }
-        drop(guard);
+        end(silent(a, Paper { bytes: &mut bytes })?, calls)?;
         // A drop tells of no failure.
         assert_eq!(rt;
             bytes.as_slice(),
@@ -56,13 +61,19 @@ fn sends_one_flush_packet_when_dropped(rt: HostRuntime) -> Result<(), Fail> {
     Ok(())
 }
 
+// What two calls return.
+fn end_twice<T: Transport + Drop>(transport: T) -> [Result<(), client::Error>; 2] {
+    let mut guard = SendFlushOnDrop::new(transport);
+    let first = guard.indicate_end_of_interaction();
+    let second = guard.indicate_end_of_interaction();
+    [first, second]
+}
+
 #[test]
 fn counts_a_failed_flush_as_sent(rt: HostRuntime) -> Result<(), Fail> {
-    let a = rt.alloc();
-    let mut guard = SendFlushOnDrop::new(silent(a, Broken { fails: 0 })?);
-    let refused = guard.indicate_end_of_interaction();
+    let [refused, again] = end_twice(silent(rt.alloc(), Broken { fails: 0 })?);
     assert!(rt; matches!(refused, Err(client::Error::Io(ErrorKind::BrokenPipe))));
-    assert!(rt; guard.indicate_end_of_interaction().is_ok());
+    assert!(rt; again.is_ok());
     Ok(())
 }
 

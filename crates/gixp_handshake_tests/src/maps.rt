@@ -1,7 +1,7 @@
 //! Lists of refs over devices that fail, and ref maps with allocations that fail.
-use crate::devices::{Broken, Device, connection, memory, text};
+use crate::devices::{Broken, Device, connection, memory, shown, text};
 use crate::telling::nothing_told;
-use bstr::BStr;
+use bstr::{BStr, BString};
 use gixp_handshake::Handshake;
 use gixp_handshake::handshake::obtain;
 use gixp_refmap::RefMap;
@@ -46,34 +46,38 @@ fn agent(alloc: Global) -> Result<Feature, AllocError> {
 fn listed<T: Transport>(
     alloc: Global,
     transport: &mut T,
-    line: &[u8],
-) -> Result<Result<RefMap, Error>, Fail> {
+    context: Context,
+) -> Result<RefMap, Error> {
+    let agent = agent(alloc)?;
     let mut shaken = Handshake::empty(alloc);
     let mut progress = nothing_told(alloc);
-    Ok(obtain(
+    obtain(
         alloc,
         &mut shaken,
         &CommandTable::git(),
-        agent(alloc)?,
-        context(alloc, line)?,
+        agent,
+        context,
         &mut progress,
         transport,
-    ))
+    )
+}
+
+// What a listing returns whose write of this number fails.
+fn listed_over_broken(alloc: Global, fails: usize) -> Result<String, Fail> {
+    let device = Device {
+        bytes: REFS,
+        step: usize::MAX,
+        fails: usize::MAX,
+    };
+    let context = context(alloc, b"HEAD")?;
+    let mut transport = connection(alloc, device, Broken { fails }, Protocol::V2)?;
+    Ok(shown(alloc, listed(alloc, &mut transport, context))?)
 }
 
 #[test]
 fn tells_of_each_write_of_a_request_that_fails(rt: HostRuntime) -> Result<(), Fail> {
-    let a = rt.alloc();
     for fails in 0..6usize {
-        let device = Device {
-            bytes: REFS,
-            step: usize::MAX,
-            fails: usize::MAX,
-        };
-        let writer = Broken { fails };
-        let mut transport = connection(a, device, writer, Protocol::V2)?;
-        let refused = listed(a, &mut transport, b"HEAD")?;
-        let said = format!(in a; "{refused:?}")?;
+        let said = listed_over_broken(rt.alloc(), fails)?;
         assert_eq!(rt;
             said.as_str(),
             "Err(ListRefs(Transport(Io(BrokenPipe))))",
@@ -83,49 +87,87 @@ fn tells_of_each_write_of_a_request_that_fails(rt: HostRuntime) -> Result<(), Fa
     Ok(())
 }
 
+fn listed_over_memory(alloc: Global, context: Context) -> Result<RefMap, Error> {
+    listed(alloc, &mut memory(alloc, false, &[REFS])?, context)
+}
+
+// How many mappings and refs a copy has, and whether it lacks a mapping.
+fn counts(map: &RefMap) -> Result<(usize, usize, bool), AllocError> {
+    let copy = map.clone()?;
+    let is_missing = copy.is_missing_required_mapping();
+    Ok((copy.mappings.len(), copy.remote_refs.len(), is_missing))
+}
+
 #[test]
 fn lists_and_maps(rt: HostRuntime) -> Result<(), Fail> {
-    let a = rt.alloc();
-    let mut transport = memory(a, false, &[REFS])?;
-    let map = listed(a, &mut transport, b"refs/heads/*:refs/remotes/o/*")??;
-    let copy = map.clone()?;
-    assert_eq!(rt; copy.mappings.len(), 2);
-    assert_eq!(rt; copy.remote_refs.len(), 2);
-    assert!(rt; !copy.is_missing_required_mapping());
+    let context = context(rt.alloc(), b"refs/heads/*:refs/remotes/o/*")?;
+    let map = listed_over_memory(rt.alloc(), context)?;
+    assert_eq!(rt; counts(&map)?, (2, 2, false));
     Ok(())
+}
+
+fn count_issues(listed: Result<RefMap, Error>) -> Result<usize, Fail> {
+    match listed {
+        Err(Error::MappingValidation(e)) => Ok(e.issues.len()),
+        Err(e) => Err(e.into()),
+        Ok(_) => Err("a map".into()),
+    }
 }
 
 #[test]
 fn tells_of_a_conflict(rt: HostRuntime) -> Result<(), Fail> {
-    let a = rt.alloc();
-    let mut transport = memory(a, false, &[REFS])?;
-    match listed(a, &mut transport, b"main:refs/x")? {
-        Err(Error::MappingValidation(e)) => assert_eq!(rt; e.issues.len(), 1),
-        Err(e) => return Err(e.into()),
-        Ok(_) => return Err("a map".into()),
-    }
+    let context = context(rt.alloc(), b"main:refs/x")?;
+    let issues = count_issues(listed_over_memory(rt.alloc(), context))?;
+    assert_eq!(rt; issues, 1);
     Ok(())
+}
+
+// Three prefixes, one of them twice.
+fn names(alloc: Global) -> Result<Vec<BString>, AllocError> {
+    let mut names = Vec::new(alloc);
+    for name in [b"HEAD".as_slice(), b"main", b"HEAD", b"refs/tags"] {
+        names.push(text(alloc, name)?)?;
+    }
+    Ok(names)
+}
+
+// What an extension leaves, and whether an allocation failed in it.
+fn extended(alloc: Global) -> Result<(String, Result<(), AllocError>), AllocError> {
+    let names = names(alloc)?;
+    let mut prefixes = RefPrefixes::new(alloc);
+    let added = prefixes.extend(names);
+    Ok((shown(alloc, prefixes)?, added))
+}
+
+const FRONTS: [&str; 4] = [
+    "[]",
+    "[\"HEAD\"]",
+    "[\"HEAD\", \"main\"]",
+    "[\"HEAD\", \"main\", \"refs/tags\"]",
+];
+
+fn is_front(said: &str) -> bool {
+    FRONTS.iter().any(|front| *front == said)
 }
 
 #[test]
 fn keeps_the_prefixes_in_front(rt: HostRuntime) -> Result<(), Fail> {
-    let a = rt.alloc();
-    let mut more = Vec::new(a);
-    for name in [b"HEAD".as_slice(), b"main", b"HEAD", b"refs/tags"] {
-        more.push(text(a, name)?)?;
-    }
-    let mut prefixes = RefPrefixes::new(a);
-    let added = prefixes.extend(more);
-    let said = format!(in a; "{prefixes:?}")?;
-    let want = [
-        "[]",
-        "[\"HEAD\"]",
-        "[\"HEAD\", \"main\"]",
-        "[\"HEAD\", \"main\", \"refs/tags\"]",
-    ];
-    assert!(rt; want.iter().any(|text| *text == said.as_str()));
+    let (said, added) = extended(rt.alloc())?;
+    assert!(rt; is_front(said.as_str()));
     added?;
-    assert_eq!(rt; said.as_str(), want[3]);
-    assert_eq!(rt; prefixes.into_args(a)?.len(), 3);
+    assert_eq!(rt; said.as_str(), FRONTS[3]);
+    Ok(())
+}
+
+fn count_arguments(alloc: Global) -> Result<usize, AllocError> {
+    let names = names(alloc)?;
+    let mut prefixes = RefPrefixes::new(alloc);
+    prefixes.extend(names)?;
+    Ok(prefixes.into_args(alloc)?.len())
+}
+
+#[test]
+fn makes_an_argument_of_each_prefix(rt: HostRuntime) -> Result<(), Fail> {
+    assert_eq!(rt; count_arguments(rt.alloc())?, 3);
     Ok(())
 }

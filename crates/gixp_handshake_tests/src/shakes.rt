@@ -1,10 +1,10 @@
 //! Handshakes over devices that fail, and with an account.
-use crate::devices::{Broken, Device, connection, memory, text};
-use crate::telling::nothing_told;
+use crate::devices::{Broken, Device, connection, memory, shown, text};
+use crate::telling::{Telling, nothing_told};
 use gixp_handshake::Handshake;
 use gixp_handshake::credentials::{self, Account, Action, NextAction, Outcome};
 use gixp_handshake::handshake::{Error, handshake};
-use gixp_wire::{Protocol, Service, Transport};
+use gixp_wire::{Bodies, Protocol, Service, Transport};
 use std::alloc::{AllocError, Global};
 use std::test::Fail;
 
@@ -52,19 +52,21 @@ fn with_account(alloc: Global) -> Result<Option<Outcome>, credentials::Error> {
     }
 }
 
+// What a handshake over this connection says.
+fn said(alloc: Global, device: Device, writer: Broken) -> Result<String, AllocError> {
+    let mut transport = connection(alloc, device, writer, Protocol::V1)?;
+    shown(alloc, shake(alloc, &mut transport))
+}
+
 #[test]
 fn tells_of_each_read_that_fails(rt: HostRuntime) -> Result<(), Fail> {
-    let a = rt.alloc();
     for fails in 0..REFS.len().div_ceil(7) {
         let device = Device {
             bytes: REFS,
             step: 7,
             fails,
         };
-        let writer = Broken { fails: usize::MAX };
-        let mut transport = connection(a, device, writer, Protocol::V1)?;
-        let refused = shake(a, &mut transport);
-        let said = format!(in a; "{refused:?}")?;
+        let said = said(rt.alloc(), device, Broken { fails: usize::MAX })?;
         // The capability advertisement ends with byte 92.
         let want = if fails * 7 < 92 {
             "Err(Transport(Io(TimedOut)))"
@@ -76,52 +78,83 @@ fn tells_of_each_read_that_fails(rt: HostRuntime) -> Result<(), Fail> {
     Ok(())
 }
 
+// What two handshakes say over a connection whose write of this number fails.
+fn said_twice(alloc: Global, fails: usize) -> Result<[String; 2], AllocError> {
+    let device = Device {
+        bytes: REFS,
+        step: usize::MAX,
+        fails: usize::MAX,
+    };
+    let mut transport = connection(alloc, device, Broken { fails }, Protocol::V1)?;
+    let first = shown(alloc, shake(alloc, &mut transport))?;
+    let second = shown(alloc, shake(alloc, &mut transport))?;
+    Ok([first, second])
+}
+
 #[test]
 fn tells_of_each_write_that_fails(rt: HostRuntime) -> Result<(), Fail> {
-    let a = rt.alloc();
+    let want = "Err(Transport(Io(BrokenPipe)))";
     // The opening has 38 bytes.
     for fails in 0..3usize {
-        let device = Device {
-            bytes: REFS,
-            step: usize::MAX,
-            fails: usize::MAX,
-        };
-        let writer = Broken { fails };
-        let mut transport = connection(a, device, writer, Protocol::V1)?;
-        for _ in 0..2 {
-            let refused = shake(a, &mut transport);
-            let said = format!(in a; "{refused:?}")?;
-            assert_eq!(rt; said.as_str(), "Err(Transport(Io(BrokenPipe)))", "{fails}");
-        }
+        let [first, second] = said_twice(rt.alloc(), fails)?;
+        assert_eq!(rt; (first.as_str(), second.as_str()), (want, want), "{fails}");
     }
     Ok(())
 }
 
-#[test]
-fn shakes_hands_with_an_account(rt: HostRuntime) -> Result<(), Fail> {
-    let a = rt.alloc();
-    let mut transport = memory(a, true, &[REFS])?;
-    let mut progress = nothing_told(a);
+// A handshake that is through.
+#[derive(Drop)]
+struct Shaken {
+    found: Handshake,
+    transport: Bodies,
+    progress: Telling,
+}
+
+// A handshake of a client that has an account, with a server that asks for it.
+fn shake_with_account(alloc: Global) -> Result<Shaken, Error> {
+    let mut transport = memory(alloc, true, &[REFS])?;
+    let mut progress = nothing_told(alloc);
     let found = handshake(
-        a,
+        alloc,
         &mut transport,
         Service::UploadPack,
-        |_action: Action| with_account(a),
-        Vec::new(a),
+        |_action: Action| with_account(alloc),
+        Vec::new(alloc),
         &mut progress,
     );
-    let found = match found {
-        Ok(found) => found.clone()?,
-        Err(Error::Credentials(_)) => return Err(AllocError.into()),
-        Err(e) => return Err(e.into()),
-    };
-    assert_eq!(rt; found.refs.ok_or("refs")?.len(), 2);
-    assert_eq!(rt; found.v1_shallow_updates.ok_or("updates")?.len(), 0);
-    let known = transport.identity().ok_or("an account")?;
-    assert_eq!(rt; known.username.as_str(), "me");
+    match found {
+        Ok(found) => Ok(Shaken {
+            found,
+            transport,
+            progress,
+        }),
+        Err(Error::Credentials(_)) => Err(Error::Memory),
+        Err(e) => Err(e),
+    }
+}
+
+fn length<T>(items: &Option<Vec<T>>) -> Option<usize> {
+    Some(items.as_ref()?.len())
+}
+
+// How many refs and shallow updates a copy has.
+fn lengths(found: &Handshake) -> Result<(Option<usize>, Option<usize>), AllocError> {
+    let copy = found.clone()?;
+    Ok((length(&copy.refs), length(&copy.v1_shallow_updates)))
+}
+
+fn username(transport: &Bodies) -> Option<&str> {
+    Some(transport.identity()?.username.as_str())
+}
+
+#[test]
+fn shakes_hands_with_an_account(rt: HostRuntime) -> Result<(), Fail> {
+    let shaken = shake_with_account(rt.alloc())?;
+    assert_eq!(rt; lengths(&shaken.found)?, (Some(2), Some(0)));
+    assert_eq!(rt; username(&shaken.transport), Some("me"));
     // Where a text can't be allocated, it is left out.
     assert_eq!(rt;
-        progress.calls.as_str(),
+        shaken.progress.calls.as_str(),
         "steps; handshake; step; authentication; step; handshake (authenticated); ",
         "without an AllocError"
     );

@@ -56,6 +56,13 @@ fn items_of<'a>(
     Ok(items)
 }
 
+fn push_all(text: &mut Vec<u8>, pieces: &[&[u8]]) -> Result<(), AllocError> {
+    for piece in pieces {
+        text.extend_from_slice(piece)?;
+    }
+    Ok(())
+}
+
 fn push_source(text: &mut Vec<u8>, source: &SourceRef) -> Result<(), AllocError> {
     match source {
         SourceRef::FullName(name) => text.extend_from_slice(name.as_bytes()),
@@ -66,8 +73,7 @@ fn push_source(text: &mut Vec<u8>, source: &SourceRef) -> Result<(), AllocError>
 fn push_mapping(text: &mut Vec<u8>, mapping: &Mapping) -> Result<(), AllocError> {
     push_source(text, &mapping.lhs)?;
     if let Some(local) = &mapping.rhs {
-        text.push(b'>')?;
-        text.extend_from_slice(local.as_bytes())?;
+        push_all(text, &[b">", local.as_bytes()])?;
     }
     text.push(b';')?;
     Ok(())
@@ -75,11 +81,21 @@ fn push_mapping(text: &mut Vec<u8>, mapping: &Mapping) -> Result<(), AllocError>
 
 fn push_fix(text: &mut Vec<u8>, fix: &Fix) -> Result<(), AllocError> {
     let Fix::MappingWithPartialDestinationRemoved { name, spec } = fix;
-    text.push(b'!')?;
-    text.extend_from_slice(name.as_bytes())?;
-    text.push(b'<')?;
-    text.extend_from_slice(spec.as_bytes())?;
-    text.push(b';')?;
+    push_all(text, &[b"!", name.as_bytes(), b"<", spec.as_bytes(), b";"])
+}
+
+fn push_specs(text: &mut Vec<u8>, specs: &[BString]) -> Result<(), AllocError> {
+    for spec in specs {
+        push_all(text, &[b"=", spec.as_bytes()])?;
+    }
+    Ok(())
+}
+
+fn push_sources(text: &mut Vec<u8>, sources: &[SourceRef]) -> Result<(), AllocError> {
+    for source in sources {
+        text.push(b',')?;
+        push_source(text, source)?;
+    }
     Ok(())
 }
 
@@ -89,47 +105,55 @@ fn push_issue(text: &mut Vec<u8>, issue: &Issue) -> Result<(), AllocError> {
         specs,
         sources,
     } = issue;
-    text.push(b'#')?;
-    text.extend_from_slice(destination_full_ref_name.as_bytes())?;
-    for spec in specs {
-        text.push(b'=')?;
-        text.extend_from_slice(spec.as_bytes())?;
+    push_all(text, &[b"#", destination_full_ref_name.as_bytes()])?;
+    push_specs(text, specs)?;
+    push_sources(text, sources)
+}
+
+fn push_outcome(text: &mut Vec<u8>, mappings: &[Mapping], fixes: &[Fix]) -> Result<(), AllocError> {
+    for mapping in mappings {
+        push_mapping(text, mapping)?;
     }
-    for source in sources {
-        text.push(b',')?;
-        push_source(text, source)?;
+    for fix in fixes {
+        push_fix(text, fix)?;
+    }
+    Ok(())
+}
+
+fn push_issues(text: &mut Vec<u8>, issues: &[Issue]) -> Result<(), AllocError> {
+    for issue in issues {
+        push_issue(text, issue)?;
     }
     Ok(())
 }
 
 // What a validation returns: `source>local;` for each mapping, `!local<spec;` for each fix, or
 // `#local=spec..,source..` for each conflict
+fn push_validated(
+    alloc: Global,
+    text: &mut Vec<u8>,
+    specs: &[RefSpecRef<'_>],
+    items: &[Item<'_>],
+) -> Result<(), AllocError> {
+    let outcome = MatchGroup::from_fetch_specs(specs).match_lhs(alloc, items)?;
+    match outcome.validated(alloc)? {
+        Ok((outcome, fixes)) => push_outcome(text, &outcome.mappings, &fixes),
+        Err(e) => push_issues(text, &e.issues),
+    }
+}
+
+// What a validation returns for refspecs and refs.
 fn shown<'a>(
     alloc: Global,
     texts: &[&'a [u8]],
     names: &[&'a [u8]],
     id: &'a ObjectId,
-) -> Result<BString, AllocError> {
-    let mut text = Vec::new(alloc);
+) -> Result<Vec<u8>, AllocError> {
     let specs = specs_of(alloc, texts)?;
     let items = items_of(alloc, names, id)?;
-    let outcome = MatchGroup::from_fetch_specs(&specs).match_lhs(alloc, &items)?;
-    match outcome.validated(alloc)? {
-        Ok((outcome, fixes)) => {
-            for mapping in &outcome.mappings {
-                push_mapping(&mut text, mapping)?;
-            }
-            for fix in &fixes {
-                push_fix(&mut text, fix)?;
-            }
-        }
-        Err(e) => {
-            for issue in &e.issues {
-                push_issue(&mut text, issue)?;
-            }
-        }
-    }
-    Ok(BString::new(text))
+    let mut text = Vec::new(alloc);
+    push_validated(alloc, &mut text, &specs, &items)?;
+    Ok(text)
 }
 
 /// The digits of an id.
@@ -248,32 +272,72 @@ const ROWS: &[Row] = &[
     },
 ];
 
-pub(crate) fn check_rows(rt: &impl Abort, alloc: Global) -> Result<(), AllocError> {
-    if let Ok(id) = ObjectId::from_hex(ID) {
-        for row in ROWS {
-            let answer = shown(alloc, row.specs, row.names, &id)?;
-            assert_eq!(rt; answer.as_bytes(), row.answer);
-        }
+pub(crate) fn check_bytes(rt: &impl Abort, shown: &[u8], want: &[u8]) {
+    assert_eq!(rt; shown, want);
+}
+
+fn check_row(rt: &impl Abort, alloc: Global, row: &Row, id: &ObjectId) -> Result<(), AllocError> {
+    let answer = shown(alloc, row.specs, row.names, id)?;
+    check_bytes(rt, &answer, row.answer);
+    Ok(())
+}
+
+fn check_rows_with(rt: &impl Abort, alloc: Global, id: &ObjectId) -> Result<(), AllocError> {
+    for row in ROWS {
+        check_row(rt, alloc, row, id)?;
     }
     Ok(())
 }
 
-// The prefixes of refspecs, a `;` behind each.
-fn prefixes(alloc: Global, texts: &[&[u8]]) -> Result<BString, AllocError> {
-    let mut added = Vec::new(alloc);
-    for spec in specs_of(alloc, texts)?.iter() {
-        spec.expand_prefixes(alloc, &mut added)?;
+pub(crate) fn check_rows(rt: &impl Abort, alloc: Global) -> Result<(), AllocError> {
+    match ObjectId::from_hex(ID) {
+        Ok(id) => check_rows_with(rt, alloc, &id),
+        Err(_) => Ok(()),
     }
+}
+
+fn push_prefixes(
+    alloc: Global,
+    prefixes: &mut Vec<BString>,
+    specs: &[RefSpecRef<'_>],
+) -> Result<(), AllocError> {
+    for spec in specs {
+        spec.expand_prefixes(alloc, prefixes)?;
+    }
+    Ok(())
+}
+
+fn prefixes_of(alloc: Global, texts: &[&[u8]]) -> Result<Vec<BString>, AllocError> {
+    let specs = specs_of(alloc, texts)?;
+    let mut prefixes = Vec::new(alloc);
+    push_prefixes(alloc, &mut prefixes, &specs)?;
+    Ok(prefixes)
+}
+
+// The prefixes, a `;` behind each.
+fn joined(alloc: Global, prefixes: &[BString]) -> Result<Vec<u8>, AllocError> {
     let mut text = Vec::new(alloc);
-    for prefix in &added {
-        text.extend_from_slice(prefix.as_bytes())?;
-        text.push(b';')?;
+    for prefix in prefixes {
+        push_all(&mut text, &[prefix.as_bytes(), b";"])?;
     }
-    Ok(BString::new(text))
+    Ok(text)
+}
+
+fn check_prefixes_of(
+    rt: &impl Abort,
+    alloc: Global,
+    texts: &[&[u8]],
+    want: &[u8],
+) -> Result<(), AllocError> {
+    let prefixes = prefixes_of(alloc, texts)?;
+    let text = joined(alloc, &prefixes)?;
+    check_bytes(rt, &text, want);
+    Ok(())
 }
 
 pub(crate) fn check_prefixes(rt: &impl Abort, alloc: Global) -> Result<(), AllocError> {
-    let dwim = prefixes(
+    check_prefixes_of(
+        rt,
         alloc,
         &[
             b"HEAD",
@@ -281,17 +345,13 @@ pub(crate) fn check_prefixes(rt: &impl Abort, alloc: Global) -> Result<(), Alloc
             b"refs/tags/prefix*:refs/tags/prefix*",
             b"refs/heads/main",
         ],
+        b"HEAD;dwim;refs/dwim;refs/tags/dwim;refs/heads/dwim;refs/remotes/dwim;refs/remotes/dwim/HEAD;refs/tags/prefix;refs/heads/main;",
     )?;
-    assert_eq!(rt;
-        dwim.as_bytes(),
-        b"HEAD;dwim;refs/dwim;refs/tags/dwim;refs/heads/dwim;refs/remotes/dwim;refs/remotes/dwim/HEAD;refs/tags/prefix;refs/heads/main;".as_slice()
-    );
-    let sided = prefixes(alloc, &[b"refs/heads/*", b"refs/heads/main"])?;
-    assert_eq!(rt;
-        sided.as_bytes(),
-        b"refs/heads/;refs/heads/main;".as_slice()
-    );
-    let none = prefixes(alloc, &[b"^refs/heads/a", ID, b"*"])?;
-    assert_eq!(rt; none.as_bytes(), b";".as_slice());
-    Ok(())
+    check_prefixes_of(
+        rt,
+        alloc,
+        &[b"refs/heads/*", b"refs/heads/main"],
+        b"refs/heads/;refs/heads/main;",
+    )?;
+    check_prefixes_of(rt, alloc, &[b"^refs/heads/a", ID, b"*"], b";")
 }

@@ -1,12 +1,13 @@
 //! Values of refspecs, their copies, and the texts of errors.
-use crate::rows::{check_prefixes, check_rows, read};
+use crate::rows::{check_bytes, check_prefixes, check_rows, read};
 use bstr::{BStr, BString};
-use gixp_refspec::PartialName;
 use gixp_refspec::instruction::{Fetch, Instruction};
 use gixp_refspec::match_group::validate::{self, Fix};
 use gixp_refspec::match_group::{Mapping, SourceRef};
 use gixp_refspec::parse::{Error, Operation, parse};
+use gixp_refspec::{PartialName, RefSpec, RefSpecRef};
 use std::alloc::{AllocError, Global};
+use std::fmt::Display;
 use std::process::Abort;
 use std::test::Fail;
 
@@ -17,53 +18,90 @@ fn refusal(text: &[u8]) -> Option<Error> {
     }
 }
 
+// Whether a text is read, and stands for this.
+fn stands_for(text: &[u8], instruction: &Instruction<'_>) -> bool {
+    match read(text) {
+        Some(spec) => spec.instruction() == *instruction,
+        None => false,
+    }
+}
+
 #[test]
-fn instructions(rt: HostRuntime) -> Result<(), Fail> {
-    let forced = read(b"+").ok_or("forced")?;
-    let plain = read(b":").ok_or("plain")?;
+fn instructions(rt: HostRuntime) {
     let head = Instruction::Fetch(Fetch::Only {
         src: BStr::new(b"HEAD"),
     });
-    assert!(rt; forced.instruction() == head);
-    assert!(rt; plain.instruction() == head);
-    assert!(rt; forced != plain);
-    let spec = read(b"+a:refs/heads/b").ok_or("spec")?;
+    assert!(rt; stands_for(b"+", &head) && stands_for(b":", &head));
+    assert!(rt; read(b"+") != read(b":"));
     let update = Instruction::Fetch(Fetch::AndUpdate {
         src: BStr::new(b"a"),
         dst: BStr::new(b"refs/heads/b"),
         allow_non_fast_forward: true,
     });
-    assert!(rt; spec.instruction() == update);
+    assert!(rt; stands_for(b"+a:refs/heads/b", &update));
+}
+
+fn check_copy<T: Clone + PartialEq>(rt: &impl Abort, value: &T) -> Result<(), AllocError> {
+    let copy = value.clone()?;
+    assert!(rt; copy == *value);
     Ok(())
 }
 
-fn check_copies(rt: &impl Abort, alloc: Global) -> Result<(), AllocError> {
-    if let Some(spec) = read(b"+a:refs/heads/b") {
-        let owned = spec.to_owned(alloc)?;
-        assert!(rt; owned.to_ref() == spec);
-        assert!(rt; owned.clone()? == owned);
-        let text = spec.to_bstring(alloc)?;
-        assert_eq!(rt; text.as_bytes(), b"+a:refs/heads/b".as_slice());
-        let text = owned.to_bstring(alloc)?;
-        assert_eq!(rt; text.as_bytes(), b"+a:refs/heads/b".as_slice());
-    }
-    if let Ok(name) = PartialName::new(BString::from_slice(alloc, b"main")?) {
-        let copy = name.clone()?;
-        assert_eq!(rt; copy.as_bstr().as_bytes(), b"main".as_slice());
-    }
+/// A refspec with each of its parts.
+const SPEC: &[u8] = b"+a:refs/heads/b";
+
+fn check_owned(rt: &impl Abort, alloc: Global, spec: &RefSpec) -> Result<(), AllocError> {
+    let text = spec.to_bstring(alloc)?;
+    check_bytes(rt, text.as_bytes(), SPEC);
+    check_copy(rt, spec)
+}
+
+fn check_spec(rt: &impl Abort, alloc: Global, spec: RefSpecRef<'_>) -> Result<(), AllocError> {
+    let owned = spec.to_owned(alloc)?;
+    assert!(rt; owned.to_ref() == spec);
+    check_owned(rt, alloc, &owned)
+}
+
+fn check_spec_text(rt: &impl Abort, alloc: Global, spec: RefSpecRef<'_>) -> Result<(), AllocError> {
+    let text = spec.to_bstring(alloc)?;
+    check_bytes(rt, text.as_bytes(), SPEC);
+    Ok(())
+}
+
+fn check_name(rt: &impl Abort, name: &PartialName) -> Result<(), AllocError> {
+    let copy = name.clone()?;
+    check_bytes(rt, copy.as_bstr().as_bytes(), b"main");
+    Ok(())
+}
+
+fn check_fix(rt: &impl Abort, alloc: Global) -> Result<(), AllocError> {
     let fix = Fix::MappingWithPartialDestinationRemoved {
         name: BString::from_slice(alloc, b"o/main")?,
         spec: BString::from_slice(alloc, b"a:o/*")?,
     };
-    assert!(rt; fix.clone()? == fix);
+    check_copy(rt, &fix)
+}
+
+fn check_mapping(rt: &impl Abort, alloc: Global) -> Result<(), AllocError> {
     let mapping = Mapping {
         item_index: Some(1),
         lhs: SourceRef::FullName(BString::from_slice(alloc, b"HEAD")?),
         rhs: None,
         spec_index: 2,
     };
-    assert!(rt; mapping.clone()? == mapping);
-    Ok(())
+    check_copy(rt, &mapping)
+}
+
+fn check_copies(rt: &impl Abort, alloc: Global) -> Result<(), AllocError> {
+    if let Some(spec) = read(SPEC) {
+        check_spec(rt, alloc, spec)?;
+        check_spec_text(rt, alloc, spec)?;
+    }
+    if let Ok(name) = PartialName::new(BString::from_slice(alloc, b"main")?) {
+        check_name(rt, &name)?;
+    }
+    check_fix(rt, alloc)?;
+    check_mapping(rt, alloc)
 }
 
 #[test]
@@ -82,16 +120,24 @@ fn answers_or_allocation_failures(rt: HostRuntime) {
     let _ = check_rows(&rt, rt.alloc());
 }
 
+fn check_text<E: Display>(
+    rt: &impl Abort,
+    alloc: Global,
+    error: &E,
+    text: &str,
+) -> Result<(), AllocError> {
+    let shown = error.to_string(alloc)?;
+    assert_eq!(rt; shown.as_str(), text);
+    Ok(())
+}
+
 #[test]
 fn errors_show_their_names(rt: HostRuntime) -> Result<(), Fail> {
     let fault = refusal(b"^refs/heads/x:y").ok_or("refusal")?;
-    assert_eq!(rt;
-        fault.to_string(rt.alloc())?.as_str(),
-        "NegativeWithDestination"
-    );
+    check_text(&rt, rt.alloc(), &fault, "NegativeWithDestination")?;
     let conflicts = validate::Error {
         issues: Vec::new(rt.alloc()),
     };
-    assert_eq!(rt; conflicts.to_string(rt.alloc())?.as_str(), "Error");
+    check_text(&rt, rt.alloc(), &conflicts, "Error")?;
     Ok(())
 }
