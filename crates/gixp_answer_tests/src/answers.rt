@@ -60,53 +60,78 @@ fn failing<'a>(bytes: &'a [u8], fails: usize) -> Device<'a> {
     }
 }
 
+// What is told of refs of which the read with this number fails.
+fn told_of_refs(alloc: Global, fails: usize) -> Result<String, AllocError> {
+    let mut device = failing(REFS, fails);
+    let mut reader = LineReader::new(alloc, &mut device)?;
+    let refused = from_v2_refs(alloc, &mut reader);
+    format!(in alloc; "{refused:?}")
+}
+
 #[test]
 fn tells_of_each_read_that_fails(rt: HostRuntime) -> Result<(), Fail> {
-    let a = rt.alloc();
     for fails in 0..REFS.len().div_ceil(11) {
-        let mut device = failing(REFS, fails);
-        let mut reader = LineReader::new(a, &mut device)?;
-        let Err(e) = from_v2_refs(a, &mut reader) else {
-            return Err("refs".into());
-        };
-        assert_eq!(rt; format!(in a; "{e:?}")?.as_str(), "Io(TimedOut)", "{fails}");
+        let told = told_of_refs(rt.alloc(), fails)?;
+        assert_eq!(rt; told.as_str(), "Err(Io(TimedOut))", "{fails}");
     }
     Ok(())
 }
 
+// What is told of an answer of which the read with this number fails.
+fn told_of_an_answer(
+    alloc: Global,
+    version: Protocol,
+    bytes: &[u8],
+    fails: usize,
+) -> Result<String, AllocError> {
+    let mut device = failing(bytes, fails);
+    let mut reader = LineReader::new(alloc, &mut device)?;
+    let refused = Response::from_line_reader(alloc, version, &mut reader, true, false);
+    format!(in alloc; "{refused:?}")
+}
+
 #[test]
 fn tells_of_each_read_of_an_answer_that_fails(rt: HostRuntime) -> Result<(), Fail> {
-    let a = rt.alloc();
     for (version, bytes) in [(Protocol::V0, DEPTH), (Protocol::V2, DEPTH_V2)] {
         // The packet behind the answer has 35 bytes at most.
         for fails in 0..bytes.len().saturating_sub(35).div_ceil(11) {
-            let mut device = failing(bytes, fails);
-            let mut reader = LineReader::new(a, &mut device)?;
-            let Err(e) = Response::from_line_reader(a, version, &mut reader, true, false) else {
-                return Err("an answer".into());
-            };
-            assert_eq!(rt; format!(in a; "{e:?}")?.as_str(), "Io(TimedOut)", "{fails}");
+            let told = told_of_an_answer(rt.alloc(), version, bytes, fails)?;
+            assert_eq!(rt; told.as_str(), "Err(Io(TimedOut))", "{fails}");
         }
     }
+    Ok(())
+}
+
+// An answer with one shallow line, to which a handshake without updates added none.
+fn shallow_answer(alloc: Global) -> Result<Response, Fail> {
+    let mut stream: &[u8] = b"0035shallow 0123456789012345678901234567890123456789\n";
+    let mut reader = LineReader::new(alloc, &mut stream)?;
+    let mut answer = Response::from_line_reader(alloc, Protocol::V1, &mut reader, true, true)?;
+    answer.append_v1_shallow_updates(None)?;
+    Ok(answer)
+}
+
+#[test]
+fn takes_a_handshake_without_updates(rt: HostRuntime) -> Result<(), Fail> {
+    let id = ObjectId::from_hex(A)?;
+    let answer = shallow_answer(rt.alloc())?;
+    assert_eq!(rt;
+        answer.shallow_updates(),
+        [ShallowUpdate::Shallow(id)].as_slice()
+    );
     Ok(())
 }
 
 #[test]
 fn adds_updates_of_the_handshake(rt: HostRuntime) -> Result<(), Fail> {
     let a = rt.alloc();
-    let id = ObjectId::from_hex(A)?;
-    let other = ObjectId::from_hex(B)?;
-    let mut stream: &[u8] = b"0035shallow 0123456789012345678901234567890123456789\n";
-    let mut reader = LineReader::new(a, &mut stream)?;
-    let mut answer = Response::from_line_reader(a, Protocol::V1, &mut reader, true, true)?;
-    answer.append_v1_shallow_updates(None)?;
-    assert_eq!(rt;
-        answer.shallow_updates(),
-        [ShallowUpdate::Shallow(id)].as_slice()
-    );
-    let updates = Vec::from_slice(a, &[ShallowUpdate::Unshallow(other)])?;
+    let both = [
+        ShallowUpdate::Shallow(ObjectId::from_hex(A)?),
+        ShallowUpdate::Unshallow(ObjectId::from_hex(B)?),
+    ];
+    let updates = Vec::from_slice(a, &both[1..])?;
+    let mut answer = shallow_answer(a)?;
     answer.append_v1_shallow_updates(Some(updates))?;
-    let both = [ShallowUpdate::Shallow(id), ShallowUpdate::Unshallow(other)];
     let copy = answer.clone()?;
     assert_eq!(rt; copy.shallow_updates(), both.as_slice());
     assert_eq!(rt; copy.has_pack(), false);
@@ -150,19 +175,24 @@ fn read_parts<R: ExtendedBufRead + Read>(
     }
 }
 
+// The answer and the pack of a stream in bands, whose texts are written down.
+fn read_bands(
+    alloc: Global,
+    said: &mut Vec<u8>,
+) -> Result<Option<(Response, Vec<u8>)>, AllocError> {
+    let mut stream: &[u8] = b"0015\x01acknowledgments\n000b\x01ready\n0001000e\x01packfile\n\
+        000b\x02hello\n0009\x01PACK0007\x03no0006\x01!0000";
+    let mut lines = LineReader::new(alloc, &mut stream)?;
+    let mut never = NeverInterrupt;
+    let mut reader = WithSidebands::new(&mut lines, Notes { said }, &mut never);
+    read_parts(alloc, &mut reader)
+}
+
 #[test]
 fn reads_an_answer_in_bands(rt: HostRuntime) -> Result<(), Fail> {
     let a = rt.alloc();
-    let mut stream: &[u8] = b"0015\x01acknowledgments\n000b\x01ready\n0001000e\x01packfile\n\
-        000b\x02hello\n0009\x01PACK0007\x03no0006\x01!0000";
-    let mut lines = LineReader::new(a, &mut stream)?;
     let mut said = Vec::new(a);
-    let notes = Notes { said: &mut said };
-    let mut never = NeverInterrupt;
-    let mut reader = WithSidebands::new(&mut lines, notes, &mut never);
-    let parts = read_parts(a, &mut reader);
-    drop(reader);
-    let (answer, pack) = parts?.ok_or("an answer")?;
+    let (answer, pack) = read_bands(a, &mut said)?.ok_or("an answer")?;
     assert_eq!(rt;
         answer.acknowledgements(),
         [Acknowledgement::Ready].as_slice()

@@ -3,7 +3,7 @@ use bstr::BString;
 use gixp_requests::command::CommandTable;
 use gixp_requests::fetch::Arguments;
 use gixp_requests::{Command, agent};
-use gixp_wire::{Bodies, Body, Connection, ObjectId, Protocol};
+use gixp_wire::{Bodies, Body, Connection, ObjectId, Protocol, Transport};
 use std::alloc::{AllocError, Global};
 use std::io;
 use std::io::{ErrorKind, Write};
@@ -19,14 +19,21 @@ const REQUEST: &[u8] = b"0033want bbbbbbbbbbbbbbbbbbbbbbbbbbbbbbbbbbbbbbbb \n\
 
 #[test]
 fn names_itself(rt: HostRuntime) -> Result<(), Fail> {
-    let a = rt.alloc();
-    assert_eq!(rt; agent(a, "oxide")?.as_str(), "git/oxide");
-    assert_eq!(rt; agent(a, "git/oxide")?.as_str(), "git/oxide");
-    assert_eq!(rt; agent(a, "git")?.as_str(), "git/git");
+    for (name, want) in [
+        ("oxide", "git/oxide"),
+        ("git/oxide", "git/oxide"),
+        ("git", "git/git"),
+    ] {
+        assert_eq!(rt; agent(rt.alloc(), name)?.as_str(), want);
+    }
+    Ok(())
+}
+
+#[test]
+fn names_commands(rt: HostRuntime) {
     assert_eq!(rt; Command::LsRefs.as_str(), "ls-refs");
     assert_eq!(rt; Command::Fetch.as_str(), "fetch");
     assert!(rt; Command::LsRefs < Command::Fetch);
-    Ok(())
 }
 
 // A want and a have of version 1.
@@ -38,17 +45,35 @@ fn asked(alloc: Global) -> Result<Arguments, Fail> {
     Ok(asked)
 }
 
+// A transport whose first answer fails.
+fn failing_bodies(alloc: Global) -> Result<Bodies, AllocError> {
+    let mut bodies = Vec::new(alloc);
+    bodies.push(Body::Fail(ErrorKind::TimedOut))?;
+    Bodies::new(
+        alloc,
+        bodies,
+        BString::from(Vec::new(alloc)),
+        Vec::new(alloc),
+    )
+}
+
+// What is told of sending all that is asked, with `done`.
+fn told_of_sending<T: Transport>(
+    alloc: Global,
+    asked: &mut Arguments,
+    transport: &mut T,
+) -> Result<String, AllocError> {
+    let sent = asked.send(transport, true);
+    format!(in alloc; "{sent:?}")
+}
+
 #[test]
 fn keeps_all_where_the_answer_fails(rt: HostRuntime) -> Result<(), Fail> {
     let a = rt.alloc();
-    let mut bodies = Vec::new(a);
-    bodies.push(Body::Fail(ErrorKind::TimedOut))?;
-    let mut transport = Bodies::new(a, bodies, BString::from(Vec::new(a)), Vec::new(a))?;
+    let mut transport = failing_bodies(a)?;
     let mut asked = asked(a)?;
-    let Err(e) = asked.send(&mut transport, true) else {
-        return Err("no failure".into());
-    };
-    assert_eq!(rt; format!(in a; "{e:?}")?.as_str(), "Io(TimedOut)");
+    let told = told_of_sending(a, &mut asked, &mut transport)?;
+    assert_eq!(rt; told.as_str(), "Err(Io(TimedOut))");
     assert_eq!(rt; transport.sent().len(), 1);
     assert!(rt; asked.has_haves());
     asked.send(&mut transport, true)?;
@@ -81,17 +106,22 @@ impl Write for Closed {
     }
 }
 
+// What is told of sending all that is asked to a closed writer.
+fn told_of_closed(alloc: Global, asked: &mut Arguments) -> Result<String, AllocError> {
+    let mut broken = connection(alloc, Protocol::V1, Closed)?;
+    let first = asked.send(&mut broken, true);
+    let second = asked.send(&mut broken, true);
+    format!(in alloc; "{first:?} {second:?}")
+}
+
 #[test]
 fn keeps_all_where_a_write_fails(rt: HostRuntime) -> Result<(), Fail> {
     let a = rt.alloc();
-    let mut broken = connection(a, Protocol::V1, Closed)?;
     let mut asked = asked(a)?;
-    for _ in 0..2 {
-        let Err(e) = asked.send(&mut broken, true) else {
-            return Err("no failure".into());
-        };
-        assert_eq!(rt; format!(in a; "{e:?}")?.as_str(), "Io(BrokenPipe)");
-    }
+    assert_eq!(rt;
+        told_of_closed(a, &mut asked)?.as_str(),
+        "Err(Io(BrokenPipe)) Err(Io(BrokenPipe))"
+    );
     let mut over = connection(a, Protocol::V1, Vec::new(a))?;
     asked.send(&mut over, true)?;
     assert_eq!(rt; over.writer().as_slice(), REQUEST);

@@ -168,7 +168,7 @@ where
     )
 }
 
-// Why there is no answer.
+// An error as it shows itself.
 fn shown<E: Debug + Drop>(alloc: Global, error: E) -> Result<String, AllocError> {
     format!(in alloc; "{error:?}")
 }

@@ -4,7 +4,8 @@ use gixp_sidebands::{BandText, InterruptFlag, NeverInterrupt, WithSidebands};
 use gixp_wire::{ExtendedBufRead, LineReader};
 use std::alloc::{AllocError, Global};
 use std::cell::Cell;
-use std::io::{BufRead, Read};
+use std::io;
+use std::io::{BufRead, ErrorKind, Read};
 use std::test::Fail;
 
 // Writes each text down, as `[2:text]` or `[3:text]`.
@@ -25,43 +26,54 @@ impl BandText for Notes<'_> {
 
 const STREAM: &[u8] = b"0006\x01P0005\x010007\x02hi0006\x01A0000";
 
-// What two reads give behind a question for an interrupt, and the texts.
-fn two_reads(alloc: Global, flag: &Cell<bool>) -> Result<String, Fail> {
+// The size of a read, or the kind of its failure.
+fn size_read<R: Read>(reader: &mut R) -> Result<usize, ErrorKind> {
+    let mut room = [0u8; 8];
+    reader.read(&mut room).map_err(|e| e.kind())
+}
+
+// Whether there is an interrupt, and what two reads give behind that question.
+fn two_reads(
+    alloc: Global,
+    flag: &Cell<bool>,
+    texts: &mut String,
+) -> Result<(bool, [Result<usize, ErrorKind>; 2]), AllocError> {
     let mut device = Device::sound(STREAM, 1);
     let mut lines = LineReader::new(alloc, &mut device)?;
-    let mut texts = String::new(alloc);
     let mut flag = InterruptFlag::new(flag);
-    let mut said = String::new(alloc);
-    {
-        let notes = Notes { said: &mut texts };
-        let mut reader = WithSidebands::new(&mut lines, notes, &mut flag);
-        said.push_str(if reader.interrupted() {
-            "true "
-        } else {
-            "false "
-        })?;
-        for _ in 0..2usize {
-            let mut room = [0u8; 8];
-            let word = match reader.read(&mut room) {
-                Ok(count) => format!(in alloc; "{count} ")?,
-                Err(e) => format!(in alloc; "{:?} ", e.kind())?,
-            };
-            said.push_str(word.as_str())?;
-        }
-    }
-    said.push_str(texts.as_str())?;
-    Ok(said)
+    let mut reader = WithSidebands::new(&mut lines, Notes { said: texts }, &mut flag);
+    let interrupted = reader.interrupted();
+    let sizes = [size_read(&mut reader), size_read(&mut reader)];
+    Ok((interrupted, sizes))
 }
 
 #[test]
 fn asks_the_flag_of_a_caller(rt: HostRuntime) -> Result<(), Fail> {
+    let a = rt.alloc();
     let flag = Cell::new(true);
-    let said = two_reads(rt.alloc(), &flag)?;
-    assert_eq!(rt; said.as_str(), "true 1 Other [2:hi]");
-    flag.set(false);
-    let said = two_reads(rt.alloc(), &flag)?;
-    assert_eq!(rt; said.as_str(), "false 1 1 [2:hi]");
+    for (interrupted, second) in [(true, Err(ErrorKind::Other)), (false, Ok(1))] {
+        flag.set(interrupted);
+        let mut texts = String::new(a);
+        let got = two_reads(a, &flag, &mut texts)?;
+        assert_eq!(rt; got, (interrupted, [Ok(1), second]));
+        assert_eq!(rt; texts.as_str(), "[2:hi]");
+    }
     Ok(())
+}
+
+// Peeks, if asked to, and reads so many bytes, one at most.
+fn read_some<R: BufRead>(reader: &mut R, size: usize, peeks: bool) -> io::Result<()> {
+    if peeks {
+        let _ = reader.fill_buf()?;
+    }
+    let mut room = [0u8; 1];
+    let _ = reader.read(&mut room[..size.min(1)])?;
+    Ok(())
+}
+
+fn first_line<R: ExtendedBufRead>(alloc: Global, reader: &mut R) -> Result<Vec<u8>, Fail> {
+    let line = reader.readline()?.ok_or("a line")?;
+    Ok(line.to_vec(alloc)?)
 }
 
 // The line of a transport that was given back behind so many bytes.
@@ -72,21 +84,18 @@ fn line_behind(alloc: Global, size: usize, peeks: bool) -> Result<Vec<u8>, Fail>
     let notes = Notes { said: &mut texts };
     let mut never = NeverInterrupt;
     let mut reader = WithSidebands::new(&mut lines, notes, &mut never);
-    if peeks {
-        let _ = reader.fill_buf()?;
-    }
-    let mut room = [0u8; 1];
-    let _ = reader.read(&mut room[..size.min(1)])?;
-    let transport = reader.into_transport();
-    let line = transport.readline()?.ok_or("a line")?.to_vec(alloc)?;
-    Ok(line)
+    read_some(&mut reader, size, peeks)?;
+    first_line(alloc, reader.into_transport())
 }
 
 #[test]
 fn gives_the_transport_back(rt: HostRuntime) -> Result<(), Fail> {
-    let a = rt.alloc();
-    assert_eq!(rt; line_behind(a, 0, false)?.as_slice(), b"\x01PA".as_slice());
-    assert_eq!(rt; line_behind(a, 0, true)?.as_slice(), b"\x01PA".as_slice());
-    assert_eq!(rt; line_behind(a, 1, true)?.as_slice(), b"\x01C".as_slice());
+    for (size, peeks, want) in [
+        (0, false, b"\x01PA".as_slice()),
+        (0, true, b"\x01PA"),
+        (1, true, b"\x01C"),
+    ] {
+        assert_eq!(rt; line_behind(rt.alloc(), size, peeks)?.as_slice(), want);
+    }
     Ok(())
 }

@@ -2,62 +2,84 @@
 use bstr::BString;
 use gixp_wire::read::Error as ReadError;
 use gixp_wire::{Account, IsSpuriousError, Opening, PacketError, Service, client, decode};
-use std::alloc::AllocError;
+use std::alloc::{AllocError, Global};
+use std::fmt::Display;
 use std::io::ErrorKind;
 use std::test::Fail;
+
+// The texts of these errors, a line for each.
+fn texts<E: Display>(alloc: Global, errors: &[E]) -> Result<String, AllocError> {
+    let mut lines = String::new(alloc);
+    for error in errors {
+        lines.push_str(error.to_string(alloc)?.as_str())?;
+        lines.push('\n')?;
+    }
+    Ok(lines)
+}
 
 #[test]
 fn names_each_error(rt: HostRuntime) -> Result<(), Fail> {
     let a = rt.alloc();
-    for (error, text) in [
-        (ReadError::Io(ErrorKind::Other), "Io"),
-        (ReadError::Decode(PacketError::HexDecode), "Decode"),
-        (ReadError::UnexpectedFrame, "UnexpectedFrame"),
-        (ReadError::NotUtf8, "NotUtf8"),
-        (ReadError::BadBand(4), "BadBand"),
-        (ReadError::Interrupted, "Interrupted"),
-        (ReadError::Memory, "Memory"),
-    ] {
-        assert_eq!(rt; format!(in a; "{error}")?.as_str(), text);
-    }
-    let server = ReadError::Server {
-        message: BString::from_slice(a, b"no".as_slice())?,
-    };
-    assert_eq!(rt; format!(in a; "{server}")?.as_str(), "Server");
-    for (error, text) in [
-        (PacketError::HexDecode, "HexDecode"),
-        (
-            PacketError::DataLengthLimitExceeded,
-            "DataLengthLimitExceeded",
-        ),
-        (PacketError::DataIsEmpty, "DataIsEmpty"),
-        (PacketError::InvalidLineLength, "InvalidLineLength"),
-    ] {
-        assert_eq!(rt; format!(in a; "{error}")?.as_str(), text);
-    }
+    let message = BString::from_slice(a, b"no".as_slice())?;
+    let errors = [
+        ReadError::Io(ErrorKind::Other),
+        ReadError::Decode(PacketError::HexDecode),
+        ReadError::UnexpectedFrame,
+        ReadError::NotUtf8,
+        ReadError::BadBand(4),
+        ReadError::Interrupted,
+        ReadError::Memory,
+        ReadError::Server { message },
+    ];
     assert_eq!(rt;
-        format!(in a; "{}", decode::Error::InvalidLength(3))?.as_str(),
-        "InvalidLength"
-    );
-    assert_eq!(rt;
-        format!(in a; "{}", decode::Error::InvalidDigit)?.as_str(),
-        "InvalidDigit"
+        texts(a, &errors)?.as_str(),
+        "Io\nDecode\nUnexpectedFrame\nNotUtf8\nBadBand\nInterrupted\nMemory\nServer\n"
     );
     Ok(())
 }
 
 #[test]
-fn names_services(rt: HostRuntime) -> Result<(), Fail> {
+fn names_each_packet_error(rt: HostRuntime) -> Result<(), Fail> {
     let a = rt.alloc();
+    let errors = [
+        PacketError::HexDecode,
+        PacketError::DataLengthLimitExceeded,
+        PacketError::DataIsEmpty,
+        PacketError::InvalidLineLength,
+    ];
+    assert_eq!(rt;
+        texts(a, &errors)?.as_str(),
+        "HexDecode\nDataLengthLimitExceeded\nDataIsEmpty\nInvalidLineLength\n"
+    );
+    let errors = [decode::Error::InvalidLength(3), decode::Error::InvalidDigit];
+    assert_eq!(rt;
+        texts(a, &errors)?.as_str(),
+        "InvalidLength\nInvalidDigit\n"
+    );
+    Ok(())
+}
+
+#[test]
+fn names_services(rt: HostRuntime) {
     assert_eq!(rt; Service::UploadPack.as_str(), "git-upload-pack");
     assert_eq!(rt; Service::ReceivePack.as_str(), "git-receive-pack");
+}
+
+#[test]
+fn copies_an_account(rt: HostRuntime) -> Result<(), Fail> {
+    let a = rt.alloc();
     let account = Account {
         username: String::from_str(a, "user")?,
         password: String::from_str(a, "pass")?,
     };
     assert_eq!(rt; account.clone()?, account);
+    Ok(())
+}
+
+#[test]
+fn copies_an_opening(rt: HostRuntime) -> Result<(), Fail> {
     let opening = Opening {
-        path: BString::from_slice(a, "/repository.git")?,
+        path: BString::from_slice(rt.alloc(), "/repository.git")?,
         host: None,
     };
     assert_eq!(rt; opening.clone()?, opening);
@@ -67,43 +89,53 @@ fn names_services(rt: HostRuntime) -> Result<(), Fail> {
 #[test]
 fn writes_each_client_error(rt: HostRuntime) -> Result<(), Fail> {
     let a = rt.alloc();
-    for (error, want) in [
-        (client::Error::Io(ErrorKind::TimedOut), "Io"),
-        (client::Error::Read(ReadError::NotUtf8), "Read"),
-        (client::Error::LineTooLong, "LineTooLong"),
-        (
-            client::Error::AuthenticationUnsupported,
-            "AuthenticationUnsupported",
-        ),
-        (
-            client::Error::UnsupportedProtocolVersion(BString::from_slice(a, "version 3")?),
-            "UnsupportedProtocolVersion",
-        ),
-        (
-            client::Error::MissingDelimitingNullByte,
-            "MissingDelimitingNullByte",
-        ),
-        (client::Error::Memory, "Memory"),
-    ] {
-        assert_eq!(rt; format!(in a; "{error}")?.as_str(), want);
-    }
-    for (error, want) in [
-        (ReadError::Io(ErrorKind::TimedOut), "Io(TimedOut)"),
-        (ReadError::UnexpectedFrame, "Read(UnexpectedFrame)"),
-        (ReadError::BadBand(4), "Read(BadBand(4))"),
-        (ReadError::Interrupted, "Read(Interrupted)"),
-        (ReadError::Memory, "Memory"),
-    ] {
-        let error = client::Error::from(error);
-        assert_eq!(rt; format!(in a; "{error:?}")?.as_str(), want);
-    }
-    let error = client::Error::from(AllocError);
-    assert_eq!(rt; format!(in a; "{error:?}")?.as_str(), "Memory");
+    let version = BString::from_slice(a, "version 3")?;
+    let errors = [
+        client::Error::Io(ErrorKind::TimedOut),
+        client::Error::Read(ReadError::NotUtf8),
+        client::Error::LineTooLong,
+        client::Error::AuthenticationUnsupported,
+        client::Error::UnsupportedProtocolVersion(version),
+        client::Error::MissingDelimitingNullByte,
+        client::Error::Memory,
+    ];
+    assert_eq!(rt;
+        texts(a, &errors)?.as_str(),
+        "Io\nRead\nLineTooLong\nAuthenticationUnsupported\nUnsupportedProtocolVersion\n\
+        MissingDelimitingNullByte\nMemory\n"
+    );
     Ok(())
 }
 
 #[test]
-fn tells_spurious_errors(rt: HostRuntime) -> Result<(), Fail> {
+fn takes_in_errors_of_a_read(rt: HostRuntime) -> Result<(), Fail> {
+    let errors = [
+        client::Error::from(ReadError::Io(ErrorKind::TimedOut)),
+        client::Error::from(ReadError::UnexpectedFrame),
+        client::Error::from(ReadError::BadBand(4)),
+        client::Error::from(ReadError::Interrupted),
+        client::Error::from(ReadError::Memory),
+        client::Error::from(AllocError),
+    ];
+    assert_eq!(rt;
+        format!(in rt.alloc(); "{errors:?}")?.as_str(),
+        "[Io(TimedOut), Read(UnexpectedFrame), Read(BadBand(4)), Read(Interrupted), Memory, Memory]"
+    );
+    Ok(())
+}
+
+// Whether this kind is spurious, by itself and as the cause of each error.
+fn are_spurious(kind: ErrorKind) -> [bool; 4] {
+    [
+        kind.is_spurious(),
+        ReadError::Io(kind).is_spurious(),
+        client::Error::Io(kind).is_spurious(),
+        client::Error::Read(ReadError::Io(kind)).is_spurious(),
+    ]
+}
+
+#[test]
+fn tells_spurious_errors(rt: HostRuntime) {
     for (kind, want) in [
         (ErrorKind::Interrupted, true),
         (ErrorKind::UnexpectedEof, true),
@@ -118,17 +150,10 @@ fn tells_spurious_errors(rt: HostRuntime) -> Result<(), Fail> {
         (ErrorKind::OutOfMemory, false),
         (ErrorKind::Other, false),
     ] {
-        assert_eq!(rt; kind.is_spurious(), want);
-        assert_eq!(rt; ReadError::Io(kind).is_spurious(), want);
-        assert_eq!(rt; client::Error::Io(kind).is_spurious(), want);
-        assert_eq!(rt;
-            client::Error::Read(ReadError::Io(kind)).is_spurious(),
-            want
-        );
+        assert_eq!(rt; are_spurious(kind), [want; 4]);
     }
-    assert!(rt; !ReadError::Interrupted.is_spurious());
-    assert!(rt; !ReadError::Memory.is_spurious());
-    assert!(rt; !client::Error::Memory.is_spurious());
-    assert!(rt; !client::Error::LineTooLong.is_spurious());
-    Ok(())
+    let refusals = [ReadError::Interrupted, ReadError::Memory];
+    assert!(rt; !refusals.iter().any(|error| error.is_spurious()));
+    let refusals = [client::Error::Memory, client::Error::LineTooLong];
+    assert!(rt; !refusals.iter().any(|error| error.is_spurious()));
 }

@@ -86,18 +86,29 @@ fn tell_failure<P: Progress>(progress: &mut P, name: String, message: String)
 }
 
 #[test]
-fn tells_one_call_after_the_other(rt: HostRuntime) -> Result<(), Fail> {
-    let a = rt.alloc();
+fn tells_one_call_after_the_other(rt: HostRuntime) {
     let mut counts = no_counts();
     tell_work(&mut counts, 7);
-    assert_eq!(rt; counts.steps, 7);
-    assert_eq!(rt; counts.max, Some(7));
+    assert_eq!(rt; (counts.steps, counts.max), (7, Some(7)));
     assert!(rt; counts.name().is_none());
+}
+
+#[test]
+fn tells_a_failure(rt: HostRuntime) -> Result<(), Fail> {
+    let a = rt.alloc();
     let name = String::from_str(a, "remote")?;
-    tell_failure(&mut counts, name, String::from_str(a, "no")?);
+    let message = String::from_str(a, "no")?;
+    let mut counts = no_counts();
+    tell_work(&mut counts, 7);
+    tell_failure(&mut counts, name, message);
     assert_eq!(rt; counts.name(), Some("remote"));
     assert_eq!(rt; counts.failures, 1);
-    let mut child = counts.add_child_with_id("remote", *b"FERP")?;
+    Ok(())
+}
+
+#[test]
+fn tells_a_child(rt: HostRuntime) -> Result<(), Fail> {
+    let mut child = no_counts().add_child_with_id("remote", *b"FERP")?;
     tell_work(&mut child, 1);
     assert_eq!(rt; child.steps, 1);
     Ok(())

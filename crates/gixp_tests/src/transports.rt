@@ -11,7 +11,8 @@ use bstr::BString;
 use gixp_wire::client::Error;
 use gixp_wire::read::ExtendedBufRead;
 use gixp_wire::{
-    Account, Bodies, Body, Connection, Message, MessageKind, Opening, Protocol, Service, Transport,
+    Account, Bodies, Body, Connection, Message, MessageKind, Protocol, Service, SetServiceResponse,
+    Transport,
 };
 use std::alloc::{AllocError, Global};
 use std::io::ErrorKind;
@@ -26,77 +27,111 @@ fn connection<'a>(
     device: Device<'a>,
     paper: Paper,
     version: Protocol,
-    opening: Option<Opening>,
 ) -> Result<Connection<Device<'a>, Paper>, AllocError> {
     let url = text(alloc, b"git://h/p.git")?;
-    Connection::new(alloc, device, paper, url, version, Vec::new(alloc), opening)
+    Connection::new(alloc, device, paper, url, version, Vec::new(alloc), None)
 }
 
-fn bodies(alloc: Global, answers: &[&[u8]]) -> Result<Bodies, AllocError> {
+// A connection over which nothing comes.
+fn silent(alloc: Global, paper: Paper) -> Result<Connection<Device<'static>, Paper>, AllocError> {
+    connection(alloc, Device::sound(b"", usize::MAX), paper, Protocol::V2)
+}
+
+// A body for each of these answers: its bytes, or the kind of its failure.
+fn bodies(
+    alloc: Global,
+    answers: &[Result<&[u8], ErrorKind>],
+    accepted: Vec<Protocol>,
+) -> Result<Bodies, AllocError> {
+    let url = text(alloc, b"mem:")?;
     let mut list = Vec::new(alloc);
     for answer in answers {
-        list.push(Body::Bytes(answer.to_vec(alloc)?))?;
+        list.push(match answer {
+            Ok(bytes) => Body::Bytes(bytes.to_vec(alloc)?),
+            Err(kind) => Body::Fail(*kind),
+        })?;
     }
-    let mut accepted = Vec::new(alloc);
-    accepted.push(Protocol::V2)?;
-    Bodies::new(alloc, list, text(alloc, b"mem:")?, accepted)
+    Bodies::new(alloc, list, url, accepted)
 }
 
-// What a handshake and the calls behind it answer: the version, the number of capabilities, whether refs come, and
-// the length of each line up to the stop.
-fn greeted<T: Transport>(alloc: Global, transport: &mut T) -> Result<String, Fail> {
-    match transport.handshake(alloc, Service::UploadPack, &[]) {
-        Ok(found) => {
-            let mut said = String::new(alloc);
-            let count = found.capabilities.iter().count();
-            let head = format!(in alloc;
-                "{:?} {count} {} ",
-                found.actual_protocol, found.refs_follow
-            )?;
-            said.push_str(head.as_str())?;
-            for _ in 0..100usize {
-                let word = match transport.readline() {
-                    Ok(Some(line)) => format!(in alloc; "{} ", line.len())?,
-                    Ok(None) => {
-                        said.push_str("|")?;
-                        return Ok(said);
-                    }
-                    Err(e) => {
-                        said.push_str(format!(in alloc; "{e:?}")?.as_str())?;
-                        return Ok(said);
-                    }
-                };
-                said.push_str(word.as_str())?;
-            }
-            Ok(said)
+// The version that a handshake found, the number of capabilities, and whether refs come.
+fn found(alloc: Global, answer: &SetServiceResponse) -> Result<String, AllocError> {
+    let count = answer.capabilities.iter().count();
+    format!(in alloc;
+        "{:?} {count} {} ",
+        answer.actual_protocol, answer.refs_follow
+    )
+}
+
+// Adds the length of each line up to the stop, or to an error.
+fn add_lines<R: ExtendedBufRead>(
+    alloc: Global,
+    reader: &mut R,
+    said: &mut String,
+) -> Result<(), AllocError> {
+    for _ in 0..100usize {
+        match reader.readline() {
+            Ok(Some(line)) => said.push_str(format!(in alloc; "{} ", line.len())?.as_str())?,
+            Ok(None) => return said.push_str("|"),
+            Err(e) => return said.push_str(format!(in alloc; "{e:?}")?.as_str()),
         }
-        Err(e) => Ok(format!(in alloc; "{e:?}")?),
     }
+    Ok(())
+}
+
+// What a handshake and the calls behind it return.
+fn greeted<T: Transport>(alloc: Global, transport: &mut T) -> Result<String, AllocError> {
+    let mut said = match transport.handshake(alloc, Service::UploadPack, &[]) {
+        Ok(answer) => found(alloc, &answer)?,
+        Err(e) => return format!(in alloc; "{e:?}"),
+    };
+    add_lines(alloc, transport, &mut said)?;
+    Ok(said)
+}
+
+fn fails_with<T: Drop>(answer: Result<T, Error>, kind: ErrorKind) -> bool {
+    matches!(answer, Err(Error::Io(found)) if found == kind)
+}
+
+// A connection of which the write with this number fails.
+fn broken_at(
+    alloc: Global,
+    fails: usize,
+) -> Result<Connection<Device<'static>, Paper>, AllocError> {
+    let mut paper = Paper::sound(alloc, usize::MAX);
+    paper.fails = fails;
+    paper.kind = ErrorKind::BrokenPipe;
+    let device = Device::sound(b"0000", usize::MAX);
+    connection(alloc, device, paper, Protocol::V2)
+}
+
+// Whether three requests all tell of a broken pipe.
+fn refuses_requests<T: Transport>(over: &mut T) -> bool {
+    let messages = [Message::Line(b"a"), Message::Delimiter, Message::Flush];
+    for _ in 0..3 {
+        if !fails_with(over.request(&messages), ErrorKind::BrokenPipe) {
+            return false;
+        }
+    }
+    true
+}
+
+// Whether the steps of a request and a handshake all tell of a broken pipe.
+fn refuses_steps<T: Transport>(alloc: Global, over: &mut T) -> bool {
+    let kind = ErrorKind::BrokenPipe;
+    fails_with(over.begin_request(), kind)
+        && fails_with(over.write_message(MessageKind::Flush), kind)
+        && fails_with(over.end_request(), kind)
+        && fails_with(over.handshake(alloc, Service::UploadPack, &[]), kind)
 }
 
 #[test]
 fn repeats_the_fault_of_a_write(rt: HostRuntime) -> Result<(), Fail> {
     let a = rt.alloc();
     for fails in 0..5usize {
-        let mut paper = Paper::sound(a, usize::MAX);
-        paper.fails = fails;
-        paper.kind = ErrorKind::BrokenPipe;
-        let device = Device::sound(b"0000", usize::MAX);
-        let mut over = connection(a, device, paper, Protocol::V2, None)?;
-        for _ in 0..3 {
-            let refused = over.request(&[Message::Line(b"a"), Message::Delimiter, Message::Flush]);
-            assert!(rt; matches!(refused, Err(Error::Io(ErrorKind::BrokenPipe))));
-        }
-        assert!(rt; matches!(over.begin_request(), Err(Error::Io(ErrorKind::BrokenPipe))));
-        assert!(rt;
-            matches!(
-                over.write_message(MessageKind::Flush),
-                Err(Error::Io(ErrorKind::BrokenPipe))
-            )
-        );
-        assert!(rt; matches!(over.end_request(), Err(Error::Io(ErrorKind::BrokenPipe))));
-        let shaken = over.handshake(a, Service::UploadPack, &[]);
-        assert!(rt; matches!(shaken, Err(Error::Io(ErrorKind::BrokenPipe))));
+        let mut over = broken_at(a, fails)?;
+        assert!(rt; refuses_requests(&mut over));
+        assert!(rt; refuses_steps(a, &mut over));
     }
     Ok(())
 }
@@ -108,93 +143,139 @@ fn writes_on_where_a_write_comes_short(rt: HostRuntime) -> Result<(), Fail> {
         let mut paper = Paper::sound(a, 2);
         paper.fails = fails;
         paper.kind = ErrorKind::Interrupted;
-        let device = Device::sound(b"", usize::MAX);
-        let mut over = connection(a, device, paper, Protocol::V2, None)?;
+        let mut over = silent(a, paper)?;
         over.request(&[Message::Line(b"abc"), Message::Flush])?;
         assert_eq!(rt; over.writer().bytes.as_slice(), b"0008abc\n0000".as_slice());
     }
-    let device = Device::sound(b"", usize::MAX);
-    let mut over = connection(a, device, Paper::sound(a, 0), Protocol::V2, None)?;
-    assert!(rt;
-        matches!(
-            over.request(&[Message::Flush]),
-            Err(Error::Io(ErrorKind::WriteZero))
-        )
-    );
+    Ok(())
+}
+
+#[test]
+fn tells_of_a_write_that_takes_nothing(rt: HostRuntime) -> Result<(), Fail> {
+    let a = rt.alloc();
+    let mut over = silent(a, Paper::sound(a, 0))?;
+    assert!(rt; fails_with(over.request(&[Message::Flush]), ErrorKind::WriteZero));
+    Ok(())
+}
+
+#[test]
+fn tells_of_a_flush_that_fails(rt: HostRuntime) -> Result<(), Fail> {
+    let a = rt.alloc();
     let mut paper = Paper::sound(a, usize::MAX);
     paper.flushes = false;
-    let device = Device::sound(b"", usize::MAX);
-    let mut over = connection(a, device, paper, Protocol::V2, None)?;
-    assert!(rt;
-        matches!(
-            over.request(&[Message::Flush]),
-            Err(Error::Io(ErrorKind::Other))
-        )
-    );
+    let mut over = silent(a, paper)?;
+    assert!(rt; fails_with(over.request(&[Message::Flush]), ErrorKind::Other));
     Ok(())
+}
+
+// An answer of two parts, a failure, and an answer of one line.
+fn three_bodies(alloc: Global) -> Result<Bodies, AllocError> {
+    let answers = [
+        Ok(b"0006a\n0006b\n00000006c\n".as_slice()),
+        Err(ErrorKind::TimedOut),
+        Ok(b"0006d\n0000"),
+    ];
+    bodies(alloc, &answers, Vec::new(alloc))
+}
+
+#[test]
+fn tells_of_bodies(rt: HostRuntime) -> Result<(), Fail> {
+    let memory = three_bodies(rt.alloc())?;
+    assert!(rt; !memory.connection_persists_across_multiple_requests());
+    assert_eq!(rt; memory.to_url().as_bytes(), b"mem:".as_slice());
+    assert_eq!(rt; memory.supported_protocol_versions().len(), 0);
+    Ok(())
+}
+
+// What a request of one message returns, and so many calls for lines behind it.
+fn asked(
+    alloc: Global,
+    memory: &mut Bodies,
+    message: Message<'_>,
+    calls: usize,
+) -> Result<String, AllocError> {
+    let answer = memory.request(&[message]);
+    let lines = read_all(alloc, memory, calls)?;
+    format!(in alloc; "{answer:?} {lines}")
+}
+
+// What each call of a client returns that sends four requests. What it writes before the second one is dropped.
+fn told_of_requests(alloc: Global, memory: &mut Bodies) -> Result<String, Fail> {
+    let mut told = read_all(alloc, memory, 2)?;
+    told.push_str(asked(alloc, memory, Message::Flush, 1)?.as_str())?;
+    memory.write_text(b"dropped")?;
+    for (message, calls) in [
+        (Message::Line(b"x"), 1),
+        (Message::Flush, 3),
+        (Message::Flush, 2),
+    ] {
+        told.push_str(asked(alloc, memory, message, calls)?.as_str())?;
+    }
+    Ok(told)
 }
 
 #[test]
 fn takes_a_body_for_each_request(rt: HostRuntime) -> Result<(), Fail> {
     let a = rt.alloc();
-    let mut list = Vec::new(a);
-    list.push(Body::Bytes(b"0006a\n0006b\n00000006c\n".to_vec(a)?))?;
-    list.push(Body::Fail(ErrorKind::TimedOut))?;
-    list.push(Body::Bytes(b"0006d\n0000".to_vec(a)?))?;
-    let mut memory = Bodies::new(a, list, text(a, b"mem:")?, Vec::new(a))?;
-    assert!(rt; !memory.connection_persists_across_multiple_requests());
-    assert_eq!(rt; memory.to_url().as_bytes(), b"mem:".as_slice());
-    assert_eq!(rt; memory.supported_protocol_versions().len(), 0);
+    let mut memory = three_bodies(a)?;
     assert_eq!(rt;
-        read_all(a, &mut memory, 2)?.as_str(),
-        "Io(UnexpectedEof) Io(UnexpectedEof) "
+        told_of_requests(a, &mut memory)?.as_str(),
+        "Io(UnexpectedEof) Io(UnexpectedEof) \
+        Ok(()) 2 \
+        Err(Io(TimedOut)) Io(UnexpectedEof) \
+        Ok(()) 2 | | \
+        Ok(()) Io(UnexpectedEof) Io(UnexpectedEof) "
     );
-    memory.request(&[Message::Flush])?;
-    assert_eq!(rt; read_all(a, &mut memory, 1)?.as_str(), "2 ");
-    memory.write_text(b"dropped")?;
-    let failed = memory.request(&[Message::Line(b"x")]);
-    assert!(rt; matches!(failed, Err(Error::Io(ErrorKind::TimedOut))));
     let second = memory.sent().get(1);
     assert!(rt; second.is_some_and(|request| request.as_slice() == b"0006x\n".as_slice()));
-    assert_eq!(rt; read_all(a, &mut memory, 1)?.as_str(), "Io(UnexpectedEof) ");
-    memory.request(&[Message::Flush])?;
-    assert_eq!(rt; read_all(a, &mut memory, 3)?.as_str(), "2 | | ");
-    memory.request(&[Message::Flush])?;
-    assert_eq!(rt;
-        read_all(a, &mut memory, 2)?.as_str(),
-        "Io(UnexpectedEof) Io(UnexpectedEof) "
-    );
     assert_eq!(rt; memory.sent().len(), 4);
+    Ok(())
+}
+
+fn account(alloc: Global, username: &str, password: &str) -> Result<Account, AllocError> {
+    Ok(Account {
+        username: String::from_str(alloc, username)?,
+        password: String::from_str(alloc, password)?,
+    })
+}
+
+fn give_account(alloc: Global, memory: &mut Bodies) -> Result<(), Fail> {
+    memory.set_identity(account(alloc, "me", "secret")?)?;
     Ok(())
 }
 
 #[test]
 fn takes_a_body_for_each_handshake(rt: HostRuntime) -> Result<(), Fail> {
     let a = rt.alloc();
-    let mut list = Vec::new(a);
-    list.push(Body::Fail(ErrorKind::PermissionDenied))?;
-    list.push(Body::Bytes(b"000eversion 2\n0000".to_vec(a)?))?;
-    let mut memory = Bodies::new(a, list, text(a, b"mem:")?, Vec::new(a))?;
+    let answers = [
+        Err(ErrorKind::PermissionDenied),
+        Ok(b"000eversion 2\n0000".as_slice()),
+    ];
+    let mut memory = bodies(a, &answers, Vec::new(a))?;
     assert_eq!(rt; greeted(a, &mut memory)?.as_str(), "Io(PermissionDenied)");
     assert!(rt; memory.identity().is_none());
-    memory.set_identity(Account {
-        username: String::from_str(a, "me")?,
-        password: String::from_str(a, "secret")?,
-    })?;
-    assert!(rt;
-        memory
-            .identity()
-            .is_some_and(|account| account.username.as_str() == "me")
-    );
+    give_account(a, &mut memory)?;
+    let identity = memory.identity();
+    assert!(rt; identity.is_some_and(|account| account.username.as_str() == "me"));
     assert_eq!(rt; greeted(a, &mut memory)?.as_str(), "V2 0 false |");
     assert_eq!(rt; memory.sent().len(), 0);
-    let device = Device::sound(b"", usize::MAX);
-    let mut over = connection(a, device, Paper::sound(a, usize::MAX), Protocol::V2, None)?;
-    let refused = over.set_identity(Account {
-        username: String::new(a),
-        password: String::new(a),
-    });
+    Ok(())
+}
+
+#[test]
+fn takes_no_account_for_a_connection(rt: HostRuntime) -> Result<(), Fail> {
+    let a = rt.alloc();
+    let nobody = account(a, "", "")?;
+    let mut over = silent(a, Paper::sound(a, usize::MAX))?;
+    let refused = over.set_identity(nobody);
     assert!(rt; matches!(refused, Err(Error::AuthenticationUnsupported)));
+    Ok(())
+}
+
+#[test]
+fn tells_of_a_connection(rt: HostRuntime) -> Result<(), Fail> {
+    let a = rt.alloc();
+    let over = silent(a, Paper::sound(a, usize::MAX))?;
     assert!(rt; over.connection_persists_across_multiple_requests());
     assert_eq!(rt; over.to_url().as_bytes(), b"git://h/p.git".as_slice());
     assert!(rt; over.supported_protocol_versions().is_empty());
@@ -221,13 +302,32 @@ fn ask<T: Transport>(alloc: Global, transport: &mut T, command: &str) -> Result<
 #[test]
 fn asks_over_any_transport(rt: HostRuntime) -> Result<(), Fail> {
     let a = rt.alloc();
-    let mut memory = bodies(a, &[b"0006a\n0000", b"0000"])?;
+    let accepted = Vec::from_slice(a, &[Protocol::V2])?;
+    let mut memory = bodies(a, &[Ok(b"0006a\n0000"), Ok(b"0000")], accepted)?;
     assert!(rt; ask(a, &mut memory, "x")? && !ask(a, &mut memory, "y")?);
+    Ok(())
+}
+
+// Whether a first command has a line for its answer, what stands behind that line, and whether a second command has
+// one.
+fn asked_twice<T: Transport>(
+    alloc: Global,
+    transport: &mut T,
+) -> Result<(bool, String, bool), Fail> {
+    let first = ask(alloc, transport, "x")?;
+    let behind = read_all(alloc, transport, 1)?;
+    let second = ask(alloc, transport, "y")?;
+    Ok((first, behind, second))
+}
+
+#[test]
+fn asks_over_a_connection(rt: HostRuntime) -> Result<(), Fail> {
+    let a = rt.alloc();
     let device = Device::sound(b"0006a\n00000000", usize::MAX);
-    let mut over = connection(a, device, Paper::sound(a, usize::MAX), Protocol::V2, None)?;
-    assert!(rt; ask(a, &mut over, "x")?);
-    assert_eq!(rt; read_all(a, &mut over, 1)?.as_str(), "| ");
-    assert!(rt; !ask(a, &mut over, "y")?);
+    let mut over = connection(a, device, Paper::sound(a, usize::MAX), Protocol::V2)?;
+    let (first, behind, second) = asked_twice(a, &mut over)?;
+    assert!(rt; first && !second);
+    assert_eq!(rt; behind.as_str(), "| ");
     assert_eq!(rt;
         over.writer().bytes.as_slice(),
         b"000ecommand=x\n0000000ecommand=y\n0000".as_slice()
@@ -239,15 +339,20 @@ const ADVERTISEMENT: &[u8] = b"000eversion 1\n\
     0058abcdefabcdefabcdefabcdefabcdefabcdefabcd HEAD\0thin-pack symref=HEAD:refs/heads/main\n\
     003dabcdefabcdefabcdefabcdefabcdefabcdefabcd refs/heads/main\n0000";
 
+// What is told of an advertisement of which the read with this number fails.
+fn greeted_over_failing(alloc: Global, fails: usize) -> Result<String, AllocError> {
+    let mut device = Device::sound(ADVERTISEMENT, 11);
+    device.fails = fails;
+    device.kind = ErrorKind::TimedOut;
+    let paper = Paper::sound(alloc, usize::MAX);
+    let mut over = connection(alloc, device, paper, Protocol::V1)?;
+    greeted(alloc, &mut over)
+}
+
 #[test]
 fn tells_of_each_read_that_fails(rt: HostRuntime) -> Result<(), Fail> {
-    let a = rt.alloc();
     for fails in 0..ADVERTISEMENT.len().div_ceil(11) {
-        let mut device = Device::sound(ADVERTISEMENT, 11);
-        device.fails = fails;
-        device.kind = ErrorKind::TimedOut;
-        let mut over = connection(a, device, Paper::sound(a, usize::MAX), Protocol::V1, None)?;
-        let got = greeted(a, &mut over)?;
+        let got = greeted_over_failing(rt.alloc(), fails)?;
         assert!(rt; got.as_str().ends_with("Io(TimedOut)"), "{got} at {fails}");
     }
     Ok(())
