@@ -26,15 +26,23 @@ fn three(alloc: Global, time_of_b: i64) -> Result<BTreeMap<ObjectId, CommitData>
     Ok(commits)
 }
 
+/// Which of the three are complete behind a walk from A, and whether C is held.
+fn marked(alloc: Global, time_of_b: i64, cutoff: i64) -> Result<[bool; 4], ObjectError> {
+    let mut graph = Graph::new(alloc, never_failing(three(alloc, time_of_b)?));
+    graph.mark_complete(&[id(1)], Some(cutoff))?;
+    Ok([
+        is_complete(&graph, 1),
+        is_complete(&graph, 2),
+        is_complete(&graph, 3),
+        graph.get(&id(3)).is_some(),
+    ])
+}
+
 #[test]
 fn clocks_that_run_backwards(rt: HostRuntime) -> Result<(), Fail> {
-    let alloc = rt.alloc();
     for (time_of_b, cutoff, all) in [(5, 8, false), (5, 5, true), (-1, 0, false)] {
-        let mut graph = Graph::new(alloc, never_failing(three(alloc, time_of_b)?));
-        graph.mark_complete(&[id(1)], Some(cutoff))?;
-        assert!(rt; is_complete(&graph, 1) && is_complete(&graph, 2));
-        assert_eq!(rt; is_complete(&graph, 3), all, "cutoff {cutoff}");
-        assert_eq!(rt; graph.get(&id(3)).is_some(), all, "cutoff {cutoff}");
+        let found = marked(rt.alloc(), time_of_b, cutoff)?;
+        assert_eq!(rt; found, [true, true, all, all], "cutoff {cutoff}");
     }
     Ok(())
 }
@@ -146,28 +154,38 @@ fn as_the_slow_program(rt: HostRuntime) -> Result<(), Fail> {
     Ok(())
 }
 
+/// What a walk from A and from a commit that isn't there returns whose look of this number fails, and which of the
+/// three are complete behind it.
+fn marked_by(
+    alloc: Global,
+    looks: u64,
+) -> Result<(Result<(), ObjectError>, [bool; 3]), AllocError> {
+    let repository = Repository {
+        commits: three(alloc, 5)?,
+        looks,
+        failures: 0,
+    };
+    let mut graph = Graph::new(alloc, repository);
+    let marked = graph.mark_complete(&[id(1), id(9)], Some(5));
+    let complete = [
+        is_complete(&graph, 1),
+        is_complete(&graph, 2),
+        is_complete(&graph, 3),
+    ];
+    Ok((marked, complete))
+}
+
 #[test]
 fn each_look_fails_in_turn(rt: HostRuntime) -> Result<(), Fail> {
-    let alloc = rt.alloc();
-    let refusal = Err(ObjectError::Io(io::ErrorKind::Other));
     for looks in 0..5 {
-        let mut graph = Graph::new(
-            alloc,
-            Repository {
-                commits: three(alloc, 5)?,
-                looks,
-                failures: 0,
-            },
-        );
-        let answer = graph.mark_complete(&[id(1), id(9)], Some(5));
-        if looks < 4 {
-            assert_eq!(rt; answer, refusal);
+        let (marked, complete) = marked_by(rt.alloc(), looks)?;
+        let want = if looks < 4 {
+            Err(ObjectError::Io(io::ErrorKind::Other))
         } else {
-            assert_eq!(rt; answer, Ok(()));
-        }
-        assert_eq!(rt; is_complete(&graph, 1), looks > 0);
-        assert_eq!(rt; is_complete(&graph, 2), looks > 2);
-        assert_eq!(rt; is_complete(&graph, 3), looks > 3);
+            Ok(())
+        };
+        assert!(rt; marked == want);
+        assert_eq!(rt; complete, [looks > 0, looks > 2, looks > 3]);
     }
     Ok(())
 }
