@@ -1,1 +1,1 @@
-mod ListLemmas
+mod WordRows

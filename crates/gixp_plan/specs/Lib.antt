@@ -1,3 +1,1 @@
-pub mod ErrorName
-pub mod List
 pub mod Words

@@ -2,19 +2,13 @@
 //! prints what a client would send to a server and what it would map.
 #![tactic(auto)]
 
-mod list;
-mod print;
-mod recording;
-#[cfg(test)]
-mod tests;
 mod words;
 
-use crate::recording::{read_bodies, read_haves};
 use crate::words::{file_of, session_of};
 use bstr::BString;
 use gix_protocol::fetch::negotiate::{Graph, HaveList, NoObjects, Objects};
-pub use gixp_planner::{PlanError, parse_haves, plan};
-pub use list::{ListError, list_refs};
+use gixp_listing::list_refs;
+use gixp_planner::{PlanError, plan, read_bodies, read_haves};
 use std::alloc::Global;
 use std::fs::File;
 use std::io::{BufWriter, ErrorKind};

@@ -7,9 +7,11 @@ pub mod laws;
 mod names;
 mod planning;
 mod print;
+mod recording;
 mod refspecs;
 mod session;
 
 pub use error::PlanError;
 pub use haves::parse_haves;
 pub use planning::plan;
+pub use recording::{read_bodies, read_haves};

@@ -2,16 +2,16 @@
 use Rattle.std.proofs.Common.{◌≡◌, ℕ, Bool, inl, inr, true, false, cond, List, [], ◌∷◌, ◌++◌, Option, Some, None, IfSome, refl, sym, ap, subst, ◌∙◌, append_assoc, append-nil, flat_map, Result, Ok, Err}
 use Rattle.std.proofs.lemmas.Bool.{true≢false}
 use Rattle.std.proofs.lemmas.Grind.{flat_map-append}
-use Rattle.gix_protocol.specs.Items.{is_stop}
-use Rattle.gix_protocol.specs.Lines.{gives, stops, refuses, next_from, next_of, Lines, lines_from, lines_of, lines_to, stop}
-use Rattle.gix_protocol.specs.Pieces.{Refusal, Piece, line, mark, Pieces, io, decode, server, unexpected_frame, not_utf8, bad_band, interrupted, memory}
-use Rattle.gix_protocol.specs.Reading.{Reading, TakesLine, IsOutside, IsPlain, Rose, lines_ahead, lines_from_stop}
-use Rattle.gix_protocol.specs.RefLine.{RefsRefusal, refusal_from}
-use Rattle.gix_protocol.specs.Ref.{RefValue}
-use Rattle.gix_protocol.specs.ParseError.{parse_refusal, is_outside}
-use Rattle.gix_protocol.specs.RefsError.{Error}
-use Rattle.gix_protocol.specs.Refs.{with_ref, v2_refs, ReadsRefs, RefsFail}
-use Rattle.gixp_plan.specs.List.{ref_line, Prints, behind_stop, StopsBehind, PrintsAhead, is_device, RefusesAhead}
+use Rattle.gixp_wire.specs.Items.{is_stop}
+use Rattle.gixp_wire.specs.Lines.{gives, stops, refuses, next_from, next_of, Lines, lines_from, lines_of, lines_to, stop}
+use Rattle.gixp_wire.specs.Pieces.{Refusal, Piece, line, mark, Pieces, io, decode, server, unexpected_frame, not_utf8, bad_band, interrupted, memory}
+use Rattle.gixp_wire.specs.Reading.{Reading, TakesLine, IsOutside, IsPlain, Rose, lines_ahead, lines_from_stop}
+use Rattle.gixp_lines.specs.RefLine.{RefsRefusal, refusal_from}
+use Rattle.gixp_lines.specs.Ref.{RefValue}
+use Rattle.gixp_lines.specs.ParseError.{parse_refusal, is_outside}
+use Rattle.gixp_lines.specs.declared.handshake.refs.parse.Error.{Error}
+use Rattle.gixp_lines.specs.Refs.{with_ref, v2_refs, ReadsRefs, RefsFail}
+use Rattle.gixp_listing.specs.List.{ref_line, Prints, behind_stop, StopsBehind, PrintsAhead, is_device, RefusesAhead}
 
 -- these values in front of those to come
 abbrev in_front : List RefValue → Result (List RefValue) RefsRefusal → Result (List RefValue) RefsRefusal

@@ -1,14 +1,14 @@
 //! Listing the refs of a recorded `ls-refs` answer.
 ghost use Rattle.std.specs.Prelude.{◌≡◌, OnOk, IfErr, IfSome, MatchResult};
 ghost use Rattle.std.specs.Io.KnownBytes.{Appends, Keeps};
-ghost use Rattle.gix_protocol.specs.Refs.{stream_refs};
-ghost use Rattle.gix_protocol.specs.ParseError.{parse_refusal};
-ghost use Rattle.gixp_plan.specs.ErrorName.{error_name, list_error_name};
-ghost use Rattle.gixp_plan.specs.List.{Prints, PrintsAhead, RefusesAhead, ListsAhead, RefusesLines, RefusesList, IsParse};
+ghost use Rattle.gixp_lines.specs.Refs.{stream_refs};
+ghost use Rattle.gixp_lines.specs.ParseError.{parse_refusal};
+ghost use Rattle.gixp_listing.specs.ErrorName.{error_name, list_error_name};
+ghost use Rattle.gixp_listing.specs.List.{Prints, PrintsAhead, RefusesAhead, ListsAhead, RefusesLines, RefusesList, IsParse};
 
 use crate::print::print_ref;
-use gix_protocol::handshake::refs::{next_v2_ref, parse};
-use gix_protocol::transport::{ExtendedBufRead, LineReader};
+use gixp_lines::handshake::refs::{next_v2_ref, parse};
+use gixp_wire::{ExtendedBufRead, LineReader};
 use std::alloc::{AllocError, Global};
 use std::io;
 use std::io::{ErrorKind, Read, Write};

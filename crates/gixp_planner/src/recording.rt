@@ -1,6 +1,7 @@
 //! A recorded session in a folder: what a server sent, and the haves to offer.
+use crate::error::PlanError;
+use crate::haves::parse_haves;
 use gix_protocol::transport::{Body, ObjectId};
-use gixp_planner::{PlanError, parse_haves};
 use std::alloc::Global;
 use std::io::ErrorKind;
 use std::{fs, io};
@@ -8,15 +9,8 @@ use std::{fs, io};
 // A file that can't be read.
 fn unread(e: &io::Error) -> PlanError {
     match e.kind() {
-        ErrorKind::OutOfMemory => refused("Memory"),
-        _ => refused("Io"),
-    }
-}
-
-fn refused(variant: &'static str) -> PlanError {
-    PlanError {
-        step: "file",
-        variant,
+        ErrorKind::OutOfMemory => PlanError::memory("file"),
+        _ => PlanError::new("file", "Io"),
     }
 }
 
@@ -35,7 +29,7 @@ fn read_file(rt: &HostRuntime, path: &str) -> Result<Option<Vec<u8>>, PlanError>
 fn path_of(alloc: Global, folder: &str, name: &str) -> Result<String, PlanError> {
     match format!(in alloc; "{folder}/{name}") {
         Ok(path) => Ok(path),
-        Err(_) => Err(refused("Memory")),
+        Err(_) => Err(PlanError::memory("file")),
     }
 }
 
@@ -43,12 +37,12 @@ fn path_of(alloc: Global, folder: &str, name: &str) -> Result<String, PlanError>
 fn body_path(alloc: Global, folder: &str, number: u64) -> Result<String, PlanError> {
     match number.to_string(alloc) {
         Ok(name) => path_of(alloc, folder, name.as_str()),
-        Err(_) => Err(refused("Memory")),
+        Err(_) => Err(PlanError::memory("file")),
     }
 }
 
 /// The bodies of a folder: the files `0`, `1`, `2` and so on, up to the first that isn't there.
-pub(crate) fn read_bodies(rt: &HostRuntime, folder: &str) -> Result<Vec<Body>, PlanError> {
+pub fn read_bodies(rt: &HostRuntime, folder: &str) -> Result<Vec<Body>, PlanError> {
     let mut bodies = Vec::new(rt.alloc());
     for number in 0..u64::MAX {
         let path = body_path(rt.alloc(), folder, number)?;
@@ -56,14 +50,14 @@ pub(crate) fn read_bodies(rt: &HostRuntime, folder: &str) -> Result<Vec<Body>, P
             break;
         };
         if bodies.push(Body::Bytes(bytes)).is_err() {
-            return Err(refused("Memory"));
+            return Err(PlanError::memory("file"));
         }
     }
     Ok(bodies)
 }
 
 /// The ids of the folder's file `haves`, none where it isn't there.
-pub(crate) fn read_haves(rt: &HostRuntime, folder: &str) -> Result<Vec<ObjectId>, PlanError> {
+pub fn read_haves(rt: &HostRuntime, folder: &str) -> Result<Vec<ObjectId>, PlanError> {
     let path = path_of(rt.alloc(), folder, "haves")?;
     match read_file(rt, path.as_str())? {
         Some(text) => parse_haves(rt.alloc(), &text),

@@ -1,100 +1,11 @@
-//! Listed answers: rows with known lines, answers of real servers beside what git prints of them,
-//! and devices that fail or give less than was asked for.
-use crate::recording::{read_bodies, read_haves};
-use crate::words::{file_of, session_of};
-use crate::{ListError, PlanError, list_refs, parse_haves};
-use gix_protocol::handshake::refs::parse;
-use std::alloc::{AllocError, Global};
-use std::io;
-use std::io::{ErrorKind, Read, Write};
+//! Listed answers: rows with known lines, answers of real servers beside what git prints of them, and devices that fail or
+//! give less than was asked for.
+use crate::memory::{Sink, Source, collecting, listed, steady, unless_memory};
+use crate::recorded;
+use gixp_listing::{ListError, list_refs};
+use std::alloc::Global;
+use std::io::ErrorKind;
 use std::test::Fail;
-
-mod devices;
-mod recorded;
-
-// Bytes of which each read gives at most `step`. The read of number `fails` fails with `kind`.
-#[derive(Drop)]
-struct Source<'a> {
-    bytes: &'a [u8],
-    step: usize,
-    fails: usize,
-    kind: ErrorKind,
-}
-
-impl Read for Source<'_> {
-    fn read(&mut self, buf: &mut [u8]) -> io::Result<usize> {
-        if self.fails == 0 {
-            return Err(io::Error::from(self.kind));
-        }
-        self.fails -= 1;
-        let amount = self.step.min(self.bytes.len()).min(buf.len());
-        let (front, rest) = self.bytes.split_at(amount);
-        buf[..amount].copy_from_slice(front);
-        self.bytes = rest;
-        Ok(amount)
-    }
-}
-
-// Keeps what is written, at most `step` bytes a write. The write of number `fails` fails.
-#[derive(Drop)]
-struct Sink {
-    text: Vec<u8>,
-    step: usize,
-    fails: usize,
-}
-
-impl Write for Sink {
-    fn write(&mut self, buf: &[u8]) -> io::Result<usize> {
-        if self.fails == 0 {
-            return Err(io::Error::from(ErrorKind::BrokenPipe));
-        }
-        self.fails -= 1;
-        let amount = self.step.min(buf.len());
-        self.text.extend_from_slice(&buf[..amount])?;
-        Ok(amount)
-    }
-
-    fn flush(&mut self) -> io::Result<()> {
-        Ok(())
-    }
-}
-
-fn steady(bytes: &[u8], step: usize) -> Source<'_> {
-    Source {
-        bytes,
-        step,
-        fails: usize::MAX,
-        kind: ErrorKind::Other,
-    }
-}
-
-fn collecting(alloc: Global) -> Sink {
-    Sink {
-        text: Vec::new(alloc),
-        step: usize::MAX,
-        fails: usize::MAX,
-    }
-}
-
-// What was written, and the name of a refusal behind it.
-fn listed(alloc: Global, mut from: Source<'_>, mut to: Sink) -> Result<Vec<u8>, Fail> {
-    match list_refs(alloc, &mut from, &mut to) {
-        Ok(()) => {}
-        // The sink could not allocate.
-        Err(ListError::Io(ErrorKind::OutOfMemory)) => return Err(Fail::from(AllocError)),
-        Err(e) => to.text.extend_from_slice(e.variant().as_bytes())?,
-    }
-    Ok(to.text)
-}
-
-// The answer, unless an allocation failed.
-fn unless_memory(answer: Result<(), ListError>) -> Result<Result<(), ListError>, Fail> {
-    match answer {
-        Err(ListError::Parse(parse::Error::Memory)) => Err(Fail::from(AllocError)),
-        Err(ListError::Io(ErrorKind::OutOfMemory)) => Err(Fail::from(AllocError)),
-        answer => Ok(answer),
-    }
-}
 
 // `$`, `%` and `&` of a row stand for three ids.
 fn spelled(alloc: Global, row: &str) -> Result<String, Fail> {
@@ -301,74 +212,9 @@ fn tells_of_devices_that_fail(rt: HostRuntime) -> Result<(), Fail> {
 }
 
 #[test]
-fn takes_refs_and_a_file(rt: HostRuntime) -> Result<(), Fail> {
-    let a = rt.alloc();
-    for (line, file, session) in [
-        ("gixp_plan refs x y", None, None),
-        ("gixp_plan refs x", Some("x"), None),
-        ("gixp_plan refs", None, None),
-        ("gixp_plan plan", None, None),
-        ("gixp_plan plan x", None, None),
-        ("gixp_plan plan x y", None, Some(("x", 1))),
-        ("gixp_plan plan x y  z", None, Some(("x", 3))),
-        ("gixp_plan Refs x", None, None),
-        ("gixp_plan Plan x y", None, None),
-        ("gixp_plan", None, None),
-    ] {
-        let mut words = Vec::new(a);
-        for word in line.split(' ') {
-            words.push(String::from_str(a, word)?)?;
-        }
-        assert_eq!(rt; file_of(words.as_slice()), file, "of {line}");
-        let found = match session_of(words.as_slice()) {
-            Some((folder, specs)) => Some((folder, specs.len())),
-            None => None,
-        };
-        assert_eq!(rt; found, session, "of {line}");
-    }
-    Ok(())
-}
-
-// How many were read, or the refusal, unless an allocation failed.
-fn counted<T>(answer: &Result<Vec<T>, PlanError>) -> Result<Result<usize, PlanError>, Fail> {
-    match answer {
-        Ok(found) => Ok(Ok(found.len())),
-        Err(e) if e.variant == "Memory" => Err(Fail::from(AllocError)),
-        Err(e) => Ok(Err(*e)),
-    }
-}
-
-// A file that isn't there ends the bodies, or leaves no haves. One that can't be read is refused: no path has a NUL.
-#[test]
-fn reads_a_folder_up_to_what_is_missing(rt: HostRuntime) -> Result<(), Fail> {
-    let refused = PlanError {
-        step: "file",
-        variant: "Io",
-    };
-    for (folder, want) in [("no such folder", Ok(0)), ("\0", Err(refused))] {
-        let bodies = read_bodies(&rt, folder);
-        assert_eq!(rt; counted(&bodies)?, want, "bodies of {folder}");
-        let haves = read_haves(&rt, folder);
-        assert_eq!(rt; counted(&haves)?, want, "haves of {folder}");
-    }
-    Ok(())
-}
-
-#[test]
-fn tells_the_step_and_the_variant(rt: HostRuntime) -> Result<(), Fail> {
-    let a = rt.alloc();
-    let haves = parse_haves(a, b"no id\n");
-    match counted(&haves)? {
-        Ok(count) => assert_eq!(rt; count, usize::MAX, "it is no id"),
-        Err(e) => assert_eq!(rt; format!(in a; "{e}")?.as_str(), "have Decode"),
-    }
-    Ok(())
-}
-
-#[test]
 fn names_each_refusal(rt: HostRuntime) -> Result<(), Fail> {
-    use gix_protocol::handshake::refs::parse::{Error, Invariant};
-    use gix_protocol::transport::PacketError;
+    use gixp_lines::handshake::refs::parse::{Error, Invariant};
+    use gixp_wire::PacketError;
     let a = rt.alloc();
     for (error, text, variant) in [
         (ListError::Io(ErrorKind::Other), "Io", "Io"),

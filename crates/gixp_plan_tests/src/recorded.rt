@@ -2,7 +2,7 @@
 //! `git ls-remote --symref` printed of the same repository; and one of a namespace whose `HEAD` points
 //! outside it.
 
-pub(super) const PLAIN: (&[u8], &[u8]) = (
+pub(crate) const PLAIN: (&[u8], &[u8]) = (
     b"00507257effbd41e1233eaae5744e614c5c728e3c979 HEAD symref-target:refs/heads/main\n\
     003d7257effbd41e1233eaae5744e614c5c728e3c979 refs/heads/main\n\
     0000",
@@ -11,7 +11,7 @@ pub(super) const PLAIN: (&[u8], &[u8]) = (
     7257effbd41e1233eaae5744e614c5c728e3c979\trefs/heads/main\n",
 );
 
-pub(super) const TAGGED: (&[u8], &[u8]) = (
+pub(crate) const TAGGED: (&[u8], &[u8]) = (
     b"00507257effbd41e1233eaae5744e614c5c728e3c979 HEAD symref-target:refs/heads/main\n\
     004231466deb7450b8bb34a4f02f598e41e4e0f2408d refs/heads/feature/x\n\
     00407257effbd41e1233eaae5744e614c5c728e3c979 refs/heads/latin-\xe9\n\
@@ -43,13 +43,13 @@ pub(super) const TAGGED: (&[u8], &[u8]) = (
     7257effbd41e1233eaae5744e614c5c728e3c979\trefs/tags/v1.nested^{}\n",
 );
 
-pub(super) const UNBORN: (&[u8], &[u8]) = (
+pub(crate) const UNBORN: (&[u8], &[u8]) = (
     b"002funborn HEAD symref-target:refs/heads/trunk\n\
     0000",
     b"",
 );
 
-pub(super) const DETACHED: (&[u8], &[u8]) = (
+pub(crate) const DETACHED: (&[u8], &[u8]) = (
     b"003231466deb7450b8bb34a4f02f598e41e4e0f2408d HEAD\n\
     003d7257effbd41e1233eaae5744e614c5c728e3c979 refs/heads/main\n\
     0000",
@@ -57,7 +57,7 @@ pub(super) const DETACHED: (&[u8], &[u8]) = (
     7257effbd41e1233eaae5744e614c5c728e3c979\trefs/heads/main\n",
 );
 
-pub(super) const SHALLOW: (&[u8], &[u8]) = (
+pub(crate) const SHALLOW: (&[u8], &[u8]) = (
     b"00507257effbd41e1233eaae5744e614c5c728e3c979 HEAD symref-target:refs/heads/main\n\
     003d7257effbd41e1233eaae5744e614c5c728e3c979 refs/heads/main\n\
     006d7257effbd41e1233eaae5744e614c5c728e3c979 refs/remotes/origin/HEAD symref-target:refs/remotes/origin/main\n\
@@ -71,7 +71,7 @@ pub(super) const SHALLOW: (&[u8], &[u8]) = (
     7257effbd41e1233eaae5744e614c5c728e3c979\trefs/remotes/origin/main\n",
 );
 
-pub(super) const SPACED: &[u8] =
+pub(crate) const SPACED: &[u8] =
     b"00477257effbd41e1233eaae5744e614c5c728e3c979 HEAD symref-target:(null)\n\
     00477257effbd41e1233eaae5744e614c5c728e3c979 HEAD symref-target:(null)\n\
     003d7257effbd41e1233eaae5744e614c5c728e3c979 refs/heads/main\n\

@@ -1,17 +1,17 @@
 -- How the refs of an `ls-refs` answer are listed.
 use Rattle.std.specs.Prelude.{◌≡◌, ℕ, ◌⊎◌, ⊤, Bool, true, false, List, [], ◌∷◌, flat_map, codes, Option, Some, None, IfSome, IsSome, Result, Ok, Err, IsOk}
 use Rattle.std.specs.Io.KnownBytes.{Appends}
-use Rattle.gix_protocol.specs.Hex.{encode_lower}
-use Rattle.gix_protocol.specs.Ref.{RefValue, peeled, direct, symbolic, unborn}
-use Rattle.gix_protocol.specs.RefLine.{RefsRefusal, io_failed, refusal_from, v2_line}
-use Rattle.gix_protocol.specs.ParseError.{parse_refusal, IsRefusal, IsFromOutside}
-use Rattle.gix_protocol.specs.Pieces.{Refusal, Pieces}
-use Rattle.gix_protocol.specs.Lines.{Ending, stop, refusal}
-use Rattle.gix_protocol.specs.Reading.{Reading, Rose, lines_ahead}
-use Rattle.gix_protocol.specs.Refs.{v2_refs, stream_refs}
-use Rattle.gix_protocol.specs.RefsError.{Error}
-use Rattle.gixp_plan.specs.declared.list.ListError.{ListError}
-use Rattle.gixp_plan.specs.declared.list.ListError.TheVariants.{Parse, Io}
+use Rattle.gixp_wire.specs.Hex.{encode_lower}
+use Rattle.gixp_lines.specs.Ref.{RefValue, peeled, direct, symbolic, unborn}
+use Rattle.gixp_lines.specs.RefLine.{RefsRefusal, io_failed, refusal_from, v2_line}
+use Rattle.gixp_lines.specs.ParseError.{parse_refusal, IsRefusal, IsFromOutside}
+use Rattle.gixp_wire.specs.Pieces.{Refusal, Pieces}
+use Rattle.gixp_wire.specs.Lines.{Ending, stop, refusal}
+use Rattle.gixp_wire.specs.Reading.{Reading, Rose, lines_ahead}
+use Rattle.gixp_lines.specs.Refs.{v2_refs, stream_refs}
+use Rattle.gixp_lines.specs.declared.handshake.refs.parse.Error.{Error}
+use Rattle.gixp_listing.specs.declared.list.ListError.{ListError}
+use Rattle.gixp_listing.specs.declared.list.ListError.TheVariants.{Parse, Io}
 
 -- texts one behind the other
 abbrev pub joined : List (List ℕ) → List ℕ

@@ -1,5 +1,5 @@
-use Rattle.gixp_plan.proofs.ListLemmas.{Printed}
-use Rattle.gixp_plan.proofs.list.print_refs.Given as goal
+use Rattle.gixp_listing.proofs.ListLemmas.{Printed}
+use Rattle.gixp_listing.proofs.list.print_refs.Given as goal
 
 abbrev pub invariant-loop-text : goal.invariant-loop-text
 invariant-loop-text g l = Printed (g.R.ExtendedBufRead.reading l.fn.lines) (g.R.ExtendedBufRead.reading l.lines) l.text.items

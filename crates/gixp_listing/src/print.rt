@@ -1,11 +1,11 @@
 //! Refs as printed lines.
 ghost use Rattle.std.specs.Prelude.{◌≡◌, ◌++◌, OnOk, flat_map};
-ghost use Rattle.gixp_plan.specs.List.{ref_line, symbolic_line};
-ghost use Rattle.gix_protocol.specs.Ref.{ref_value};
-ghost use Rattle.gix_protocol.specs.ParseError.{object_of};
+ghost use Rattle.gixp_listing.specs.List.{ref_line, symbolic_line};
+ghost use Rattle.gixp_lines.specs.Ref.{ref_value};
+ghost use Rattle.gixp_lines.specs.ParseError.{object_of};
 
-use gix_protocol::handshake::Ref;
-use gix_protocol::transport::ObjectId;
+use gixp_lines::handshake::Ref;
+use gixp_wire::ObjectId;
 use std::alloc::AllocError;
 
 // The pieces, one behind the other.

@@ -1,0 +1,2 @@
+pub mod ErrorName
+pub mod List

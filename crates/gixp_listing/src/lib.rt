@@ -1,0 +1,7 @@
+//! The refs of a recorded `ls-refs` answer, a line each, and the refusal of one by its name.
+#![tactic(auto)]
+
+mod list;
+mod print;
+
+pub use list::{ListError, list_refs};
