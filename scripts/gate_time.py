@@ -3,11 +3,12 @@
 
 Usage: gate_time.py [COMMAND ..]
 
-The command is `rt ci` unless another one is given; it runs at the top of the repository, with its output passed on.
+The command is `rt ci` unless another one is given; it runs at the top of the repository, with its output passed on, and
+its last line below the table.
 Twice a second the processor time of each `rattle` that it started is read from /proc, with that of the processes that
 this one started: a process says its crate by `--crate-name`, and its part by its words and its folder. What is proved
 and built of a crate is `proof`, with `--test` `tests`, and what runs in the folder of an edit is `edits`. All other time
-of the command, as linking and running programs, is in the last line but one. Times are minutes of user and system time.
+of the command, as linking and running programs, stands below the table. Times are minutes of user and system time.
 """
 import os
 import resource
@@ -107,7 +108,8 @@ def row(name, times):
 
 def main(command):
     began, watch = time.monotonic(), Watch()
-    with subprocess.Popen(command or ["rt", "ci"], cwd=TOP) as ran:
+    last = ""
+    with subprocess.Popen(command or ["rt", "ci"], cwd=TOP, stdout=subprocess.PIPE, text=True, errors="replace") as ran:
         over = threading.Event()
 
         def keep_looking():
@@ -116,6 +118,9 @@ def main(command):
 
         looking = threading.Thread(target=keep_looking)
         looking.start()
+        for line in ran.stdout:
+            print(last, end="", flush=True)
+            last = line
         status = ran.wait()
         over.set()
         looking.join()
@@ -133,6 +138,7 @@ def main(command):
     print(row("all crates", [*sums, sum(sums)]))
     print(f"\nAll other time: {(whole - sum(sums)) / 60:.1f} minutes. Processor time of the command: {whole / 60:.1f} minutes; "
           f"wall time: {wall / 60:.1f} minutes on {len(os.sched_getaffinity(0))} processors.")
+    print(last, end="")
     return status
 
 
