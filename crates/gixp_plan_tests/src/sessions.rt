@@ -1,6 +1,7 @@
 //! Recorded sessions that aren't there, or hold no ids.
 use gixp_planner::{PlanError, parse_haves, read_bodies, read_haves};
 use std::alloc::AllocError;
+use std::fs;
 use std::test::Fail;
 
 // How many were read, or the refusal, unless an allocation failed.
@@ -24,6 +25,25 @@ fn reads_a_folder_up_to_what_is_missing(rt: HostRuntime) -> Result<(), Fail> {
         assert_eq!(rt; counted(&bodies)?, want, "bodies of {folder}");
         let haves = read_haves(&rt, folder);
         assert_eq!(rt; counted(&haves)?, want, "haves of {folder}");
+    }
+    Ok(())
+}
+
+#[test]
+fn reads_what_a_folder_has(rt: HostRuntime) -> Result<(), Fail> {
+    for (path, text) in [
+        ("0", "0000"),
+        ("1", ""),
+        ("haves", "0123456789012345678901234567890123456789\n"),
+    ] {
+        fs::write(&rt, path, text)?;
+    }
+    let bodies = read_bodies(&rt, ".");
+    assert_eq!(rt; counted(&bodies)?, Ok(2));
+    let haves = read_haves(&rt, ".");
+    assert_eq!(rt; counted(&haves)?, Ok(1));
+    for path in ["0", "1", "haves"] {
+        fs::remove_file(&rt, path)?;
     }
     Ok(())
 }

@@ -30,6 +30,14 @@ IsMemory step e = refusal_of e ≡ refusal step (codes "Memory")
 abbrev pub IsUnwritten : PlanError → Type 0
 IsUnwritten e = (refusal_of e ≡ refusal (codes "file") (codes "Io")) ⊎ IsMemory (codes "file") e
 
+-- a file can't be read, or an allocation failed for what it holds
+abbrev pub IsUnread : PlanError → Type 0
+IsUnread e = (refusal_of e ≡ refusal (codes "file") (codes "Io")) ⊎ IsMemory (codes "file") e
+
+-- a line is no id, or an allocation failed for the ids
+abbrev pub IsNoHave : PlanError → Type 0
+IsNoHave e = (refusal_of e ≡ refusal (codes "have") (codes "Decode")) ⊎ IsMemory (codes "have") e
+
 -- this text was written, or a write failed
 abbrev pub Writes : Option (List ℕ) → Option (List ℕ) → List ℕ → Result (Unit {0}) PlanError → Type 0
 Writes old new text (Ok x) = Appends old new text
