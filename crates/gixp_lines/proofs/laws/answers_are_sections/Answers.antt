@@ -1,5 +1,0 @@
-use Rattle.gixp_lines.proofs.SectionGrammarLemmas.{sections_found}
-use Rattle.gixp_lines.proofs.laws.answers_are_sections.Goals as goal
-
-pub returns : goal.returns
-returns c = λ p value rest h. sections_found p.list p.end value rest h

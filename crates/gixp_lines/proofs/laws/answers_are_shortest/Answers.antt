@@ -1,5 +1,0 @@
-use Rattle.gixp_lines.proofs.BeginningGrammarLemmas.{shortest_found}
-use Rattle.gixp_lines.proofs.laws.answers_are_shortest.Goals as goal
-
-pub returns : goal.returns
-returns c = λ version a p value rest h. shortest_found version a p value rest h

@@ -1,5 +1,0 @@
-use Rattle.gixp_lines.proofs.RefusedGroupLemmas.{refusal_read}
-use Rattle.gixp_lines.proofs.laws.cut_advertisements_are_refused.Goals as goal
-
-pub returns : goal.returns
-returns c = λ t texts end e h. refusal_read t texts end e h

@@ -1,5 +1,0 @@
-use Rattle.gixp_lines.proofs.RefusedSectionLemmas.{refused_found}
-use Rattle.gixp_lines.proofs.laws.refused_sections_are_cut.Goals as goal
-
-pub returns : goal.returns
-returns c = λ p e h. refused_found p.list p.end e h

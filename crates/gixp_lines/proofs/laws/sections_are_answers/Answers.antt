@@ -1,5 +1,0 @@
-use Rattle.gixp_lines.proofs.SectionGrammarLemmas.{sections_read}
-use Rattle.gixp_lines.proofs.laws.sections_are_answers.Goals as goal
-
-pub returns : goal.returns
-returns c = λ ps end ss last rest h. sections_read ps ss last rest end h

@@ -1,0 +1,74 @@
+-- The groups of lines of a version 0 or 1 advertisement, as a list (gitprotocol-pack, "Reference Discovery").
+use Rattle.std.specs.Prelude.{◌≡◌, ◌⊎◌, ℕ, ⊤, Bool, true, false, List, [], ◌∷◌, ◌++◌, filter, Option, Some, None, Result, Ok, Err}
+use Rattle.gixp_refs.specs.Ref.{RefValue}
+use Rattle.gixp_refs.specs.RefLine.{RefsRefusal}
+use Rattle.gixp_refs.specs.RefAdvertisement.{Symref, V1Line, peels, names, v1_line, Named, single, pair}
+
+-- a ref line alone, or with its peeled line behind it
+pub data Group : Type 0 where
+  alone : Named → Group
+  with_peeled : Named → (left base : List ℕ) → Group
+
+abbrev pub group_lines : Group → List V1Line
+group_lines (alone n) = names n.object n.name ∷ []
+group_lines (with_peeled n left base) = names n.object n.name ∷ peels left base ∷ []
+
+-- the lines of groups, one group behind the other
+abbrev pub lines_in : List Group → List V1Line
+lines_in [] = []
+lines_in (g ∷ gs) = group_lines g ++ lines_in gs
+
+-- the line of the capabilities and shallow updates stand in no group, wherever they come
+abbrev pub is_grouped : V1Line → Bool
+is_grouped (names object name) = true
+is_grouped (peels left base) = true
+is_grouped _ = false
+
+-- each text is read as its line
+abbrev pub AreLines : List (List ℕ) → List V1Line → Type 0
+AreLines [] [] = ⊤
+AreLines [] (l ∷ ls) = ⊥
+AreLines (t ∷ ts) [] = ⊥
+AreLines (t ∷ ts) (l ∷ ls) = (v1_line t ≡ Ok l) × AreLines ts ls
+
+-- the texts are the lines of these groups, and lines that stand in none
+pub record AreGroups (texts : List (List ℕ)) (gs : List Group) : Type 0 where
+  pub lines : List V1Line
+  pub read : AreLines texts lines
+  pub grouped : filter is_grouped lines ≡ lines_in gs
+
+-- the ref of a group, or why it has none
+abbrev pub group_ref : List Symref → Group → Result RefValue RefsRefusal
+group_ref t (alone n) = Ok (single t n)
+group_ref t (with_peeled n left base) = pair t (Some n) left base
+
+-- each group stands for its ref
+abbrev pub AreGroupRefs : List Symref → List Group → List RefValue → Type 0
+AreGroupRefs t [] [] = ⊤
+AreGroupRefs t [] (v ∷ vs) = ⊥
+AreGroupRefs t (g ∷ gs) [] = ⊥
+AreGroupRefs t (g ∷ gs) (v ∷ vs) = (group_ref t g ≡ Ok v) × AreGroupRefs t gs vs
+
+-- the ref line behind which a peeled one may stand: that of the last group, where it is alone
+abbrev pub open_in : List Group → Option Named
+open_in [] = None
+open_in (alone n ∷ []) = Some n
+open_in (with_peeled n left base ∷ []) = None
+open_in (g ∷ h ∷ gs) = open_in (h ∷ gs)
+
+-- what comes next is refused: the end of the lines, a line, or a peeled line that has no ref line before it, or another one's
+abbrev pub NextRefused : List Symref → Option Named → List (List ℕ) → Option RefsRefusal → RefsRefusal → Type 0
+NextRefused t last [] end e = end ≡ Some e
+NextRefused t last (text ∷ texts) end e =
+    (v1_line text ≡ Err e) ⊎ ((left base : List ℕ) × (v1_line text ≡ Ok (peels left base)) × (pair t last left base ≡ Err e))
+
+-- the lines of some groups, each of which stands for a ref, and behind them the first refusal
+pub record AreRefusedBehind (t : List Symref) (texts : List (List ℕ)) (end : Option RefsRefusal) (e : RefsRefusal) : Type 0 where
+  pub taken : List (List ℕ)
+  pub more : List (List ℕ)
+  pub split : texts ≡ taken ++ more
+  pub groups : List Group
+  pub are_groups : AreGroups taken groups
+  pub values : List RefValue
+  pub refs : AreGroupRefs t groups values
+  pub next : NextRefused t (open_in groups) more end e

@@ -1,0 +1,6 @@
+//! What a server of git's fetch protocol says first: from lines to refs.
+#![tactic(auto)]
+
+pub mod handshake;
+pub mod laws;
+mod trim;

@@ -1,0 +1,9 @@
+pub mod RunLemmas
+mod AnswerRunLemmas
+mod SectionLemmas
+mod BeginningLemmas
+mod CommonLemmas
+mod SectionGrammarLemmas
+mod BeginningGrammarLemmas
+mod RefusedBeginningLemmas
+mod RefusedSectionLemmas

@@ -1,0 +1,16 @@
+use Rattle.std.proofs.Common.{◌+◌, ◌*◌, ℕ, Bool, true, false}
+use Rattle.gixp_response.specs.Beginnings.{expected, AreCommon}
+use Rattle.gixp_response.proofs.BeginningLemmas.{Amid}
+use Rattle.gixp_response.proofs.fetch.response.beginnings.read_beginning.Given as goal
+
+abbrev pub invariant-loop-answer : goal.invariant-loop-answer
+invariant-loop-answer g l =
+    Amid l.version (expected l.expects_pack l.negotiates) l.answer l.came_ready l.behind_stop (g.R.ExtendedBufRead.reading l.fn.reader) (g.R.ExtendedBufRead.reading l.reader)
+    × AreCommon l.answer.acknowledgements l.commons
+
+abbrev stops_left : Bool → ℕ
+stops_left true = 0
+stops_left false = 1
+
+abbrev pub decreases-loop-answer : goal.decreases-loop-answer
+decreases-loop-answer g l = 2 * (g.R.ExtendedBufRead.reading l.reader).left + stops_left l.behind_stop

@@ -1,0 +1,113 @@
+-- What the reading of an answer does to its reader.
+use Rattle.std.specs.Prelude.{◌≡◌, ◌⊎◌, Bool, true, false, Option, Some, None, IfSome, List, [], ◌∷◌, Result, Ok, Err}
+use Rattle.std.specs.declared.io.ErrorKind.TheVariants.{UnexpectedEof}
+use Rattle.gixp_wire.specs.declared.protocol.MessageKind.{MessageKind}
+use Rattle.gixp_wire.specs.declared.protocol.MessageKind.TheVariants.{Flush}
+use Rattle.gixp_wire.specs.declared.protocol.Protocol.{Protocol}
+use Rattle.gixp_wire.specs.declared.protocol.Protocol.TheVariants.{V0, V1, V2}
+use Rattle.gixp_wire.specs.Pieces.{io, Piece, line, mark, Pieces, no_pieces}
+use Rattle.gixp_wire.specs.Reading.{Reading, BreaksOff, Rose}
+use Rattle.gixp_response.specs.declared.fetch.response.error.Error.{Error}
+use Rattle.gixp_response.specs.declared.fetch.response.error.Error.TheVariants.{Memory}
+use Rattle.gixp_response.specs.ReadFails.{ReadFails}
+use Rattle.gixp_response.specs.ResponseError.{AnswerRefusal, answer_errors, IsRefusal}
+use Rattle.gixp_response.specs.Answer.{AnswerValue, Found, whole, refused, front, is_of_line, both}
+use Rattle.gixp_response.specs.Sections.{v2_answer}
+use Rattle.gixp_response.specs.Beginnings.{Expected, v1_answer}
+
+-- the answer in some pieces under a version
+abbrev pub answer_of : Protocol → Expected → Pieces → Found
+answer_of V2 asked p = v2_answer p
+answer_of V1 asked p = v1_answer V1 asked p
+answer_of V0 asked p = v1_answer V0 asked p
+
+-- a line's item was added, or why not
+abbrev pub Adds : Result AnswerValue AnswerRefusal → AnswerValue → AnswerValue → Result Unit Error → Type 0
+Adds (Ok item) old new (Ok x) = new ≡ both old.pack old item
+Adds (Ok item) old new (Err e) = e ≡ Memory
+Adds (Err r) old new (Ok x) = ⊥
+Adds (Err r) old new (Err e) = IsRefusal e r
+
+-- these pieces were taken, and nothing else is known to have happened
+abbrev pub Took : List Piece → Reading → Reading → Type 0
+Took taken old now = IfSome old.to_come (λ p. (q : Pieces) × (now.to_come ≡ Some q) × (p ≡ front taken q))
+
+-- the stop that a piece is, if it is one
+abbrev pub stop_of : Piece → Option MessageKind
+stop_of (line text) = None
+stop_of (mark kind) = Some kind
+
+-- the stop that stands last in some pieces
+abbrev pub last_stop : List Piece → Option MessageKind
+last_stop [] = None
+last_stop (p ∷ []) = stop_of p
+last_stop (p ∷ q ∷ ps) = last_stop (q ∷ ps)
+
+-- the stop behind the pieces of an answer: none in front of a pack
+abbrev pub stop_behind : Bool → List Piece → Option MessageKind
+stop_behind true taken = None
+stop_behind false taken = last_stop taken
+
+-- where an answer without a pack ends: version 2 at a flush, versions 0 and 1 at the second of two flushes, or at no stop
+abbrev pub EndsBare : Protocol → Option MessageKind → Type 0
+EndsBare V2 at = at ≡ Some Flush
+EndsBare _ at = (at ≡ None) ⊎ (at ≡ Some Flush)
+
+-- the stop that the reader is at behind an answer: none in front of a pack
+abbrev pub EndsAt : Protocol → Bool → Option MessageKind → Type 0
+EndsAt under true at = at ≡ None
+EndsAt under false at = EndsBare under at
+
+-- the answer in the pieces to come was read, and what stands behind it is still to come; where those aren't known, it is that of the pieces taken and of what may stand behind them
+pub record ReadsAnswer (found : Pieces → Found) (under : Protocol) (old new : Reading) (value : AnswerValue) : Type 0 where
+  pub taken : List Piece
+  pub took : Took taken old new
+  pub behind : Pieces
+  pub said : found (front taken behind) ≡ whole value behind
+  pub at : new.stopped ≡ stop_behind value.pack taken
+  pub answer : IfSome old.to_come (λ p. (q : Pieces) × (new.to_come ≡ Some q) × (found p ≡ whole value q))
+  pub running : value.pack ≡ true → new.stopped ≡ None
+  pub stopped : EndsAt under value.pack new.stopped
+  pub version : new.version ≡ under
+  pub failures : new.failures ≡ old.failures
+
+-- a read failed as at the stream's end behind some pieces, which are then the answer
+pub record BrokeOff (found : Pieces → Found) (under : Protocol) (old new : Reading) (value : AnswerValue) : Type 0 where
+  pub taken : List Piece
+  pub now : Reading
+  pub took : Took taken old now
+  pub broke : BreaksOff now new (io UnexpectedEof)
+  pub answer : found (record { list = taken; end = io UnexpectedEof }) ≡ whole value (no_pieces (io UnexpectedEof))
+  pub stopped : new.stopped ≡ None
+  pub version : new.version ≡ under
+  pub failures : Rose old.failures new.failures
+
+abbrev pub Answered : (Pieces → Found) → Protocol → Reading → Reading → AnswerValue → Type 0
+Answered found version old new value = ReadsAnswer found version old new value ⊎ BrokeOff found version old new value
+
+-- these pieces were taken, and no I/O error was counted
+pub record Passed (old now : Reading) (taken : List Piece) : Type 0 where
+  pub took : Took taken old now
+  pub failures : now.failures ≡ old.failures
+
+-- whatever stands behind these pieces, the last of them is refused, and the reader is at it if it is a stop
+pub record LastRefused (found : Pieces → Found) (taken : List Piece) (refusal : AnswerRefusal) (now : Reading) : Type 0 where
+  pub of_line : is_of_line refusal ≡ true
+  pub always : (q : Pieces) → found (front taken q) ≡ refused refusal
+  pub stopped : now.stopped ≡ last_stop taken
+
+-- the first refusal of what is to come, or something from outside, which a plain reader has less of
+abbrev pub AnswerFails : (Pieces → Found) → Bool → Reading → Reading → Error → Type 0
+AnswerFails found plain old new e = ReadFails answer_errors Passed (λ _ p r. found p ≡ refused r) (LastRefused found) plain old new e
+
+-- how far an answer was read: these pieces were taken of it, and what is left of it to be found
+pub record Going (found rest : Pieces → Found) (taken : List Piece) (old now : Reading) : Type 0 where
+  pub took : Took taken old now
+  pub same : (q : Pieces) → found (front taken q) ≡ rest q
+  pub failures : now.failures ≡ old.failures
+  pub held : now.held ≡ old.held
+
+-- a reader that isn't at a stop, under this version
+pub record IsRunning (under : Protocol) (now : Reading) : Type 0 where
+  pub stopped : now.stopped ≡ None
+  pub version : now.version ≡ under

@@ -1,0 +1,161 @@
+-- An answer under versions 0 and 1: the shortest beginning of what is to come that is one (gitprotocol-pack, "Packfile Negotiation"; where it ends is this project's own rule).
+use Rattle.std.specs.Prelude.{◌≡◌, ℕ, Bool, true, false, not, ◌&&◌, if◌then◌else◌, List, [], ◌∷◌, ◌++◌, Option, Some, None}
+use Rattle.std.specs.List.{list_any}
+use Rattle.std.specs.BTreeSet.{BTreeSet, contains}
+use Rattle.std.specs.Str.{is_utf8}
+use Rattle.std.specs.declared.io.ErrorKind.TheVariants.{UnexpectedEof}
+use Rattle.gixp_wire.specs.declared.object_id.ObjectId.{ObjectId}
+use Rattle.gixp_wire.specs.declared.protocol.Protocol.{Protocol}
+use Rattle.gixp_wire.specs.Items.{is_stop}
+use Rattle.gixp_wire.specs.ObjectId.{id_cmp}
+use Rattle.gixp_wire.specs.Lines.{Next, gives, stops, refuses}
+use Rattle.gixp_wire.specs.Pieces.{Refusal, io, Piece, line, mark, Pieces, no_pieces, unexpected_frame}
+use Rattle.gixp_wire.specs.Capabilities.{is_text}
+use Rattle.gixp_response.specs.AnswerLine.{acknowledgement_line, shallow_update_line}
+use Rattle.gixp_response.specs.ResponseError.{by_reader, from_reader}
+use Rattle.gixp_response.specs.Answer.{AnswerValue, Found, whole, refused}
+use Rattle.gixp_response.specs.declared.fetch.response.line.Acknowledgement.{Acknowledgement}
+use Rattle.gixp_response.specs.declared.fetch.response.line.Acknowledgement.TheVariants.{Common, Ready, Nak}
+use Rattle.gixp_response.specs.declared.fetch.response.line.ShallowUpdate.{ShallowUpdate}
+use Rattle.gixp_response.specs.declared.fetch.response.beginnings.Said.{Said}
+use Rattle.gixp_response.specs.declared.fetch.response.beginnings.Said.TheVariants.{Acknowledgement as SaidAcknowledgement, ShallowUpdate as SaidUpdate}
+
+-- what stands in an answer: an acknowledgement, a shallow update, another line, or a stop
+pub data AnswerItem : Type 0 where
+  acknowledged : Acknowledgement → AnswerItem
+  updated : ShallowUpdate → AnswerItem
+  other : AnswerItem
+  stopped : AnswerItem
+
+abbrev pub update_or_other : Option ShallowUpdate → AnswerItem
+update_or_other (Some u) = updated u
+update_or_other None = other
+
+abbrev pub item_by : Option Acknowledgement → Option ShallowUpdate → AnswerItem
+item_by (Some a) u = acknowledged a
+item_by None u = update_or_other u
+
+-- a line that isn't text is another line
+abbrev pub line_item : List ℕ → AnswerItem
+line_item text = if is_utf8 text then item_by (acknowledgement_line text) (shallow_update_line text) else other
+
+abbrev pub is_nak : AnswerItem → Bool
+is_nak (acknowledged Nak) = true
+is_nak _ = false
+
+abbrev pub is_ready : AnswerItem → Bool
+is_ready (acknowledged Ready) = true
+is_ready _ = false
+
+abbrev pub is_stopped : AnswerItem → Bool
+is_stopped stopped = true
+is_stopped _ = false
+
+abbrev pub is_other : AnswerItem → Bool
+is_other other = true
+is_other _ = false
+
+-- whether a refusal is the stream's end
+abbrev pub is_at_end : Refusal → Bool
+is_at_end (io UnexpectedEof) = true
+is_at_end _ = false
+
+-- a beginning is given from its last item on
+abbrev pub last_is : (AnswerItem → Bool) → List AnswerItem → Bool
+last_is p [] = false
+last_is p (i ∷ before) = p i
+
+abbrev pub last_two_are : (AnswerItem → Bool) → List AnswerItem → Bool
+last_two_are p [] = false
+last_two_are p (i ∷ before) = p i && last_is p before
+
+-- what a line that was read is
+abbrev pub item_said : Option Said → AnswerItem
+item_said (Some (SaidAcknowledgement a)) = acknowledged a
+item_said (Some (SaidUpdate u)) = updated u
+item_said None = other
+
+-- what the client said: whether it expects a pack, and whether it wants to negotiate
+pub record Expected : Type 0 where
+  pub expects_pack : Bool
+  pub negotiates : Bool
+
+abbrev pub expected : Bool → Bool → Expected
+expected expects_pack negotiates = record { expects_pack = expects_pack; negotiates = negotiates }
+
+-- the last item says that nothing is in common, and the client wants to go on about that
+abbrev pub ends_by_nak : Expected → List AnswerItem → Bool
+ends_by_nak a before = (last_is is_nak before && a.negotiates) && not (a.expects_pack && list_any is_ready before)
+
+-- the next item is another line, which begins the pack, or the stream ends and not behind a stop
+abbrev pub ends_before : List AnswerItem → Next → Option Bool
+ends_before before (gives text rest) = if is_other (line_item text) then Some true else None
+ends_before before (refuses e) = if is_at_end e && not (last_is is_stopped before) then Some false else None
+ends_before before (stops kind rest) = None
+
+-- whether an answer ends behind a beginning, and then whether a pack follows it
+abbrev pub ends : Expected → List AnswerItem → Next → Option Bool
+ends a before next =
+    if ends_by_nak a before then Some false
+    else if last_two_are is_stopped before then Some false
+    else ends_before before next
+
+abbrev pub is_common : Acknowledgement → Bool
+is_common (Common id) = true
+is_common _ = false
+
+-- whether both name one commit as common
+abbrev pub is_same_common : Acknowledgement → Acknowledgement → Bool
+is_same_common (Common a) (Common b) = is_text a.bytes b.bytes
+is_same_common _ _ = false
+
+-- these are the commits that are named as common
+abbrev pub AreCommon : List Acknowledgement → BTreeSet ObjectId → Type 0
+AreCommon had ids = (id : ObjectId) → contains id_cmp ids id ≡ list_any (λ x. is_same_common x (Common id)) had
+
+-- a commit that is common already isn't named again
+abbrev pub with_acknowledgement : List Acknowledgement → Acknowledgement → List Acknowledgement
+with_acknowledgement had a = if list_any (λ x. is_same_common x a) had then had else had ++ a ∷ []
+
+abbrev pub acknowledgements_in : List AnswerItem → List Acknowledgement
+acknowledgements_in [] = []
+acknowledgements_in (acknowledged a ∷ before) = with_acknowledgement (acknowledgements_in before) a
+acknowledgements_in (_ ∷ before) = acknowledgements_in before
+
+abbrev pub updates_in : List AnswerItem → List ShallowUpdate
+updates_in [] = []
+updates_in (updated u ∷ before) = updates_in before ++ u ∷ []
+updates_in (_ ∷ before) = updates_in before
+
+-- what a beginning says
+abbrev pub said_in : List AnswerItem → Bool → AnswerValue
+said_in before pack = record { acknowledgements = acknowledgements_in before; shallow_updates = updates_in before; wanted_refs = []; pack = pack }
+
+-- one more item behind those of an answer
+abbrev pub said_with : AnswerValue → AnswerItem → AnswerValue
+said_with had (acknowledged a) = record had { acknowledgements = with_acknowledgement had.acknowledgements a }
+said_with had (updated u) = record had { shallow_updates = had.shallow_updates ++ u ∷ [] }
+said_with had _ = had
+
+-- the answer is a beginning that ends one, else what is found by longer ones
+abbrev pub unless_ends : Option Bool → List AnswerItem → Pieces → Found → Found
+unless_ends (Some pack) before rest longer = whole (said_in before pack) rest
+unless_ends None before rest longer = longer
+
+-- the answer by the shortest beginning that is this one or longer, and what is to come behind this one
+abbrev pub beginnings_from : Protocol → Expected → List Piece → Refusal → List AnswerItem → Found
+beginnings_from version a [] end before =
+    unless_ends (ends a before (refuses end)) before (no_pieces end) (refused (from_reader end))
+beginnings_from version a (line text ∷ ps) end before =
+    unless_ends (ends a before (gives text (record { list = ps; end = end }))) before (record { list = line text ∷ ps; end = end })
+    (beginnings_from version a ps end (line_item text ∷ before))
+beginnings_from version a (mark kind ∷ ps) end before =
+    if is_stop version kind
+    then unless_ends (ends a before (stops kind (record { list = ps; end = end }))) before (record { list = mark kind ∷ ps; end = end })
+    (beginnings_from version a ps end (stopped ∷ before))
+    else unless_ends (ends a before (refuses unexpected_frame)) before (record { list = mark kind ∷ ps; end = end })
+    (refused (by_reader unexpected_frame))
+
+-- the answer by the shortest beginning of some pieces
+abbrev pub v1_answer : Protocol → Expected → Pieces → Found
+v1_answer version a p = beginnings_from version a p.list p.end []

@@ -1,0 +1,93 @@
+-- Why there is no answer to a fetch, and how errors of lines are compared (gitprotocol-v2, "fetch"; gitprotocol-pack, "Packfile Negotiation").
+use Rattle.std.specs.Prelude.{◌≡◌, ℕ, Bool, true, false, List, codes, Option, Some, None, Result, Ok, Err, string_bytes}
+use Rattle.std.specs.declared.io.ErrorKind.{ErrorKind}
+use Rattle.bstr.specs.Owned.{bstring_bytes}
+use Rattle.gixp_wire.specs.Pieces.{Refusal, io, server, memory}
+use Rattle.gixp_wire.specs.Reading.{refusal_of}
+use Rattle.gixp_wire.specs.Spurious.{is_spurious_kind, is_spurious_read, is_spurious_client}
+use Rattle.gixp_wire.specs.Client.{ClientRefusal, no_memory as client_no_memory, client_refusal}
+use Rattle.gixp_response.specs.ReadFails.{Errors}
+use Rattle.gixp_response.specs.declared.fetch.response.error.Error.{Error}
+use Rattle.gixp_response.specs.declared.fetch.response.error.Error.TheVariants.{Io, UploadPack, Transport, MissingServerCapability, UnknownLineType, UnknownSectionHeader, Reader, Memory}
+use Rattle.gixp_response.specs.declared.fetch.response.error.RequiredFeature.{RequiredFeature}
+use Rattle.gixp_response.specs.declared.fetch.response.error.RequiredFeature.TheVariants.{MultiAckDetailed, SideBand}
+
+-- the name of a feature that answers need
+abbrev pub required_text : RequiredFeature → List ℕ
+required_text MultiAckDetailed = codes "multi_ack_detailed"
+required_text SideBand = codes "side-band OR side-band-64k"
+
+-- a refusal, as it is compared
+pub data AnswerRefusal : Type 0 where
+  io_failed : ErrorKind → AnswerRefusal
+  upload_pack : List ℕ → AnswerRefusal
+  by_transport : ClientRefusal → AnswerRefusal
+  missing_capability : List ℕ → AnswerRefusal
+  unknown_line : List ℕ → AnswerRefusal
+  unknown_header : List ℕ → AnswerRefusal
+  by_reader : Refusal → AnswerRefusal
+  no_memory : AnswerRefusal
+
+-- the refusal that an error is
+abbrev pub answer_refusal : Error → AnswerRefusal
+answer_refusal (Io kind) = io_failed kind
+answer_refusal (UploadPack message) = upload_pack (bstring_bytes message)
+answer_refusal (Transport e) = by_transport (client_refusal e)
+answer_refusal (MissingServerCapability feature) = missing_capability (required_text feature)
+answer_refusal (UnknownLineType line) = unknown_line (string_bytes line)
+answer_refusal (UnknownSectionHeader header) = unknown_header (string_bytes header)
+answer_refusal (Reader e) = by_reader (refusal_of e)
+answer_refusal Memory = no_memory
+
+-- whether it may pass when the same is tried again: where a connection failed
+abbrev pub is_spurious_answer : Error → Bool
+is_spurious_answer (Io kind) = is_spurious_kind kind
+is_spurious_answer (Transport e) = is_spurious_client e
+is_spurious_answer (Reader e) = is_spurious_read e
+is_spurious_answer _ = false
+
+-- a reader's refusal among them
+abbrev pub from_reader : Refusal → AnswerRefusal
+from_reader (io kind) = io_failed kind
+from_reader (server message) = upload_pack message
+from_reader memory = no_memory
+from_reader other = by_reader other
+
+-- a transport's refusal among them
+abbrev pub from_transport : ClientRefusal → AnswerRefusal
+from_transport client_no_memory = no_memory
+from_transport other = by_transport other
+
+-- whether it is an allocation failure
+abbrev pub is_no_memory : AnswerRefusal → Bool
+is_no_memory no_memory = true
+is_no_memory _ = false
+
+-- how the errors of calls that read an answer are compared
+abbrev pub answer_errors : Errors Error AnswerRefusal
+answer_errors = record { refusal = answer_refusal; from_reader = from_reader; memory = Memory; is_no_memory = is_no_memory }
+
+-- a refusal is that of the definition, unless memory ran out
+abbrev pub IsRefusal : Error → AnswerRefusal → Type 0
+IsRefusal e r = is_no_memory (answer_refusal e) ≡ false → answer_refusal e ≡ r
+
+-- a line's value, which allocates nothing, or the refusal that carries the line
+abbrev pub ReadsLine : {A : Type 0} → Option A → List ℕ → Result A Error → Type 0
+ReadsLine (Some value) line (Ok x) = x ≡ value
+ReadsLine (Some value) line (Err e) = ⊥
+ReadsLine None line (Ok x) = ⊥
+ReadsLine None line (Err e) = IsRefusal e (unknown_line line)
+
+-- the same where the value allocates
+abbrev pub ReadsOwned : {A B : Type 0} → (A → B) → Option B → List ℕ → Result A Error → Type 0
+ReadsOwned view (Some value) line (Ok x) = view x ≡ value
+ReadsOwned view (Some value) line (Err e) = e ≡ Memory
+ReadsOwned view None line (Ok x) = ⊥
+ReadsOwned view None line (Err e) = IsRefusal e (unknown_line line)
+
+-- the value that the definition has, or its refusal; but for memory
+abbrev pub Answers : {A B : Type 0} → (A → B) → Result B AnswerRefusal → Result A Error → Type 0
+Answers view (Ok value) (Ok x) = view x ≡ value
+Answers view (Ok value) (Err e) = e ≡ Memory
+Answers view (Err refusal) (Ok x) = ⊥
+Answers view (Err refusal) (Err e) = IsRefusal e refusal

@@ -1,0 +1,237 @@
+//! An answer to a fetch.
+ghost use Rattle.std.specs.Prelude.{◌≡◌, MatchResult, OnErr, OnOk, [], ◌∷◌, ◌++◌, map, true, false};
+ghost use Rattle.std.specs.List.{list_any};
+ghost use Rattle.gixp_response.specs.AnswerLine.{wanted_value};
+ghost use Rattle.gixp_response.specs.Answer.{no_more, update_items};
+ghost use Rattle.gixp_response.specs.Beginnings.{expected};
+ghost use Rattle.gixp_response.specs.AnswerReading.{answer_of, Answered, AnswerFails};
+ghost use Rattle.gixp_wire.specs.Capabilities.{is_text};
+ghost use Rattle.gixp_response.specs.Features.{feature_name, feature_names, has_name, missing_feature, Misses};
+
+use crate::fetch::response::beginnings::read_beginning;
+use crate::fetch::response::error::{Error, RequiredFeature};
+use crate::fetch::response::line::{Acknowledgement, ShallowUpdate, WantedRef};
+use crate::fetch::response::sections::read_sections;
+use gixp_wire::{ExtendedBufRead, Feature, Protocol};
+use std::alloc::{AllocError, Global};
+use std::marker::Model;
+
+/// The answer of a server to a fetch request, up to its pack (gitprotocol-v2, "fetch";
+/// gitprotocol-pack, "Packfile Negotiation").
+#[derive(Debug, Drop)]
+pub struct Response {
+    acknowledgements: Vec<Acknowledgement>,
+    shallow_updates: Vec<ShallowUpdate>,
+    wanted_refs: Vec<WantedRef>,
+    has_pack: bool,
+}
+
+impl Model for Response {
+    ghost use Rattle.std.specs.Prelude.{map};
+    ghost use Rattle.gixp_response.specs.AnswerLine.{wanted_value};
+    ghost use Rattle.gixp_response.specs.Answer.{AnswerValue};
+
+    ghost Value = { AnswerValue };
+
+    ghost view = { λ r. record { acknowledgements = r.acknowledgements.items; shallow_updates = r.shallow_updates.items; wanted_refs = map wanted_value r.wanted_refs.items; pack = r.has_pack } };
+}
+
+impl Clone for Response {
+    ghost is_clone = { λ s t. t ≡ s };
+
+    fn clone(&self) -> Result<Response, AllocError> {
+        let alloc = *self.wanted_refs.allocator();
+        Ok(Response {
+            acknowledgements: Vec::from_slice(alloc, &self.acknowledgements)?,
+            shallow_updates: Vec::from_slice(alloc, &self.shallow_updates)?,
+            wanted_refs: self.wanted_refs.clone()?,
+            has_pack: self.has_pack,
+        })
+    }
+}
+
+impl Response {
+    /// Reads the answer to a request, under the stops of this version, from which the reader goes on
+    /// behind a stop that it is at.
+    ///
+    /// Under version 2 an answer is a list of sections; those of one header are joined. It ends in the
+    /// header `packfile`, behind which the pack begins, or in a section that a flush ends. Under
+    /// versions 0 and 1 it is the shortest beginning of what is to come that ends
+    ///
+    /// - in a `NAK`, where the client wants to negotiate, unless it expects a pack and a `ready` came;
+    /// - in two flushes;
+    /// - in front of a line that is neither an acknowledgement nor a shallow update, which begins the
+    ///   pack and is still to come;
+    /// - at the stream's end, but not right behind a flush.
+    ///
+    /// What stands behind the answer is still to come.
+    ///
+    /// # Errors
+    ///
+    /// The first refusal, of a line or of the reader, with what [`Error`] says of it. Under version 2
+    /// a line is refused that is no text, no header or no item of its section, and a stop where a
+    /// header is due.
+    pub fn from_line_reader<R: ExtendedBufRead>(
+        alloc: Global,
+        version: Protocol,
+        reader: &mut R,
+        client_expects_pack: bool,
+        wants_to_negotiate: bool,
+    ) -> Result<Response, Error>
+        ensures answers { MatchResult result
+            (Answered (answer_of version (expected client_expects_pack wants_to_negotiate)) version (R.reading reader.old) (R.reading reader.new))
+            (AnswerFails (answer_of version (expected client_expects_pack wants_to_negotiate)) R.is_plain (R.reading reader.old) (R.reading reader.new)) }
+        ensures held { (R.reading reader.new).held ≡ (R.reading reader.old).held }
+        ensures version { (R.reading reader.new).version ≡ version }
+    {
+        match version {
+            Protocol::V2 => read_sections(alloc, reader),
+            Protocol::V1 | Protocol::V0 => read_beginning(
+                alloc,
+                version,
+                reader,
+                client_expects_pack,
+                wants_to_negotiate,
+            ),
+        }
+    }
+
+    /// Whether the features that a client may use are enough to read answers: under versions 0 and 1
+    /// it needs `multi_ack_detailed`, and one of `side-band` and `side-band-64k`.
+    ///
+    /// # Errors
+    ///
+    /// `MissingServerCapability` with the first that is missing.
+    pub fn check_required_features(version: Protocol, features: &[Feature]) -> Result<(), Error>
+        ensures { Misses (missing_feature version features.now) result }
+    {
+        match version {
+            Protocol::V2 => Ok(()),
+            Protocol::V1 | Protocol::V0 => {
+                if !has_feature(features, "multi_ack_detailed") {
+                    return Err(Error::MissingServerCapability {
+                        feature: RequiredFeature::MultiAckDetailed,
+                    });
+                }
+                if !has_feature(features, "side-band") && !has_feature(features, "side-band-64k") {
+                    return Err(Error::MissingServerCapability {
+                        feature: RequiredFeature::SideBand,
+                    });
+                }
+                Ok(())
+            }
+        }
+    }
+
+    /// Whether a pack begins behind the answer.
+    pub fn has_pack(&self) -> bool
+        ensures { result ≡ self.now.pack }
+    {
+        self.has_pack
+    }
+
+    /// What the server says of the commits that it was told of, in order. Under versions 0 and 1 a
+    /// commit in common stands once, at its first place.
+    pub fn acknowledgements(&self) -> &[Acknowledgement]
+        ensures { result.now ≡ self.now.acknowledgements }
+    {
+        &self.acknowledgements
+    }
+
+    /// The changes of the shallow boundary, in order.
+    pub fn shallow_updates(&self) -> &[ShallowUpdate]
+        ensures { result.now ≡ self.now.shallow_updates }
+    {
+        &self.shallow_updates
+    }
+
+    /// What the refs that were expected for by their names lead to, in order. Only version 2 has any.
+    pub fn wanted_refs(&self) -> &[WantedRef]
+        ensures { map wanted_value result.now ≡ self.now.wanted_refs }
+    {
+        &self.wanted_refs
+    }
+
+    /// Adds the updates, if any, behind those of the answer: under version 1 a server sends those of a
+    /// shallow repository with its refs.
+    ///
+    /// # Errors
+    ///
+    /// An allocation failed. The answer is as it was.
+    pub fn append_v1_shallow_updates(
+        &mut self,
+        updates: Option<Vec<ShallowUpdate>>,
+    ) -> Result<(), AllocError>
+        ensures ok { OnOk result (self.new ≡ record self.old { shallow_updates = self.old.shallow_updates ++ update_items updates }) }
+        ensures err { OnErr result (self.new ≡ self.old) }
+    {
+        match updates {
+            Some(updates) => self.shallow_updates.extend_from_slice(&updates),
+            None => Ok(()),
+        }
+    }
+
+    // An answer that says nothing yet.
+    pub(crate) fn empty(alloc: Global) -> Response
+        ensures { result ≡ no_more false }
+    {
+        Response {
+            acknowledgements: Vec::new(alloc),
+            shallow_updates: Vec::new(alloc),
+            wanted_refs: Vec::new(alloc),
+            has_pack: false,
+        }
+    }
+
+    pub(crate) fn push_acknowledgement(&mut self, found: Acknowledgement) -> Result<(), AllocError>
+        ensures ok { OnOk result (self.new ≡ record self.old { acknowledgements = self.old.acknowledgements ++ found ∷ [] }) }
+        ensures err { OnErr result (self.new ≡ self.old) }
+    {
+        self.acknowledgements.push(found)?;
+        Ok(())
+    }
+
+    pub(crate) fn push_shallow_update(&mut self, found: ShallowUpdate) -> Result<(), AllocError>
+        ensures ok { OnOk result (self.new ≡ record self.old { shallow_updates = self.old.shallow_updates ++ found ∷ [] }) }
+        ensures err { OnErr result (self.new ≡ self.old) }
+    {
+        self.shallow_updates.push(found)?;
+        Ok(())
+    }
+
+    pub(crate) fn push_wanted_ref(&mut self, found: WantedRef) -> Result<(), AllocError>
+        ensures ok { OnOk result (self.new ≡ record self.old { wanted_refs = self.old.wanted_refs ++ wanted_value found ∷ [] }) }
+        ensures err { OnErr result (self.new ≡ self.old) }
+    {
+        self.wanted_refs.push(found)?;
+        Ok(())
+    }
+
+    // The same answer in front of a pack.
+    pub(crate) fn with_pack(self) -> Response
+        ensures { result ≡ record self { pack = true } }
+    {
+        let mut whole = self;
+        whole.has_pack = true;
+        whole
+    }
+}
+
+// Whether a feature of this name is among some.
+fn has_feature(features: &[Feature], name: &str) -> bool
+    ensures { result ≡ has_name name.now (feature_names features.now) }
+{
+    any_named(features, name)
+}
+
+fn any_named(features: &[Feature], name: &str) -> bool
+    ensures { result ≡ list_any (λ f. is_text (feature_name f) name.now) features.now }
+{
+    features.iter().any(|feature| is_named(feature, name))
+}
+
+fn is_named(feature: &Feature, name: &str) -> bool
+    ensures { result ≡ is_text (feature_name feature.now) name.now }
+{
+    feature.0 == name
+}

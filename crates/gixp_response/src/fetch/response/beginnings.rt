@@ -1,0 +1,191 @@
+//! Answers under versions 0 and 1 (gitprotocol-pack, "Packfile Negotiation").
+ghost use Rattle.std.specs.Prelude.{◌≡◌, ◌⊎◌, MatchResult, OnOk, Some, not, ◌&&◌, ◌||◌};
+ghost use Rattle.gixp_wire.specs.Reading.{refusal_of};
+ghost use Rattle.gixp_wire.specs.declared.protocol.Protocol.TheVariants.{V0, V1};
+ghost use Rattle.gixp_response.specs.Beginnings.{expected, is_at_end, is_ready, is_nak, line_item, item_said, said_with, acknowledged, AreCommon, v1_answer};
+ghost use Rattle.gixp_response.specs.declared.fetch.response.line.Acknowledgement.TheVariants.{Common};
+ghost use Rattle.gixp_response.specs.AnswerReading.{Answered, AnswerFails};
+
+use crate::fetch::response::answer::Response;
+use crate::fetch::response::error::Error;
+use crate::fetch::response::line::{
+    Acknowledgement, ShallowUpdate, read_acknowledgement, read_shallow_update,
+};
+use crate::fetch::response::sections::text_of;
+use gixp_wire::{ExtendedBufRead, ObjectId, Protocol, read};
+use std::alloc::{AllocError, Global};
+use std::collections::BTreeSet;
+use std::io::ErrorKind;
+
+// What a line in front of the pack says.
+#[derive(Clone, Copy)]
+pub(crate) enum Said {
+    Acknowledgement(Acknowledgement),
+    ShallowUpdate(ShallowUpdate),
+}
+
+// What a line says, or none where it begins the pack.
+fn read_said(line: &[u8]) -> Option<Said>
+    ensures { item_said result ≡ line_item line.now }
+{
+    if text_of(line).is_none() {
+        return None;
+    }
+    if let Some(found) = read_acknowledgement(line) {
+        return Some(Said::Acknowledgement(found));
+    }
+    match read_shallow_update(line) {
+        Some(found) => Some(Said::ShallowUpdate(found)),
+        None => None,
+    }
+}
+
+// Reads the shortest beginning that is an answer.
+pub(crate) fn read_beginning<R: ExtendedBufRead>(
+    alloc: Global,
+    version: Protocol,
+    reader: &mut R,
+    expects_pack: bool,
+    negotiates: bool,
+) -> Result<Response, Error>
+    requires { (version ≡ V1) ⊎ (version ≡ V0) }
+    ensures answers { MatchResult result
+        (Answered (v1_answer version (expected expects_pack negotiates)) version (R.reading reader.old) (R.reading reader.new))
+        (AnswerFails (v1_answer version (expected expects_pack negotiates)) R.is_plain (R.reading reader.old) (R.reading reader.new)) }
+    ensures held { (R.reading reader.new).held ≡ (R.reading reader.old).held }
+    ensures version { (R.reading reader.new).version ≡ version }
+{
+    reader.reset(version);
+    let mut answer = Response::empty(alloc);
+    let mut commons = BTreeSet::new(alloc);
+    let mut came_ready = false;
+    let mut behind_stop = false;
+    loop {
+        match reader.peek_line() {
+            Ok(true) => {}
+            Ok(false) => {
+                if behind_stop {
+                    return Ok(answer);
+                }
+                behind_stop = true;
+                reader.reset(version);
+                continue;
+            }
+            Err(e) => {
+                if ends_answer(&e, behind_stop) {
+                    return Ok(answer);
+                }
+                return Err(Error::from(e));
+            }
+        }
+        let said = match read_said(reader.line()) {
+            Some(said) => said,
+            None => return Ok(answer.with_pack()),
+        };
+        let _ = reader.next_line();
+        behind_stop = false;
+        keep(&mut answer, &mut commons, said)?;
+        came_ready = ready_by(said, came_ready);
+        if ends_by_nak(said, expects_pack, negotiates, came_ready) {
+            return Ok(answer);
+        }
+    }
+}
+
+// Whether a refusal is that of the stream's end, and not right behind a stop.
+fn ends_answer(e: &read::Error, behind_stop: bool) -> bool
+    ensures { result ≡ (is_at_end (refusal_of e.now) && not behind_stop) }
+{
+    is_end(e) && !behind_stop
+}
+
+// Whether a server is ready by a line, or was so before it.
+fn ready_by(said: Said, came_ready: bool) -> bool
+    ensures { result ≡ (is_ready (item_said (Some said)) || came_ready) }
+{
+    is_ready(said) || came_ready
+}
+
+// Whether a line says that nothing is in common, to a client that goes on about that.
+fn ends_by_nak(said: Said, expects_pack: bool, negotiates: bool, came_ready: bool) -> bool
+    ensures { result ≡ ((is_nak (item_said (Some said)) && negotiates) && not (expects_pack && came_ready)) }
+{
+    is_nak(said) && negotiates && !(expects_pack && came_ready)
+}
+
+// Whether a refusal is that of the stream's end.
+fn is_end(e: &read::Error) -> bool
+    ensures { result ≡ is_at_end (refusal_of e.now) }
+{
+    match e {
+        read::Error::Io(ErrorKind::UnexpectedEof) => true,
+        _ => false,
+    }
+}
+
+fn is_ready(said: Said) -> bool
+    ensures { result ≡ is_ready (item_said (Some said)) }
+{
+    match said {
+        Said::Acknowledgement(Acknowledgement::Ready) => true,
+        _ => false,
+    }
+}
+
+fn is_nak(said: Said) -> bool
+    ensures { result ≡ is_nak (item_said (Some said)) }
+{
+    match said {
+        Said::Acknowledgement(Acknowledgement::Nak) => true,
+        _ => false,
+    }
+}
+
+// Adds what a line says, unless it names a commit again.
+fn keep(
+    answer: &mut Response,
+    commons: &mut BTreeSet<ObjectId>,
+    said: Said,
+) -> Result<(), AllocError>
+    requires { AreCommon answer.old.acknowledgements commons.old }
+    ensures ok { OnOk result (answer.new ≡ said_with answer.old (item_said (Some said))) }
+    ensures common { OnOk result (AreCommon answer.new.acknowledgements commons.new) }
+{
+    match said {
+        Said::ShallowUpdate(found) => answer.push_shallow_update(found),
+        Said::Acknowledgement(found) => keep_acknowledgement(answer, commons, found),
+    }
+}
+
+fn keep_acknowledgement(
+    answer: &mut Response,
+    commons: &mut BTreeSet<ObjectId>,
+    found: Acknowledgement,
+) -> Result<(), AllocError>
+    requires { AreCommon answer.old.acknowledgements commons.old }
+    ensures ok { OnOk result (answer.new ≡ said_with answer.old (acknowledged found)) }
+    ensures common { OnOk result (AreCommon answer.new.acknowledgements commons.new) }
+{
+    match found {
+        Acknowledgement::Common(id) => keep_common(answer, commons, id),
+        Acknowledgement::Ready => answer.push_acknowledgement(Acknowledgement::Ready),
+        Acknowledgement::Nak => answer.push_acknowledgement(Acknowledgement::Nak),
+    }
+}
+
+// Adds a commit in common, unless it was named before.
+fn keep_common(
+    answer: &mut Response,
+    commons: &mut BTreeSet<ObjectId>,
+    id: ObjectId,
+) -> Result<(), AllocError>
+    requires { AreCommon answer.old.acknowledgements commons.old }
+    ensures ok { OnOk result (answer.new ≡ said_with answer.old (acknowledged (Common id))) }
+    ensures common { OnOk result (AreCommon answer.new.acknowledgements commons.new) }
+{
+    match commons.insert(id) {
+        Ok(true) => answer.push_acknowledgement(Acknowledgement::Common(id)),
+        Ok(false) => Ok(()),
+        Err(_) => Err(AllocError),
+    }
+}

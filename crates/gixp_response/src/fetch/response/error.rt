@@ -1,0 +1,136 @@
+//! Why there is no answer.
+ghost use Rattle.std.specs.Prelude.{◌≡◌};
+
+use bstr::BString;
+use gixp_wire::{IsSpuriousError, client, read};
+use std::alloc::AllocError;
+use std::fmt;
+use std::io::ErrorKind;
+use thiserror::Error as DeriveError;
+
+/// What a server must have for its answers to be read under versions 0 and 1. It shows as its name,
+/// also by `Debug`, which quotes it.
+#[derive(Clone, Copy, PartialEq, Eq)]
+pub enum RequiredFeature {
+    /// `multi_ack_detailed`.
+    MultiAckDetailed,
+    /// One of `side-band` and `side-band-64k`.
+    SideBand,
+}
+
+impl RequiredFeature {
+    ghost use Rattle.gixp_response.specs.ResponseError.{required_text};
+
+    /// The name that it shows as.
+    pub fn as_str(&self) -> &'static str
+        ensures { result.now ≡ required_text self.now }
+    {
+        match self {
+            RequiredFeature::MultiAckDetailed => "multi_ack_detailed",
+            RequiredFeature::SideBand => "side-band OR side-band-64k",
+        }
+    }
+}
+
+impl fmt::Display for RequiredFeature {
+    fn fmt<W: fmt::Write>(&self, f: &mut fmt::Formatter<W>) -> fmt::Result {
+        f.write_str(self.as_str())
+    }
+}
+
+impl fmt::Debug for RequiredFeature {
+    fn fmt<W: fmt::Write>(&self, f: &mut fmt::Formatter<W>) -> fmt::Result {
+        let text = self.as_str();
+        write!(f, "{text:?}")
+    }
+}
+
+/// Why an answer, or a line of one, isn't there. Nothing of the answer is given beside one.
+///
+/// What stands behind each of a reader's errors is what `read::Error` says of it. After an error of
+/// a line, that line and those before it are taken. A line that an error carries stands in it as it
+/// was handed in, its LF included.
+#[derive(Debug, Drop, DeriveError)]
+pub enum Error {
+    /// A read failed with this kind, or the stream ended too early, also by a stop where a section's
+    /// header is due (`UnexpectedEof`).
+    #[error("Failed to read from line reader")]
+    Io(ErrorKind),
+    /// The server answered an error, with this message.
+    #[error("{message}")]
+    UploadPack { message: BString },
+    /// A call that speaks to the server was refused.
+    #[error("{0}")]
+    Transport(client::Error),
+    /// The server has no such feature, which is needed.
+    #[error("Currently we require feature {feature:?}, which is not supported by the server")]
+    MissingServerCapability { feature: RequiredFeature },
+    /// A line that has no place where it stands.
+    #[error("Encountered an unknown line prefix in {line:?}")]
+    UnknownLineType { line: String },
+    /// A section of another kind, as `packfile-uris`.
+    #[error("Unknown or unsupported header: {header:?}")]
+    UnknownSectionHeader { header: String },
+    /// The reader was refused otherwise: `Decode`, `UnexpectedFrame`, `NotUtf8`, `BadBand` or
+    /// `Interrupted`.
+    #[error("Reader")]
+    Reader(read::Error),
+    /// An allocation failed.
+    #[error("Memory")]
+    Memory,
+}
+
+impl From<client::Error> for Error {
+    ghost use Rattle.gixp_wire.specs.Client.{client_refusal};
+    ghost use Rattle.gixp_response.specs.ResponseError.{answer_refusal, from_transport};
+
+    ghost from_gives = { λ e error. answer_refusal error ≡ from_transport (client_refusal e) };
+
+    fn from(e: client::Error) -> Error {
+        match e {
+            client::Error::Memory => Error::Memory,
+            other => Error::Transport(other),
+        }
+    }
+}
+
+impl From<read::Error> for Error {
+    ghost use Rattle.gixp_wire.specs.Reading.{refusal_of};
+    ghost use Rattle.gixp_response.specs.ResponseError.{answer_refusal, from_reader};
+
+    ghost from_gives = { λ e error. answer_refusal error ≡ from_reader (refusal_of e) };
+
+    fn from(e: read::Error) -> Error {
+        match e {
+            read::Error::Io(kind) => Error::Io(kind),
+            read::Error::Server { message } => Error::UploadPack { message },
+            read::Error::Memory => Error::Memory,
+            other => Error::Reader(other),
+        }
+    }
+}
+
+impl From<AllocError> for Error {
+    ghost use Rattle.gixp_response.specs.declared.fetch.response.error.Error.TheVariants.{Memory};
+
+    ghost from_gives = { λ _ error. error ≡ Memory };
+
+    fn from(_e: AllocError) -> Error {
+        Error::Memory
+    }
+}
+
+impl IsSpuriousError for Error {
+    ghost use Rattle.gixp_response.specs.ResponseError.{is_spurious_answer};
+
+    ghost spurious = { is_spurious_answer };
+
+    fn is_spurious(&self) -> bool {
+        match self {
+            Error::Io(kind) => kind.is_spurious(),
+            Error::Transport(e) => e.is_spurious(),
+            Error::Reader(e) => e.is_spurious(),
+            _ => false,
+        }
+    }
+}

@@ -1,0 +1,211 @@
+//! Lines of answers (gitprotocol-v2, "fetch"; gitprotocol-pack, "Packfile Negotiation").
+ghost use Rattle.std.specs.Prelude.{◌≡◌, Some, None, Option};
+ghost use Rattle.std.specs.Option.{option_copied};
+ghost use Rattle.gixp_response.specs.AnswerLine.{behind, is_word, described, acknowledged, acknowledgement_line, common_id, shallow_update_line, wanted_ref_line, wanted_value};
+ghost use Rattle.gixp_response.specs.ResponseError.{IsRefusal, unknown_line, ReadsLine, ReadsOwned};
+
+use crate::fetch::response::error::Error;
+use bstr::{BString, ByteSlice};
+use gixp_wire::ObjectId;
+use gixp_wire::text::cut;
+use std::alloc::{AllocError, Global};
+
+/// What a server says of the commits that a client named (gitprotocol-pack, "Packfile Negotiation";
+/// gitprotocol-v2, "fetch", `acknowledgments`).
+#[derive(Clone, Copy, Debug, PartialEq, Eq, PartialOrd, Ord, Hash)]
+pub enum Acknowledgement {
+    /// The server has this commit too.
+    Common(ObjectId),
+    /// The server can make a pack.
+    Ready,
+    /// The server has none of those that it was told of in this request.
+    Nak,
+}
+
+/// A change of the client's shallow boundary (gitprotocol-pack, "Packfile Negotiation";
+/// gitprotocol-v2, "fetch", `shallow-info`).
+#[derive(Clone, Copy, Debug, PartialEq, Eq, PartialOrd, Ord, Hash)]
+pub enum ShallowUpdate {
+    /// The parents of this commit don't come.
+    Shallow(ObjectId),
+    /// The parents of this commit come now.
+    Unshallow(ObjectId),
+}
+
+/// What a ref that was asked for by its name leads to (gitprotocol-v2, "fetch", `wanted-refs`).
+#[derive(Debug, Drop, PartialEq, Eq, PartialOrd, Ord, Hash)]
+pub struct WantedRef {
+    /// The object that the server has under this name.
+    pub id: ObjectId,
+    /// The name, as it was asked for.
+    pub path: BString,
+}
+
+impl Clone for WantedRef {
+    ghost is_clone = { λ s t. wanted_value t ≡ wanted_value s };
+
+    fn clone(&self) -> Result<WantedRef, AllocError> {
+        Ok(WantedRef {
+            id: self.id,
+            path: self.path.clone()?,
+        })
+    }
+}
+
+impl Acknowledgement {
+    /// Reads a line, of which white space at the end doesn't count: `ready` or `NAK`, alone or in
+    /// front of a blank and anything, or `ACK <id>` alone, with `common` or with `ready`.
+    ///
+    /// # Errors
+    ///
+    /// `UnknownLineType` with the line for any other, or `Memory` where there is none for that text.
+    pub fn from_line(alloc: Global, line: &str) -> Result<Acknowledgement, Error>
+        ensures { ReadsLine (acknowledgement_line line.now) line.now result }
+    {
+        match read_acknowledgement(line.as_bytes()) {
+            Some(found) => Ok(found),
+            None => Err(unknown_line(alloc, line)),
+        }
+    }
+
+    /// The commit that the server has too.
+    pub fn id(&self) -> Option<&ObjectId>
+        ensures { option_copied result ≡ common_id self.now }
+    {
+        match self {
+            Acknowledgement::Common(id) => Some(id),
+            _ => None,
+        }
+    }
+}
+
+/// Reads a line, of which white space at the end doesn't count: `shallow <id>` or `unshallow <id>`.
+///
+/// # Errors
+///
+/// `UnknownLineType` with the line for any other, or `Memory` where there is none for that text.
+pub fn shallow_update_from_line(alloc: Global, line: &str) -> Result<ShallowUpdate, Error>
+    ensures { ReadsLine (shallow_update_line line.now) line.now result }
+{
+    match read_shallow_update(line.as_bytes()) {
+        Some(found) => Ok(found),
+        None => Err(unknown_line(alloc, line)),
+    }
+}
+
+impl WantedRef {
+    /// Reads a line, of which white space at the end doesn't count: `<id> <path>`, cut at the first
+    /// blank.
+    ///
+    /// # Errors
+    ///
+    /// `UnknownLineType` with the line for any other, or `Memory` where there is none for the path or
+    /// that text.
+    pub fn from_line(alloc: Global, line: &str) -> Result<WantedRef, Error>
+        ensures { ReadsOwned wanted_value (wanted_ref_line line.now) line.now result }
+    {
+        let (left, path) = cut(line.as_bytes().trim_end(), b' ');
+        let path = match path {
+            Some(path) => path,
+            None => return Err(unknown_line(alloc, line)),
+        };
+        let id = match ObjectId::from_hex(left) {
+            Ok(id) => id,
+            Err(_) => return Err(unknown_line(alloc, line)),
+        };
+        let path = BString::from_slice(alloc, path)?;
+        Ok(WantedRef { id, path })
+    }
+}
+
+// The error that carries a line.
+fn unknown_line(alloc: Global, line: &str) -> Error
+    ensures { IsRefusal result (unknown_line line.now) }
+{
+    match String::from_str(alloc, line) {
+        Ok(line) => Error::UnknownLineType { line },
+        Err(_) => Error::Memory,
+    }
+}
+
+// What stands behind a beginning.
+fn behind<'a>(text: &'a [u8], word: &[u8]) -> Option<&'a [u8]>
+    ensures { option_copied result ≡ behind word.now text.now }
+{
+    text.strip_prefix(word)
+}
+
+// Whether a text is a word, or begins with it and a blank.
+fn is_word(text: &[u8], word: &[u8]) -> bool
+    ensures { result ≡ is_word word.now text.now }
+{
+    match behind(text, word) {
+        Some([]) => true,
+        Some([next, ..]) => *next == b' ',
+        None => false,
+    }
+}
+
+// What is said of an id.
+fn describe(id: ObjectId, description: &[u8]) -> Option<Acknowledgement>
+    ensures { result ≡ described (Some id.bytes) description.now }
+{
+    if description == b"".as_slice() || description == b" common".as_slice() {
+        Some(Acknowledgement::Common(id))
+    } else if description == b" ready".as_slice() {
+        Some(Acknowledgement::Ready)
+    } else {
+        None
+    }
+}
+
+// An id, and what is said of it.
+fn read_acknowledged(text: &[u8]) -> Option<Acknowledgement>
+    ensures { result ≡ acknowledged (Some text.now) }
+{
+    if text.len() < 40 {
+        return None;
+    }
+    let (digits, description) = text.split_at(40);
+    match ObjectId::from_hex(digits) {
+        Ok(id) => describe(id, description),
+        Err(_) => None,
+    }
+}
+
+// The acknowledgement that a line is.
+pub(crate) fn read_acknowledgement(line: &[u8]) -> Option<Acknowledgement>
+    ensures { result ≡ acknowledgement_line line.now }
+{
+    let text = line.trim_end();
+    if is_word(text, b"ready") {
+        Some(Acknowledgement::Ready)
+    } else if is_word(text, b"NAK") {
+        Some(Acknowledgement::Nak)
+    } else {
+        match behind(text, b"ACK ") {
+            Some(rest) => read_acknowledged(rest),
+            None => None,
+        }
+    }
+}
+
+// The shallow update that a line is.
+pub(crate) fn read_shallow_update(line: &[u8]) -> Option<ShallowUpdate>
+    ensures { result ≡ shallow_update_line line.now }
+{
+    let text = line.trim_end();
+    if let Some(digits) = behind(text, b"shallow ") {
+        return match ObjectId::from_hex(digits) {
+            Ok(id) => Some(ShallowUpdate::Shallow(id)),
+            Err(_) => None,
+        };
+    }
+    match behind(text, b"unshallow ") {
+        Some(digits) => match ObjectId::from_hex(digits) {
+            Ok(id) => Some(ShallowUpdate::Unshallow(id)),
+            Err(_) => None,
+        },
+        None => None,
+    }
+}

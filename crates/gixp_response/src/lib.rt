@@ -1,0 +1,5 @@
+//! What a server answers in git's fetch protocol: from lines to what stands before a pack.
+#![tactic(auto)]
+
+pub mod fetch;
+pub mod laws;
