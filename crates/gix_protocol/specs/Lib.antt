@@ -33,24 +33,24 @@ pub use Rattle.gixp_wire.specs.Handshake
 pub use Rattle.gixp_sidebands.specs.Bands
 pub use Rattle.gixp_sidebands.specs.Telling
 pub use Rattle.gixp_sidebands.specs.Sidebands
-pub use Rattle.gixp_lines.specs.Ref
-pub use Rattle.gixp_lines.specs.RefLine
-pub use Rattle.gixp_lines.specs.ReadFails
-pub use Rattle.gixp_lines.specs.ParseError
-pub use Rattle.gixp_lines.specs.Runs
-pub use Rattle.gixp_lines.specs.Refs
-pub use Rattle.gixp_lines.specs.AnswerLine
-pub use Rattle.gixp_lines.specs.ResponseError
-pub use Rattle.gixp_lines.specs.Answer
-pub use Rattle.gixp_lines.specs.Sections
-pub use Rattle.gixp_lines.specs.Beginnings
-pub use Rattle.gixp_lines.specs.AnswerReading
-pub use Rattle.gixp_lines.specs.Features
-pub use Rattle.gixp_lines.specs.SectionGrammar
-pub use Rattle.gixp_lines.specs.RefAdvertisement
-pub use Rattle.gixp_lines.specs.V1Refs
-pub use Rattle.gixp_lines.specs.V1Line
-pub use Rattle.gixp_lines.specs.BeginningGrammar
+pub use Rattle.gixp_refs.specs.Ref
+pub use Rattle.gixp_refs.specs.RefLine
+pub use Rattle.gixp_response.specs.ReadFails
+pub use Rattle.gixp_refs.specs.ParseError
+pub use Rattle.gixp_response.specs.Runs
+pub use Rattle.gixp_refs.specs.Refs
+pub use Rattle.gixp_response.specs.AnswerLine
+pub use Rattle.gixp_response.specs.ResponseError
+pub use Rattle.gixp_response.specs.Answer
+pub use Rattle.gixp_response.specs.Sections
+pub use Rattle.gixp_response.specs.Beginnings
+pub use Rattle.gixp_response.specs.AnswerReading
+pub use Rattle.gixp_response.specs.Features
+pub use Rattle.gixp_response.specs.SectionGrammar
+pub use Rattle.gixp_refs.specs.RefAdvertisement
+pub use Rattle.gixp_refs.specs.V1Refs
+pub use Rattle.gixp_refs.specs.V1Line
+pub use Rattle.gixp_response.specs.BeginningGrammar
 pub use Rattle.gixp_requests.specs.Feature
 pub use Rattle.gixp_requests.specs.Command
 pub use Rattle.gixp_requests.specs.Arguments
@@ -144,7 +144,7 @@ pub use Rattle.gixp_fetch.specs.Again
 pub use Rattle.gixp_fetch.specs.Headline
 -- The types that they speak of.
 pub use Rattle.gixp_wire.specs.declared.object_id.ObjectId as ObjectIdType
-pub use Rattle.gixp_lines.specs.declared.handshake.refs.parse.Error as RefsError
+pub use Rattle.gixp_refs.specs.declared.handshake.refs.parse.Error as RefsError
 pub use Rattle.gixp_refspec.specs.declared.match_group.validate.Fix as FixType
 pub use Rattle.gixp_refmap.specs.declared.refmap.mapping.Mapping as MappingType
 pub use Rattle.gixp_refmap.specs.declared.refmap.map.RefMap as RefMapType

@@ -9,9 +9,9 @@ pub use gixp_fetch::shallow::{
     ShallowError, ShallowFile, ShallowMemory, ShallowStore, shallow_ids, shallow_text,
 };
 pub use gixp_fetch::{RemoteText, laws};
-pub use gixp_lines::fetch::{Response, response};
 pub use gixp_negotiate::shallow::Shallow;
 pub use gixp_progress::fetch::ProgressId;
 pub use gixp_refmap::fetch::Tags;
 pub use gixp_refmap::{RefMap, refmap};
 pub use gixp_requests::fetch::{Arguments, arguments};
+pub use gixp_response::fetch::{Response, response};

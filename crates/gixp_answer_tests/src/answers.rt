@@ -1,8 +1,8 @@
 //! Refs and answers over a device that fails at one read, and an answer in bands.
 use bstr::BStr;
-use gixp_lines::fetch::Response;
-use gixp_lines::fetch::response::{Acknowledgement, Error, ShallowUpdate};
-use gixp_lines::handshake::refs::from_v2_refs;
+use gixp_refs::handshake::refs::from_v2_refs;
+use gixp_response::fetch::Response;
+use gixp_response::fetch::response::{Acknowledgement, Error, ShallowUpdate};
 use gixp_sidebands::{BandText, NeverInterrupt, WithSidebands};
 use gixp_wire::{ExtendedBufRead, LineReader, ObjectId, Protocol};
 use std::alloc::{AllocError, Global};

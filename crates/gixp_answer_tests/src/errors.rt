@@ -1,9 +1,9 @@
 //! Texts of errors.
 use bstr::BString;
-use gixp_lines::fetch::Response;
-use gixp_lines::fetch::response::{Acknowledgement, Error};
-use gixp_lines::handshake::refs::parse;
+use gixp_refs::handshake::refs::parse;
 use gixp_requests::command::validate_argument_prefixes;
+use gixp_response::fetch::Response;
+use gixp_response::fetch::response::{Acknowledgement, Error};
 use gixp_wire::{PacketError, Protocol, client, decode, read};
 use std::alloc::{AllocError, Global};
 use std::fmt::Display;

@@ -14,16 +14,16 @@ use Rattle.gixp_wire.specs.Lines.{stop, lines_to}
 use Rattle.gixp_wire.specs.Pieces.{Pieces}
 use Rattle.gixp_wire.specs.Reading.{Reading, lines_ahead}
 use Rattle.gixp_sidebands.specs.Bands.{Side, content_left, content_of, side_content, IsFirstOf}
-use Rattle.gixp_lines.specs.declared.handshake.Ref.{Ref}
-use Rattle.gixp_lines.specs.declared.fetch.response.line.ShallowUpdate.{ShallowUpdate}
-use Rattle.gixp_lines.specs.Ref.{ref_value}
-use Rattle.gixp_lines.specs.RefLine.{refusal_from}
-use Rattle.gixp_lines.specs.Refs.{v2_refs}
-use Rattle.gixp_lines.specs.RefAdvertisement.{Symref, v1_refs}
-use Rattle.gixp_lines.specs.V1Refs.{ReadsV1}
-use Rattle.gixp_lines.specs.ResponseError.{from_reader}
-use Rattle.gixp_lines.specs.Answer.{AnswerValue, Found}
-use Rattle.gixp_lines.specs.AnswerReading.{Answered}
+use Rattle.gixp_refs.specs.declared.handshake.Ref.{Ref}
+use Rattle.gixp_response.specs.declared.fetch.response.line.ShallowUpdate.{ShallowUpdate}
+use Rattle.gixp_refs.specs.Ref.{ref_value}
+use Rattle.gixp_refs.specs.RefLine.{refusal_from}
+use Rattle.gixp_refs.specs.Refs.{v2_refs}
+use Rattle.gixp_refs.specs.RefAdvertisement.{Symref, v1_refs}
+use Rattle.gixp_refs.specs.V1Refs.{ReadsV1}
+use Rattle.gixp_response.specs.ResponseError.{from_reader}
+use Rattle.gixp_response.specs.Answer.{AnswerValue, Found}
+use Rattle.gixp_response.specs.AnswerReading.{Answered}
 use Rattle.gixp_requests.specs.Arguments.{ArgumentsValue}
 use Rattle.gixp_requests.specs.Feature.{FeatureValue}
 use Rattle.gixp_requests.specs.Command.{Table}

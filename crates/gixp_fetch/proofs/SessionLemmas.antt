@@ -7,8 +7,8 @@ use Rattle.gixp_wire.specs.Pieces.{Refusal}
 use Rattle.gixp_wire.specs.Reading.{Reading, Fails as reader_fails}
 use Rattle.gixp_sidebands.specs.Bands.{Side, side_reading, is_begun}
 use Rattle.gixp_requests.specs.Arguments.{ArgumentsValue}
-use Rattle.gixp_lines.specs.declared.fetch.response.line.ShallowUpdate.{ShallowUpdate}
-use Rattle.gixp_lines.specs.Answer.{AnswerValue}
+use Rattle.gixp_response.specs.declared.fetch.response.line.ShallowUpdate.{ShallowUpdate}
+use Rattle.gixp_response.specs.Answer.{AnswerValue}
 use Rattle.gixp_wire.specs.declared.object_id.ObjectId.{ObjectId}
 use Rattle.gixp_negotiate.specs.declared.negotiate.Round.{Round}
 use Rattle.gixp_negotiate.specs.Negotiate.{ActionValue, Lawful, IsWide}

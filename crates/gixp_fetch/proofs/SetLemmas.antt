@@ -14,8 +14,8 @@ use Rattle.std.proofs.lemmas.Map.Lookups.{CmpEqualImpliesEq}
 use Rattle.std.proofs.lemmas.Map.Views.{Contains-from_any, list_any-from_Contains, tells_apart}
 use Rattle.gixp_wire.specs.declared.object_id.ObjectId.{ObjectId}
 use Rattle.gixp_wire.specs.ObjectId.{id_cmp}
-use Rattle.gixp_lines.specs.declared.fetch.response.line.ShallowUpdate.{ShallowUpdate}
-use Rattle.gixp_lines.specs.declared.fetch.response.line.ShallowUpdate.TheVariants.{Shallow as becomes_shallow, Unshallow as becomes_whole}
+use Rattle.gixp_response.specs.declared.fetch.response.line.ShallowUpdate.{ShallowUpdate}
+use Rattle.gixp_response.specs.declared.fetch.response.line.ShallowUpdate.TheVariants.{Shallow as becomes_shallow, Unshallow as becomes_whole}
 use Rattle.gixp_graph.specs.GraphLaws.{ids_exact, ids_total}
 use Rattle.gixp_fetch.specs.Boundary.{IsSetOf, StaysIn, IsBoundary}
 use Rattle.gixp_fetch.specs.FetchShallow.{with_ids, with_updates, boundary}

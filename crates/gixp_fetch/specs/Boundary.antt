@@ -4,8 +4,8 @@ use Rattle.std.specs.List.{Contains}
 use Rattle.std.specs.List.Sorted.{IsStrictlySortedBy}
 use Rattle.gixp_wire.specs.ObjectId.{id_cmp}
 use Rattle.gixp_wire.specs.declared.object_id.ObjectId.{ObjectId}
-use Rattle.gixp_lines.specs.declared.fetch.response.line.ShallowUpdate.{ShallowUpdate}
-use Rattle.gixp_lines.specs.declared.fetch.response.line.ShallowUpdate.TheVariants.{Shallow as becomes_shallow, Unshallow as becomes_whole}
+use Rattle.gixp_response.specs.declared.fetch.response.line.ShallowUpdate.{ShallowUpdate}
+use Rattle.gixp_response.specs.declared.fetch.response.line.ShallowUpdate.TheVariants.{Shallow as becomes_shallow, Unshallow as becomes_whole}
 
 -- the ids of a list, in order, each once
 pub record IsSetOf (ids set : List ObjectId) : Type 0 where

@@ -10,22 +10,22 @@ use Rattle.gixp_wire.specs.Capabilities.{CapabilityValue}
 use Rattle.gixp_wire.specs.Greeting.{Parameter}
 use Rattle.gixp_wire.specs.Reading.{Reading, IsFresh, IsOutside, Rose, lines_ahead}
 use Rattle.gixp_sidebands.specs.Bands.{Side, content_of}
-use Rattle.gixp_lines.specs.declared.handshake.Ref.{Ref}
-use Rattle.gixp_lines.specs.declared.handshake.refs.parse.Error.{Error as refs_error}
-use Rattle.gixp_lines.specs.declared.handshake.refs.parse.Error.TheVariants.{Memory as refs_memory}
-use Rattle.gixp_lines.specs.declared.fetch.response.error.Error.{Error as answer_error}
-use Rattle.gixp_lines.specs.declared.fetch.response.error.Error.TheVariants.{Memory as answer_memory}
-use Rattle.gixp_lines.specs.Ref.{ref_value}
-use Rattle.gixp_lines.specs.RefLine.{RefsRefusal, refusal_from}
-use Rattle.gixp_lines.specs.ParseError.{parse_refusal, IsRefusal as IsRefsRefusal}
-use Rattle.gixp_lines.specs.Refs.{v2_refs, RefsFail}
-use Rattle.gixp_lines.specs.RefAdvertisement.{Symref, symref_table, v1_refs}
-use Rattle.gixp_lines.specs.V1Refs.{V1Fails}
-use Rattle.gixp_lines.specs.ResponseError.{AnswerRefusal, answer_refusal, from_reader, IsRefusal}
-use Rattle.gixp_lines.specs.Answer.{AnswerValue, Found, whole, refused}
-use Rattle.gixp_lines.specs.Beginnings.{expected as flags}
-use Rattle.gixp_lines.specs.AnswerReading.{answer_of, AnswerFails}
-use Rattle.gixp_lines.specs.declared.fetch.response.line.ShallowUpdate.{ShallowUpdate}
+use Rattle.gixp_refs.specs.declared.handshake.Ref.{Ref}
+use Rattle.gixp_refs.specs.declared.handshake.refs.parse.Error.{Error as refs_error}
+use Rattle.gixp_refs.specs.declared.handshake.refs.parse.Error.TheVariants.{Memory as refs_memory}
+use Rattle.gixp_response.specs.declared.fetch.response.error.Error.{Error as answer_error}
+use Rattle.gixp_response.specs.declared.fetch.response.error.Error.TheVariants.{Memory as answer_memory}
+use Rattle.gixp_refs.specs.Ref.{ref_value}
+use Rattle.gixp_refs.specs.RefLine.{RefsRefusal, refusal_from}
+use Rattle.gixp_refs.specs.ParseError.{parse_refusal, IsRefusal as IsRefsRefusal}
+use Rattle.gixp_refs.specs.Refs.{v2_refs, RefsFail}
+use Rattle.gixp_refs.specs.RefAdvertisement.{Symref, symref_table, v1_refs}
+use Rattle.gixp_refs.specs.V1Refs.{V1Fails}
+use Rattle.gixp_response.specs.ResponseError.{AnswerRefusal, answer_refusal, from_reader, IsRefusal}
+use Rattle.gixp_response.specs.Answer.{AnswerValue, Found, whole, refused}
+use Rattle.gixp_response.specs.Beginnings.{expected as flags}
+use Rattle.gixp_response.specs.AnswerReading.{answer_of, AnswerFails}
+use Rattle.gixp_response.specs.declared.fetch.response.line.ShallowUpdate.{ShallowUpdate}
 use Rattle.gixp_requests.specs.Feature.{FeatureValue}
 use Rattle.gixp_requests.specs.Command.{Table}
 use Rattle.gixp_refmap.specs.declared.refmap.init.Context.{Context}

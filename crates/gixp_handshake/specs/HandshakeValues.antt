@@ -4,9 +4,9 @@ use Rattle.std.specs.Option.{option_map}
 use Rattle.std.specs.declared.alloc.Global.{Global}
 use Rattle.gixp_wire.specs.declared.protocol.Protocol.{Protocol}
 use Rattle.gixp_wire.specs.Capabilities.{CapabilityValue}
-use Rattle.gixp_lines.specs.declared.handshake.Ref.{Ref}
-use Rattle.gixp_lines.specs.declared.fetch.response.line.ShallowUpdate.{ShallowUpdate}
-use Rattle.gixp_lines.specs.Ref.{RefValue, ref_value}
+use Rattle.gixp_refs.specs.declared.handshake.Ref.{Ref}
+use Rattle.gixp_response.specs.declared.fetch.response.line.ShallowUpdate.{ShallowUpdate}
+use Rattle.gixp_refs.specs.Ref.{RefValue, ref_value}
 use Rattle.gixp_handshake.specs.declared.handshake.read.Handshake.{Handshake}
 
 pub record HandshakeValue : Type 0 where

@@ -6,11 +6,11 @@ use Rattle.gixp_wire.specs.Items.{is_stop}
 use Rattle.gixp_wire.specs.Lines.{gives, stops, refuses, next_from, next_of, Lines, lines_from, lines_of, lines_to, stop}
 use Rattle.gixp_wire.specs.Pieces.{Refusal, Piece, line, mark, Pieces, io, decode, server, unexpected_frame, not_utf8, bad_band, interrupted, memory}
 use Rattle.gixp_wire.specs.Reading.{Reading, TakesLine, IsOutside, IsPlain, Rose, lines_ahead, lines_from_stop}
-use Rattle.gixp_lines.specs.RefLine.{RefsRefusal, refusal_from}
-use Rattle.gixp_lines.specs.Ref.{RefValue}
-use Rattle.gixp_lines.specs.ParseError.{parse_refusal, is_outside}
-use Rattle.gixp_lines.specs.declared.handshake.refs.parse.Error.{Error}
-use Rattle.gixp_lines.specs.Refs.{with_ref, v2_refs, ReadsRefs, RefsFail}
+use Rattle.gixp_refs.specs.RefLine.{RefsRefusal, refusal_from}
+use Rattle.gixp_refs.specs.Ref.{RefValue}
+use Rattle.gixp_refs.specs.ParseError.{parse_refusal, is_outside}
+use Rattle.gixp_refs.specs.declared.handshake.refs.parse.Error.{Error}
+use Rattle.gixp_refs.specs.Refs.{with_ref, v2_refs, ReadsRefs, RefsFail}
 use Rattle.gixp_listing.specs.List.{ref_line, Prints, behind_stop, StopsBehind, PrintsAhead, is_device, RefusesAhead}
 
 -- these values in front of those to come

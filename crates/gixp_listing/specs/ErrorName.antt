@@ -1,7 +1,7 @@
 -- The names of refusals, as the program writes them on standard error.
 use Rattle.std.specs.Prelude.{ℕ, List, codes}
-use Rattle.gixp_lines.specs.RefLine.{RefsRefusal, io_failed, bad_frame, bad_id, malformed_symref, malformed_v1, malformed_v2, unknown_attribute, invariant, upload_pack, by_reader, no_memory}
-use Rattle.gixp_lines.specs.ParseError.{parse_refusal}
+use Rattle.gixp_refs.specs.RefLine.{RefsRefusal, io_failed, bad_frame, bad_id, malformed_symref, malformed_v1, malformed_v2, unknown_attribute, invariant, upload_pack, by_reader, no_memory}
+use Rattle.gixp_refs.specs.ParseError.{parse_refusal}
 use Rattle.gixp_listing.specs.declared.list.ListError.{ListError}
 use Rattle.gixp_listing.specs.declared.list.ListError.TheVariants.{Parse, Io}
 

@@ -1,13 +1,13 @@
 //! Listing the refs of a recorded `ls-refs` answer.
 ghost use Rattle.std.specs.Prelude.{◌≡◌, OnOk, IfErr, IfSome, MatchResult};
 ghost use Rattle.std.specs.Io.KnownBytes.{Appends, Keeps};
-ghost use Rattle.gixp_lines.specs.Refs.{stream_refs};
-ghost use Rattle.gixp_lines.specs.ParseError.{parse_refusal};
+ghost use Rattle.gixp_refs.specs.Refs.{stream_refs};
+ghost use Rattle.gixp_refs.specs.ParseError.{parse_refusal};
 ghost use Rattle.gixp_listing.specs.ErrorName.{error_name, list_error_name};
 ghost use Rattle.gixp_listing.specs.List.{Prints, PrintsAhead, RefusesAhead, ListsAhead, RefusesLines, RefusesList, IsParse};
 
 use crate::print::print_ref;
-use gixp_lines::handshake::refs::{next_v2_ref, parse};
+use gixp_refs::handshake::refs::{next_v2_ref, parse};
 use gixp_wire::{ExtendedBufRead, LineReader};
 use std::alloc::{AllocError, Global};
 use std::io;

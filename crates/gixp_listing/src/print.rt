@@ -1,10 +1,10 @@
 //! Refs as printed lines.
 ghost use Rattle.std.specs.Prelude.{◌≡◌, ◌++◌, OnOk, flat_map};
 ghost use Rattle.gixp_listing.specs.List.{ref_line, symbolic_line};
-ghost use Rattle.gixp_lines.specs.Ref.{ref_value};
-ghost use Rattle.gixp_lines.specs.ParseError.{object_of};
+ghost use Rattle.gixp_refs.specs.Ref.{ref_value};
+ghost use Rattle.gixp_refs.specs.ParseError.{object_of};
 
-use gixp_lines::handshake::Ref;
+use gixp_refs::handshake::Ref;
 use gixp_wire::ObjectId;
 use std::alloc::AllocError;
 

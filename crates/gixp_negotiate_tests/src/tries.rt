@@ -1,7 +1,6 @@
 //! What a call finds behind one that was refused.
 use crate::repository::{chain, had_memory, id, ref_map};
 use gixp_graph::{Flags, Graph, NegotiatorError, ObjectError, Objects, RefStoreError};
-use gixp_lines::fetch::Response;
 use gixp_memory::{MemoryObjects, MemoryRefs, Recorder};
 use gixp_negotiate::negotiate::negotiation::{NegotiateContext, Negotiation};
 use gixp_negotiate::negotiate::one_round::State;
@@ -12,6 +11,7 @@ use gixp_refmap::RefMap;
 use gixp_refmap::fetch::Tags;
 use gixp_requests::command::CommandTable;
 use gixp_requests::fetch::Arguments;
+use gixp_response::fetch::Response;
 use gixp_wire::{LineReader, Protocol};
 use std::alloc::{AllocError, Global};
 use std::io::ErrorKind;

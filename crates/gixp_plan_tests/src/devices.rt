@@ -1,7 +1,7 @@
 //! What no clause over a reader can say: the kind of a read that failed, and how far a reader is read.
 use crate::memory::{Source, collecting, steady, unless_memory};
-use gixp_lines::handshake::refs::parse;
 use gixp_listing::{ListError, list_refs};
+use gixp_refs::handshake::refs::parse;
 use std::io::ErrorKind;
 use std::test::Fail;
 

@@ -1,6 +1,6 @@
 //! Readers and writers of bytes in memory, which give and take less than was asked for, and fail.
-use gixp_lines::handshake::refs::parse;
 use gixp_listing::{ListError, list_refs};
+use gixp_refs::handshake::refs::parse;
 use std::alloc::{AllocError, Global};
 use std::io;
 use std::io::{ErrorKind, Read, Write};

@@ -6,8 +6,8 @@ use Rattle.gixp_wire.specs.Pieces.{Pieces}
 use Rattle.gixp_wire.specs.Reading.{Reading, Rose}
 use Rattle.gixp_wire.specs.Transport.{SentBy}
 use Rattle.gixp_sidebands.specs.Bands.{unband}
-use Rattle.gixp_lines.specs.Answer.{AnswerValue, Found, whole}
-use Rattle.gixp_lines.specs.AnswerReading.{Answered}
+use Rattle.gixp_response.specs.Answer.{AnswerValue, Found, whole}
+use Rattle.gixp_response.specs.AnswerReading.{Answered}
 use Rattle.gixp_fetch.specs.View.{view}
 use Rattle.gixp_planner.proofs.MappedLemmas.{if-known}
 

@@ -6,8 +6,8 @@ use Rattle.gixp_wire.specs.declared.protocol.Protocol.{Protocol}
 use Rattle.gixp_wire.specs.Capabilities.{CapabilityValue}
 use Rattle.gixp_wire.specs.Reading.{Reading}
 use Rattle.gixp_wire.specs.TransportState.{TransportState}
-use Rattle.gixp_lines.specs.declared.fetch.response.line.ShallowUpdate.{ShallowUpdate}
-use Rattle.gixp_lines.specs.Answer.{AnswerValue}
+use Rattle.gixp_response.specs.declared.fetch.response.line.ShallowUpdate.{ShallowUpdate}
+use Rattle.gixp_response.specs.Answer.{AnswerValue}
 use Rattle.gixp_requests.specs.Feature.{has_feature}
 use Rattle.gixp_requests.specs.Command.{git_table}
 use Rattle.gixp_requests.specs.Arguments.{ArgumentsValue, is_v2, asks_nothing}

@@ -7,7 +7,7 @@ use Rattle.gixp_wire.specs.declared.object_id.ObjectId.{ObjectId}
 use Rattle.gixp_graph.specs.GraphData.{GraphData}
 use Rattle.gixp_graph.specs.Run.{Call, IsRun}
 use Rattle.gixp_requests.specs.Arguments.{ArgumentsValue}
-use Rattle.gixp_lines.specs.Answer.{AnswerValue}
+use Rattle.gixp_response.specs.Answer.{AnswerValue}
 use Rattle.gixp_negotiate.specs.declared.negotiate.Round.{Round}
 use Rattle.gixp_negotiate.specs.Negotiate.{Window, ActionValue, no_change, skip, negotiate}
 use Rattle.gixp_negotiate.specs.Marking.{tips_in, Acts}

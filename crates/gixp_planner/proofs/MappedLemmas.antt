@@ -24,12 +24,12 @@ use Rattle.gixp_wire.specs.Handshake.{Handshakes, HandshakesBy}
 use Rattle.gixp_wire.specs.Capabilities.{CapabilityValue}
 use Rattle.gixp_wire.specs.CapabilityAdvertisement.{Advertised, advertisement, ReadsAdvertisement}
 use Rattle.gixp_wire.specs.Transport.{TakesAnswer, SentBy, FailsBy, Sends, entered, with_written, first_answer, later_answers, answer_pieces}
-use Rattle.gixp_lines.specs.declared.handshake.Ref.{Ref}
-use Rattle.gixp_lines.specs.declared.fetch.response.line.ShallowUpdate.{ShallowUpdate}
-use Rattle.gixp_lines.specs.Ref.{RefValue, ref_value}
-use Rattle.gixp_lines.specs.Refs.{v2_refs, ReadsRefs}
-use Rattle.gixp_lines.specs.RefAdvertisement.{Symref, symref_table, groups}
-use Rattle.gixp_lines.specs.V1Refs.{ReadsV1}
+use Rattle.gixp_refs.specs.declared.handshake.Ref.{Ref}
+use Rattle.gixp_response.specs.declared.fetch.response.line.ShallowUpdate.{ShallowUpdate}
+use Rattle.gixp_refs.specs.Ref.{RefValue, ref_value}
+use Rattle.gixp_refs.specs.Refs.{v2_refs, ReadsRefs}
+use Rattle.gixp_refs.specs.RefAdvertisement.{Symref, symref_table, groups}
+use Rattle.gixp_refs.specs.V1Refs.{ReadsV1}
 use Rattle.gixp_requests.specs.Command.{git_table}
 use Rattle.gixp_refspec.specs.declared.spec.RefSpec.{RefSpec}
 use Rattle.gixp_refspec.specs.Spec.{Spec}

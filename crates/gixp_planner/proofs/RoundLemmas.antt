@@ -4,10 +4,10 @@ use Rattle.std.specs.Prelude.{ℕ}
 use Rattle.gixp_wire.specs.declared.object_id.ObjectId.{ObjectId}
 use Rattle.gixp_wire.specs.FrameText.{texts_of}
 use Rattle.gixp_wire.specs.TransportState.{TransportState}
-use Rattle.gixp_lines.specs.declared.fetch.response.line.ShallowUpdate.{ShallowUpdate}
-use Rattle.gixp_lines.specs.Answer.{AnswerValue}
-use Rattle.gixp_lines.specs.AnswerReading.{answer_of, Answered}
-use Rattle.gixp_lines.specs.Beginnings.{expected as flags}
+use Rattle.gixp_response.specs.declared.fetch.response.line.ShallowUpdate.{ShallowUpdate}
+use Rattle.gixp_response.specs.Answer.{AnswerValue}
+use Rattle.gixp_response.specs.AnswerReading.{answer_of, Answered}
+use Rattle.gixp_response.specs.Beginnings.{expected as flags}
 use Rattle.gixp_requests.specs.Arguments.{ArgumentsValue}
 use Rattle.gixp_requests.specs.Request.{request, sent_off}
 use Rattle.gixp_negotiate.specs.declared.negotiate.Round.{Round}

@@ -4,9 +4,9 @@ use Rattle.std.specs.List.{AllZip, slice_get}
 use Rattle.std.specs.Option.{option_map}
 use Rattle.bstr.specs.Owned.{bstring_bytes}
 use Rattle.gixp_wire.specs.declared.object_id.ObjectId.{ObjectId}
-use Rattle.gixp_lines.specs.declared.handshake.Ref.{Ref}
-use Rattle.gixp_lines.specs.declared.handshake.Ref.TheVariants.{Peeled, Direct, Symbolic, Unborn}
-use Rattle.gixp_lines.specs.Ref.{RefValue, peeled, direct, symbolic, unborn, ref_value}
+use Rattle.gixp_refs.specs.declared.handshake.Ref.{Ref}
+use Rattle.gixp_refs.specs.declared.handshake.Ref.TheVariants.{Peeled, Direct, Symbolic, Unborn}
+use Rattle.gixp_refs.specs.Ref.{RefValue, peeled, direct, symbolic, unborn, ref_value}
 use Rattle.gixp_refspec.specs.declared.match_group.validate.Fix.{Fix}
 use Rattle.gixp_refspec.specs.Spec.{Spec}
 use Rattle.gixp_refspec.specs.Mappings.{Source as SourceValue, FullName, ObjectId as IdOf, Mapped}

@@ -16,7 +16,7 @@ use Rattle.gixp_fetch.specs.declared.error.Error.{Error as FetchError}
 use Rattle.gixp_fetch.specs.declared.options.Outcome.{Outcome}
 use Rattle.gixp_requests.specs.Command.{Table, git_table}
 use Rattle.gixp_requests.specs.Feature.{FeatureValue}
-use Rattle.gixp_lines.specs.Answer.{update_items}
+use Rattle.gixp_response.specs.Answer.{update_items}
 use Rattle.gixp_refmap.specs.declared.fetch.Tags.TheVariants as tags
 use Rattle.gixp_fetch.specs.FetchShallow.{ShallowValue, no_change}
 use Rattle.gixp_fetch.specs.Fetch.{World, Parties}

@@ -4,7 +4,7 @@ use Rattle.gixp_wire.specs.declared.service.Service.TheVariants.{UploadPack}
 use Rattle.gixp_wire.specs.Reading.{Reading}
 use Rattle.gixp_requests.specs.Feature.{FeatureValue}
 use Rattle.gixp_requests.specs.Command.{git_table}
-use Rattle.gixp_lines.specs.Answer.{update_items}
+use Rattle.gixp_response.specs.Answer.{update_items}
 use Rattle.gixp_refmap.specs.declared.fetch.Tags.TheVariants as tags
 use Rattle.gixp_refmap.specs.declared.refmap.init.Context.{Context}
 use Rattle.gixp_refmap.specs.declared.refmap.init.Error.{Error as MapError}

@@ -6,7 +6,7 @@ use Rattle.std.proofs.lemmas.Bool.{cases_Bool, or_left, or_right}
 use Rattle.std.proofs.lemmas.List.Folds.{list_any-append}
 use Rattle.std.proofs.lemmas.Option.{slice_get_within}
 use Rattle.std.specs.Str.{bytes_eq}
-use Rattle.gixp_lines.specs.Ref.{RefValue}
+use Rattle.gixp_refs.specs.Ref.{RefValue}
 use Rattle.gixp_refspec.specs.Spec.{Spec}
 use Rattle.gixp_refspec.specs.Matching.{prefixes_of, is_covered}
 use Rattle.gixp_refspec.specs.Mappings.{Source, FullName, ObjectId, Mapped}

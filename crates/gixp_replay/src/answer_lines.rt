@@ -2,7 +2,7 @@
 use crate::report::Report;
 use crate::rows::Row;
 use crate::values;
-use gixp_lines::fetch::response::{Acknowledgement, WantedRef, shallow_update_from_line};
+use gixp_response::fetch::response::{Acknowledgement, WantedRef, shallow_update_from_line};
 use gixp_wire::{Kind, ObjectId};
 use std::alloc::Global;
 

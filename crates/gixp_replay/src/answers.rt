@@ -10,7 +10,7 @@ use crate::packs::Notes;
 use crate::report::Report;
 use crate::rows::Row;
 use crate::values;
-use gixp_lines::fetch::Response;
+use gixp_response::fetch::Response;
 use gixp_sidebands::{NeverInterrupt, WithSidebands};
 use gixp_wire::{ExtendedBufRead, LineReader, Protocol, Transport};
 use std::alloc::{AllocError, Global};

@@ -8,7 +8,7 @@ use crate::report::Report;
 use crate::rows::{Row, cut_at};
 use crate::values;
 use bstr::BString;
-use gixp_lines::handshake::refs::from_capabilities;
+use gixp_refs::handshake::refs::from_capabilities;
 use gixp_wire::{Capabilities, Capability};
 use std::alloc::{AllocError, Global};
 

@@ -9,7 +9,7 @@ use crate::report::Report;
 use crate::rows::Row;
 use crate::values::{capability_list, client_error, parse_error, update, version_of, version_word};
 use bstr::BString;
-use gixp_lines::handshake::refs::from_v1_refs_received_as_part_of_handshake_and_capabilities;
+use gixp_refs::handshake::refs::from_v1_refs_received_as_part_of_handshake_and_capabilities;
 use gixp_wire::{
     Bodies, Body, Capabilities, Connection, Opening, Service, SetServiceResponse, Transport,
 };

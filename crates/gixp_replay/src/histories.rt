@@ -20,11 +20,11 @@
 use crate::rows::{cut_at_byte, number};
 use bstr::{BStr, BString};
 use gixp_graph::{CommitData, ObjectError, ObjectKind, RefStoreError};
-use gixp_lines::fetch::Response;
-use gixp_lines::handshake::Ref;
 use gixp_memory::{MemoryObjects, MemoryRefs, StoredObject};
 use gixp_refmap::refmap::{Mapping, RefMap, Source, SpecIndex};
+use gixp_refs::handshake::Ref;
 use gixp_refspec::parse::{Operation, parse};
+use gixp_response::fetch::Response;
 use gixp_wire::{LineReader, ObjectId, Protocol};
 use std::alloc::{AllocError, Global};
 use std::io::ErrorKind;

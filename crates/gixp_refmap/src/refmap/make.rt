@@ -2,7 +2,7 @@
 ghost use Rattle.std.specs.Prelude.{◌≡◌, ◌++◌, IfOk, OnOk, IsSome, None, [], length, map};
 ghost use Rattle.std.specs.Option.{option_to_list};
 ghost use Rattle.std.specs.List.{AllByRecursion, AllZip, slice_get};
-ghost use Rattle.gixp_lines.specs.Ref.{RefValue, ref_value};
+ghost use Rattle.gixp_refs.specs.Ref.{RefValue, ref_value};
 ghost use Rattle.gixp_refspec.specs.RefSpec.{value_of, owned_value_of};
 ghost use Rattle.gixp_refspec.specs.MatchGroup.{mapped_of, mapped_in, name_of, names, source_of};
 ghost use Rattle.gixp_refmap.specs.Mapping.{value_name, value_names, joined_specs, spec_at, spec_place, IsRemote, IsMapping, Maps, HoldsOfAll};
@@ -10,7 +10,7 @@ ghost use Rattle.gixp_refmap.specs.RefMapItems.{HasItem, HasRemote};
 
 use crate::refmap::init::Error;
 use crate::refmap::mapping::{Mapping, Source, SpecIndex, copy_of};
-use gixp_lines::handshake::Ref;
+use gixp_refs::handshake::Ref;
 use gixp_refspec::match_group::validate::Fix;
 use gixp_refspec::match_group::{self, Item, MatchGroup, SourceRef};
 use gixp_refspec::{RefSpec, RefSpecRef, laws};

@@ -1,6 +1,6 @@
 use Rattle.std.proofs.Common.{ap, refl, inl, inr}
 use Rattle.std.proofs.lemmas.Result.{err_from_is_err_and}
-use Rattle.gixp_lines.specs.Answer.{update_items}
+use Rattle.gixp_response.specs.Answer.{update_items}
 use Rattle.gixp_fetch.specs.Fetched.{unprepared, unlocked}
 use Rattle.gixp_fetch.proofs.FetchLemmas.{session_at, nothing_at, refusal_at}
 use Rattle.gixp_fetch.proofs.fetch.carry_out.Goals as goal

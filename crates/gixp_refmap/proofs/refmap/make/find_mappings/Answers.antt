@@ -2,7 +2,7 @@
 use Rattle.std.proofs.Common.{◌≡◌, List, Ok, Err, length, map, sym, subst, rules}
 use Rattle.std.specs.List.{AllZip, AllByRecursion}
 use Rattle.std.proofs.lemmas.Result.{err_from_is_err_and}
-use Rattle.gixp_lines.specs.Ref.{ref_value}
+use Rattle.gixp_refs.specs.Ref.{ref_value}
 use Rattle.gixp_refspec.specs.Mappings.{Mapped}
 use Rattle.gixp_refspec.specs.MatchGroup.{mapped_in}
 use Rattle.gixp_refspec.specs.Validation.{kept}

@@ -1,7 +1,7 @@
 -- One ref more.
 use Rattle.std.proofs.Common.{[], ◌∷◌, ◌++◌, ◌∙◌, ap}
 use Rattle.std.proofs.lemmas.List.{map-append}
-use Rattle.gixp_lines.specs.Ref.{ref_value}
+use Rattle.gixp_refs.specs.Ref.{ref_value}
 use Rattle.gixp_refspec.specs.MatchGroup.{name_of, names}
 use Rattle.gixp_refmap.proofs.ListLemmas.{mapped_more}
 use Rattle.gixp_refmap.specs.Mapping.{value_name}

@@ -1,7 +1,7 @@
 -- One copy more.
 use Rattle.std.proofs.Common.{[], ◌∷◌, map, ap, ◌∙◌}
 use Rattle.std.proofs.lemmas.List.{map-append}
-use Rattle.gixp_lines.specs.Ref.{ref_value}
+use Rattle.gixp_refs.specs.Ref.{ref_value}
 use Rattle.gixp_refmap.proofs.CloneLemmas.{copied_more}
 use Rattle.gixp_refmap.proofs.refmap.map.copied_refs.Goals as goal
 
