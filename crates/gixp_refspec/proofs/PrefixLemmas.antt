@@ -1,9 +1,9 @@
 -- Each name that a refspec matches begins with one of its prefixes.
-use Rattle.std.proofs.Common.{◌≡◌, ℕ, Bool, true, false, List, [], ◌++◌, nat_eq, Option, Some, None, Result, ap, subst, sym, ◌∙◌, refl}
+use Rattle.std.proofs.Common.{◌≡◌, ℕ, Bool, true, false, List, [], ◌∷◌, ◌++◌, nat_eq, Option, Some, None, Result, ap, subst, sym, ◌∙◌, refl, inl, inr}
 use Rattle.std.specs.Prelude.{is_some}
-use Rattle.std.specs.List.{starts_with}
+use Rattle.std.specs.List.{list_any, starts_with}
 use Rattle.std.specs.Str.{bytes_eq}
-use Rattle.std.proofs.lemmas.Bool.{or_right, or_left, cond-false, false≢true}
+use Rattle.std.proofs.lemmas.Bool.{or_cases, or_right, or_left, cond-false, false≢true}
 use Rattle.std.proofs.lemmas.Bool.Decides.{Decides-eqb}
 use Rattle.std.proofs.lemmas.List.{append-nil}
 use Rattle.std.proofs.lemmas.List.Folds.{list_any-append}
@@ -12,11 +12,18 @@ use Rattle.gixp_refspec.specs.Spec.{Spec, is_negative}
 use Rattle.gixp_refspec.specs.Matching.{Kind, Id, Pattern, Exact, Short, kind_of, middle_by, middle_of, where_true, between, before_star, after_star, candidates, prefixes_by, prefixes_of, matches, is_covered}
 use Rattle.std.specs.Borrow.{Bor}
 use Rattle.std.specs.declared.alloc.AllocError.{AllocError}
-use Rattle.gixp_refspec.specs.declared.match_group.needle.Needle.TheVariants.{Short as the_short}
+use Rattle.gixp_refspec.specs.declared.needle.Needle.TheVariants.{Short as the_short}
 use Rattle.gixp_refspec.specs.Needle.{IsNeedle}
 use Rattle.gixp_refspec.specs.Texts.{AddsSome}
-use Rattle.gixp_refspec.proofs.ListLemmas.{any_weaker}
 use Rattle.gixp_refspec.proofs.MatchLemmas.{between_some}
+
+-- what passes one test passes a weaker one
+pub any_weaker : {A : Type 0} (p q : A → Bool) → ((x : A) → p x ≡ true → q x ≡ true) → (xs : List A) → list_any p xs ≡ true → list_any q xs ≡ true
+any_weaker p q h [] t = t
+any_weaker p q h (x ∷ xs) t = elim (or_cases (p x) (list_any p xs) t) [
+  | inl here ↦ or_left _ _ (h x here)
+  | inr later ↦ or_right _ _ (any_weaker p q h xs later)
+]
 
 -- a name that is front and rest begins with front
 starts : (name front rest : List ℕ) → name ≡ front ++ rest → starts_with nat_eq name front ≡ true

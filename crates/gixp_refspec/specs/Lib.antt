@@ -6,14 +6,3 @@ pub mod PartialName
 pub mod Matching
 pub mod Texts
 pub mod Needle
-pub mod Rows
-pub mod Mappings
-pub mod Firsts
-pub mod MatchGroup
-pub mod Validation
-pub mod Apart
-pub mod Groups
-pub mod Validate
-pub mod Leaving
-pub mod RefspecLaws
-pub mod Digest

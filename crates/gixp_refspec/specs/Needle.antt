@@ -2,8 +2,8 @@
 use Rattle.std.specs.Prelude.{ℕ, ◌≡◌, List, Option, None}
 use Rattle.std.specs.List.{list_any}
 use Rattle.std.specs.Str.{bytes_eq}
-use Rattle.gixp_refspec.specs.declared.match_group.needle.Needle.{Needle}
-use Rattle.gixp_refspec.specs.declared.match_group.needle.Needle.TheVariants.{Id as the_id, Pattern as the_pattern, Exact as the_exact, Short as the_short}
+use Rattle.gixp_refspec.specs.declared.needle.Needle.{Needle}
+use Rattle.gixp_refspec.specs.declared.needle.Needle.TheVariants.{Id as the_id, Pattern as the_pattern, Exact as the_exact, Short as the_short}
 use Rattle.gixp_refspec.specs.Matching.{Id, Pattern, Exact, Short, kind_of, before_star, after_star, between, where_true, candidates}
 
 -- the needle says what the source is

@@ -1,18 +1,16 @@
-//! Refspecs of `git fetch` (git-fetch, "<refspec>"): reading and writing them, the prefixes that a server is asked
-//! for, and what a list of them maps of the refs that it answers.
+//! Refspecs of `git fetch` (git-fetch, "<refspec>"): reading and writing them, which names their sources match, and the
+//! prefixes that a server is asked for. What a list of them maps is in the crate above.
 #![tactic(auto)]
 
 pub mod instruction;
-pub mod laws;
-pub mod match_group;
-mod name;
+pub mod name;
+pub mod needle;
 pub mod parse;
 mod prefixes;
 mod same;
-mod spec;
-mod text;
+pub mod spec;
+pub mod text;
 
 pub use instruction::Instruction;
-pub use match_group::MatchGroup;
 pub use name::PartialName;
 pub use spec::{RefSpec, RefSpecRef};

@@ -112,9 +112,9 @@ impl Clone for PartialName {
     }
 }
 
-/// Whether the bytes keep the rules for names, with no asterisk.
+/// Whether the bytes keep the rules for names, with no asterisk; for local names, which the crate above makes.
 #[tactic(auto, unfolding(crate::specs::Name::is_partial_name))]
-pub(crate) fn is_partial_name(name: &[u8]) -> bool
+pub fn is_partial_name(name: &[u8]) -> bool
     ensures { result ≡ is_partial_name name.now }
 {
     is_name(name) && !name.contains(&b'*')

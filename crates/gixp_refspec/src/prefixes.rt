@@ -4,7 +4,7 @@ ghost use Rattle.bstr.specs.Owned.{bstring_bytes};
 ghost use Rattle.gixp_refspec.specs.Matching.{kind_of, candidates, joined, rule_of, prefixes_by};
 ghost use Rattle.gixp_refspec.specs.Texts.{texts, AddsSome};
 
-use crate::match_group::needle::{Needle, RULES};
+use crate::needle::{Needle, RULES};
 use crate::text::joined;
 use bstr::BString;
 use std::alloc::{AllocError, Global};

@@ -2,11 +2,7 @@
 ghost use Rattle.std.specs.Prelude.{◌≡◌, ◌↔◌, IsTrue};
 ghost use Rattle.gixp_refspec.specs.RefSpec.{value_of, owned_value_of};
 ghost use Rattle.gixp_refspec.specs.PartialName.{name_bytes};
-ghost use Rattle.gixp_refspec.specs.MatchGroup.{mapped_of};
-ghost use Rattle.gixp_refspec.specs.Validate.{removed_of};
 
-use crate::match_group::Mapping;
-use crate::match_group::validate::Fix;
 use crate::name::PartialName;
 use crate::spec::{RefSpec, RefSpecRef};
 
@@ -29,18 +25,4 @@ fn is_same_name(x: &PartialName, y: &PartialName) -> bool
     ensures { IsTrue result ↔ (name_bytes x.now ≡ name_bytes y.now) }
 {
     x == y
-}
-
-/// Two mappings are equal exactly where they are one value.
-fn is_same_mapping(one: &Mapping, other: &Mapping) -> bool
-    ensures { IsTrue result ↔ (mapped_of one.now ≡ mapped_of other.now) }
-{
-    one == other
-}
-
-/// Two fixes are equal exactly where they are one value.
-fn is_same_fix(first: &Fix, second: &Fix) -> bool
-    ensures { IsTrue result ↔ (removed_of first.now ≡ removed_of second.now) }
-{
-    first == second
 }

@@ -22,24 +22,24 @@ pub enum Sign {
     Exclude,
 }
 
-/// Whether the sign is that of a negative refspec.
-pub(crate) fn is_negative(sign: Sign) -> bool
+/// Whether the sign is that of a negative refspec; for the crate above, which maps what the others match.
+pub fn is_negative(sign: Sign) -> bool
     ensures { result ≡ is_negative sign }
 {
     matches!(sign, Sign::Exclude)
 }
 
-/// How many asterisks the text has.
+/// How many asterisks the text has; for the crate above too, which treats patterns apart.
 #[tactic(auto, unfolding(crate::specs::Spec::stars))]
-pub(crate) fn stars(text: &[u8]) -> usize
+pub fn stars(text: &[u8]) -> usize
     ensures { result ≡ stars text.now }
 {
     text.iter().filter(|byte| **byte == b'*').count()
 }
 
-/// Whether the text is `HEAD` or begins with `refs/`.
+/// Whether the text is `HEAD` or begins with `refs/`; for local names, which the crate above makes.
 #[tactic(auto, unfolding(crate::specs::Spec::is_full))]
-pub(crate) fn is_full(text: &[u8]) -> bool
+pub fn is_full(text: &[u8]) -> bool
     ensures { result ≡ is_full text.now }
 {
     text == b"HEAD".as_slice() || text.starts_with(b"refs/")
@@ -53,8 +53,8 @@ pub(crate) fn is_id(text: &[u8]) -> bool
     id_in(text).is_some()
 }
 
-/// The object id of which this is the text.
-pub(crate) fn id_in(text: &[u8]) -> Option<ObjectId>
+/// The object id of which this is the text; for the crate above, which maps ids.
+pub fn id_in(text: &[u8]) -> Option<ObjectId>
     ensures { option_map (λ id. id.bytes) result ≡ id_of text.now }
 {
     match ObjectId::from_hex(text) {
@@ -66,9 +66,12 @@ pub(crate) fn id_in(text: &[u8]) -> Option<ObjectId>
 /// A refspec that borrows its text. Two are equal where their signs, sources and destinations are.
 #[derive(Clone, Copy, Debug, PartialEq, Eq)]
 pub struct RefSpecRef<'a> {
-    pub(crate) sign: Sign,
-    pub(crate) source: &'a [u8],
-    pub(crate) destination: Option<&'a [u8]>,
+    /// What stands before the source; the crate above matches by it.
+    pub sign: Sign,
+    /// The source, which the crate above compares with names.
+    pub source: &'a [u8],
+    /// The destination, of which the crate above makes local names.
+    pub destination: Option<&'a [u8]>,
     pub ghost valid: { IsTrue (is_spec (spec sign source.now (option_copied destination))) },
 }
 

@@ -1,4 +1,4 @@
-//! Texts that are made of others.
+//! Texts that are made of others, for the crate above.
 ghost use Rattle.std.specs.Prelude.{◌≡◌, ◌++◌, IfOk};
 ghost use Rattle.bstr.specs.Owned.{bstring_bytes};
 
@@ -6,7 +6,7 @@ use bstr::BString;
 use std::alloc::{AllocError, Global};
 
 /// The three texts, one after another.
-pub(crate) fn joined(
+pub fn joined(
     alloc: Global,
     front: &[u8],
     middle: &[u8],

@@ -1,0 +1,22 @@
+-- Lemmas.
+pub mod NeedleLemmas
+pub mod PairLemmas
+pub mod ListLemmas
+pub mod WalkLemmas
+pub mod FirstLemmas
+pub mod KeyLemmas
+pub mod GroupLemmas
+pub mod LeavingLemmas
+pub mod SameValidationLemmas
+pub mod LawLemmas
+pub mod SortedLemmas
+pub mod DifferLemmas
+pub mod UniqueLemmas
+pub mod DistinctLemmas
+pub mod DigestLemmas
+pub mod RowLemmas
+pub mod PlaceLemmas
+pub mod NegativeLemmas
+pub mod KeptLemmas
+pub mod BackedLemmas
+pub mod OriginLemmas

@@ -1,0 +1,10 @@
+-- Keys that rise once they are sorted are all different.
+use Rattle.std.proofs.Common.{◌≡◌, Less, length, subst}
+use Rattle.std.specs.List.{AllAdjacentBelow}
+use Rattle.gixp_matching.proofs.DistinctLemmas.{distinct_sorted}
+use Rattle.gixp_matching.proofs.match_group.sorted.are_rising_sorted.Goals as goal
+
+pub returns : goal.returns
+returns g c = λ t.
+    distinct_sorted g.met.K.Ord.total c.args.keys.items c.sort.new.self.items c.in_ok-sort.ensures.permutation
+    (subst (λ l. AllAdjacentBelow (λ x y. g.K.Ord.cmp x y ≡ Less) l (length l)) c.deref.ensures.value (c.is_rising.ensures t))

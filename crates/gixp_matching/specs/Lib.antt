@@ -1,0 +1,12 @@
+-- What contracts cite.
+pub mod Rows
+pub mod Mappings
+pub mod Firsts
+pub mod MatchGroup
+pub mod Validation
+pub mod Apart
+pub mod Groups
+pub mod Validate
+pub mod Leaving
+pub mod RefspecLaws
+pub mod Digest

@@ -1,0 +1,66 @@
+-- What a clause reads of a match group, its items and its outcome.
+use Rattle.std.specs.Prelude.{ℕ, Bool, ◌&&◌, List, map, Option, Vec}
+use Rattle.std.specs.List.{list_any}
+use Rattle.std.specs.Option.{option_map}
+use Rattle.std.specs.declared.alloc.Global.{Global}
+use Rattle.bstr.specs.BStr.{bstr_bytes}
+use Rattle.bstr.specs.Owned.{bstring_bytes}
+use Rattle.gixp_matching.specs.declared.match_group.Item.{Item}
+use Rattle.gixp_matching.specs.declared.match_group.SourceRef.{SourceRef}
+use Rattle.gixp_matching.specs.declared.match_group.SourceRef.TheVariants.{FullName as the_name, ObjectId as the_id}
+use Rattle.gixp_matching.specs.declared.match_group.Mapping.{Mapping}
+use Rattle.gixp_matching.specs.declared.match_group.key.KeyBytes.{KeyBytes}
+use Rattle.gixp_matching.specs.declared.match_group.key.KeySource.{KeySource}
+use Rattle.gixp_matching.specs.declared.match_group.key.KeySource.TheVariants.{FullName as the_name_key, ObjectId as the_id_key}
+use Rattle.gixp_matching.specs.declared.match_group.Outcome.{Outcome}
+use Rattle.gixp_matching.specs.declared.match_group.MatchGroup.{MatchGroup}
+use Rattle.gixp_refspec.specs.declared.spec.RefSpecRef.{RefSpecRef}
+use Rattle.gixp_refspec.specs.Spec.{Spec}
+use Rattle.gixp_refspec.specs.RefSpec.{value_of}
+use Rattle.gixp_matching.specs.Mappings.{Source, FullName, ObjectId as IdOf, Mapped, mapped, source_eq, local_eq}
+
+-- what a source of the code means
+abbrev pub source_of : SourceRef → Source
+source_of (the_name name) = FullName (bstring_bytes name)
+source_of (the_id id) = IdOf id.bytes
+
+-- what a mapping of the code means
+abbrev pub mapped_of : Mapping → Mapped
+mapped_of m = mapped m.item_index (source_of m.lhs) (option_map bstring_bytes m.rhs) m.spec_index
+
+-- the mappings of a vector
+abbrev pub mapped_in : Vec Mapping Global → List Mapped
+mapped_in v = map mapped_of v.items
+
+-- the bytes of a key
+abbrev pub key_bytes : KeyBytes → List ℕ
+key_bytes key = key.bytes.now
+
+-- the source that a key is of
+abbrev pub key_source : KeySource → Source
+key_source (the_name_key name) = FullName (key_bytes name)
+key_source (the_id_key id) = IdOf (key_bytes id)
+
+-- the table of sources and local names has those of the mapping
+abbrev pub is_marked : List (KeySource × Option KeyBytes) → Mapped → Bool
+is_marked keys m = list_any (λ key. source_eq (key_source key.0) m.source && local_eq (option_map key_bytes key.1) m.local) keys
+
+-- the values of refspecs
+abbrev pub values : List RefSpecRef → List Spec
+values specs = map value_of specs
+
+-- the name of a ref
+abbrev pub name_of : Item → List ℕ
+name_of item = bstr_bytes item.full_ref_name
+
+-- the names of refs
+abbrev pub names : List Item → List (List ℕ)
+names items = map name_of items
+
+-- the refspecs of a group, and of an outcome
+abbrev pub group_specs : MatchGroup → List Spec
+group_specs group = values group.specs.now
+
+-- the refspecs of an outcome
+abbrev pub outcome_specs : Outcome → List Spec
+outcome_specs outcome = values outcome.specs.now

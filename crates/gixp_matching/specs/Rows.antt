@@ -1,0 +1,69 @@
+-- Refs by their names, and negative refspecs that were looked at once.
+use Rattle.std.specs.Prelude.{ℕ, ◌≡◌, ◌==◌, ◌||◌, Bool, List, map, filter, is_some, option_to_list}
+use Rattle.std.specs.BTreeSet.{BTreeSet, contains}
+use Rattle.std.specs.Cmp.Lexicographic.{slice_cmp}
+use Rattle.std.specs.List.{list_any, enumerate_from, slice_get}
+use Rattle.std.specs.List.Sorted.{IsSortedByKey}
+use Rattle.std.specs.Ordering.{nat_cmp}
+use Rattle.std.specs.Option.{option_map}
+use Rattle.std.specs.Str.{bytes_eq}
+use Rattle.gixp_refspec.specs.declared.needle.Needle.{Needle}
+use Rattle.gixp_matching.specs.declared.match_group.negatives.Prepared.{Prepared}
+use Rattle.gixp_matching.specs.declared.match_group.rows.Row.{Row}
+use Rattle.gixp_matching.specs.Mappings.{is_excluded}
+use Rattle.gixp_matching.specs.MatchGroup.{values}
+use Rattle.gixp_refspec.specs.Needle.{middle_with}
+
+-- the place and the name of a ref
+abbrev pub shown : Row → ℕ × List ℕ
+shown row = (row.place, row.name.now)
+
+-- the ref has this name
+abbrev pub is_row_of : List ℕ → Row → Bool
+is_row_of name row = bytes_eq row.name.now name
+
+-- they are in byte order of their names
+abbrev pub AreByName : List Row → Type 0
+AreByName rows = IsSortedByKey (λ row. row.name.now) (slice_cmp nat_cmp) rows
+
+-- the refs of a name, by their places
+abbrev pub named : List (List ℕ) → List ℕ → List (ℕ × List ℕ)
+named names name = filter (λ ref. bytes_eq ref.1 name) (enumerate_from 0 names)
+
+-- the refs that a short name stands for, by their places
+abbrev pub meant : List (List ℕ) → List (List ℕ) → List (ℕ × List ℕ)
+meant names texts = filter (λ ref. list_any (λ text. bytes_eq ref.1 text) texts) (enumerate_from 0 names)
+
+-- a table of refs: in order of names, and those of one name in order of places
+pub record IsTable (names : List (List ℕ)) (rows : List Row) : Type 0 where
+  pub in_order : AreByName rows
+  pub has_all : (name : List ℕ) → map shown (filter (is_row_of name) rows) ≡ named names name
+
+-- some ref has this place
+abbrev pub has_place : ℕ → List (ℕ × List ℕ) → Bool
+has_place place refs = list_any (λ ref. ref.0 == place) refs
+
+-- the places of these refs were added
+abbrev pub AddsPlaces : List (ℕ × List ℕ) → BTreeSet ℕ → BTreeSet ℕ → Type 0
+AddsPlaces refs old new = (place : ℕ) → contains nat_cmp new place ≡ (contains nat_cmp old place || has_place place refs)
+
+-- the set has the places of the refs of a table whose names are among the texts
+abbrev pub HasPlaces : List (List ℕ) → List Row → BTreeSet ℕ → Type 0
+HasPlaces texts rows places = (names : List (List ℕ)) → IsTable names rows → (place : ℕ) → contains nat_cmp places place ≡ has_place place (meant names texts)
+
+-- these are the places of the refs of a table whose names are among the texts, in their order
+abbrev pub ArePlaces : List (List ℕ) → List Row → List ℕ → Type 0
+ArePlaces texts rows places = (names : List (List ℕ)) → IsTable names rows → places ≡ map (λ ref. ref.0) (meant names texts)
+
+-- the ref at a place, where there is one
+abbrev pub ref_at : List (List ℕ) → ℕ → List (ℕ × List ℕ)
+ref_at names place = option_to_list (option_map (λ name. (place, name)) (slice_get names place))
+
+-- one of the names, or one of the needles, matches the name
+abbrev pub is_any : List Row → List Needle → List ℕ → Bool
+is_any rows needles name = list_any (is_row_of name) rows || list_any (λ needle. is_some (middle_with needle name)) needles
+
+-- the names are in order, and names and needles match what some negative refspec matches
+pub record IsPrepared (prepared : Prepared) : Type 0 where
+  pub names_in_order : AreByName prepared.names.items
+  pub excludes_all : (name : List ℕ) → is_any prepared.names.items prepared.others.items name ≡ is_excluded (values prepared.specs.now) name

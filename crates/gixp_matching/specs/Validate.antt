@@ -1,0 +1,42 @@
+-- What a clause reads of issues and fixes.
+use Rattle.std.specs.Prelude.{◌≡◌, ◌≢◌, List, [], map, Some, Vec, Result, Ok, Err}
+use Rattle.std.specs.declared.alloc.Global.{Global}
+use Rattle.bstr.specs.Owned.{bstring_bytes}
+use Rattle.gixp_matching.specs.declared.match_group.SourceRef.{SourceRef}
+use Rattle.gixp_matching.specs.declared.match_group.Outcome.{Outcome}
+use Rattle.gixp_matching.specs.declared.match_group.validate.Issue.{Issue}
+use Rattle.gixp_matching.specs.declared.match_group.validate.Issue.TheVariants.{Conflict as the_conflict}
+use Rattle.gixp_matching.specs.declared.match_group.validate.Fix.{Fix}
+use Rattle.gixp_matching.specs.declared.match_group.validate.Fix.TheVariants.{MappingWithPartialDestinationRemoved}
+use Rattle.gixp_matching.specs.declared.match_group.validate.Error.{Error}
+use Rattle.gixp_refspec.specs.Spec.{Spec}
+use Rattle.gixp_matching.specs.Mappings.{Source, Mapped}
+use Rattle.gixp_matching.specs.MatchGroup.{source_of, mapped_in, outcome_specs}
+use Rattle.gixp_refspec.specs.Texts.{texts}
+use Rattle.gixp_matching.specs.Validation.{Conflict, Removed, conflicts, fixes, kept}
+
+-- the sources of a vector
+abbrev pub sources_in : Vec SourceRef Global → List Source
+sources_in v = map source_of v.items
+
+-- what an issue of the code means
+abbrev pub conflict_of : Issue → Conflict
+conflict_of (the_conflict destination specs sources) = record { destination = bstring_bytes destination; specs = texts specs; sources = sources_in sources }
+
+-- the conflicts of a vector
+abbrev pub conflicts_in : Vec Issue Global → List Conflict
+conflicts_in v = map conflict_of v.items
+
+-- what a fix of the code means
+abbrev pub removed_of : Fix → Removed
+removed_of (MappingWithPartialDestinationRemoved name spec) = record { name = Some (bstring_bytes name); spec = bstring_bytes spec }
+
+-- the fixes of a vector
+abbrev pub fixes_in : Vec Fix Global → List Removed
+fixes_in v = map removed_of v.items
+
+-- conflicts are the refusal; without one the partial mappings are taken out
+abbrev pub Validates : List Spec → List Mapped → Result (Outcome × Vec Fix Global) Error → Type 0
+Validates specs ms (Ok answer) =
+    (conflicts specs ms ≡ []) × (mapped_in answer.0.mappings ≡ kept ms) × (fixes_in answer.1 ≡ fixes specs ms) × (outcome_specs answer.0 ≡ specs)
+Validates specs ms (Err e) = (conflicts specs ms ≢ []) × (conflicts_in e.issues ≡ conflicts specs ms)

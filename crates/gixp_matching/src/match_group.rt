@@ -1,0 +1,191 @@
+//! What a list of refspecs maps of a list of refs.
+ghost use Rattle.std.specs.Prelude.{◌≡◌, IfOk};
+ghost use Rattle.gixp_matching.specs.Mappings.{mappings};
+ghost use Rattle.gixp_matching.specs.Leaving.{AnswersAll};
+ghost use Rattle.gixp_matching.specs.MatchGroup.{source_of, mapped_of, mapped_in, values, names, group_specs, outcome_specs};
+ghost use Rattle.gixp_matching.specs.Validation.{has_safe_local};
+
+mod digest;
+mod distinct;
+pub(crate) mod key;
+mod local;
+mod negatives;
+mod pairs;
+mod rows;
+mod sorted;
+pub mod validate;
+
+use crate::match_group::distinct::firsts;
+use crate::match_group::negatives::prepare;
+use crate::match_group::pairs::{push_ids, push_pairs};
+use crate::match_group::validate::Fix;
+use crate::match_group::validate::conflicts::conflicts_of;
+use crate::match_group::validate::fixes::take_out_partial;
+use bstr::{BStr, BString};
+use gixp_refspec::name::is_partial_name;
+use gixp_refspec::spec::RefSpecRef;
+use gixp_wire::ObjectId;
+use std::alloc::{AllocError, Global};
+
+/// A ref of the remote. Matching reads its name alone.
+#[derive(Clone, Copy, Debug)]
+pub struct Item<'a> {
+    /// The whole name, as `refs/heads/main`.
+    pub full_ref_name: BStr<'a>,
+    /// The id that the ref holds.
+    pub target: &'a ObjectId,
+    /// For a tag, the object that the tag is of.
+    pub object: Option<&'a ObjectId>,
+}
+
+/// What a mapping takes from the remote.
+#[derive(Debug, Drop, PartialEq, Eq, Hash)]
+pub enum SourceRef {
+    /// The ref of this whole name.
+    FullName(BString),
+    /// The object of this id.
+    ObjectId(ObjectId),
+}
+
+/// A ref or an id of the remote, and the local name that it goes to.
+#[derive(Debug, Drop, PartialEq, Eq)]
+pub struct Mapping {
+    /// The place of the ref among those that were matched, from 0; none for an id.
+    pub item_index: Option<usize>,
+    /// What is taken.
+    pub lhs: SourceRef,
+    /// The local name, where the refspec has a destination.
+    ///
+    /// **It is not checked.** What a pattern puts for its asterisk was chosen by the server:
+    /// `refs/heads/*:refs/remotes/o/*` maps a server's `refs/heads/../../../config` to
+    /// `refs/remotes/o/../../../config`. Who makes a path or a ref of it asks
+    /// [`has_safe_local_name`](Mapping::has_safe_local_name) first.
+    pub rhs: Option<BString>,
+    /// The place of the refspec in its group, from 0.
+    pub spec_index: usize,
+}
+
+/// The mappings of a group of refspecs.
+#[derive(Debug, Drop)]
+pub struct Outcome<'s> {
+    /// First those of ids, then by refspec and then by ref; no two have the same source and local name.
+    pub mappings: Vec<Mapping>,
+    pub(crate) specs: &'s [RefSpecRef<'s>],
+}
+
+/// Refspecs that are matched together, so that a negative one holds for all.
+#[derive(Clone, Copy, Debug)]
+pub struct MatchGroup<'s> {
+    specs: &'s [RefSpecRef<'s>],
+}
+
+impl Clone for SourceRef {
+    ghost is_clone = { λ s t. source_of t ≡ source_of s };
+
+    fn clone(&self) -> Result<SourceRef, AllocError> {
+        match self {
+            SourceRef::FullName(name) => Ok(SourceRef::FullName(name.clone()?)),
+            SourceRef::ObjectId(id) => Ok(SourceRef::ObjectId(*id)),
+        }
+    }
+}
+
+impl Clone for Mapping {
+    ghost is_clone = { λ s t. mapped_of t ≡ mapped_of s };
+
+    fn clone(&self) -> Result<Mapping, AllocError> {
+        Ok(Mapping {
+            item_index: self.item_index,
+            lhs: self.lhs.clone()?,
+            rhs: self.rhs.clone()?,
+            spec_index: self.spec_index,
+        })
+    }
+}
+
+impl Mapping {
+    /// Whether the local name, where there is one, keeps the rules for names (git-check-ref-format, with
+    /// `--allow-onelevel`) and has no asterisk, as that of a [`PartialName`](gixp_refspec::PartialName). `git fetch` leaves
+    /// out a ref whose local name breaks them (a "funny ref"), or doesn't begin with `refs/`.
+    pub fn has_safe_local_name(&self) -> bool
+        ensures { result ≡ has_safe_local (mapped_of self.now) }
+    {
+        match &self.rhs {
+            None => true,
+            Some(name) => is_partial_name(name.as_bytes()),
+        }
+    }
+}
+
+/// The mappings of the refs, each source and local name once.
+fn mappings_of<'s>(
+    alloc: Global,
+    specs: &'s [RefSpecRef<'s>],
+    items: &[Item<'_>],
+) -> Result<Vec<Mapping>, AllocError>
+    ensures { IfOk result (λ found. mapped_in found ≡ mappings (values specs.now) (names items.now)) }
+{
+    let mut found = Vec::new(alloc);
+    push_ids(alloc, specs, &mut found)?;
+    let prepared = prepare(alloc, specs)?;
+    push_pairs(alloc, &prepared, items, &mut found)?;
+    firsts(alloc, found)
+}
+
+impl<'s> MatchGroup<'s> {
+    /// A group of refspecs, in their order.
+    pub fn from_fetch_specs(specs: &'s [RefSpecRef<'s>]) -> MatchGroup<'s>
+        ensures { group_specs result ≡ values specs.now }
+    {
+        MatchGroup { specs }
+    }
+
+    /// The mappings of the refs: first the ids, then each positive refspec with each ref that it matches and no
+    /// negative refspec matches. Of equal source and local name the first stays. Refs that begin with none of the
+    /// prefixes may be missing: the answer is then that of all refs, but for their places.
+    ///
+    /// # Errors
+    ///
+    /// Only when an allocation fails; what was lent stands as it was.
+    pub fn match_lhs(&self, alloc: Global, items: &[Item<'_>]) -> Result<Outcome<'s>, AllocError>
+        ensures mappings { IfOk result (λ outcome. mapped_in outcome.mappings ≡ mappings (group_specs self.now) (names items.now)) }
+        ensures specs { IfOk result (λ outcome. outcome_specs outcome ≡ group_specs self.now) }
+
+        // A server that was asked for the prefixes may leave out refs that begin with none of them.
+        ensures filtered { IfOk result (λ outcome. AnswersAll (group_specs self.now) (names items.now) (mapped_in outcome.mappings)) }
+    {
+        let mappings = mappings_of(alloc, self.specs, items)?;
+        Ok(Outcome {
+            mappings,
+            specs: self.specs,
+        })
+    }
+}
+
+impl<'s> Outcome<'s> {
+    ghost use Rattle.gixp_matching.specs.Validate.{Validates};
+
+    /// Refuses conflicts: local names with two different sources. Without one it takes out the mappings whose local
+    /// name is neither `HEAD` nor begins with `refs/`, and notes each, in the order of the mappings.
+    ///
+    /// # Errors
+    ///
+    /// The outer one only when an allocation fails, the inner one for conflicts. The mappings are dropped then.
+    pub fn validated(
+        self,
+        alloc: Global,
+    ) -> Result<Result<(Outcome<'s>, Vec<Fix>), validate::Error>, AllocError>
+        ensures { IfOk result (Validates (outcome_specs self.entry) (mapped_in self.entry.mappings)) }
+    {
+        let Outcome {
+            mut mappings,
+            specs,
+        } = self;
+        let issues = conflicts_of(alloc, specs, &mappings)?;
+        if !issues.is_empty() {
+            return Ok(Err(validate::Error { issues }));
+        }
+        let found = take_out_partial(alloc, specs, &mut mappings)?;
+        Ok(Ok((Outcome { mappings, specs }, found)))
+    }
+}

@@ -1,0 +1,147 @@
+//! Refs in the order of their names, so that a name is looked up and not compared with each.
+ghost use Rattle.std.specs.Prelude.{ℕ, List, ◌≡◌, ◌∷◌, ◌++◌, [], IfOk, OnOk, not, map, filter};
+ghost use Rattle.std.specs.BTreeSet.{IsOrdered};
+ghost use Rattle.std.specs.List.{enumerate_from};
+ghost use Rattle.std.specs.Ordering.{nat_cmp};
+ghost use Rattle.std.specs.List.Sorted.{IsPermutation};
+ghost use Rattle.gixp_refspec.specs.Matching.{candidates, joined, rule_of};
+ghost use Rattle.gixp_matching.specs.MatchGroup.{name_of, names};
+ghost use Rattle.gixp_matching.specs.Rows.{shown, is_row_of, AreByName, IsTable, AddsPlaces, HasPlaces, ArePlaces};
+ghost use Rattle.gixp_matching.specs.Validation.{is_below};
+
+use crate::match_group::Item;
+use gixp_refspec::needle::RULES;
+use gixp_refspec::text::joined;
+use std::alloc::{AllocError, Global};
+use std::collections::BTreeSet;
+
+/// A ref: its name, and its place among those that are matched.
+#[derive(Clone, Copy)]
+pub(crate) struct Row<'a> {
+    pub(crate) name: &'a [u8],
+    pub(crate) place: usize,
+}
+
+/// Appends a ref.
+fn push_row<'a>(rows: &mut Vec<Row<'a>>, place: usize, item: &Item<'a>) -> Result<(), AllocError>
+    ensures { OnOk result (map shown rows.new.items ≡ map shown rows.old.items ++ (place, name_of item.now) ∷ []) }
+{
+    let name = item.full_ref_name.as_bytes();
+    rows.push(Row { name, place })?;
+    Ok(())
+}
+
+/// The refs, in their order.
+fn rows_of<'a>(alloc: Global, items: &[Item<'a>]) -> Result<Vec<Row<'a>>, AllocError>
+    ensures { IfOk result (λ rows. map shown rows.items ≡ enumerate_from 0 (names items.now)) }
+{
+    let mut rows = Vec::with_capacity(alloc, items.len())?;
+    'items: for (place, item) in items.iter().enumerate() {
+        push_row(&mut rows, place, item)?;
+    }
+    Ok(rows)
+}
+
+/// Puts refs into byte order of their names. Those of one name keep their order.
+pub(crate) fn sort_by_name(rows: &mut Vec<Row<'_>>) -> Result<(), AllocError>
+    ensures permutation { IsPermutation rows.old.items rows.new.items }
+    ensures order { OnOk result (AreByName rows.new.items) }
+    ensures same { OnOk result ((name : List ℕ) → filter (is_row_of name) rows.new.items ≡ filter (is_row_of name) rows.old.items) }
+{
+    rows.sort_by_key(|row| row.name)?;
+    Ok(())
+}
+
+/// The refs in byte order of their names. Servers send them so, and then the sort looks at each once.
+pub(crate) fn table_of<'a>(alloc: Global, items: &[Item<'a>]) -> Result<Vec<Row<'a>>, AllocError>
+    ensures { IfOk result (λ rows. IsTable (names items.now) rows.items) }
+{
+    let mut rows = rows_of(alloc, items)?;
+    sort_by_name(&mut rows)?;
+    Ok(rows)
+}
+
+/// Whether the ref stands before the name.
+fn is_before(row: &Row<'_>, name: &[u8]) -> bool
+    ensures { result ≡ is_below row.now.name.now name.now }
+{
+    row.name.cmp(name).is_lt()
+}
+
+/// Whether the ref stands before the name or has it.
+fn is_until(row: &Row<'_>, name: &[u8]) -> bool
+    ensures { result ≡ not (is_below name.now row.now.name.now) }
+{
+    !name.cmp(row.name).is_lt()
+}
+
+/// The refs of a name.
+pub(crate) fn rows_named<'r, 'a>(rows: &'r [Row<'a>], name: &[u8]) -> &'r [Row<'a>]
+    requires { AreByName rows.now }
+    ensures { result.now ≡ filter (is_row_of name.now) rows.now }
+{
+    let start = rows.partition_point(|row| is_before(row, name));
+    let rest = &rows[start..];
+    let count = rest.partition_point(|row| is_until(row, name));
+    &rest[..count]
+}
+
+/// Adds the place of a ref.
+fn add_place(places: &mut BTreeSet<usize>, row: &Row<'_>) -> Result<(), AllocError>
+    ensures { OnOk result (AddsPlaces (shown row.now ∷ []) places.old places.new) }
+{
+    places.insert(row.place)?;
+    Ok(())
+}
+
+/// Adds the places of some refs.
+fn add_places(places: &mut BTreeSet<usize>, run: &[Row<'_>]) -> Result<(), AllocError>
+    ensures { OnOk result (AddsPlaces (map shown run.now) places.old places.new) }
+{
+    'rows: for row in run {
+        add_place(places, row)?;
+    }
+    Ok(())
+}
+
+/// The numbers of a set, from the least on.
+fn in_order(alloc: Global, places: BTreeSet<usize>) -> Result<Vec<usize>, AllocError>
+    ensures same { IfOk result (λ list. list.items ≡ places.keys) }
+    ensures ordered { IsOrdered nat_cmp places }
+{
+    let _ = places.len();
+    places.into_iter().collect(alloc)
+}
+
+/// The places of the refs of the names that rules make of a short name.
+fn places_made(
+    alloc: Global,
+    rows: &[Row<'_>],
+    rules: &[(&[u8], &[u8])],
+    short: &[u8],
+) -> Result<BTreeSet<usize>, AllocError>
+    requires { AreByName rows.now }
+    ensures { IfOk result (HasPlaces (map (λ rule. joined short.now (rule_of rule)) rules.now) rows.now) }
+{
+    let mut places = BTreeSet::new(alloc);
+    'rules: for (front, back) in rules {
+        let name = joined(alloc, front, short, back)?;
+        let run = rows_named(rows, name.as_bytes());
+        add_places(&mut places, run)?;
+    }
+    Ok(places)
+}
+
+/// The places of the refs that a short name stands for, in their order.
+#[tactic(auto, unfolding(gixp_refspec::specs::Matching::candidates))]
+pub(crate) fn places_meant(
+    alloc: Global,
+    rows: &[Row<'_>],
+    short: &[u8],
+) -> Result<Vec<usize>, AllocError>
+    requires { AreByName rows.now }
+    ensures { IfOk result (λ places. ArePlaces (candidates short.now) rows.now places.items) }
+{
+    let places = places_made(alloc, rows, &RULES, short)?;
+    in_order(alloc, places)
+}

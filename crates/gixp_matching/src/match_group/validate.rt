@@ -1,0 +1,59 @@
+//! Conflicts between mappings, and mappings that are taken out.
+ghost use Rattle.std.specs.Prelude.{◌≡◌};
+ghost use Rattle.gixp_matching.specs.Validate.{removed_of};
+
+mod apart;
+pub(crate) mod conflicts;
+pub(crate) mod fixes;
+mod groups;
+
+use crate::match_group::SourceRef;
+use bstr::BString;
+use std::alloc::AllocError;
+use thiserror::Error as DeriveError;
+
+/// Why mappings cannot be used together.
+#[derive(Debug, Drop)]
+pub enum Issue {
+    /// A local name has two different sources.
+    Conflict {
+        /// The local name.
+        destination_full_ref_name: BString,
+        /// The text of the refspec of each mapping with this local name, in the order of the mappings.
+        specs: Vec<BString>,
+        /// The source of each mapping with this local name, in the same order.
+        sources: Vec<SourceRef>,
+    },
+}
+
+/// What was changed so that the mappings can be used.
+#[derive(Debug, Drop, PartialEq, Eq)]
+pub enum Fix {
+    /// A mapping was taken out, since its local name is neither `HEAD` nor begins with `refs/`.
+    MappingWithPartialDestinationRemoved {
+        /// The local name.
+        name: BString,
+        /// The text of the mapping's refspec.
+        spec: BString,
+    },
+}
+
+impl Clone for Fix {
+    ghost is_clone = { λ s t. removed_of t ≡ removed_of s };
+
+    fn clone(&self) -> Result<Fix, AllocError> {
+        let Fix::MappingWithPartialDestinationRemoved { name, spec } = self;
+        Ok(Fix::MappingWithPartialDestinationRemoved {
+            name: name.clone()?,
+            spec: spec.clone()?,
+        })
+    }
+}
+
+/// The conflicts, in byte order of the local names. There is at least one.
+#[derive(Debug, Drop, DeriveError)]
+#[error("Error")]
+pub struct Error {
+    /// A conflict for each local name with two different sources.
+    pub issues: Vec<Issue>,
+}

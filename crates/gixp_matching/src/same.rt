@@ -1,0 +1,21 @@
+//! Equality of mappings and fixes.
+ghost use Rattle.std.specs.Prelude.{◌≡◌, ◌↔◌, IsTrue};
+ghost use Rattle.gixp_matching.specs.MatchGroup.{mapped_of};
+ghost use Rattle.gixp_matching.specs.Validate.{removed_of};
+
+use crate::match_group::Mapping;
+use crate::match_group::validate::Fix;
+
+/// Two mappings are equal exactly where they are one value.
+fn is_same_mapping(one: &Mapping, other: &Mapping) -> bool
+    ensures { IsTrue result ↔ (mapped_of one.now ≡ mapped_of other.now) }
+{
+    one == other
+}
+
+/// Two fixes are equal exactly where they are one value.
+fn is_same_fix(first: &Fix, second: &Fix) -> bool
+    ensures { IsTrue result ↔ (removed_of first.now ≡ removed_of second.now) }
+{
+    first == second
+}

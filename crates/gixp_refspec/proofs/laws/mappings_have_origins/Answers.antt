@@ -1,6 +1,0 @@
--- Each mapping has a refspec and a source.
-use Rattle.gixp_refspec.proofs.OriginLemmas.{have_origins}
-use Rattle.gixp_refspec.proofs.laws.mappings_have_origins.Goals as goal
-
-pub returns : goal.returns
-returns c = have_origins

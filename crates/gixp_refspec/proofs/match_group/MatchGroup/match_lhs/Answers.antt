@@ -1,7 +1,0 @@
--- The mappings of fewer refs are those of all.
-use Rattle.gixp_refspec.specs.MatchGroup.{group_specs, names}
-use Rattle.gixp_refspec.proofs.SameValidationLemmas.{answers_all}
-use Rattle.gixp_refspec.proofs.match_group.MatchGroup.match_lhs.Goals as goal
-
-pub returns-clause-filtered : goal.returns-clause-filtered
-returns-clause-filtered c = answers_all (group_specs c.args.self.now) (names c.args.items.now) _ c.in_ok-mappings.ensures

@@ -1,8 +1,0 @@
--- The number of the bytes so far.
-use Rattle.std.proofs.Common.{◌≡◌, take}
-use Rattle.std.specs.List.{fold}
-use Rattle.gixp_refspec.specs.Digest.{step}
-use Rattle.gixp_refspec.proofs.match_group.digest.digest.Given as goal
-
-abbrev pub invariant-bytes : goal.invariant-bytes
-invariant-bytes l = l.now ≡ fold step l.number (take l.byte-index l.bytes)

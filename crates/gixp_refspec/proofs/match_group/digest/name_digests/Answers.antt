@@ -1,9 +1,0 @@
--- One number more.
-use Rattle.gixp_refspec.specs.Digest.{digest}
-use Rattle.gixp_refspec.specs.MatchGroup.{key_bytes}
-use Rattle.gixp_refspec.proofs.ListLemmas.{numbered_more}
-use Rattle.gixp_refspec.proofs.match_group.digest.name_digests.Goals as goal
-
-pub names-preserved : goal.names-preserved
-names-preserved c =
-    numbered_more (λ name. digest (key_bytes name)) c.names.digests.items c.push.new.self.items c.args.names.now c.names.name-index _ c.name_digest.result c.names-test.true c.names.invariant c.name_digest.ensures c.in_ok-push.ensures.items

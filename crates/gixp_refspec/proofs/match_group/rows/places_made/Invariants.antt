@@ -1,8 +1,0 @@
--- The places of the refs of the names so far.
-use Rattle.std.proofs.Common.{take, map}
-use Rattle.gixp_refspec.specs.Matching.{joined, rule_of}
-use Rattle.gixp_refspec.specs.Rows.{HasPlaces}
-use Rattle.gixp_refspec.proofs.match_group.rows.places_made.Given as goal
-
-abbrev pub invariant-rules : goal.invariant-rules
-invariant-rules l = HasPlaces (take l.front-index (map (λ rule. joined l.short (rule_of rule)) l.rules)) l.rows l.places

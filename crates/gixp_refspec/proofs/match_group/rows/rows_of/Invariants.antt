@@ -1,9 +1,0 @@
--- The refs so far, and those to come.
-use Rattle.std.proofs.Common.{◌≡◌, ◌++◌, drop, map}
-use Rattle.std.specs.List.{enumerate_from}
-use Rattle.gixp_refspec.specs.MatchGroup.{names}
-use Rattle.gixp_refspec.specs.Rows.{shown}
-use Rattle.gixp_refspec.proofs.match_group.rows.rows_of.Given as goal
-
-abbrev pub invariant-items : goal.invariant-items
-invariant-items l = map shown l.rows.items ++ enumerate_from l.place (drop l.place (names l.items)) ≡ enumerate_from 0 (names l.items)

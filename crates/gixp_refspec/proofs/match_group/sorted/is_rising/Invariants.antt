@@ -1,7 +1,0 @@
--- Each key so far is below the next.
-use Rattle.std.proofs.Common.{◌≡◌, Less}
-use Rattle.std.specs.List.{AllAdjacentBelow}
-use Rattle.gixp_refspec.proofs.match_group.sorted.is_rising.Given as goal
-
-abbrev pub invariant-keys : goal.invariant-keys
-invariant-keys g l = AllAdjacentBelow (λ x y. g.K.Ord.cmp x y ≡ Less) l.keys l.next

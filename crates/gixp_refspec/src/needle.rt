@@ -1,0 +1,153 @@
+//! A source that was looked at once, to be compared with many names, as the crate above does.
+ghost use Rattle.std.specs.Prelude.{◌≡◌, ◌≤◌, ◌++◌, length};
+ghost use Rattle.std.specs.Option.{option_copied};
+ghost use Rattle.std.specs.List.{position, position_or_len, list_any};
+ghost use Rattle.std.specs.Str.{bytes_eq};
+ghost use Rattle.gixp_refspec.specs.Matching.{is_star, before_star, after_star, between, candidates, joined, rule_of, where_true};
+
+use crate::spec::{is_full, is_id, stars};
+
+/// What a source is.
+#[derive(Clone, Copy)]
+pub enum Needle<'a> {
+    /// An object id, which matches no name.
+    Id,
+    /// A text with an asterisk, which stands for any bytes.
+    Pattern {
+        /// What stands before the asterisk.
+        before: &'a [u8],
+        /// What stands after it.
+        after: &'a [u8],
+    },
+    /// `HEAD` or a name from `refs/` on, which matches itself.
+    Exact(&'a [u8]),
+    /// Any other name, which stands for six names.
+    Short(&'a [u8]),
+}
+
+/// What stands around a short name in each of the names that it stands for (git-rev-parse, "Specifying
+/// revisions").
+pub const RULES: [(&[u8], &[u8]); 6] = [
+    (b"", b""),
+    (b"refs/", b""),
+    (b"refs/tags/", b""),
+    (b"refs/heads/", b""),
+    (b"refs/remotes/", b""),
+    (b"refs/remotes/", b"/HEAD"),
+];
+
+impl<'a> Needle<'a> {
+    ghost use Rattle.gixp_refspec.specs.Needle.{IsNeedle, middle_with};
+
+    /// What the source is.
+    #[tactic(auto, unfolding(crate::specs::Matching::kind_of))]
+    pub fn new(source: &'a [u8]) -> Needle<'a>
+        ensures { IsNeedle source.now result }
+    {
+        if is_id(source) {
+            Needle::Id
+        } else if stars(source) > 0 {
+            Needle::Pattern {
+                before: before_star(source),
+                after: after_star(source),
+            }
+        } else if is_full(source) {
+            Needle::Exact(source)
+        } else {
+            Needle::Short(source)
+        }
+    }
+
+    /// The middle of a name that the source matches, which is empty where the source is no pattern.
+    pub fn middle<'n>(&self, name: &'n [u8]) -> Option<&'n [u8]>
+        ensures { option_copied result ≡ middle_with self.now name.now }
+    {
+        match self {
+            Needle::Id => None,
+            Needle::Pattern { before, after } => between(before, after, name),
+            Needle::Exact(text) => where_true(name == *text),
+            Needle::Short(text) => where_true(is_candidate(text, name)),
+        }
+    }
+}
+
+/// What stands before the asterisk.
+pub fn before_star(text: &[u8]) -> &[u8]
+    ensures { result.now ≡ before_star text.now }
+{
+    &text[..star_at(text)]
+}
+
+/// What stands after the asterisk.
+pub fn after_star(text: &[u8]) -> &[u8]
+    ensures { result.now ≡ after_star text.now }
+{
+    let at = star_at(text);
+    if at < text.len() {
+        &text[at + 1..]
+    } else {
+        b""
+    }
+}
+
+/// The place of the first asterisk.
+fn star_in(text: &[u8]) -> Option<usize>
+    ensures { result ≡ position is_star text.now }
+{
+    text.iter().position(|byte| *byte == b'*')
+}
+
+/// The place of the first asterisk, or the end.
+fn star_at(text: &[u8]) -> usize
+    ensures place { result ≡ position_or_len is_star text.now }
+    ensures within { result ≤ length text.now }
+{
+    star_in(text).unwrap_or(text.len())
+}
+
+/// What stands between front and back.
+fn between<'a>(front: &[u8], back: &[u8], name: &'a [u8]) -> Option<&'a [u8]>
+    ensures { option_copied result ≡ between front.now back.now name.now }
+{
+    match name.strip_prefix(front) {
+        None => None,
+        Some(rest) => rest.strip_suffix(back),
+    }
+}
+
+/// Whether the name is front, middle and back.
+fn is_joined(name: &[u8], front: &[u8], middle: &[u8], back: &[u8]) -> bool
+    ensures { result ≡ bytes_eq name.now (front.now ++ (middle.now ++ back.now)) }
+{
+    match name.strip_prefix(front) {
+        None => false,
+        Some(rest) => match rest.strip_prefix(middle) {
+            None => false,
+            Some(rest) => rest == back,
+        },
+    }
+}
+
+/// Whether some rule makes the name of the short name.
+fn is_made_by(rules: &[(&[u8], &[u8])], short: &[u8], name: &[u8]) -> bool
+    ensures { result ≡ list_any (λ rule. bytes_eq name.now (joined short.now (rule_of rule))) rules.now }
+{
+    rules
+        .iter()
+        .any(|(front, back)| is_joined(name, front, short, back))
+}
+
+/// Whether the short name stands for the name.
+#[tactic(auto, unfolding(crate::specs::Matching::candidates))]
+fn is_candidate(short: &[u8], name: &[u8]) -> bool
+    ensures { result ≡ list_any (λ candidate. bytes_eq name.now candidate) (candidates short.now) }
+{
+    is_made_by(&RULES, short, name)
+}
+
+/// The empty middle of a name that passed a test.
+fn where_true<'a>(is_match: bool) -> Option<&'a [u8]>
+    ensures { option_copied result ≡ where_true is_match }
+{
+    if is_match { Some(b"") } else { None }
+}
