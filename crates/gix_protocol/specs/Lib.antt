@@ -76,16 +76,16 @@ pub use Rattle.gixp_refspec.specs.PartialName
 pub use Rattle.gixp_refspec.specs.Matching
 pub use Rattle.gixp_refspec.specs.Texts
 pub use Rattle.gixp_refspec.specs.Needle
-pub use Rattle.gixp_refspec.specs.Rows
-pub use Rattle.gixp_refspec.specs.Mappings
-pub use Rattle.gixp_refspec.specs.Firsts
-pub use Rattle.gixp_refspec.specs.MatchGroup
-pub use Rattle.gixp_refspec.specs.Validation
-pub use Rattle.gixp_refspec.specs.Apart
-pub use Rattle.gixp_refspec.specs.Groups
-pub use Rattle.gixp_refspec.specs.Validate
-pub use Rattle.gixp_refspec.specs.Leaving
-pub use Rattle.gixp_refspec.specs.RefspecLaws
+pub use Rattle.gixp_matching.specs.Rows
+pub use Rattle.gixp_matching.specs.Mappings
+pub use Rattle.gixp_matching.specs.Firsts
+pub use Rattle.gixp_matching.specs.MatchGroup
+pub use Rattle.gixp_matching.specs.Validation
+pub use Rattle.gixp_matching.specs.Apart
+pub use Rattle.gixp_matching.specs.Groups
+pub use Rattle.gixp_matching.specs.Validate
+pub use Rattle.gixp_matching.specs.Leaving
+pub use Rattle.gixp_matching.specs.RefspecLaws
 pub use Rattle.gixp_progress.specs.Numbers
 pub use Rattle.gixp_progress.specs.Line
 pub use Rattle.gixp_progress.specs.Translation
@@ -145,7 +145,7 @@ pub use Rattle.gixp_fetch.specs.Headline
 -- The types that they speak of.
 pub use Rattle.gixp_wire.specs.declared.object_id.ObjectId as ObjectIdType
 pub use Rattle.gixp_refs.specs.declared.handshake.refs.parse.Error as RefsError
-pub use Rattle.gixp_refspec.specs.declared.match_group.validate.Fix as FixType
+pub use Rattle.gixp_matching.specs.declared.match_group.validate.Fix as FixType
 pub use Rattle.gixp_refmap.specs.declared.refmap.mapping.Mapping as MappingType
 pub use Rattle.gixp_refmap.specs.declared.refmap.map.RefMap as RefMapType
 pub use Rattle.gixp_handshake.specs.declared.handshake.read.Handshake as HandshakeType

@@ -4,6 +4,7 @@
 
 pub mod fetch;
 pub mod handshake;
+pub mod refspec;
 pub mod transport;
 
 pub use gixp_handshake::{
@@ -11,5 +12,4 @@ pub use gixp_handshake::{
 };
 pub use gixp_progress::RemoteProgress;
 pub use gixp_refmap::{LsRefsCommand, ls_refs};
-pub use gixp_refspec as refspec;
 pub use gixp_requests::{Command, agent, command};

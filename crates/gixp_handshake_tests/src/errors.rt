@@ -5,7 +5,7 @@ use gixp_handshake::handshake::Error;
 use gixp_refmap::ls_refs;
 use gixp_refmap::refmap::init;
 use gixp_refs::handshake::refs::parse;
-use gixp_refspec::match_group::validate;
+use gixp_matching::match_group::validate;
 use gixp_requests::command::validate_argument_prefixes;
 use gixp_wire::{IsSpuriousError, PacketError, Protocol, client};
 use std::alloc::{AllocError, Global};

@@ -7,11 +7,11 @@ use Rattle.gixp_wire.specs.declared.object_id.ObjectId.{ObjectId}
 use Rattle.gixp_refs.specs.declared.handshake.Ref.{Ref}
 use Rattle.gixp_refs.specs.declared.handshake.Ref.TheVariants.{Peeled, Direct, Symbolic, Unborn}
 use Rattle.gixp_refs.specs.Ref.{RefValue, peeled, direct, symbolic, unborn, ref_value}
-use Rattle.gixp_refspec.specs.declared.match_group.validate.Fix.{Fix}
+use Rattle.gixp_matching.specs.declared.match_group.validate.Fix.{Fix}
 use Rattle.gixp_refspec.specs.Spec.{Spec}
-use Rattle.gixp_refspec.specs.Mappings.{Source as SourceValue, FullName, ObjectId as IdOf, Mapped}
-use Rattle.gixp_refspec.specs.Validation.{fixes, kept}
-use Rattle.gixp_refspec.specs.Validate.{removed_of}
+use Rattle.gixp_matching.specs.Mappings.{Source as SourceValue, FullName, ObjectId as IdOf, Mapped}
+use Rattle.gixp_matching.specs.Validation.{fixes, kept}
+use Rattle.gixp_matching.specs.Validate.{removed_of}
 use Rattle.gixp_refmap.specs.declared.refmap.mapping.Source.{Source}
 use Rattle.gixp_refmap.specs.declared.refmap.mapping.Source.TheVariants.{ObjectId as the_id, Ref as the_ref}
 use Rattle.gixp_refmap.specs.declared.refmap.mapping.Mapping.{Mapping}

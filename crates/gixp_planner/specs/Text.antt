@@ -9,9 +9,9 @@ use Rattle.hex.specs.Hex.{encode_lower}
 use Rattle.gixp_wire.specs.declared.object_id.ObjectId.{ObjectId}
 use Rattle.gixp_wire.specs.Frames.{Frame, payload, special, frames_of}
 use Rattle.gixp_wire.specs.FrameText.{message_text}
-use Rattle.gixp_refspec.specs.declared.match_group.validate.Fix.{Fix}
-use Rattle.gixp_refspec.specs.Validation.{Removed}
-use Rattle.gixp_refspec.specs.Validate.{removed_of}
+use Rattle.gixp_matching.specs.declared.match_group.validate.Fix.{Fix}
+use Rattle.gixp_matching.specs.Validation.{Removed}
+use Rattle.gixp_matching.specs.Validate.{removed_of}
 use Rattle.gixp_refmap.specs.declared.refmap.mapping.Mapping.{Mapping}
 use Rattle.gixp_refmap.specs.declared.refmap.map.RefMap.{RefMap}
 use Rattle.gixp_refmap.specs.Mapping.{source_id, source_name}

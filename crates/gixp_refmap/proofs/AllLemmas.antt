@@ -8,15 +8,15 @@ use Rattle.std.proofs.lemmas.Slice.Eq.{bytes_eq-Decides}
 use Rattle.std.proofs.lemmas.Bool.Decides.{nat_tests}
 use Rattle.std.proofs.lemmas.List.{length-append, length-map}
 use Rattle.gixp_refs.specs.Ref.{RefValue}
-use Rattle.gixp_refspec.specs.declared.match_group.validate.Fix.{Fix}
+use Rattle.gixp_matching.specs.declared.match_group.validate.Fix.{Fix}
 use Rattle.gixp_refspec.specs.declared.spec.RefSpec.{RefSpec}
 use Rattle.gixp_refspec.specs.Spec.{Spec}
 use Rattle.gixp_refspec.specs.RefSpec.{owned_value_of}
 use Rattle.gixp_refspec.specs.Matching.{is_covered}
-use Rattle.gixp_refspec.specs.Mappings.{Source as SourceValue, FullName, ObjectId as IdOf, Mapped, mappings}
-use Rattle.gixp_refspec.specs.Validation.{kept, is_partial}
-use Rattle.gixp_refspec.specs.RefspecLaws.{MappingsHaveOrigins}
-use Rattle.gixp_refspec.specs.Leaving.{LeavesOut, all_prefixes, without_item, KeepsAnswers}
+use Rattle.gixp_matching.specs.Mappings.{Source as SourceValue, FullName, ObjectId as IdOf, Mapped, mappings}
+use Rattle.gixp_matching.specs.Validation.{kept, is_partial}
+use Rattle.gixp_matching.specs.RefspecLaws.{MappingsHaveOrigins}
+use Rattle.gixp_matching.specs.Leaving.{LeavesOut, all_prefixes, without_item, KeepsAnswers}
 use Rattle.gixp_refmap.specs.declared.refmap.mapping.Mapping.{Mapping}
 use Rattle.gixp_refmap.specs.declared.refmap.mapping.Source.{Source}
 use Rattle.gixp_refmap.specs.declared.refmap.mapping.Source.TheVariants.{ObjectId as the_id, Ref as the_ref}

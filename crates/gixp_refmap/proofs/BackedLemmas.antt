@@ -3,7 +3,7 @@ use Rattle.std.proofs.Common.{◌≡◌, Bool, true, List, [], ◌∷◌, inl, i
 use Rattle.std.specs.Prelude.{filter}
 use Rattle.std.specs.List.{AllByRecursion}
 use Rattle.std.proofs.lemmas.Bool.{cases_Bool}
-use Rattle.gixp_refspec.specs.Mappings.{Mapped}
+use Rattle.gixp_matching.specs.Mappings.{Mapped}
 
 -- what is kept holds of what was kept of one more
 kept_one : (G : Mapped → Type 0) (F : Mapped → Bool) (m : Mapped) (xs : List Mapped) → (F m ≡ true → G m) → AllByRecursion G (filter F xs) → AllByRecursion G (filter F (m ∷ xs))

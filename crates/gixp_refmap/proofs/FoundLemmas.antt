@@ -9,9 +9,9 @@ use Rattle.std.specs.Str.{bytes_eq}
 use Rattle.gixp_refs.specs.Ref.{RefValue}
 use Rattle.gixp_refspec.specs.Spec.{Spec}
 use Rattle.gixp_refspec.specs.Matching.{prefixes_of, is_covered}
-use Rattle.gixp_refspec.specs.Mappings.{Source, FullName, ObjectId, Mapped}
-use Rattle.gixp_refspec.specs.Leaving.{all_prefixes}
-use Rattle.gixp_refspec.specs.RefspecLaws.{IsTakenBy, HasOrigin, MappingsHaveOrigins}
+use Rattle.gixp_matching.specs.Mappings.{Source, FullName, ObjectId, Mapped}
+use Rattle.gixp_matching.specs.Leaving.{all_prefixes}
+use Rattle.gixp_matching.specs.RefspecLaws.{IsTakenBy, HasOrigin, MappingsHaveOrigins}
 use Rattle.gixp_refmap.specs.Mapping.{value_name, value_names, has_name, found_in}
 
 -- the source of a mapping: the first ref of its name, which is covered, or an id

@@ -7,8 +7,8 @@ use Rattle.gixp_wire.specs.declared.object_id.ObjectId.{ObjectId}
 use Rattle.gixp_refs.specs.Ref.{RefValue, ref_value}
 use Rattle.gixp_refspec.specs.Spec.{Spec}
 use Rattle.gixp_refspec.specs.RefSpec.{owned_value_of}
-use Rattle.gixp_refspec.specs.Validation.{Removed}
-use Rattle.gixp_refspec.specs.Validate.{removed_of}
+use Rattle.gixp_matching.specs.Validation.{Removed}
+use Rattle.gixp_matching.specs.Validate.{removed_of}
 use Rattle.gixp_refmap.specs.declared.refmap.mapping.Source.{Source}
 use Rattle.gixp_refmap.specs.declared.refmap.mapping.Source.TheVariants.{ObjectId as the_id, Ref as the_ref}
 use Rattle.gixp_refmap.specs.declared.refmap.mapping.SpecIndex.{SpecIndex}

@@ -4,16 +4,17 @@ ghost use Rattle.std.specs.Option.{option_to_list};
 ghost use Rattle.std.specs.List.{AllByRecursion, AllZip, slice_get};
 ghost use Rattle.gixp_refs.specs.Ref.{RefValue, ref_value};
 ghost use Rattle.gixp_refspec.specs.RefSpec.{value_of, owned_value_of};
-ghost use Rattle.gixp_refspec.specs.MatchGroup.{mapped_of, mapped_in, name_of, names, source_of};
+ghost use Rattle.gixp_matching.specs.MatchGroup.{mapped_of, mapped_in, name_of, names, source_of};
 ghost use Rattle.gixp_refmap.specs.Mapping.{value_name, value_names, joined_specs, spec_at, spec_place, IsRemote, IsMapping, Maps, HoldsOfAll};
 ghost use Rattle.gixp_refmap.specs.RefMapItems.{HasItem, HasRemote};
 
 use crate::refmap::init::Error;
 use crate::refmap::mapping::{Mapping, Source, SpecIndex, copy_of};
 use gixp_refs::handshake::Ref;
-use gixp_refspec::match_group::validate::Fix;
-use gixp_refspec::match_group::{self, Item, MatchGroup, SourceRef};
-use gixp_refspec::{RefSpec, RefSpecRef, laws};
+use gixp_matching::match_group::validate::Fix;
+use gixp_matching::match_group::{self, Item, MatchGroup, SourceRef};
+use gixp_matching::laws;
+use gixp_refspec::{RefSpec, RefSpecRef};
 use gixp_wire::ObjectId;
 use std::alloc::{AllocError, Global};
 

@@ -3,9 +3,9 @@ use Rattle.std.proofs.Common.{◌≡◌, List, Ok, Err, length, map, sym, subst,
 use Rattle.std.specs.List.{AllZip, AllByRecursion}
 use Rattle.std.proofs.lemmas.Result.{err_from_is_err_and}
 use Rattle.gixp_refs.specs.Ref.{ref_value}
-use Rattle.gixp_refspec.specs.Mappings.{Mapped}
-use Rattle.gixp_refspec.specs.MatchGroup.{mapped_in}
-use Rattle.gixp_refspec.specs.Validation.{kept}
+use Rattle.gixp_matching.specs.Mappings.{Mapped}
+use Rattle.gixp_matching.specs.MatchGroup.{mapped_in}
+use Rattle.gixp_matching.specs.Validation.{kept}
 use Rattle.gixp_refmap.specs.declared.refmap.init.Error.TheVariants.{MappingValidation}
 use Rattle.gixp_refmap.specs.Mapping.{joined_specs, found_in, IsMapping, Maps}
 use Rattle.gixp_refmap.specs.RefMapItems.{HasRemote}

@@ -2,7 +2,7 @@
 use Rattle.std.proofs.Common.{[], ◌∷◌, ◌++◌, ◌∙◌, ap}
 use Rattle.std.proofs.lemmas.List.{map-append}
 use Rattle.gixp_refs.specs.Ref.{ref_value}
-use Rattle.gixp_refspec.specs.MatchGroup.{name_of, names}
+use Rattle.gixp_matching.specs.MatchGroup.{name_of, names}
 use Rattle.gixp_refmap.proofs.ListLemmas.{mapped_more}
 use Rattle.gixp_refmap.specs.Mapping.{value_name}
 use Rattle.gixp_refmap.proofs.refmap.make.items.Goals as goal
