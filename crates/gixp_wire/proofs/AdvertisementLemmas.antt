@@ -5,27 +5,27 @@ use Rattle.std.proofs.lemmas.List.{map-append, length-take-le}
 use Rattle.std.proofs.lemmas.List.Quantifiers.{position-Some}
 use Rattle.std.specs.Option.{option_map}
 use Rattle.std.specs.declared.io.ErrorKind.{ErrorKind}
-use Rattle.gixp_wire.specs.declared.protocol.Protocol.{Protocol}
-use Rattle.gixp_wire.specs.declared.protocol.Protocol.TheVariants.{V0, V1, V2}
-use Rattle.gixp_wire.specs.declared.protocol.MessageKind.{MessageKind}
-use Rattle.gixp_wire.specs.declared.client.Error.{Error}
-use Rattle.gixp_wire.specs.declared.client.Error.TheVariants.{Io, Read, LineTooLong, AuthenticationUnsupported, UnsupportedProtocolVersion, MissingDelimitingNullByte, Memory}
+use Rattle.gixp_packetline.specs.declared.protocol.Protocol.{Protocol}
+use Rattle.gixp_packetline.specs.declared.protocol.Protocol.TheVariants.{V0, V1, V2}
+use Rattle.gixp_packetline.specs.declared.protocol.MessageKind.{MessageKind}
+use Rattle.gixp_capabilities.specs.declared.client.Error.{Error}
+use Rattle.gixp_capabilities.specs.declared.client.Error.TheVariants.{Io, Read, LineTooLong, AuthenticationUnsupported, UnsupportedProtocolVersion, MissingDelimitingNullByte, Memory}
 use Rattle.gixp_wire.specs.declared.service.SetServiceResponse.{SetServiceResponse}
-use Rattle.gixp_wire.specs.Pieces.{Refusal, io, decode, server, unexpected_frame, not_utf8, bad_band, interrupted, memory, Piece, line, mark, Pieces, no_pieces, with_piece, stream_pieces}
+use Rattle.gixp_packetline.specs.Pieces.{Refusal, io, decode, server, unexpected_frame, not_utf8, bad_band, interrupted, memory, Piece, line, mark, Pieces, no_pieces, with_piece, stream_pieces}
 use Rattle.bstr.specs.Owned.{bstring_bytes}
-use Rattle.gixp_wire.specs.Items.{is_stop}
-use Rattle.gixp_wire.specs.declared.read.Error.{Error as ReadError}
-use Rattle.gixp_wire.proofs.RunLemmas.{mark_not_gives}
-use Rattle.gixp_wire.specs.Lines.{gives, stops, refuses, next_from, next_of, Lines, lines_of, before}
-use Rattle.gixp_wire.specs.declared.packets.Place.{Place}
-use Rattle.gixp_wire.specs.declared.packets.Place.TheVariants.{Open, Peeked, Stopped, Refused}
-use Rattle.gixp_wire.specs.declared.packets.Packets.{Packets}
-use Rattle.gixp_wire.specs.Packets.{is_peeked, place_stop, known, packets_reading}
-use Rattle.gixp_wire.specs.Capabilities.{CapabilityValue, capability_of_line, capabilities_of_line, capabilities_of_lines, capabilities_behind, IsOfLine}
-use Rattle.gixp_wire.specs.Client.{ClientRefusal, failed, reader, no_memory, no_null_byte, unsupported_version, client_refusal, client_from}
-use Rattle.gixp_wire.specs.Reading.{Reading, reset_to, ShowsLine, TakesLine, TakesStop, AtStop, IsPlain, IsLasting, Faults, IsOutside, refusal_of, is_end, Fails as Failing}
+use Rattle.gixp_packetline.specs.Items.{is_stop}
+use Rattle.gixp_packetline.specs.declared.read.Error.{Error as ReadError}
+use Rattle.gixp_packetline.proofs.RunLemmas.{mark_not_gives}
+use Rattle.gixp_packetline.specs.Lines.{gives, stops, refuses, next_from, next_of, Lines, lines_of, before}
+use Rattle.gixp_packetline.specs.declared.packets.Place.{Place}
+use Rattle.gixp_packetline.specs.declared.packets.Place.TheVariants.{Open, Peeked, Stopped, Refused}
+use Rattle.gixp_packetline.specs.declared.packets.Packets.{Packets}
+use Rattle.gixp_packetline.specs.Packets.{is_peeked, place_stop, known, packets_reading}
+use Rattle.gixp_capabilities.specs.Capabilities.{CapabilityValue, capability_of_line, capabilities_of_line, capabilities_of_lines, capabilities_behind, IsOfLine}
+use Rattle.gixp_capabilities.specs.Client.{ClientRefusal, failed, reader, no_memory, no_null_byte, unsupported_version, client_refusal, client_from}
+use Rattle.gixp_packetline.specs.Reading.{Reading, reset_to, ShowsLine, TakesLine, TakesStop, AtStop, IsPlain, IsLasting, Faults, IsOutside, refusal_of, is_end, Fails as Failing}
 use Rattle.gixp_wire.specs.CapabilityAdvertisement.{Advertised, Named, another, unnamed, version_named, trimmed, empty_advertisement, ref_line, from_ref_line, by_version, by_first, advertisement, by_lines, from_capability_lines, Answers, ReadsAdvertisement, FailsAdvertisement, IsFromDevice, LinesTaken, TakesNone, TakesAny, TakesFirst, one, two, behind_lines, StandsRefused, StandsIo, Stands, Advertises}
-use Rattle.gixp_wire.proofs.LineLemmas.{gives_line, stops_here, refuses_here}
+use Rattle.gixp_packetline.proofs.LineLemmas.{gives_line, stops_here, refuses_here}
 
 -- what one says of known pieces, the other says of those that are left
 abbrev pub Turns : (Pieces → Result Advertised ClientRefusal) → (Pieces → Result Advertised ClientRefusal) → Option Pieces → Option Pieces → Type 0

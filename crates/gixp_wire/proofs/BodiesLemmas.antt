@@ -6,10 +6,10 @@ use Rattle.std.specs.declared.io.impls.Cursor.{Cursor}
 use Rattle.std.specs.declared.io.ErrorKind.TheVariants.{UnexpectedEof}
 use Rattle.gixp_wire.specs.declared.bodies.Body.{Body}
 use Rattle.gixp_wire.specs.declared.bodies.Bodies.{Bodies}
-use Rattle.gixp_wire.specs.declared.packets.Packets.{Packets}
-use Rattle.gixp_wire.specs.declared.packets.Place.TheVariants.{Open}
-use Rattle.gixp_wire.specs.Frames.{frames_of, frames_within}
-use Rattle.gixp_wire.specs.Pieces.{io, no_pieces, stream_pieces}
+use Rattle.gixp_packetline.specs.declared.packets.Packets.{Packets}
+use Rattle.gixp_packetline.specs.declared.packets.Place.TheVariants.{Open}
+use Rattle.gixp_packetline.specs.Frames.{frames_of, frames_within}
+use Rattle.gixp_packetline.specs.Pieces.{io, no_pieces, stream_pieces}
 use Rattle.gixp_wire.specs.Bodies.{answer_of, bodies_held, bodies_reading}
 use Rattle.gixp_wire.specs.Transport.{TakesAnswer, answer_pieces, first_answer, later_answers}
 

@@ -1,11 +1,11 @@
 -- What is said first over a connection.
 use Rattle.std.proofs.Common.{◌≡◌, ℕ, true, List, Some, None, refl, sym, subst, ◌∙◌, append-nil, Result, Ok, Err}
-use Rattle.gixp_wire.specs.declared.client.Error.{Error}
-use Rattle.gixp_wire.specs.declared.client.Error.TheVariants.{Io, Read, LineTooLong, AuthenticationUnsupported, UnsupportedProtocolVersion, MissingDelimitingNullByte, Memory}
+use Rattle.gixp_capabilities.specs.declared.client.Error.{Error}
+use Rattle.gixp_capabilities.specs.declared.client.Error.TheVariants.{Io, Read, LineTooLong, AuthenticationUnsupported, UnsupportedProtocolVersion, MissingDelimitingNullByte, Memory}
 use Rattle.gixp_wire.specs.declared.service.Service.{Service}
-use Rattle.gixp_wire.specs.FrameText.{payload_text}
-use Rattle.gixp_wire.specs.TransportState.{Greeting}
-use Rattle.gixp_wire.specs.Reading.{Reading}
+use Rattle.gixp_packetline.specs.FrameText.{payload_text}
+use Rattle.gixp_packetline.specs.TransportState.{Greeting}
+use Rattle.gixp_packetline.specs.Reading.{Reading}
 use Rattle.gixp_wire.specs.Greeting.{Parameter, greeting_text, greeting_fits}
 use Rattle.gixp_wire.specs.Handshake.{GreetsBy}
 use Rattle.gixp_wire.specs.Transport.{Wrote, Writes, EndsBy}

@@ -1,17 +1,17 @@
 -- What a call that reads does, beside whatever is held.
 use Rattle.std.proofs.Common.{◌≡◌, ℕ, List, Bool, true, false, ◌⊎◌, inl, inr, refl, Option, Some, None, IfSome, Result, Ok, Err}
-use Rattle.gixp_wire.specs.declared.read.Error.{Error}
-use Rattle.gixp_wire.specs.declared.protocol.Protocol.{Protocol}
-use Rattle.gixp_wire.specs.declared.protocol.MessageKind.{MessageKind}
-use Rattle.gixp_wire.specs.Pieces.{Refusal, io, decode, server, unexpected_frame, not_utf8, bad_band, interrupted, memory, Pieces}
-use Rattle.gixp_wire.specs.declared.client.Error.{Error as ClientError}
-use Rattle.gixp_wire.specs.declared.client.Error.TheVariants.{Io as ClientIo, Read as ClientRead, LineTooLong, AuthenticationUnsupported, UnsupportedProtocolVersion, MissingDelimitingNullByte, Memory as ClientMemory}
+use Rattle.gixp_packetline.specs.declared.read.Error.{Error}
+use Rattle.gixp_packetline.specs.declared.protocol.Protocol.{Protocol}
+use Rattle.gixp_packetline.specs.declared.protocol.MessageKind.{MessageKind}
+use Rattle.gixp_packetline.specs.Pieces.{Refusal, io, decode, server, unexpected_frame, not_utf8, bad_band, interrupted, memory, Pieces}
+use Rattle.gixp_capabilities.specs.declared.client.Error.{Error as ClientError}
+use Rattle.gixp_capabilities.specs.declared.client.Error.TheVariants.{Io as ClientIo, Read as ClientRead, LineTooLong, AuthenticationUnsupported, UnsupportedProtocolVersion, MissingDelimitingNullByte, Memory as ClientMemory}
 use Rattle.gixp_wire.specs.declared.service.SetServiceResponse.{SetServiceResponse}
-use Rattle.gixp_wire.specs.Client.{ClientRefusal, client_refusal}
+use Rattle.gixp_capabilities.specs.Client.{ClientRefusal, client_refusal}
 use Rattle.gixp_wire.specs.CapabilityAdvertisement.{Advertised, Answers, IsFromDevice, StandsIo, Stands, Advertises}
 use Rattle.std.specs.declared.io.ErrorKind.{ErrorKind}
-use Rattle.gixp_wire.specs.TransportState.{TransportState}
-use Rattle.gixp_wire.specs.Reading.{Reading, refusal_of, is_end, Stays, TakesLine, ShowsLine, TakesStop, AtStop, Refuses, IsFault, Fails, IsPlain, PlainIf, Reads, Peeks}
+use Rattle.gixp_packetline.specs.TransportState.{TransportState}
+use Rattle.gixp_packetline.specs.Reading.{Reading, refusal_of, is_end, Stays, TakesLine, ShowsLine, TakesStop, AtStop, Refuses, IsFault, Fails, IsPlain, PlainIf, Reads, Peeks}
 
 module _ (h : TransportState) (a b : Reading) where
   abbrev A : Reading

@@ -8,12 +8,12 @@ use Rattle.std.specs.Io.KnownBytes.{Appends}
 use Rattle.std.specs.declared.io.ErrorKind.{ErrorKind}
 use Rattle.bstr.specs.declared.bstring.BString.{BString}
 use Rattle.bstr.specs.Owned.{bstring_bytes}
-use Rattle.gixp_wire.specs.declared.client.Error.{Error}
-use Rattle.gixp_wire.specs.declared.client.Error.TheVariants.{Io, Read, LineTooLong, AuthenticationUnsupported, UnsupportedProtocolVersion, MissingDelimitingNullByte, Memory}
+use Rattle.gixp_capabilities.specs.declared.client.Error.{Error}
+use Rattle.gixp_capabilities.specs.declared.client.Error.TheVariants.{Io, Read, LineTooLong, AuthenticationUnsupported, UnsupportedProtocolVersion, MissingDelimitingNullByte, Memory}
 use Rattle.gixp_wire.specs.declared.message.Message.{Message}
-use Rattle.gixp_wire.specs.FrameText.{texts_of}
+use Rattle.gixp_packetline.specs.FrameText.{texts_of}
 use Rattle.gixp_wire.specs.Message.{MessageValue, text, fits, line_frame, line_frames, lines_fit, lined_frames, lined_fit, value_frame, value_fits, message_value, message_frame, message_fits, request_frames, all_fit}
-use Rattle.gixp_wire.specs.Reading.{Reading}
+use Rattle.gixp_packetline.specs.Reading.{Reading}
 use Rattle.gixp_wire.specs.Transport.{with_written, Wrote, Broke, Unwritten, Unfinished, Writes, WritesAll, Sends}
 
 appends_none : (o : Option (List ℕ)) → Appends o o []

@@ -1,30 +1,23 @@
 -- What a transport over memory means: each handshake and each request has an answer of its own.
-use Rattle.std.specs.Prelude.{◌≡◌, ℕ, ◌-◌, ◌*◌, ◌^◌, false, List, [], map, reverse, Option, Some, None, Vec, vec_items}
+use Rattle.std.specs.Prelude.{◌≡◌, ℕ, ◌-◌, ◌*◌, ◌^◌, false, List, [], map, reverse, Option, Some, None, vec_items}
 use Rattle.std.specs.Option.{option_map}
 use Rattle.bstr.specs.Owned.{bstring_bytes}
-use Rattle.std.specs.declared.alloc.Global.{Global}
-use Rattle.std.specs.Io.Cursor.{cursor_remaining}
-use Rattle.std.specs.declared.io.impls.Cursor.{Cursor}
 use Rattle.std.specs.declared.io.ErrorKind.TheVariants.{UnexpectedEof}
 use Rattle.gixp_wire.specs.declared.bodies.Body.{Body}
 use Rattle.gixp_wire.specs.declared.bodies.Body.TheVariants.{Bytes, Fail}
 use Rattle.gixp_wire.specs.declared.bodies.Bodies.{Bodies}
-use Rattle.gixp_wire.specs.Pieces.{io, no_pieces, stream_pieces}
-use Rattle.gixp_wire.specs.TransportState.{TransportState, Answer, body, fails}
-use Rattle.gixp_wire.specs.declared.protocol.Protocol.{Protocol}
-use Rattle.gixp_wire.specs.declared.protocol.Protocol.TheVariants.{V2}
+use Rattle.gixp_packetline.specs.Pieces.{io, no_pieces, stream_pieces}
+use Rattle.gixp_packetline.specs.TransportState.{TransportState, Answer, body, fails}
+use Rattle.gixp_packetline.specs.declared.protocol.Protocol.{Protocol}
+use Rattle.gixp_packetline.specs.declared.protocol.Protocol.TheVariants.{V2}
 use Rattle.gixp_wire.specs.Handshake.{account_value}
-use Rattle.gixp_wire.specs.Reading.{Reading}
-use Rattle.gixp_wire.specs.Packets.{packets_reading}
+use Rattle.gixp_packetline.specs.Reading.{Reading}
+use Rattle.gixp_packetline.specs.Packets.{packets_reading, memory_remaining}
 
 -- the answer that a body is
 abbrev pub answer_of : Body → Answer
 answer_of (Bytes bytes) = body (stream_pieces bytes.items)
 answer_of (Fail kind) = fails kind
-
--- the bytes that are left in memory
-abbrev pub memory_remaining : Cursor (Vec ℕ Global) → Option (List ℕ)
-memory_remaining c = cursor_remaining (λ v. Some v.items) c
 
 abbrev pub bodies_held : Bodies → TransportState
 bodies_held b = record {

@@ -4,19 +4,19 @@ use Rattle.std.specs.Char.{is_whitespace}
 use Rattle.bstr.specs.Trim.{trim_end_by}
 use Rattle.std.specs.List.{starts_with}
 use Rattle.std.specs.Cmp.Lexicographic.{pointwise}
-use Rattle.gixp_wire.specs.declared.protocol.Protocol.{Protocol}
-use Rattle.gixp_wire.specs.declared.protocol.Protocol.TheVariants.{V0, V1, V2}
-use Rattle.gixp_wire.specs.declared.protocol.MessageKind.{MessageKind}
+use Rattle.gixp_packetline.specs.declared.protocol.Protocol.{Protocol}
+use Rattle.gixp_packetline.specs.declared.protocol.Protocol.TheVariants.{V0, V1, V2}
+use Rattle.gixp_packetline.specs.declared.protocol.MessageKind.{MessageKind}
 use Rattle.std.specs.declared.io.ErrorKind.{ErrorKind}
-use Rattle.gixp_wire.specs.declared.client.Error.{Error}
-use Rattle.gixp_wire.specs.declared.client.Error.TheVariants.{Io, Read, UnsupportedProtocolVersion, MissingDelimitingNullByte, Memory}
+use Rattle.gixp_capabilities.specs.declared.client.Error.{Error}
+use Rattle.gixp_capabilities.specs.declared.client.Error.TheVariants.{Io, Read, UnsupportedProtocolVersion, MissingDelimitingNullByte, Memory}
 use Rattle.bstr.specs.Owned.{bstring_bytes}
 use Rattle.gixp_wire.specs.declared.service.SetServiceResponse.{SetServiceResponse}
-use Rattle.gixp_wire.specs.Pieces.{Refusal, io, line, Pieces, no_pieces, with_piece}
-use Rattle.gixp_wire.specs.Lines.{Next, gives, stops, refuses, next_of, Ending, stop, refusal, lines_of}
-use Rattle.gixp_wire.specs.Capabilities.{CapabilityValue, capabilities_of_line, capabilities_of_lines}
-use Rattle.gixp_wire.specs.Client.{ClientRefusal, client_refusal, client_from, no_null_byte, unsupported_version}
-use Rattle.gixp_wire.specs.Reading.{Reading, Rose, refusal_of, is_end}
+use Rattle.gixp_packetline.specs.Pieces.{Refusal, io, line, Pieces, no_pieces, with_piece}
+use Rattle.gixp_packetline.specs.Lines.{Next, gives, stops, refuses, next_of, Ending, stop, refusal, lines_of}
+use Rattle.gixp_capabilities.specs.Capabilities.{CapabilityValue, capabilities_of_line, capabilities_of_lines}
+use Rattle.gixp_capabilities.specs.Client.{ClientRefusal, client_refusal, client_from, no_null_byte, unsupported_version}
+use Rattle.gixp_packetline.specs.Reading.{Reading, Rose, refusal_of, is_end}
 
 -- what a server said, and where its reader then is
 pub record Advertised : Type 0 where

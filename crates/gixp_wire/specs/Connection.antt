@@ -3,13 +3,13 @@ use Rattle.std.specs.Prelude.{◌≡◌, ℕ, ◌-◌, ◌*◌, ◌^◌, true, f
 use Rattle.std.specs.Option.{option_map}
 use Rattle.bstr.specs.Owned.{bstring_bytes}
 use Rattle.gixp_wire.specs.declared.connection.Connection.{Connection}
-use Rattle.gixp_wire.specs.declared.protocol.Protocol.{Protocol}
-use Rattle.gixp_wire.specs.declared.protocol.Protocol.TheVariants.{V2}
-use Rattle.gixp_wire.specs.Pieces.{stream_pieces}
+use Rattle.gixp_packetline.specs.declared.protocol.Protocol.{Protocol}
+use Rattle.gixp_packetline.specs.declared.protocol.Protocol.TheVariants.{V2}
+use Rattle.gixp_packetline.specs.Pieces.{stream_pieces}
 use Rattle.gixp_wire.specs.declared.service.Opening.{Opening}
-use Rattle.gixp_wire.specs.TransportState.{TransportState, Greeting}
-use Rattle.gixp_wire.specs.Reading.{Reading}
-use Rattle.gixp_wire.specs.Packets.{packets_reading}
+use Rattle.gixp_packetline.specs.TransportState.{TransportState, Greeting}
+use Rattle.gixp_packetline.specs.Reading.{Reading}
+use Rattle.gixp_packetline.specs.Packets.{packets_reading}
 
 -- what is said first
 abbrev pub greeting_of : Protocol → Opening → Greeting

@@ -2,13 +2,13 @@
 use Rattle.std.specs.Prelude.{ℕ, Bool, true, nat_le, List, [], ◌∷◌, ◌++◌, length, map, flat_map, codes, Option, Some, None, String, string_bytes}
 use Rattle.std.specs.Option.{option_map}
 use Rattle.std.specs.declared.alloc.Global.{Global}
-use Rattle.gixp_wire.specs.declared.protocol.Protocol.{Protocol}
-use Rattle.gixp_wire.specs.declared.protocol.Protocol.TheVariants.{V0, V1, V2}
+use Rattle.gixp_packetline.specs.declared.protocol.Protocol.{Protocol}
+use Rattle.gixp_packetline.specs.declared.protocol.Protocol.TheVariants.{V0, V1, V2}
 use Rattle.gixp_wire.specs.declared.service.Service.{Service}
-use Rattle.gixp_wire.specs.Frames.{Frame, payload}
+use Rattle.gixp_packetline.specs.Frames.{Frame, payload}
 use Rattle.gixp_wire.specs.Message.{feature_line}
 use Rattle.gixp_wire.specs.Service.{service_name}
-use Rattle.gixp_wire.specs.TransportState.{Greeting}
+use Rattle.gixp_packetline.specs.TransportState.{Greeting}
 
 -- a parameter: a key, and perhaps its value
 abbrev pub Parameter : Type 0

@@ -1,15 +1,15 @@
 -- What a transport's handshake does (gitprotocol-pack, "Git Transport" and "Reference Discovery"; gitprotocol-v2, "Initial Client Request").
 use Rattle.std.specs.Prelude.{◌≡◌, ℕ, ◌⊎◌, Bool, true, false, List, Option, Some, None, Result, Ok, Err}
 use Rattle.std.specs.declared.io.ErrorKind.{ErrorKind}
-use Rattle.gixp_wire.specs.declared.client.Error.{Error}
-use Rattle.gixp_wire.specs.declared.client.Error.TheVariants.{Io, LineTooLong, AuthenticationUnsupported, Memory}
+use Rattle.gixp_capabilities.specs.declared.client.Error.{Error}
+use Rattle.gixp_capabilities.specs.declared.client.Error.TheVariants.{Io, LineTooLong, AuthenticationUnsupported, Memory}
 use Rattle.gixp_wire.specs.declared.service.Service.{Service}
 use Rattle.gixp_wire.specs.declared.service.Account.{Account}
 use Rattle.gixp_wire.specs.declared.service.SetServiceResponse.{SetServiceResponse}
 use Rattle.std.specs.Prelude.{string_bytes}
-use Rattle.gixp_wire.specs.FrameText.{texts_of}
-use Rattle.gixp_wire.specs.TransportState.{Greeting}
-use Rattle.gixp_wire.specs.Reading.{Reading}
+use Rattle.gixp_packetline.specs.FrameText.{texts_of}
+use Rattle.gixp_packetline.specs.TransportState.{Greeting}
+use Rattle.gixp_packetline.specs.Reading.{Reading}
 use Rattle.gixp_wire.specs.CapabilityAdvertisement.{advertisement, TakesFirst, Advertises}
 use Rattle.gixp_wire.specs.Greeting.{Parameter, greeting_frames, greeting_fits}
 use Rattle.gixp_wire.specs.Transport.{Broke, SentBy, TakesAnswer, ByAnswer}

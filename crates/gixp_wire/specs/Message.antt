@@ -6,10 +6,10 @@ use Rattle.std.specs.Option.{option_map}
 use Rattle.std.specs.declared.alloc.Global.{Global}
 use Rattle.bstr.specs.declared.bstring.BString.{BString}
 use Rattle.bstr.specs.Owned.{bstring_bytes}
-use Rattle.gixp_wire.specs.declared.protocol.MessageKind.TheVariants.{Flush as FlushKind, Delimiter as DelimiterKind}
+use Rattle.gixp_packetline.specs.declared.protocol.MessageKind.TheVariants.{Flush as FlushKind, Delimiter as DelimiterKind}
 use Rattle.gixp_wire.specs.declared.message.Message.{Message}
 use Rattle.gixp_wire.specs.declared.message.Message.TheVariants.{Line, Flush, Delimiter}
-use Rattle.gixp_wire.specs.Frames.{Frame, payload, special}
+use Rattle.gixp_packetline.specs.Frames.{Frame, payload, special}
 
 -- the frame of a text line, which ends in LF
 abbrev pub line_frame : List ℕ → Frame

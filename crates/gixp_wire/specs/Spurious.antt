@@ -2,10 +2,10 @@
 use Rattle.std.specs.Prelude.{Bool, true, false}
 use Rattle.std.specs.declared.io.ErrorKind.{ErrorKind}
 use Rattle.std.specs.declared.io.ErrorKind.TheVariants.{Interrupted, UnexpectedEof, TimedOut, BrokenPipe, AddrInUse, ConnectionAborted, ConnectionReset, ConnectionRefused}
-use Rattle.gixp_wire.specs.declared.read.Error.{Error as ReadError}
-use Rattle.gixp_wire.specs.declared.read.Error.TheVariants as reader
-use Rattle.gixp_wire.specs.declared.client.Error.{Error as ClientError}
-use Rattle.gixp_wire.specs.declared.client.Error.TheVariants as client
+use Rattle.gixp_packetline.specs.declared.read.Error.{Error as ReadError}
+use Rattle.gixp_packetline.specs.declared.read.Error.TheVariants as reader
+use Rattle.gixp_capabilities.specs.declared.client.Error.{Error as ClientError}
+use Rattle.gixp_capabilities.specs.declared.client.Error.TheVariants as client
 
 -- the kinds with which a connection fails that may be there again
 abbrev pub is_spurious_kind : ErrorKind → Bool

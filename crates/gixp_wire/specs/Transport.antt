@@ -3,11 +3,11 @@ use Rattle.std.specs.Prelude.{◌≡◌, ℕ, ◌≤◌, Bool, true, false, if�
 use Rattle.std.specs.Io.KnownBytes.{Appends, Keeps}
 use Rattle.std.specs.declared.io.ErrorKind.{ErrorKind}
 use Rattle.std.specs.declared.io.ErrorKind.TheVariants.{UnexpectedEof}
-use Rattle.gixp_wire.specs.declared.client.Error.{Error}
-use Rattle.gixp_wire.specs.declared.client.Error.TheVariants.{Io, LineTooLong, Memory}
-use Rattle.gixp_wire.specs.Pieces.{io, Pieces, no_pieces}
-use Rattle.gixp_wire.specs.TransportState.{Answer, body, fails}
-use Rattle.gixp_wire.specs.Reading.{Reading, Rose}
+use Rattle.gixp_capabilities.specs.declared.client.Error.{Error}
+use Rattle.gixp_capabilities.specs.declared.client.Error.TheVariants.{Io, LineTooLong, Memory}
+use Rattle.gixp_packetline.specs.Pieces.{io, Pieces, no_pieces}
+use Rattle.gixp_packetline.specs.TransportState.{Answer, body, fails}
+use Rattle.gixp_packetline.specs.Reading.{Reading, Rose}
 
 -- with these bytes written
 abbrev pub with_written : Reading → Option (List ℕ) → Reading

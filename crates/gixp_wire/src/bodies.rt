@@ -5,14 +5,14 @@ ghost use Rattle.bstr.specs.Owned.{bstring_bytes};
 ghost use Rattle.gixp_wire.specs.Transport.{TakesBody};
 ghost use Rattle.gixp_wire.specs.Handshake.{account_value, Identifies};
 
-use crate::client::Error;
-use crate::packets::Packets;
-use crate::protocol::{MessageKind, Protocol};
-use crate::read::ExtendedBufRead;
+use crate::advertisement::advertisement;
+use crate::frame_text;
 use crate::service::{Account, Service, SetServiceResponse};
 use crate::transport::Transport;
-use crate::{frame_text, read};
 use bstr::{BStr, BString};
+use gixp_capabilities::client::Error;
+use gixp_packetline::packets::Packets;
+use gixp_packetline::{ExtendedBufRead, MessageKind, Protocol, read};
 use std::alloc::{AllocError, Global};
 use std::io::{Cursor, ErrorKind};
 use std::mem;
@@ -184,7 +184,7 @@ impl Transport for Bodies {
         _extra_parameters: &[(String, Option<String>)],
     ) -> Result<SetServiceResponse, Error> {
         match self.take_answer() {
-            Ok(()) => self.packets.advertisement(alloc),
+            Ok(()) => advertisement(&mut self.packets, alloc),
             Err(e) => Err(e),
         }
     }

@@ -2,21 +2,21 @@
 ghost use Rattle.std.specs.Prelude.{◌≡◌, ◌≤◌, Err, IfOk, true, length};
 ghost use Rattle.std.specs.IoError.{error_kind};
 ghost use Rattle.bstr.specs.Owned.{bstring_bytes};
-ghost use Rattle.gixp_wire.specs.FrameText.{payload_text};
+ghost use Rattle.gixp_packetline.specs.FrameText.{payload_text};
 ghost use Rattle.gixp_wire.specs.Greeting.{parameters_of};
-ghost use Rattle.gixp_wire.specs.declared.client.Error.TheVariants.{AuthenticationUnsupported};
+ghost use Rattle.gixp_capabilities.specs.declared.client.Error.TheVariants.{AuthenticationUnsupported};
 ghost use Rattle.gixp_wire.specs.Handshake.{Greets, Identifies};
 ghost use Rattle.gixp_wire.specs.Transport.{Writes, EndsBy, IsBroken};
 
-use crate::client::Error;
+use crate::advertisement::advertisement;
+use crate::frame_text;
 use crate::greeting::{MAX_PAYLOAD, greeting};
-use crate::packets::Packets;
-use crate::protocol::{MessageKind, Protocol};
-use crate::read::ExtendedBufRead;
 use crate::service::{Account, Opening, Service, SetServiceResponse};
 use crate::transport::Transport;
-use crate::{frame_text, read};
 use bstr::{BStr, BString};
+use gixp_capabilities::client::Error;
+use gixp_packetline::packets::Packets;
+use gixp_packetline::{ExtendedBufRead, MessageKind, Protocol, read};
 use std::alloc::{AllocError, Global};
 use std::io;
 use std::io::{ErrorKind, Read, Write};
@@ -228,7 +228,7 @@ impl<R: Read, W: Write> Transport for Connection<R, W> {
         extra_parameters: &[(String, Option<String>)],
     ) -> Result<SetServiceResponse, Error> {
         self.greet(alloc, service, extra_parameters)?;
-        self.packets.advertisement(alloc)
+        advertisement(&mut self.packets, alloc)
     }
 
     fn begin_request(&mut self) -> Result<(), Error> {

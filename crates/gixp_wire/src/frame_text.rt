@@ -1,12 +1,11 @@
 //! The texts of frames.
 ghost use Rattle.std.specs.Prelude.{◌≡◌, ◌≤◌, ◌+◌, ◌++◌, OnOk, OnErr, length};
 ghost use Rattle.std.specs.Io.{StartsWith};
-ghost use Rattle.gixp_wire.specs.FrameText.{digits_of, message_text, frame_text};
+ghost use Rattle.gixp_packetline.specs.FrameText.{digits_of, message_text, frame_text};
 ghost use Rattle.gixp_wire.specs.Message.{line_frame};
 
-use crate::digits;
 use crate::message::MAX_LINE;
-use crate::protocol::MessageKind;
+use gixp_packetline::{MessageKind, digits};
 use std::alloc::AllocError;
 
 /// The four digits in front of a line of this many bytes and the LF behind it.

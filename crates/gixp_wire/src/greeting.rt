@@ -5,9 +5,9 @@ ghost use Rattle.bstr.specs.Owned.{bstring_bytes};
 ghost use Rattle.gixp_wire.specs.Greeting.{greeting_text, host_text, parameter_text, parameters_text, parameters_of, version_parameters};
 ghost use Rattle.gixp_wire.specs.Connection.{greeting_of};
 
-use crate::protocol::Protocol;
 use crate::service::{Opening, Service};
 use bstr::BString;
+use gixp_packetline::Protocol;
 use std::alloc::{AllocError, Global};
 
 /// The number of bytes of the longest payload of a frame (gitprotocol-common, "pkt-line Format").

@@ -2,9 +2,9 @@
 ghost use Rattle.std.specs.Prelude.{◌≡◌};
 ghost use Rattle.gixp_wire.specs.Service.{service_name};
 
-use crate::capabilities::Capabilities;
-use crate::protocol::Protocol;
 use bstr::BString;
+use gixp_capabilities::Capabilities;
+use gixp_packetline::Protocol;
 
 /// What is asked of the server's side (gitprotocol-pack, "Git Transport").
 #[derive(Clone, Copy, Debug, PartialEq, Eq)]

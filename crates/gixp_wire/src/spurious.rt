@@ -2,7 +2,8 @@
 ghost use Rattle.std.specs.Prelude.{◌≡◌, Bool};
 ghost use Rattle.gixp_wire.specs.Spurious.{is_spurious_kind, is_spurious_read, is_spurious_client};
 
-use crate::{client, read};
+use gixp_capabilities::client;
+use gixp_packetline::read;
 use std::io::ErrorKind;
 
 /// An error that may come from a connection that will be there again.

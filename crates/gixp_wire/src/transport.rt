@@ -2,20 +2,19 @@
 ghost use Rattle.std.specs.Prelude.{◌≡◌, ◌≤◌, true, None, Err, length, map};
 ghost use Rattle.bstr.specs.BStr.{bstr_bytes};
 ghost use Rattle.bstr.specs.Owned.{bstring_bytes};
-ghost use Rattle.gixp_wire.specs.declared.client.Error.TheVariants.{Memory};
+ghost use Rattle.gixp_capabilities.specs.declared.client.Error.TheVariants.{Memory};
 ghost use Rattle.gixp_wire.specs.Greeting.{parameters_of};
 ghost use Rattle.gixp_wire.specs.Handshake.{Handshakes, Identifies};
-ghost use Rattle.gixp_wire.specs.FrameText.{frame_text, message_text, texts_of};
+ghost use Rattle.gixp_packetline.specs.FrameText.{frame_text, message_text, texts_of};
 ghost use Rattle.gixp_wire.specs.Message.{line_frame, message_frame, message_fits, request_frames, all_fit, line_frames, lines_fit, lined_frames, lined_fit, feature_lines, command_frames, command_fits};
 ghost use Rattle.gixp_wire.specs.Transport.{Begins, Writes, WritesAll, Ends, Sends};
 
-use crate::client::Error;
 use crate::command::{command_lines, command_messages};
 use crate::message::{Feature, MAX_LINE, Message, lined_fit};
-use crate::protocol::{MessageKind, Protocol};
-use crate::read::ExtendedBufRead;
 use crate::service::{Account, Service, SetServiceResponse};
 use bstr::{BStr, BString};
+use gixp_capabilities::client::Error;
+use gixp_packetline::{ExtendedBufRead, MessageKind, Protocol};
 use std::alloc::Global;
 
 /// What speaks to a server: it sends requests, and its lines are the answers (gitprotocol-pack,

@@ -1,5 +1,5 @@
 use Rattle.std.proofs.Common.{◌≡◌, refl, ap, sym, ◌∙◌, [], List}
-use Rattle.gixp_wire.specs.TransportState.{Answer}
+use Rattle.gixp_packetline.specs.TransportState.{Answer}
 use Rattle.gixp_wire.specs.Transport.{answer_pieces, first_answer, later_answers, answer_failure}
 use Rattle.gixp_wire.proofs.BodiesLemmas.{no_bytes, answers-popped, no_answers, takes-packets, restarted}
 use Rattle.gixp_wire.proofs.bodies.Bodies.take_answer.Goals as goal

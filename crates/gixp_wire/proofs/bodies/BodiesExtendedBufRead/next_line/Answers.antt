@@ -1,7 +1,7 @@
 use Rattle.std.proofs.Common.{Ok, sym, subst}
-use Rattle.gixp_wire.specs.Reading.{Reading, Reads}
-use Rattle.gixp_wire.specs.Packets.{packets_reading}
-use Rattle.gixp_wire.specs.Bodies.{memory_remaining, bodies_held}
+use Rattle.gixp_packetline.specs.Reading.{Reading, Reads}
+use Rattle.gixp_packetline.specs.Packets.{packets_reading, memory_remaining}
+use Rattle.gixp_wire.specs.Bodies.{bodies_held}
 use Rattle.gixp_wire.proofs.HeldLemmas.{reads}
 use Rattle.gixp_wire.proofs.bodies.BodiesExtendedBufRead.next_line.Goals as goal
 

@@ -3,7 +3,7 @@ use Rattle.std.specs.Option.{option_map}
 use Rattle.std.proofs.lemmas.Bool.{le-leb}
 use Rattle.std.proofs.lemmas.Result.{err_from_is_err_and}
 use Rattle.gixp_wire.specs.declared.service.Opening.{Opening}
-use Rattle.gixp_wire.specs.FrameText.{payload_text}
+use Rattle.gixp_packetline.specs.FrameText.{payload_text}
 use Rattle.gixp_wire.specs.Greeting.{parameters_of, greeting_text}
 use Rattle.gixp_wire.specs.Handshake.{GreetsBy}
 use Rattle.gixp_wire.specs.Connection.{greeting_of, connection_reading}

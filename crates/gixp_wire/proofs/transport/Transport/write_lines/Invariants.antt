@@ -1,5 +1,5 @@
 use Rattle.std.proofs.Common.{take}
-use Rattle.gixp_wire.specs.FrameText.{texts_of}
+use Rattle.gixp_packetline.specs.FrameText.{texts_of}
 use Rattle.gixp_wire.specs.Message.{line_frames}
 use Rattle.gixp_wire.specs.Transport.{Wrote}
 use Rattle.gixp_wire.proofs.transport.Transport.write_lines.Given as goal

@@ -1,0 +1,64 @@
+//! Why a call that speaks to a server is refused.
+ghost use Rattle.std.specs.Prelude.{◌≡◌};
+
+use bstr::BString;
+use gixp_packetline::read;
+use std::alloc::AllocError;
+use std::io::ErrorKind;
+use thiserror::Error as DeriveError;
+
+/// Why a call that speaks to a server is refused.
+///
+/// After `LineTooLong` nothing was written. After a failed write nothing is said of what went out,
+/// and every later request over the same connection returns the same `Io`.
+#[derive(Debug, Drop, DeriveError)]
+pub enum Error {
+    /// A read or write failed with this kind, or the stream ended (`UnexpectedEof`).
+    #[error("Io")]
+    Io(ErrorKind),
+    /// The reader was refused otherwise than by a failed read or an allocation failure.
+    #[error("Read")]
+    Read(read::Error),
+    /// A line doesn't fit into a packet (gitprotocol-common, "pkt-line Format").
+    #[error("LineTooLong")]
+    LineTooLong,
+    /// This transport takes no account.
+    #[error("AuthenticationUnsupported")]
+    AuthenticationUnsupported,
+    /// The server names a version other than 1 and 2, in this line without the white space at its
+    /// end (gitprotocol-pack, "Extra Parameters").
+    #[error("UnsupportedProtocolVersion")]
+    UnsupportedProtocolVersion(BString),
+    /// The first ref line has no NUL in front of the capabilities (gitprotocol-pack, "Reference
+    /// Discovery").
+    #[error("MissingDelimitingNullByte")]
+    MissingDelimitingNullByte,
+    /// An allocation failed.
+    #[error("Memory")]
+    Memory,
+}
+
+impl From<read::Error> for Error {
+    ghost use Rattle.gixp_capabilities.specs.Client.{client_refusal, client_from};
+    ghost use Rattle.gixp_packetline.specs.Reading.{refusal_of};
+
+    ghost from_gives = { λ e error. client_refusal error ≡ client_from (refusal_of e) };
+
+    fn from(e: read::Error) -> Error {
+        match e {
+            read::Error::Io(kind) => Error::Io(kind),
+            read::Error::Memory => Error::Memory,
+            other => Error::Read(other),
+        }
+    }
+}
+
+impl From<AllocError> for Error {
+    ghost use Rattle.gixp_capabilities.specs.declared.client.Error.TheVariants.{Memory};
+
+    ghost from_gives = { λ _ error. error ≡ Memory };
+
+    fn from(_e: AllocError) -> Error {
+        Error::Memory
+    }
+}

@@ -1,0 +1,3 @@
+pub use Rattle.hex.specs.Hex
+pub mod ObjectId
+pub mod Digits

@@ -1,0 +1,10 @@
+//! Names of objects, and the hash function that makes them.
+#![tactic(auto)]
+
+pub mod decode;
+pub mod digits;
+mod kind;
+mod object_id;
+
+pub use kind::Kind;
+pub use object_id::ObjectId;

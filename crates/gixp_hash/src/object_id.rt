@@ -1,0 +1,69 @@
+//! Object ids.
+ghost use Rattle.std.specs.Prelude.{◌≡◌, ◌↔◌, IsTrue, MatchResult, replicate};
+ghost use Rattle.hex.specs.Hex.{encode_lower};
+ghost use Rattle.gixp_hash.specs.ObjectId.{id_of, IsIdRefusal};
+
+use crate::{decode, digits};
+use hex;
+
+/// The name of an object: the 20 bytes of its SHA-1 (gitprotocol-common, "ABNF Notation", `obj-id`).
+///
+/// Ids are ordered by their bytes, from the first one on.
+#[derive(Clone, Copy, Debug, PartialEq, Eq, PartialOrd, Ord, Hash)]
+pub struct ObjectId {
+    /// The 20 bytes. Any 20 bytes are an id.
+    pub bytes: [u8; 20],
+}
+
+impl ObjectId {
+    /// Reads an id from its text of 40 hexadecimal digits, in either case.
+    ///
+    /// # Errors
+    ///
+    /// `InvalidLength` where the text doesn't have 40 bytes, else `InvalidDigit` where one of them
+    /// is no hexadecimal digit.
+    #[inline(always)]
+    pub fn from_hex(text: &[u8]) -> Result<ObjectId, decode::Error>
+        ensures { MatchResult result (λ id. id_of text.now ≡ Some id.bytes) (IsIdRefusal text.now) }
+    {
+        if text.len() != 40 {
+            return Err(decode::Error::InvalidLength(text.len()));
+        }
+        if let Some(bytes) = digits::decode(text) {
+            return Ok(ObjectId { bytes });
+        }
+        let mut bytes = [0; 20];
+        match hex::decode_to_slice(text, &mut bytes) {
+            Ok(()) => Ok(ObjectId { bytes }),
+            Err(_) => Err(decode::Error::InvalidDigit),
+        }
+    }
+
+    /// The id of no object: 20 zero bytes.
+    pub fn null() -> ObjectId
+        ensures { result.bytes ≡ replicate 20 0 }
+    {
+        ObjectId { bytes: [0; 20] }
+    }
+
+    /// Whether this is the id of no object.
+    pub fn is_null(&self) -> bool
+        ensures { IsTrue result ↔ (self.now.bytes ≡ replicate 20 0) }
+    {
+        self.bytes == [0; 20]
+    }
+
+    /// The text of the id: 40 hexadecimal digits in lower case.
+    pub fn to_hex(&self) -> [u8; 40]
+        ensures { result ≡ encode_lower self.now.bytes }
+    {
+        digits::encode(&self.bytes)
+    }
+
+    /// The 20 bytes.
+    pub fn as_bytes(&self) -> &[u8]
+        ensures { result.now ≡ self.now.bytes }
+    {
+        self.bytes.as_slice()
+    }
+}

@@ -1,0 +1,12 @@
+pub mod ListLemmas
+mod NumberLemmas
+mod FrameLemmas
+mod WindowLemmas
+mod PacketLemmas
+mod PacketLineLemmas
+mod AdvanceLemmas
+mod GrammarLemmas
+mod FrameTextLemmas
+mod ItemLemmas
+pub mod RunLemmas
+pub mod LineLemmas

@@ -1,0 +1,14 @@
+pub use Rattle.hex.specs.Hex
+pub mod FrameKind
+pub mod Frames
+pub mod Grammar
+pub mod FrameText
+pub mod Pieces
+pub mod Items
+pub mod Lines
+pub mod TransportState
+pub mod Reading
+pub mod Window
+pub mod PacketLine
+pub mod Packets
+pub mod LineReader

@@ -1,0 +1,184 @@
+-- What packets over a reader mean, and what the steps that read them do.
+use Rattle.std.specs.Prelude.{◌≡◌, ℕ, ◌+◌, ◌*◌, ◌<◌, ◌≤◌, ◌⊎◌, Bool, true, false, if◌then◌else◌, List, length, take, drop, Option, Some, None, Result, Ok, Err, Vec}
+use Rattle.std.specs.Option.{option_map}
+use Rattle.std.specs.Io.KnownBytes.{Keeps, prepend_known}
+use Rattle.std.specs.declared.alloc.Global.{Global}
+use Rattle.std.specs.Io.Cursor.{cursor_remaining}
+use Rattle.std.specs.declared.io.impls.Cursor.{Cursor}
+use Rattle.std.specs.declared.io.ErrorKind.TheVariants.{UnexpectedEof}
+use Rattle.gixp_packetline.specs.declared.packet.Head.{Head}
+use Rattle.gixp_packetline.specs.declared.packet.Head.TheVariants.{Partial, Bad, Special, Data}
+use Rattle.gixp_packetline.specs.declared.protocol.MessageKind.{MessageKind}
+use Rattle.gixp_packetline.specs.declared.read.Error.{Error}
+use Rattle.gixp_packetline.specs.declared.read.Error.TheVariants.{Io}
+use Rattle.gixp_packetline.specs.declared.packets.Packets.{Packets}
+use Rattle.gixp_packetline.specs.declared.packets.Place.{Place}
+use Rattle.gixp_packetline.specs.declared.packets.Place.TheVariants.{Open, Peeked, Stopped, Refused}
+use Rattle.gixp_packetline.specs.Frames.{head_of}
+use Rattle.gixp_packetline.specs.Pieces.{Refusal, io, decode, server, unexpected_frame, line, Pieces, no_pieces, with_piece, stream_pieces, is_error, error_message}
+use Rattle.gixp_packetline.specs.TransportState.{nothing_held}
+use Rattle.gixp_packetline.specs.Reading.{Reading, Rose, is_end}
+
+-- the refusal of the frame at the front, or of what the stream ended in
+abbrev pub standing : Bool → Head → List ℕ → Option Refusal
+standing ended Partial bytes = if ended then Some (io UnexpectedEof) else None
+standing ended (Bad e) bytes = Some (decode e)
+standing ended (Special kind) bytes = None
+standing ended (Data size) bytes = let text = drop 4 (take size bytes) in if is_error text then Some (server (error_message text)) else None
+
+-- it is a failed read, but none as at the end
+abbrev pub IsIo : Error → Type 0
+IsIo (Io kind) = is_end kind ≡ false
+IsIo _ = ⊥
+
+abbrev pub is_peeked : Place → Bool
+is_peeked Peeked = true
+is_peeked _ = false
+
+abbrev pub place_stop : Place → Option MessageKind
+place_stop (Stopped kind) = Some kind
+place_stop _ = None
+
+-- a line that was peeked at is still to come, and a frame that has no place is refused whatever follows
+abbrev pub place_pieces : Place → List ℕ → Option Pieces → Option Pieces
+place_pieces Open text ahead = ahead
+place_pieces Peeked text ahead = option_map (with_piece (line text)) ahead
+place_pieces (Stopped kind) text ahead = ahead
+place_pieces Refused text ahead = Some (no_pieces unexpected_frame)
+
+abbrev pub place_refusal : Place → Option Refusal → Option Refusal
+place_refusal Open ahead = ahead
+place_refusal Peeked ahead = None
+place_refusal (Stopped kind) ahead = ahead
+place_refusal Refused ahead = Some unexpected_frame
+
+-- the bytes that are left in memory
+abbrev pub memory_remaining : Cursor (Vec ℕ Global) → Option (List ℕ)
+memory_remaining c = cursor_remaining (λ v. Some v.items) c
+
+module _ {R : Type 0} where
+  -- the bytes to come, where they are known
+  abbrev pub known : (R → Option (List ℕ)) → Packets R → Option (List ℕ)
+  known remaining p = if p.ended then Some p.window.pending else prepend_known p.window.pending (remaining p.reader)
+
+  -- what stands in the buffer
+  abbrev pub stand : Packets R → Option Refusal
+  stand p = standing p.ended (head_of p.window.pending) p.window.pending
+
+  -- after the line of a frame of this size was taken
+  abbrev pub took : Packets R → ℕ → Packets R
+  took p size = record p { window = record { pending = drop size p.window.pending; lent = drop 4 (take size p.window.pending) } }
+
+  -- after a stop was taken
+  abbrev pub stopped_by : Packets R → MessageKind → Packets R
+  stopped_by p kind = record p { window = record { pending = drop 4 p.window.pending; lent = p.window.lent }; place = Stopped kind }
+
+  -- after a line that was taken was put back
+  abbrev pub peeked_at : Packets R → Packets R
+  peeked_at p = record p { place = Peeked }
+
+  -- a bound on the bytes that may still come
+  abbrev pub bytes_left : Packets R → ℕ
+  bytes_left p = p.reads_left * 65520 + length p.window.pending
+
+  -- and on those of the lines, with one more for each line
+  abbrev pub lines_left : Packets R → ℕ
+  lines_left p = bytes_left p + (if is_peeked p.place then length p.window.lent + 1 else 0)
+
+  -- what a reader of lines over these packets means
+  abbrev pub packets_reading : (R → Option (List ℕ)) → Packets R → Reading
+  packets_reading remaining p = record {
+    to_come = place_pieces p.place p.window.lent (option_map stream_pieces (known remaining p));
+    refused = place_refusal p.place (stand p);
+    stopped = place_stop p.place;
+    version = p.version;
+    line = p.window.lent;
+    peeked = is_peeked p.place;
+    failures = p.failures;
+    left = lines_left p;
+    held = nothing_held;
+  }
+
+  -- no byte was lost, and only the window, the reader, the failures and the reads that are left changed, and perhaps that the stream ended
+  pub record Kept (remaining : R → Option (List ℕ)) (old new : Packets R) : Type 0 where
+    pub bytes : Keeps (known remaining old) (known remaining new)
+    pub place : new.place ≡ old.place
+    pub version : new.version ≡ old.version
+    pub left : bytes_left new ≤ bytes_left old
+
+  -- more bytes came
+  pub record Filled (remaining : R → Option (List ℕ)) (old new : Packets R) : Type 0 where
+    pub kept : Kept remaining old new
+    pub longer : length old.window.pending < length new.window.pending
+    pub bound : length new.window.pending ≤ 65520
+    pub ended : new.ended ≡ old.ended
+    pub failures : new.failures ≡ old.failures
+
+  -- the stream was at its end
+  pub record Ended (remaining : R → Option (List ℕ)) (old new : Packets R) (e : Error) : Type 0 where
+    pub kept : Kept remaining old new
+    pub error : e ≡ Io UnexpectedEof
+    pub front : head_of new.window.pending ≡ Partial
+    pub ended : new.ended ≡ true
+    pub failures : new.failures ≡ old.failures
+
+  -- the read failed
+  pub record Broke (remaining : R → Option (List ℕ)) (old new : Packets R) (e : Error) : Type 0 where
+    pub kept : Kept remaining old new
+    pub error : IsIo e
+    pub front : head_of new.window.pending ≡ Partial
+    pub was_open : old.ended ≡ false
+    pub is_open : new.ended ≡ false
+    pub failures : Rose old.failures new.failures
+
+  -- the read failed as at the end
+  pub record BrokeOff (old new : Packets R) (e : Error) : Type 0 where
+    pub error : e ≡ Io UnexpectedEof
+    pub front : head_of new.window.pending ≡ Partial
+    pub was_open : old.ended ≡ false
+    pub ended : new.ended ≡ true
+    pub place : new.place ≡ old.place
+    pub version : new.version ≡ old.version
+    pub left : bytes_left new ≤ bytes_left old
+    pub failures : Rose old.failures new.failures
+
+  -- one more read
+  abbrev pub Fills : {X : Type 0} → (R → Option (List ℕ)) → Packets R → Packets R → Result X Error → Type 0
+  Fills remaining old new (Ok _) = Filled remaining old new
+  Fills remaining old new (Err e) = Ended remaining old new e ⊎ Broke remaining old new e ⊎ BrokeOff old new e
+
+  -- what stands at the front is settled: nothing changed if it was so before, and else the stream had not ended
+  pub record Settled (remaining : R → Option (List ℕ)) (old new : Packets R) (head : Head) : Type 0 where
+    pub kept : Kept remaining old new
+    pub front : head ≡ head_of new.window.pending
+    pub whole : head ≡ Partial → ⊥
+    pub failures : new.failures ≡ old.failures
+    pub moved : (new ≡ old) ⊎ ((head_of old.window.pending ≡ Partial) × (old.ended ≡ false))
+
+  -- the end was reached: nothing changed if it was so before
+  pub record SettledEnd (remaining : R → Option (List ℕ)) (old new : Packets R) (e : Error) : Type 0 where
+    pub ends : Ended remaining old new e
+    pub front : head_of old.window.pending ≡ Partial
+    pub same : old.ended ≡ true → new ≡ old
+
+  -- the read failed where more bytes were wanted
+  pub record SettledFault (remaining : R → Option (List ℕ)) (old new : Packets R) (e : Error) : Type 0 where
+    pub breaks : Broke remaining old new e
+    pub front : head_of old.window.pending ≡ Partial
+
+  -- it failed there as at its end
+  pub record SettledBreak (old new : Packets R) (e : Error) : Type 0 where
+    pub breaks : BrokeOff old new e
+    pub front : head_of old.window.pending ≡ Partial
+
+  -- what stands at the front, or why that isn't known
+  abbrev pub Settles : (R → Option (List ℕ)) → Packets R → Packets R → Result Head Error → Type 0
+  Settles remaining old new (Ok head) = Settled remaining old new head
+  Settles remaining old new (Err e) = SettledEnd remaining old new e ⊎ SettledFault remaining old new e ⊎ SettledBreak old new e
+
+  -- a loop of reads, while less than a frame stands at the front
+  pub record Settling (remaining : R → Option (List ℕ)) (old now : Packets R) : Type 0 where
+    pub kept : Kept remaining old now
+    pub ended : now.ended ≡ old.ended
+    pub failures : now.failures ≡ old.failures
+    pub moved : (now ≡ old) ⊎ ((head_of old.window.pending ≡ Partial) × (old.ended ≡ false))

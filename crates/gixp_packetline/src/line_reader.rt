@@ -1,0 +1,62 @@
+//! A reader of lines over any reader of bytes.
+ghost use Rattle.std.specs.Prelude.{IfOk, true};
+ghost use Rattle.gixp_packetline.specs.Reading.{IsFresh};
+
+use crate::packets::Packets;
+use crate::protocol::{MessageKind, Protocol};
+use crate::read::{Error, ExtendedBufRead};
+use std::alloc::{AllocError, Global};
+use std::io::Read;
+
+/// Reads the lines of a stream of frames, at first with the stops of version 2
+/// (gitprotocol-common, "pkt-line Format"; gitprotocol-v2, "Packet-Line Framing").
+///
+/// The lines are those of the bytes to come, whatever the pieces in which the reader gives them.
+#[derive(Drop)]
+pub struct LineReader<'a, R> {
+    packets: Packets<&'a mut R>,
+}
+
+impl<'a, R: Read> LineReader<'a, R> {
+    ghost use Rattle.gixp_packetline.specs.LineReader.{line_reader_reading};
+
+    /// Reads lines from here on. It takes one buffer of 65,520 bytes, and reads nothing yet.
+    ///
+    /// # Errors
+    ///
+    /// The buffer could not be allocated. The reader is as it was.
+    pub fn new(alloc: Global, reader: &'a mut R) -> Result<LineReader<'a, R>, AllocError>
+        ensures { IfOk result (λ r. IsFresh (R.remaining reader.old) (line_reader_reading R.remaining r)) }
+    {
+        let packets = Packets::new(alloc, reader)?;
+        Ok(LineReader { packets })
+    }
+}
+
+impl<'a, R: Read> ExtendedBufRead for LineReader<'a, R> {
+    ghost use Rattle.gixp_packetline.specs.LineReader.{line_reader_reading};
+
+    ghost reading = { line_reader_reading R.remaining };
+
+    ghost is_plain = { true };
+
+    fn next_line(&mut self) -> Result<bool, Error> {
+        self.packets.next_line()
+    }
+
+    fn peek_line(&mut self) -> Result<bool, Error> {
+        self.packets.peek_line()
+    }
+
+    fn line(&self) -> &[u8] {
+        self.packets.line()
+    }
+
+    fn stopped_at(&self) -> Option<MessageKind> {
+        self.packets.stopped_at()
+    }
+
+    fn reset(&mut self, version: Protocol) {
+        self.packets.reset(version);
+    }
+}

@@ -1,0 +1,308 @@
+//! Packets over a reader, through one buffer.
+ghost use Rattle.std.specs.Prelude.{◌≡◌, ◌≤◌, ◌<◌, ◌+◌, false, length, take, Some, None, Ok, Err, [], IfOk, true, ◌⊎◌};
+ghost use Rattle.gixp_packetline.specs.declared.packet.Head.TheVariants.{Partial};
+ghost use Rattle.gixp_packetline.specs.Frames.{head_of};
+ghost use Rattle.gixp_packetline.specs.Reading.{IsFresh, Rose, Reads, PlainIf, refusal_of, is_end};
+ghost use Rattle.gixp_packetline.specs.Pieces.{is_error, error_message, server};
+ghost use Rattle.gixp_packetline.specs.Items.{is_stop};
+ghost use Rattle.std.specs.declared.io.ErrorKind.TheVariants.{Other};
+ghost use Rattle.gixp_packetline.specs.declared.read.Error.TheVariants.{Io, Memory};
+ghost use Rattle.gixp_packetline.specs.declared.packets.Place.TheVariants.{Open};
+ghost use Rattle.gixp_packetline.specs.Packets.{Fills, Settles, packets_reading, memory_remaining};
+
+use crate::packet::{Head, read_head};
+use crate::protocol::{MessageKind, Protocol};
+use crate::read::{Error, ExtendedBufRead};
+use crate::window::Window;
+use bstr::BString;
+use std::alloc::{AllocError, Global};
+use std::io::{Cursor, ErrorKind, Read};
+
+/// Where a reader of lines is.
+#[derive(Clone, Copy, Debug, PartialEq, Eq, Drop)]
+pub enum Place {
+    /// Before a frame.
+    Open,
+    /// Before a line that was peeked at.
+    Peeked,
+    /// At a stop.
+    Stopped(MessageKind),
+    /// At a frame that has no place here.
+    Refused,
+}
+
+/// Reads packets into one buffer, and lends their lines from it: the reader behind [`LineReader`] and the transports
+/// (gitprotocol-common, "pkt-line Format").
+///
+/// [`LineReader`]: crate::LineReader
+#[derive(Drop)]
+pub struct Packets<R> {
+    alloc: Global,
+    reader: R,
+    window: Window,
+    place: Place,
+    // The reader gave its last byte.
+    ended: bool,
+    version: Protocol,
+    reads_left: u64,
+    failures: u64,
+}
+
+impl<R: Read + Drop> Packets<R> {
+    /// Packets of this reader, at first with the stops of V2. It takes one buffer of 65,520 bytes, and reads nothing yet.
+    ///
+    /// # Errors
+    ///
+    /// The buffer could not be allocated.
+    pub fn new(alloc: Global, reader: R) -> Result<Packets<R>, AllocError>
+        ensures { IfOk result (λ p. IsFresh (R.remaining reader) (packets_reading R.remaining p)) }
+    {
+        let window = Window::new(alloc)?;
+        Ok(Packets {
+            alloc,
+            reader,
+            window,
+            place: Place::Open,
+            ended: false,
+            version: Protocol::V2,
+            reads_left: u64::MAX,
+            failures: 0,
+        })
+    }
+}
+
+impl<R: Read + Drop> Packets<R> {
+    /// Reads from this reader from here on, under the same version. What was read of the one before
+    /// is gone.
+    pub fn restart(&mut self, reader: R)
+        ensures { self.new ≡ record self.old {
+          reader = reader;
+          window = record { pending = []; lent = [] };
+          place = Open;
+          ended = false;
+        } }
+    {
+        self.reader = reader;
+        self.window.clear();
+        self.place = Place::Open;
+        self.ended = false;
+    }
+}
+
+impl Packets<Cursor<Vec<u8>>> {
+    /// Frees the bytes in memory, if the last of them is read.
+    pub fn free_read(&mut self)
+        ensures { packets_reading memory_remaining self.new ≡ packets_reading memory_remaining self.old }
+    {
+        if self.reader.position() >= self.reader.get_ref().len() as u64 {
+            self.reader = Cursor::new(Vec::new(self.alloc));
+        }
+    }
+}
+
+impl<R: Read> Packets<R> {
+    /// Lends only the first bytes, as many, of the line that it lends.
+    pub fn shorten_line(&mut self, len: usize)
+        requires { len ≤ length self.old.window.lent }
+        ensures { self.new ≡ record self.old { window = record self.old.window { lent = take len self.old.window.lent } } }
+    {
+        self.window.shorten(len);
+    }
+
+    /// Whose stops it knows.
+    pub fn version(&self) -> Protocol
+        ensures { result ≡ self.now.version }
+    {
+        self.version
+    }
+
+    /// How many reads and writes failed, up to the greatest value of the count.
+    pub fn failures(&self) -> u64
+        ensures { result ≡ self.now.failures }
+    {
+        self.failures
+    }
+
+    /// Counts one more failed read or write, up to the greatest value of the count.
+    pub fn note_failure(&mut self)
+        ensures rose { Rose self.old.failures self.new.failures }
+        ensures rest { self.new ≡ record self.old { failures = self.new.failures } }
+    {
+        self.failures = self.failures.saturating_add(1);
+    }
+
+    // One more read, of all that is free in the buffer.
+    fn fill(&mut self) -> Result<(), Error>
+        requires front { head_of self.old.window.pending ≡ Partial }
+        requires open { self.old.ended ≡ false }
+        ensures fills { Fills R.remaining self.old self.new result }
+        ensures gives_up { self.old.reads_left ≡ 0 → result ≡ Err (Io Other) }
+        ensures counts { 0 < self.old.reads_left → self.old.reads_left ≡ self.new.reads_left + 1 }
+    {
+        if self.reads_left == 0 {
+            self.note_failure();
+            return Err(Error::Io(ErrorKind::Other));
+        }
+        self.reads_left -= 1;
+        match self.window.receive(&mut self.reader) {
+            Ok(0) => {
+                self.ended = true;
+                Err(Error::Io(ErrorKind::UnexpectedEof))
+            }
+            Ok(_) => Ok(()),
+            Err(kind) => {
+                self.note_failure();
+                self.ended = is_end(kind);
+                Err(Error::Io(kind))
+            }
+        }
+    }
+
+    // What stands at the front, of which as much as that takes is read.
+    fn settle(&mut self) -> Result<Head, Error>
+        ensures { Settles R.remaining self.old self.new result }
+    {
+        loop {
+            match read_head(self.window.pending()) {
+                Head::Partial => {}
+                head => return Ok(head),
+            }
+            if self.ended {
+                return Err(Error::Io(ErrorKind::UnexpectedEof));
+            }
+            self.fill()?;
+        }
+    }
+
+    // Takes what comes next.
+    fn advance(&mut self) -> Result<bool, Error>
+        requires { self.old.place ≡ Open }
+        ensures reads { Reads (packets_reading R.remaining self.old) (packets_reading R.remaining self.new) result }
+        ensures plain { PlainIf true (packets_reading R.remaining self.new) result }
+        ensures open { result ≡ Ok true → self.new.place ≡ Open }
+    {
+        match self.settle() {
+            Ok(Head::Data(size)) => {
+                let text = &self.window.pending()[4..size];
+                if is_server_error(text) {
+                    return Err(server_error(self.alloc, text));
+                }
+                self.window.take_line(4, size);
+                Ok(true)
+            }
+            Ok(Head::Special(kind)) => {
+                if is_stop(self.version, kind) {
+                    self.window.skip(4);
+                    self.place = Place::Stopped(kind);
+                    Ok(false)
+                } else {
+                    self.place = Place::Refused;
+                    Err(Error::UnexpectedFrame)
+                }
+            }
+            Ok(Head::Bad(e)) => Err(Error::Decode(e)),
+            Ok(Head::Partial) => unreachable!(),
+            Err(e) => Err(e),
+        }
+    }
+}
+
+impl<R: Read> ExtendedBufRead for Packets<R> {
+    ghost reading = { packets_reading R.remaining };
+
+    ghost is_plain = { true };
+
+    fn next_line(&mut self) -> Result<bool, Error> {
+        match self.place {
+            Place::Peeked => {
+                self.place = Place::Open;
+                Ok(true)
+            }
+            Place::Stopped(_) => Ok(false),
+            Place::Refused => Err(Error::UnexpectedFrame),
+            Place::Open => self.advance(),
+        }
+    }
+
+    fn peek_line(&mut self) -> Result<bool, Error> {
+        match self.place {
+            Place::Peeked => Ok(true),
+            Place::Stopped(_) => Ok(false),
+            Place::Refused => Err(Error::UnexpectedFrame),
+            Place::Open => match self.advance() {
+                Ok(true) => {
+                    self.place = Place::Peeked;
+                    Ok(true)
+                }
+                other => other,
+            },
+        }
+    }
+
+    fn line(&self) -> &[u8] {
+        self.window.lent()
+    }
+
+    fn stopped_at(&self) -> Option<MessageKind> {
+        match self.place {
+            Place::Stopped(kind) => Some(kind),
+            _ => None,
+        }
+    }
+
+    fn reset(&mut self, version: Protocol) {
+        if let Place::Stopped(_) = self.place {
+            self.place = Place::Open;
+        }
+        self.version = version;
+    }
+}
+
+// Whether a failure is that of a stream's end, which is then taken for one.
+fn is_end(kind: ErrorKind) -> bool
+    ensures { result ≡ is_end kind }
+{
+    match kind {
+        ErrorKind::UnexpectedEof => true,
+        _ => false,
+    }
+}
+
+// Whether a payload is an error of the server.
+fn is_server_error(text: &[u8]) -> bool
+    ensures { result ≡ is_error text.now }
+{
+    text.starts_with(b"ERR ")
+}
+
+// The error of the server that a payload is.
+fn server_error(alloc: Global, text: &[u8]) -> Error
+    requires { is_error text.now ≡ true }
+    ensures { (refusal_of result ≡ server (error_message text.now)) ⊎ (result ≡ Memory) }
+{
+    let message = &text[4..];
+    let message = match message {
+        [front @ .., b'\n'] => front,
+        _ => message,
+    };
+    match message.to_vec(alloc) {
+        Ok(message) => Error::Server {
+            message: BString::from(message),
+        },
+        Err(_) => Error::Memory,
+    }
+}
+
+// Whether a reader of this version stops at such a frame.
+fn is_stop(version: Protocol, kind: MessageKind) -> bool
+    ensures { result ≡ is_stop version kind }
+{
+    match kind {
+        MessageKind::Flush => true,
+        MessageKind::Delimiter => match version {
+            Protocol::V2 => true,
+            _ => false,
+        },
+        _ => false,
+    }
+}

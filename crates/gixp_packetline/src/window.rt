@@ -1,0 +1,154 @@
+//! The buffer that frames are read into.
+ghost use Rattle.std.specs.Prelude.{◌≡◌, ◌+◌, ◌-◌, ◌<◌, ◌≤◌, [], length, take, drop, slice_range, vec_len, IfOk};
+ghost use Rattle.std.specs.IoError.{error_kind};
+ghost use Rattle.gixp_packetline.specs.Window.{Shown, ReadsBehind, Receives};
+
+use crate::packet::MAX_FRAME;
+use std::alloc::{AllocError, Global};
+use std::io;
+use std::io::{ErrorKind, Read};
+use std::marker::Model;
+
+// A buffer for one frame of any length.
+#[derive(Drop)]
+pub(crate) struct Window {
+    bytes: Vec<u8>,
+    // The bytes that were read and not yet taken.
+    start: usize,
+    end: usize,
+    // The line that is lent.
+    line_start: usize,
+    line_end: usize,
+}
+
+impl Model for Window {
+    ghost Value = { Shown };
+
+    ghost view = { λ w. record {
+      pending = slice_range w.bytes.items w.start w.end;
+      lent = slice_range w.bytes.items w.line_start w.line_end;
+    } };
+
+    ghost invariant = { λ w. (vec_len w.bytes ≡ 65520) × (w.start ≤ w.end) × (w.end ≤ 65520)
+        × (w.line_start ≤ w.line_end) × (w.line_end ≤ 65520) };
+}
+
+// The kind with which a read failed.
+fn kind_of(e: io::Error) -> ErrorKind
+    ensures { result ≡ error_kind e }
+{
+    e.kind()
+}
+
+// One read, behind what the buffer holds.
+fn read_behind<R: Read>(
+    reader: &mut R,
+    buffer: &mut Vec<u8>,
+    end: usize,
+) -> Result<usize, ErrorKind>
+    requires { end ≤ vec_len buffer.old }
+    ensures len { vec_len buffer.new ≡ vec_len buffer.old }
+    ensures front { take end buffer.new.items ≡ take end buffer.old.items }
+    ensures bytes { ReadsBehind (R.remaining reader.old) (R.remaining reader.new) end buffer.new.items result }
+{
+    match reader.read(&mut buffer[end..]) {
+        Ok(n) => Ok(n),
+        Err(e) => Err(kind_of(e)),
+    }
+}
+
+// Moves what stands between these places to the front, unless it stands there.
+fn to_front(buffer: &mut Vec<u8>, start: usize, end: usize)
+    requires in_order { start ≤ end }
+    requires there { end ≤ vec_len buffer.old }
+    ensures len { vec_len buffer.new ≡ vec_len buffer.old }
+    ensures moved { take (end - start) buffer.new.items ≡ slice_range buffer.old.items start end }
+{
+    if start == 0 {
+        return;
+    }
+    buffer.copy_within(start..end, 0);
+}
+
+impl Window {
+    // A buffer that holds nothing.
+    pub(crate) fn new(alloc: Global) -> Result<Window, AllocError>
+        ensures { IfOk result (λ w. w ≡ record { pending = []; lent = [] }) }
+    {
+        Ok(Window {
+            bytes: vec![in alloc; 0; MAX_FRAME]?,
+            start: 0,
+            end: 0,
+            line_start: 0,
+            line_end: 0,
+        })
+    }
+
+    // The bytes that were read and not yet taken.
+    pub(crate) fn pending(&self) -> &[u8]
+        ensures value { result.now ≡ self.now.pending }
+        ensures bound { length self.now.pending ≤ 65520 }
+    {
+        &self.bytes[self.start..self.end]
+    }
+
+    // The line that is lent.
+    pub(crate) fn lent(&self) -> &[u8]
+        ensures { result.now ≡ self.now.lent }
+    {
+        &self.bytes[self.line_start..self.line_end]
+    }
+
+    // Holds nothing from here on.
+    pub(crate) fn clear(&mut self)
+        ensures { self.new ≡ record { pending = []; lent = [] } }
+    {
+        self.start = 0;
+        self.end = 0;
+        self.line_start = 0;
+        self.line_end = 0;
+    }
+
+    // Lends only the first bytes of what it lends.
+    pub(crate) fn shorten(&mut self, len: usize)
+        requires { len ≤ length self.old.lent }
+        ensures { self.new ≡ record self.old { lent = take len self.old.lent } }
+    {
+        self.line_end = self.line_start + len;
+    }
+
+    // Takes the first bytes.
+    pub(crate) fn skip(&mut self, amount: usize)
+        requires { amount ≤ length self.old.pending }
+        ensures { self.new ≡ record self.old { pending = drop amount self.old.pending } }
+    {
+        self.start += amount;
+    }
+
+    // Takes the first bytes, and lends those from here on.
+    pub(crate) fn take_line(&mut self, from: usize, amount: usize)
+        requires in_order { from ≤ amount }
+        requires there { amount ≤ length self.old.pending }
+        ensures { self.new ≡ record { pending = drop amount self.old.pending; lent = drop from (take amount self.old.pending) } }
+    {
+        self.line_start = self.start + from;
+        self.line_end = self.start + amount;
+        self.start += amount;
+    }
+
+    // One read of all that is free, behind what is pending. What was lent is gone. What is pending
+    // moves only where something stands in front of it.
+    pub(crate) fn receive<R: Read>(&mut self, reader: &mut R) -> Result<usize, ErrorKind>
+        requires { length self.old.pending < 65520 }
+        ensures { Receives (R.remaining reader.old) (R.remaining reader.new) self.old.pending self.new.pending result }
+    {
+        to_front(&mut self.bytes, self.start, self.end);
+        self.end -= self.start;
+        self.start = 0;
+        let received = read_behind(reader, &mut self.bytes, self.end);
+        if let Ok(n) = &received {
+            self.end += *n;
+        }
+        received
+    }
+}

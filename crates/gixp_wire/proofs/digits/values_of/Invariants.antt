@@ -1,6 +1,0 @@
-use Rattle.std.proofs.Common.{◌≡◌, length, true}
-use Rattle.gixp_wire.specs.Digits.{AreValuesBelow}
-use Rattle.gixp_wire.proofs.digits.values_of.Given as goal
-
-abbrev pub invariant-loop-i : goal.invariant-loop-i
-invariant-loop-i l = (length l.values ≡ 40) × (l.all ≡ true → AreValuesBelow l.i l.digits l.values)

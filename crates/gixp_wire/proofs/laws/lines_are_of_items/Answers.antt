@@ -1,5 +1,0 @@
-use Rattle.gixp_wire.proofs.ItemLemmas.{lines_of_items}
-use Rattle.gixp_wire.proofs.laws.lines_are_of_items.Goals as goal
-
-pub returns : goal.returns
-returns c = λ v ps. lines_of_items v ps.list ps.end
