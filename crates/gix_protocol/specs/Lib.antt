@@ -1,28 +1,28 @@
 -- The definitions that public clauses cite.
-pub use Rattle.gixp_wire.specs.Hex
-pub use Rattle.gixp_wire.specs.ObjectId
-pub use Rattle.gixp_wire.specs.Digits
-pub use Rattle.gixp_wire.specs.FrameKind
-pub use Rattle.gixp_wire.specs.Frames
-pub use Rattle.gixp_wire.specs.Grammar
-pub use Rattle.gixp_wire.specs.FrameText
-pub use Rattle.gixp_wire.specs.Pieces
-pub use Rattle.gixp_wire.specs.Items
-pub use Rattle.gixp_wire.specs.Lines
-pub use Rattle.gixp_wire.specs.TransportState
-pub use Rattle.gixp_wire.specs.Reading
-pub use Rattle.gixp_wire.specs.Client
+pub use Rattle.gixp_hash.specs.Hex
+pub use Rattle.gixp_hash.specs.ObjectId
+pub use Rattle.gixp_hash.specs.Digits
+pub use Rattle.gixp_packetline.specs.FrameKind
+pub use Rattle.gixp_packetline.specs.Frames
+pub use Rattle.gixp_packetline.specs.Grammar
+pub use Rattle.gixp_packetline.specs.FrameText
+pub use Rattle.gixp_packetline.specs.Pieces
+pub use Rattle.gixp_packetline.specs.Items
+pub use Rattle.gixp_packetline.specs.Lines
+pub use Rattle.gixp_packetline.specs.TransportState
+pub use Rattle.gixp_packetline.specs.Reading
+pub use Rattle.gixp_capabilities.specs.Client
 pub use Rattle.gixp_wire.specs.Message
 pub use Rattle.gixp_wire.specs.Transport
-pub use Rattle.gixp_wire.specs.Window
-pub use Rattle.gixp_wire.specs.PacketLine
-pub use Rattle.gixp_wire.specs.Packets
-pub use Rattle.gixp_wire.specs.LineReader
+pub use Rattle.gixp_packetline.specs.Window
+pub use Rattle.gixp_packetline.specs.PacketLine
+pub use Rattle.gixp_packetline.specs.Packets
+pub use Rattle.gixp_packetline.specs.LineReader
 pub use Rattle.gixp_wire.specs.Bodies
 pub use Rattle.gixp_wire.specs.Connection
-pub use Rattle.gixp_wire.specs.Cut
-pub use Rattle.gixp_wire.specs.Capabilities
-pub use Rattle.gixp_wire.specs.Capability
+pub use Rattle.gixp_capabilities.specs.Cut
+pub use Rattle.gixp_capabilities.specs.Capabilities
+pub use Rattle.gixp_capabilities.specs.Capability
 pub use Rattle.gixp_wire.specs.Service
 pub use Rattle.gixp_wire.specs.Progress
 pub use Rattle.gixp_wire.specs.Spurious
@@ -143,7 +143,7 @@ pub use Rattle.gixp_fetch.specs.Sessions
 pub use Rattle.gixp_fetch.specs.Again
 pub use Rattle.gixp_fetch.specs.Headline
 -- The types that they speak of.
-pub use Rattle.gixp_wire.specs.declared.object_id.ObjectId as ObjectIdType
+pub use Rattle.gixp_hash.specs.declared.object_id.ObjectId as ObjectIdType
 pub use Rattle.gixp_refs.specs.declared.handshake.refs.parse.Error as RefsError
 pub use Rattle.gixp_matching.specs.declared.match_group.validate.Fix as FixType
 pub use Rattle.gixp_refmap.specs.declared.refmap.mapping.Mapping as MappingType

@@ -1,10 +1,11 @@
 //! Refs and answers over a device that fails at one read, and an answer in bands.
 use bstr::BStr;
+use gixp_hash::ObjectId;
+use gixp_packetline::{ExtendedBufRead, LineReader, Protocol};
 use gixp_refs::handshake::refs::from_v2_refs;
 use gixp_response::fetch::Response;
 use gixp_response::fetch::response::{Acknowledgement, Error, ShallowUpdate};
 use gixp_sidebands::{BandText, NeverInterrupt, WithSidebands};
-use gixp_wire::{ExtendedBufRead, LineReader, ObjectId, Protocol};
 use std::alloc::{AllocError, Global};
 use std::io;
 use std::io::{ErrorKind, Read};

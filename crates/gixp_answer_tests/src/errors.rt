@@ -1,10 +1,12 @@
 //! Texts of errors.
 use bstr::BString;
+use gixp_capabilities::client;
+use gixp_hash::decode;
+use gixp_packetline::{PacketError, Protocol, read};
 use gixp_refs::handshake::refs::parse;
 use gixp_requests::command::validate_argument_prefixes;
 use gixp_response::fetch::Response;
 use gixp_response::fetch::response::{Acknowledgement, Error};
-use gixp_wire::{PacketError, Protocol, client, decode, read};
 use std::alloc::{AllocError, Global};
 use std::fmt::Display;
 use std::io::ErrorKind;

@@ -1,9 +1,11 @@
 //! Requests over bodies and writers that fail, and names.
 use bstr::BString;
+use gixp_hash::ObjectId;
+use gixp_packetline::Protocol;
 use gixp_requests::command::CommandTable;
 use gixp_requests::fetch::Arguments;
 use gixp_requests::{Command, agent};
-use gixp_wire::{Bodies, Body, Connection, ObjectId, Protocol, Transport};
+use gixp_wire::{Bodies, Body, Connection, Transport};
 use std::alloc::{AllocError, Global};
 use std::io;
 use std::io::{ErrorKind, Write};

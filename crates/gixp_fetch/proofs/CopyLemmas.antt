@@ -3,9 +3,9 @@ use Rattle.std.proofs.Common.{◌≡◌, ℕ, ◌+◌, ◌≤◌, ◌<◌, List,
 use Rattle.std.proofs.lemmas.List.{append_assoc, append-nil, take_all}
 use Rattle.std.specs.Prelude.{IfSome}
 use Rattle.std.specs.Io.KnownBytes.{Appends}
-use Rattle.gixp_wire.specs.Pieces.{Pieces, Refusal}
+use Rattle.gixp_packetline.specs.Pieces.{Pieces, Refusal}
 use Rattle.std.specs.declared.io.Error.{Error as io_error}
-use Rattle.gixp_wire.specs.Reading.{Reading, AtStop, Fails}
+use Rattle.gixp_packetline.specs.Reading.{Reading, AtStop, Fails}
 use Rattle.gixp_sidebands.specs.Bands.{Side, IsFirstOf, side_content, side_reading, shown, content_bound, Passes, ShowsContent, EndsContent, RefusesContent, ReadsBytes}
 use Rattle.gixp_fetch.specs.Receive.{ReadsOn}
 use Rattle.gixp_fetch.specs.Consume.{Copied}

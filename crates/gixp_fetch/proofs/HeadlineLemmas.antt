@@ -3,16 +3,16 @@ use Rattle.std.proofs.Common.{◌≡◌, ◌⊎◌, inl, inr, ℕ, Bool, true, f
 use Rattle.std.specs.Prelude.{Result, Ok, Err, IfSome, Vec}
 use Rattle.std.specs.declared.alloc.Global.{Global}
 use Rattle.std.specs.Borrow.{GName}
-use Rattle.gixp_wire.specs.declared.object_id.ObjectId.{ObjectId}
-use Rattle.gixp_wire.specs.declared.protocol.Protocol.{Protocol}
-use Rattle.gixp_wire.specs.declared.protocol.MessageKind.{MessageKind}
+use Rattle.gixp_hash.specs.declared.object_id.ObjectId.{ObjectId}
+use Rattle.gixp_packetline.specs.declared.protocol.Protocol.{Protocol}
+use Rattle.gixp_packetline.specs.declared.protocol.MessageKind.{MessageKind}
 use Rattle.gixp_wire.specs.declared.service.Service.{Service}
 use Rattle.gixp_wire.specs.declared.service.SetServiceResponse.{SetServiceResponse}
-use Rattle.gixp_wire.specs.Capabilities.{CapabilityValue}
+use Rattle.gixp_capabilities.specs.Capabilities.{CapabilityValue}
 use Rattle.gixp_wire.specs.Greeting.{Parameter}
-use Rattle.gixp_wire.specs.Lines.{stop, lines_to}
-use Rattle.gixp_wire.specs.Pieces.{Pieces}
-use Rattle.gixp_wire.specs.Reading.{Reading, lines_ahead}
+use Rattle.gixp_packetline.specs.Lines.{stop, lines_to}
+use Rattle.gixp_packetline.specs.Pieces.{Pieces}
+use Rattle.gixp_packetline.specs.Reading.{Reading, lines_ahead}
 use Rattle.gixp_sidebands.specs.Bands.{Side, content_left, content_of, side_content, IsFirstOf}
 use Rattle.gixp_refs.specs.declared.handshake.Ref.{Ref}
 use Rattle.gixp_response.specs.declared.fetch.response.line.ShallowUpdate.{ShallowUpdate}

@@ -9,8 +9,8 @@ use Rattle.std.specs.Ordering.{ordering_reverse}
 use Rattle.std.proofs.lemmas.Bool.Decides.{nat_tests}
 use Rattle.hex.specs.Hex.{lower_digits, hex_digit_value, encode_with, encode_lower, decode_of, IsBytes}
 use Rattle.hex.proofs.HexLemmas.{length-encode_with, IsDigits-lower_digits, decode_of-encode_lower}
-use Rattle.gixp_wire.specs.ObjectId.{id_of, id_cmp}
-use Rattle.gixp_wire.specs.declared.object_id.ObjectId.{ObjectId}
+use Rattle.gixp_hash.specs.ObjectId.{id_of, id_cmp}
+use Rattle.gixp_hash.specs.declared.object_id.ObjectId.{ObjectId}
 use Rattle.gixp_graph.specs.GraphLaws.{ids_total}
 use Rattle.gixp_fetch.specs.declared.shallow.ShallowError.{ShallowError}
 use Rattle.gixp_fetch.specs.declared.shallow.ShallowError.TheVariants.{Io, Locked, Decode, Memory}

@@ -2,14 +2,14 @@
 use Rattle.std.proofs.Common.{◌≡◌, ◌⊎◌, inl, inr, ℕ, ◌+◌, ◌≤◌, Bool, true, false, List, [], ◌∷◌, ◌++◌, length, map, drop, refl, sym, ap, subst, ◌∙◌, arith, Option, Some, None, length-append}
 use Rattle.std.specs.Prelude.{Result, Ok, Err}
 use Rattle.std.proofs.lemmas.List.{append-nil}
-use Rattle.gixp_wire.specs.TransportState.{TransportState as held_data}
-use Rattle.gixp_wire.specs.Pieces.{Refusal}
-use Rattle.gixp_wire.specs.Reading.{Reading, Fails as reader_fails}
+use Rattle.gixp_packetline.specs.TransportState.{TransportState as held_data}
+use Rattle.gixp_packetline.specs.Pieces.{Refusal}
+use Rattle.gixp_packetline.specs.Reading.{Reading, Fails as reader_fails}
 use Rattle.gixp_sidebands.specs.Bands.{Side, side_reading, is_begun}
 use Rattle.gixp_requests.specs.Arguments.{ArgumentsValue}
 use Rattle.gixp_response.specs.declared.fetch.response.line.ShallowUpdate.{ShallowUpdate}
 use Rattle.gixp_response.specs.Answer.{AnswerValue}
-use Rattle.gixp_wire.specs.declared.object_id.ObjectId.{ObjectId}
+use Rattle.gixp_hash.specs.declared.object_id.ObjectId.{ObjectId}
 use Rattle.gixp_negotiate.specs.declared.negotiate.Round.{Round}
 use Rattle.gixp_negotiate.specs.Negotiate.{ActionValue, Lawful, IsWide}
 use Rattle.gixp_fetch.specs.declared.options.Outcome.{Outcome}

@@ -8,8 +8,8 @@ use Rattle.std.proofs.Math.ListN.{drop_of_length-le}
 use Rattle.std.proofs.lemmas.List.Elements.{All-nil, All-cons}
 use Rattle.std.proofs.lemmas.Bool.Decides.{nat_tests}
 use Rattle.std.proofs.lemmas.List.Sums.{prefix_len-le-length}
-use Rattle.gixp_wire.specs.declared.object_id.ObjectId.{ObjectId}
-use Rattle.gixp_wire.specs.ObjectId.{id_of}
+use Rattle.gixp_hash.specs.declared.object_id.ObjectId.{ObjectId}
+use Rattle.gixp_hash.specs.ObjectId.{id_of}
 use Rattle.gixp_fetch.specs.declared.shallow.ShallowError.{ShallowError}
 use Rattle.gixp_fetch.specs.declared.shallow.ShallowError.TheVariants.{Io, Locked, Decode, Memory}
 use Rattle.gixp_fetch.specs.ShallowText.{lines, in_first, IsIdOf, IsNoId, Unread}

@@ -1,7 +1,7 @@
 -- What requests name again where each stands alone: under version 2, and where the connection doesn't persist (gitprotocol-v2, "fetch"; gitprotocol-http, "Smart Service git-upload-pack").
 use Rattle.std.specs.Prelude.{◌≡◌, ◌⊎◌, ℕ, ⊤, Bool, true, false, List, [], ◌∷◌, ◌++◌, Option, Some, None}
 use Rattle.std.specs.List.{Contains}
-use Rattle.gixp_wire.specs.declared.object_id.ObjectId.{ObjectId}
+use Rattle.gixp_hash.specs.declared.object_id.ObjectId.{ObjectId}
 use Rattle.gixp_response.specs.Answer.{AnswerValue}
 use Rattle.gixp_requests.specs.Arguments.{ArgumentsValue, is_v2}
 use Rattle.gixp_negotiate.specs.declared.negotiate.Round.{Round}

@@ -1,7 +1,7 @@
 -- A whole fetch, by its result (gitprotocol-capabilities; gitprotocol-pack, "Packfile Negotiation"; gitprotocol-v2, "fetch").
 use Rattle.std.specs.Prelude.{◌≡◌, ◌⊎◌, Bool, true, false, List, Option, Result, Ok, Err}
-use Rattle.gixp_wire.specs.declared.protocol.Protocol.{Protocol}
-use Rattle.gixp_wire.specs.Capabilities.{CapabilityValue}
+use Rattle.gixp_packetline.specs.declared.protocol.Protocol.{Protocol}
+use Rattle.gixp_capabilities.specs.Capabilities.{CapabilityValue}
 use Rattle.gixp_requests.specs.Feature.{FeatureValue}
 use Rattle.gixp_requests.specs.Command.{Table}
 use Rattle.gixp_requests.specs.Arguments.{ArgumentsValue}

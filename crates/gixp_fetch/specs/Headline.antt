@@ -1,14 +1,14 @@
 -- A client's whole run over one connection, and what is true of it: frames, refs, answers and refusals, requests, the pack, the bound on requests, and ref maps of filtered refs.
 use Rattle.std.specs.Prelude.{◌≡◌, ◌⊎◌, ⊤, ℕ, ◌+◌, Bool, true, not, List, [], ◌∷◌, ◌++◌, map, Option, Some, None, IfSome, Result, Ok, Err}
-use Rattle.gixp_wire.specs.declared.protocol.Protocol.{Protocol}
+use Rattle.gixp_packetline.specs.declared.protocol.Protocol.{Protocol}
 use Rattle.gixp_wire.specs.declared.service.Service.{Service}
 use Rattle.gixp_wire.specs.declared.service.SetServiceResponse.{SetServiceResponse}
-use Rattle.gixp_wire.specs.Frames.{Frame, End, frames_of}
-use Rattle.gixp_wire.specs.Grammar.{AreFrames}
-use Rattle.gixp_wire.specs.Pieces.{Refusal, Pieces, stream_pieces}
-use Rattle.gixp_wire.specs.Capabilities.{CapabilityValue}
+use Rattle.gixp_packetline.specs.Frames.{Frame, End, frames_of}
+use Rattle.gixp_packetline.specs.Grammar.{AreFrames}
+use Rattle.gixp_packetline.specs.Pieces.{Refusal, Pieces, stream_pieces}
+use Rattle.gixp_capabilities.specs.Capabilities.{CapabilityValue}
 use Rattle.gixp_wire.specs.Greeting.{Parameter}
-use Rattle.gixp_wire.specs.Reading.{Reading, IsFresh, IsOutside, Rose, lines_ahead}
+use Rattle.gixp_packetline.specs.Reading.{Reading, IsFresh, IsOutside, Rose, lines_ahead}
 use Rattle.gixp_sidebands.specs.Bands.{Side, content_of}
 use Rattle.gixp_refs.specs.declared.handshake.Ref.{Ref}
 use Rattle.gixp_refs.specs.declared.handshake.refs.parse.Error.{Error as refs_error}

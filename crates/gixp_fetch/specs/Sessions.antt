@@ -1,7 +1,7 @@
 -- A fetch seen from outside: its rounds, the requests that went out in them, and what the negotiation had to offer when they began.
 use Rattle.std.specs.Prelude.{◌≡◌, ◌⊎◌, ℕ, ◌+◌, ◌/◌, ◌≤◌, Bool, true, false, if◌then◌else◌, List, length, Option, Some, None, Result, Ok, Err}
-use Rattle.gixp_wire.specs.declared.client.Error.{Error as client_error}
-use Rattle.gixp_wire.specs.Reading.{Reading}
+use Rattle.gixp_capabilities.specs.declared.client.Error.{Error as client_error}
+use Rattle.gixp_packetline.specs.Reading.{Reading}
 use Rattle.gixp_requests.specs.Arguments.{ArgumentsValue}
 use Rattle.gixp_negotiate.specs.declared.negotiate.Round.{Round}
 use Rattle.gixp_negotiate.specs.Negotiate.{negotiate}

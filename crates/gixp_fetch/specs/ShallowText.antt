@@ -3,8 +3,8 @@ use Rattle.std.specs.Prelude.{◌≡◌, ℕ, ◌==◌, ⊤, if◌then◌else◌
 use Rattle.std.specs.List.{All, AllZip}
 use Rattle.hex.specs.Hex.{encode_lower, IsBytes}
 use Rattle.bstr.specs.Owned.{bstring_bytes}
-use Rattle.gixp_wire.specs.ObjectId.{id_of}
-use Rattle.gixp_wire.specs.declared.object_id.ObjectId.{ObjectId}
+use Rattle.gixp_hash.specs.ObjectId.{id_of}
+use Rattle.gixp_hash.specs.declared.object_id.ObjectId.{ObjectId}
 use Rattle.gixp_fetch.specs.declared.shallow.ShallowError.{ShallowError}
 use Rattle.gixp_fetch.specs.declared.shallow.ShallowError.TheVariants.{Io, Locked, Decode, Memory}
 use Rattle.gixp_fetch.specs.Boundary.{IsSetOf}

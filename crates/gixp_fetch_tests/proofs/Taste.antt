@@ -2,8 +2,8 @@
 use Rattle.std.specs.Prelude.{◌≡◌, ◌⊎◌, ℕ, List, [], take, Result, Ok, Err}
 use Rattle.std.proofs.Common.{inl, inr}
 use Rattle.std.specs.declared.io.Error.{Error as io_error}
-use Rattle.gixp_wire.specs.Reading.{Reading, AtStop, Fails}
-use Rattle.gixp_wire.specs.Pieces.{Refusal}
+use Rattle.gixp_packetline.specs.Reading.{Reading, AtStop, Fails}
+use Rattle.gixp_packetline.specs.Pieces.{Refusal}
 use Rattle.gixp_sidebands.specs.Bands.{Side, side_reading, ReadsContent}
 use Rattle.gixp_fetch.specs.Receive.{ReadsOn}
 

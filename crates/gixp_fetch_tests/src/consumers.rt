@@ -4,8 +4,8 @@ ghost use Rattle.gixp_sidebands.specs.Bands.{side_reading};
 ghost use Rattle.gixp_fetch.specs.Receive.{ReadsOn};
 
 use gixp_fetch::consume::{ConsumePack, CopyError};
+use gixp_packetline::ExtendedBufRead;
 use gixp_sidebands::{BandText, Interrupt, WithSidebands};
-use gixp_wire::ExtendedBufRead;
 use std::io::{ErrorKind, Read};
 
 /// What a consumer says behind its byte.

@@ -1,11 +1,13 @@
 //! Texts of errors, and which of them may pass.
 use bstr::BString;
+use gixp_capabilities::client;
 use gixp_fetch::consume::CopyError;
 use gixp_fetch::error::Error;
 use gixp_fetch::shallow::ShallowError;
 use gixp_negotiate::negotiate;
+use gixp_packetline::read;
 use gixp_response::fetch::response;
-use gixp_wire::{IsSpuriousError, client, read};
+use gixp_wire::IsSpuriousError;
 use std::alloc::{AllocError, Global};
 use std::fmt::Display;
 use std::io::ErrorKind;

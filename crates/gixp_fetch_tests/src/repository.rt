@@ -8,8 +8,8 @@ use gixp_graph::{
     CommitData, Graph, Negotiator, NegotiatorError, ObjectError, ObjectKind, Objects, RefStore,
     RefStoreError,
 };
+use gixp_hash::ObjectId;
 use gixp_negotiate::negotiate::plain::{NoObjects, NoRefs};
-use gixp_wire::ObjectId;
 use std::alloc::Global;
 use std::io::ErrorKind;
 

@@ -3,7 +3,7 @@ use Rattle.std.proofs.Common.{◌≡◌, ◌⊎◌, ◌∙◌, ⊎_elim, inl, in
 use Rattle.std.specs.Prelude.{◌↔◌, IsTrue, IsSome, is_some}
 use Rattle.std.specs.Option.{option_map_or}
 use Rattle.std.specs.FinMap as finite
-use Rattle.gixp_wire.specs.declared.object_id.ObjectId.{ObjectId}
+use Rattle.gixp_hash.specs.declared.object_id.ObjectId.{ObjectId}
 use Rattle.gixp_graph.specs.Object.{commit_at}
 use Rattle.gixp_graph.specs.GraphData.{HeldCommit, Commits, GraphData, commit_in, is_complete, is_marked, OnlyMarks, IsFaithful}
 use Rattle.gixp_graph.specs.Complete.{IsComplete}

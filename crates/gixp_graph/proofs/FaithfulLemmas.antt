@@ -5,9 +5,9 @@ use Rattle.std.proofs.Common.{Result, Ok, Err}
 use Rattle.std.specs.Result.{OnOk, OnErr}
 use Rattle.std.specs.FinMap as finite
 use Rattle.std.specs.FinMap.{get-empty, FinMap}
-use Rattle.gixp_wire.specs.declared.object_id.ObjectId.{ObjectId}
+use Rattle.gixp_hash.specs.declared.object_id.ObjectId.{ObjectId}
 use Rattle.gixp_graph.specs.declared.flags.Flags.{Flags}
-use Rattle.gixp_wire.specs.ObjectId.{id_cmp}
+use Rattle.gixp_hash.specs.ObjectId.{id_cmp}
 use Rattle.gixp_graph.specs.Object.{Object, Commit, commit_at}
 use Rattle.gixp_graph.specs.GraphData.{HeldCommit, Commits, GraphData, graph_of, found_in, as_read, if_unmarked, is_complete, IsFaithful, looked_up, flagged, with_flags, put}
 use Rattle.std.specs.Ordering.{eq_by_cmp}

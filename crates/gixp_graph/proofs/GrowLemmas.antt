@@ -12,9 +12,9 @@ use Rattle.std.specs.List.{filter_map, cons_option, AllByRecursion as ByRecursio
 use Rattle.std.specs.BTreeMap.{is_at}
 use Rattle.std.specs.Ordering.{eq_by_cmp}
 use Rattle.std.specs.FinMap as finite
-use Rattle.gixp_wire.specs.declared.object_id.ObjectId.{ObjectId}
+use Rattle.gixp_hash.specs.declared.object_id.ObjectId.{ObjectId}
 use Rattle.gixp_graph.specs.declared.commits.Node.{Node}
-use Rattle.gixp_wire.specs.ObjectId.{id_cmp}
+use Rattle.gixp_hash.specs.ObjectId.{id_cmp}
 use Rattle.gixp_graph.specs.Table.{id_at, ids_at, KeepsNumbers}
 use Rattle.gixp_graph.specs.Node.{ids_of, number_at, parents_of, entry_of, held_in, blank, IsInRange, IsNumbered, IsTable}
 use Rattle.gixp_graph.specs.GraphLaws.{same_from}

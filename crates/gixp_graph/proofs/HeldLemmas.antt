@@ -3,7 +3,7 @@ use Rattle.std.proofs.Common.{ℤ, ◌≡◌, ◌∙◌, Option, Some, None, ref
 use Rattle.std.specs.Prelude.{option_map}
 use Rattle.std.specs.Option.{option_or}
 use Rattle.std.specs.FinMap as finite
-use Rattle.gixp_wire.specs.declared.object_id.ObjectId.{ObjectId}
+use Rattle.gixp_hash.specs.declared.object_id.ObjectId.{ObjectId}
 use Rattle.gixp_graph.specs.declared.flags.Flags.{Flags}
 use Rattle.gixp_graph.specs.Object.{Commit, commit_at}
 use Rattle.gixp_graph.specs.GraphData.{HeldCommit, shown, Commits, GraphData, found_in, looked_up, flagged, with_flags, unmarked, put}

@@ -8,8 +8,8 @@ use Rattle.std.proofs.lemmas.List.Sorted.{length_permutation}
 use Rattle.std.proofs.lemmas.Bool.{or_cases}
 use Rattle.std.specs.FinMap as finite
 use Rattle.std.specs.FinMap.{contains_key-keys}
-use Rattle.gixp_wire.specs.declared.object_id.ObjectId.{ObjectId}
-use Rattle.gixp_wire.specs.ObjectId.{id_cmp}
+use Rattle.gixp_hash.specs.declared.object_id.ObjectId.{ObjectId}
+use Rattle.gixp_hash.specs.ObjectId.{id_cmp}
 use Rattle.gixp_graph.specs.Object.{Objects, Object, Commit, commit_at}
 use Rattle.gixp_graph.specs.GraphData.{HeldCommit, GraphData, graph_of, found_in, commit_in, as_read, unmarked, OnlyMarks}
 use Rattle.gixp_graph.specs.Waiting.{Queues}

@@ -4,7 +4,7 @@ use Rattle.std.specs.Prelude.{All, ◌≤ℤ◌}
 use Rattle.std.proofs.lemmas.List.{length-map}
 use Rattle.std.proofs.lemmas.List.Elements.{Contains-get_or, All-weaker}
 use Rattle.std.specs.List.{flat_map}
-use Rattle.gixp_wire.specs.declared.object_id.ObjectId.{ObjectId}
+use Rattle.gixp_hash.specs.declared.object_id.ObjectId.{ObjectId}
 use Rattle.gixp_graph.specs.Object.{Objects}
 use Rattle.gixp_graph.specs.GraphData.{Commits, GraphData, parents_in, OnlyMarks}
 use Rattle.gixp_graph.specs.Complete.{IsDue}

@@ -8,9 +8,9 @@ use Rattle.std.proofs.lemmas.Bool.{cases_lt}
 use Rattle.std.proofs.lemmas.List.Elements.{All-nil, All-set, All-take, All-drop}
 use Rattle.std.specs.FinMap as finite
 use Rattle.std.specs.FinMap.{find, get-from_entries, same_map}
-use Rattle.gixp_wire.specs.declared.object_id.ObjectId.{ObjectId}
+use Rattle.gixp_hash.specs.declared.object_id.ObjectId.{ObjectId}
 use Rattle.gixp_graph.specs.declared.commits.Node.{Node}
-use Rattle.gixp_wire.specs.ObjectId.{id_cmp}
+use Rattle.gixp_hash.specs.ObjectId.{id_cmp}
 use Rattle.gixp_graph.specs.GraphData.{HeldCommit, Commits, parents_in, flagged}
 use Rattle.gixp_graph.specs.Table.{id_at, ids_at, AllNamed}
 use Rattle.gixp_graph.specs.Node.{ids_of, number_at, range_of, parent_numbers_of, parents_of, held_of, entry_of, held_in, IsInRange, IsNumbered, IsTable}

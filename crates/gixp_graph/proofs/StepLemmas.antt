@@ -8,8 +8,8 @@ use Rattle.std.proofs.lemmas.List.Sorted.{All-permutation, list_any-IsPermutatio
 use Rattle.std.proofs.lemmas.List.Elements.{All-cons, All-weaker}
 use Rattle.std.proofs.lemmas.Bool.{or_cases}
 use Rattle.std.specs.FinMap as finite
-use Rattle.gixp_wire.specs.declared.object_id.ObjectId.{ObjectId}
-use Rattle.gixp_wire.specs.ObjectId.{id_cmp}
+use Rattle.gixp_hash.specs.declared.object_id.ObjectId.{ObjectId}
+use Rattle.gixp_hash.specs.ObjectId.{id_cmp}
 use Rattle.gixp_graph.specs.Object.{Objects, Commit, commit_at}
 use Rattle.gixp_graph.specs.GraphData.{HeldCommit, Commits, GraphData, graph_of, found_in, commit_in, as_read, unmarked, put, is_complete, is_marked, completed, if_unmarked, new_in, marked_found, OnlyMarks}
 use Rattle.gixp_graph.specs.Complete.{IsComplete, IsDue}

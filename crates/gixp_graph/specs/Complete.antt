@@ -1,6 +1,6 @@
 -- The commits that a repository has for certain, from some ids and a cutoff.
 use Rattle.std.specs.Prelude.{◌≡◌, ℤ, ◌≤ℤ◌, List, Option, Some, IsSome, Contains}
-use Rattle.gixp_wire.specs.declared.object_id.ObjectId.{ObjectId}
+use Rattle.gixp_hash.specs.declared.object_id.ObjectId.{ObjectId}
 use Rattle.gixp_graph.specs.Object.{Commit}
 
 -- the least set that holds the ids that are found and, where there is a cutoff, the parents that are found of each member whose own time is at least the cutoff

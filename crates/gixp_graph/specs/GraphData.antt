@@ -4,9 +4,9 @@ use Rattle.std.specs.Option.{option_map_or, option_or}
 use Rattle.std.specs.FinMap as finite
 use Rattle.std.specs.FinMap.{FinMap}
 use Rattle.std.specs.Coded.{Coded, code_by, coded×, coded_ℕ, coded_list, coded_ℤ}
-use Rattle.gixp_wire.specs.declared.object_id.ObjectId.{ObjectId}
+use Rattle.gixp_hash.specs.declared.object_id.ObjectId.{ObjectId}
 use Rattle.gixp_graph.specs.declared.flags.Flags.{Flags}
-use Rattle.gixp_wire.specs.ObjectId.{id_cmp, coded_id}
+use Rattle.gixp_hash.specs.ObjectId.{id_cmp, coded_id}
 use Rattle.gixp_graph.specs.Object.{Objects, Commit, commit_at, coded_object}
 
 -- a commit that a graph holds

@@ -10,8 +10,8 @@ use Rattle.std.specs.Cmp.Lexicographic.{nat_list_cmp_total}
 use Rattle.std.proofs.lemmas.Map.Lookups.{CmpEqualImpliesEq, exact_bytes}
 use Rattle.std.specs.FinMap as finite
 use Rattle.std.specs.FinMap.{get-insert, same_map}
-use Rattle.gixp_wire.specs.declared.object_id.ObjectId.{ObjectId}
-use Rattle.gixp_wire.specs.ObjectId.{id_cmp}
+use Rattle.gixp_hash.specs.declared.object_id.ObjectId.{ObjectId}
+use Rattle.gixp_hash.specs.ObjectId.{id_cmp}
 use Rattle.gixp_graph.specs.Object.{Commit, commit_at, time_at}
 use Rattle.gixp_graph.specs.GraphData.{HeldCommit, Commits, GraphData, found_in, commit_in, as_read, unmarked, shown, shown_time, put, looked_up, is_complete, is_marked, IsFaithful}
 use Rattle.gixp_graph.specs.Run.{Call, IsRun}

@@ -12,5 +12,5 @@ pub mod Table
 pub mod Visited
 pub mod Waiting
 pub mod Walk
-pub use Rattle.gixp_wire.specs.ObjectId
+pub use Rattle.gixp_hash.specs.ObjectId
 pub use Rattle.bstr.specs.BStr

@@ -3,8 +3,8 @@ use Rattle.std.specs.Prelude.{ℕ, ◌≡◌, ◌<◌, ◌-◌, ◌^◌, ◌⊎�
 use Rattle.std.specs.FinMap as finite
 use Rattle.std.specs.FinMap.{FinMap}
 use Rattle.std.specs.Coded.{Coded, code_by, coded×, coded_ℕ, coded_list, coded_ℤ, coded_option}
-use Rattle.gixp_wire.specs.declared.object_id.ObjectId.{ObjectId}
-use Rattle.gixp_wire.specs.ObjectId.{id_cmp, coded_id}
+use Rattle.gixp_hash.specs.declared.object_id.ObjectId.{ObjectId}
+use Rattle.gixp_hash.specs.ObjectId.{id_cmp, coded_id}
 use Rattle.gixp_graph.specs.declared.objects.ObjectKind.{ObjectKind}
 use Rattle.gixp_graph.specs.declared.objects.ObjectKind.TheVariants.{Commit as IsCommit, Tree, Blob, Tag}
 use Rattle.gixp_graph.specs.declared.objects.CommitData.{CommitData}

@@ -1,7 +1,7 @@
 -- Commits that wait for their parents to be marked.
 use Rattle.std.specs.Prelude.{◌≡◌, ℤ, ◌<◌, List, ◌∷◌, map, length, All, Option, Some, None}
 use Rattle.std.specs.List.Sorted.{IsPermutation}
-use Rattle.gixp_wire.specs.declared.object_id.ObjectId.{ObjectId}
+use Rattle.gixp_hash.specs.declared.object_id.ObjectId.{ObjectId}
 use Rattle.gixp_graph.specs.GraphData.{HeldCommit}
 use Rattle.gixp_graph.specs.Table.{id_at}
 use Rattle.gixp_graph.specs.Queue.{Entry}

@@ -13,7 +13,7 @@ ghost use Rattle.gixp_graph.specs.Node.{IsNumbered, ids_of, number_at, parent_nu
 use crate::flags::Flags;
 use crate::objects::{ObjectError, Objects};
 use bitflags::Flags as _;
-use gixp_wire::ObjectId;
+use gixp_hash::ObjectId;
 use std::alloc::{AllocError, Global};
 use std::collections::BTreeMap;
 use std::marker::Model;

@@ -1,7 +1,7 @@
 //! A graph of commits over the objects of a repository.
 ghost use Rattle.std.specs.Prelude.{◌≡◌, ◌≤◌, ◌⊎◌, ◌↔◌, None, IfOk, IfErr, OnOk, OnErr, IsSome, IsTrue, option_map};
 ghost use Rattle.std.specs.FinMap as finite;
-ghost use Rattle.gixp_wire.specs.declared.object_id.ObjectId.{ObjectId};
+ghost use Rattle.gixp_hash.specs.declared.object_id.ObjectId.{ObjectId};
 ghost use Rattle.gixp_graph.specs.declared.objects.ObjectError.TheVariants.{Memory};
 ghost use Rattle.gixp_graph.specs.Object.{HasRisen, commit_at, time_at};
 ghost use Rattle.gixp_graph.specs.GraphData.{graph_of, shown, shown_time, parents_in, found_in, looked_up, flagged, is_marked, OnlyMarks, IsFaithful};
@@ -12,7 +12,7 @@ use crate::commits::Commits;
 use crate::flags::Flags;
 use crate::objects::{ObjectError, Objects};
 use crate::walk;
-use gixp_wire::ObjectId;
+use gixp_hash::ObjectId;
 use std::alloc::{AllocError, Global};
 use std::marker::Model;
 

@@ -1,12 +1,12 @@
 //! What a negotiation asks of the one who chooses the haves.
 ghost use Rattle.std.specs.Prelude.{◌≡◌, ℕ, ◌≤◌, ◌<◌, Option, Some, None, IfOk, IfErr, OnOk, OnErr, IfSome, IfNone};
-ghost use Rattle.gixp_wire.specs.declared.object_id.ObjectId.{ObjectId};
+ghost use Rattle.gixp_hash.specs.declared.object_id.ObjectId.{ObjectId};
 ghost use Rattle.gixp_graph.specs.GraphData.{GraphData};
 ghost use Rattle.gixp_graph.specs.Negotiation.{IsRefusal};
 
 use crate::graph::Graph;
 use crate::objects::{ObjectError, Objects};
-use gixp_wire::ObjectId;
+use gixp_hash::ObjectId;
 use thiserror::Error;
 
 /// Why a negotiator can't go on.

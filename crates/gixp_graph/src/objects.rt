@@ -1,12 +1,12 @@
 //! What a repository hands in: its objects.
 ghost use Rattle.std.specs.Prelude.{◌≡◌, ℕ, ◌≤◌, ◌⊎◌, List, [], IfOk, IfErr, option_map};
 ghost use Rattle.std.specs.FinMap as map;
-ghost use Rattle.gixp_wire.specs.declared.object_id.ObjectId.{ObjectId};
+ghost use Rattle.gixp_hash.specs.declared.object_id.ObjectId.{ObjectId};
 ghost use Rattle.gixp_graph.specs.Asked.{AsksOnce};
 ghost use Rattle.gixp_graph.specs.declared.objects.ObjectError.TheVariants.{Memory};
 ghost use Rattle.gixp_graph.specs.Object.{Objects as ObjectMap, kind_at, commit_at, commit_of, HasRisen};
 
-use gixp_wire::ObjectId;
+use gixp_hash::ObjectId;
 use std::alloc::{AllocError, Global};
 use std::io;
 use thiserror::Error;

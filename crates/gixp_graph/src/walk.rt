@@ -1,6 +1,6 @@
 //! The walk that marks what a repository has for certain.
 ghost use Rattle.std.specs.Prelude.{◌≡◌, ◌≤◌, ◌<◌, ◌⊎◌, ℤ, None, IfOk, IfErr, OnOk, OnErr, IsTrue, length, option_map};
-ghost use Rattle.gixp_wire.specs.declared.object_id.ObjectId.{ObjectId};
+ghost use Rattle.gixp_hash.specs.declared.object_id.ObjectId.{ObjectId};
 ghost use Rattle.gixp_graph.specs.declared.objects.ObjectError.TheVariants.{Memory};
 ghost use Rattle.gixp_graph.specs.Object.{HasRisen};
 ghost use Rattle.gixp_graph.specs.GraphData.{HeldCommit, graph_of, found_in, marked_found, commit_in, is_marked, OnlyMarks};
@@ -18,7 +18,7 @@ use crate::objects::{ObjectError, Objects};
 use crate::queue::TimeQueue;
 use crate::visited::Visited;
 use bitflags::Flags as _;
-use gixp_wire::ObjectId;
+use gixp_hash::ObjectId;
 use std::alloc::Global;
 
 /// Marks the commit of a number, where it is found. Returns its time.

@@ -1,6 +1,6 @@
 -- One more commit, and no more, by the definition of the complete commits.
 use Rattle.std.specs.Prelude.{◌≡◌, ℤ, ◌≤ℤ◌, List, Option, Some, IsSome, Contains, All}
-use Rattle.gixp_wire.specs.declared.object_id.ObjectId.{ObjectId}
+use Rattle.gixp_hash.specs.declared.object_id.ObjectId.{ObjectId}
 use Rattle.gixp_graph.specs.Object.{Commit}
 use Rattle.gixp_graph.specs.Complete.{IsComplete}
 

@@ -2,7 +2,7 @@
 use crate::repository::{Repository, add, id, never_failing};
 use bitflags::Flags as _;
 use gixp_graph::{CommitData, Flags, Graph, ObjectError, ObjectKind, Objects};
-use gixp_wire::ObjectId;
+use gixp_hash::ObjectId;
 use std::alloc::{AllocError, Global};
 use std::collections::BTreeMap;
 use std::io;

@@ -4,7 +4,7 @@ ghost use Rattle.std.specs.Prelude.{◌≡◌, ◌+◌, length, is_some, if◌th
 use crate::repository::{id, never_failing};
 use crate::run::{take_haves, tell_all};
 use gixp_graph::{Graph, Negotiator, NegotiatorError, Objects};
-use gixp_wire::ObjectId;
+use gixp_hash::ObjectId;
 use std::alloc::Global;
 use std::collections::BTreeMap;
 use std::test::Fail;

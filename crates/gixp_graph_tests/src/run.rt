@@ -3,7 +3,7 @@ ghost use Rattle.std.specs.Prelude.{◌≡◌, ℕ, ◌+◌, ◌≤◌, OnOk, If
 ghost use Rattle.gixp_graph.specs.Run.{IsRun};
 
 use gixp_graph::{Graph, Negotiator, NegotiatorError, Objects};
-use gixp_wire::ObjectId;
+use gixp_hash::ObjectId;
 use std::alloc::Global;
 
 /// Tells a negotiator of commits that both sides have, in order.

@@ -1,14 +1,14 @@
 //! The definition of the complete commits as a plain slow program: repeat until nothing is added.
 ghost use Rattle.std.specs.Prelude.{◌≡◌, ◌↔◌, IsTrue, IsSome, IfSome, IfNone, IfOk, Contains, All, Some, List};
 ghost use Rattle.std.specs.Bool.{OnTrue, OnFalse};
-ghost use Rattle.gixp_wire.specs.declared.object_id.ObjectId.{ObjectId};
+ghost use Rattle.gixp_hash.specs.declared.object_id.ObjectId.{ObjectId};
 ghost use Rattle.gixp_graph.specs.Object.{commit_at};
 ghost use Rattle.gixp_graph_tests.specs.Listed.{objects_of};
 ghost use Rattle.gixp_graph.specs.Complete.{IsComplete};
 ghost use Rattle.gixp_graph_tests.specs.Slow.{AreKnown, ParentsAreKnown, IsMissing, IsClosed};
 
 use gixp_graph::CommitData;
-use gixp_wire::ObjectId;
+use gixp_hash::ObjectId;
 use std::alloc::{AllocError, Global};
 use std::collections::BTreeMap;
 

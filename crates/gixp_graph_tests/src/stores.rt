@@ -4,7 +4,7 @@ ghost use Rattle.std.specs.FinMap as map;
 
 use bstr::BStr;
 use gixp_graph::{RefStore, RefStoreError};
-use gixp_wire::ObjectId;
+use gixp_hash::ObjectId;
 use std::alloc::Global;
 use std::test::Fail;
 

@@ -1,7 +1,7 @@
 -- The end of a conversation: a flush packet where a request would begin (gitprotocol-v2, "Command Request").
 use Rattle.std.specs.Prelude.{◌≡◌, Bool, true, false, codes, Result, Ok}
-use Rattle.gixp_wire.specs.declared.client.Error.{Error}
-use Rattle.gixp_wire.specs.Reading.{Reading}
+use Rattle.gixp_capabilities.specs.declared.client.Error.{Error}
+use Rattle.gixp_packetline.specs.Reading.{Reading}
 use Rattle.gixp_wire.specs.Transport.{Sends}
 use Rattle.gixp_handshake.specs.declared.util.SendFlushOnDrop.{SendFlushOnDrop}
 

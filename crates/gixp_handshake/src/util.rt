@@ -2,7 +2,8 @@
 ghost use Rattle.std.specs.Prelude.{◌≡◌, true, false};
 ghost use Rattle.gixp_handshake.specs.Ending.{EndsInteraction, EndsOnce};
 
-use gixp_wire::{Message, Transport, client};
+use gixp_capabilities::client;
+use gixp_wire::{Message, Transport};
 
 /// Tells a server over a connection that no request comes any more, by a flush packet (gitprotocol-v2, "Command
 /// Request"; gitprotocol-pack, "Packfile Negotiation"). Over a transport that doesn't persist nothing is sent.

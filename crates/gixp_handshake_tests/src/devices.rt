@@ -1,6 +1,7 @@
 //! Readers and writers that fail at one call, and transports over them.
 use bstr::BString;
-use gixp_wire::{Bodies, Body, Connection, Opening, Protocol};
+use gixp_packetline::Protocol;
+use gixp_wire::{Bodies, Body, Connection, Opening};
 use std::alloc::{AllocError, Global};
 use std::fmt::Debug;
 use std::io;

@@ -1,13 +1,15 @@
 //! Texts of errors, and what errors of the layers below become.
 use crate::devices::text;
+use gixp_capabilities::client;
 use gixp_handshake::credentials;
 use gixp_handshake::handshake::Error;
+use gixp_matching::match_group::validate;
+use gixp_packetline::{PacketError, Protocol};
 use gixp_refmap::ls_refs;
 use gixp_refmap::refmap::init;
 use gixp_refs::handshake::refs::parse;
-use gixp_matching::match_group::validate;
 use gixp_requests::command::validate_argument_prefixes;
-use gixp_wire::{IsSpuriousError, PacketError, Protocol, client};
+use gixp_wire::IsSpuriousError;
 use std::alloc::{AllocError, Global};
 use std::fmt::Display;
 use std::io::ErrorKind;

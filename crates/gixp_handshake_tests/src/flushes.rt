@@ -1,7 +1,9 @@
 //! The flush packet that ends a conversation.
 use crate::devices::{Broken, Device, connection, memory};
+use gixp_capabilities::client;
 use gixp_handshake::{SendFlushOnDrop, indicate_end_of_interaction};
-use gixp_wire::{Connection, Protocol, Transport, client};
+use gixp_packetline::Protocol;
+use gixp_wire::{Connection, Transport};
 use std::alloc::{AllocError, Global};
 use std::io;
 use std::io::{ErrorKind, Write};

@@ -4,6 +4,7 @@ use crate::telling::nothing_told;
 use bstr::{BStr, BString};
 use gixp_handshake::Handshake;
 use gixp_handshake::handshake::obtain;
+use gixp_packetline::Protocol;
 use gixp_refmap::RefMap;
 use gixp_refmap::fetch::Tags;
 use gixp_refmap::ls_refs::RefPrefixes;
@@ -11,7 +12,7 @@ use gixp_refmap::refmap::init::{Context, Error};
 use gixp_refspec::RefSpec;
 use gixp_refspec::parse::{Operation, parse};
 use gixp_requests::command::{CommandTable, Feature};
-use gixp_wire::{Protocol, Transport};
+use gixp_wire::Transport;
 use std::alloc::{AllocError, Global};
 use std::test::Fail;
 

@@ -4,7 +4,8 @@ use crate::telling::{Telling, nothing_told};
 use gixp_handshake::Handshake;
 use gixp_handshake::credentials::{self, Account, Action, NextAction, Outcome};
 use gixp_handshake::handshake::{Error, handshake};
-use gixp_wire::{Bodies, Protocol, Service, Transport};
+use gixp_packetline::Protocol;
+use gixp_wire::{Bodies, Service, Transport};
 use std::alloc::{AllocError, Global};
 use std::test::Fail;
 

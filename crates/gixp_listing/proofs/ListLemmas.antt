@@ -2,10 +2,10 @@
 use Rattle.std.proofs.Common.{◌≡◌, ℕ, Bool, inl, inr, true, false, cond, List, [], ◌∷◌, ◌++◌, Option, Some, None, IfSome, refl, sym, ap, subst, ◌∙◌, append_assoc, append-nil, flat_map, Result, Ok, Err}
 use Rattle.std.proofs.lemmas.Bool.{true≢false}
 use Rattle.std.proofs.lemmas.Grind.{flat_map-append}
-use Rattle.gixp_wire.specs.Items.{is_stop}
-use Rattle.gixp_wire.specs.Lines.{gives, stops, refuses, next_from, next_of, Lines, lines_from, lines_of, lines_to, stop}
-use Rattle.gixp_wire.specs.Pieces.{Refusal, Piece, line, mark, Pieces, io, decode, server, unexpected_frame, not_utf8, bad_band, interrupted, memory}
-use Rattle.gixp_wire.specs.Reading.{Reading, TakesLine, IsOutside, IsPlain, Rose, lines_ahead, lines_from_stop}
+use Rattle.gixp_packetline.specs.Items.{is_stop}
+use Rattle.gixp_packetline.specs.Lines.{gives, stops, refuses, next_from, next_of, Lines, lines_from, lines_of, lines_to, stop}
+use Rattle.gixp_packetline.specs.Pieces.{Refusal, Piece, line, mark, Pieces, io, decode, server, unexpected_frame, not_utf8, bad_band, interrupted, memory}
+use Rattle.gixp_packetline.specs.Reading.{Reading, TakesLine, IsOutside, IsPlain, Rose, lines_ahead, lines_from_stop}
 use Rattle.gixp_refs.specs.RefLine.{RefsRefusal, refusal_from}
 use Rattle.gixp_refs.specs.Ref.{RefValue}
 use Rattle.gixp_refs.specs.ParseError.{parse_refusal, is_outside}

@@ -1,13 +1,13 @@
 -- How the refs of an `ls-refs` answer are listed.
 use Rattle.std.specs.Prelude.{◌≡◌, ℕ, ◌⊎◌, ⊤, Bool, true, false, List, [], ◌∷◌, flat_map, codes, Option, Some, None, IfSome, IsSome, Result, Ok, Err, IsOk}
 use Rattle.std.specs.Io.KnownBytes.{Appends}
-use Rattle.gixp_wire.specs.Hex.{encode_lower}
+use Rattle.gixp_hash.specs.Hex.{encode_lower}
 use Rattle.gixp_refs.specs.Ref.{RefValue, peeled, direct, symbolic, unborn}
 use Rattle.gixp_refs.specs.RefLine.{RefsRefusal, io_failed, refusal_from, v2_line}
 use Rattle.gixp_refs.specs.ParseError.{parse_refusal, IsRefusal, IsFromOutside}
-use Rattle.gixp_wire.specs.Pieces.{Refusal, Pieces}
-use Rattle.gixp_wire.specs.Lines.{Ending, stop, refusal}
-use Rattle.gixp_wire.specs.Reading.{Reading, Rose, lines_ahead}
+use Rattle.gixp_packetline.specs.Pieces.{Refusal, Pieces}
+use Rattle.gixp_packetline.specs.Lines.{Ending, stop, refusal}
+use Rattle.gixp_packetline.specs.Reading.{Reading, Rose, lines_ahead}
 use Rattle.gixp_refs.specs.Refs.{v2_refs, stream_refs}
 use Rattle.gixp_refs.specs.declared.handshake.refs.parse.Error.{Error}
 use Rattle.gixp_listing.specs.declared.list.ListError.{ListError}

@@ -7,8 +7,8 @@ ghost use Rattle.gixp_listing.specs.ErrorName.{error_name, list_error_name};
 ghost use Rattle.gixp_listing.specs.List.{Prints, PrintsAhead, RefusesAhead, ListsAhead, RefusesLines, RefusesList, IsParse};
 
 use crate::print::print_ref;
+use gixp_packetline::{ExtendedBufRead, LineReader};
 use gixp_refs::handshake::refs::{next_v2_ref, parse};
-use gixp_wire::{ExtendedBufRead, LineReader};
 use std::alloc::{AllocError, Global};
 use std::io;
 use std::io::{ErrorKind, Read, Write};

@@ -4,8 +4,8 @@ ghost use Rattle.gixp_listing.specs.List.{ref_line, symbolic_line};
 ghost use Rattle.gixp_refs.specs.Ref.{ref_value};
 ghost use Rattle.gixp_refs.specs.ParseError.{object_of};
 
+use gixp_hash::ObjectId;
 use gixp_refs::handshake::Ref;
-use gixp_wire::ObjectId;
 use std::alloc::AllocError;
 
 // The pieces, one behind the other.

@@ -6,7 +6,7 @@ use Rattle.std.proofs.lemmas.Bool.{cond-true, cond-false, or_parts}
 use Rattle.gixp_refspec.specs.Spec.{Spec}
 use Rattle.gixp_matching.specs.Mappings.{Mapped}
 use Rattle.gixp_matching.specs.Validation.{is_partial, removed_at, fixes, kept}
-use Rattle.gixp_wire.proofs.ListLemmas.{any_of_map}
+use Rattle.gixp_packetline.proofs.ListLemmas.{any_of_map}
 
 -- nothing is kept where nothing passes
 pub none_kept : (p : Mapped → Bool) (ms : List Mapped) → list_any p ms ≡ false → filter p ms ≡ []

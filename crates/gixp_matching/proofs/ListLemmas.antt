@@ -6,7 +6,7 @@ use Rattle.std.proofs.lemmas.List.Sums.{fold_more}
 use Rattle.std.proofs.lemmas.Bool.{cases_Bool}
 use Rattle.std.proofs.lemmas.List.{take_more, get_or-map, length-map, map-append, append-nil}
 use Rattle.std.proofs.lemmas.List.Elements.{filter-append}
-use Rattle.gixp_wire.proofs.ListLemmas.{take-map_more}
+use Rattle.gixp_packetline.proofs.ListLemmas.{take-map_more}
 
 -- a step of a loop that appends what it makes of each element that passes
 pub filtered_step : {A B C : Type 0} (h : A → B) (p : B → Bool) (g : B → C) (now new : List C) (xs : List A) (i : ℕ) (d : A) → i < length xs

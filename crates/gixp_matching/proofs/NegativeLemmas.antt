@@ -18,7 +18,7 @@ use Rattle.gixp_refspec.specs.RefSpec.{value_of}
 use Rattle.gixp_matching.specs.Rows.{is_row_of, is_any}
 use Rattle.gixp_matching.proofs.FirstLemmas.{or_none}
 use Rattle.gixp_matching.proofs.KeyLemmas.{bytes_eq-turned}
-use Rattle.gixp_wire.proofs.ListLemmas.{take-map_more}
+use Rattle.gixp_packetline.proofs.ListLemmas.{take-map_more}
 use Rattle.gixp_matching.proofs.NeedleLemmas.{middle_with-needle}
 
 -- a middle that is empty is there where the test holds

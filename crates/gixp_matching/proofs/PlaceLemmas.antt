@@ -24,7 +24,7 @@ use Rattle.gixp_matching.specs.Rows.{shown, is_row_of, meant, IsTable, has_place
 use Rattle.gixp_matching.proofs.DistinctLemmas.{is_eq-reverse}
 use Rattle.gixp_matching.proofs.FirstLemmas.{or_none}
 use Rattle.gixp_matching.proofs.ListLemmas.{any_same, kept_same}
-use Rattle.gixp_wire.proofs.ListLemmas.{any_of_map}
+use Rattle.gixp_packetline.proofs.ListLemmas.{any_of_map}
 use Rattle.gixp_matching.proofs.NeedleLemmas.{middle_with-needle}
 use Rattle.gixp_matching.proofs.PairLemmas.{pair_none}
 use Rattle.gixp_matching.proofs.RowLemmas.{meant_none, flat_map-filter}

@@ -8,7 +8,7 @@ use Rattle.gixp_matching.specs.Mappings.{Source, Mapped, source_eq, mappings}
 use Rattle.gixp_matching.specs.Validation.{has_local, of_local, differ, local_names, insert_local, spec_text, Conflict, conflict_over, conflicts, is_partial, removed_at, fixes, kept}
 use Rattle.gixp_matching.specs.Leaving.{without_item, SameAnswers, KeepsAnswers, AnswersAll}
 use Rattle.gixp_matching.proofs.ListLemmas.{any_same, map_same, map_of_map, filter_of_map}
-use Rattle.gixp_wire.proofs.ListLemmas.{any_of_map}
+use Rattle.gixp_packetline.proofs.ListLemmas.{any_of_map}
 use Rattle.gixp_matching.proofs.LeavingLemmas.{keeps_mappings}
 
 -- local names, without the places of the refs

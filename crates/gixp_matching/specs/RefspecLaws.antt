@@ -2,7 +2,7 @@
 use Rattle.std.specs.Prelude.{ℕ, ◌≡◌, ◌&&◌, Bool, true, List, [], ◌∷◌, ◌++◌, Option, Some, None}
 use Rattle.std.specs.List.{list_any, list_all, slice_get, position_from, AllByRecursion}
 use Rattle.std.specs.Str.{bytes_eq}
-use Rattle.gixp_wire.specs.ObjectId.{id_of}
+use Rattle.gixp_hash.specs.ObjectId.{id_of}
 use Rattle.gixp_refspec.specs.Spec.{Spec}
 use Rattle.gixp_refspec.specs.Matching.{between, prefixes_of, is_covered}
 use Rattle.gixp_matching.specs.Mappings.{Source, FullName, ObjectId, Mapped, mappings}

@@ -22,9 +22,9 @@ use crate::match_group::validate::Fix;
 use crate::match_group::validate::conflicts::conflicts_of;
 use crate::match_group::validate::fixes::take_out_partial;
 use bstr::{BStr, BString};
+use gixp_hash::ObjectId;
 use gixp_refspec::name::is_partial_name;
 use gixp_refspec::spec::RefSpecRef;
-use gixp_wire::ObjectId;
 use std::alloc::{AllocError, Global};
 
 /// A ref of the remote. Matching reads its name alone.

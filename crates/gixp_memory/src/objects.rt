@@ -1,13 +1,13 @@
 //! Objects in memory.
 ghost use Rattle.std.specs.Prelude.{◌≡◌, ◌-◌, ◌^◌, [], Some, IfOk, IfErr, OnOk, OnErr, option_map};
 ghost use Rattle.std.specs.BTreeMap.{insert_entry};
-ghost use Rattle.gixp_wire.specs.ObjectId.{id_cmp};
+ghost use Rattle.gixp_hash.specs.ObjectId.{id_cmp};
 ghost use Rattle.gixp_graph.specs.Object.{commit_of};
 ghost use Rattle.gixp_graph.specs.declared.objects.ObjectError.TheVariants.{Memory};
 ghost use Rattle.gixp_memory.specs.Memory.{stored_commit};
 
 use gixp_graph::{CommitData, ObjectError, ObjectKind, Objects};
-use gixp_wire::ObjectId;
+use gixp_hash::ObjectId;
 use std::alloc::{AllocError, Global};
 use std::collections::BTreeMap;
 

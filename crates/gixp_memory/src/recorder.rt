@@ -3,7 +3,7 @@ ghost use Rattle.std.specs.Prelude.{◌≡◌, ◌+◌, ◌-◌, ◌^◌, ◌≤
 ghost use Rattle.gixp_graph.specs.Object.{HasRisen};
 
 use gixp_graph::{Graph, Negotiator, NegotiatorError, ObjectError, Objects};
-use gixp_wire::ObjectId;
+use gixp_hash::ObjectId;
 use std::alloc::Global;
 
 /// Offers a list of haves, whatever it is told, and writes that down. One of its calls may fail.

@@ -5,7 +5,7 @@ ghost use Rattle.gixp_memory.specs.Memory.{name_cmp};
 
 use bstr::BStr;
 use gixp_graph::{RefStore, RefStoreError};
-use gixp_wire::ObjectId;
+use gixp_hash::ObjectId;
 use std::alloc::{AllocError, Global};
 use std::collections::BTreeMap;
 

@@ -1,7 +1,7 @@
 -- Marks behind calls that leave them alone.
 use Rattle.std.proofs.Common.{◌≡◌, ◌∙◌, ◌⊎◌, inl, inr, ◌↔◌, Bool, false, List, [], ◌∷◌, sym, ap, subst, true≢false}
 use Rattle.std.specs.Prelude.{IsTrue}
-use Rattle.gixp_wire.specs.declared.object_id.ObjectId.{ObjectId}
+use Rattle.gixp_hash.specs.declared.object_id.ObjectId.{ObjectId}
 use Rattle.gixp_graph.specs.Object.{commit_at}
 use Rattle.gixp_graph.specs.GraphData.{GraphData, is_marked}
 use Rattle.gixp_graph.specs.Complete.{IsComplete}

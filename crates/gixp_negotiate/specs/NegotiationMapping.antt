@@ -1,6 +1,6 @@
 -- What is asked of mappings.
 use Rattle.std.specs.Prelude.{◌≡◌, Bool, true, false, Option}
-use Rattle.gixp_wire.specs.declared.object_id.ObjectId.{ObjectId}
+use Rattle.gixp_hash.specs.declared.object_id.ObjectId.{ObjectId}
 use Rattle.gixp_refs.specs.declared.handshake.Ref.{Ref}
 use Rattle.gixp_refs.specs.declared.handshake.Ref.TheVariants.{Unborn}
 use Rattle.gixp_refmap.specs.Mapping.{source_id}

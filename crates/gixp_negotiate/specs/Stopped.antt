@@ -1,7 +1,7 @@
 -- How far a first step came that was refused: what was looked up, marked and told stays.
 use Rattle.std.specs.Prelude.{◌≡◌, ◌⊎◌, List, ◌∷◌, ◌++◌, filter, IsTrue, IsSome, Option, ℤ}
 use Rattle.std.specs.FinMap as finite
-use Rattle.gixp_wire.specs.declared.object_id.ObjectId.{ObjectId}
+use Rattle.gixp_hash.specs.declared.object_id.ObjectId.{ObjectId}
 use Rattle.gixp_graph.specs.Object.{commit_at}
 use Rattle.gixp_graph.specs.GraphData.{GraphData, is_marked, OnlyMarks}
 use Rattle.gixp_graph.specs.Complete.{IsComplete}

@@ -1,17 +1,18 @@
 //! An answer that names commits as common that nobody sent.
 use crate::repository::{had_memory, id, ref_map};
 use gixp_graph::Graph;
+use gixp_hash::ObjectId;
 use gixp_memory::Recorder;
 use gixp_negotiate::negotiate::Negotiate;
 use gixp_negotiate::negotiate::negotiation::{NegotiateContext, Negotiation};
 use gixp_negotiate::negotiate::one_round::State;
 use gixp_negotiate::negotiate::plain::{NoObjects, NoRefs};
 use gixp_negotiate::shallow::Shallow;
+use gixp_packetline::{LineReader, Protocol};
 use gixp_refmap::fetch::Tags;
 use gixp_requests::command::CommandTable;
 use gixp_requests::fetch::Arguments;
 use gixp_response::fetch::Response;
-use gixp_wire::{LineReader, ObjectId, Protocol};
 use std::alloc::{AllocError, Global};
 use std::test::Fail;
 

@@ -214,7 +214,7 @@ fn tells_of_devices_that_fail(rt: HostRuntime) -> Result<(), Fail> {
 #[test]
 fn names_each_refusal(rt: HostRuntime) -> Result<(), Fail> {
     use gixp_refs::handshake::refs::parse::{Error, Invariant};
-    use gixp_wire::PacketError;
+    use gixp_packetline::PacketError;
     let a = rt.alloc();
     for (error, text, variant) in [
         (ListError::Io(ErrorKind::Other), "Io", "Io"),

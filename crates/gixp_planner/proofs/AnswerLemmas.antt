@@ -1,9 +1,9 @@
 -- Answers behind which no failure is counted: each is the one that is found in the pieces to come.
 use Rattle.std.proofs.Common.{◌≡◌, ℕ, Bool, true, false, List, Some, inl, inr, refl, sym, ap, ◌∙◌, arith}
 use Rattle.std.specs.Option.{option_map}
-use Rattle.gixp_wire.specs.declared.protocol.Protocol.{Protocol}
-use Rattle.gixp_wire.specs.Pieces.{Pieces}
-use Rattle.gixp_wire.specs.Reading.{Reading, Rose}
+use Rattle.gixp_packetline.specs.declared.protocol.Protocol.{Protocol}
+use Rattle.gixp_packetline.specs.Pieces.{Pieces}
+use Rattle.gixp_packetline.specs.Reading.{Reading, Rose}
 use Rattle.gixp_wire.specs.Transport.{SentBy}
 use Rattle.gixp_sidebands.specs.Bands.{unband}
 use Rattle.gixp_response.specs.Answer.{AnswerValue, Found, whole}

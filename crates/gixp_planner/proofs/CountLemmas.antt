@@ -1,7 +1,7 @@
 -- The count of failures behind a pack that was taken is the one in front of it.
 use Rattle.std.proofs.Common.{◌≡◌, Bool, true, false, refl, ap, ◌∙◌}
 use Rattle.std.specs.Prelude.{Result, Ok}
-use Rattle.gixp_wire.specs.Reading.{Reading}
+use Rattle.gixp_packetline.specs.Reading.{Reading}
 use Rattle.gixp_sidebands.specs.Bands.{Side, is_begun}
 use Rattle.gixp_fetch.specs.Receive.{Finishes, GivesBack}
 use Rattle.gixp_fetch.specs.Received.{Received}

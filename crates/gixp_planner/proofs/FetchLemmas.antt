@@ -1,11 +1,11 @@
 -- Two fetches of the planner over the same mappings, whose negotiators offer the same list: they come to the same end, and where no failure is counted they send the same.
 use Rattle.std.proofs.Common.{◌≡◌, ◌⊎◌, Bool, true, false, not, ◌||◌, List, [], codes, Option, Some, None, Result, Ok, Err, inl, inr, refl, sym, ap, ◌∙◌, subst, true≢false}
 use Rattle.std.specs.List.{list_any}
-use Rattle.gixp_wire.specs.declared.object_id.ObjectId.{ObjectId}
-use Rattle.gixp_wire.specs.declared.protocol.Protocol.{Protocol}
-use Rattle.gixp_wire.specs.Capabilities.{CapabilityValue}
-use Rattle.gixp_wire.specs.Reading.{Reading}
-use Rattle.gixp_wire.specs.TransportState.{TransportState}
+use Rattle.gixp_hash.specs.declared.object_id.ObjectId.{ObjectId}
+use Rattle.gixp_packetline.specs.declared.protocol.Protocol.{Protocol}
+use Rattle.gixp_capabilities.specs.Capabilities.{CapabilityValue}
+use Rattle.gixp_packetline.specs.Reading.{Reading}
+use Rattle.gixp_packetline.specs.TransportState.{TransportState}
 use Rattle.gixp_response.specs.declared.fetch.response.line.ShallowUpdate.{ShallowUpdate}
 use Rattle.gixp_response.specs.Answer.{AnswerValue}
 use Rattle.gixp_requests.specs.Feature.{has_feature}

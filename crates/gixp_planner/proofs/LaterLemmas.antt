@@ -3,10 +3,10 @@ use Rattle.std.proofs.Common.{◌≡◌, ℕ, Bool, true, List, [], ◌++◌, co
 use Rattle.std.specs.Prelude.{IsOk}
 use Rattle.std.specs.Io.KnownBytes.{Appends}
 use Rattle.gixp_wire.specs.declared.bodies.Body.{Body}
-use Rattle.gixp_wire.specs.declared.object_id.ObjectId.{ObjectId}
+use Rattle.gixp_hash.specs.declared.object_id.ObjectId.{ObjectId}
 use Rattle.gixp_wire.specs.Bodies.{bodies_reading}
-use Rattle.gixp_wire.specs.Reading.{Reading}
-use Rattle.gixp_wire.specs.TransportState.{TransportState}
+use Rattle.gixp_packetline.specs.Reading.{Reading}
+use Rattle.gixp_packetline.specs.TransportState.{TransportState}
 use Rattle.gixp_refmap.specs.declared.refmap.map.RefMap.{RefMap}
 use Rattle.gixp_handshake.specs.Taken.{without_refs}
 use Rattle.gixp_fetch.specs.declared.options.Outcome.{Outcome}

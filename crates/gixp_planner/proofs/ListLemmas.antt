@@ -1,7 +1,7 @@
 -- Ids and refspecs read one by one: those so far stand in front of those to come.
 use Rattle.std.proofs.Common.{◌≡◌, ◌⊎◌, ℕ, ◌+◌, ◌<◌, List, [], ◌∷◌, ◌++◌, length, drop, codes, get_or, Option, Some, None, Result, Ok, Err, inl, inr, sym, ap, ◌∙◌, refl, append_assoc, append-nil}
 use Rattle.std.proofs.lemmas.List.{drop_more}
-use Rattle.gixp_wire.specs.ObjectId.{id_of}
+use Rattle.gixp_hash.specs.ObjectId.{id_of}
 use Rattle.gixp_refspec.specs.declared.parse.Error.{Error as SpecError}
 use Rattle.gixp_refspec.specs.Spec.{Spec, spec_of}
 use Rattle.gixp_planner.specs.Haves.{with_id, ids_of}

@@ -5,23 +5,23 @@ use Rattle.std.specs.Prelude.{IfOk, IsOk, ◌==◌, codes}
 use Rattle.std.specs.Io.KnownBytes.{Appends}
 use Rattle.std.specs.Option.{option_map}
 use Rattle.std.specs.declared.alloc.Global.{Global}
-use Rattle.gixp_wire.specs.declared.protocol.Protocol.{Protocol}
-use Rattle.gixp_wire.specs.declared.protocol.MessageKind.{MessageKind}
+use Rattle.gixp_packetline.specs.declared.protocol.Protocol.{Protocol}
+use Rattle.gixp_packetline.specs.declared.protocol.MessageKind.{MessageKind}
 use Rattle.gixp_wire.specs.declared.service.Service.{Service}
 use Rattle.gixp_wire.specs.declared.service.Service.TheVariants.{UploadPack}
 use Rattle.gixp_wire.specs.declared.service.SetServiceResponse.{SetServiceResponse}
-use Rattle.gixp_wire.specs.declared.client.Error.{Error as client_error}
-use Rattle.gixp_wire.specs.declared.client.Error.TheVariants as client
+use Rattle.gixp_capabilities.specs.declared.client.Error.{Error as client_error}
+use Rattle.gixp_capabilities.specs.declared.client.Error.TheVariants as client
 use Rattle.gixp_wire.specs.declared.bodies.Body.{Body}
 use Rattle.gixp_wire.specs.declared.bodies.Bodies.{Bodies}
 use Rattle.gixp_wire.specs.Bodies.{answer_of, bodies_held, bodies_reading, IsNewBodies}
-use Rattle.gixp_wire.specs.Pieces.{Pieces}
-use Rattle.gixp_wire.specs.Lines.{Lines, stop, lines_to}
-use Rattle.gixp_wire.specs.TransportState.{TransportState, Answer}
-use Rattle.gixp_wire.specs.Reading.{Reading, lines_from_stop, lines_ahead}
+use Rattle.gixp_packetline.specs.Pieces.{Pieces}
+use Rattle.gixp_packetline.specs.Lines.{Lines, stop, lines_to}
+use Rattle.gixp_packetline.specs.TransportState.{TransportState, Answer}
+use Rattle.gixp_packetline.specs.Reading.{Reading, lines_from_stop, lines_ahead}
 use Rattle.gixp_wire.specs.Greeting.{Parameter}
 use Rattle.gixp_wire.specs.Handshake.{Handshakes, HandshakesBy}
-use Rattle.gixp_wire.specs.Capabilities.{CapabilityValue}
+use Rattle.gixp_capabilities.specs.Capabilities.{CapabilityValue}
 use Rattle.gixp_wire.specs.CapabilityAdvertisement.{Advertised, advertisement, ReadsAdvertisement}
 use Rattle.gixp_wire.specs.Transport.{TakesAnswer, SentBy, FailsBy, Sends, entered, with_written, first_answer, later_answers, answer_pieces}
 use Rattle.gixp_refs.specs.declared.handshake.Ref.{Ref}

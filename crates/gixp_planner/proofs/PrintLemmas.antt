@@ -2,7 +2,7 @@
 use Rattle.std.proofs.Common.{◌≡◌, ℕ, ◌+◌, List, [], ◌∷◌, ◌++◌, flat_map, codes, Option, None, refl, sym, ap, ◌∙◌, subst, append_assoc, append-nil}
 use Rattle.std.specs.Io.KnownBytes.{Appends}
 use Rattle.std.proofs.KnownBytes.{Appends-nil, Appends-trans}
-use Rattle.gixp_wire.specs.Frames.{Frame, End, frames_of, with_frame, no_frames}
+use Rattle.gixp_packetline.specs.Frames.{Frame, End, frames_of, with_frame, no_frames}
 use Rattle.std.specs.Option.{option_map}
 use Rattle.bstr.specs.Owned.{bstring_bytes}
 use Rattle.gixp_refmap.specs.declared.refmap.mapping.Mapping.{Mapping}

@@ -1,9 +1,9 @@
 -- The rounds of two fetches whose negotiators offer the same list, and which count no failure: each sends the same, and takes the same answer.
 use Rattle.std.proofs.Common.{◌≡◌, Bool, true, false, not, List, [], ◌∷◌, ◌++◌, Option, Some, sym, ap, ◌∙◌, subst, true≢false}
 use Rattle.std.specs.Prelude.{ℕ}
-use Rattle.gixp_wire.specs.declared.object_id.ObjectId.{ObjectId}
-use Rattle.gixp_wire.specs.FrameText.{texts_of}
-use Rattle.gixp_wire.specs.TransportState.{TransportState}
+use Rattle.gixp_hash.specs.declared.object_id.ObjectId.{ObjectId}
+use Rattle.gixp_packetline.specs.FrameText.{texts_of}
+use Rattle.gixp_packetline.specs.TransportState.{TransportState}
 use Rattle.gixp_response.specs.declared.fetch.response.line.ShallowUpdate.{ShallowUpdate}
 use Rattle.gixp_response.specs.Answer.{AnswerValue}
 use Rattle.gixp_response.specs.AnswerReading.{answer_of, Answered}

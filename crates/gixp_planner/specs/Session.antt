@@ -1,7 +1,7 @@
 -- A session of a planner: a handshake without an account, the ref map of the server's refs, and a fetch of what is mapped.
 use Rattle.std.specs.Prelude.{ℕ, ◌≡◌, ◌==◌, ◌⊎◌, ⊤, Bool, true, false, if◌then◌else◌, List, [], ◌∷◌, codes, Option, Some, None, Result, Ok, Err}
 use Rattle.gixp_wire.specs.declared.service.Service.TheVariants.{UploadPack}
-use Rattle.gixp_wire.specs.Reading.{Reading}
+use Rattle.gixp_packetline.specs.Reading.{Reading}
 use Rattle.gixp_requests.specs.Feature.{FeatureValue}
 use Rattle.gixp_requests.specs.Command.{git_table}
 use Rattle.gixp_response.specs.Answer.{update_items}

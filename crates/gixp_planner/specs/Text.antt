@@ -6,9 +6,9 @@ use Rattle.std.specs.Io.BufRead.{strip_last}
 use Rattle.std.specs.Option.{option_map}
 use Rattle.bstr.specs.Owned.{bstring_bytes}
 use Rattle.hex.specs.Hex.{encode_lower}
-use Rattle.gixp_wire.specs.declared.object_id.ObjectId.{ObjectId}
-use Rattle.gixp_wire.specs.Frames.{Frame, payload, special, frames_of}
-use Rattle.gixp_wire.specs.FrameText.{message_text}
+use Rattle.gixp_hash.specs.declared.object_id.ObjectId.{ObjectId}
+use Rattle.gixp_packetline.specs.Frames.{Frame, payload, special, frames_of}
+use Rattle.gixp_packetline.specs.FrameText.{message_text}
 use Rattle.gixp_matching.specs.declared.match_group.validate.Fix.{Fix}
 use Rattle.gixp_matching.specs.Validation.{Removed}
 use Rattle.gixp_matching.specs.Validate.{removed_of}

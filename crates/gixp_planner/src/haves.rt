@@ -3,7 +3,7 @@ ghost use Rattle.std.specs.Prelude.{◌≡◌, IfOk, map};
 ghost use Rattle.std.specs.Io.BufRead.{strip_last};
 ghost use Rattle.std.specs.Option.{option_map};
 ghost use Rattle.bstr.specs.BStr.{bstr_bytes};
-ghost use Rattle.gixp_wire.specs.ObjectId.{id_of};
+ghost use Rattle.gixp_hash.specs.ObjectId.{id_of};
 ghost use Rattle.gixp_planner.specs.Haves.{pieces, have_lines, ReadsHaves};
 
 use crate::error::PlanError;

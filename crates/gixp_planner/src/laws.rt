@@ -1,7 +1,7 @@
 //! Laws of the definitions that contracts cite. The functions do nothing: a caller that cites a law calls one.
 ghost use Rattle.std.specs.Prelude.{◌≡◌, ℕ, true, false, [], List, IfOk, IsOk};
 ghost use Rattle.gixp_wire.specs.declared.bodies.Body.{Body};
-ghost use Rattle.gixp_wire.specs.declared.object_id.ObjectId.{ObjectId};
+ghost use Rattle.gixp_hash.specs.declared.object_id.ObjectId.{ObjectId};
 ghost use Rattle.gixp_graph.specs.GraphData.{GraphValue};
 ghost use Rattle.gixp_planner.specs.Mapped.{MappingsFollow};
 ghost use Rattle.gixp_planner.specs.Follows.{Follow};

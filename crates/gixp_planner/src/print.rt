@@ -2,9 +2,9 @@
 ghost use Rattle.std.specs.Prelude.{◌≡◌, ◌++◌, OnOk, flat_map, map, vec_items};
 ghost use Rattle.std.specs.Option.{option_map};
 ghost use Rattle.bstr.specs.Owned.{bstring_bytes};
-ghost use Rattle.gixp_wire.specs.Frames.{frames_of};
-ghost use Rattle.gixp_wire.specs.FrameText.{message_text};
-ghost use Rattle.gixp_wire.specs.PacketLine.{frame_of};
+ghost use Rattle.gixp_packetline.specs.Frames.{frames_of};
+ghost use Rattle.gixp_packetline.specs.FrameText.{message_text};
+ghost use Rattle.gixp_packetline.specs.PacketLine.{frame_of};
 ghost use Rattle.gixp_refmap.specs.Mapping.{source_name};
 ghost use Rattle.gixp_planner.specs.Refusal.{Writes};
 ghost use Rattle.gixp_planner.specs.Text.{frame_content, frame_shown, request_shown, requests_shown, name_shown, mapping_shown, fix_shown, map_shown, mapped_shown, end_shown, ended_of, course_shown, course_of};
@@ -15,7 +15,7 @@ use bstr::BString;
 use gix_protocol::fetch::RefMap;
 use gix_protocol::fetch::refmap::{Mapping, Source};
 use gix_protocol::refspec::match_group::validate::Fix;
-use gixp_wire::{MessageKind, PacketLine, split_packet_line};
+use gixp_packetline::{MessageKind, PacketLine, split_packet_line};
 use std::alloc::{AllocError, Global};
 use std::io::Write;
 

@@ -1,7 +1,7 @@
 -- Clones of the items of a list are its items, as plain data.
 use Rattle.std.proofs.Common.{◌≡◌, ℕ, ◌+◌, ◌<◌, List, [], ◌∷◌, ◌++◌, length, take, map, get_or, refl, ap, sym, ◌∙◌}
 use Rattle.std.specs.List.{AllZip}
-use Rattle.gixp_wire.proofs.ListLemmas.{appended_more}
+use Rattle.gixp_packetline.proofs.ListLemmas.{appended_more}
 
 pub same_values : {A B : Type 0} (f : A → B) (xs ys : List A) → AllZip (λ s t. f t ≡ f s) xs ys → map f ys ≡ map f xs
 same_values f [] [] h = refl

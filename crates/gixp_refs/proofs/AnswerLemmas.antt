@@ -1,14 +1,14 @@
 -- Answers of steps make the answer of their chain.
 use Rattle.std.proofs.Common.{◌≡◌, ℕ, false, nat_eq, eq-eqb, List, [], ◌∷◌, length, refl, sym, ap, subst, ◌∙◌, arith, Option, Some, None, Result, Ok, Err}
 use Rattle.std.specs.Prelude.{codes}
-use Rattle.gixp_wire.specs.Cut.{cut}
+use Rattle.gixp_capabilities.specs.Cut.{cut}
 use Rattle.gixp_refs.specs.declared.handshake.refs.parse.Error.{Error}
 use Rattle.gixp_refs.specs.declared.handshake.refs.parse.Error.TheVariants.{Memory}
 use Rattle.gixp_refs.specs.Ref.{ref_value}
 use Rattle.gixp_refs.specs.RefLine.{RefsRefusal, and_then, AttributeValues, named_attribute, attribute_of, with_attribute, attributes_in, attributes_of, no_attributes, unknown_attribute, malformed_v2, first_piece, named, line_value, value_of}
-use Rattle.gixp_wire.specs.Capabilities.{is_text}
+use Rattle.gixp_capabilities.specs.Capabilities.{is_text}
 use Rattle.gixp_refs.specs.ParseError.{Answers, IsRefusal, attribute_values, object_of}
-use Rattle.gixp_wire.specs.declared.object_id.ObjectId.{ObjectId}
+use Rattle.gixp_hash.specs.declared.object_id.ObjectId.{ObjectId}
 use Rattle.gixp_refs.specs.declared.handshake.Ref.{Ref}
 use Rattle.gixp_refs.specs.declared.handshake.refs.line.Attributes.{Attributes}
 

@@ -14,16 +14,16 @@ use Rattle.std.proofs.lemmas.Cmp.{nat_list_cmp_total, nat_list_eq_equiv, tied_it
 use Rattle.std.proofs.lemmas.Map.Lookups.{exact_bytes}
 use Rattle.bstr.specs.Owned.{bstring_bytes}
 use Rattle.bstr.specs.declared.bstring.BString.{BString}
-use Rattle.gixp_wire.specs.Pieces.{Pieces}
-use Rattle.gixp_wire.specs.Reading.{Reading, lines_ahead}
+use Rattle.gixp_packetline.specs.Pieces.{Pieces}
+use Rattle.gixp_packetline.specs.Reading.{Reading, lines_ahead}
 use Rattle.gixp_refs.specs.declared.handshake.Ref.{Ref}
 use Rattle.gixp_response.specs.declared.fetch.response.line.ShallowUpdate.{ShallowUpdate}
 use Rattle.gixp_refs.specs.declared.handshake.refs.parse.Error.{Error}
 use Rattle.gixp_refs.specs.Ref.{RefValue}
 use Rattle.gixp_refs.specs.RefLine.{RefsRefusal}
-use Rattle.gixp_wire.specs.Capabilities.{is_text}
+use Rattle.gixp_capabilities.specs.Capabilities.{is_text}
 use Rattle.gixp_refs.specs.ParseError.{Answers}
-use Rattle.gixp_wire.specs.Capabilities.{CapabilityValue}
+use Rattle.gixp_capabilities.specs.Capabilities.{CapabilityValue}
 use Rattle.gixp_refs.specs.RefAdvertisement.{Symref, symref_named, tells, TellAlike, told_target, V1Line, nothing, peels, names, shallows, v1_line, Named, pair_by, pair, closed, group_with, group_end, end_refusal, groups, v1_refs, symref_table}
 use Rattle.gixp_refs.specs.V1Refs.{symref_value, name_cmp, symref_values, ReadsV1, V1Fails, GivesAdvertisement, AdvertisementFails}
 

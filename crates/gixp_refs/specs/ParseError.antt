@@ -2,8 +2,8 @@
 use Rattle.std.specs.Prelude.{◌≡◌, ℕ, Bool, true, false, List, codes, Option, Result, Ok, Err}
 use Rattle.std.specs.Option.{option_map, option_copied}
 use Rattle.bstr.specs.Owned.{bstring_bytes}
-use Rattle.gixp_wire.specs.declared.object_id.ObjectId.{ObjectId}
-use Rattle.gixp_wire.specs.Reading.{refusal_of}
+use Rattle.gixp_hash.specs.declared.object_id.ObjectId.{ObjectId}
+use Rattle.gixp_packetline.specs.Reading.{refusal_of}
 use Rattle.gixp_refs.specs.declared.handshake.refs.line.Attributes.{Attributes}
 use Rattle.gixp_refs.specs.declared.handshake.refs.parse.Error.{Error}
 use Rattle.gixp_refs.specs.declared.handshake.refs.parse.Error.TheVariants.{Io, DecodePacketline, Id, MalformedSymref, MalformedV1RefLine, MalformedV2RefLine, UnknownAttribute, InvariantViolation, UploadPack, Reader, Memory}

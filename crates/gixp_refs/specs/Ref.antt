@@ -1,7 +1,7 @@
 -- A ref as plain data, and its parts (gitprotocol-v2, "ls-refs").
 use Rattle.std.specs.Prelude.{ℕ, List, Option, Some, None}
 use Rattle.bstr.specs.Owned.{bstring_bytes}
-use Rattle.gixp_wire.specs.declared.object_id.ObjectId.{ObjectId}
+use Rattle.gixp_hash.specs.declared.object_id.ObjectId.{ObjectId}
 use Rattle.gixp_refs.specs.declared.handshake.Ref.{Ref}
 use Rattle.gixp_refs.specs.declared.handshake.Ref.TheVariants.{Peeled, Direct, Symbolic, Unborn}
 

@@ -4,14 +4,14 @@ use Rattle.std.specs.List.{list_all}
 use Rattle.std.specs.Option.{option_map}
 use Rattle.std.specs.Char.{is_whitespace}
 use Rattle.bstr.specs.Trim.{trim_end_by}
-use Rattle.gixp_wire.specs.Capabilities.{CapabilityValue}
-use Rattle.gixp_wire.specs.Lines.{Ending, stop, refusal, Lines}
+use Rattle.gixp_capabilities.specs.Capabilities.{CapabilityValue}
+use Rattle.gixp_packetline.specs.Lines.{Ending, stop, refusal, Lines}
 use Rattle.gixp_response.specs.declared.fetch.response.line.ShallowUpdate.{ShallowUpdate}
 use Rattle.gixp_response.specs.declared.fetch.response.line.ShallowUpdate.TheVariants.{Shallow}
-use Rattle.gixp_wire.specs.Cut.{cut}
+use Rattle.gixp_capabilities.specs.Cut.{cut}
 use Rattle.gixp_refs.specs.Ref.{RefValue, peeled}
 use Rattle.gixp_refs.specs.RefLine.{RefsRefusal, malformed_symref, malformed_v1, invariant, refusal_from, id_value, and_then, target_of, born}
-use Rattle.gixp_wire.specs.Capabilities.{is_text}
+use Rattle.gixp_capabilities.specs.Capabilities.{is_text}
 use Rattle.gixp_refs.specs.Refs.{with_ref}
 
 -- a ref that names another one, or none where its target isn't told

@@ -3,14 +3,14 @@ use Rattle.std.specs.Prelude.{ℕ, ◌==◌, if◌then◌else◌, List, [], ◌�
 use Rattle.std.specs.Char.{is_whitespace}
 use Rattle.std.specs.declared.io.ErrorKind.{ErrorKind}
 use Rattle.bstr.specs.Trim.{trim_end_by}
-use Rattle.gixp_wire.specs.declared.packet.PacketError.{PacketError}
-use Rattle.gixp_wire.specs.declared.decode.Error.{Error as IdError}
-use Rattle.gixp_wire.specs.declared.decode.Error.TheVariants.{InvalidLength, InvalidDigit}
-use Rattle.gixp_wire.specs.ObjectId.{id_of}
-use Rattle.gixp_wire.specs.Pieces.{Refusal, io, decode, server, memory}
-use Rattle.gixp_wire.specs.Cut.{cut}
+use Rattle.gixp_packetline.specs.declared.packet.PacketError.{PacketError}
+use Rattle.gixp_hash.specs.declared.decode.Error.{Error as IdError}
+use Rattle.gixp_hash.specs.declared.decode.Error.TheVariants.{InvalidLength, InvalidDigit}
+use Rattle.gixp_hash.specs.ObjectId.{id_of}
+use Rattle.gixp_packetline.specs.Pieces.{Refusal, io, decode, server, memory}
+use Rattle.gixp_capabilities.specs.Cut.{cut}
 use Rattle.gixp_refs.specs.Ref.{RefValue, peeled, direct, symbolic, unborn}
-use Rattle.gixp_wire.specs.Capabilities.{is_text}
+use Rattle.gixp_capabilities.specs.Capabilities.{is_text}
 
 -- why there are no refs, as it is compared
 pub data RefsRefusal : Type 0 where

@@ -1,10 +1,10 @@
 -- The refs of an `ls-refs` answer, and what their reader does (gitprotocol-v2, "ls-refs").
 use Rattle.std.specs.Prelude.{◌≡◌, ℕ, ◌⊎◌, ⊤, Bool, true, Option, Some, None, IfSome, List, [], ◌∷◌, ◌++◌, map, Result, Ok, Err}
-use Rattle.gixp_wire.specs.declared.protocol.MessageKind.{MessageKind}
-use Rattle.gixp_wire.specs.declared.protocol.Protocol.TheVariants.{V2}
-use Rattle.gixp_wire.specs.Pieces.{Refusal, Pieces, stream_pieces}
-use Rattle.gixp_wire.specs.Lines.{Ending, stop, refusal, Lines, lines_of, lines_to}
-use Rattle.gixp_wire.specs.Reading.{Reading, TakesLine, AtStop, Fails, IsPlain, lines_ahead}
+use Rattle.gixp_packetline.specs.declared.protocol.MessageKind.{MessageKind}
+use Rattle.gixp_packetline.specs.declared.protocol.Protocol.TheVariants.{V2}
+use Rattle.gixp_packetline.specs.Pieces.{Refusal, Pieces, stream_pieces}
+use Rattle.gixp_packetline.specs.Lines.{Ending, stop, refusal, Lines, lines_of, lines_to}
+use Rattle.gixp_packetline.specs.Reading.{Reading, TakesLine, AtStop, Fails, IsPlain, lines_ahead}
 use Rattle.gixp_refs.specs.declared.handshake.Ref.{Ref}
 use Rattle.gixp_refs.specs.declared.handshake.refs.parse.Error.{Error}
 use Rattle.gixp_refs.specs.Ref.{RefValue, ref_value}

@@ -6,11 +6,11 @@ use Rattle.std.specs.declared.cmp.Ordering.{Ordering}
 use Rattle.std.specs.Cmp.Lexicographic.{slice_cmp}
 use Rattle.bstr.specs.Owned.{bstring_bytes}
 use Rattle.bstr.specs.declared.bstring.BString.{BString}
-use Rattle.gixp_wire.specs.declared.protocol.MessageKind.{MessageKind}
-use Rattle.gixp_wire.specs.Pieces.{Pieces}
-use Rattle.gixp_wire.specs.Lines.{stop, lines_to}
-use Rattle.gixp_wire.specs.Capabilities.{CapabilityValue}
-use Rattle.gixp_wire.specs.Reading.{Reading, AtStop, lines_ahead}
+use Rattle.gixp_packetline.specs.declared.protocol.MessageKind.{MessageKind}
+use Rattle.gixp_packetline.specs.Pieces.{Pieces}
+use Rattle.gixp_packetline.specs.Lines.{stop, lines_to}
+use Rattle.gixp_capabilities.specs.Capabilities.{CapabilityValue}
+use Rattle.gixp_packetline.specs.Reading.{Reading, AtStop, lines_ahead}
 use Rattle.gixp_refs.specs.declared.handshake.Ref.{Ref}
 use Rattle.gixp_response.specs.declared.fetch.response.line.ShallowUpdate.{ShallowUpdate}
 use Rattle.gixp_refs.specs.declared.handshake.refs.parse.Error.{Error}

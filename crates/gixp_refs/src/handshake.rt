@@ -4,7 +4,7 @@ ghost use Rattle.std.specs.Option.{option_copied};
 ghost use Rattle.bstr.specs.BStr.{bstr_bytes};
 
 use bstr::{BStr, BString};
-use gixp_wire::ObjectId;
+use gixp_hash::ObjectId;
 
 pub mod refs;
 

@@ -2,7 +2,7 @@
 use Rattle.std.specs.Prelude.{ℕ, ◌==◌, nat_eq, nat_lt, Bool, true, false, not, ◌&&◌, ◌||◌, if◌then◌else◌, List, [], ◌∷◌, ◌++◌, drop, codes, count_by, Option, Some, None, is_none, is_some, Result, Ok, Err}
 use Rattle.std.specs.List.{list_any, starts_with, before_first, after_first}
 use Rattle.std.specs.Str.{bytes_eq}
-use Rattle.gixp_wire.specs.ObjectId.{id_of}
+use Rattle.gixp_hash.specs.ObjectId.{id_of}
 use Rattle.gixp_refspec.specs.declared.spec.Sign.{Sign}
 use Rattle.gixp_refspec.specs.declared.spec.Sign.TheVariants.{Plain, Force, Exclude}
 use Rattle.gixp_refspec.specs.declared.parse.Error.{Error}

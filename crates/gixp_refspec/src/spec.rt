@@ -2,13 +2,13 @@
 ghost use Rattle.std.specs.Prelude.{◌≡◌, IsTrue, IfOk};
 ghost use Rattle.std.specs.Option.{option_copied, option_map};
 ghost use Rattle.bstr.specs.Owned.{bstring_bytes};
-ghost use Rattle.gixp_wire.specs.ObjectId.{id_of};
+ghost use Rattle.gixp_hash.specs.ObjectId.{id_of};
 ghost use Rattle.gixp_refspec.specs.Spec.{spec, stars, is_id, is_full, is_spec, is_negative, sign_text};
 
 use crate::instruction::{Fetch, Instruction};
 use crate::prefixes::push_prefixes;
 use bstr::{BStr, BString};
-use gixp_wire::ObjectId;
+use gixp_hash::ObjectId;
 use std::alloc::{AllocError, Global};
 
 /// What stands before the source of a refspec.

@@ -1,10 +1,10 @@
 //! Worked rows of refspecs and refs.
 use bstr::{BStr, BString};
-use gixp_refspec::RefSpecRef;
+use gixp_hash::ObjectId;
 use gixp_matching::match_group::validate::{Fix, Issue};
 use gixp_matching::match_group::{Item, Mapping, MatchGroup, SourceRef};
+use gixp_refspec::RefSpecRef;
 use gixp_refspec::parse::{Operation, parse};
-use gixp_wire::ObjectId;
 use std::alloc::{AllocError, Global};
 use std::process::Abort;
 

@@ -1,9 +1,9 @@
 //! Values of refspecs, their copies, and the texts of errors.
 use crate::rows::{check_bytes, check_prefixes, check_rows, read};
 use bstr::{BStr, BString};
-use gixp_refspec::instruction::{Fetch, Instruction};
 use gixp_matching::match_group::validate::{self, Fix};
 use gixp_matching::match_group::{Mapping, SourceRef};
+use gixp_refspec::instruction::{Fetch, Instruction};
 use gixp_refspec::parse::{Error, Operation, parse};
 use gixp_refspec::{PartialName, RefSpec, RefSpecRef};
 use std::alloc::{AllocError, Global};

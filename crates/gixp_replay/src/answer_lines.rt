@@ -2,8 +2,8 @@
 use crate::report::Report;
 use crate::rows::Row;
 use crate::values;
+use gixp_hash::{Kind, ObjectId};
 use gixp_response::fetch::response::{Acknowledgement, WantedRef, shallow_update_from_line};
-use gixp_wire::{Kind, ObjectId};
 use std::alloc::Global;
 
 fn report_id(text: &[u8], report: &mut Report) {

@@ -10,9 +10,10 @@ use crate::packs::Notes;
 use crate::report::Report;
 use crate::rows::Row;
 use crate::values;
+use gixp_packetline::{ExtendedBufRead, LineReader, Protocol};
 use gixp_response::fetch::Response;
 use gixp_sidebands::{NeverInterrupt, WithSidebands};
-use gixp_wire::{ExtendedBufRead, LineReader, Protocol, Transport};
+use gixp_wire::Transport;
 use std::alloc::{AllocError, Global};
 
 /// How an answer is read.

@@ -8,8 +8,8 @@ use crate::report::Report;
 use crate::rows::{Row, cut_at};
 use crate::values;
 use bstr::BString;
+use gixp_capabilities::{Capabilities, Capability};
 use gixp_refs::handshake::refs::from_capabilities;
-use gixp_wire::{Capabilities, Capability};
 use std::alloc::{AllocError, Global};
 
 // What a capability has of its own: value, words, and which of the names are among these.

@@ -9,10 +9,9 @@ use crate::report::Report;
 use crate::rows::Row;
 use crate::values::{capability_list, client_error, parse_error, update, version_of, version_word};
 use bstr::BString;
+use gixp_capabilities::Capabilities;
 use gixp_refs::handshake::refs::from_v1_refs_received_as_part_of_handshake_and_capabilities;
-use gixp_wire::{
-    Bodies, Body, Capabilities, Connection, Opening, Service, SetServiceResponse, Transport,
-};
+use gixp_wire::{Bodies, Body, Connection, Opening, Service, SetServiceResponse, Transport};
 use std::alloc::{AllocError, Global};
 
 /// The version, whether refs come, and the capabilities.

@@ -20,12 +20,13 @@
 use crate::rows::{cut_at_byte, number};
 use bstr::{BStr, BString};
 use gixp_graph::{CommitData, ObjectError, ObjectKind, RefStoreError};
+use gixp_hash::ObjectId;
 use gixp_memory::{MemoryObjects, MemoryRefs, StoredObject};
+use gixp_packetline::{LineReader, Protocol};
 use gixp_refmap::refmap::{Mapping, RefMap, Source, SpecIndex};
 use gixp_refs::handshake::Ref;
 use gixp_refspec::parse::{Operation, parse};
 use gixp_response::fetch::Response;
-use gixp_wire::{LineReader, ObjectId, Protocol};
 use std::alloc::{AllocError, Global};
 use std::io::ErrorKind;
 

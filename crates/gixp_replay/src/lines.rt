@@ -7,7 +7,7 @@ use crate::device::Device;
 use crate::report::Report;
 use crate::rows::{Row, cut_at};
 use crate::values::{read_error, stop, version_of};
-use gixp_wire::{ExtendedBufRead, LineReader, Protocol, read};
+use gixp_packetline::{ExtendedBufRead, LineReader, Protocol, read};
 use std::alloc::{AllocError, Global};
 use std::io::ErrorKind;
 

@@ -17,10 +17,11 @@ use crate::telling::Telling;
 use gixp_handshake::Handshake;
 use gixp_handshake::credentials::Action;
 use gixp_handshake::handshake::{ObtainRefMap, handshake, obtain};
+use gixp_packetline::{PacketLine, split_packet_line};
 use gixp_refmap::RefMap;
 use gixp_refmap::refmap::init::{Context, Error};
 use gixp_requests::command::{CommandTable, Feature};
-use gixp_wire::{PacketLine, Service, Transport, split_packet_line};
+use gixp_wire::{Service, Transport};
 use std::alloc::{AllocError, Global};
 
 // How the client lists refs.

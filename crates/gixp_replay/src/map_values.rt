@@ -1,10 +1,10 @@
 //! Ref maps and why there are none, as text.
 use crate::report::Report;
 use crate::values::{client_error, parse_error, reference, validation_error};
-use gixp_refmap::refmap::{Mapping, Source, SpecIndex, init};
-use gixp_refmap::{RefMap, ls_refs};
 use gixp_matching::match_group::SourceRef;
 use gixp_matching::match_group::validate::{Fix, Issue};
+use gixp_refmap::refmap::{Mapping, Source, SpecIndex, init};
+use gixp_refmap::{RefMap, ls_refs};
 use gixp_refspec::parse;
 use std::alloc::AllocError;
 

@@ -9,6 +9,8 @@ use crate::report::Report;
 use crate::rows::{Row, cut_at, cut_at_byte};
 use crate::values::{client_error, parse_error};
 use bstr::{BStr, BString};
+use gixp_capabilities::Capabilities;
+use gixp_packetline::LineReader;
 use gixp_refmap::RefMap;
 use gixp_refmap::fetch::Tags;
 use gixp_refmap::ls_refs::RefPrefixes;
@@ -17,7 +19,6 @@ use gixp_refs::handshake::Ref;
 use gixp_refs::handshake::refs::from_v2_refs;
 use gixp_refspec::RefSpec;
 use gixp_refspec::parse::{Operation, parse};
-use gixp_wire::{Capabilities, LineReader};
 use std::alloc::{AllocError, Global};
 
 // The refspecs of a line, or nothing where one is refused.

@@ -3,10 +3,11 @@ use crate::report::Report;
 use crate::rows::Row;
 use crate::values;
 use bstr::BString;
+use gixp_capabilities::Capabilities;
+use gixp_packetline::Protocol;
 use gixp_requests::Command;
 use gixp_requests::command::{CommandTable, Feature, validate_argument_prefixes};
 use gixp_response::fetch::Response;
-use gixp_wire::{Capabilities, Protocol};
 use std::alloc::{AllocError, Global};
 
 // The features of a mask, from its lowest bit on.

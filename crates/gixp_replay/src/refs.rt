@@ -7,9 +7,9 @@ use crate::lines::{is_failure, report_failures, report_rest};
 use crate::report::Report;
 use crate::rows::Row;
 use crate::values::{parse_error, reference, version_of};
+use gixp_packetline::{ExtendedBufRead, LineReader};
 use gixp_refs::handshake::Ref;
 use gixp_refs::handshake::refs::{from_v2_refs, next_v2_ref, parse};
-use gixp_wire::{ExtendedBufRead, LineReader};
 use std::alloc::{AllocError, Global};
 
 /// A list of refs.

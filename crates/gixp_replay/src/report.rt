@@ -1,5 +1,5 @@
 //! The line of a row, in printable letters.
-use gixp_wire::ObjectId;
+use gixp_hash::ObjectId;
 use std::alloc::{AllocError, Global};
 
 /// What a row gives, as text. An allocation failure is kept, so that those who write need not look at each word.

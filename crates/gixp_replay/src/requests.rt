@@ -13,9 +13,10 @@ use crate::report::Report;
 use crate::rows::{Row, cut_at_byte, number};
 use crate::values::{client_error, version_of};
 use bstr::BStr;
+use gixp_hash::ObjectId;
 use gixp_requests::command::{CommandTable, Feature};
 use gixp_requests::fetch::Arguments;
-use gixp_wire::{ObjectId, Transport};
+use gixp_wire::Transport;
 use std::alloc::{AllocError, Global};
 
 // Adds the features that the payload names.

@@ -9,12 +9,12 @@
 //! locked, `d` for a line that is no id, `m` for memory.
 use crate::rows::{cut_at_byte, number};
 use bstr::{BStr, BString};
+use gixp_hash::ObjectId;
 use gixp_negotiate::shallow::Shallow;
 use gixp_refmap::fetch::Tags;
 use gixp_refspec::parse::{Operation, parse};
 use gixp_refspec::{PartialName, RefSpec};
 use gixp_requests::command::CommandTable;
-use gixp_wire::ObjectId;
 use std::alloc::{AllocError, Global};
 use std::num::NonZeroU32;
 

@@ -13,12 +13,14 @@ use crate::report::Report;
 use crate::rows::{Row, cut_at, cut_at_byte, number};
 use crate::values::client_error;
 use bstr::BString;
+use gixp_hash::ObjectId;
+use gixp_packetline::Protocol;
 use gixp_requests::Command;
 use gixp_requests::command::{CommandTable, Feature};
 use gixp_requests::fetch::Arguments;
 use gixp_response::fetch::Response;
 use gixp_sidebands::{NeverInterrupt, WithSidebands};
-use gixp_wire::{Body, ObjectId, Protocol, Transport};
+use gixp_wire::{Body, Transport};
 use std::alloc::{AllocError, Global};
 
 fn agent(alloc: Global) -> Result<Feature, AllocError> {

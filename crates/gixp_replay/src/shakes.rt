@@ -16,7 +16,8 @@ use bstr::BString;
 use gixp_handshake::Handshake;
 use gixp_handshake::credentials::{self, Account, Action, NextAction, Outcome};
 use gixp_handshake::handshake::{Error, handshake};
-use gixp_wire::{Bodies, Body, Connection, Opening, Protocol, Service, Transport};
+use gixp_packetline::Protocol;
+use gixp_wire::{Bodies, Body, Connection, Opening, Service, Transport};
 use std::alloc::{AllocError, Global};
 use std::io::ErrorKind;
 

@@ -1,11 +1,13 @@
 //! Values and refusals as text.
 use crate::report::Report;
+use gixp_capabilities::{Capabilities, client};
+use gixp_hash::decode;
+use gixp_packetline::{MessageKind, PacketError, Protocol, read};
 use gixp_refs::handshake::Ref;
 use gixp_refs::handshake::refs::parse;
 use gixp_requests::command::validate_argument_prefixes;
 use gixp_response::fetch::response::{Acknowledgement, ShallowUpdate};
 use gixp_response::fetch::{Response, response};
-use gixp_wire::{Capabilities, MessageKind, PacketError, Protocol, client, decode, read};
 use std::alloc::{AllocError, Global};
 use std::io::ErrorKind;
 

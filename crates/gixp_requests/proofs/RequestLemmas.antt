@@ -5,12 +5,12 @@ use Rattle.std.specs.List.{list_all, swap, position_or_len, prefix_len, slice_se
 use Rattle.std.proofs.lemmas.List.{map-append, map-set, length-map}
 use Rattle.std.proofs.lemmas.List.Elements.{filter-append}
 use Rattle.std.proofs.Math.ListN.{get_or-map}
-use Rattle.gixp_wire.specs.declared.client.Error.{Error}
+use Rattle.gixp_capabilities.specs.declared.client.Error.{Error}
 use Rattle.gixp_wire.specs.declared.message.Message.{Message}
-use Rattle.gixp_wire.specs.Frames.{Frame}
-use Rattle.gixp_wire.specs.FrameText.{texts_of}
+use Rattle.gixp_packetline.specs.Frames.{Frame}
+use Rattle.gixp_packetline.specs.FrameText.{texts_of}
 use Rattle.gixp_wire.specs.Message.{MessageValue, text, flush, delimiter, value_frame, value_fits, message_value, message_frame, message_fits, request_frames, all_fit, argument_values, command_lines, command_values}
-use Rattle.gixp_wire.specs.Reading.{Reading}
+use Rattle.gixp_packetline.specs.Reading.{Reading}
 use Rattle.gixp_wire.specs.Transport.{Sends}
 use Rattle.gixp_requests.specs.Feature.{FeatureValue, feature_text}
 use Rattle.gixp_requests.specs.Request.{has_value, sent_features, done_line, done_lines, fetch_arguments, exchanged}

@@ -3,8 +3,8 @@ use Rattle.std.specs.Prelude.{◌≡◌, ℕ, Bool, false, not, ◌&&◌, ◌||�
 use Rattle.std.specs.List.{list_any, starts_with}
 use Rattle.std.specs.Str.{bytes_eq}
 use Rattle.bstr.specs.Owned.{bstring_bytes}
-use Rattle.gixp_wire.specs.declared.protocol.Protocol.{Protocol}
-use Rattle.gixp_wire.specs.Capabilities.{CapabilityValue, first_named, has_named, supports_word}
+use Rattle.gixp_packetline.specs.declared.protocol.Protocol.{Protocol}
+use Rattle.gixp_capabilities.specs.Capabilities.{CapabilityValue, first_named, has_named, supports_word}
 use Rattle.gixp_requests.specs.declared.command.Command.{Command}
 use Rattle.gixp_requests.specs.declared.command.Command.TheVariants.{LsRefs, Fetch}
 use Rattle.gixp_requests.specs.declared.command.validate_argument_prefixes.Error.{Error}

@@ -1,7 +1,7 @@
 -- The frames of a request for a pack (gitprotocol-v2, "Command Request", "fetch"; gitprotocol-pack, "Packfile Negotiation").
 use Rattle.std.specs.Prelude.{ℕ, Bool, if◌then◌else◌, List, [], ◌∷◌, ◌++◌, map, filter, position, Option, Some, None, is_some, codes}
 use Rattle.std.specs.List.{list_all, swap}
-use Rattle.gixp_wire.specs.Frames.{Frame}
+use Rattle.gixp_packetline.specs.Frames.{Frame}
 use Rattle.gixp_wire.specs.Message.{MessageValue, text, flush, value_frame, value_fits, command_values}
 use Rattle.gixp_requests.specs.Feature.{FeatureValue, feature_text}
 use Rattle.gixp_requests.specs.Arguments.{ArgumentsValue, is_want, is_v2}

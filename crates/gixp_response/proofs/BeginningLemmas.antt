@@ -4,15 +4,15 @@ use Rattle.std.specs.Prelude.{not, ◌&&◌, ◌||◌, ◌⊎◌}
 use Rattle.std.specs.List.{list_any}
 use Rattle.std.specs.declared.io.ErrorKind.{ErrorKind}
 use Rattle.std.specs.declared.io.ErrorKind.TheVariants.{UnexpectedEof}
-use Rattle.gixp_wire.specs.declared.protocol.Protocol.{Protocol}
-use Rattle.gixp_wire.specs.declared.protocol.Protocol.TheVariants.{V0, V1}
-use Rattle.gixp_wire.specs.declared.protocol.MessageKind.{MessageKind}
-use Rattle.gixp_wire.specs.declared.protocol.MessageKind.TheVariants.{Flush}
-use Rattle.gixp_wire.specs.declared.read.Error.{Error as ReadError}
-use Rattle.gixp_wire.specs.Items.{is_stop}
-use Rattle.gixp_wire.specs.Lines.{Next, gives, stops, refuses, next_from, next_of}
-use Rattle.gixp_wire.specs.Pieces.{Refusal, io, Piece, line, mark, Pieces, no_pieces, with_piece, unexpected_frame}
-use Rattle.gixp_wire.specs.Reading.{Reading, TakesLine, ShowsLine, TakesStop, AtStop, Reads, Faults, Fails, IsPlain, refusal_of, reset_to, Rose}
+use Rattle.gixp_packetline.specs.declared.protocol.Protocol.{Protocol}
+use Rattle.gixp_packetline.specs.declared.protocol.Protocol.TheVariants.{V0, V1}
+use Rattle.gixp_packetline.specs.declared.protocol.MessageKind.{MessageKind}
+use Rattle.gixp_packetline.specs.declared.protocol.MessageKind.TheVariants.{Flush}
+use Rattle.gixp_packetline.specs.declared.read.Error.{Error as ReadError}
+use Rattle.gixp_packetline.specs.Items.{is_stop}
+use Rattle.gixp_packetline.specs.Lines.{Next, gives, stops, refuses, next_from, next_of}
+use Rattle.gixp_packetline.specs.Pieces.{Refusal, io, Piece, line, mark, Pieces, no_pieces, with_piece, unexpected_frame}
+use Rattle.gixp_packetline.specs.Reading.{Reading, TakesLine, ShowsLine, TakesStop, AtStop, Reads, Faults, Fails, IsPlain, refusal_of, reset_to, Rose}
 use Rattle.gixp_response.specs.declared.fetch.response.error.Error.{Error}
 use Rattle.gixp_response.specs.declared.fetch.response.error.Error.TheVariants.{Memory}
 use Rattle.gixp_response.specs.declared.fetch.response.beginnings.Said.{Said}

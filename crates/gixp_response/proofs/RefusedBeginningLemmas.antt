@@ -1,10 +1,10 @@
 -- An answer under versions 0 and 1 is refused exactly where no beginning ends one.
 use Rattle.std.proofs.Common.{◌≡◌, Bool, true, false, cond, List, [], ◌∷◌, ◌++◌, Option, Some, None, refl, sym, ap, subst, ◌∙◌}
-use Rattle.gixp_wire.specs.declared.protocol.Protocol.{Protocol}
-use Rattle.gixp_wire.specs.declared.protocol.MessageKind.{MessageKind}
-use Rattle.gixp_wire.specs.Items.{is_stop}
-use Rattle.gixp_wire.specs.Lines.{gives, stops, refuses, next_from, next_of}
-use Rattle.gixp_wire.specs.Pieces.{Refusal, Piece, line, mark, Pieces, no_pieces, with_piece, unexpected_frame}
+use Rattle.gixp_packetline.specs.declared.protocol.Protocol.{Protocol}
+use Rattle.gixp_packetline.specs.declared.protocol.MessageKind.{MessageKind}
+use Rattle.gixp_packetline.specs.Items.{is_stop}
+use Rattle.gixp_packetline.specs.Lines.{gives, stops, refuses, next_from, next_of}
+use Rattle.gixp_packetline.specs.Pieces.{Refusal, Piece, line, mark, Pieces, no_pieces, with_piece, unexpected_frame}
 use Rattle.gixp_response.specs.ResponseError.{AnswerRefusal, by_reader, from_reader}
 use Rattle.gixp_response.specs.Answer.{Found, refused, front}
 use Rattle.gixp_response.specs.Beginnings.{AnswerItem, line_item, stopped, Expected, ends, unless_ends, beginnings_from, v1_answer}

@@ -1,9 +1,9 @@
 -- A version 2 answer is refused exactly where, behind some sections, a header or an item is refused.
 use Rattle.std.proofs.Common.{◌≡◌, ℕ, List, [], ◌∷◌, ◌++◌, map, Option, Some, None, Result, Ok, Err, refl, sym, ap, ◌∙◌, inl, inr}
 use Rattle.std.specs.Prelude.{◌⊎◌}
-use Rattle.gixp_wire.specs.declared.protocol.MessageKind.{MessageKind}
-use Rattle.gixp_wire.specs.declared.protocol.MessageKind.TheVariants.{Flush, Delimiter, ResponseEnd, Text}
-use Rattle.gixp_wire.specs.Pieces.{Refusal, Piece, line, mark, unexpected_frame}
+use Rattle.gixp_packetline.specs.declared.protocol.MessageKind.{MessageKind}
+use Rattle.gixp_packetline.specs.declared.protocol.MessageKind.TheVariants.{Flush, Delimiter, ResponseEnd, Text}
+use Rattle.gixp_packetline.specs.Pieces.{Refusal, Piece, line, mark, unexpected_frame}
 use Rattle.gixp_response.specs.declared.fetch.response.sections.Section.{Section}
 use Rattle.gixp_response.specs.declared.fetch.response.sections.Header.{Header}
 use Rattle.gixp_response.specs.declared.fetch.response.sections.Header.TheVariants.{Of, Packfile}

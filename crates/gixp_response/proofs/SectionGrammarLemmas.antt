@@ -1,9 +1,9 @@
 -- A version 2 answer is a list of sections, and no other one is.
 use Rattle.std.proofs.Common.{◌≡◌, ℕ, true, false, List, [], ◌∷◌, Option, Some, None, Result, Ok, Err, refl, sym, ap, ◌∙◌, inl, inr}
 use Rattle.std.specs.Prelude.{◌⊎◌}
-use Rattle.gixp_wire.specs.declared.protocol.MessageKind.{MessageKind}
-use Rattle.gixp_wire.specs.declared.protocol.MessageKind.TheVariants.{Flush, Delimiter, ResponseEnd, Text}
-use Rattle.gixp_wire.specs.Pieces.{Refusal, Piece, line, mark, Pieces}
+use Rattle.gixp_packetline.specs.declared.protocol.MessageKind.{MessageKind}
+use Rattle.gixp_packetline.specs.declared.protocol.MessageKind.TheVariants.{Flush, Delimiter, ResponseEnd, Text}
+use Rattle.gixp_packetline.specs.Pieces.{Refusal, Piece, line, mark, Pieces}
 use Rattle.gixp_response.specs.declared.fetch.response.sections.Section.{Section}
 use Rattle.gixp_response.specs.declared.fetch.response.sections.Header.{Header}
 use Rattle.gixp_response.specs.declared.fetch.response.sections.Header.TheVariants.{Of, Packfile}

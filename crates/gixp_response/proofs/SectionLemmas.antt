@@ -2,14 +2,14 @@
 use Rattle.std.proofs.Common.{◌≡◌, ℕ, Bool, true, false, cond, List, [], ◌∷◌, ◌++◌, Option, Some, None, Result, Ok, Err, refl, sym, ap, subst, ◌∙◌, append_assoc, append-nil}
 use Rattle.std.specs.declared.io.ErrorKind.TheVariants.{UnexpectedEof}
 use Rattle.std.specs.Str.{is_utf8}
-use Rattle.gixp_wire.specs.declared.protocol.Protocol.TheVariants.{V2}
-use Rattle.gixp_wire.specs.declared.protocol.MessageKind.{MessageKind}
-use Rattle.gixp_wire.specs.declared.protocol.MessageKind.TheVariants.{Flush, Delimiter, ResponseEnd, Text}
-use Rattle.gixp_wire.specs.declared.read.Error.{Error as ReadError}
-use Rattle.gixp_wire.specs.Items.{is_stop}
-use Rattle.gixp_wire.specs.Lines.{stops, refuses, next_from}
-use Rattle.gixp_wire.specs.Pieces.{Refusal, Piece, line, mark, Pieces, unexpected_frame, not_utf8}
-use Rattle.gixp_wire.specs.Reading.{Reading, TakesLine, AtStop, Fails, IsPlain, refusal_of, reset_to}
+use Rattle.gixp_packetline.specs.declared.protocol.Protocol.TheVariants.{V2}
+use Rattle.gixp_packetline.specs.declared.protocol.MessageKind.{MessageKind}
+use Rattle.gixp_packetline.specs.declared.protocol.MessageKind.TheVariants.{Flush, Delimiter, ResponseEnd, Text}
+use Rattle.gixp_packetline.specs.declared.read.Error.{Error as ReadError}
+use Rattle.gixp_packetline.specs.Items.{is_stop}
+use Rattle.gixp_packetline.specs.Lines.{stops, refuses, next_from}
+use Rattle.gixp_packetline.specs.Pieces.{Refusal, Piece, line, mark, Pieces, unexpected_frame, not_utf8}
+use Rattle.gixp_packetline.specs.Reading.{Reading, TakesLine, AtStop, Fails, IsPlain, refusal_of, reset_to}
 use Rattle.gixp_response.specs.declared.fetch.response.error.Error.{Error}
 use Rattle.gixp_response.specs.declared.fetch.response.error.Error.TheVariants.{Io, Memory}
 use Rattle.gixp_response.specs.declared.fetch.response.sections.Section.{Section}

@@ -3,7 +3,7 @@ use Rattle.std.specs.Prelude.{Bool, true, false, List, [], ◌∷◌, ◌++◌, 
 use Rattle.std.specs.Prelude.{Vec}
 use Rattle.std.specs.declared.alloc.Global.{Global}
 use Rattle.std.specs.declared.io.ErrorKind.TheVariants.{UnexpectedEof}
-use Rattle.gixp_wire.specs.Pieces.{Piece, Pieces, not_utf8}
+use Rattle.gixp_packetline.specs.Pieces.{Piece, Pieces, not_utf8}
 use Rattle.gixp_response.specs.declared.fetch.response.line.Acknowledgement.{Acknowledgement}
 use Rattle.gixp_response.specs.declared.fetch.response.line.ShallowUpdate.{ShallowUpdate}
 use Rattle.gixp_response.specs.AnswerLine.{WantedValue}

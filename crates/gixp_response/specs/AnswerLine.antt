@@ -4,10 +4,10 @@ use Rattle.std.specs.Option.{option_map}
 use Rattle.std.specs.Char.{is_whitespace}
 use Rattle.bstr.specs.Trim.{trim_end_by}
 use Rattle.bstr.specs.Owned.{bstring_bytes}
-use Rattle.gixp_wire.specs.declared.object_id.ObjectId.{ObjectId}
-use Rattle.gixp_wire.specs.ObjectId.{id_of}
-use Rattle.gixp_wire.specs.Cut.{cut}
-use Rattle.gixp_wire.specs.Capabilities.{is_text}
+use Rattle.gixp_hash.specs.declared.object_id.ObjectId.{ObjectId}
+use Rattle.gixp_hash.specs.ObjectId.{id_of}
+use Rattle.gixp_capabilities.specs.Cut.{cut}
+use Rattle.gixp_capabilities.specs.Capabilities.{is_text}
 use Rattle.gixp_response.specs.declared.fetch.response.line.Acknowledgement.{Acknowledgement}
 use Rattle.gixp_response.specs.declared.fetch.response.line.Acknowledgement.TheVariants.{Common, Ready, Nak}
 use Rattle.gixp_response.specs.declared.fetch.response.line.ShallowUpdate.{ShallowUpdate}

@@ -1,12 +1,12 @@
 -- What the reading of an answer does to its reader.
 use Rattle.std.specs.Prelude.{◌≡◌, ◌⊎◌, Bool, true, false, Option, Some, None, IfSome, List, [], ◌∷◌, Result, Ok, Err}
 use Rattle.std.specs.declared.io.ErrorKind.TheVariants.{UnexpectedEof}
-use Rattle.gixp_wire.specs.declared.protocol.MessageKind.{MessageKind}
-use Rattle.gixp_wire.specs.declared.protocol.MessageKind.TheVariants.{Flush}
-use Rattle.gixp_wire.specs.declared.protocol.Protocol.{Protocol}
-use Rattle.gixp_wire.specs.declared.protocol.Protocol.TheVariants.{V0, V1, V2}
-use Rattle.gixp_wire.specs.Pieces.{io, Piece, line, mark, Pieces, no_pieces}
-use Rattle.gixp_wire.specs.Reading.{Reading, BreaksOff, Rose}
+use Rattle.gixp_packetline.specs.declared.protocol.MessageKind.{MessageKind}
+use Rattle.gixp_packetline.specs.declared.protocol.MessageKind.TheVariants.{Flush}
+use Rattle.gixp_packetline.specs.declared.protocol.Protocol.{Protocol}
+use Rattle.gixp_packetline.specs.declared.protocol.Protocol.TheVariants.{V0, V1, V2}
+use Rattle.gixp_packetline.specs.Pieces.{io, Piece, line, mark, Pieces, no_pieces}
+use Rattle.gixp_packetline.specs.Reading.{Reading, BreaksOff, Rose}
 use Rattle.gixp_response.specs.declared.fetch.response.error.Error.{Error}
 use Rattle.gixp_response.specs.declared.fetch.response.error.Error.TheVariants.{Memory}
 use Rattle.gixp_response.specs.ReadFails.{ReadFails}

@@ -1,9 +1,9 @@
 -- An answer under versions 0 and 1 as a relation: a beginning that ends one, and no shorter one does (gitprotocol-pack, "Packfile Negotiation").
 use Rattle.std.specs.Prelude.{◌≡◌, ⊤, Bool, true, List, [], ◌∷◌, ◌++◌, Option, Some, None}
-use Rattle.gixp_wire.specs.declared.protocol.Protocol.{Protocol}
-use Rattle.gixp_wire.specs.Items.{is_stop}
-use Rattle.gixp_wire.specs.Lines.{refuses, next_of}
-use Rattle.gixp_wire.specs.Pieces.{Refusal, Piece, line, mark, Pieces}
+use Rattle.gixp_packetline.specs.declared.protocol.Protocol.{Protocol}
+use Rattle.gixp_packetline.specs.Items.{is_stop}
+use Rattle.gixp_packetline.specs.Lines.{refuses, next_of}
+use Rattle.gixp_packetline.specs.Pieces.{Refusal, Piece, line, mark, Pieces}
 use Rattle.gixp_response.specs.ResponseError.{AnswerRefusal, from_reader}
 use Rattle.gixp_response.specs.Answer.{AnswerValue, front}
 use Rattle.gixp_response.specs.Beginnings.{AnswerItem, line_item, stopped, Expected, ends, said_in}

@@ -4,13 +4,13 @@ use Rattle.std.specs.List.{list_any}
 use Rattle.std.specs.BTreeSet.{BTreeSet, contains}
 use Rattle.std.specs.Str.{is_utf8}
 use Rattle.std.specs.declared.io.ErrorKind.TheVariants.{UnexpectedEof}
-use Rattle.gixp_wire.specs.declared.object_id.ObjectId.{ObjectId}
-use Rattle.gixp_wire.specs.declared.protocol.Protocol.{Protocol}
-use Rattle.gixp_wire.specs.Items.{is_stop}
-use Rattle.gixp_wire.specs.ObjectId.{id_cmp}
-use Rattle.gixp_wire.specs.Lines.{Next, gives, stops, refuses}
-use Rattle.gixp_wire.specs.Pieces.{Refusal, io, Piece, line, mark, Pieces, no_pieces, unexpected_frame}
-use Rattle.gixp_wire.specs.Capabilities.{is_text}
+use Rattle.gixp_hash.specs.declared.object_id.ObjectId.{ObjectId}
+use Rattle.gixp_packetline.specs.declared.protocol.Protocol.{Protocol}
+use Rattle.gixp_packetline.specs.Items.{is_stop}
+use Rattle.gixp_hash.specs.ObjectId.{id_cmp}
+use Rattle.gixp_packetline.specs.Lines.{Next, gives, stops, refuses}
+use Rattle.gixp_packetline.specs.Pieces.{Refusal, io, Piece, line, mark, Pieces, no_pieces, unexpected_frame}
+use Rattle.gixp_capabilities.specs.Capabilities.{is_text}
 use Rattle.gixp_response.specs.AnswerLine.{acknowledgement_line, shallow_update_line}
 use Rattle.gixp_response.specs.ResponseError.{by_reader, from_reader}
 use Rattle.gixp_response.specs.Answer.{AnswerValue, Found, whole, refused}

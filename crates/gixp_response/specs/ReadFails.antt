@@ -1,7 +1,7 @@
 -- Why a call that reads lines returns an error: one list of cases, whatever the lines say.
 use Rattle.std.specs.Prelude.{◌≡◌, ◌⊎◌, Bool, true, false, None, IfSome}
-use Rattle.gixp_wire.specs.Pieces.{Refusal, Pieces}
-use Rattle.gixp_wire.specs.Reading.{Reading, Refuses, IsOutside, IsPlain}
+use Rattle.gixp_packetline.specs.Pieces.{Refusal, Pieces}
+use Rattle.gixp_packetline.specs.Reading.{Reading, Refuses, IsOutside, IsPlain}
 
 -- errors, and the refusals that they are compared by
 pub record Errors (E R : Type 0) : Type 0 where

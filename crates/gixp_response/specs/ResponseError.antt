@@ -2,10 +2,10 @@
 use Rattle.std.specs.Prelude.{◌≡◌, ℕ, Bool, true, false, List, codes, Option, Some, None, Result, Ok, Err, string_bytes}
 use Rattle.std.specs.declared.io.ErrorKind.{ErrorKind}
 use Rattle.bstr.specs.Owned.{bstring_bytes}
-use Rattle.gixp_wire.specs.Pieces.{Refusal, io, server, memory}
-use Rattle.gixp_wire.specs.Reading.{refusal_of}
+use Rattle.gixp_packetline.specs.Pieces.{Refusal, io, server, memory}
+use Rattle.gixp_packetline.specs.Reading.{refusal_of}
 use Rattle.gixp_wire.specs.Spurious.{is_spurious_kind, is_spurious_read, is_spurious_client}
-use Rattle.gixp_wire.specs.Client.{ClientRefusal, no_memory as client_no_memory, client_refusal}
+use Rattle.gixp_capabilities.specs.Client.{ClientRefusal, no_memory as client_no_memory, client_refusal}
 use Rattle.gixp_response.specs.ReadFails.{Errors}
 use Rattle.gixp_response.specs.declared.fetch.response.error.Error.{Error}
 use Rattle.gixp_response.specs.declared.fetch.response.error.Error.TheVariants.{Io, UploadPack, Transport, MissingServerCapability, UnknownLineType, UnknownSectionHeader, Reader, Memory}

@@ -1,8 +1,8 @@
 -- What a run of calls that read lines has done.
 use Rattle.std.specs.Prelude.{◌≡◌, ℕ, List, Some, IfSome}
-use Rattle.gixp_wire.specs.Pieces.{Pieces}
-use Rattle.gixp_wire.specs.Lines.{before}
-use Rattle.gixp_wire.specs.Reading.{Reading, lines_ahead}
+use Rattle.gixp_packetline.specs.Pieces.{Pieces}
+use Rattle.gixp_packetline.specs.Lines.{before}
+use Rattle.gixp_packetline.specs.Reading.{Reading, lines_ahead}
 
 -- these lines were read so far, and nothing else happened
 pub record SoFar (old now : Reading) (texts : List (List ℕ)) : Type 0 where

@@ -1,10 +1,10 @@
 -- A version 2 answer as a grammar: which pieces are a list of sections, and what they say (gitprotocol-v2, "fetch").
 use Rattle.std.specs.Prelude.{◌≡◌, ◌⊎◌, ℕ, ⊤, true, false, List, [], ◌∷◌, ◌++◌, map, Ok, Err}
-use Rattle.gixp_wire.specs.declared.protocol.Protocol.TheVariants.{V2}
-use Rattle.gixp_wire.specs.declared.protocol.MessageKind.{MessageKind}
-use Rattle.gixp_wire.specs.declared.protocol.MessageKind.TheVariants.{Flush, Delimiter}
-use Rattle.gixp_wire.specs.Items.{is_stop}
-use Rattle.gixp_wire.specs.Pieces.{Refusal, Piece, line, mark, unexpected_frame}
+use Rattle.gixp_packetline.specs.declared.protocol.Protocol.TheVariants.{V2}
+use Rattle.gixp_packetline.specs.declared.protocol.MessageKind.{MessageKind}
+use Rattle.gixp_packetline.specs.declared.protocol.MessageKind.TheVariants.{Flush, Delimiter}
+use Rattle.gixp_packetline.specs.Items.{is_stop}
+use Rattle.gixp_packetline.specs.Pieces.{Refusal, Piece, line, mark, unexpected_frame}
 use Rattle.gixp_response.specs.declared.fetch.response.sections.Section.{Section}
 use Rattle.gixp_response.specs.declared.fetch.response.sections.Header.TheVariants.{Of, Packfile}
 use Rattle.gixp_response.specs.ResponseError.{AnswerRefusal, by_reader, from_reader}

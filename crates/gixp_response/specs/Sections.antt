@@ -3,12 +3,12 @@ use Rattle.std.specs.Prelude.{ℕ, Bool, true, false, if◌then◌else◌, List,
 use Rattle.std.specs.Option.{option_map}
 use Rattle.std.specs.Str.{is_utf8}
 use Rattle.std.specs.declared.io.ErrorKind.TheVariants.{UnexpectedEof}
-use Rattle.gixp_wire.specs.declared.protocol.Protocol.TheVariants.{V2}
-use Rattle.gixp_wire.specs.declared.protocol.MessageKind.{MessageKind}
-use Rattle.gixp_wire.specs.declared.protocol.MessageKind.TheVariants.{Flush, Delimiter}
-use Rattle.gixp_wire.specs.Items.{is_stop}
-use Rattle.gixp_wire.specs.Pieces.{Refusal, Piece, line, mark, Pieces, unexpected_frame, not_utf8}
-use Rattle.gixp_wire.specs.Capabilities.{is_text}
+use Rattle.gixp_packetline.specs.declared.protocol.Protocol.TheVariants.{V2}
+use Rattle.gixp_packetline.specs.declared.protocol.MessageKind.{MessageKind}
+use Rattle.gixp_packetline.specs.declared.protocol.MessageKind.TheVariants.{Flush, Delimiter}
+use Rattle.gixp_packetline.specs.Items.{is_stop}
+use Rattle.gixp_packetline.specs.Pieces.{Refusal, Piece, line, mark, Pieces, unexpected_frame, not_utf8}
+use Rattle.gixp_capabilities.specs.Capabilities.{is_text}
 use Rattle.gixp_response.specs.AnswerLine.{trimmed, acknowledgement_line, shallow_update_line, wanted_ref_line}
 use Rattle.gixp_response.specs.ResponseError.{AnswerRefusal, io_failed, unknown_line, unknown_header, by_reader, from_reader}
 use Rattle.gixp_response.specs.Answer.{AnswerValue, no_more, of_acknowledgement, of_update, of_wanted, Found, whole, refused, in_front}

@@ -1,10 +1,10 @@
 //! Laws of the definitions, each a function without a body whose contract is the law.
 ghost use Rattle.std.specs.Prelude.{◌≡◌, List};
-ghost use Rattle.gixp_wire.specs.Pieces.{Refusal, Piece, Pieces};
+ghost use Rattle.gixp_packetline.specs.Pieces.{Refusal, Piece, Pieces};
 ghost use Rattle.gixp_response.specs.ResponseError.{AnswerRefusal};
 ghost use Rattle.gixp_response.specs.Answer.{AnswerValue, whole, refused};
 ghost use Rattle.gixp_response.specs.Sections.{v2_answer};
-ghost use Rattle.gixp_wire.specs.declared.protocol.Protocol.{Protocol};
+ghost use Rattle.gixp_packetline.specs.declared.protocol.Protocol.{Protocol};
 ghost use Rattle.gixp_response.specs.Beginnings.{Expected, v1_answer};
 ghost use Rattle.gixp_response.specs.BeginningGrammar.{IsShortest, IsRefused};
 ghost use Rattle.gixp_response.specs.SectionGrammar.{SectionText, Last, AreSections, said_by, AreRefused};

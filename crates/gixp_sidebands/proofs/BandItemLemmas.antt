@@ -1,13 +1,13 @@
 -- Content and messages among banded items.
 use Rattle.std.proofs.Common.{◌≡◌, ℕ, Bool, true, false, cond, eqb, List, [], ◌∷◌, ◌++◌, length, drop, refl, sym, ap, ◌∙◌, arith, ne_eqb, Option, Some, None, Result, Ok, Err}
 use Rattle.std.specs.Io.BufRead.{strip_last}
-use Rattle.gixp_wire.specs.declared.protocol.Protocol.{Protocol}
-use Rattle.gixp_wire.specs.declared.protocol.MessageKind.{MessageKind}
+use Rattle.gixp_packetline.specs.declared.protocol.Protocol.{Protocol}
+use Rattle.gixp_packetline.specs.declared.protocol.MessageKind.{MessageKind}
 use Rattle.gixp_sidebands.specs.declared.sidebands.band.Band.{Band}
 use Rattle.gixp_sidebands.specs.declared.sidebands.band.Band.TheVariants.{Empty, Content, Text, Unknown}
-use Rattle.gixp_wire.specs.Pieces.{Refusal, bad_band, unexpected_frame, Piece, line, mark, Pieces}
-use Rattle.gixp_wire.specs.Items.{is_stop, plain, banded, Item, line_item, text_item, stop_item, item_of, unless_empty, Items, with_found, items_from, items_of, with_item, no_items, first_lines}
-use Rattle.gixp_wire.specs.Lines.{lines_of, lines_from, no_lines, stop, refusal}
+use Rattle.gixp_packetline.specs.Pieces.{Refusal, bad_band, unexpected_frame, Piece, line, mark, Pieces}
+use Rattle.gixp_packetline.specs.Items.{is_stop, plain, banded, Item, line_item, text_item, stop_item, item_of, unless_empty, Items, with_found, items_from, items_of, with_item, no_items, first_lines}
+use Rattle.gixp_packetline.specs.Lines.{lines_of, lines_from, no_lines, stop, refusal}
 use Rattle.gixp_sidebands.specs.Bands.{band_of, unband_line, unband_from, content_from, Message, messages_line, messages_from, joined, heard_before, heard, first_texts, without_texts}
 
 -- what a line adds, by its band

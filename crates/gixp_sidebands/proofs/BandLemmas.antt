@@ -3,15 +3,15 @@ use Rattle.std.proofs.Common.{◌≡◌, ℕ, ◌≤◌, ◌⊎◌, inl, inr, Bo
 use Rattle.std.specs.Prelude.{◌&&◌}
 use Rattle.std.specs.Option.{option_map}
 use Rattle.std.specs.Borrow.{GName}
-use Rattle.gixp_wire.specs.declared.protocol.Protocol.{Protocol}
-use Rattle.gixp_wire.specs.declared.protocol.MessageKind.{MessageKind}
+use Rattle.gixp_packetline.specs.declared.protocol.Protocol.{Protocol}
+use Rattle.gixp_packetline.specs.declared.protocol.MessageKind.{MessageKind}
 use Rattle.gixp_sidebands.specs.declared.sidebands.band.Band.{Band}
 use Rattle.gixp_sidebands.specs.declared.sidebands.band.Band.TheVariants.{Empty, Content, Text, Unknown}
-use Rattle.gixp_wire.specs.Pieces.{Refusal, io, decode, server, unexpected_frame, not_utf8, bad_band, interrupted, memory, Piece, line, mark, Pieces, no_pieces, with_piece}
-use Rattle.gixp_wire.specs.Items.{is_stop}
-use Rattle.gixp_wire.specs.Lines.{gives, stops, refuses, next_from, next_of}
-use Rattle.gixp_wire.specs.TransportState.{TransportState}
-use Rattle.gixp_wire.specs.Reading.{Reading, TakesLine, ShowsLine, AtStop, Refuses, Faults, Fails, Stays, IsFault, Rose}
+use Rattle.gixp_packetline.specs.Pieces.{Refusal, io, decode, server, unexpected_frame, not_utf8, bad_band, interrupted, memory, Piece, line, mark, Pieces, no_pieces, with_piece}
+use Rattle.gixp_packetline.specs.Items.{is_stop}
+use Rattle.gixp_packetline.specs.Lines.{gives, stops, refuses, next_from, next_of}
+use Rattle.gixp_packetline.specs.TransportState.{TransportState}
+use Rattle.gixp_packetline.specs.Reading.{Reading, TakesLine, ShowsLine, AtStop, Refuses, Faults, Fails, Stays, IsFault, Rose}
 use Rattle.gixp_sidebands.specs.Bands.{band_of, is_content, band_refusal, IsPassed, unband_line, unband_from, unband, unband_behind, banded_reading, is_begun}
 use Rattle.gixp_sidebands.proofs.PieceLemmas.{mark_not_gives}
 

@@ -1,8 +1,8 @@
 -- Where the next line of a stream stands.
 use Rattle.std.proofs.Common.{◌≡◌, Bool, true, false, cond, List, ℕ}
-use Rattle.gixp_wire.specs.declared.protocol.MessageKind.{MessageKind}
-use Rattle.gixp_wire.specs.Pieces.{Refusal, Pieces}
-use Rattle.gixp_wire.specs.Lines.{gives, stops, refuses}
+use Rattle.gixp_packetline.specs.declared.protocol.MessageKind.{MessageKind}
+use Rattle.gixp_packetline.specs.Pieces.{Refusal, Pieces}
+use Rattle.gixp_packetline.specs.Lines.{gives, stops, refuses}
 
 pub mark_not_gives : (b : Bool) (kind : MessageKind) (p q : Pieces) (e : Refusal) (text : List ℕ) → cond b (stops kind p) (refuses e) ≡ gives text q → ⊥
 mark_not_gives true kind p q e text h = cc

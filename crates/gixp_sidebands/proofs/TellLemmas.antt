@@ -2,15 +2,15 @@
 use Rattle.std.proofs.Common.{◌≡◌, ℕ, inl, inr, Bool, true, false, List, [], ◌∷◌, ◌++◌, refl, sym, ap, subst, ◌∙◌, Option, Some, None, IfSome, IsSome, Err, append_assoc}
 use Rattle.std.specs.declared.io.ErrorKind.{ErrorKind}
 use Rattle.std.specs.declared.io.ErrorKind.TheVariants.{UnexpectedEof}
-use Rattle.gixp_wire.specs.declared.protocol.Protocol.{Protocol}
-use Rattle.gixp_wire.specs.declared.protocol.MessageKind.{MessageKind}
+use Rattle.gixp_packetline.specs.declared.protocol.Protocol.{Protocol}
+use Rattle.gixp_packetline.specs.declared.protocol.MessageKind.{MessageKind}
 use Rattle.gixp_sidebands.specs.declared.sidebands.band.Band.TheVariants.{Empty, Content, Text}
-use Rattle.gixp_wire.specs.declared.read.Error.{Error}
-use Rattle.gixp_wire.specs.declared.read.Error.TheVariants.{Io, Decode, Server, UnexpectedFrame, NotUtf8, BadBand, Interrupted, Memory}
-use Rattle.gixp_wire.specs.Pieces.{Refusal, io, decode, server, unexpected_frame, not_utf8, bad_band, interrupted, memory, Piece, line, mark, Pieces, no_pieces}
-use Rattle.gixp_wire.specs.Items.{is_stop}
-use Rattle.gixp_wire.specs.Lines.{gives, stops, refuses, next_from, next_of}
-use Rattle.gixp_wire.specs.Reading.{Reading, TakesLine, ShowsLine, AtStop, Refuses, Fails, Stays, IsPlain, Rose, refusal_of, is_end}
+use Rattle.gixp_packetline.specs.declared.read.Error.{Error}
+use Rattle.gixp_packetline.specs.declared.read.Error.TheVariants.{Io, Decode, Server, UnexpectedFrame, NotUtf8, BadBand, Interrupted, Memory}
+use Rattle.gixp_packetline.specs.Pieces.{Refusal, io, decode, server, unexpected_frame, not_utf8, bad_band, interrupted, memory, Piece, line, mark, Pieces, no_pieces}
+use Rattle.gixp_packetline.specs.Items.{is_stop}
+use Rattle.gixp_packetline.specs.Lines.{gives, stops, refuses, next_from, next_of}
+use Rattle.gixp_packetline.specs.Reading.{Reading, TakesLine, ShowsLine, AtStop, Refuses, Fails, Stays, IsPlain, Rose, refusal_of, is_end}
 use Rattle.gixp_sidebands.specs.Bands.{band_of, Message, message_in, messages_line, messages_from, messages_of, messages_left, is_held, is_begun}
 use Rattle.gixp_sidebands.specs.Telling.{Listener, TellsThen, Tells, ToldTo, ToldUnless, ToldBy, Told, TellsPacket}
 use Rattle.gixp_sidebands.proofs.PieceLemmas.{mark_not_gives}

@@ -5,13 +5,13 @@ use Rattle.std.specs.Borrow.{GName, Bor}
 use Rattle.std.specs.Io.BufRead.{strip_last}
 use Rattle.std.specs.declared.io.ErrorKind.{ErrorKind}
 use Rattle.std.specs.declared.io.ErrorKind.TheVariants.{OutOfMemory, Other, InvalidData}
-use Rattle.gixp_wire.specs.declared.protocol.MessageKind.{MessageKind}
+use Rattle.gixp_packetline.specs.declared.protocol.MessageKind.{MessageKind}
 use Rattle.gixp_sidebands.specs.declared.sidebands.band.Band.{Band}
 use Rattle.gixp_sidebands.specs.declared.sidebands.band.Band.TheVariants.{Empty, Content, Text, Unknown}
-use Rattle.gixp_wire.specs.Pieces.{Refusal, io, bad_band, interrupted, memory, Piece, line, mark, Pieces, no_pieces, with_piece}
-use Rattle.gixp_wire.specs.Items.{Item, line_item, text_item, stop_item, Items}
-use Rattle.gixp_wire.specs.declared.read.Error.{Error}
-use Rattle.gixp_wire.specs.Reading.{Reading, AtStop, Refuses, Faults, Fails}
+use Rattle.gixp_packetline.specs.Pieces.{Refusal, io, bad_band, interrupted, memory, Piece, line, mark, Pieces, no_pieces, with_piece}
+use Rattle.gixp_packetline.specs.Items.{Item, line_item, text_item, stop_item, Items}
+use Rattle.gixp_packetline.specs.declared.read.Error.{Error}
+use Rattle.gixp_packetline.specs.Reading.{Reading, AtStop, Refuses, Faults, Fails}
 use Rattle.std.specs.IoError.{error_kind}
 use Rattle.std.specs.declared.io.Error.{Error as io_error}
 

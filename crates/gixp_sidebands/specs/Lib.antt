@@ -1,8 +1,8 @@
-pub use Rattle.gixp_wire.specs.TransportState
-pub use Rattle.gixp_wire.specs.Items
-pub use Rattle.gixp_wire.specs.Lines
-pub use Rattle.gixp_wire.specs.Pieces
-pub use Rattle.gixp_wire.specs.Reading
+pub use Rattle.gixp_packetline.specs.TransportState
+pub use Rattle.gixp_packetline.specs.Items
+pub use Rattle.gixp_packetline.specs.Lines
+pub use Rattle.gixp_packetline.specs.Pieces
+pub use Rattle.gixp_packetline.specs.Reading
 pub mod Bands
 pub mod Telling
 pub mod Sidebands

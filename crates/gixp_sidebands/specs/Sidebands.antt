@@ -3,9 +3,9 @@ use Rattle.std.specs.Prelude.{◌≡◌, ℕ, Bool, List, Option, Result}
 use Rattle.std.specs.Borrow.{Bor}
 use Rattle.std.specs.Option.{option_map}
 use Rattle.std.specs.declared.io.Error.{Error as io_error}
-use Rattle.gixp_wire.specs.declared.read.Error.{Error}
+use Rattle.gixp_packetline.specs.declared.read.Error.{Error}
 use Rattle.gixp_sidebands.specs.declared.sidebands.WithSidebands.{WithSidebands}
-use Rattle.gixp_wire.specs.Reading.{Reading, PeeksLent, ReadsLent, refusal_of}
+use Rattle.gixp_packetline.specs.Reading.{Reading, PeeksLent, ReadsLent, refusal_of}
 use Rattle.gixp_sidebands.specs.Bands.{Side, FillsLent, side_reading}
 use Rattle.gixp_sidebands.specs.Telling.{Listener, Told, refusal_in}
 

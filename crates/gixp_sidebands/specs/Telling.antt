@@ -1,9 +1,9 @@
 -- To whom bands 2 and 3 are told, and who is asked behind each of their packets (gitprotocol-pack, "Packfile Data").
 use Rattle.std.specs.Prelude.{◌≡◌, ℕ, ◌⊎◌, Bool, true, false, List, [], ◌∷◌, ◌++◌, Option, Some, None, IfSome, Result, Ok, Err}
-use Rattle.gixp_wire.specs.declared.read.Error.{Error}
-use Rattle.gixp_wire.specs.declared.read.Error.TheVariants.{Interrupted, Memory}
-use Rattle.gixp_wire.specs.Pieces.{Refusal, io, memory, interrupted, Pieces}
-use Rattle.gixp_wire.specs.Reading.{Reading, TakesLine, Rose, refusal_of, is_end}
+use Rattle.gixp_packetline.specs.declared.read.Error.{Error}
+use Rattle.gixp_packetline.specs.declared.read.Error.TheVariants.{Interrupted, Memory}
+use Rattle.gixp_packetline.specs.Pieces.{Refusal, io, memory, interrupted, Pieces}
+use Rattle.gixp_packetline.specs.Reading.{Reading, TakesLine, Rose, refusal_of, is_end}
 use Rattle.gixp_sidebands.specs.Bands.{Message, messages_left}
 
 -- the listener and the interrupt, as a call leaves them

@@ -1,9 +1,9 @@
 //! Laws of the definitions, each a function without a body whose contract is the law.
 ghost use Rattle.std.specs.Prelude.{◌≡◌};
-ghost use Rattle.gixp_wire.specs.Pieces.{Pieces};
-ghost use Rattle.gixp_wire.specs.Items.{plain, banded, items_of, first_lines};
-ghost use Rattle.gixp_wire.specs.Lines.{lines_of};
-ghost use Rattle.gixp_wire.specs.declared.protocol.Protocol.{Protocol};
+ghost use Rattle.gixp_packetline.specs.Pieces.{Pieces};
+ghost use Rattle.gixp_packetline.specs.Items.{plain, banded, items_of, first_lines};
+ghost use Rattle.gixp_packetline.specs.Lines.{lines_of};
+ghost use Rattle.gixp_packetline.specs.declared.protocol.Protocol.{Protocol};
 ghost use Rattle.gixp_sidebands.specs.Bands.{unband, content_of, messages_of, joined, heard, first_texts, without_texts};
 
 /// The lines of the content are those among the stream's banded items before their first stop.

@@ -6,7 +6,7 @@ ghost use Rattle.std.specs.Io.KnownBytes.{ReadConsumes};
 ghost use Rattle.std.specs.Io.BufRead.{DropsConsumable, FillKeeps, Rests};
 ghost use types.Logic.{sem};
 ghost use mir.Syntax.{named};
-ghost use Rattle.gixp_wire.specs.Reading.{Reading, Reads, Peeks, ReadsLent, PeeksLent, PlainIf, TakesLine, refusal_of};
+ghost use Rattle.gixp_packetline.specs.Reading.{Reading, Reads, Peeks, ReadsLent, PeeksLent, PlainIf, TakesLine, refusal_of};
 ghost use Rattle.gixp_sidebands.specs.Bands.{Fills, ShowsFirst, ReadsContent, ReadsBytes, KeepsMessages, is_begun, place_after, shown, message_in, io_kind};
 ghost use Rattle.gixp_sidebands.specs.Telling.{Told, TellsPacket, refusal_in};
 
@@ -16,8 +16,8 @@ mod interrupt;
 
 use band::{Band, band_of, without_line_end};
 use front::Front;
-use gixp_wire::read::{Error, ExtendedBufRead};
-use gixp_wire::{MessageKind, Protocol};
+use gixp_packetline::read::{Error, ExtendedBufRead};
+use gixp_packetline::{MessageKind, Protocol};
 pub use interrupt::{Interrupt, InterruptFlag, NeverInterrupt};
 use std::alloc::AllocError;
 use std::io;

@@ -1,7 +1,7 @@
 //! Readers of bands: the interrupt of a caller's flag, and what stands in a transport that is given back.
 use crate::devices::Device;
+use gixp_packetline::{ExtendedBufRead, LineReader};
 use gixp_sidebands::{BandText, InterruptFlag, NeverInterrupt, WithSidebands};
-use gixp_wire::{ExtendedBufRead, LineReader};
 use std::alloc::{AllocError, Global};
 use std::cell::Cell;
 use std::io;

@@ -1,7 +1,10 @@
 //! Texts of errors, which of them are spurious, and names.
 use bstr::BString;
-use gixp_wire::read::Error as ReadError;
-use gixp_wire::{Account, IsSpuriousError, Opening, PacketError, Service, client, decode};
+use gixp_capabilities::client;
+use gixp_hash::decode;
+use gixp_packetline::PacketError;
+use gixp_packetline::read::Error as ReadError;
+use gixp_wire::{Account, IsSpuriousError, Opening, Service};
 use std::alloc::{AllocError, Global};
 use std::fmt::Display;
 use std::io::ErrorKind;

@@ -1,7 +1,8 @@
 //! Line readers over devices that fail, and ids.
 use crate::devices::Device;
-use gixp_wire::read::ExtendedBufRead;
-use gixp_wire::{Frame, Kind, LineReader, MessageKind, ObjectId, Protocol};
+use gixp_hash::{Kind, ObjectId};
+use gixp_packetline::read::ExtendedBufRead;
+use gixp_packetline::{Frame, LineReader, MessageKind, Protocol};
 use std::alloc::{AllocError, Global};
 use std::io::ErrorKind;
 use std::test::Fail;

@@ -1,18 +1,18 @@
 //! Transports over devices that fail, bodies that fail, and a caller over any transport.
 ghost use Rattle.std.specs.Prelude.{◌≡◌, [], IfOk, Ok};
-ghost use Rattle.gixp_wire.specs.FrameText.{texts_of};
+ghost use Rattle.gixp_packetline.specs.FrameText.{texts_of};
 ghost use Rattle.gixp_wire.specs.Message.{command_frames};
-ghost use Rattle.gixp_wire.specs.Reading.{Reading, Reads};
+ghost use Rattle.gixp_packetline.specs.Reading.{Reading, Reads};
 ghost use Rattle.gixp_wire.specs.Transport.{SentBy};
 
 use crate::devices::{Device, Paper};
 use crate::readers::read_all;
 use bstr::BString;
-use gixp_wire::client::Error;
-use gixp_wire::read::ExtendedBufRead;
+use gixp_capabilities::client::Error;
+use gixp_packetline::read::ExtendedBufRead;
+use gixp_packetline::{MessageKind, Protocol};
 use gixp_wire::{
-    Account, Bodies, Body, Connection, Message, MessageKind, Protocol, Service, SetServiceResponse,
-    Transport,
+    Account, Bodies, Body, Connection, Message, Service, SetServiceResponse, Transport,
 };
 use std::alloc::{AllocError, Global};
 use std::io::ErrorKind;

@@ -3,8 +3,8 @@ ghost use Rattle.std.specs.Prelude.{None};
 ghost use Rattle.gixp_fetch.specs.Consume.{Copies, copies_owes};
 
 use crate::consume::ConsumePack;
+use gixp_packetline::ExtendedBufRead;
 use gixp_sidebands::{BandText, Interrupt, WithSidebands};
-use gixp_wire::ExtendedBufRead;
 use std::io::{BufRead, ErrorKind, Write};
 use thiserror::Error as DeriveError;
 

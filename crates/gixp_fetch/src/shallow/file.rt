@@ -4,7 +4,7 @@ ghost use Rattle.gixp_fetch.specs.Store.{HasFailed, IsStoreRefusal};
 ghost use Rattle.gixp_fetch.specs.ShallowFile.{IsKept, Turns};
 
 use crate::shallow::{ShallowError, ShallowStore, shallow_ids, shallow_text};
-use gixp_wire::ObjectId;
+use gixp_hash::ObjectId;
 use std::alloc::{AllocError, Global};
 use std::fs;
 use std::fs::{File, OpenOptions};
@@ -193,7 +193,7 @@ impl<'a, F: Files> ShallowFile<'a, F> {
 impl<'a, F: Files> ShallowStore for ShallowFile<'a, F> {
     ghost use Rattle.std.specs.Prelude.{◌≡◌, true, false};
     ghost use Rattle.std.specs.List.Sorted.{IsStrictlySortedBy};
-    ghost use Rattle.gixp_wire.specs.ObjectId.{id_cmp};
+    ghost use Rattle.gixp_hash.specs.ObjectId.{id_cmp};
     ghost use Rattle.gixp_fetch.specs.ShallowFile.{IsKept, Turns};
 
     ghost failures = { λ s. s.failures };

@@ -6,7 +6,7 @@ ghost use Rattle.gixp_fetch.specs.ShallowText.{lines, text_of, IsTextOf, IsIdOf,
 use crate::boundary::sorted_ids;
 use crate::shallow::ShallowError;
 use bstr::BString;
-use gixp_wire::ObjectId;
+use gixp_hash::ObjectId;
 use std::alloc::{AllocError, Global};
 
 /// The text of a shallow boundary, as git keeps it: a line for each id, of 40 lower-case digits and

@@ -3,7 +3,7 @@ ghost use Rattle.std.specs.Prelude.{◌≡◌, [], OnOk, OnErr};
 ghost use Rattle.gixp_negotiate.specs.Rounds.{keeping};
 ghost use Rattle.gixp_negotiate.specs.Distinct.{IsIndex};
 
-use gixp_wire::ObjectId;
+use gixp_hash::ObjectId;
 use std::alloc::{AllocError, Global};
 use std::collections::BTreeSet;
 use std::marker::Model;
@@ -19,7 +19,7 @@ pub(crate) struct DistinctIds {
 
 impl Model for DistinctIds {
     ghost use Rattle.std.specs.Prelude.{List};
-    ghost use Rattle.gixp_wire.specs.declared.object_id.ObjectId.{ObjectId};
+    ghost use Rattle.gixp_hash.specs.declared.object_id.ObjectId.{ObjectId};
     ghost use Rattle.gixp_negotiate.specs.Distinct.{IsIndex};
 
     ghost Value = { List ObjectId };

@@ -10,12 +10,12 @@ ghost use Rattle.gixp_refmap.specs.RefMapItems.{HasItem, HasRemote};
 
 use crate::refmap::init::Error;
 use crate::refmap::mapping::{Mapping, Source, SpecIndex, copy_of};
-use gixp_refs::handshake::Ref;
+use gixp_hash::ObjectId;
+use gixp_matching::laws;
 use gixp_matching::match_group::validate::Fix;
 use gixp_matching::match_group::{self, Item, MatchGroup, SourceRef};
-use gixp_matching::laws;
+use gixp_refs::handshake::Ref;
 use gixp_refspec::{RefSpec, RefSpecRef};
-use gixp_wire::ObjectId;
 use std::alloc::{AllocError, Global};
 
 // Appends the refspecs.

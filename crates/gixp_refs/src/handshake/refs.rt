@@ -3,7 +3,7 @@ ghost use Rattle.std.specs.Prelude.{◌≡◌, MatchResult};
 ghost use Rattle.gixp_refs.specs.Refs.{NextRef, NextOfRefs, ReadsRefs, RefsFail};
 
 use crate::handshake::Ref;
-use gixp_wire::ExtendedBufRead;
+use gixp_packetline::ExtendedBufRead;
 use std::alloc::Global;
 
 mod advertisement;

@@ -6,7 +6,8 @@ ghost use Rattle.gixp_requests.specs.Command.{Entry, entry_of, entries_of, words
 ghost use Rattle.gixp_requests.specs.Offers.{has_other, is_offered, supports, plain_feature};
 
 use crate::command::{Command, CommandTable, Feature};
-use gixp_wire::{Capabilities, Protocol};
+use gixp_capabilities::Capabilities;
+use gixp_packetline::Protocol;
 use std::alloc::{AllocError, Global};
 
 impl CommandTable {

@@ -10,7 +10,8 @@ ghost use Rattle.gixp_requests.specs.Offers.{bad_argument_of, IsRefusedBy, begin
 use crate::command::features::supports;
 use crate::command::{Command, CommandTable, Feature};
 use bstr::BString;
-use gixp_wire::{Capabilities, Protocol};
+use gixp_capabilities::Capabilities;
+use gixp_packetline::Protocol;
 use std::alloc::{AllocError, Global};
 use thiserror::Error as DeriveError;
 

@@ -8,8 +8,10 @@ ghost use Rattle.gixp_requests.specs.Command.{table_of, texts};
 use crate::command::table::has_feature;
 use crate::command::{Command, CommandTable, Feature};
 use bstr::{BStr, BString};
-use gixp_wire::client::Error;
-use gixp_wire::{ObjectId, Protocol, Transport};
+use gixp_capabilities::client::Error;
+use gixp_hash::ObjectId;
+use gixp_packetline::Protocol;
+use gixp_wire::Transport;
 use std::alloc::{AllocError, Global};
 use std::marker::Model;
 
@@ -50,7 +52,7 @@ impl Model for Arguments {
 impl Arguments {
     ghost use Rattle.gixp_requests.specs.Arguments.{Becomes, is_v2, id_text, asks_nothing, with_line, asks_want, asks_want_ref, asks_have, asks_shallow, asks_deepen, asks_deepen_since, asks_deepen_not, asks_filter, asks_deepen_relative, asks_include_tag, asks_feature, can_use, can_use_deepening, can_use_include_tag, may_add_feature, is_empty, want_line};
     ghost use Rattle.gixp_requests.specs.Request.{request, request_fits, sent_off};
-    ghost use Rattle.gixp_wire.specs.FrameText.{texts_of};
+    ghost use Rattle.gixp_packetline.specs.FrameText.{texts_of};
     ghost use Rattle.gixp_wire.specs.Transport.{Sends};
 
     /// Nothing yet, but for the lines of the table that go with the features under version 2.

@@ -1,10 +1,10 @@
 //! A transport, and a place in the packet of band 1 that is peeked at.
 ghost use Rattle.std.specs.Prelude.{◌≡◌, ◌+◌, ◌<◌, true, false, None, Some, take, is_some};
 ghost use Rattle.gixp_sidebands.specs.Bands.{is_held, is_begun, shown, HandsOut};
-ghost use Rattle.gixp_wire.specs.Reading.{Peeks, PlainIf, TakesLine, reset_to};
+ghost use Rattle.gixp_packetline.specs.Reading.{Peeks, PlainIf, TakesLine, reset_to};
 
-use gixp_wire::read::{Error, ExtendedBufRead};
-use gixp_wire::{MessageKind, Protocol};
+use gixp_packetline::read::{Error, ExtendedBufRead};
+use gixp_packetline::{MessageKind, Protocol};
 
 /// A transport, and a place in the packet of band 1 that is peeked at.
 ///

@@ -1,6 +1,6 @@
 -- One commit is marked, where it is found.
 use Rattle.std.proofs.Common.{◌≡◌, ◌∙◌, ap, sym}
-use Rattle.gixp_wire.specs.declared.object_id.ObjectId.{ObjectId}
+use Rattle.gixp_hash.specs.declared.object_id.ObjectId.{ObjectId}
 use Rattle.gixp_graph.specs.GraphData.{GraphData, graph_of, flagged}
 use Rattle.gixp_graph.specs.Table.{id_at}
 use Rattle.gixp_graph.proofs.MarkLemmas.{marked_before, marked_now}

@@ -1,7 +1,7 @@
 -- The commits of some numbers are visited.
 use Rattle.std.proofs.Common.{◌≡◌, ℕ, ◌<◌, ◌∙◌, ap, sym, subst, refl, length, take, get_or, List, arith, ◌⊎◌, []}
 use Rattle.std.proofs.lemmas.List.{take_all, take_more, take-map}
-use Rattle.gixp_wire.specs.declared.object_id.ObjectId.{ObjectId}
+use Rattle.gixp_hash.specs.declared.object_id.ObjectId.{ObjectId}
 use Rattle.gixp_graph.specs.Object.{Objects}
 use Rattle.gixp_graph.specs.GraphData.{graph_of, marked_found}
 use Rattle.gixp_graph.specs.Table.{id_at, ids_at}

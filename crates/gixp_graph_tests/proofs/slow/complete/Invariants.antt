@@ -1,7 +1,7 @@
 -- What the loop keeps.
 use Rattle.std.proofs.Common.{map, not}
 use Rattle.std.specs.Prelude.{All}
-use Rattle.gixp_wire.specs.declared.object_id.ObjectId.{ObjectId}
+use Rattle.gixp_hash.specs.declared.object_id.ObjectId.{ObjectId}
 use Rattle.gixp_graph.specs.declared.objects.CommitData.{CommitData}
 use Rattle.gixp_graph.specs.Object.{commit_at}
 use Rattle.gixp_graph_tests.specs.Listed.{objects_of}

@@ -3,7 +3,7 @@ use Rattle.std.proofs.Common.{◌∙◌, sym, subst, Option, Some, rules}
 use Rattle.std.proofs.lemmas.Int.{to_z-of_z}
 use mir.Val.{SFits}
 use mir.Syntax.{w64}
-use Rattle.gixp_wire.specs.declared.object_id.ObjectId.{ObjectId}
+use Rattle.gixp_hash.specs.declared.object_id.ObjectId.{ObjectId}
 use Rattle.std.specs.Prelude.{All, ℤ}
 use Rattle.std.proofs.lemmas.Option.{IfSome_then}
 use Rattle.gixp_graph.specs.Object.{Commit, commit_at}

@@ -1,5 +1,5 @@
 use Rattle.std.proofs.Common.{◌∷◌, [], ◌++◌, ap}
-use Rattle.gixp_wire.specs.PacketLine.{frame_of}
+use Rattle.gixp_packetline.specs.PacketLine.{frame_of}
 use Rattle.gixp_planner.proofs.PrintLemmas.{frames-more}
 use Rattle.gixp_planner.proofs.print.write_packet_lines.Goals as goal
 

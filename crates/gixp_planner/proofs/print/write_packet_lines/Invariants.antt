@@ -1,5 +1,5 @@
 use Rattle.std.proofs.Common.{length, flat_map}
-use Rattle.gixp_wire.specs.Frames.{frames_of}
+use Rattle.gixp_packetline.specs.Frames.{frames_of}
 use Rattle.gixp_planner.specs.Text.{frame_shown}
 use Rattle.gixp_planner.proofs.PrintLemmas.{Partly}
 use Rattle.gixp_planner.proofs.print.write_packet_lines.Given as goal

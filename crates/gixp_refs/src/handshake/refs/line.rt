@@ -2,18 +2,18 @@
 ghost use Rattle.std.specs.Prelude.{◌≡◌, None, Some, codes};
 ghost use Rattle.std.specs.Option.{option_copied};
 ghost use Rattle.bstr.specs.Owned.{bstring_bytes};
-ghost use Rattle.gixp_wire.specs.declared.object_id.ObjectId.{ObjectId};
+ghost use Rattle.gixp_hash.specs.declared.object_id.ObjectId.{ObjectId};
 ghost use Rattle.gixp_refs.specs.Ref.{ref_value};
 ghost use Rattle.gixp_refs.specs.RefLine.{malformed_v2, unknown_attribute, id_value, with_attribute, attributes_of, first_piece, value_of, v2_line};
-ghost use Rattle.gixp_wire.specs.Capabilities.{is_text};
+ghost use Rattle.gixp_capabilities.specs.Capabilities.{is_text};
 ghost use Rattle.gixp_refs.specs.ParseError.{Answers, IsRefusal, attribute_values, object_of};
 
 use crate::handshake::Ref;
 use crate::handshake::refs::parse::{Error, Invariant};
 use crate::trim::trim_end;
 use bstr::BString;
-use gixp_wire::ObjectId;
-use gixp_wire::text::cut;
+use gixp_capabilities::text::cut;
+use gixp_hash::ObjectId;
 use std::alloc::Global;
 
 // What the attributes of a line say.

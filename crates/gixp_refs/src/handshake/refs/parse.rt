@@ -1,9 +1,10 @@
 //! Why there are no refs.
 ghost use Rattle.std.specs.Prelude.{◌≡◌};
-ghost use Rattle.gixp_wire.specs.Reading.{refusal_of};
+ghost use Rattle.gixp_packetline.specs.Reading.{refusal_of};
 
 use bstr::BString;
-use gixp_wire::{PacketError, decode, read};
+use gixp_hash::decode;
+use gixp_packetline::{PacketError, read};
 use std::alloc::{AllocError, AllocFailed};
 use std::fmt;
 use std::io::ErrorKind;

@@ -3,18 +3,18 @@ ghost use Rattle.std.specs.Prelude.{◌≡◌, is_some, IfOk, OnOk};
 ghost use Rattle.std.specs.BTreeMap.{insert_entry};
 ghost use Rattle.std.specs.Option.{option_map};
 ghost use Rattle.bstr.specs.Owned.{bstring_bytes};
-ghost use Rattle.gixp_wire.specs.Capability.{capability_value};
+ghost use Rattle.gixp_capabilities.specs.Capability.{capability_value};
 ghost use Rattle.gixp_refs.specs.RefLine.{malformed_symref};
 ghost use Rattle.gixp_refs.specs.ParseError.{Answers, IsRefusal};
-ghost use Rattle.gixp_wire.specs.Cut.{cut};
+ghost use Rattle.gixp_capabilities.specs.Cut.{cut};
 ghost use Rattle.gixp_refs.specs.RefAdvertisement.{symref_in, symref_by, made_symref, symref_named, told_target, TellAlike, symref_table};
 ghost use Rattle.gixp_refs.specs.V1Refs.{symref_value, symref_values, name_cmp};
 
 use crate::handshake::refs::line::is_null;
 use crate::handshake::refs::parse::Error;
 use bstr::BString;
-use gixp_wire::text::cut;
-use gixp_wire::{Capabilities, Capability};
+use gixp_capabilities::text::cut;
+use gixp_capabilities::{Capabilities, Capability};
 use std::alloc::{AllocError, Global};
 use std::collections::BTreeMap;
 

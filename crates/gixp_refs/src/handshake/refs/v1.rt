@@ -15,9 +15,9 @@ use crate::handshake::refs::parse::{Error, Invariant};
 use crate::handshake::refs::symrefs::{Targets, is_symref, target_of};
 use crate::trim::trim_end;
 use bstr::BString;
+use gixp_capabilities::text::cut;
+use gixp_hash::{ObjectId, decode};
 use gixp_response::fetch::response::ShallowUpdate;
-use gixp_wire::text::cut;
-use gixp_wire::{ObjectId, decode};
 use std::alloc::Global;
 
 // What a line is.

@@ -1,7 +1,7 @@
 -- The rules so far.
 use Rattle.gixp_refspec.specs.Matching.{joined, rule_of}
 use Rattle.gixp_refspec.specs.Texts.{texts}
-use Rattle.gixp_wire.proofs.ListLemmas.{appended_more}
+use Rattle.gixp_packetline.proofs.ListLemmas.{appended_more}
 use Rattle.gixp_refspec.proofs.prefixes.push_made.Goals as goal
 
 pub rules-preserved : goal.rules-preserved

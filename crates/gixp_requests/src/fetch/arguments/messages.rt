@@ -2,7 +2,7 @@
 ghost use Rattle.std.specs.Prelude.{◌≡◌, ◌<◌, false, [], ◌∷◌, ◌++◌, length, codes, map, position, OnOk, IfOk, IfSome};
 ghost use Rattle.bstr.specs.Owned.{bstring_bytes};
 ghost use Rattle.std.specs.List.{list_all};
-ghost use Rattle.gixp_wire.specs.FrameText.{texts_of};
+ghost use Rattle.gixp_packetline.specs.FrameText.{texts_of};
 ghost use Rattle.gixp_wire.specs.Message.{text, flush, delimiter, message_value, value_frame, value_fits, command_lines, command_fits, command_frames};
 ghost use Rattle.gixp_wire.specs.Transport.{Sends};
 ghost use Rattle.gixp_requests.specs.Feature.{feature_value, feature_values};
@@ -13,7 +13,7 @@ ghost use Rattle.gixp_requests.specs.Request.{sent_features, done_lines, done_va
 use crate::command::Feature;
 use crate::fetch::arguments::text::{is_want, push_feature};
 use bstr::BString;
-use gixp_wire::client::Error;
+use gixp_capabilities::client::Error;
 use gixp_wire::{Message, Transport};
 use std::alloc::{AllocError, Global};
 

@@ -8,7 +8,7 @@ ghost use Rattle.gixp_requests.specs.Arguments.{id_text, is_want, is_on, texts_o
 
 use crate::command::Feature;
 use bstr::BString;
-use gixp_wire::ObjectId;
+use gixp_hash::ObjectId;
 use std::alloc::{AllocError, Global};
 
 // Appends a text.

@@ -5,14 +5,15 @@ ghost use Rattle.gixp_response.specs.AnswerLine.{wanted_value};
 ghost use Rattle.gixp_response.specs.Answer.{no_more, update_items};
 ghost use Rattle.gixp_response.specs.Beginnings.{expected};
 ghost use Rattle.gixp_response.specs.AnswerReading.{answer_of, Answered, AnswerFails};
-ghost use Rattle.gixp_wire.specs.Capabilities.{is_text};
+ghost use Rattle.gixp_capabilities.specs.Capabilities.{is_text};
 ghost use Rattle.gixp_response.specs.Features.{feature_name, feature_names, has_name, missing_feature, Misses};
 
 use crate::fetch::response::beginnings::read_beginning;
 use crate::fetch::response::error::{Error, RequiredFeature};
 use crate::fetch::response::line::{Acknowledgement, ShallowUpdate, WantedRef};
 use crate::fetch::response::sections::read_sections;
-use gixp_wire::{ExtendedBufRead, Feature, Protocol};
+use gixp_packetline::{ExtendedBufRead, Protocol};
+use gixp_wire::Feature;
 use std::alloc::{AllocError, Global};
 use std::marker::Model;
 

@@ -1,7 +1,7 @@
 //! Answers under versions 0 and 1 (gitprotocol-pack, "Packfile Negotiation").
 ghost use Rattle.std.specs.Prelude.{◌≡◌, ◌⊎◌, MatchResult, OnOk, Some, not, ◌&&◌, ◌||◌};
-ghost use Rattle.gixp_wire.specs.Reading.{refusal_of};
-ghost use Rattle.gixp_wire.specs.declared.protocol.Protocol.TheVariants.{V0, V1};
+ghost use Rattle.gixp_packetline.specs.Reading.{refusal_of};
+ghost use Rattle.gixp_packetline.specs.declared.protocol.Protocol.TheVariants.{V0, V1};
 ghost use Rattle.gixp_response.specs.Beginnings.{expected, is_at_end, is_ready, is_nak, line_item, item_said, said_with, acknowledged, AreCommon, v1_answer};
 ghost use Rattle.gixp_response.specs.declared.fetch.response.line.Acknowledgement.TheVariants.{Common};
 ghost use Rattle.gixp_response.specs.AnswerReading.{Answered, AnswerFails};
@@ -12,7 +12,8 @@ use crate::fetch::response::line::{
     Acknowledgement, ShallowUpdate, read_acknowledgement, read_shallow_update,
 };
 use crate::fetch::response::sections::text_of;
-use gixp_wire::{ExtendedBufRead, ObjectId, Protocol, read};
+use gixp_hash::ObjectId;
+use gixp_packetline::{ExtendedBufRead, Protocol, read};
 use std::alloc::{AllocError, Global};
 use std::collections::BTreeSet;
 use std::io::ErrorKind;

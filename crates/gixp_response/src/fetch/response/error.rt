@@ -2,7 +2,9 @@
 ghost use Rattle.std.specs.Prelude.{◌≡◌};
 
 use bstr::BString;
-use gixp_wire::{IsSpuriousError, client, read};
+use gixp_capabilities::client;
+use gixp_packetline::read;
+use gixp_wire::IsSpuriousError;
 use std::alloc::AllocError;
 use std::fmt;
 use std::io::ErrorKind;
@@ -81,7 +83,7 @@ pub enum Error {
 }
 
 impl From<client::Error> for Error {
-    ghost use Rattle.gixp_wire.specs.Client.{client_refusal};
+    ghost use Rattle.gixp_capabilities.specs.Client.{client_refusal};
     ghost use Rattle.gixp_response.specs.ResponseError.{answer_refusal, from_transport};
 
     ghost from_gives = { λ e error. answer_refusal error ≡ from_transport (client_refusal e) };
@@ -95,7 +97,7 @@ impl From<client::Error> for Error {
 }
 
 impl From<read::Error> for Error {
-    ghost use Rattle.gixp_wire.specs.Reading.{refusal_of};
+    ghost use Rattle.gixp_packetline.specs.Reading.{refusal_of};
     ghost use Rattle.gixp_response.specs.ResponseError.{answer_refusal, from_reader};
 
     ghost from_gives = { λ e error. answer_refusal error ≡ from_reader (refusal_of e) };

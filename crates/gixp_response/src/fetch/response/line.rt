@@ -6,8 +6,8 @@ ghost use Rattle.gixp_response.specs.ResponseError.{IsRefusal, unknown_line, Rea
 
 use crate::fetch::response::error::Error;
 use bstr::{BString, ByteSlice};
-use gixp_wire::ObjectId;
-use gixp_wire::text::cut;
+use gixp_capabilities::text::cut;
+use gixp_hash::ObjectId;
 use std::alloc::{AllocError, Global};
 
 /// What a server says of the commits that a client named (gitprotocol-pack, "Packfile Negotiation";

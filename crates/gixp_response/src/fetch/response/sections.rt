@@ -1,7 +1,7 @@
 //! Answers under version 2 (gitprotocol-v2, "fetch").
 ghost use Rattle.std.specs.Prelude.{◌≡◌, MatchOption, MatchResult, false, true};
 ghost use Rattle.std.specs.Str.{is_utf8};
-ghost use Rattle.gixp_wire.specs.declared.protocol.Protocol.TheVariants.{V2};
+ghost use Rattle.gixp_packetline.specs.declared.protocol.Protocol.TheVariants.{V2};
 ghost use Rattle.gixp_response.specs.ResponseError.{Answers, IsRefusal, unknown_header, unknown_line};
 ghost use Rattle.gixp_response.specs.Sections.{header_of, item_of, or_refused, is_flush, read_header, read_item, v2_answer};
 ghost use Rattle.gixp_response.specs.AnswerReading.{Adds, Answered, AnswerFails};
@@ -12,7 +12,7 @@ use crate::fetch::response::answer::Response;
 use crate::fetch::response::error::Error;
 use crate::fetch::response::line::{Acknowledgement, WantedRef, shallow_update_from_line};
 use bstr::ByteSlice;
-use gixp_wire::{ExtendedBufRead, MessageKind, Protocol, read};
+use gixp_packetline::{ExtendedBufRead, MessageKind, Protocol, read};
 use std::alloc::Global;
 use std::io::ErrorKind;
 

@@ -1,7 +1,7 @@
 -- The place of one ref more.
 use Rattle.std.proofs.Common.{take, map, subst, sym}
 use Rattle.gixp_matching.specs.Rows.{shown, AddsPlaces}
-use Rattle.gixp_wire.proofs.ListLemmas.{take-map_more}
+use Rattle.gixp_packetline.proofs.ListLemmas.{take-map_more}
 use Rattle.gixp_matching.proofs.PlaceLemmas.{none_added, places_added}
 use Rattle.gixp_matching.proofs.match_group.rows.add_places.Goals as goal
 

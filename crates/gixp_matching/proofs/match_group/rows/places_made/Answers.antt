@@ -4,7 +4,7 @@ use Rattle.std.specs.Borrow.{Bor}
 use Rattle.std.proofs.lemmas.List.{take_all, length-map}
 use Rattle.gixp_refspec.specs.Matching.{joined, rule_of}
 use Rattle.gixp_matching.specs.Rows.{is_row_of, meant, has_place, HasPlaces}
-use Rattle.gixp_wire.proofs.ListLemmas.{take-map_more}
+use Rattle.gixp_packetline.proofs.ListLemmas.{take-map_more}
 use Rattle.gixp_matching.proofs.PlaceLemmas.{no_places, places_more}
 use Rattle.gixp_matching.proofs.match_group.rows.places_made.Goals as goal
 

@@ -2,7 +2,7 @@
 use Rattle.std.proofs.Common.{[], ◌∷◌, ◌++◌, ◌∙◌, ap, map}
 use Rattle.std.proofs.lemmas.List.{map-append}
 use Rattle.gixp_refspec.specs.RefSpec.{value_of, owned_value_of}
-use Rattle.gixp_wire.proofs.ListLemmas.{appended_more}
+use Rattle.gixp_packetline.proofs.ListLemmas.{appended_more}
 use Rattle.gixp_refmap.proofs.refmap.make.push_specs.Goals as goal
 
 pub specs-preserved : goal.specs-preserved

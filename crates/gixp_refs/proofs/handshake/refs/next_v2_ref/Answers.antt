@@ -1,5 +1,5 @@
 use Rattle.std.proofs.Common.{sym, ap, []}
-use Rattle.gixp_wire.specs.Reading.{refusal_of}
+use Rattle.gixp_packetline.specs.Reading.{refusal_of}
 use Rattle.gixp_refs.specs.RefLine.{v2_line}
 use Rattle.gixp_refs.proofs.RefsLemmas.{refs-start, refs-reader, refs-refused}
 use Rattle.gixp_response.proofs.RunLemmas.{at_stop-keeps, fails-keep}

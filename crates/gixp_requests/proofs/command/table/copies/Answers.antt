@@ -1,7 +1,7 @@
 -- The words so far.
 use Rattle.std.proofs.Common.{ℕ, List, [], Bor}
 use Rattle.gixp_requests.specs.Command.{texts}
-use Rattle.gixp_wire.proofs.ListLemmas.{appended_more}
+use Rattle.gixp_packetline.proofs.ListLemmas.{appended_more}
 use Rattle.gixp_requests.proofs.command.table.copies.Goals as goal
 
 pub loop-word-preserved : goal.loop-word-preserved

@@ -1,7 +1,7 @@
 -- The test of the words.
 use Rattle.std.proofs.Common.{ℕ, List, Bor, nat_eq, sym, ◌∙◌}
 use Rattle.std.specs.List.{starts_with}
-use Rattle.gixp_wire.proofs.ListLemmas.{any_of_map}
+use Rattle.gixp_packetline.proofs.ListLemmas.{any_of_map}
 use Rattle.gixp_requests.proofs.command.validate_argument_prefixes.begins_with_any.Goals as goal
 
 pub returns : goal.returns

@@ -1,6 +1,6 @@
 use Rattle.std.proofs.Common.{ap, sym, refl, ◌∙◌}
 use Rattle.std.specs.Option.{option_map}
-use Rattle.gixp_wire.specs.Reading.{refusal_of}
+use Rattle.gixp_packetline.specs.Reading.{refusal_of}
 use Rattle.gixp_sidebands.proofs.ContentLemmas.{fills_by, refuses_by, none_of}
 use Rattle.gixp_sidebands.proofs.sidebands.WithSidebands.fill.Goals as goal
 

@@ -1,6 +1,6 @@
 use Rattle.std.proofs.Common.{refl, sym, subst}
 use Rattle.std.specs.List.Sorted.{IsStrictlySortedBy}
-use Rattle.gixp_wire.specs.ObjectId.{id_cmp}
+use Rattle.gixp_hash.specs.ObjectId.{id_cmp}
 use Rattle.gixp_fetch.proofs.shallow.file.ShallowFileShallowStore.read.Goals as goal
 
 pub returns-in-NotFound-clause-read : goal.returns-in-NotFound-clause-read

@@ -4,7 +4,7 @@ use Rattle.gixp_matching.specs.Groups.{mapped_behind}
 use Rattle.gixp_matching.specs.MatchGroup.{mapped_of}
 use Rattle.gixp_matching.specs.Validation.{differ}
 use Rattle.gixp_matching.proofs.DifferLemmas.{differ-first}
-use Rattle.gixp_wire.proofs.ListLemmas.{any_of_map}
+use Rattle.gixp_packetline.proofs.ListLemmas.{any_of_map}
 use Rattle.gixp_matching.proofs.match_group.validate.conflicts.differ.Goals as goal
 
 pub returns-in-Some : goal.returns-in-Some

@@ -1,6 +1,6 @@
 use Rattle.std.proofs.Common.{sym, ap, ◌∙◌}
 use Rattle.std.proofs.lemmas.Result.{err_from_is_err_and}
-use Rattle.gixp_wire.specs.Reading.{refusal_of}
+use Rattle.gixp_packetline.specs.Reading.{refusal_of}
 use Rattle.gixp_refs.specs.V1Line.{so_far_value, with_text}
 use Rattle.gixp_refs.specs.V1Refs.{symref_values}
 use Rattle.gixp_refs.proofs.AdvertisementLemmas.{v1-start, v1-line, v1-refused, v1-reader, v1-finish}

@@ -1,5 +1,5 @@
 use Rattle.std.proofs.Common.{◌≡◌, false, codes, length, eq-eqb, rules}
-use Rattle.gixp_wire.specs.Capabilities.{is_text}
+use Rattle.gixp_capabilities.specs.Capabilities.{is_text}
 use Rattle.gixp_refs.specs.ParseError.{attribute_values}
 use Rattle.gixp_refs.proofs.AnswerLemmas.{refusal_answers, unknown_is}
 use Rattle.gixp_refs.proofs.handshake.refs.line.read_attribute.Goals as goal

@@ -1,6 +1,6 @@
 -- Each capability is a symref, none, or refused.
 use Rattle.std.proofs.lemmas.Result.{err_from_is_err_and}
-use Rattle.gixp_wire.specs.Capability.{capability_value, capabilities_left}
+use Rattle.gixp_capabilities.specs.Capability.{capability_value, capabilities_left}
 use Rattle.gixp_refs.specs.RefAdvertisement.{symref_table}
 use Rattle.gixp_refs.specs.V1Refs.{symref_value, symref_values}
 use Rattle.gixp_refs.proofs.SymrefLemmas.{symrefs_skip, symrefs_refused}

@@ -1,6 +1,6 @@
 -- The symrefs of the capabilities so far stand in front of those to come.
 use Rattle.std.proofs.Common.{◌≡◌}
-use Rattle.gixp_wire.specs.Capability.{capabilities_left}
+use Rattle.gixp_capabilities.specs.Capability.{capabilities_left}
 use Rattle.gixp_refs.specs.RefAdvertisement.{symref_table}
 use Rattle.gixp_refs.specs.V1Refs.{symref_values}
 use Rattle.gixp_refs.proofs.SymrefLemmas.{symrefs_in_front}

@@ -3,7 +3,7 @@ use Rattle.std.proofs.Common.{◌<◌, ◌≡◌, false, List, length, map, ap, 
 use Rattle.std.proofs.lemmas.List.{length-map}
 use Rattle.std.specs.List.{list_all}
 use Rattle.bstr.specs.Owned.{bstring_bytes}
-use Rattle.gixp_wire.specs.FrameText.{texts_of}
+use Rattle.gixp_packetline.specs.FrameText.{texts_of}
 use Rattle.gixp_wire.specs.Message.{MessageValue, message_value, value_fits, value_frame}
 use Rattle.gixp_wire.specs.Transport.{Sends}
 use Rattle.gixp_requests.proofs.RequestLemmas.{command_joined}

@@ -2,7 +2,7 @@
 use Rattle.std.proofs.Common.{sym, ◌∙◌}
 use Rattle.bstr.specs.Owned.{bstring_bytes}
 use Rattle.gixp_requests.specs.Arguments.{is_want}
-use Rattle.gixp_wire.proofs.ListLemmas.{any_of_map}
+use Rattle.gixp_packetline.proofs.ListLemmas.{any_of_map}
 use Rattle.gixp_requests.proofs.fetch.arguments.text.has_want.Goals as goal
 
 pub returns : goal.returns

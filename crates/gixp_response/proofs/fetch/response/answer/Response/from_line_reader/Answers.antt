@@ -1,7 +1,7 @@
 use Rattle.std.proofs.Common.{◌≡◌, refl, inl, inr}
 use Rattle.std.specs.Prelude.{◌⊎◌}
-use Rattle.gixp_wire.specs.declared.protocol.Protocol.{Protocol}
-use Rattle.gixp_wire.specs.declared.protocol.Protocol.TheVariants.{V0, V1}
+use Rattle.gixp_packetline.specs.declared.protocol.Protocol.{Protocol}
+use Rattle.gixp_packetline.specs.declared.protocol.Protocol.TheVariants.{V0, V1}
 use Rattle.gixp_response.specs.Beginnings.{Expected, v1_answer, expected}
 use Rattle.gixp_response.specs.AnswerReading.{answer_of}
 use Rattle.gixp_response.proofs.fetch.response.answer.Response.from_line_reader.Goals as goal
