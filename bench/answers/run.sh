@@ -10,9 +10,9 @@ room=$(mktemp -d)
 trap 'rm -rf "$room"' EXIT
 mkdir -p "$room/crates/answers_bench/src" "$room/crates/answers_bench/specs" "$room/crates/answers_bench/proofs"
 cp "$top/HANDLES" "$room/"
-grep -E '^(gixp_wire|gixp_response|gixp_refs):' "$top/crates.txt" > "$room/crates.txt"
-echo 'answers_bench: gixp_response gixp_refs gixp_wire anyhow' >> "$room/crates.txt"
-for crate in gixp_wire gixp_response gixp_refs; do
+grep -E '^gixp_(hash|packetline|capabilities|wire|response|refs):' "$top/crates.txt" > "$room/crates.txt"
+echo 'answers_bench: gixp_response gixp_refs gixp_capabilities gixp_packetline anyhow' >> "$room/crates.txt"
+for crate in gixp_hash gixp_packetline gixp_capabilities gixp_wire gixp_response gixp_refs; do
     cp -r "$top/crates/$crate" "$room/crates/"
 done
 cp "$here/main.rt.in" "$room/crates/answers_bench/src/main.rt"

@@ -9,7 +9,7 @@ trap 'rm -rf "$room"' EXIT
 bench="$room/crates/fetch_bench"
 mkdir -p "$bench/src" "$bench/specs" "$bench/proofs"
 cp "$top/HANDLES" "$room/"
-below='wire|sidebands|lines|requests|graph|refspec|matching|progress|refmap|handshake|negotiate|fetch'
+below='hash|packetline|capabilities|wire|sidebands|response|refs|requests|graph|refspec|matching|progress|refmap|handshake|negotiate|fetch'
 grep -E "^gixp_($below):" "$top/crates.txt" > "$room/crates.txt"
 names=$(cut -d: -f1 "$room/crates.txt")
 echo "fetch_bench:" $names bstr anyhow >> "$room/crates.txt"

@@ -17,7 +17,7 @@ TOP = HERE.parent.parent
 
 def built(work):
     crates = work / "crates"
-    for name in ("gixp_wire", "gixp_graph"):
+    for name in ("gixp_hash", "gixp_graph"):
         shutil.copytree(TOP / "crates" / name, crates / name, ignore=shutil.ignore_patterns("out", "must-fail"))
     # The program's files end in `.in`, so that no check of the repository reads them.
     for source in (HERE / "graph_bench").rglob("*.in"):
@@ -26,9 +26,9 @@ def built(work):
         shutil.copy(source, target)
     (work / "HANDLES").write_text("Handles allowed: none.\n")
     (work / "crates.txt").write_text(
-        "gixp_wire: bstr hex thiserror\n"
-        "gixp_graph: gixp_wire bstr thiserror bitflags\n"
-        "graph_bench: gixp_graph gixp_wire bstr bitflags anyhow thiserror\n"
+        "gixp_hash: hex thiserror\n"
+        "gixp_graph: gixp_hash bstr bitflags thiserror\n"
+        "graph_bench: gixp_graph gixp_hash bstr bitflags anyhow thiserror\n"
     )
     subprocess.run(["rt", "run", "--", "walk", "1000"], cwd=crates / "graph_bench", check=True, stdout=sys.stderr)
     baseline = work / "baseline"

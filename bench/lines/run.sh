@@ -8,9 +8,9 @@ room=$(mktemp -d)
 trap 'rm -rf "$room"' EXIT
 mkdir -p "$room/crates/lines_bench/src" "$room/crates/lines_bench/specs" "$room/crates/lines_bench/proofs"
 cp "$top/HANDLES" "$room/"
-grep -E '^gixp_wire:' "$top/crates.txt" > "$room/crates.txt"
-echo 'lines_bench: gixp_wire anyhow' >> "$room/crates.txt"
-cp -r "$top/crates/gixp_wire" "$room/crates/"
+grep -E '^gixp_(hash|packetline):' "$top/crates.txt" > "$room/crates.txt"
+echo 'lines_bench: gixp_packetline anyhow' >> "$room/crates.txt"
+cp -r "$top/crates/gixp_hash" "$top/crates/gixp_packetline" "$room/crates/"
 cp "$here/main.rt.in" "$room/crates/lines_bench/src/main.rt"
 : > "$room/crates/lines_bench/specs/Lib.antt"
 : > "$room/crates/lines_bench/proofs/Lib.antt"

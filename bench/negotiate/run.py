@@ -15,9 +15,8 @@ import tempfile
 
 HERE = pathlib.Path(__file__).resolve().parent
 TOP = HERE.parent.parent
-BELOW = "wire response refs requests graph refspec matching refmap negotiate memory"
-PROGRAM = "negotiate_bench: gixp_wire gixp_response gixp_refs gixp_graph gixp_refmap gixp_negotiate gixp_memory bstr anyhow
-"
+BELOW = "hash packetline capabilities wire response refs requests graph refspec matching refmap negotiate memory"
+PROGRAM = "negotiate_bench: gixp_hash gixp_refs gixp_graph gixp_refmap gixp_negotiate gixp_memory bstr anyhow\n"
 
 
 def built(work):

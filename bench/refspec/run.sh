@@ -9,9 +9,9 @@ room=$(mktemp -d)
 trap 'rm -rf "$room"' EXIT
 mkdir -p "$room/crates/refspec_bench/src" "$room/crates/refspec_bench/specs" "$room/crates/refspec_bench/proofs"
 cp "$top/HANDLES" "$room/"
-grep -E '^(gixp_wire|gixp_refspec|gixp_matching):' "$top/crates.txt" > "$room/crates.txt"
-echo 'refspec_bench: gixp_matching gixp_refspec gixp_wire bstr anyhow' >> "$room/crates.txt"
-for crate in gixp_wire gixp_refspec gixp_matching; do
+grep -E '^gixp_(hash|packetline|refspec|matching):' "$top/crates.txt" > "$room/crates.txt"
+echo 'refspec_bench: gixp_matching gixp_refspec gixp_hash bstr anyhow' >> "$room/crates.txt"
+for crate in gixp_hash gixp_packetline gixp_refspec gixp_matching; do
     cp -r "$top/crates/$crate" "$room/crates/"
 done
 cp "$here/main.rt.in" "$room/crates/refspec_bench/src/main.rt"

@@ -8,9 +8,9 @@ room=$(mktemp -d)
 trap 'rm -rf "$room"' EXIT
 mkdir -p "$room/crates/sidebands_bench/src" "$room/crates/sidebands_bench/specs" "$room/crates/sidebands_bench/proofs"
 cp "$top/HANDLES" "$room/"
-grep -E '^gixp_(wire|sidebands):' "$top/crates.txt" > "$room/crates.txt"
-echo 'sidebands_bench: gixp_wire gixp_sidebands anyhow' >> "$room/crates.txt"
-cp -r "$top/crates/gixp_wire" "$top/crates/gixp_sidebands" "$room/crates/"
+grep -E '^gixp_(hash|packetline|sidebands):' "$top/crates.txt" > "$room/crates.txt"
+echo 'sidebands_bench: gixp_packetline gixp_sidebands anyhow' >> "$room/crates.txt"
+cp -r "$top/crates/gixp_hash" "$top/crates/gixp_packetline" "$top/crates/gixp_sidebands" "$room/crates/"
 cp "$here/main.rt.in" "$room/crates/sidebands_bench/src/main.rt"
 : > "$room/crates/sidebands_bench/specs/Lib.antt"
 : > "$room/crates/sidebands_bench/proofs/Lib.antt"
