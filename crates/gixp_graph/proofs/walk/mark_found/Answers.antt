@@ -1,5 +1,5 @@
 -- One commit is marked, where it is found.
-use Rattle.std.proofs.Common.{◌≡◌, ◌∙◌, ap, sym}
+use Rattle.std.proofs.Common.{◌≡◌, ◌∙◌, ap, sym, rules}
 use Rattle.gixp_hash.specs.declared.object_id.ObjectId.{ObjectId}
 use Rattle.gixp_graph.specs.GraphData.{GraphData, graph_of, flagged}
 use Rattle.gixp_graph.specs.Table.{id_at}
@@ -18,3 +18,6 @@ returns-clause-ok g c =
     let same : id_at c.lookup_at.new.self.ids c.args.number ≡ id = (c.lookup_at.ensures.kept c.args.number c.requires).1 in
     c.insert_flags_at.ensures.flagged ∙ ap (λ i. flagged c.lookup_at.new.self.held i (record { 0 = 1 })) same ∙ ap (λ m. flagged m id (record { 0 = 1 })) c.in_ok-time.ensures.ok
     ∙ marked_now graph id _ _ (sym c.in-Some.is ∙ c.in_ok-time.ensures.found) (sym (c.contains.ensures tt) ∙ c.if-contains.false)
+
+pub returns-then-contains-clause-time : goal.returns-then-contains-clause-time
+returns-then-contains-clause-time g c = search rules

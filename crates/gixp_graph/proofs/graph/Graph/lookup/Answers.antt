@@ -1,5 +1,5 @@
 -- A look-up keeps what is held to what the objects have.
-use Rattle.std.proofs.Common.{◌∙◌, ap}
+use Rattle.std.proofs.Common.{◌∙◌, ap, rules}
 use Rattle.std.proofs.lemmas.Result.{IfOk-weaker}
 use Rattle.gixp_graph.specs.GraphData.{GraphData, graph_of, shown_time}
 use Rattle.gixp_graph.specs.GraphLaws.{faithful_time}
@@ -13,3 +13,6 @@ pub returns-clause-time : goal.returns-clause-time
 returns-clause-time g c =
     let start : GraphData = graph_of (g.O.Objects.contents c.self.inside.objects) c.self.inside.commits.held in
     rw (← c.self.view_is) (IfOk-weaker c.lookup.result _ _ (λ found e. ap shown_time e ∙ faithful_time start c.self.invariant c.args.id.now) c.lookup.ensures.found)
+
+pub returns-clause-asked : goal.returns-clause-asked
+returns-clause-asked g c = search rules

@@ -1,4 +1,4 @@
-use Rattle.std.proofs.Common.{sym, ap, []}
+use Rattle.std.proofs.Common.{sym, ap, [], rules}
 use Rattle.gixp_packetline.specs.Reading.{refusal_of}
 use Rattle.gixp_refs.specs.RefLine.{v2_line}
 use Rattle.gixp_refs.proofs.RefsLemmas.{refs-start, refs-reader, refs-refused}
@@ -49,3 +49,9 @@ pub returns-in-Err-parse_v2-clause-version : goal.returns-in-Err-parse_v2-clause
 returns-in-Err-parse_v2-clause-version g c =
     let k = rw c.in-Ok-true.field-0-test at c.in-Ok-true.ensures.reads in
     k.version
+
+pub returns-in-Ok-false-clause-next : goal.returns-in-Ok-false-clause-next
+returns-in-Ok-false-clause-next g c = search rules
+
+pub returns-in-Ok-false-clause-answer : goal.returns-in-Ok-false-clause-answer
+returns-in-Ok-false-clause-answer g c = search rules

@@ -1,7 +1,11 @@
 -- Each symref is taken off the end and put into the map.
+use Rattle.std.proofs.Common.{rules}
 use Rattle.gixp_refs.specs.V1Refs.{symref_value, symref_values}
 use Rattle.gixp_refs.proofs.TableLemmas.{table-put, taken_off}
 use Rattle.gixp_refs.proofs.handshake.refs.symrefs.by_name.Goals as goal
+
+pub loop-name-init : goal.loop-name-init
+loop-name-init c = search rules
 
 pub loop-name-preserved : goal.loop-name-preserved
 loop-name-preserved c =
