@@ -4,7 +4,7 @@ use gixp_hash::ObjectId;
 use gixp_packetline::Protocol;
 use gixp_requests::command::CommandTable;
 use gixp_requests::fetch::Arguments;
-use gixp_requests::{Command, agent};
+use gixp_requests::agent;
 use gixp_wire::{Bodies, Body, Connection, Transport};
 use std::alloc::{AllocError, Global};
 use std::io;
@@ -29,13 +29,6 @@ fn names_itself(rt: HostRuntime) -> Result<(), Fail> {
         assert_eq!(rt; agent(rt.alloc(), name)?.as_str(), want);
     }
     Ok(())
-}
-
-#[test]
-fn names_commands(rt: HostRuntime) {
-    assert_eq!(rt; Command::LsRefs.as_str(), "ls-refs");
-    assert_eq!(rt; Command::Fetch.as_str(), "fetch");
-    assert!(rt; Command::LsRefs < Command::Fetch);
 }
 
 // A want and a have of version 1.

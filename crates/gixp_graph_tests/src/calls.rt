@@ -31,16 +31,6 @@ fn graph(rt: HostRuntime) -> Result<(), Fail> {
     Ok(())
 }
 
-#[test]
-fn marks(rt: HostRuntime) -> Result<(), Fail> {
-    let mut graph = graph_of_merge(rt.alloc())?;
-    let _ = graph.lookup(&id(1))?;
-    assert!(rt; graph.insert_flags(&id(1), Flags::SEEN));
-    assert!(rt; graph.insert_flags(&id(1), Flags::COMMON_REF));
-    assert_eq!(rt; graph.lookup(&id(1))?, Some((10, Flags(12))));
-    Ok(())
-}
-
 /// Whether the parents of the merge are these.
 fn has_parents(
     alloc: Global,
@@ -56,29 +46,6 @@ fn parents(rt: HostRuntime) -> Result<(), Fail> {
     assert!(rt; has_parents(rt.alloc(), &graph, &[])?);
     let _ = graph.lookup(&id(1))?;
     assert!(rt; has_parents(rt.alloc(), &graph, &[id(2), id(3)])?);
-    Ok(())
-}
-
-#[test]
-fn commits_without_parents(rt: HostRuntime) -> Result<(), Fail> {
-    let mut graph = graph_of_merge(rt.alloc())?;
-    assert_eq!(rt; graph.lookup(&id(2))?, Some((-5, Flags(0))));
-    assert!(rt; graph.lookup(&id(3))?.is_none() && !graph.insert_flags(&id(3), Flags::SEEN));
-    Ok(())
-}
-
-#[test]
-fn refused_lookup(rt: HostRuntime) -> Result<(), Fail> {
-    let repository = Repository {
-        commits: merge(rt.alloc())?,
-        looks: 1,
-        failures: 0,
-    };
-    let mut graph = Graph::new(rt.alloc(), repository);
-    assert!(rt; graph.lookup(&id(2))? == Some((-5, Flags(0))));
-    assert!(rt; graph.lookup(&id(1)) == Err(ObjectError::Io(io::ErrorKind::Other)));
-    assert!(rt; graph.get(&id(1)).is_none());
-    assert!(rt; graph.lookup(&id(2))? == Some((-5, Flags(0))));
     Ok(())
 }
 

@@ -47,27 +47,6 @@ fn clocks_that_run_backwards(rt: HostRuntime) -> Result<(), Fail> {
     Ok(())
 }
 
-/// A chain of three commits, 1 to 3, with times from 10 down.
-fn row_of_three(alloc: Global) -> Result<BTreeMap<ObjectId, CommitData>, AllocError> {
-    let mut commits = BTreeMap::new(alloc);
-    add(alloc, &mut commits, 1, 10, &[2])?;
-    add(alloc, &mut commits, 2, 9, &[3])?;
-    add(alloc, &mut commits, 3, 8, &[])?;
-    Ok(commits)
-}
-
-#[test]
-fn through_marks(rt: HostRuntime) -> Result<(), Fail> {
-    let mut graph = Graph::new(rt.alloc(), never_failing(row_of_three(rt.alloc())?));
-    graph.mark_complete(&[id(1)], Some(10))?;
-    assert!(rt; is_complete(&graph, 1) && is_complete(&graph, 2) && graph.get(&id(3)).is_none());
-    assert!(rt; graph.insert_flags(&id(2), Flags::SEEN));
-    graph.mark_complete(&[id(1)], Some(0))?;
-    assert!(rt; is_complete(&graph, 1) && is_complete(&graph, 3));
-    assert!(rt; graph.get(&id(2)) == Some((9, Flags(9))));
-    Ok(())
-}
-
 /// A chain of 1,000 commits of one time, the first of which is the tip.
 fn chain(alloc: Global, time: i64) -> Result<BTreeMap<ObjectId, CommitData>, AllocError> {
     let mut commits = BTreeMap::new(alloc);

@@ -58,7 +58,7 @@ pub enum PacketError {
 }
 
 /// What stands at the front of some bytes.
-#[derive(Clone, Copy, Debug, PartialEq, Eq)]
+#[derive(Clone, Copy)]
 pub(crate) enum Head {
     /// Less than a whole frame.
     Partial,

@@ -63,12 +63,6 @@ fn names_each_packet_error(rt: HostRuntime) -> Result<(), Fail> {
 }
 
 #[test]
-fn names_services(rt: HostRuntime) {
-    assert_eq!(rt; Service::UploadPack.as_str(), "git-upload-pack");
-    assert_eq!(rt; Service::ReceivePack.as_str(), "git-receive-pack");
-}
-
-#[test]
 fn copies_an_account(rt: HostRuntime) -> Result<(), Fail> {
     let a = rt.alloc();
     let account = Account {

@@ -53,20 +53,3 @@ fn takes_a_failure_of_that_kind_for_the_end(rt: HostRuntime) -> Result<(), Fail>
     assert_eq!(rt; got.as_str(), "2 Io(UnexpectedEof) Io(UnexpectedEof) ");
     Ok(())
 }
-
-#[test]
-fn reads_and_writes_an_id(rt: HostRuntime) -> Result<(), Fail> {
-    let text = b"0123456789012345678901234567890123456789";
-    let id = ObjectId::from_hex(text)?;
-    assert_eq!(rt; id.to_hex().as_slice(), text.as_slice());
-    assert_eq!(rt; &id.as_bytes()[..4], [0x01, 0x23, 0x45, 0x67].as_slice());
-    assert!(rt; ObjectId::null().is_null() && !id.is_null() && Kind::Sha1.null().is_null());
-    Ok(())
-}
-
-#[test]
-fn names_kinds_and_frames(rt: HostRuntime) {
-    assert_eq!(rt; Kind::from_name(b"sha1"), Some(Kind::Sha1));
-    assert_eq!(rt; Frame::from(MessageKind::Text), Frame::Data);
-    assert_eq!(rt; Frame::from(MessageKind::Delimiter), Frame::Delimiter);
-}

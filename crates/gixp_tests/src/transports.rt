@@ -178,15 +178,6 @@ fn three_bodies(alloc: Global) -> Result<Bodies, AllocError> {
     bodies(alloc, &answers, Vec::new(alloc))
 }
 
-#[test]
-fn tells_of_bodies(rt: HostRuntime) -> Result<(), Fail> {
-    let memory = three_bodies(rt.alloc())?;
-    assert!(rt; !memory.connection_persists_across_multiple_requests());
-    assert_eq!(rt; memory.to_url().as_bytes(), b"mem:".as_slice());
-    assert_eq!(rt; memory.supported_protocol_versions().len(), 0);
-    Ok(())
-}
-
 // What a request of one message returns, and so many calls for lines behind it.
 fn asked(
     alloc: Global,
@@ -259,26 +250,6 @@ fn takes_a_body_for_each_handshake(rt: HostRuntime) -> Result<(), Fail> {
     assert!(rt; identity.is_some_and(|account| account.username.as_str() == "me"));
     assert_eq!(rt; greeted(a, &mut memory)?.as_str(), "V2 0 false |");
     assert_eq!(rt; memory.sent().len(), 0);
-    Ok(())
-}
-
-#[test]
-fn takes_no_account_for_a_connection(rt: HostRuntime) -> Result<(), Fail> {
-    let a = rt.alloc();
-    let nobody = account(a, "", "")?;
-    let mut over = silent(a, Paper::sound(a, usize::MAX))?;
-    let refused = over.set_identity(nobody);
-    assert!(rt; matches!(refused, Err(Error::AuthenticationUnsupported)));
-    Ok(())
-}
-
-#[test]
-fn tells_of_a_connection(rt: HostRuntime) -> Result<(), Fail> {
-    let a = rt.alloc();
-    let over = silent(a, Paper::sound(a, usize::MAX))?;
-    assert!(rt; over.connection_persists_across_multiple_requests());
-    assert_eq!(rt; over.to_url().as_bytes(), b"git://h/p.git".as_slice());
-    assert!(rt; over.supported_protocol_versions().is_empty());
     Ok(())
 }
 

@@ -18,7 +18,7 @@ use std::alloc::Global;
 use std::io::Read;
 
 /// Which version a first line names.
-#[derive(Clone, Copy, Debug, PartialEq, Eq)]
+#[derive(Clone, Copy)]
 pub(crate) enum Named {
     One,
     Two,

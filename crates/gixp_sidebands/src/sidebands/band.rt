@@ -4,7 +4,7 @@ ghost use Rattle.std.specs.Io.BufRead.{strip_last};
 ghost use Rattle.gixp_sidebands.specs.Bands.{band_of};
 
 /// What a line is to a reader of bands.
-#[derive(Clone, Copy, Debug, PartialEq, Eq, Drop)]
+#[derive(Clone, Copy, Drop)]
 pub(crate) enum Band {
     /// Nothing, or band 1 with nothing behind it.
     Empty,
