@@ -1,107 +1,17 @@
-//! Refs and answers over a device that fails at one read, and an answer in bands.
+//! Shallow updates of a handshake, and an answer in bands.
 use bstr::BStr;
 use gixp_hash::ObjectId;
 use gixp_packetline::{ExtendedBufRead, LineReader, Protocol};
-use gixp_refs::handshake::refs::from_v2_refs;
 use gixp_response::fetch::Response;
 use gixp_response::fetch::response::{Acknowledgement, Error, ShallowUpdate};
 use gixp_sidebands::{BandText, NeverInterrupt, WithSidebands};
 use std::alloc::{AllocError, Global};
-use std::io;
 use std::io::{ErrorKind, Read};
 use std::test::Fail;
 
 const A: &[u8] = b"0123456789012345678901234567890123456789";
 
 const B: &[u8] = b"bbbbbbbbbbbbbbbbbbbbbbbbbbbbbbbbbbbbbbbb";
-
-// Bytes of which each read gives at most `step`. The read of number `fails` fails with `kind`.
-#[derive(Drop)]
-struct Device<'a> {
-    bytes: &'a [u8],
-    step: usize,
-    fails: usize,
-    kind: ErrorKind,
-}
-
-impl Read for Device<'_> {
-    fn read(&mut self, buf: &mut [u8]) -> io::Result<usize> {
-        if self.fails == 0 {
-            self.fails = usize::MAX;
-            return Err(io::Error::from(self.kind));
-        }
-        self.fails -= 1;
-        let amount = self.step.min(self.bytes.len()).min(buf.len());
-        let (front, rest) = self.bytes.split_at(amount);
-        buf[..amount].copy_from_slice(front);
-        self.bytes = rest;
-        Ok(amount)
-    }
-}
-
-// Two refs.
-const REFS: &[u8] =
-    b"00507257effbd41e1233eaae5744e614c5c728e3c979 HEAD symref-target:refs/heads/main\n\
-    003d7257effbd41e1233eaae5744e614c5c728e3c979 refs/heads/main\n\
-    0000";
-
-const DEPTH: &[u8] = b"0034shallow 7257effbd41e1233eaae5744e614c5c728e3c979\
-    00000008NAK\n0023\x02Enumerating objects: 2, done.\n";
-
-const DEPTH_V2: &[u8] = b"0011shallow-info\n0034shallow 7257effbd41e1233eaae5744e614c5c728e3c979\
-    0001000dpackfile\n0022\x02Counting objects: 100% (2/2)\r";
-
-// Where a read of 11 bytes fails, in place of this one.
-fn failing<'a>(bytes: &'a [u8], fails: usize) -> Device<'a> {
-    Device {
-        bytes,
-        step: 11,
-        fails,
-        kind: ErrorKind::TimedOut,
-    }
-}
-
-// What is told of refs of which the read with this number fails.
-fn told_of_refs(alloc: Global, fails: usize) -> Result<String, AllocError> {
-    let mut device = failing(REFS, fails);
-    let mut reader = LineReader::new(alloc, &mut device)?;
-    let refused = from_v2_refs(alloc, &mut reader);
-    format!(in alloc; "{refused:?}")
-}
-
-#[test]
-fn tells_of_each_read_that_fails(rt: HostRuntime) -> Result<(), Fail> {
-    for fails in 0..REFS.len().div_ceil(11) {
-        let told = told_of_refs(rt.alloc(), fails)?;
-        assert_eq!(rt; told.as_str(), "Err(Io(TimedOut))", "{fails}");
-    }
-    Ok(())
-}
-
-// What is told of an answer of which the read with this number fails.
-fn told_of_an_answer(
-    alloc: Global,
-    version: Protocol,
-    bytes: &[u8],
-    fails: usize,
-) -> Result<String, AllocError> {
-    let mut device = failing(bytes, fails);
-    let mut reader = LineReader::new(alloc, &mut device)?;
-    let refused = Response::from_line_reader(alloc, version, &mut reader, true, false);
-    format!(in alloc; "{refused:?}")
-}
-
-#[test]
-fn tells_of_each_read_of_an_answer_that_fails(rt: HostRuntime) -> Result<(), Fail> {
-    for (version, bytes) in [(Protocol::V0, DEPTH), (Protocol::V2, DEPTH_V2)] {
-        // The packet behind the answer has 35 bytes at most.
-        for fails in 0..bytes.len().saturating_sub(35).div_ceil(11) {
-            let told = told_of_an_answer(rt.alloc(), version, bytes, fails)?;
-            assert_eq!(rt; told.as_str(), "Err(Io(TimedOut))", "{fails}");
-        }
-    }
-    Ok(())
-}
 
 // An answer with one shallow line, to which a handshake without updates added none.
 fn shallow_answer(alloc: Global) -> Result<Response, Fail> {

@@ -11,9 +11,7 @@ use bstr::BString;
 use gixp_capabilities::client::Error;
 use gixp_packetline::read::ExtendedBufRead;
 use gixp_packetline::{MessageKind, Protocol};
-use gixp_wire::{
-    Account, Bodies, Body, Connection, Message, Service, SetServiceResponse, Transport,
-};
+use gixp_wire::{Bodies, Body, Connection, Message, Service, Transport};
 use std::alloc::{AllocError, Global};
 use std::io::ErrorKind;
 use std::test::Fail;
@@ -52,41 +50,6 @@ fn bodies(
         })?;
     }
     Bodies::new(alloc, list, url, accepted)
-}
-
-// The version that a handshake found, the number of capabilities, and whether refs come.
-fn found(alloc: Global, answer: &SetServiceResponse) -> Result<String, AllocError> {
-    let count = answer.capabilities.iter().count();
-    format!(in alloc;
-        "{:?} {count} {} ",
-        answer.actual_protocol, answer.refs_follow
-    )
-}
-
-// Adds the length of each line up to the stop, or to an error.
-fn add_lines<R: ExtendedBufRead>(
-    alloc: Global,
-    reader: &mut R,
-    said: &mut String,
-) -> Result<(), AllocError> {
-    for _ in 0..100usize {
-        match reader.readline() {
-            Ok(Some(line)) => said.push_str(format!(in alloc; "{} ", line.len())?.as_str())?,
-            Ok(None) => return said.push_str("|"),
-            Err(e) => return said.push_str(format!(in alloc; "{e:?}")?.as_str()),
-        }
-    }
-    Ok(())
-}
-
-// What a handshake and the calls behind it return.
-fn greeted<T: Transport>(alloc: Global, transport: &mut T) -> Result<String, AllocError> {
-    let mut said = match transport.handshake(alloc, Service::UploadPack, &[]) {
-        Ok(answer) => found(alloc, &answer)?,
-        Err(e) => return format!(in alloc; "{e:?}"),
-    };
-    add_lines(alloc, transport, &mut said)?;
-    Ok(said)
 }
 
 fn fails_with<T: Drop>(answer: Result<T, Error>, kind: ErrorKind) -> bool {
@@ -223,36 +186,6 @@ fn takes_a_body_for_each_request(rt: HostRuntime) -> Result<(), Fail> {
     Ok(())
 }
 
-fn account(alloc: Global, username: &str, password: &str) -> Result<Account, AllocError> {
-    Ok(Account {
-        username: String::from_str(alloc, username)?,
-        password: String::from_str(alloc, password)?,
-    })
-}
-
-fn give_account(alloc: Global, memory: &mut Bodies) -> Result<(), Fail> {
-    memory.set_identity(account(alloc, "me", "secret")?)?;
-    Ok(())
-}
-
-#[test]
-fn takes_a_body_for_each_handshake(rt: HostRuntime) -> Result<(), Fail> {
-    let a = rt.alloc();
-    let answers = [
-        Err(ErrorKind::PermissionDenied),
-        Ok(b"000eversion 2\n0000".as_slice()),
-    ];
-    let mut memory = bodies(a, &answers, Vec::new(a))?;
-    assert_eq!(rt; greeted(a, &mut memory)?.as_str(), "Io(PermissionDenied)");
-    assert!(rt; memory.identity().is_none());
-    give_account(a, &mut memory)?;
-    let identity = memory.identity();
-    assert!(rt; identity.is_some_and(|account| account.username.as_str() == "me"));
-    assert_eq!(rt; greeted(a, &mut memory)?.as_str(), "V2 0 false |");
-    assert_eq!(rt; memory.sent().len(), 0);
-    Ok(())
-}
-
 // Sends a command and takes the first line of its answer: true where one came. It knows no more of the transport
 // than what every transport says.
 fn ask<T: Transport>(alloc: Global, transport: &mut T, command: &str) -> Result<bool, Error>
@@ -303,28 +236,5 @@ fn asks_over_a_connection(rt: HostRuntime) -> Result<(), Fail> {
         over.writer().bytes.as_slice(),
         b"000ecommand=x\n0000000ecommand=y\n0000".as_slice()
     );
-    Ok(())
-}
-
-const ADVERTISEMENT: &[u8] = b"000eversion 1\n\
-    0058abcdefabcdefabcdefabcdefabcdefabcdefabcd HEAD\0thin-pack symref=HEAD:refs/heads/main\n\
-    003dabcdefabcdefabcdefabcdefabcdefabcdefabcd refs/heads/main\n0000";
-
-// What is told of an advertisement of which the read with this number fails.
-fn greeted_over_failing(alloc: Global, fails: usize) -> Result<String, AllocError> {
-    let mut device = Device::sound(ADVERTISEMENT, 11);
-    device.fails = fails;
-    device.kind = ErrorKind::TimedOut;
-    let paper = Paper::sound(alloc, usize::MAX);
-    let mut over = connection(alloc, device, paper, Protocol::V1)?;
-    greeted(alloc, &mut over)
-}
-
-#[test]
-fn tells_of_each_read_that_fails(rt: HostRuntime) -> Result<(), Fail> {
-    for fails in 0..ADVERTISEMENT.len().div_ceil(11) {
-        let got = greeted_over_failing(rt.alloc(), fails)?;
-        assert!(rt; got.as_str().ends_with("Io(TimedOut)"), "{got} at {fails}");
-    }
     Ok(())
 }
