@@ -125,7 +125,21 @@ fn read_list(
     }
 }
 
-/// The list, each look-up, and the offers.
+// The list, each look-up, and the offers.
+fn report_found(
+    alloc: Global,
+    row: &Row<'_>,
+    found: &Capabilities,
+    names: &[BString],
+    report: &mut Report,
+) -> Result<(), AllocError> {
+    values::capability_list(alloc, report, found)?;
+    report_look_ups(alloc, found, names, report)?;
+    report_symrefs(alloc, found, report)?;
+    report_offers(alloc, row, found, names, report)
+}
+
+/// A list that was read, each look-up in it, and the offers.
 pub(crate) fn report_capabilities(
     alloc: Global,
     row: &Row<'_>,
@@ -134,11 +148,8 @@ pub(crate) fn report_capabilities(
     let [form, length, ..] = row.settings;
     let (names, bytes) = cut_at(row.payload, length);
     let names = texts(alloc, names, b',')?;
-    let Some(found) = read_list(alloc, form != 0, bytes, report)? else {
-        return Ok(());
-    };
-    values::capability_list(alloc, report, &found)?;
-    report_look_ups(alloc, &found, &names, report)?;
-    report_symrefs(alloc, &found, report)?;
-    report_offers(alloc, row, &found, &names, report)
+    match read_list(alloc, form != 0, bytes, report)? {
+        Some(found) => report_found(alloc, row, &found, &names, report),
+        None => Ok(()),
+    }
 }

@@ -161,29 +161,56 @@ fn report_calls<T: Transport>(
     Ok(())
 }
 
+// What is asked for at first, by the features that the row names.
+fn first_asked(alloc: Global, row: &Row<'_>) -> Result<Arguments, AllocError> {
+    let [version, _, mask, mask_of_values, length] = row.settings;
+    let mut features = features_of(alloc, mask, mask_of_values, length)?;
+    push_named(alloc, row.payload, &mut features)?;
+    Arguments::new(alloc, &CommandTable::git(), version_of(version), features)
+}
+
+// What each call gives over bodies in memory, and the requests that were sent.
+fn report_over_bodies(
+    alloc: Global,
+    row: &Row<'_>,
+    asked: &mut Arguments,
+    report: &mut Report,
+) -> Result<(), AllocError> {
+    let mut transport = bodies(alloc, Vec::new(alloc))?;
+    report_calls(alloc, row.payload, asked, &mut transport, report)?;
+    for request in transport.sent() {
+        report.quote(request);
+        report.word(" ");
+    }
+    Ok(())
+}
+
+// What each call gives over a connection, and the bytes that were sent.
+fn report_over_connection(
+    alloc: Global,
+    row: &Row<'_>,
+    asked: &mut Arguments,
+    report: &mut Report,
+) -> Result<(), AllocError> {
+    let [version, ..] = row.settings;
+    let device = Device::new(b"", row.cut, 0);
+    let mut transport = connection(alloc, device, row.cut, version, None)?;
+    report_calls(alloc, row.payload, asked, &mut transport, report)?;
+    report.quote(&transport.writer().bytes);
+    Ok(())
+}
+
 /// What each call gives, and the bytes that were sent.
 pub(crate) fn report_requests(
     alloc: Global,
     row: &Row<'_>,
     report: &mut Report,
 ) -> Result<(), AllocError> {
-    let [version, over, mask, mask_of_values, length] = row.settings;
-    let mut features = features_of(alloc, mask, mask_of_values, length)?;
-    push_named(alloc, row.payload, &mut features)?;
-    let table = CommandTable::git();
-    let mut asked = Arguments::new(alloc, &table, version_of(version), features)?;
+    let [_, over, ..] = row.settings;
+    let mut asked = first_asked(alloc, row)?;
     if over == 0 {
-        let mut transport = bodies(alloc, Vec::new(alloc))?;
-        report_calls(alloc, row.payload, &mut asked, &mut transport, report)?;
-        for request in transport.sent() {
-            report.quote(request);
-            report.word(" ");
-        }
-        return Ok(());
+        report_over_bodies(alloc, row, &mut asked, report)
+    } else {
+        report_over_connection(alloc, row, &mut asked, report)
     }
-    let device = Device::new(b"", row.cut, 0);
-    let mut transport = connection(alloc, device, row.cut, version, None)?;
-    report_calls(alloc, row.payload, &mut asked, &mut transport, report)?;
-    report.quote(&transport.writer().bytes);
-    Ok(())
 }

@@ -1,16 +1,12 @@
-//! Tests of what rows of data can't say of the crates that read frames, bands and transports: devices that fail, what a
-//! dropped reader leaves, and the texts of errors. It has no function outside its tests.
+//! Tests of what rows of data can't say, and no clause says, of the crates up to requests, the commit graph and
+//! refspecs. It has no function outside its tests.
 #![tactic(auto)]
 
 #[cfg(test)]
-mod bands;
+mod fetch;
 #[cfg(test)]
-mod devices;
+mod graph;
 #[cfg(test)]
-mod errors;
+mod refspecs;
 #[cfg(test)]
-mod progress;
-#[cfg(test)]
-mod readers;
-#[cfg(test)]
-mod transports;
+mod streams;

@@ -1,0 +1,101 @@
+//! Readers of bands: the interrupt of a caller's flag, and what stands in a transport that is given back.
+use crate::streams::devices::Device;
+use gixp_packetline::{ExtendedBufRead, LineReader};
+use gixp_sidebands::{BandText, InterruptFlag, NeverInterrupt, WithSidebands};
+use std::alloc::{AllocError, Global};
+use std::cell::Cell;
+use std::io;
+use std::io::{BufRead, ErrorKind, Read};
+use std::test::Fail;
+
+// Writes each text down, as `[2:text]` or `[3:text]`.
+#[derive(Drop)]
+struct Notes<'a> {
+    said: &'a mut String,
+}
+
+impl BandText for Notes<'_> {
+    ghost hears = { λ old is_error text new. Unit {0} };
+
+    fn band_text(&mut self, is_error: bool, text: &[u8]) -> Result<(), AllocError> {
+        self.said.push_str(if is_error { "[3:" } else { "[2:" })?;
+        self.said.push_str(str::from_utf8(text).unwrap_or("?"))?;
+        self.said.push_str("]")
+    }
+}
+
+const STREAM: &[u8] = b"0006\x01P0005\x010007\x02hi0006\x01A0000";
+
+// The size of a read, or the kind of its failure.
+fn size_read<R: Read>(reader: &mut R) -> Result<usize, ErrorKind> {
+    let mut room = [0u8; 8];
+    reader.read(&mut room).map_err(|e| e.kind())
+}
+
+// Whether there is an interrupt, and what two reads give behind that question.
+fn two_reads(
+    alloc: Global,
+    flag: &Cell<bool>,
+    texts: &mut String,
+) -> Result<(bool, [Result<usize, ErrorKind>; 2]), AllocError> {
+    let mut device = Device::sound(STREAM, 1);
+    let mut lines = LineReader::new(alloc, &mut device)?;
+    let mut flag = InterruptFlag::new(flag);
+    let mut reader = WithSidebands::new(&mut lines, Notes { said: texts }, &mut flag);
+    let interrupted = reader.interrupted();
+    let sizes = [size_read(&mut reader), size_read(&mut reader)];
+    Ok((interrupted, sizes))
+}
+
+#[test]
+fn asks_the_flag_of_a_caller(rt: HostRuntime) -> Result<(), Fail> {
+    let a = rt.alloc();
+    let flag = Cell::new(true);
+    for (interrupted, second) in [(true, Err(ErrorKind::Other)), (false, Ok(1))] {
+        flag.set(interrupted);
+        let mut texts = String::new(a);
+        let got = two_reads(a, &flag, &mut texts)?;
+        assert_eq!(rt; got, (interrupted, [Ok(1), second]));
+        assert_eq!(rt; texts.as_str(), "[2:hi]");
+    }
+    Ok(())
+}
+
+// Peeks, if asked to, and reads so many bytes, one at most.
+fn read_some<R: BufRead>(reader: &mut R, size: usize, peeks: bool) -> io::Result<()> {
+    if peeks {
+        let _ = reader.fill_buf()?;
+    }
+    let mut room = [0u8; 1];
+    let _ = reader.read(&mut room[..size.min(1)])?;
+    Ok(())
+}
+
+fn first_line<R: ExtendedBufRead>(alloc: Global, reader: &mut R) -> Result<Vec<u8>, Fail> {
+    let line = reader.readline()?.ok_or("a line")?;
+    Ok(line.to_vec(alloc)?)
+}
+
+// The line of a transport that was given back behind so many bytes.
+fn line_behind(alloc: Global, size: usize, peeks: bool) -> Result<Vec<u8>, Fail> {
+    let mut device = Device::sound(b"0007\x01PA0006\x01C0000", 1);
+    let mut lines = LineReader::new(alloc, &mut device)?;
+    let mut texts = String::new(alloc);
+    let notes = Notes { said: &mut texts };
+    let mut never = NeverInterrupt;
+    let mut reader = WithSidebands::new(&mut lines, notes, &mut never);
+    read_some(&mut reader, size, peeks)?;
+    first_line(alloc, reader.into_transport())
+}
+
+#[test]
+fn gives_the_transport_back(rt: HostRuntime) -> Result<(), Fail> {
+    for (size, peeks, want) in [
+        (0, false, b"\x01PA".as_slice()),
+        (0, true, b"\x01PA"),
+        (1, true, b"\x01C"),
+    ] {
+        assert_eq!(rt; line_behind(rt.alloc(), size, peeks)?.as_slice(), want);
+    }
+    Ok(())
+}

@@ -1,0 +1,55 @@
+//! Line readers over devices that fail, and ids.
+use crate::streams::devices::Device;
+use gixp_hash::{Kind, ObjectId};
+use gixp_packetline::read::ExtendedBufRead;
+use gixp_packetline::{Frame, LineReader, MessageKind, Protocol};
+use std::alloc::{AllocError, Global};
+use std::io::ErrorKind;
+use std::test::Fail;
+
+// What a call of a reader answers: the length of a line, `|` for a stop, or an error.
+fn word<R: ExtendedBufRead>(alloc: Global, reader: &mut R) -> Result<String, AllocError> {
+    match reader.readline() {
+        Ok(Some(line)) => format!(in alloc; "{} ", line.len()),
+        Ok(None) => format!(in alloc; "| "),
+        Err(e) => format!(in alloc; "{e:?} "),
+    }
+}
+
+// What so many calls of a reader answer, one a word.
+pub(crate) fn read_all<R: ExtendedBufRead>(
+    alloc: Global,
+    reader: &mut R,
+    calls: usize,
+) -> Result<String, AllocError> {
+    let mut said = String::new(alloc);
+    for _ in 0..calls {
+        said.push_str(word(alloc, reader)?.as_str())?;
+    }
+    Ok(said)
+}
+
+fn said(
+    alloc: Global,
+    mut device: Device<'_>,
+    version: Protocol,
+    calls: usize,
+) -> Result<String, AllocError> {
+    let mut reader = LineReader::new(alloc, &mut device)?;
+    reader.reset(version);
+    read_all(alloc, &mut reader, calls)
+}
+
+// A read that fails as at an end ends the stream.
+#[test]
+fn takes_a_failure_of_that_kind_for_the_end(rt: HostRuntime) -> Result<(), Fail> {
+    let device = Device {
+        bytes: b"0006a\n0000",
+        step: 2,
+        fails: 3,
+        kind: ErrorKind::UnexpectedEof,
+    };
+    let got = said(rt.alloc(), device, Protocol::V2, 3)?;
+    assert_eq!(rt; got.as_str(), "2 Io(UnexpectedEof) Io(UnexpectedEof) ");
+    Ok(())
+}

@@ -1,0 +1,240 @@
+//! Transports over devices that fail, bodies that fail, and a caller over any transport.
+ghost use Rattle.std.specs.Prelude.{◌≡◌, [], IfOk, Ok};
+ghost use Rattle.gixp_packetline.specs.FrameText.{texts_of};
+ghost use Rattle.gixp_wire.specs.Message.{command_frames};
+ghost use Rattle.gixp_packetline.specs.Reading.{Reading, Reads};
+ghost use Rattle.gixp_wire.specs.Transport.{SentBy};
+
+use crate::streams::devices::{Device, Paper};
+use crate::streams::readers::read_all;
+use bstr::BString;
+use gixp_capabilities::client::Error;
+use gixp_packetline::read::ExtendedBufRead;
+use gixp_packetline::{MessageKind, Protocol};
+use gixp_wire::{Bodies, Body, Connection, Message, Service, Transport};
+use std::alloc::{AllocError, Global};
+use std::io::ErrorKind;
+use std::test::Fail;
+
+fn text(alloc: Global, bytes: &[u8]) -> Result<BString, AllocError> {
+    BString::from_slice(alloc, bytes)
+}
+
+fn connection<'a>(
+    alloc: Global,
+    device: Device<'a>,
+    paper: Paper,
+    version: Protocol,
+) -> Result<Connection<Device<'a>, Paper>, AllocError> {
+    let url = text(alloc, b"git://h/p.git")?;
+    Connection::new(alloc, device, paper, url, version, Vec::new(alloc), None)
+}
+
+// A connection over which nothing comes.
+fn silent(alloc: Global, paper: Paper) -> Result<Connection<Device<'static>, Paper>, AllocError> {
+    connection(alloc, Device::sound(b"", usize::MAX), paper, Protocol::V2)
+}
+
+// A body for each of these answers: its bytes, or the kind of its failure.
+fn bodies(
+    alloc: Global,
+    answers: &[Result<&[u8], ErrorKind>],
+    accepted: Vec<Protocol>,
+) -> Result<Bodies, AllocError> {
+    let url = text(alloc, b"mem:")?;
+    let mut list = Vec::new(alloc);
+    for answer in answers {
+        list.push(match answer {
+            Ok(bytes) => Body::Bytes(bytes.to_vec(alloc)?),
+            Err(kind) => Body::Fail(*kind),
+        })?;
+    }
+    Bodies::new(alloc, list, url, accepted)
+}
+
+fn fails_with<T: Drop>(answer: Result<T, Error>, kind: ErrorKind) -> bool {
+    matches!(answer, Err(Error::Io(found)) if found == kind)
+}
+
+// A connection of which the write with this number fails.
+fn broken_at(
+    alloc: Global,
+    fails: usize,
+) -> Result<Connection<Device<'static>, Paper>, AllocError> {
+    let mut paper = Paper::sound(alloc, usize::MAX);
+    paper.fails = fails;
+    paper.kind = ErrorKind::BrokenPipe;
+    let device = Device::sound(b"0000", usize::MAX);
+    connection(alloc, device, paper, Protocol::V2)
+}
+
+// Whether three requests all tell of a broken pipe.
+fn refuses_requests<T: Transport>(over: &mut T) -> bool {
+    let messages = [Message::Line(b"a"), Message::Delimiter, Message::Flush];
+    for _ in 0..3 {
+        if !fails_with(over.request(&messages), ErrorKind::BrokenPipe) {
+            return false;
+        }
+    }
+    true
+}
+
+// Whether the steps of a request and a handshake all tell of a broken pipe.
+fn refuses_steps<T: Transport>(alloc: Global, over: &mut T) -> bool {
+    let kind = ErrorKind::BrokenPipe;
+    fails_with(over.begin_request(), kind)
+        && fails_with(over.write_message(MessageKind::Flush), kind)
+        && fails_with(over.end_request(), kind)
+        && fails_with(over.handshake(alloc, Service::UploadPack, &[]), kind)
+}
+
+#[test]
+fn repeats_the_fault_of_a_write(rt: HostRuntime) -> Result<(), Fail> {
+    let a = rt.alloc();
+    for fails in 0..5usize {
+        let mut over = broken_at(a, fails)?;
+        assert!(rt; refuses_requests(&mut over));
+        assert!(rt; refuses_steps(a, &mut over));
+    }
+    Ok(())
+}
+
+#[test]
+fn writes_on_where_a_write_comes_short(rt: HostRuntime) -> Result<(), Fail> {
+    let a = rt.alloc();
+    for fails in 0..8usize {
+        let mut paper = Paper::sound(a, 2);
+        paper.fails = fails;
+        paper.kind = ErrorKind::Interrupted;
+        let mut over = silent(a, paper)?;
+        over.request(&[Message::Line(b"abc"), Message::Flush])?;
+        assert_eq!(rt; over.writer().bytes.as_slice(), b"0008abc\n0000".as_slice());
+    }
+    Ok(())
+}
+
+#[test]
+fn tells_of_a_write_that_takes_nothing(rt: HostRuntime) -> Result<(), Fail> {
+    let a = rt.alloc();
+    let mut over = silent(a, Paper::sound(a, 0))?;
+    assert!(rt; fails_with(over.request(&[Message::Flush]), ErrorKind::WriteZero));
+    Ok(())
+}
+
+#[test]
+fn tells_of_a_flush_that_fails(rt: HostRuntime) -> Result<(), Fail> {
+    let a = rt.alloc();
+    let mut paper = Paper::sound(a, usize::MAX);
+    paper.flushes = false;
+    let mut over = silent(a, paper)?;
+    assert!(rt; fails_with(over.request(&[Message::Flush]), ErrorKind::Other));
+    Ok(())
+}
+
+// An answer of two parts, a failure, and an answer of one line.
+fn three_bodies(alloc: Global) -> Result<Bodies, AllocError> {
+    let answers = [
+        Ok(b"0006a\n0006b\n00000006c\n".as_slice()),
+        Err(ErrorKind::TimedOut),
+        Ok(b"0006d\n0000"),
+    ];
+    bodies(alloc, &answers, Vec::new(alloc))
+}
+
+// What a request of one message returns, and so many calls for lines behind it.
+fn asked(
+    alloc: Global,
+    memory: &mut Bodies,
+    message: Message<'_>,
+    calls: usize,
+) -> Result<String, AllocError> {
+    let answer = memory.request(&[message]);
+    let lines = read_all(alloc, memory, calls)?;
+    format!(in alloc; "{answer:?} {lines}")
+}
+
+// What each call of a client returns that sends four requests. What it writes before the second one is dropped.
+fn told_of_requests(alloc: Global, memory: &mut Bodies) -> Result<String, Fail> {
+    let mut told = read_all(alloc, memory, 2)?;
+    told.push_str(asked(alloc, memory, Message::Flush, 1)?.as_str())?;
+    memory.write_text(b"dropped")?;
+    for (message, calls) in [
+        (Message::Line(b"x"), 1),
+        (Message::Flush, 3),
+        (Message::Flush, 2),
+    ] {
+        told.push_str(asked(alloc, memory, message, calls)?.as_str())?;
+    }
+    Ok(told)
+}
+
+#[test]
+fn takes_a_body_for_each_request(rt: HostRuntime) -> Result<(), Fail> {
+    let a = rt.alloc();
+    let mut memory = three_bodies(a)?;
+    assert_eq!(rt;
+        told_of_requests(a, &mut memory)?.as_str(),
+        "Io(UnexpectedEof) Io(UnexpectedEof) \
+        Ok(()) 2 \
+        Err(Io(TimedOut)) Io(UnexpectedEof) \
+        Ok(()) 2 | | \
+        Ok(()) Io(UnexpectedEof) Io(UnexpectedEof) "
+    );
+    let second = memory.sent().get(1);
+    assert!(rt; second.is_some_and(|request| request.as_slice() == b"0006x\n".as_slice()));
+    assert_eq!(rt; memory.sent().len(), 4);
+    Ok(())
+}
+
+// Sends a command and takes the first line of its answer: true where one came. It knows no more of the transport
+// than what every transport says.
+fn ask<T: Transport>(alloc: Global, transport: &mut T, command: &str) -> Result<bool, Error>
+    ensures { IfOk result (λ came. (mid : Reading)
+        × SentBy (T.reading transport.old).held.persists (T.reading transport.old) mid (texts_of (command_frames command.now [] []))
+        × Reads mid (T.reading transport.new) (Ok came)) }
+{
+    match transport.invoke(alloc, command, &[], &[]) {
+        Ok(()) => {}
+        Err(e) => return Err(e),
+    }
+    match transport.next_line() {
+        Ok(came) => Ok(came),
+        Err(e) => Err(Error::from(e)),
+    }
+}
+
+#[test]
+fn asks_over_any_transport(rt: HostRuntime) -> Result<(), Fail> {
+    let a = rt.alloc();
+    let accepted = Vec::from_slice(a, &[Protocol::V2])?;
+    let mut memory = bodies(a, &[Ok(b"0006a\n0000"), Ok(b"0000")], accepted)?;
+    assert!(rt; ask(a, &mut memory, "x")? && !ask(a, &mut memory, "y")?);
+    Ok(())
+}
+
+// Whether a first command has a line for its answer, what stands behind that line, and whether a second command has
+// one.
+fn asked_twice<T: Transport>(
+    alloc: Global,
+    transport: &mut T,
+) -> Result<(bool, String, bool), Fail> {
+    let first = ask(alloc, transport, "x")?;
+    let behind = read_all(alloc, transport, 1)?;
+    let second = ask(alloc, transport, "y")?;
+    Ok((first, behind, second))
+}
+
+#[test]
+fn asks_over_a_connection(rt: HostRuntime) -> Result<(), Fail> {
+    let a = rt.alloc();
+    let device = Device::sound(b"0006a\n00000000", usize::MAX);
+    let mut over = connection(a, device, Paper::sound(a, usize::MAX), Protocol::V2)?;
+    let (first, behind, second) = asked_twice(a, &mut over)?;
+    assert!(rt; first && !second);
+    assert_eq!(rt; behind.as_str(), "| ");
+    assert_eq!(rt;
+        over.writer().bytes.as_slice(),
+        b"000ecommand=x\n0000000ecommand=y\n0000".as_slice()
+    );
+    Ok(())
+}
