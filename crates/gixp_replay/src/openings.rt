@@ -39,6 +39,27 @@ pub(crate) fn parameters_of(
     Ok(parameters)
 }
 
+// An opening for a path with so many letters behind it, and for a host.
+fn opening_of(
+    alloc: Global,
+    path: &[u8],
+    length: u64,
+    host: Option<&[u8]>,
+) -> Result<Opening, AllocError> {
+    let mut path = path.to_vec(alloc)?;
+    for _ in 0..length {
+        path.push(b'x')?;
+    }
+    let host = match host {
+        None => None,
+        Some(host) => Some(BString::from_slice(alloc, host)?),
+    };
+    Ok(Opening {
+        path: BString::new(path),
+        host,
+    })
+}
+
 /// What the handshake gives, and the bytes that were written.
 pub(crate) fn report_opening(
     alloc: Global,
@@ -49,19 +70,8 @@ pub(crate) fn report_opening(
     let (path, rest) = cut_at_byte(row.payload, 0);
     let (host, rest) = cut_at_byte(rest, 0);
     let parameters = parameters_of(alloc, rest, 0)?;
-    let host = if has_host == 0 {
-        None
-    } else {
-        Some(BString::from_slice(alloc, host)?)
-    };
-    let mut path = path.to_vec(alloc)?;
-    for _ in 0..length {
-        path.push(b'x')?;
-    }
-    let opening = Opening {
-        path: BString::new(path),
-        host,
-    };
+    let host = if has_host == 0 { None } else { Some(host) };
+    let opening = opening_of(alloc, path, length, host)?;
     let service = if service == 0 {
         Service::UploadPack
     } else {

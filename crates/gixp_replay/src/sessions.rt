@@ -13,6 +13,7 @@ use crate::report::Report;
 use crate::rows::{Row, cut_at, cut_at_byte, number};
 use crate::values::client_error;
 use bstr::BString;
+use gixp_capabilities::Capabilities;
 use gixp_hash::ObjectId;
 use gixp_packetline::Protocol;
 use gixp_requests::Command;
@@ -132,6 +133,18 @@ fn fetch<T: Transport>(
     Ok(())
 }
 
+// The features that a client names where a server has these capabilities.
+fn features_of_fetch(
+    alloc: Global,
+    version: Protocol,
+    capabilities: &Capabilities,
+) -> Result<Vec<Feature>, AllocError> {
+    let table = CommandTable::git();
+    let mut features = table.default_features(alloc, Command::Fetch, version, capabilities)?;
+    features.push(agent(alloc)?)?;
+    Ok(features)
+}
+
 fn report_over<T: Transport>(
     alloc: Global,
     row: &Row<'_>,
@@ -148,14 +161,7 @@ fn report_over<T: Transport>(
         list_refs(alloc, transport, report)?
     };
     if goes_on {
-        let table = CommandTable::git();
-        let mut features = table.default_features(
-            alloc,
-            Command::Fetch,
-            version,
-            &found.capabilities,
-        )?;
-        features.push(agent(alloc)?)?;
+        let features = features_of_fetch(alloc, version, &found.capabilities)?;
         fetch(alloc, row, transport, version, features, report)?;
     }
     report_rest(transport, version, report);
