@@ -105,6 +105,17 @@ fn run_round<T: Transport>(
     Ok(!done)
 }
 
+// What is asked for at first, by these features.
+fn first_asked(
+    alloc: Global,
+    version: Protocol,
+    features: Vec<Feature>,
+) -> Result<Arguments, AllocError> {
+    let mut asked = Arguments::new(alloc, &CommandTable::git(), version, features)?;
+    asked.want(&ObjectId::null())?;
+    Ok(asked)
+}
+
 // The requests of a fetch, over these features.
 fn fetch<T: Transport>(
     alloc: Global,
@@ -116,8 +127,7 @@ fn fetch<T: Transport>(
 ) -> Result<(), AllocError> {
     let [_, _, _, last, seed] = row.settings;
     let is_banded = features.iter().any(|feature| feature.0 == "sideband-all");
-    let mut asked = Arguments::new(alloc, &CommandTable::git(), version, features)?;
-    asked.want(&ObjectId::null())?;
+    let mut asked = first_asked(alloc, version, features)?;
     for round in 1..6u8 {
         let done = u64::from(round) >= last;
         let reading = Reading {

@@ -1,4 +1,6 @@
-use Rattle.std.proofs.Common.{ap, sym, refl, ◌∙◌}
+use native.Mathlib.Omega.{arith}
+use Rattle.std.proofs.Common.{ap, sym, refl, ◌∙◌, rules}
+use Rattle.std.proofs.lemmas.Grind.{common_steps}
 use Rattle.std.specs.Option.{option_map}
 use Rattle.gixp_packetline.specs.Reading.{refusal_of}
 use Rattle.gixp_sidebands.proofs.ContentLemmas.{fills_by, refuses_by, none_of}
@@ -11,3 +13,9 @@ returns-in-Ok-clause-fills g c =
 pub returns-in-Err-clause-fills : goal.returns-in-Err-clause-fills
 returns-in-Err-clause-fills g c =
     refuses_by _ _ (refusal_of c.in-Err.e) _ (none_of _ (sym c.if-is_open.ensures)) c.in-Err.ensures.place refl (c.from-error.ensures ∙ c.io_kind.ensures) c.in-Err.ensures.peeks
+
+pub returns-then-is_open-clause-fills : goal.returns-then-is_open-clause-fills
+returns-then-is_open-clause-fills g c = grind (arith, common_steps)
+
+pub returns-then-is_open-clause-told : goal.returns-then-is_open-clause-told
+returns-then-is_open-clause-told g c = search rules
