@@ -1,5 +1,6 @@
 -- Each capability is a symref, none, or refused.
-use Rattle.std.proofs.Common.{rules}
+use native.Mathlib.Omega.{arith}
+use Rattle.std.proofs.lemmas.Grind.{common_steps}
 use Rattle.std.proofs.lemmas.Result.{err_from_is_err_and}
 use Rattle.gixp_capabilities.specs.Capability.{capability_value, capabilities_left}
 use Rattle.gixp_refs.specs.RefAdvertisement.{symref_table}
@@ -18,4 +19,4 @@ returns-in_err-symref c = let p = err_from_is_err_and c.from_residual.result c.f
     (capabilities_left c.next.new.self) (capability_value c.in-Some.capability) c.in_err-symref.field-0.0 c.loop-capability.invariant c.in-Some.ensures.steps c.in_err-symref.ensures)
 
 pub loop-capability-preserved : goal.loop-capability-preserved
-loop-capability-preserved c = search rules
+loop-capability-preserved c = grind (arith, common_steps)
