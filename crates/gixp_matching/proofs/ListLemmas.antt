@@ -1,5 +1,5 @@
 -- Steps of loops that append what a function makes of each element.
-use Rattle.std.proofs.Common.{◌≡◌, cond, ℕ, ◌+◌, ◌<◌, List, [], ◌∷◌, ◌++◌, length, take, map, get_or, Bool, true, inl, inr, ap, sym, ◌∙◌, refl, append_assoc}
+use Rattle.std.proofs.Common.{◌≡◌, cond, ℕ, ◌+◌, ◌<◌, List, [], ◌∷◌, ◌++◌, length, take, map, get_or, Bool, inl, inr, ap, sym, ◌∙◌, refl, append_assoc}
 use Rattle.std.specs.Prelude.{◌||◌, filter}
 use Rattle.std.specs.List.{list_any, fold, flat_map}
 use Rattle.std.proofs.lemmas.List.Sums.{fold_more}

@@ -1,5 +1,5 @@
 -- What a transport over memory means: each handshake and each request has an answer of its own.
-use Rattle.std.specs.Prelude.{◌≡◌, ℕ, ◌-◌, ◌*◌, ◌^◌, false, List, [], map, reverse, Option, Some, None, vec_items}
+use Rattle.std.specs.Prelude.{◌≡◌, ℕ, ◌-◌, ◌*◌, ◌^◌, false, List, [], map, reverse, Some, None, vec_items}
 use Rattle.std.specs.Option.{option_map}
 use Rattle.bstr.specs.Owned.{bstring_bytes}
 use Rattle.std.specs.declared.io.ErrorKind.TheVariants.{UnexpectedEof}

@@ -1,8 +1,7 @@
 -- The numbers so far.
 use Rattle.std.proofs.Common.{◌≡◌, take, map}
 use Rattle.gixp_matching.specs.Apart.{key_parts}
-use Rattle.gixp_matching.specs.Digest.{digest, parts_digest}
-use Rattle.gixp_matching.specs.MatchGroup.{key_bytes}
+use Rattle.gixp_matching.specs.Digest.{parts_digest}
 use Rattle.gixp_matching.proofs.match_group.digest.key_digests.Given as goal
 
 abbrev pub invariant-keys : goal.invariant-keys

@@ -1,7 +1,6 @@
 -- The numbers so far.
 use Rattle.std.proofs.Common.{◌≡◌, take, map}
-use Rattle.gixp_matching.specs.Apart.{key_parts}
-use Rattle.gixp_matching.specs.Digest.{digest, parts_digest}
+use Rattle.gixp_matching.specs.Digest.{digest}
 use Rattle.gixp_matching.specs.MatchGroup.{key_bytes}
 use Rattle.gixp_matching.proofs.match_group.digest.name_digests.Given as goal
 

@@ -1,5 +1,5 @@
 -- The ref at the place, where there is one.
-use Rattle.std.proofs.Common.{◌∙◌, ◌++◌, ap, sym, map, append-nil}
+use Rattle.std.proofs.Common.{◌∙◌, ◌++◌, ap, sym, append-nil}
 use Rattle.std.specs.List.{flat_map}
 use Rattle.gixp_matching.specs.Mappings.{pair}
 use Rattle.gixp_refspec.specs.RefSpec.{value_of}
