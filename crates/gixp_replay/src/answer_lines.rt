@@ -13,7 +13,7 @@ fn report_id(text: &[u8], report: &mut Report) {
             report.word(if id.is_null() { " null " } else { " " });
         }
         Err(e) => {
-            values::id_error(report, e);
+            report.debug(&e);
             report.word(" ");
         }
     }

@@ -19,7 +19,7 @@ use std::io::{BufRead, Read};
 fn report_bytes(report: &mut Report, bytes: io::Result<&[u8]>) {
     match bytes {
         Ok(bytes) => report.quote(bytes),
-        Err(e) => values::kind(report, e.kind()),
+        Err(e) => report.debug(&e.kind()),
     }
     report.word(" ");
 }

@@ -7,7 +7,7 @@ use crate::lines::report_rest;
 use crate::refs::report_list;
 use crate::report::Report;
 use crate::rows::Row;
-use crate::values::{capability_list, client_error, parse_error, update, version_of, version_word};
+use crate::values::{capability_list, client_error, parse_error, update, version_of};
 use bstr::BString;
 use gixp_capabilities::Capabilities;
 use gixp_refs::handshake::refs::from_v1_refs_received_as_part_of_handshake_and_capabilities;
@@ -20,7 +20,7 @@ pub(crate) fn report_response(
     found: &SetServiceResponse,
     report: &mut Report,
 ) -> Result<(), AllocError> {
-    report.word(version_word(found.actual_protocol));
+    report.debug(&found.actual_protocol);
     report.word(" ");
     report.word(if found.refs_follow {
         "refs "

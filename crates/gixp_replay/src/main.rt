@@ -25,6 +25,7 @@ mod places;
 mod plans;
 mod progress_lines;
 mod refs;
+mod refspecs;
 mod report;
 mod requests;
 mod rows;
@@ -80,6 +81,7 @@ fn replay_row(alloc: Global, row: &Row<'_>, report: &mut Report) -> Result<(), A
         }
         Mode::Requests => requests::report_requests(alloc, row, report),
         Mode::Session => sessions::report_session(alloc, row, report),
+        Mode::Refspecs => refspecs::report_refspecs(alloc, row, report),
         Mode::Map => maps::report_row(alloc, row, report),
         Mode::Shake => shakes::report_shake(alloc, row, report),
         Mode::Listing => listings::report_listing(alloc, row, report),

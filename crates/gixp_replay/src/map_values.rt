@@ -1,24 +1,9 @@
 //! Ref maps and why there are none, as text.
+use crate::refspecs::{report_fix, report_issue};
 use crate::report::Report;
 use crate::values::{client_error, parse_error, reference, validation_error};
-use gixp_matching::match_group::SourceRef;
-use gixp_matching::match_group::validate::{Fix, Issue};
 use gixp_refmap::refmap::{Mapping, Source, SpecIndex, init};
 use gixp_refmap::{RefMap, ls_refs};
-use gixp_refspec::parse;
-use std::alloc::AllocError;
-
-/// Why a text is no refspec.
-pub(crate) fn spec_error(report: &mut Report, e: parse::Error) {
-    report.word(match e {
-        parse::Error::NegativeWithDestination => "NegativeWithDestination",
-        parse::Error::NegativeObjectHash => "NegativeObjectHash",
-        parse::Error::NegativePartialName => "NegativePartialName",
-        parse::Error::PatternUnbalanced => "PatternUnbalanced",
-        parse::Error::PatternUnsupported => "PatternUnsupported",
-        parse::Error::InvalidName => "InvalidName",
-    });
-}
 
 // The place of the refspec: `e` and a number among the explicit ones, `x` among the extra ones.
 fn report_place(report: &mut Report, place: SpecIndex) {
@@ -59,39 +44,13 @@ pub(crate) fn report_map(report: &mut Report, map: &RefMap) {
         report_mapping(report, mapping);
     }
     for fix in &map.fixes {
-        let Fix::MappingWithPartialDestinationRemoved { name, spec } = fix;
-        report.word("fix ");
-        report.quote(name.as_bytes());
-        report.quote(spec.as_bytes());
-        report.word(" ");
+        report_fix(report, fix);
     }
     report.word(if map.is_missing_required_mapping() {
         "missing "
     } else {
         "whole "
     });
-}
-
-// A local name with two sources: its name, and the refspec and the source of each mapping.
-fn report_issue(report: &mut Report, issue: &Issue) {
-    let Issue::Conflict {
-        destination_full_ref_name,
-        specs,
-        sources,
-    } = issue;
-    report.quote(destination_full_ref_name.as_bytes());
-    report.word("<");
-    for spec in specs {
-        report.quote(spec.as_bytes());
-    }
-    report.word("<");
-    for source in sources {
-        match source {
-            SourceRef::FullName(name) => report.quote(name.as_bytes()),
-            SourceRef::ObjectId(id) => report.id(id),
-        }
-    }
-    report.word(";");
 }
 
 // Why refs aren't listed.

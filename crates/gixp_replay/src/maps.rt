@@ -4,7 +4,7 @@
 //! the fetch, S2 1 where the server leaves out the refs that none of the prefixes begins. The payload has a line of
 //! refspecs with blanks between them, a line of those that go with the fetch alone, a line of capabilities, and an
 //! `ls-refs` answer.
-use crate::map_values::{init_error, report_map, spec_error};
+use crate::map_values::{init_error, report_map};
 use crate::report::Report;
 use crate::rows::{Row, cut_at, cut_at_byte};
 use crate::values::{client_error, parse_error};
@@ -35,7 +35,7 @@ fn specs_of(
         match parse(BStr::new(word), Operation::Fetch) {
             Ok(spec) => specs.push(spec.to_owned(alloc)?)?,
             Err(e) => {
-                spec_error(report, e);
+                report.debug(&e);
                 return Ok(None);
             }
         }

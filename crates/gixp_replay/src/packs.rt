@@ -227,7 +227,7 @@ fn report_last_error<T: ExtendedBufRead, I: Interrupt>(
     let mut one = [0u8; 1];
     match reader.read(&mut one) {
         Ok(_) => report.word("!read "),
-        Err(e) => values::kind(report, e.kind()),
+        Err(e) => report.debug(&e.kind()),
     }
     report.word(" ");
 }

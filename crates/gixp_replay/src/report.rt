@@ -1,6 +1,7 @@
 //! The line of a row, in printable letters.
 use gixp_hash::ObjectId;
 use std::alloc::{AllocError, Global};
+use std::fmt::Debug;
 
 /// What a row gives, as text. An allocation failure is kept, so that those who write need not look at each word.
 #[derive(Drop)]
@@ -68,6 +69,14 @@ impl Report {
     /// A number in decimal digits.
     pub(crate) fn number(&mut self, value: u64) {
         match value.to_string(self.alloc) {
+            Ok(text) => self.word(text.as_str()),
+            Err(_) => self.has_failed = true,
+        }
+    }
+
+    /// A value as its `Debug` shows it.
+    pub(crate) fn debug<T: Debug>(&mut self, value: &T) {
+        match format!(in self.alloc; "{value:?}") {
             Ok(text) => self.word(text.as_str()),
             Err(_) => self.has_failed = true,
         }

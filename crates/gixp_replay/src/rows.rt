@@ -38,6 +38,8 @@ pub(crate) enum Mode {
     Requests,
     /// `Z`: a session of several requests.
     Session,
+    /// `V`: refspecs.
+    Refspecs,
     /// `M`: a ref map.
     Map,
     /// `S`: a handshake with an account.
@@ -69,6 +71,7 @@ impl Mode {
             [b'K'] => Some(Mode::AnswerLine),
             [b'Q'] => Some(Mode::Requests),
             [b'Z'] => Some(Mode::Session),
+            [b'V'] => Some(Mode::Refspecs),
             [b'M'] => Some(Mode::Map),
             [b'S'] => Some(Mode::Shake),
             [b'O'] => Some(Mode::Listing),

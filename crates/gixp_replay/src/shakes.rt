@@ -11,7 +11,7 @@ use crate::refs::report_list;
 use crate::report::Report;
 use crate::rows::{Row, cut_at, cut_at_byte, number};
 use crate::telling::Telling;
-use crate::values::{capability_list, client_error, parse_error, update, version_of, version_word};
+use crate::values::{capability_list, client_error, parse_error, update, version_of};
 use bstr::BString;
 use gixp_handshake::Handshake;
 use gixp_handshake::credentials::{self, Account, Action, NextAction, Outcome};
@@ -193,7 +193,7 @@ pub(crate) fn shake_error(report: &mut Report, e: &Error) {
         }
         Error::TransportProtocolPolicyViolation { actual_version } => {
             report.word("TransportProtocolPolicyViolation(");
-            report.word(version_word(*actual_version));
+            report.debug(actual_version);
             report.word(")");
         }
         Error::ParseRefs(e) => {
@@ -212,7 +212,7 @@ pub(crate) fn report_shaken(
     found: &Handshake,
     report: &mut Report,
 ) -> Result<(), AllocError> {
-    report.word(version_word(found.server_protocol_version));
+    report.debug(&found.server_protocol_version);
     report.word(" ");
     capability_list(alloc, report, &found.capabilities)?;
     report.word("; ");

@@ -1,15 +1,13 @@
 //! Values and refusals as text.
 use crate::report::Report;
 use gixp_capabilities::{Capabilities, client};
-use gixp_hash::decode;
-use gixp_packetline::{MessageKind, PacketError, Protocol, read};
+use gixp_packetline::{MessageKind, Protocol, read};
 use gixp_refs::handshake::Ref;
 use gixp_refs::handshake::refs::parse;
 use gixp_requests::command::validate_argument_prefixes;
 use gixp_response::fetch::response::{Acknowledgement, ShallowUpdate};
 use gixp_response::fetch::{Response, response};
 use std::alloc::{AllocError, Global};
-use std::io::ErrorKind;
 
 /// The version of this number, 2 for all above.
 pub(crate) fn version_of(number: u64) -> Protocol {
@@ -18,45 +16,6 @@ pub(crate) fn version_of(number: u64) -> Protocol {
         1 => Protocol::V1,
         _ => Protocol::V2,
     }
-}
-
-/// The name of a version.
-pub(crate) fn version_word(version: Protocol) -> &'static str {
-    match version {
-        Protocol::V0 => "V0",
-        Protocol::V1 => "V1",
-        Protocol::V2 => "V2",
-    }
-}
-
-/// A kind of I/O error.
-pub(crate) fn kind(report: &mut Report, kind: ErrorKind) {
-    report.word(match kind {
-        ErrorKind::UnexpectedEof => "UnexpectedEof",
-        ErrorKind::Interrupted => "Interrupted",
-        ErrorKind::TimedOut => "TimedOut",
-        ErrorKind::PermissionDenied => "PermissionDenied",
-        ErrorKind::Other => "Other",
-        ErrorKind::BrokenPipe => "BrokenPipe",
-        ErrorKind::InvalidData => "InvalidData",
-        ErrorKind::OutOfMemory => "OutOfMemory",
-        _ => "kind?",
-    });
-}
-
-fn packet_error(report: &mut Report, e: PacketError) {
-    report.word(match e {
-        PacketError::HexDecode => "HexDecode",
-        PacketError::DataLengthLimitExceeded => "DataLengthLimitExceeded",
-        PacketError::DataIsEmpty => "DataIsEmpty",
-        PacketError::InvalidLineLength => "InvalidLineLength",
-    });
-}
-
-fn io_error(report: &mut Report, of: ErrorKind) {
-    report.word("Io(");
-    kind(report, of);
-    report.word(")");
 }
 
 fn with_bytes(report: &mut Report, name: &str, bytes: &[u8]) {
@@ -69,49 +28,8 @@ fn with_bytes(report: &mut Report, name: &str, bytes: &[u8]) {
 /// The error of a reader.
 pub(crate) fn read_error(report: &mut Report, e: &read::Error) {
     match e {
-        read::Error::Io(kind) => io_error(report, *kind),
-        read::Error::Decode(e) => {
-            report.word("Decode(");
-            packet_error(report, *e);
-            report.word(")")
-        }
         read::Error::Server { message } => with_bytes(report, "Server", message.as_bytes()),
-        read::Error::UnexpectedFrame => report.word("UnexpectedFrame"),
-        read::Error::NotUtf8 => report.word("NotUtf8"),
-        read::Error::BadBand(band) => {
-            report.word("BadBand(");
-            report.number(u64::from(*band));
-            report.word(")")
-        }
-        read::Error::Interrupted => report.word("Interrupted"),
-        read::Error::Memory => report.word("Memory"),
-    }
-}
-
-/// The error of a transport.
-pub(crate) fn client_error(report: &mut Report, e: &client::Error) {
-    match e {
-        client::Error::Io(kind) => io_error(report, *kind),
-        client::Error::Read(e) => { wrapped(report, "Read", e) }
-        client::Error::LineTooLong => report.word("LineTooLong"),
-        client::Error::AuthenticationUnsupported => report.word("AuthenticationUnsupported"),
-        client::Error::UnsupportedProtocolVersion(line) => {
-            with_bytes(report, "UnsupportedProtocolVersion", line.as_bytes())
-        }
-        client::Error::MissingDelimitingNullByte => report.word("MissingDelimitingNullByte"),
-        client::Error::Memory => report.word("Memory"),
-    }
-}
-
-/// Why a text is no id.
-pub(crate) fn id_error(report: &mut Report, e: decode::Error) {
-    match e {
-        decode::Error::InvalidLength(len) => {
-            report.word("InvalidLength(");
-            report.number(len as u64);
-            report.word(")")
-        }
-        decode::Error::InvalidDigit => report.word("InvalidDigit"),
+        _ => report.debug(e),
     }
 }
 
@@ -123,20 +41,20 @@ fn wrapped(report: &mut Report, name: &str, e: &read::Error) {
     report.word(")");
 }
 
+/// The error of a transport.
+pub(crate) fn client_error(report: &mut Report, e: &client::Error) {
+    match e {
+        client::Error::Read(e) => wrapped(report, "Read", e),
+        client::Error::UnsupportedProtocolVersion(line) => {
+            with_bytes(report, "UnsupportedProtocolVersion", line.as_bytes())
+        }
+        _ => report.debug(e),
+    }
+}
+
 /// The error of a list of refs.
 pub(crate) fn parse_error(report: &mut Report, e: &parse::Error) {
     match e {
-        parse::Error::Io(kind) => io_error(report, *kind),
-        parse::Error::DecodePacketline(e) => {
-            report.word("DecodePacketline(");
-            packet_error(report, *e);
-            report.word(")")
-        }
-        parse::Error::Id(e) => {
-            report.word("Id(");
-            id_error(report, *e);
-            report.word(")")
-        }
         parse::Error::MalformedSymref { symref } => {
             with_bytes(report, "MalformedSymref", symref.as_bytes())
         }
@@ -157,14 +75,13 @@ pub(crate) fn parse_error(report: &mut Report, e: &parse::Error) {
             with_bytes(report, "UploadPack", message.as_bytes())
         }
         parse::Error::Reader(e) => wrapped(report, "Reader", e),
-        parse::Error::Memory => report.word("Memory"),
+        _ => report.debug(e),
     }
 }
 
 /// The error of an answer to a fetch.
 pub(crate) fn response_error(report: &mut Report, e: &response::Error) {
     match e {
-        response::Error::Io(kind) => io_error(report, *kind),
         response::Error::UploadPack { message } => {
             with_bytes(report, "UploadPack", message.as_bytes())
         }
@@ -186,8 +103,8 @@ pub(crate) fn response_error(report: &mut Report, e: &response::Error) {
         response::Error::UnknownSectionHeader { header } => {
             with_bytes(report, "UnknownSectionHeader", header.as_bytes())
         }
-        response::Error::Reader(e) => { wrapped(report, "Reader", e) }
-        response::Error::Memory => report.word("Memory"),
+        response::Error::Reader(e) => wrapped(report, "Reader", e),
+        _ => report.debug(e),
     }
 }
 
@@ -306,13 +223,12 @@ pub(crate) fn answer(report: &mut Report, found: &Response) {
 
 /// Where a reader stands.
 pub(crate) fn stop(report: &mut Report, kind: Option<MessageKind>) {
-    report.word(match kind {
-        None => "@open ",
-        Some(MessageKind::Flush) => "@Flush ",
-        Some(MessageKind::Delimiter) => "@Delimiter ",
-        Some(MessageKind::ResponseEnd) => "@ResponseEnd ",
-        Some(MessageKind::Text) => "@Text ",
-    });
+    report.word("@");
+    match kind {
+        None => report.word("open"),
+        Some(kind) => report.debug(&kind),
+    }
+    report.word(" ");
 }
 
 /// Capabilities, each with its value and how many words that has.
