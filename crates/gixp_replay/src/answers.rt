@@ -117,6 +117,27 @@ fn request_and_report<T: Transport>(
     report_over(alloc, row, transport, report)
 }
 
+fn report_over_reader(alloc: Global, row: &Row<'_>, report: &mut Report) -> Result<(), AllocError> {
+    let mut device = Device::of_row(row);
+    let mut reader = LineReader::new(alloc, &mut device)?;
+    report_over(alloc, row, &mut reader, report)
+}
+
+fn report_over_connection(
+    alloc: Global,
+    row: &Row<'_>,
+    report: &mut Report,
+) -> Result<(), AllocError> {
+    let device = Device::new(row.payload, row.cut, 0);
+    let mut transport = connection(alloc, device, row.cut, 2, None)?;
+    request_and_report(alloc, row, &mut transport, report)
+}
+
+fn report_over_body(alloc: Global, row: &Row<'_>, report: &mut Report) -> Result<(), AllocError> {
+    let mut transport = one_body(alloc, row.payload)?;
+    request_and_report(alloc, row, &mut transport, report)
+}
+
 /// An answer over a line reader, a connection or memory.
 pub(crate) fn report_answer(
     alloc: Global,
@@ -124,19 +145,8 @@ pub(crate) fn report_answer(
     report: &mut Report,
 ) -> Result<(), AllocError> {
     match row.settings[2] {
-        0 => {
-            let mut device = Device::of_row(row);
-            let mut reader = LineReader::new(alloc, &mut device)?;
-            report_over(alloc, row, &mut reader, report)
-        }
-        1 => {
-            let device = Device::new(row.payload, row.cut, 0);
-            let mut transport = connection(alloc, device, row.cut, 2, None)?;
-            request_and_report(alloc, row, &mut transport, report)
-        }
-        _ => {
-            let mut transport = one_body(alloc, row.payload)?;
-            request_and_report(alloc, row, &mut transport, report)
-        }
+        0 => report_over_reader(alloc, row, report),
+        1 => report_over_connection(alloc, row, report),
+        _ => report_over_body(alloc, row, report),
     }
 }

@@ -56,6 +56,18 @@ fn call<T: ExtendedBufRead, I: Interrupt>(
     Ok(())
 }
 
+fn call_each<T: ExtendedBufRead, I: Interrupt>(
+    alloc: Global,
+    reader: &mut WithSidebands<'_, T, Notes<'_>, I>,
+    letters: &[u8],
+    report: &mut Report,
+) -> Result<(), AllocError> {
+    for letter in letters {
+        call(alloc, reader, *letter, report)?;
+    }
+    Ok(())
+}
+
 /// What each call gives, the texts, and what stands in the line reader once the reader of bands is dropped.
 pub(crate) fn report_calls(
     alloc: Global,
@@ -73,9 +85,7 @@ pub(crate) fn report_calls(
         let mut once = Once::new(interrupt);
         let notes = Notes::new(&mut told, memory);
         let mut banded = WithSidebands::new(&mut reader, notes, &mut once);
-        for letter in letters {
-            call(alloc, &mut banded, *letter, report)?;
-        }
+        call_each(alloc, &mut banded, letters, report)?;
     }
     report.word("told ");
     report.quote_report(&told);

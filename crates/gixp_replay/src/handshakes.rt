@@ -129,20 +129,34 @@ pub(crate) fn connection<'a>(
     )
 }
 
+fn report_over_body(alloc: Global, row: &Row<'_>, report: &mut Report) -> Result<(), AllocError> {
+    let mut transport = one_body(alloc, row.payload)?;
+    report_over(alloc, &mut transport, report)
+}
+
+fn report_over_connection(
+    alloc: Global,
+    row: &Row<'_>,
+    report: &mut Report,
+) -> Result<(), AllocError> {
+    let [_, version, ..] = row.settings;
+    let device = Device::of_row(row);
+    let mut transport = connection(alloc, device, row.cut, version, None)?;
+    report_over(alloc, &mut transport, report)?;
+    report.quote(&transport.writer().bytes);
+    Ok(())
+}
+
 /// A handshake, the refs, and what stands behind them.
 pub(crate) fn report_handshake(
     alloc: Global,
     row: &Row<'_>,
     report: &mut Report,
 ) -> Result<(), AllocError> {
-    let [over, version, ..] = row.settings;
+    let [over, ..] = row.settings;
     if over == 0 {
-        let mut transport = one_body(alloc, row.payload)?;
-        return report_over(alloc, &mut transport, report);
+        report_over_body(alloc, row, report)
+    } else {
+        report_over_connection(alloc, row, report)
     }
-    let device = Device::of_row(row);
-    let mut transport = connection(alloc, device, row.cut, version, None)?;
-    report_over(alloc, &mut transport, report)?;
-    report.quote(&transport.writer().bytes);
-    Ok(())
 }

@@ -68,6 +68,13 @@ fn value_of(alloc: Global, length: u64) -> Result<String, AllocError> {
     Ok(value)
 }
 
+fn value_if(alloc: Global, has_value: bool, length: u64) -> Result<Option<String>, AllocError> {
+    if !has_value {
+        return Ok(None);
+    }
+    Ok(Some(value_of(alloc, length)?))
+}
+
 /// The features of a mask, those of the second mask with a value of this length.
 pub(crate) fn features_of(
     alloc: Global,
@@ -80,12 +87,7 @@ pub(crate) fn features_of(
     let mut mask_of_values = mask_of_values;
     for name in NAMES {
         if mask % 2 == 1 {
-            let value = if mask_of_values % 2 == 1 {
-                Some(value_of(alloc, length)?)
-            } else {
-                None
-            };
-            features.push((name, value))?;
+            features.push((name, value_if(alloc, mask_of_values % 2 == 1, length)?))?;
         }
         mask /= 2;
         mask_of_values /= 2;

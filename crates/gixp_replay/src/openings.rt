@@ -17,6 +17,16 @@ fn text_of(alloc: Global, bytes: &[u8]) -> Result<String, AllocError> {
     String::from_str(alloc, str::from_utf8(bytes).unwrap_or("?"))
 }
 
+fn parameter_of(alloc: Global, word: &[u8]) -> Result<(String, Option<String>), AllocError> {
+    let (key, value) = cut_at_byte(word, b'=');
+    let key = text_of(alloc, key)?;
+    if word.contains(&b'=') {
+        Ok((key, Some(text_of(alloc, value)?)))
+    } else {
+        Ok((key, None))
+    }
+}
+
 /// Names with such bytes between them, each with its value behind an equals sign if it has one.
 pub(crate) fn parameters_of(
     alloc: Global,
@@ -28,13 +38,7 @@ pub(crate) fn parameters_of(
         if word.is_empty() {
             continue;
         }
-        let (key, value) = cut_at_byte(word, b'=');
-        let value = if word.contains(&b'=') {
-            Some(text_of(alloc, value)?)
-        } else {
-            None
-        };
-        parameters.push((text_of(alloc, key)?, value))?;
+        parameters.push(parameter_of(alloc, word)?)?;
     }
     Ok(parameters)
 }
@@ -60,6 +64,22 @@ fn opening_of(
     })
 }
 
+fn open<T: Transport>(
+    alloc: Global,
+    transport: &mut T,
+    service: Service,
+    parameters: &[(String, Option<String>)],
+    report: &mut Report,
+) -> Result<(), AllocError> {
+    match transport.handshake(alloc, service, parameters) {
+        Ok(found) => report_response(alloc, &found, report),
+        Err(e) => {
+            client_error(report, &e);
+            Ok(())
+        }
+    }
+}
+
 /// What the handshake gives, and the bytes that were written.
 pub(crate) fn report_opening(
     alloc: Global,
@@ -79,10 +99,7 @@ pub(crate) fn report_opening(
     };
     let device = Device::new(b"0000", row.cut, 0);
     let mut transport = connection(alloc, device, row.cut, version, Some(opening))?;
-    match transport.handshake(alloc, service, &parameters) {
-        Ok(found) => report_response(alloc, &found, report)?,
-        Err(e) => client_error(report, &e),
-    }
+    open(alloc, &mut transport, service, &parameters, report)?;
     report.word(" ");
     report.quote(&transport.writer().bytes);
     Ok(())

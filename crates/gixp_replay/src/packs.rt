@@ -268,11 +268,11 @@ fn drain<T: ExtendedBufRead, I: Interrupt>(
         let left = usize::try_from(left).unwrap_or(usize::MAX);
         random = next_random(random);
         let step = if seed == 0 {
-            read_some(reader, left.min(66_000), &mut room, content)?
+            read_some(reader, left.min(66_000), &mut room, content)
         } else {
-            read_mixed(reader, random / 65_536, left, &mut room, content)?
+            read_mixed(reader, random / 65_536, left, &mut room, content)
         };
-        match step {
+        match step? {
             Step::Took => {}
             Step::Ended => {
                 report.word("end ");

@@ -104,12 +104,18 @@ pub(crate) fn report_issue(report: &mut Report, issue: &Issue) {
     report.word(";");
 }
 
-fn report_outcome(report: &mut Report, mappings: &[Mapping], fixes: &[Fix]) {
+fn report_mappings(report: &mut Report, mappings: &[Mapping], fixes: &[Fix]) {
     for mapping in mappings {
         report_mapping(report, mapping);
     }
     for fix in fixes {
         report_fix(report, fix);
+    }
+}
+
+fn report_issues(report: &mut Report, issues: &[Issue]) {
+    for issue in issues {
+        report_issue(report, issue);
     }
 }
 
@@ -124,12 +130,8 @@ fn report_match(
     let items = items_of(alloc, names, &id)?;
     let outcome = MatchGroup::from_fetch_specs(specs).match_lhs(alloc, &items)?;
     match outcome.validated(alloc)? {
-        Ok((outcome, fixes)) => report_outcome(report, &outcome.mappings, &fixes),
-        Err(e) => {
-            for issue in &e.issues {
-                report_issue(report, issue);
-            }
-        }
+        Ok((outcome, fixes)) => report_mappings(report, &outcome.mappings, &fixes),
+        Err(e) => report_issues(report, &e.issues),
     }
     Ok(())
 }

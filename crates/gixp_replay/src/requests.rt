@@ -19,23 +19,28 @@ use gixp_requests::fetch::Arguments;
 use gixp_wire::Transport;
 use std::alloc::{AllocError, Global};
 
+// Adds the feature that a text names, with its value behind an equals sign if it has one.
+fn push_feature(alloc: Global, text: &[u8], features: &mut Vec<Feature>) -> Result<(), AllocError> {
+    let (name, value) = cut_at_byte(text, b'=');
+    let Some(name) = name_of(name) else {
+        return Ok(());
+    };
+    let value = if text.contains(&b'=') {
+        let text = str::from_utf8(value).unwrap_or("?");
+        Some(String::from_str(alloc, text)?)
+    } else {
+        None
+    };
+    features.push((name, value))?;
+    Ok(())
+}
+
 // Adds the features that the payload names.
 fn push_named(alloc: Global, script: &[u8], features: &mut Vec<Feature>) -> Result<(), AllocError> {
     for line in script.split(|b| *b == b'\n') {
-        let [b'+', rest @ ..] = line else {
-            continue;
-        };
-        let (name, value) = cut_at_byte(rest, b'=');
-        let Some(name) = name_of(name) else {
-            continue;
-        };
-        let value = if rest.contains(&b'=') {
-            let text = str::from_utf8(value).unwrap_or("?");
-            Some(String::from_str(alloc, text)?)
-        } else {
-            None
-        };
-        features.push((name, value))?;
+        if let [b'+', rest @ ..] = line {
+            push_feature(alloc, rest, features)?;
+        }
     }
     Ok(())
 }
@@ -80,35 +85,37 @@ fn long_text(alloc: Global, text: &str) -> Result<String, AllocError> {
 fn add(alloc: Global, asked: &mut Arguments, letter: u8, rest: &[u8]) -> Result<bool, AllocError> {
     let long = long_text(alloc, str::from_utf8(rest).unwrap_or("?"))?;
     let id = ObjectId::from_hex(rest).unwrap_or(ObjectId::null());
-    match letter {
-        b'w' => asked.want(&id)?,
-        b'h' => asked.have(&id)?,
-        b'r' => asked.want_ref(BStr::new(long.as_bytes()))?,
-        b'y' => asked.want_ref(BStr::new(rest))?,
-        b's' if asked.can_use_shallow() => asked.shallow(&id)?,
-        b'f' if asked.can_use_filter() => asked.filter(long.as_str())?,
-        b'I' if asked.can_use_include_tag() => asked.use_include_tag()?,
-        b'A' if asked.may_add_feature() => asked.add_feature(long.as_str())?,
+    let added = match letter {
+        b'w' => asked.want(&id),
+        b'h' => asked.have(&id),
+        b'r' => asked.want_ref(BStr::new(long.as_bytes())),
+        b'y' => asked.want_ref(BStr::new(rest)),
+        b's' if asked.can_use_shallow() => asked.shallow(&id),
+        b'f' if asked.can_use_filter() => asked.filter(long.as_str()),
+        b'I' if asked.can_use_include_tag() => asked.use_include_tag(),
+        b'A' if asked.may_add_feature() => asked.add_feature(long.as_str()),
         _ => return deepen(asked, letter, rest),
-    }
+    };
+    added?;
     Ok(true)
 }
 
 // A call for depth. False where it may not be made, or isn't known.
 fn deepen(asked: &mut Arguments, letter: u8, rest: &[u8]) -> Result<bool, AllocError> {
-    match letter {
+    let added = match letter {
         b'd' if asked.can_use_deepen() => {
             let depth = number(rest).unwrap_or(0);
-            asked.deepen(usize::try_from(depth).unwrap_or(0))?;
+            asked.deepen(usize::try_from(depth).unwrap_or(0))
         }
         b'S' if asked.can_use_deepen_since() => {
             let text = str::from_utf8(rest).unwrap_or("?");
-            asked.deepen_since(text.parse::<i64>().unwrap_or(0))?;
+            asked.deepen_since(text.parse::<i64>().unwrap_or(0))
         }
-        b'N' if asked.can_use_deepen_not() => asked.deepen_not(BStr::new(rest))?,
-        b'R' if asked.can_use_deepen_relative() => asked.deepen_relative()?,
+        b'N' if asked.can_use_deepen_not() => asked.deepen_not(BStr::new(rest)),
+        b'R' if asked.can_use_deepen_relative() => asked.deepen_relative(),
         _ => return Ok(false),
-    }
+    };
+    added?;
     Ok(true)
 }
 

@@ -28,23 +28,25 @@ fn agent(alloc: Global) -> Result<Feature, AllocError> {
     Ok(("agent", Some(String::from_str(alloc, "git/probe")?)))
 }
 
+// The arguments that ask for the refs below `refs/`.
+fn arguments_of_refs(alloc: Global, features: &[Feature]) -> Result<Vec<BString>, AllocError> {
+    let table = CommandTable::git();
+    let mut arguments = table.initial_v2_arguments(alloc, Command::LsRefs, features)?;
+    arguments.push(BString::from_slice(alloc, "ref-prefix refs/")?)?;
+    Ok(arguments)
+}
+
 // The refs of version 2. Whether there was no error.
 fn list_refs<T: Transport>(
     alloc: Global,
     transport: &mut T,
     report: &mut Report,
 ) -> Result<bool, AllocError> {
-    let mut features = Vec::new(alloc);
-    features.push(agent(alloc)?)?;
-    let table = CommandTable::git();
-    let mut arguments = table.initial_v2_arguments(alloc, Command::LsRefs, &features)?;
-    arguments.push(BString::from_slice(alloc, "ref-prefix refs/")?)?;
-    match transport.invoke(alloc, Command::LsRefs.as_str(), &features, &arguments) {
-        Ok(()) => {}
-        Err(e) => {
-            client_error(report, &e);
-            return Ok(false);
-        }
+    let features = [agent(alloc)?];
+    let arguments = arguments_of_refs(alloc, &features)?;
+    if let Err(e) = transport.invoke(alloc, Command::LsRefs.as_str(), &features, &arguments) {
+        client_error(report, &e);
+        return Ok(false);
     }
     Ok(report_all(alloc, transport, report))
 }
@@ -194,22 +196,28 @@ pub(crate) fn cut_bodies(
     Ok(answers)
 }
 
-/// A session over a connection or memory.
-pub(crate) fn report_session(
+fn report_over_connection(
     alloc: Global,
     row: &Row<'_>,
+    bytes: &[u8],
     report: &mut Report,
 ) -> Result<(), AllocError> {
-    let [over, version, ..] = row.settings;
-    let (lengths, bytes) = cut_at_byte(row.payload, b'\n');
-    if over == 1 {
-        let device = Device::new(bytes, row.cut, 0);
-        let mut transport = connection(alloc, device, row.cut, version, None)?;
-        report_over(alloc, row, &mut transport, report)?;
-        report.word(" ");
-        report.quote(&transport.writer().bytes);
-        return Ok(());
-    }
+    let [_, version, ..] = row.settings;
+    let device = Device::new(bytes, row.cut, 0);
+    let mut transport = connection(alloc, device, row.cut, version, None)?;
+    report_over(alloc, row, &mut transport, report)?;
+    report.word(" ");
+    report.quote(&transport.writer().bytes);
+    Ok(())
+}
+
+fn report_over_bodies(
+    alloc: Global,
+    row: &Row<'_>,
+    lengths: &[u8],
+    bytes: &[u8],
+    report: &mut Report,
+) -> Result<(), AllocError> {
     let mut transport = bodies(alloc, cut_bodies(alloc, lengths, bytes)?)?;
     report_over(alloc, row, &mut transport, report)?;
     for request in transport.sent() {
@@ -217,4 +225,19 @@ pub(crate) fn report_session(
         report.quote(request);
     }
     Ok(())
+}
+
+/// A session over a connection or memory.
+pub(crate) fn report_session(
+    alloc: Global,
+    row: &Row<'_>,
+    report: &mut Report,
+) -> Result<(), AllocError> {
+    let [over, ..] = row.settings;
+    let (lengths, bytes) = cut_at_byte(row.payload, b'\n');
+    if over == 1 {
+        report_over_connection(alloc, row, bytes, report)
+    } else {
+        report_over_bodies(alloc, row, lengths, bytes, report)
+    }
 }
