@@ -11,8 +11,8 @@ use crate::handshakes::{bodies, connection};
 use crate::histories::History;
 use crate::report::Report;
 use crate::rows::Row;
-use crate::values::{client_error, kind};
-use gixp_graph::{Flags, Graph, ObjectError, Objects};
+use crate::values::client_error;
+use gixp_graph::{Flags, Graph, Objects};
 use gixp_hash::ObjectId;
 use gixp_memory::{Lent, MemoryObjects, MemoryRefs, Recorder};
 use gixp_negotiate::negotiate::negotiation::{NegotiateContext, Negotiation};
@@ -46,18 +46,6 @@ fn report_ids(ids: &[ObjectId], report: &mut Report) {
     }
 }
 
-fn object_error(report: &mut Report, e: ObjectError) {
-    match e {
-        ObjectError::Io(of) => {
-            report.word("Io(");
-            kind(report, of);
-            report.word(")")
-        }
-        ObjectError::Corrupt => report.word("Corrupt"),
-        ObjectError::Memory => report.word("Memory"),
-    }
-}
-
 fn report_error(report: &mut Report, e: &Error<Closed>) {
     match e {
         Error::NegotiationFailed { rounds } => {
@@ -66,13 +54,13 @@ fn report_error(report: &mut Report, e: &Error<Closed>) {
         }
         Error::LookupCommitInGraph(e) => {
             report.word("LookupCommitInGraph(");
-            object_error(report, *e);
+            report.debug(e);
             report.word(")");
         }
         Error::OpenPackedRefsBuffer => report.word("OpenPackedRefsBuffer"),
         Error::IO(of) => {
             report.word("IO(");
-            kind(report, *of);
+            report.debug(of);
             report.word(")");
         }
         Error::InitRefIter => report.word("InitRefIter"),

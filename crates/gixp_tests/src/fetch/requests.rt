@@ -53,17 +53,28 @@ fn failing_bodies(alloc: Global) -> Result<Bodies, AllocError> {
     )
 }
 
+// Whether a send fails where the answer does, with the request sent and its haves kept.
+fn fails_once(transport: &mut Bodies, asked: &mut Arguments) -> bool {
+    fails_with(asked.send(transport, true), ErrorKind::TimedOut)
+        && transport.sent().len() == 1
+        && asked.has_haves()
+}
+
+// Whether the whole request is the last one sent.
+fn sends_again(transport: &mut Bodies, asked: &mut Arguments) -> bool {
+    let is_sent = asked.send(transport, true).is_ok();
+    match transport.sent().last() {
+        Some(sent) => is_sent && sent.as_slice() == REQUEST,
+        None => false,
+    }
+}
+
 #[test]
 fn keeps_all_where_the_answer_fails(rt: HostRuntime) -> Result<(), Fail> {
-    let a = rt.alloc();
-    let mut transport = failing_bodies(a)?;
-    let mut asked = asked(a)?;
-    assert!(rt; fails_with(asked.send(&mut transport, true), ErrorKind::TimedOut));
-    assert_eq!(rt; transport.sent().len(), 1);
-    assert!(rt; asked.has_haves());
-    asked.send(&mut transport, true)?;
-    let sent = transport.sent().last().ok_or("a request")?;
-    assert_eq!(rt; sent.as_slice(), REQUEST);
+    let mut transport = failing_bodies(rt.alloc())?;
+    let mut asked = asked(rt.alloc())?;
+    assert!(rt; fails_once(&mut transport, &mut asked));
+    assert!(rt; sends_again(&mut transport, &mut asked));
     Ok(())
 }
 
@@ -96,16 +107,25 @@ fn fails_with<T: Drop>(answer: Result<T, Error>, kind: ErrorKind) -> bool {
     matches!(answer, Err(Error::Io(found)) if found == kind)
 }
 
+// Whether two sends over a connection whose writer fails both fail.
+fn fails_twice(alloc: Global, asked: &mut Arguments) -> Result<bool, AllocError> {
+    let mut broken = connection(alloc, Protocol::V1, Closed)?;
+    let first = fails_with(asked.send(&mut broken, true), ErrorKind::BrokenPipe);
+    let second = fails_with(asked.send(&mut broken, true), ErrorKind::BrokenPipe);
+    Ok(first && second)
+}
+
+// Whether the whole request is sent over a connection that works.
+fn sends_all(alloc: Global, asked: &mut Arguments) -> Result<bool, AllocError> {
+    let mut over = connection(alloc, Protocol::V1, Vec::new(alloc))?;
+    let sent = asked.send(&mut over, true).is_ok();
+    Ok(sent && over.writer().as_slice() == REQUEST)
+}
+
 #[test]
 fn keeps_all_where_a_write_fails(rt: HostRuntime) -> Result<(), Fail> {
-    let a = rt.alloc();
-    let mut asked = asked(a)?;
-    let mut broken = connection(a, Protocol::V1, Closed)?;
-    for _ in 0..2 {
-        assert!(rt; fails_with(asked.send(&mut broken, true), ErrorKind::BrokenPipe));
-    }
-    let mut over = connection(a, Protocol::V1, Vec::new(a))?;
-    asked.send(&mut over, true)?;
-    assert_eq!(rt; over.writer().as_slice(), REQUEST);
+    let mut asked = asked(rt.alloc())?;
+    assert!(rt; fails_twice(rt.alloc(), &mut asked)?);
+    assert!(rt; sends_all(rt.alloc(), &mut asked)?);
     Ok(())
 }
