@@ -81,16 +81,26 @@ fn offers<O: Objects>(
     Ok(take_haves(alloc, negotiator, graph, 2)?.as_slice() == ids)
 }
 
+/// Whether it offers its ids from the last one on, each once, whatever it is told.
+fn offers_what_is_left<O: Objects>(
+    alloc: Global,
+    negotiator: &mut Haves,
+    graph: &mut Graph<O>,
+) -> Result<bool, NegotiatorError> {
+    tell_all(negotiator, graph, &[id(4), id(5)])?;
+    negotiator.add_tip(id(6), graph)?;
+    let first = offers(alloc, negotiator, graph, &[id(3), id(2)])?;
+    negotiator.in_common_with_remote(id(3), graph)?;
+    let second = offers(alloc, negotiator, graph, &[id(1)])?;
+    Ok(first && second)
+}
+
 #[test]
 fn haves_of_a_list(rt: HostRuntime) -> Result<(), Fail> {
     let alloc = rt.alloc();
     let ids = vec![in alloc; id(1), id(2), id(3)]?;
     let mut negotiator = Haves { ids };
     let mut graph = Graph::new(alloc, never_failing(BTreeMap::new(alloc)));
-    tell_all(&mut negotiator, &mut graph, &[id(4), id(5)])?;
-    negotiator.add_tip(id(6), &mut graph)?;
-    assert!(rt; offers(alloc, &mut negotiator, &mut graph, &[id(3), id(2)])?);
-    negotiator.in_common_with_remote(id(3), &mut graph)?;
-    assert!(rt; offers(alloc, &mut negotiator, &mut graph, &[id(1)])?);
+    assert!(rt; offers_what_is_left(alloc, &mut negotiator, &mut graph)?);
     Ok(())
 }
