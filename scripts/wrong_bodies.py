@@ -4,8 +4,9 @@
 Usage: wrong_bodies.py [--must-fail] [--only WORD] [--jobs N] [CRATE..]
 
 An edit is a file of lines `file: src/x.rt`, `old: TEXT`, `new: TEXT`, of which each old text stands once in the file.
-Those of wrong-bodies/CRATE/ are tried, with --must-fail those of crates/CRATE/must-fail/ too, with --only those whose
-name has that word. With no crate all are, N crates side by side.
+An empty line parts those that turn several functions in one way: the gate tries them together, and wants one refused;
+here each part is an edit, tried by itself. Those of wrong-bodies/CRATE/ are tried, with --must-fail those of
+crates/CRATE/must-fail/ too, with --only those whose name has that word. With no crate all are, N crates side by side.
 
 Each edit is applied by itself to a copy of the repository with what its out/ folders keep. The crate is checked once
 without an edit; then of each edit the function around it alone (`rt check --only`, some seconds), and the whole crate where
@@ -61,13 +62,19 @@ def edits_of(name, takes_must_fail, word):
     folders = [TOP / "wrong-bodies" / name]
     if takes_must_fail:
         folders.append(TOP / "crates" / name / "must-fail")
-    return [it for folder in folders for it in sorted(folder.glob("*.edit")) if word in it.stem]
+    return [part for folder in folders for it in sorted(folder.glob("*.edit")) if word in it.stem for part in parts_of(it)]
+
+
+def parts_of(edit):
+    """The name and the text of each part of an edit."""
+    texts = edit.read_text().strip("\n").split("\n\n")
+    return [(f"{edit.stem} {at}" if len(texts) > 1 else edit.stem, text) for at, text in enumerate(texts, 1)]
 
 
 def edited(edit, crate):
     """The texts that an edit makes of the files of a crate, by their paths, or why it makes none."""
     texts, path, old = {}, None, None
-    for line in edit.read_text().split("\n"):
+    for line in edit.split("\n"):
         if line.startswith("file: "):
             path = crate / line.removeprefix("file: ").strip()
             if not path.is_file():
@@ -90,7 +97,7 @@ def edited(edit, crate):
 def edited_places(edit, crate):
     """Each old text's file, and the lines of that file in front of it."""
     path = None
-    for line in edit.read_text().split("\n"):
+    for line in edit.split("\n"):
         if line.startswith("file: "):
             path = crate / line.removeprefix("file: ").strip()
         elif line.startswith("old: "):
@@ -194,12 +201,12 @@ def try_crate(name, edits, crates, room):
     if check(crate).returncode:
         print(f"{'BAD EDIT':13}{name}: it isn't proved without an edit", flush=True)
         return Counter({"BAD EDIT": len(edits)})
-    for edit in edits:
+    for edit, text in edits:
         began = time.monotonic()
-        verdict, line = try_edit(edit, crate)
+        verdict, line = try_edit(text, crate)
         counts[verdict] += 1
         took = time.monotonic() - began
-        print(f"{verdict:13}{name}/{edit.stem} ({took:.0f} s){': ' + line[:160] if line else ''}", flush=True)
+        print(f"{verdict:13}{name}/{edit} ({took:.0f} s){': ' + line[:160] if line else ''}", flush=True)
     shutil.rmtree(room / name)
     return counts
 

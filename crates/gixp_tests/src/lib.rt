@@ -9,4 +9,6 @@ mod graph;
 #[cfg(test)]
 mod refspecs;
 #[cfg(test)]
+mod shown;
+#[cfg(test)]
 mod streams;

@@ -1,13 +1,13 @@
 //! Refspecs: values, copies, texts of errors, and allocations that fail. Worked rows are data of `gixp_replay`.
+use crate::shown::is_shown;
 use bstr::{BStr, BString};
 use gixp_hash::ObjectId;
 use gixp_matching::match_group::validate::{self, Fix};
-use gixp_matching::match_group::{Item, Mapping, MatchGroup, SourceRef};
+use gixp_matching::match_group::{Item, Mapping, MatchGroup, Outcome, SourceRef};
 use gixp_refspec::instruction::{Fetch, Instruction};
 use gixp_refspec::parse::{Error, Operation, parse};
 use gixp_refspec::{PartialName, RefSpec, RefSpecRef};
 use std::alloc::{AllocError, Global};
-use std::fmt::Display;
 use std::process::Abort;
 use std::test::Fail;
 
@@ -20,7 +20,7 @@ fn read(text: &[u8]) -> Option<RefSpecRef<'_>> {
 }
 
 fn check_bytes(rt: &impl Abort, shown: &[u8], want: &[u8]) {
-    assert_eq!(rt; shown, want);
+    assert!(rt; shown == want);
 }
 
 fn refusal(text: &[u8]) -> Option<Error> {
@@ -116,29 +116,34 @@ fn check_copies(rt: &impl Abort, alloc: Global) -> Result<(), AllocError> {
     check_mapping(rt, alloc)
 }
 
-// A ref that a pattern maps to no whole local name: its mapping is taken out, and told as a fix.
-fn check_mappings(rt: &impl Abort, alloc: Global, spec: RefSpecRef<'_>) -> Result<(), AllocError> {
+// The mappings of one ref by these refspecs.
+fn matched<'s>(alloc: Global, specs: &'s [RefSpecRef<'s>]) -> Result<Outcome<'s>, AllocError> {
     let id = ObjectId::null();
     let item = Item {
         full_ref_name: BStr::new(b"refs/heads/a"),
         target: &id,
         object: None,
     };
-    let specs = [spec];
-    let outcome = MatchGroup::from_fetch_specs(&specs).match_lhs(alloc, &[item])?;
-    let Ok((outcome, fixes)) = outcome.validated(alloc)? else {
-        return Ok(());
-    };
-    assert_eq!(rt; outcome.mappings.len(), 0);
-    assert_eq!(rt; fixes.len(), 1);
-    Ok(())
+    MatchGroup::from_fetch_specs(specs).match_lhs(alloc, &[item])
 }
 
-fn check_matching(rt: &impl Abort, alloc: Global) -> Result<(), AllocError> {
-    match read(b"refs/heads/*:o/*") {
-        Some(spec) => check_mappings(rt, alloc, spec),
-        None => Ok(()),
+// How many mappings and fixes there are, where no local name has two sources.
+fn validated(alloc: Global, outcome: Outcome<'_>) -> Result<Option<(usize, usize)>, AllocError> {
+    match outcome.validated(alloc)? {
+        Ok((outcome, fixes)) => Ok(Some((outcome.mappings.len(), fixes.len()))),
+        Err(_) => Ok(None),
     }
+}
+
+// A ref that a pattern maps to no whole local name: its mapping is taken out, and told as a fix.
+fn check_matching(rt: &impl Abort, alloc: Global) -> Result<(), AllocError> {
+    let Some(spec) = read(b"refs/heads/*:o/*") else {
+        return Ok(());
+    };
+    let specs = [spec];
+    let outcome = matched(alloc, &specs)?;
+    assert!(rt; validated(alloc, outcome)? == Some((0, 1)));
+    Ok(())
 }
 
 fn check_prefixes(rt: &impl Abort, alloc: Global) -> Result<(), AllocError> {
@@ -146,7 +151,7 @@ fn check_prefixes(rt: &impl Abort, alloc: Global) -> Result<(), AllocError> {
     if let Some(spec) = read(b"main") {
         spec.expand_prefixes(alloc, &mut prefixes)?;
     }
-    assert_eq!(rt; prefixes.len(), 6);
+    assert!(rt; prefixes.len() == 6);
     Ok(())
 }
 
@@ -166,24 +171,11 @@ fn answers_or_allocation_failures(rt: HostRuntime) {
     let _ = check_prefixes(&rt, rt.alloc());
 }
 
-fn check_text<E: Display>(
-    rt: &impl Abort,
-    alloc: Global,
-    error: &E,
-    text: &str,
-) -> Result<(), AllocError> {
-    let shown = error.to_string(alloc)?;
-    assert_eq!(rt; shown.as_str(), text);
-    Ok(())
-}
-
 #[test]
 fn errors_show_their_names(rt: HostRuntime) -> Result<(), Fail> {
     let fault = refusal(b"^refs/heads/x:y").ok_or("refusal")?;
-    check_text(&rt, rt.alloc(), &fault, "NegativeWithDestination")?;
-    let conflicts = validate::Error {
-        issues: Vec::new(rt.alloc()),
-    };
-    check_text(&rt, rt.alloc(), &conflicts, "Error")?;
+    assert!(rt; is_shown(rt.alloc(), fault, "NegativeWithDestination")?);
+    let issues = Vec::new(rt.alloc());
+    assert!(rt; is_shown(rt.alloc(), validate::Error { issues }, "Error")?);
     Ok(())
 }

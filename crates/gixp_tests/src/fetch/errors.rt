@@ -1,4 +1,5 @@
 //! Texts of errors.
+use crate::shown::{are_shown, is_shown};
 use bstr::BString;
 use gixp_capabilities::client;
 use gixp_hash::decode;
@@ -8,22 +9,11 @@ use gixp_requests::command::validate_argument_prefixes;
 use gixp_response::fetch::Response;
 use gixp_response::fetch::response::{Acknowledgement, Error};
 use std::alloc::{AllocError, Global};
-use std::fmt::Display;
 use std::io::ErrorKind;
 use std::test::Fail;
 
 fn text(alloc: Global, bytes: &[u8]) -> Result<BString, AllocError> {
     BString::from_slice(alloc, bytes)
-}
-
-// The texts of these errors, a line for each.
-fn texts<E: Display>(alloc: Global, errors: &[E]) -> Result<String, AllocError> {
-    let mut lines = String::new(alloc);
-    for error in errors {
-        lines.push_str(error.to_string(alloc)?.as_str())?;
-        lines.push('\n')?;
-    }
-    Ok(lines)
 }
 
 #[test]
@@ -47,34 +37,52 @@ fn writes_each_error_and_takes_in_others(rt: HostRuntime) -> Result<(), Fail> {
         parse::Error::from(read::Error::Memory),
         parse::Error::from(AllocError),
     ];
-    assert_eq!(rt;
-        texts(a, &errors)?.as_str(),
+    let text =
         "Io\nHexDecode\nInvalidLength\ngot 'unborn' as tag target\nIo\nDataIsEmpty\nUploadPack\n\
-        Reader\nReader\nReader\nReader\nMemory\nMemory\n"
-    );
+        Reader\nReader\nReader\nReader\nMemory\nMemory\n";
+    assert!(rt; are_shown(a, &errors, text)?);
     Ok(())
+}
+
+fn unknown_attribute(alloc: Global) -> Result<parse::Error, AllocError> {
+    let attribute = text(alloc, b"foo")?;
+    let line = text(alloc, b"x y")?;
+    Ok(parse::Error::UnknownAttribute { attribute, line })
 }
 
 #[test]
 fn writes_each_error_of_a_line(rt: HostRuntime) -> Result<(), Fail> {
     let a = rt.alloc();
-    let unknown = parse::Error::UnknownAttribute {
-        attribute: text(a, b"foo")?,
-        line: text(a, b"x y")?,
-    };
     let symref = text(a, b"x y")?;
-    let errors = [
-        parse::Error::MalformedSymref { symref },
-        parse::Error::MalformedV1RefLine(text(a, b"x y")?),
-        parse::Error::MalformedV2RefLine(text(a, b"x y")?),
-        unknown,
-    ];
-    assert_eq!(rt;
-        texts(a, &errors)?.as_str(),
-        "\"x y\" could not be parsed. A symref is expected to look like <NAME>:<target>.\n\
-        \"x y\" could not be parsed. A V1 ref line should be '<hex-hash> <path>'.\n\
-        \"x y\" could not be parsed. A V2 ref line should be '<hex-hash> <path>[ (peeled|symref-target):<value>'.\n\
-        The ref attribute \"foo\" is unknown. Found in line \"x y\"\n"
+    assert!(rt;
+        is_shown(
+            a,
+            parse::Error::MalformedSymref { symref },
+            "\"x y\" could not be parsed. A symref is expected to look like <NAME>:<target>."
+        )?
+    );
+    let line = text(a, b"x y")?;
+    assert!(rt;
+        is_shown(
+            a,
+            parse::Error::MalformedV1RefLine(line),
+            "\"x y\" could not be parsed. A V1 ref line should be '<hex-hash> <path>'."
+        )?
+    );
+    let line = text(a, b"x y")?;
+    assert!(rt;
+        is_shown(
+            a,
+            parse::Error::MalformedV2RefLine(line),
+            "\"x y\" could not be parsed. A V2 ref line should be '<hex-hash> <path>[ (peeled|symref-target):<value>'."
+        )?
+    );
+    assert!(rt;
+        is_shown(
+            a,
+            unknown_attribute(a)?,
+            "The ref attribute \"foo\" is unknown. Found in line \"x y\""
+        )?
     );
     Ok(())
 }
@@ -92,11 +100,9 @@ fn texts_of_errors(rt: HostRuntime) -> Result<(), Fail> {
         Error::Reader(read::Error::NotUtf8),
         Error::Memory,
     ];
-    assert_eq!(rt;
-        texts(a, &errors)?.as_str(),
-        "Failed to read from line reader\nno access\nLineTooLong\n\
-        Unknown or unsupported header: \"packfile-uris\\n\"\nReader\nMemory\n"
-    );
+    let text = "Failed to read from line reader\nno access\nLineTooLong\n\
+        Unknown or unsupported header: \"packfile-uris\\n\"\nReader\nMemory\n";
+    assert!(rt; are_shown(a, &errors, text)?);
     Ok(())
 }
 
@@ -106,10 +112,8 @@ fn writes_a_refused_acknowledgement(rt: HostRuntime) -> Result<(), Fail> {
     let Err(e) = Acknowledgement::from_line(a, "ack \n") else {
         return Err("accepted".into());
     };
-    assert_eq!(rt;
-        e.to_string(a)?.as_str(),
-        "Encountered an unknown line prefix in \"ack \\n\""
-    );
+    let text = "Encountered an unknown line prefix in \"ack \\n\"";
+    assert!(rt; is_shown(a, e, text)?);
     Ok(())
 }
 
@@ -118,10 +122,9 @@ fn writes_a_missing_feature(rt: HostRuntime) -> Result<(), Fail> {
     let Err(e) = Response::check_required_features(Protocol::V1, &[]) else {
         return Err("accepted".into());
     };
-    assert_eq!(rt;
-        e.to_string(rt.alloc())?.as_str(),
-        "Currently we require feature \"multi_ack_detailed\", which is not supported by the server"
-    );
+    let text =
+        "Currently we require feature \"multi_ack_detailed\", which is not supported by the server";
+    assert!(rt; is_shown(rt.alloc(), e, text)?);
     Ok(())
 }
 
@@ -136,9 +139,10 @@ fn errors_of_layers_below(rt: HostRuntime) -> Result<(), Fail> {
         Error::from(client::Error::Io(ErrorKind::TimedOut)),
         Error::from(AllocError),
     ];
-    assert_eq!(rt;
-        format!(in rt.alloc(); "{errors:?}")?.as_str(),
-        "[Io(TimedOut), Memory, Reader(Decode(HexDecode)), Reader(BadBand(4)), Memory, Transport(Io(TimedOut)), Memory]"
+    let text = format!(in rt.alloc(); "{errors:?}")?;
+    assert!(rt;
+        text.as_str()
+            == "[Io(TimedOut), Memory, Reader(Decode(HexDecode)), Reader(BadBand(4)), Memory, Transport(Io(TimedOut)), Memory]"
     );
     Ok(())
 }
@@ -158,9 +162,7 @@ fn texts_of_validations(rt: HostRuntime) -> Result<(), Fail> {
         },
         validate_argument_prefixes::Error::from(AllocError),
     ];
-    assert_eq!(rt;
-        texts(a, &errors)?.as_str(),
-        "UnsupportedArgument\nUnsupportedCapability\nMemory\n"
-    );
+    let text = "UnsupportedArgument\nUnsupportedCapability\nMemory\n";
+    assert!(rt; are_shown(a, &errors, text)?);
     Ok(())
 }

@@ -44,7 +44,7 @@ fn list_twice<R: RefStore>(
 fn no_refs(rt: HostRuntime) -> Result<(), Fail> {
     let alloc = rt.alloc();
     let mut refs = NoRefs {};
-    assert_eq!(rt; refs.find(BStr::new(b"refs/heads/main")), None);
+    assert!(rt; refs.find(BStr::new(b"refs/heads/main")).is_none());
     let (first, second) = list_twice(alloc, &mut refs)?;
     assert!(rt; first.is_empty() && second.is_empty());
     Ok(())

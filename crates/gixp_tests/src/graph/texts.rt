@@ -1,15 +1,9 @@
 //! The texts of errors, and the numbers and names of marks.
+use crate::shown::is_shown;
 use bitflags::Flags as _;
 use gixp_graph::{Flags, NegotiatorError, ObjectError, RefStoreError};
-use std::alloc::{AllocError, Global};
-use std::fmt::Display;
 use std::io;
 use std::test::Fail;
-
-/// Whether a value is shown as this text.
-fn is_shown<T: Display + Drop>(alloc: Global, value: T, text: &str) -> Result<bool, AllocError> {
-    Ok(format!(in alloc; "{value}")?.as_str() == text)
-}
 
 #[test]
 fn errors(rt: HostRuntime) -> Result<(), Fail> {
@@ -52,11 +46,8 @@ fn marks(rt: HostRuntime) {
         ("SEEN", 8),
         ("POPPED", 16),
     ] {
-        assert_eq!(rt; Flags::from_name(name), Some(Flags(number)));
+        assert!(rt; Flags::from_name(name) == Some(Flags(number)));
     }
-    assert_eq!(rt; Flags::all().bits(), 31);
-    assert_eq!(rt;
-        Flags::from_bits_retain(6),
-        Flags::COMMON.union(Flags::COMMON_REF)
-    );
+    assert!(rt; Flags::all() == Flags(31));
+    assert!(rt; Flags::COMMON.union(Flags::COMMON_REF) == Flags(6));
 }

@@ -42,7 +42,7 @@ fn marked(alloc: Global, time_of_b: i64, cutoff: i64) -> Result<[bool; 4], Objec
 fn clocks_that_run_backwards(rt: HostRuntime) -> Result<(), Fail> {
     for (time_of_b, cutoff, all) in [(5, 8, false), (5, 5, true), (-1, 0, false)] {
         let found = marked(rt.alloc(), time_of_b, cutoff)?;
-        assert_eq!(rt; found, [true, true, all, all], "cutoff {cutoff}");
+        assert!(rt; found == [true, true, all, all], "cutoff {cutoff}");
     }
     Ok(())
 }
@@ -56,25 +56,23 @@ fn chain(alloc: Global, time: i64) -> Result<BTreeMap<ObjectId, CommitData>, All
     Ok(commits)
 }
 
-#[test]
-fn chain_of_one_time(rt: HostRuntime) -> Result<(), Fail> {
-    let mut graph = Graph::new(rt.alloc(), never_failing(chain(rt.alloc(), 50)?));
-    graph.mark_complete(&[id(0)], Some(50))?;
-    for number in 0..1000 {
-        assert!(rt; is_complete(&graph, number), "at the cutoff");
+/// How many commits of that chain are complete, and how many are held, behind a walk from its tip.
+fn counted(alloc: Global, cutoff: i64) -> Result<(u16, u16), ObjectError> {
+    let mut graph = Graph::new(alloc, never_failing(chain(alloc, 50)?));
+    graph.mark_complete(&[id(0)], Some(cutoff))?;
+    let mut complete = 0_u16;
+    let mut held = 0_u16;
+    for number in 0..1001 {
+        complete = complete.saturating_add(is_complete(&graph, number) as u16);
+        held = held.saturating_add(graph.get(&id(number)).is_some() as u16);
     }
-    assert!(rt; graph.get(&id(1000)).is_none());
-    Ok(())
+    Ok((complete, held))
 }
 
 #[test]
-fn chain_before_the_cutoff(rt: HostRuntime) -> Result<(), Fail> {
-    let mut graph = Graph::new(rt.alloc(), never_failing(chain(rt.alloc(), 50)?));
-    graph.mark_complete(&[id(0)], Some(51))?;
-    assert!(rt; is_complete(&graph, 0));
-    for number in 1..1000 {
-        assert!(rt; graph.get(&id(number)).is_none());
-    }
+fn chain_of_one_time(rt: HostRuntime) -> Result<(), Fail> {
+    assert!(rt; counted(rt.alloc(), 50)? == (1000, 1000), "at the cutoff");
+    assert!(rt; counted(rt.alloc(), 51)? == (1, 1), "before the cutoff");
     Ok(())
 }
 
@@ -102,11 +100,31 @@ fn history(alloc: Global, seed: &mut u64) -> Result<BTreeMap<ObjectId, CommitDat
     Ok(commits)
 }
 
+/// Whether the commits that are held are these, and all are complete.
+fn holds<O: Objects>(graph: &Graph<O>, complete: &[ObjectId]) -> bool {
+    (0..15).all(|number| {
+        let is_among = complete.contains(&id(number));
+        is_complete(graph, number) == is_among && graph.get(&id(number)).is_some() == is_among
+    })
+}
+
+/// Whether a walk over a history marks what the slow program does, and how many commits that are.
+fn agrees(
+    alloc: Global,
+    commits: BTreeMap<ObjectId, CommitData>,
+    tips: &[ObjectId],
+    cutoff: Option<i64>,
+) -> Result<(bool, usize), ObjectError> {
+    let complete = slow::complete(alloc, &commits, tips, cutoff)?;
+    let mut graph = Graph::new(alloc, never_failing(commits));
+    graph.mark_complete(tips, cutoff)?;
+    Ok((holds(&graph, &complete), complete.len()))
+}
+
 #[test]
 fn as_the_slow_program(rt: HostRuntime) -> Result<(), Fail> {
-    let alloc = rt.alloc();
     let mut seed = 1;
-    let mut marked = 0_u32;
+    let mut marked = 0_usize;
     for _ in 0..60 {
         let cutoff = match next(&mut seed) % 10 {
             9 => None,
@@ -116,18 +134,10 @@ fn as_the_slow_program(rt: HostRuntime) -> Result<(), Fail> {
             id((next(&mut seed) % 14) as u16),
             id((next(&mut seed) % 14) as u16),
         ];
-        let commits = history(alloc, &mut seed)?;
-        let complete = slow::complete(alloc, &commits, tips.as_slice(), cutoff)?;
-        let mut graph = Graph::new(alloc, never_failing(commits));
-        graph.mark_complete(tips.as_slice(), cutoff)?;
-        for number in 0..15 {
-            let is_held = graph.get(&id(number)).is_some();
-            assert_eq!(rt; is_complete(&graph, number), complete.contains(&id(number)));
-            assert_eq!(rt; is_held, complete.contains(&id(number)));
-            if is_held && marked < 1000 {
-                marked += 1;
-            }
-        }
+        let commits = history(rt.alloc(), &mut seed)?;
+        let (is_same, count) = agrees(rt.alloc(), commits, &tips, cutoff)?;
+        assert!(rt; is_same);
+        marked = marked.saturating_add(count);
     }
     assert!(rt; marked > 100, "the histories are too small");
     Ok(())
@@ -164,7 +174,7 @@ fn each_look_fails_in_turn(rt: HostRuntime) -> Result<(), Fail> {
             Ok(())
         };
         assert!(rt; marked == want);
-        assert_eq!(rt; complete, [looks > 0, looks > 2, looks > 3]);
+        assert!(rt; complete == [looks > 0, looks > 2, looks > 3]);
     }
     Ok(())
 }

@@ -33,31 +33,38 @@ fn size_read<R: Read>(reader: &mut R) -> Result<usize, ErrorKind> {
 }
 
 // Whether there is an interrupt, and what two reads give behind that question.
-fn two_reads(
-    alloc: Global,
+fn two_reads<T: ExtendedBufRead>(
+    lines: &mut T,
     flag: &Cell<bool>,
     texts: &mut String,
-) -> Result<(bool, [Result<usize, ErrorKind>; 2]), AllocError> {
+) -> (bool, [Result<usize, ErrorKind>; 2]) {
+    let mut flag = InterruptFlag::new(flag);
+    let mut reader = WithSidebands::new(lines, Notes { said: texts }, &mut flag);
+    let interrupted = reader.interrupted();
+    (
+        interrupted,
+        [size_read(&mut reader), size_read(&mut reader)],
+    )
+}
+
+// Whether the question is answered so, the second read ends so, and the text is heard.
+fn heeds_the_flag(
+    alloc: Global,
+    interrupted: bool,
+    second: Result<usize, ErrorKind>,
+) -> Result<bool, AllocError> {
+    let flag = Cell::new(interrupted);
     let mut device = Device::sound(STREAM, 1);
     let mut lines = LineReader::new(alloc, &mut device)?;
-    let mut flag = InterruptFlag::new(flag);
-    let mut reader = WithSidebands::new(&mut lines, Notes { said: texts }, &mut flag);
-    let interrupted = reader.interrupted();
-    let sizes = [size_read(&mut reader), size_read(&mut reader)];
-    Ok((interrupted, sizes))
+    let mut texts = String::new(alloc);
+    let got = two_reads(&mut lines, &flag, &mut texts);
+    Ok(got == (interrupted, [Ok(1), second]) && texts.as_str() == "[2:hi]")
 }
 
 #[test]
 fn asks_the_flag_of_a_caller(rt: HostRuntime) -> Result<(), Fail> {
-    let a = rt.alloc();
-    let flag = Cell::new(true);
-    for (interrupted, second) in [(true, Err(ErrorKind::Other)), (false, Ok(1))] {
-        flag.set(interrupted);
-        let mut texts = String::new(a);
-        let got = two_reads(a, &flag, &mut texts)?;
-        assert_eq!(rt; got, (interrupted, [Ok(1), second]));
-        assert_eq!(rt; texts.as_str(), "[2:hi]");
-    }
+    assert!(rt; heeds_the_flag(rt.alloc(), true, Err(ErrorKind::Other))?);
+    assert!(rt; heeds_the_flag(rt.alloc(), false, Ok(1))?);
     Ok(())
 }
 
@@ -71,31 +78,34 @@ fn read_some<R: BufRead>(reader: &mut R, size: usize, peeks: bool) -> io::Result
     Ok(())
 }
 
-fn first_line<R: ExtendedBufRead>(alloc: Global, reader: &mut R) -> Result<Vec<u8>, Fail> {
-    let line = reader.readline()?.ok_or("a line")?;
-    Ok(line.to_vec(alloc)?)
+// Whether this is the line that stands in a transport which was given back behind so many bytes.
+fn leaves<T: ExtendedBufRead>(
+    lines: &mut T,
+    texts: &mut String,
+    (size, peeks): (usize, bool),
+    want: &[u8],
+) -> Result<bool, Fail> {
+    let mut never = NeverInterrupt;
+    let mut reader = WithSidebands::new(lines, Notes { said: texts }, &mut never);
+    read_some(&mut reader, size, peeks)?;
+    Ok(reader.into_transport().readline()? == Some(want))
 }
 
-// The line of a transport that was given back behind so many bytes.
-fn line_behind(alloc: Global, size: usize, peeks: bool) -> Result<Vec<u8>, Fail> {
+fn leaves_line(alloc: Global, read: (usize, bool), want: &[u8]) -> Result<bool, Fail> {
     let mut device = Device::sound(b"0007\x01PA0006\x01C0000", 1);
     let mut lines = LineReader::new(alloc, &mut device)?;
     let mut texts = String::new(alloc);
-    let notes = Notes { said: &mut texts };
-    let mut never = NeverInterrupt;
-    let mut reader = WithSidebands::new(&mut lines, notes, &mut never);
-    read_some(&mut reader, size, peeks)?;
-    first_line(alloc, reader.into_transport())
+    leaves(&mut lines, &mut texts, read, want)
 }
 
 #[test]
 fn gives_the_transport_back(rt: HostRuntime) -> Result<(), Fail> {
-    for (size, peeks, want) in [
-        (0, false, b"\x01PA".as_slice()),
-        (0, true, b"\x01PA"),
-        (1, true, b"\x01C"),
+    for (read, want) in [
+        ((0, false), b"\x01PA".as_slice()),
+        ((0, true), b"\x01PA"),
+        ((1, true), b"\x01C"),
     ] {
-        assert_eq!(rt; line_behind(rt.alloc(), size, peeks)?.as_slice(), want);
+        assert!(rt; leaves_line(rt.alloc(), read, want)?);
     }
     Ok(())
 }

@@ -89,7 +89,7 @@ fn tell_failure<P: Progress>(progress: &mut P, name: String, message: String)
 fn tells_one_call_after_the_other(rt: HostRuntime) {
     let mut counts = no_counts();
     tell_work(&mut counts, 7);
-    assert_eq!(rt; (counts.steps, counts.max), (7, Some(7)));
+    assert!(rt; (counts.steps, counts.max) == (7, Some(7)));
     assert!(rt; counts.name().is_none());
 }
 
@@ -101,8 +101,7 @@ fn tells_a_failure(rt: HostRuntime) -> Result<(), Fail> {
     let mut counts = no_counts();
     tell_work(&mut counts, 7);
     tell_failure(&mut counts, name, message);
-    assert_eq!(rt; counts.name(), Some("remote"));
-    assert_eq!(rt; counts.failures, 1);
+    assert!(rt; counts.name() == Some("remote") && counts.failures == 1);
     Ok(())
 }
 
@@ -110,6 +109,6 @@ fn tells_a_failure(rt: HostRuntime) -> Result<(), Fail> {
 fn tells_a_child(rt: HostRuntime) -> Result<(), Fail> {
     let mut child = no_counts().add_child_with_id("remote", *b"FERP")?;
     tell_work(&mut child, 1);
-    assert_eq!(rt; child.steps, 1);
+    assert!(rt; child.steps == 1);
     Ok(())
 }

@@ -88,46 +88,54 @@ fn refuses_steps<T: Transport>(alloc: Global, over: &mut T) -> bool {
         && fails_with(over.handshake(alloc, Service::UploadPack, &[]), kind)
 }
 
+// Whether every request and step fails over a connection of which the write with this number fails.
+fn stays_broken(alloc: Global, fails: usize) -> Result<bool, AllocError> {
+    let mut over = broken_at(alloc, fails)?;
+    Ok(refuses_requests(&mut over) && refuses_steps(alloc, &mut over))
+}
+
 #[test]
 fn repeats_the_fault_of_a_write(rt: HostRuntime) -> Result<(), Fail> {
-    let a = rt.alloc();
     for fails in 0..5usize {
-        let mut over = broken_at(a, fails)?;
-        assert!(rt; refuses_requests(&mut over));
-        assert!(rt; refuses_steps(a, &mut over));
+        assert!(rt; stays_broken(rt.alloc(), fails)?);
     }
     Ok(())
+}
+
+// Whether a request is written whole where a write takes two bytes, and that with this number is interrupted.
+fn writes_whole(alloc: Global, fails: usize) -> Result<bool, Fail> {
+    let mut paper = Paper::sound(alloc, 2);
+    paper.fails = fails;
+    paper.kind = ErrorKind::Interrupted;
+    let mut over = silent(alloc, paper)?;
+    over.request(&[Message::Line(b"abc"), Message::Flush])?;
+    Ok(over.writer().bytes.as_slice() == b"0008abc\n0000".as_slice())
 }
 
 #[test]
 fn writes_on_where_a_write_comes_short(rt: HostRuntime) -> Result<(), Fail> {
-    let a = rt.alloc();
     for fails in 0..8usize {
-        let mut paper = Paper::sound(a, 2);
-        paper.fails = fails;
-        paper.kind = ErrorKind::Interrupted;
-        let mut over = silent(a, paper)?;
-        over.request(&[Message::Line(b"abc"), Message::Flush])?;
-        assert_eq!(rt; over.writer().bytes.as_slice(), b"0008abc\n0000".as_slice());
+        assert!(rt; writes_whole(rt.alloc(), fails)?);
     }
     Ok(())
 }
 
-#[test]
-fn tells_of_a_write_that_takes_nothing(rt: HostRuntime) -> Result<(), Fail> {
-    let a = rt.alloc();
-    let mut over = silent(a, Paper::sound(a, 0))?;
-    assert!(rt; fails_with(over.request(&[Message::Flush]), ErrorKind::WriteZero));
-    Ok(())
+// Whether a request over this writer fails by this kind.
+fn refuses(alloc: Global, paper: Paper, kind: ErrorKind) -> Result<bool, AllocError> {
+    let mut over = silent(alloc, paper)?;
+    Ok(fails_with(over.request(&[Message::Flush]), kind))
 }
 
 #[test]
-fn tells_of_a_flush_that_fails(rt: HostRuntime) -> Result<(), Fail> {
+fn tells_of_a_writer_that_refuses(rt: HostRuntime) -> Result<(), Fail> {
     let a = rt.alloc();
+    assert!(rt;
+        refuses(a, Paper::sound(a, 0), ErrorKind::WriteZero)?,
+        "a write that takes nothing"
+    );
     let mut paper = Paper::sound(a, usize::MAX);
     paper.flushes = false;
-    let mut over = silent(a, paper)?;
-    assert!(rt; fails_with(over.request(&[Message::Flush]), ErrorKind::Other));
+    assert!(rt; refuses(a, paper, ErrorKind::Other)?, "a flush that fails");
     Ok(())
 }
 
@@ -168,21 +176,27 @@ fn told_of_requests(alloc: Global, memory: &mut Bodies) -> Result<String, Fail> 
     Ok(told)
 }
 
+// Whether four requests were sent, of which the second is this one alone.
+fn sent_second(memory: &Bodies, request: &[u8]) -> bool {
+    match memory.sent() {
+        [_, second, _, _] => second.as_slice() == request,
+        _ => false,
+    }
+}
+
 #[test]
 fn takes_a_body_for_each_request(rt: HostRuntime) -> Result<(), Fail> {
-    let a = rt.alloc();
-    let mut memory = three_bodies(a)?;
-    assert_eq!(rt;
-        told_of_requests(a, &mut memory)?.as_str(),
-        "Io(UnexpectedEof) Io(UnexpectedEof) \
-        Ok(()) 2 \
-        Err(Io(TimedOut)) Io(UnexpectedEof) \
-        Ok(()) 2 | | \
-        Ok(()) Io(UnexpectedEof) Io(UnexpectedEof) "
+    let mut memory = three_bodies(rt.alloc())?;
+    let told = told_of_requests(rt.alloc(), &mut memory)?;
+    assert!(rt;
+        told.as_str()
+            == "Io(UnexpectedEof) Io(UnexpectedEof) \
+            Ok(()) 2 \
+            Err(Io(TimedOut)) Io(UnexpectedEof) \
+            Ok(()) 2 | | \
+            Ok(()) Io(UnexpectedEof) Io(UnexpectedEof) "
     );
-    let second = memory.sent().get(1);
-    assert!(rt; second.is_some_and(|request| request.as_slice() == b"0006x\n".as_slice()));
-    assert_eq!(rt; memory.sent().len(), 4);
+    assert!(rt; sent_second(&memory, b"0006x\n"));
     Ok(())
 }
 
@@ -209,32 +223,5 @@ fn asks_over_any_transport(rt: HostRuntime) -> Result<(), Fail> {
     let accepted = Vec::from_slice(a, &[Protocol::V2])?;
     let mut memory = bodies(a, &[Ok(b"0006a\n0000"), Ok(b"0000")], accepted)?;
     assert!(rt; ask(a, &mut memory, "x")? && !ask(a, &mut memory, "y")?);
-    Ok(())
-}
-
-// Whether a first command has a line for its answer, what stands behind that line, and whether a second command has
-// one.
-fn asked_twice<T: Transport>(
-    alloc: Global,
-    transport: &mut T,
-) -> Result<(bool, String, bool), Fail> {
-    let first = ask(alloc, transport, "x")?;
-    let behind = read_all(alloc, transport, 1)?;
-    let second = ask(alloc, transport, "y")?;
-    Ok((first, behind, second))
-}
-
-#[test]
-fn asks_over_a_connection(rt: HostRuntime) -> Result<(), Fail> {
-    let a = rt.alloc();
-    let device = Device::sound(b"0006a\n00000000", usize::MAX);
-    let mut over = connection(a, device, Paper::sound(a, usize::MAX), Protocol::V2)?;
-    let (first, behind, second) = asked_twice(a, &mut over)?;
-    assert!(rt; first && !second);
-    assert_eq!(rt; behind.as_str(), "| ");
-    assert_eq!(rt;
-        over.writer().bytes.as_slice(),
-        b"000ecommand=x\n0000000ecommand=y\n0000".as_slice()
-    );
     Ok(())
 }
