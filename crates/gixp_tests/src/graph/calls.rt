@@ -5,7 +5,6 @@ use gixp_graph::{CommitData, Flags, Graph, ObjectError, ObjectKind, Objects};
 use gixp_hash::ObjectId;
 use std::alloc::{AllocError, Global};
 use std::collections::BTreeMap;
-use std::io;
 use std::process::Abort;
 use std::test::Fail;
 

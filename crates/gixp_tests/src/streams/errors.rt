@@ -5,7 +5,7 @@ use gixp_capabilities::client;
 use gixp_hash::decode;
 use gixp_packetline::PacketError;
 use gixp_packetline::read::Error as ReadError;
-use gixp_wire::{Account, IsSpuriousError, Opening, Service};
+use gixp_wire::{Account, IsSpuriousError, Opening};
 use std::alloc::AllocError;
 use std::io::ErrorKind;
 use std::test::Fail;

@@ -1,8 +1,7 @@
-//! Line readers over devices that fail, and ids.
+//! Line readers over devices that fail.
 use crate::streams::devices::Device;
-use gixp_hash::{Kind, ObjectId};
 use gixp_packetline::read::ExtendedBufRead;
-use gixp_packetline::{Frame, LineReader, MessageKind, Protocol};
+use gixp_packetline::{LineReader, Protocol};
 use std::alloc::{AllocError, Global};
 use std::io::ErrorKind;
 use std::test::Fail;
