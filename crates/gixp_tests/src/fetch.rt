@@ -1,4 +1,4 @@
-//! Requests over devices that fail, answers in bands, and texts of errors.
+//! Requests whose answers fail, updates of a handshake, and texts of errors.
 
 mod answers;
 mod errors;

@@ -3,6 +3,5 @@
 mod bands;
 mod devices;
 mod errors;
-mod progress;
 mod readers;
 mod transports;

@@ -17,7 +17,7 @@ fn text(alloc: Global, bytes: &[u8]) -> Result<BString, AllocError> {
 }
 
 #[test]
-fn writes_each_error_and_takes_in_others(rt: HostRuntime) -> Result<(), Fail> {
+fn texts_of_refused_refs(rt: HostRuntime) -> Result<(), Fail> {
     let a = rt.alloc();
     let message = text(a, b"x y")?;
     let errors = [
@@ -27,19 +27,12 @@ fn writes_each_error_and_takes_in_others(rt: HostRuntime) -> Result<(), Fail> {
         parse::Error::InvariantViolation {
             message: parse::Invariant::UnbornTag,
         },
-        parse::Error::from(read::Error::Io(ErrorKind::Other)),
-        parse::Error::from(read::Error::Decode(PacketError::DataIsEmpty)),
         parse::Error::from(read::Error::Server { message }),
         parse::Error::from(read::Error::UnexpectedFrame),
-        parse::Error::from(read::Error::NotUtf8),
-        parse::Error::from(read::Error::BadBand(4)),
-        parse::Error::from(read::Error::Interrupted),
-        parse::Error::from(read::Error::Memory),
         parse::Error::from(AllocError),
     ];
     let text =
-        "Io\nHexDecode\nInvalidLength\ngot 'unborn' as tag target\nIo\nDataIsEmpty\nUploadPack\n\
-        Reader\nReader\nReader\nReader\nMemory\nMemory\n";
+        "Io\nHexDecode\nInvalidLength\ngot 'unborn' as tag target\nUploadPack\nReader\nMemory\n";
     assert!(rt; are_shown(a, &errors, text)?);
     Ok(())
 }
@@ -125,25 +118,6 @@ fn writes_a_missing_feature(rt: HostRuntime) -> Result<(), Fail> {
     let text =
         "Currently we require feature \"multi_ack_detailed\", which is not supported by the server";
     assert!(rt; is_shown(rt.alloc(), e, text)?);
-    Ok(())
-}
-
-#[test]
-fn errors_of_layers_below(rt: HostRuntime) -> Result<(), Fail> {
-    let errors = [
-        Error::from(read::Error::Io(ErrorKind::TimedOut)),
-        Error::from(read::Error::Memory),
-        Error::from(read::Error::Decode(PacketError::HexDecode)),
-        Error::from(read::Error::BadBand(4)),
-        Error::from(client::Error::Memory),
-        Error::from(client::Error::Io(ErrorKind::TimedOut)),
-        Error::from(AllocError),
-    ];
-    let text = format!(in rt.alloc(); "{errors:?}")?;
-    assert!(rt;
-        text.as_str()
-            == "[Io(TimedOut), Memory, Reader(Decode(HexDecode)), Reader(BadBand(4)), Memory, Transport(Io(TimedOut)), Memory]"
-    );
     Ok(())
 }
 

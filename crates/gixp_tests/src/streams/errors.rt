@@ -1,12 +1,11 @@
-//! Texts of errors, which of them are spurious, and names.
+//! Texts of errors, and copies.
 use crate::shown::are_shown;
 use bstr::BString;
 use gixp_capabilities::client;
 use gixp_hash::decode;
 use gixp_packetline::PacketError;
 use gixp_packetline::read::Error as ReadError;
-use gixp_wire::{Account, IsSpuriousError, Opening};
-use std::alloc::AllocError;
+use gixp_wire::{Account, Opening};
 use std::io::ErrorKind;
 use std::test::Fail;
 
@@ -84,56 +83,4 @@ fn writes_each_client_error(rt: HostRuntime) -> Result<(), Fail> {
         MissingDelimitingNullByte\nMemory\n";
     assert!(rt; are_shown(a, &errors, text)?);
     Ok(())
-}
-
-#[test]
-fn takes_in_errors_of_a_read(rt: HostRuntime) -> Result<(), Fail> {
-    let errors = [
-        client::Error::from(ReadError::Io(ErrorKind::TimedOut)),
-        client::Error::from(ReadError::UnexpectedFrame),
-        client::Error::from(ReadError::BadBand(4)),
-        client::Error::from(ReadError::Interrupted),
-        client::Error::from(ReadError::Memory),
-        client::Error::from(AllocError),
-    ];
-    let text = format!(in rt.alloc(); "{errors:?}")?;
-    assert!(rt;
-        text.as_str()
-            == "[Io(TimedOut), Read(UnexpectedFrame), Read(BadBand(4)), Read(Interrupted), Memory, Memory]"
-    );
-    Ok(())
-}
-
-// Whether this kind is spurious, by itself and as the cause of each error.
-fn are_spurious(kind: ErrorKind) -> [bool; 4] {
-    [
-        kind.is_spurious(),
-        ReadError::Io(kind).is_spurious(),
-        client::Error::Io(kind).is_spurious(),
-        client::Error::Read(ReadError::Io(kind)).is_spurious(),
-    ]
-}
-
-#[test]
-fn tells_spurious_errors(rt: HostRuntime) {
-    for (kind, want) in [
-        (ErrorKind::Interrupted, true),
-        (ErrorKind::UnexpectedEof, true),
-        (ErrorKind::TimedOut, true),
-        (ErrorKind::BrokenPipe, true),
-        (ErrorKind::AddrInUse, true),
-        (ErrorKind::ConnectionAborted, true),
-        (ErrorKind::ConnectionReset, true),
-        (ErrorKind::ConnectionRefused, true),
-        (ErrorKind::PermissionDenied, false),
-        (ErrorKind::NotConnected, false),
-        (ErrorKind::OutOfMemory, false),
-        (ErrorKind::Other, false),
-    ] {
-        assert!(rt; are_spurious(kind) == [want; 4]);
-    }
-    let refusals = [ReadError::Interrupted, ReadError::Memory];
-    assert!(rt; !refusals.iter().any(|error| error.is_spurious()));
-    let refusals = [client::Error::Memory, client::Error::LineTooLong];
-    assert!(rt; !refusals.iter().any(|error| error.is_spurious()));
 }
