@@ -8,7 +8,6 @@ use bstr::BString;
 use gixp_fetch::consume::{ConsumePack, CopyError, CopyPack, ReadToEnd};
 use gixp_fetch::shallow::{ShallowMemory, ShallowStore};
 use gixp_graph::RefStoreError;
-use gixp_hash::ObjectId;
 use gixp_negotiate::shallow::Shallow;
 use gixp_packetline::{ExtendedBufRead, MessageKind, Protocol};
 use gixp_wire::{Connection, Transport};

@@ -12,7 +12,7 @@ use crate::map_values::{init_error, report_map};
 use crate::maps::context_of;
 use crate::report::Report;
 use crate::rows::{Row, cut_at_byte};
-use crate::shakes::{Helper, bodies_of, connection, memory, report_shaken, shake_error};
+use crate::shakes::{Helper, bodies_of, connection, memory, shake_error};
 use crate::telling::Telling;
 use gixp_handshake::Handshake;
 use gixp_handshake::credentials::Action;

@@ -206,8 +206,8 @@ pub(crate) fn shake_error(report: &mut Report, e: &Error) {
     report.word(" ");
 }
 
-/// The version, the capabilities, and the refs and shallow updates if they came.
-pub(crate) fn report_shaken(
+// The version, the capabilities, and the refs and shallow updates if they came.
+fn report_shaken(
     alloc: Global,
     found: &Handshake,
     report: &mut Report,
