@@ -207,11 +207,7 @@ pub(crate) fn shake_error(report: &mut Report, e: &Error) {
 }
 
 // The version, the capabilities, and the refs and shallow updates if they came.
-fn report_shaken(
-    alloc: Global,
-    found: &Handshake,
-    report: &mut Report,
-) -> Result<(), AllocError> {
+fn report_shaken(alloc: Global, found: &Handshake, report: &mut Report) -> Result<(), AllocError> {
     report.debug(&found.server_protocol_version);
     report.word(" ");
     capability_list(alloc, report, &found.capabilities)?;
