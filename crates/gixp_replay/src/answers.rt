@@ -1,20 +1,29 @@
 //! An answer to a fetch.
 //!
-//! S0 is the version. Of S1 the first bit says that a pack is expected, the second that the client wants to negotiate,
-//! the third that the answer comes in bands. S2 is 0 for a line reader, 1 for a connection, 2 for a body in memory,
-//! S3 how many lines are taken behind a banded answer. What stands in the reader follows.
+//! `version`, `pack` (whether one is expected), `negotiates` (whether the client wants to), `bands` (whether the answer
+//! comes in them), `over` and `lines`, how many lines are taken behind an answer in bands. What stands in the reader
+//! follows.
 use crate::device::Device;
 use crate::handshakes::{connection, one_body};
 use crate::lines::{report_rest, take_line};
 use crate::packs::Notes;
 use crate::report::Report;
-use crate::rows::Row;
+use crate::rows::{NO_YES, Row, Setting};
 use crate::values;
 use gixp_packetline::{ExtendedBufRead, LineReader, Protocol};
 use gixp_response::fetch::Response;
 use gixp_sidebands::{NeverInterrupt, WithSidebands};
 use gixp_wire::Transport;
 use std::alloc::{AllocError, Global};
+
+pub(crate) const SETTINGS: &[Setting] = &[
+    ("version", &[], 2),
+    ("pack", NO_YES, 0),
+    ("negotiates", NO_YES, 0),
+    ("bands", NO_YES, 0),
+    ("over", &["reader", "connection", "body"], 0),
+    ("lines", &[], 0),
+];
 
 /// How an answer is read.
 #[derive(Clone, Copy)]
@@ -27,12 +36,12 @@ pub(crate) struct Reading {
 
 impl Reading {
     fn of_row(row: &Row<'_>) -> Reading {
-        let [version, flags, ..] = row.settings;
+        let [version, pack, negotiates, bands, ..] = row.settings;
         Reading {
             version: values::version_of(version),
-            expects_pack: flags % 2 == 1,
-            wants_to_negotiate: flags / 2 % 2 == 1,
-            is_banded: flags / 4 % 2 == 1,
+            expects_pack: pack == 1,
+            wants_to_negotiate: negotiates == 1,
+            is_banded: bands == 1,
         }
     }
 }
@@ -95,8 +104,9 @@ fn report_over<R: ExtendedBufRead>(
     report: &mut Report,
 ) -> Result<(), AllocError> {
     let reading = Reading::of_row(row);
+    let [_, _, _, _, _, lines] = row.settings;
     if reading.is_banded {
-        report_banded(alloc, reader, reading, row.settings[3], report)?;
+        report_banded(alloc, reader, reading, lines, report)?;
     } else {
         let _ = read_response(alloc, reader, reading, report);
     }
@@ -144,7 +154,8 @@ pub(crate) fn report_answer(
     row: &Row<'_>,
     report: &mut Report,
 ) -> Result<(), AllocError> {
-    match row.settings[2] {
+    let [_, _, _, _, over, _] = row.settings;
+    match over {
         0 => report_over_reader(alloc, row, report),
         1 => report_over_connection(alloc, row, report),
         _ => report_over_body(alloc, row, report),

@@ -1,19 +1,61 @@
 //! Calls of a reader of bands, and what they leave in the line reader.
 //!
-//! S0 is the version, S1 how many letters stand in front of the stream, S3 which question for an interrupt is answered
-//! with true, S4 which text can't be allocated, both from 0 on. A letter is a call: `1` to `9` a `read` of so many bytes,
-//! `f` `fill_buf`, `b` `buffer`, `c` a `consume` of one byte, `a` of nine, `z` of none, `e` `fault`. Other letters are
-//! calls of a line reader, as in `lines`.
+//! The first line of the bytes has the calls, as in `lines`, and the stream stands after it. Beside those of a line reader
+//! there are `read-1` to `read-9`, a `read` of so many bytes, `fill_buf`, `buffer`, `consume-0`, `consume-1` and
+//! `consume-9`, and `fault`. `version` is that of the reader, `interrupt-at` which question for an interrupt is answered
+//! with true, `memory-at` which text can't be allocated, both from 0 on.
 use crate::device::Device;
 use crate::packs::{Notes, Once, report_fault};
 use crate::report::Report;
-use crate::rows::{Row, cut_at};
+use crate::rows::{Row, Setting, cut_at_byte, meaning_of};
 use crate::{lines, values};
 use gixp_packetline::{ExtendedBufRead, LineReader};
 use gixp_sidebands::{Interrupt, WithSidebands};
 use std::alloc::{AllocError, Global};
 use std::io;
 use std::io::{BufRead, Read};
+
+pub(crate) const SETTINGS: &[Setting] = &[
+    ("version", &[], 2),
+    ("interrupt-at", &[], u64::MAX),
+    ("memory-at", &[], u64::MAX),
+];
+
+// A call of a reader of bands.
+#[derive(Clone, Copy)]
+enum Call {
+    Read(usize),
+    FillBuf,
+    Buffer,
+    Consume(usize),
+    Fault,
+    Line(lines::Call),
+}
+
+static CALLS: [(&str, Call); 15] = [
+    ("read-1", Call::Read(1)),
+    ("read-2", Call::Read(2)),
+    ("read-3", Call::Read(3)),
+    ("read-4", Call::Read(4)),
+    ("read-5", Call::Read(5)),
+    ("read-6", Call::Read(6)),
+    ("read-7", Call::Read(7)),
+    ("read-8", Call::Read(8)),
+    ("read-9", Call::Read(9)),
+    ("fill_buf", Call::FillBuf),
+    ("buffer", Call::Buffer),
+    ("consume-0", Call::Consume(0)),
+    ("consume-1", Call::Consume(1)),
+    ("consume-9", Call::Consume(9)),
+    ("fault", Call::Fault),
+];
+
+fn call_of(word: &[u8]) -> Option<Call> {
+    match lines::call_of(word) {
+        Some(call) => Some(Call::Line(call)),
+        None => meaning_of(&CALLS, word),
+    }
+}
 
 // The bytes that a call gives, or the kind of its error.
 fn report_bytes(report: &mut Report, bytes: io::Result<&[u8]>) {
@@ -34,24 +76,39 @@ fn read<R: Read>(reader: &mut R, size: usize, report: &mut Report) {
     }
 }
 
-// The call of a letter.
-fn call<T: ExtendedBufRead, I: Interrupt>(
+fn make_call<T: ExtendedBufRead, I: Interrupt>(
     alloc: Global,
     reader: &mut WithSidebands<'_, T, Notes<'_>, I>,
-    letter: u8,
+    call: Call,
     report: &mut Report,
 ) -> Result<(), AllocError> {
-    match letter {
-        b'1'..=b'9' => read(reader, usize::from(letter - b'0'), report),
-        b'f' => report_bytes(report, reader.fill_buf()),
-        b'b' => report_bytes(report, Ok(reader.buffer())),
-        b'e' => report_fault(reader.fault(), report),
-        b'z' => reader.consume(0),
-        b'c' => reader.consume(1),
-        b'a' => reader.consume(9),
-        _ => {
-            let _ = lines::call(alloc, reader, letter, report)?;
+    match call {
+        Call::Read(size) => read(reader, size, report),
+        Call::FillBuf => report_bytes(report, reader.fill_buf()),
+        Call::Buffer => report_bytes(report, Ok(reader.buffer())),
+        Call::Fault => report_fault(reader.fault(), report),
+        Call::Consume(count) => reader.consume(count),
+        Call::Line(call) => {
+            let _ = lines::make_call(alloc, reader, call, report)?;
         }
+    }
+    Ok(())
+}
+
+// A word's call, as often as it says.
+fn call_word<T: ExtendedBufRead, I: Interrupt>(
+    alloc: Global,
+    reader: &mut WithSidebands<'_, T, Notes<'_>, I>,
+    word: &[u8],
+    report: &mut Report,
+) -> Result<(), AllocError> {
+    let (name, times) = lines::times_of(word);
+    let Some(call) = call_of(name) else {
+        report.is_unknown = true;
+        return Ok(());
+    };
+    for _ in 0..times {
+        make_call(alloc, reader, call, report)?;
     }
     Ok(())
 }
@@ -59,11 +116,11 @@ fn call<T: ExtendedBufRead, I: Interrupt>(
 fn call_each<T: ExtendedBufRead, I: Interrupt>(
     alloc: Global,
     reader: &mut WithSidebands<'_, T, Notes<'_>, I>,
-    letters: &[u8],
+    words: &[u8],
     report: &mut Report,
 ) -> Result<(), AllocError> {
-    for letter in letters {
-        call(alloc, reader, *letter, report)?;
+    for word in words.split(|b| *b == b' ') {
+        call_word(alloc, reader, word, report)?;
     }
     Ok(())
 }
@@ -74,9 +131,9 @@ pub(crate) fn report_calls(
     row: &Row<'_>,
     report: &mut Report,
 ) -> Result<(), AllocError> {
-    let [version, letters, _, interrupt, memory] = row.settings;
+    let [version, interrupt, memory, ..] = row.settings;
     let version = values::version_of(version);
-    let (letters, stream) = cut_at(row.payload, letters);
+    let (words, stream) = cut_at_byte(row.payload, b'\n');
     let mut device = Device::new(stream, row.cut, row.fail);
     let mut reader = LineReader::new(alloc, &mut device)?;
     reader.reset(version);
@@ -85,7 +142,7 @@ pub(crate) fn report_calls(
         let mut once = Once::new(interrupt);
         let notes = Notes::new(&mut told, memory);
         let mut banded = WithSidebands::new(&mut reader, notes, &mut once);
-        call_each(alloc, &mut banded, letters, report)?;
+        call_each(alloc, &mut banded, words, report)?;
     }
     report.word("told ");
     report.quote_report(&told);

@@ -1,16 +1,21 @@
 //! A list of capabilities, look-ups in it, and what may be asked for by it.
 //!
-//! S0 is 0 for capabilities behind the NUL of a line, 1 for one in each line. S1 is the length of the names in front
-//! of the bytes, which commas part: each is looked up, and each is an argument that is validated. Lines are parted by
-//! a byte 1. S2 is a mask of features, S3 one of those with a value (`offers` has their names).
+//! The first line of the bytes has names with commas between them: each is looked up, and each is an argument that is
+//! validated. The second line has the features of the client, `NAME` or `NAME=VALUE` with blanks between them. The
+//! capabilities stand after it: `form=line` after the NUL of a line, `form=lines` one in each line, with a byte 1 between
+//! lines.
 use crate::offers::report_offers;
 use crate::report::Report;
-use crate::rows::{Row, cut_at};
+use crate::requests::push_feature;
+use crate::rows::{Row, Setting, cut_at_byte};
 use crate::values;
 use bstr::BString;
 use gixp_capabilities::{Capabilities, Capability};
 use gixp_refs::handshake::refs::from_capabilities;
+use gixp_requests::command::Feature;
 use std::alloc::{AllocError, Global};
+
+pub(crate) const SETTINGS: &[Setting] = &[("form", &["line", "lines"], 0)];
 
 // What a capability has of its own: value, words, and which of the names are among these.
 fn report_capability(
@@ -128,7 +133,7 @@ fn read_list(
 // The list, each look-up, and the offers.
 fn report_found(
     alloc: Global,
-    row: &Row<'_>,
+    given: &[Feature],
     found: &Capabilities,
     names: &[BString],
     report: &mut Report,
@@ -136,7 +141,7 @@ fn report_found(
     values::capability_list(alloc, report, found)?;
     report_look_ups(alloc, found, names, report)?;
     report_symrefs(alloc, found, report)?;
-    report_offers(alloc, row, found, names, report)
+    report_offers(alloc, given, found, names, report)
 }
 
 /// A list that was read, each look-up in it, and the offers.
@@ -145,11 +150,16 @@ pub(crate) fn report_capabilities(
     row: &Row<'_>,
     report: &mut Report,
 ) -> Result<(), AllocError> {
-    let [form, length, ..] = row.settings;
-    let (names, bytes) = cut_at(row.payload, length);
+    let [form, ..] = row.settings;
+    let (names, rest) = cut_at_byte(row.payload, b'\n');
+    let (words, bytes) = cut_at_byte(rest, b'\n');
     let names = texts(alloc, names, b',')?;
+    let mut given = Vec::new(alloc);
+    for word in words.split(|b| *b == b' ') {
+        push_feature(alloc, word, &mut given)?;
+    }
     match read_list(alloc, form != 0, bytes, report)? {
-        Some(found) => report_found(alloc, row, &found, &names, report),
+        Some(found) => report_found(alloc, &given, &found, &names, report),
         None => Ok(()),
     }
 }

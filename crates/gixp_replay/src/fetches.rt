@@ -1,7 +1,7 @@
 //! A whole fetch: a handshake, a ref map, the rounds, the pack and the shallow boundary.
 //!
-//! S0 is 0 for bodies in memory, 1 for a connection; S1 the version that the client of a connection asks for; S2 is 1
-//! where the fetch is made again for each proper beginning of the bytes. The payload is a script, as `scripts` says, and
+//! `over` says where the answers come from, `version` what the client of a connection asks for, `cut=each` that the fetch is
+//! made for each proper beginning of the bytes, with equal results together. The bytes are a script, as `scripts` says, and
 //! the bytes. The report has the error of the first call that is refused, or what the fetch returned; then the pack, how
 //! often the lock was had and released, the boundary, what stands in the transport, and the bytes that were sent.
 ghost use Rattle.std.specs.Prelude.{◌≡◌};
@@ -11,8 +11,8 @@ use crate::device::Device;
 use crate::handshakes::{bodies, connection};
 use crate::lines::report_rest;
 use crate::packs::Once;
-use crate::report::Report;
-use crate::rows::{Row, cut_at};
+use crate::report::{Report, Runs};
+use crate::rows::{BODIES_CONNECTION, Row, Setting, cut_at};
 use crate::scripts::{Fault, Script};
 use crate::sessions::cut_bodies;
 use crate::values;
@@ -37,6 +37,12 @@ use gixp_wire::{Service, Transport};
 use std::alloc::{AllocError, Global};
 use std::io::ErrorKind;
 use std::mem;
+
+pub(crate) const SETTINGS: &[Setting] = &[
+    ("over", BODIES_CONNECTION, 0),
+    ("version", &[], 2),
+    ("cut", &["nowhere", "each"], 0),
+];
 
 // A shallow boundary that counts calls, and refuses one of them.
 #[derive(Drop)]
@@ -79,7 +85,9 @@ impl ScriptedStore {
 }
 
 impl ShallowStore for ScriptedStore {
-    ghost failures = { λ s. s.failures };
+    ghost failures = { λ call s e t. IsStoreRefusal s.failures t.failures e };
+
+    ghost count = { λ s. s.failures };
 
     ghost locks = { λ s t. Unit {0} };
 
@@ -123,6 +131,8 @@ impl ShallowStore for ScriptedStore {
     fn release(&mut self) {
         self.releases = self.releases.saturating_add(1);
     }
+
+    ghost counted = { λ call s e t h. h };
 }
 
 fn agent(alloc: Global) -> Result<Feature, AllocError> {
@@ -383,14 +393,21 @@ pub(crate) fn report_fetch(
     row: &Row<'_>,
     report: &mut Report,
 ) -> Result<(), AllocError> {
+    let [_, _, cut, ..] = row.settings;
     let (script, bytes) = Script::read(alloc, row.payload)?;
-    if row.settings[2] != 1 {
+    report.is_unknown |= script.is_unknown;
+    if cut == 0 {
         return report_once(alloc, row, script, bytes, report);
     }
+    let mut result = Report::new(alloc);
+    let mut runs = Runs::new(alloc, 0);
     for place in 0..bytes.len() {
         let (front, _) = cut_at(bytes, place as u64);
         let (script, _) = Script::read(alloc, row.payload)?;
-        report_once(alloc, row, script, front, report)?;
+        result.clear();
+        report_once(alloc, row, script, front, &mut result)?;
+        runs.add(&result, report);
     }
+    runs.finish(report);
     Ok(())
 }

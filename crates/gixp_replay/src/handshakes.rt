@@ -1,18 +1,20 @@
 //! A handshake, and the refs of versions 0 and 1 behind it.
 //!
-//! S0 is 0 for bodies in memory, 1 for a connection; S1 the version that the client asks for. What stands in the
-//! transport follows, and over a connection the bytes that were written.
+//! `over` says whether the bytes are a body in memory or come over a connection, `version` which version the client of a
+//! connection asks for. What stands in the transport follows, and over a connection the bytes that were written.
 use crate::device::{Device, Paper};
 use crate::lines::report_rest;
 use crate::refs::report_list;
 use crate::report::Report;
-use crate::rows::Row;
+use crate::rows::{BODIES_CONNECTION, Row, Setting};
 use crate::values::{capability_list, client_error, parse_error, update, version_of};
 use bstr::BString;
 use gixp_capabilities::Capabilities;
 use gixp_refs::handshake::refs::from_v1_refs_received_as_part_of_handshake_and_capabilities;
 use gixp_wire::{Bodies, Body, Connection, Opening, Service, SetServiceResponse, Transport};
 use std::alloc::{AllocError, Global};
+
+pub(crate) const SETTINGS: &[Setting] = &[("over", BODIES_CONNECTION, 0), ("version", &[], 2)];
 
 /// The version, whether refs come, and the capabilities.
 pub(crate) fn report_response(
@@ -22,11 +24,7 @@ pub(crate) fn report_response(
 ) -> Result<(), AllocError> {
     report.debug(&found.actual_protocol);
     report.word(" ");
-    report.word(if found.refs_follow {
-        "refs "
-    } else {
-        "norefs "
-    });
+    report.word(if found.has_refs { "refs " } else { "norefs " });
     capability_list(alloc, report, &found.capabilities)?;
     report.word("; ");
     Ok(())
@@ -87,7 +85,7 @@ fn report_over<T: Transport>(
     let Some(found) = shake_hands(alloc, transport, report)? else {
         return Ok(());
     };
-    if found.refs_follow {
+    if found.has_refs {
         let _ = report_early_refs(alloc, transport, &found.capabilities, report);
     }
     report_rest(transport, found.actual_protocol, report);

@@ -1,23 +1,26 @@
 //! A repository, what the server has, and what both say, as a text.
 //!
-//! Each line is a letter and words. An id is a number, the last eight bytes of its 20. A name `-` is none.
+//! Each line is a word and what belongs to it. An id is a number, the last eight bytes of its 20. A name `-` is none.
 //!
-//!     c ID TIME PARENT..   a commit            g ID TIME PARENT..   one that the graph's objects alone have
-//!     o ID KIND            an object of the kind `b` blob, `r` tree, `t` tag, or `-` where it can't be told
-//!     e ID KIND            one that the graph's objects haven't, also of the kind `c` commit
-//!     b ID                 a commit of which a look fails
-//!     r NAME ID            a ref               p ID..               what refs lead to
-//!     R ERROR              the refs can't be listed: `o`, `i`, `p` or `f`, the first letter of the error, `f` for a read that failed
-//!     a ID..               an alternate, and what its refs lead to
-//!     A ERROR              one of which the refs can't be listed
-//!     x                    the alternates can't be opened
-//!     E SPEC               an added refspec
-//!     m LOCAL INDEX SOURCE a mapping: its local name, the place of its refspec behind `e` or, of an added one, `i`, and
-//!                          its source: `o ID`, or a ref as `d NAME ID`, `p NAME TAG ID`, `s NAME TAG ID` or `u NAME`
-//!     h FROM COUNT         so many haves, from this id on
-//!     > WORD..             an answer: a common id, `R` ready or `N` NAK each
-//!     * FROM COUNT         an answer of so many common ids, from this one on
-use crate::rows::{cut_at_byte, number};
+//!     commit ID TIME PARENT..    a commit
+//!     packed ID TIME PARENT..    one that the graph's objects alone have
+//!     object ID KIND             an object of the kind `blob`, `tree` or `tag`, or `-` where it can't be told
+//!     apart ID KIND              one that the graph's objects haven't, also of the kind `commit`
+//!     broken ID                  a commit of which a look fails
+//!     ref NAME ID                a ref
+//!     leads ID..                 what refs lead to
+//!     refs-fail ERROR            the refs can't be listed: `open`, `iter`, `peel`, or `io` for a read that failed
+//!     alternate ID..             an alternate, and what its refs lead to
+//!     alternate-fails ERROR      one of which the refs can't be listed
+//!     no-alternates              the alternates can't be opened
+//!     extra SPEC                 an added refspec
+//!     mapping LOCAL PLACE SOURCE a mapping: its local name, the place of its refspec behind `explicit-` or `extra-`, and its
+//!                                source: `id ID`, `direct NAME ID`, `peeled NAME TAG ID`, `symbolic NAME TAG ID` or
+//!                                `unborn NAME`
+//!     haves FROM COUNT           so many haves, from this id on
+//!     answer WORD..              an answer: a common id, `ready` or `NAK` each
+//!     answer-many FROM COUNT     an answer of so many common ids, from this one on
+use crate::rows::{cut_at_byte, meaning_of, number};
 use bstr::{BStr, BString};
 use gixp_graph::{CommitData, ObjectError, ObjectKind, RefStoreError};
 use gixp_hash::ObjectId;
@@ -29,6 +32,78 @@ use gixp_refspec::parse::{Operation, parse};
 use gixp_response::fetch::Response;
 use std::alloc::{AllocError, Global};
 use std::io::ErrorKind;
+
+// A line of the text.
+#[derive(Clone, Copy)]
+enum Line {
+    Commit,
+    Packed,
+    Object,
+    Apart,
+    Broken,
+    Ref,
+    Leads,
+    RefsFail,
+    Alternate,
+    AlternateFails,
+    NoAlternates,
+    Extra,
+    Mapping,
+    Haves,
+    Answer,
+    AnswerMany,
+}
+
+static LINES: [(&str, Line); 16] = [
+    ("commit", Line::Commit),
+    ("packed", Line::Packed),
+    ("object", Line::Object),
+    ("apart", Line::Apart),
+    ("broken", Line::Broken),
+    ("ref", Line::Ref),
+    ("leads", Line::Leads),
+    ("refs-fail", Line::RefsFail),
+    ("alternate", Line::Alternate),
+    ("alternate-fails", Line::AlternateFails),
+    ("no-alternates", Line::NoAlternates),
+    ("extra", Line::Extra),
+    ("mapping", Line::Mapping),
+    ("haves", Line::Haves),
+    ("answer", Line::Answer),
+    ("answer-many", Line::AnswerMany),
+];
+
+static KINDS: [(&str, ObjectKind); 4] = [
+    ("commit", ObjectKind::Commit),
+    ("blob", ObjectKind::Blob),
+    ("tree", ObjectKind::Tree),
+    ("tag", ObjectKind::Tag),
+];
+
+static ERRORS: [(&str, RefStoreError); 4] = [
+    ("open", RefStoreError::OpenPackedRefsBuffer),
+    ("iter", RefStoreError::Iter),
+    ("peel", RefStoreError::Peel),
+    ("io", RefStoreError::Io(ErrorKind::TimedOut)),
+];
+
+// Where a mapping comes from.
+#[derive(Clone, Copy)]
+enum Form {
+    Id,
+    Direct,
+    Peeled,
+    Symbolic,
+    Unborn,
+}
+
+static FORMS: [(&str, Form); 5] = [
+    ("id", Form::Id),
+    ("direct", Form::Direct),
+    ("peeled", Form::Peeled),
+    ("symbolic", Form::Symbolic),
+    ("unborn", Form::Unborn),
+];
 
 /// What a negotiation is about.
 #[derive(Drop)]
@@ -46,6 +121,8 @@ pub(crate) struct History {
     pub(crate) haves: Vec<ObjectId>,
     /// What the server says, in turn.
     pub(crate) answers: Vec<Response>,
+    /// Whether a line has a word that isn't known.
+    pub(crate) is_unknown: bool,
 }
 
 /// The id of a number.
@@ -87,23 +164,8 @@ fn signed(word: &[u8]) -> i64 {
         .unwrap_or(0)
 }
 
-fn kind(word: &[u8]) -> Option<ObjectKind> {
-    match word {
-        [b'c'] => Some(ObjectKind::Commit),
-        [b'b'] => Some(ObjectKind::Blob),
-        [b'r'] => Some(ObjectKind::Tree),
-        [b't'] => Some(ObjectKind::Tag),
-        _ => None,
-    }
-}
-
 fn error(word: &[u8]) -> RefStoreError {
-    match word {
-        [b'o'] => RefStoreError::OpenPackedRefsBuffer,
-        [b'i'] => RefStoreError::Iter,
-        [b'p'] => RefStoreError::Peel,
-        _ => RefStoreError::Io(ErrorKind::TimedOut),
-    }
+    meaning_of(&ERRORS, word).unwrap_or(RefStoreError::Io(ErrorKind::TimedOut))
 }
 
 fn text(alloc: Global, word: &[u8]) -> Result<BString, AllocError> {
@@ -128,7 +190,7 @@ fn commit(alloc: Global, words: &[u8]) -> Result<CommitData, AllocError> {
 
 fn plain(word: &[u8]) -> StoredObject {
     StoredObject {
-        kind: kind(word),
+        kind: meaning_of(&KINDS, word),
         commit: None,
         is_corrupt: false,
     }
@@ -146,26 +208,26 @@ fn corrupt() -> StoredObject {
 fn add_object(
     alloc: Global,
     history: &mut History,
-    letter: u8,
+    line: Line,
     rest: &[u8],
 ) -> Result<bool, AllocError> {
     let (word, rest) = cut_at_byte(rest, b' ');
     let id = id(word);
-    match letter {
-        b'c' => {
+    match line {
+        Line::Commit => {
             history.existing.add_commit(id, commit(alloc, rest)?)?;
             history.objects.add_commit(id, commit(alloc, rest)?)?;
         }
-        b'g' => history.objects.add_commit(id, commit(alloc, rest)?)?,
-        b'o' => {
+        Line::Packed => history.objects.add_commit(id, commit(alloc, rest)?)?,
+        Line::Object => {
             history.existing.add(id, plain(rest))?;
             history.objects.add(id, plain(rest))?;
         }
-        b'b' => {
+        Line::Broken => {
             history.existing.add(id, corrupt())?;
             history.objects.add(id, corrupt())?;
         }
-        b'e' => {
+        Line::Apart => {
             history.existing.add(id, plain(rest))?;
             return Ok(true);
         }
@@ -186,53 +248,53 @@ fn alternate(alloc: Global, targets: Vec<ObjectId>, error: Option<RefStoreError>
 fn add_refs(
     alloc: Global,
     history: &mut History,
-    letter: u8,
+    line: Line,
     rest: &[u8],
 ) -> Result<bool, AllocError> {
-    match letter {
-        b'r' => {
+    match line {
+        Line::Ref => {
             let (name, word) = cut_at_byte(rest, b' ');
             history.refs.add(name.to_vec(alloc)?, id(word))?;
         }
-        b'p' => {
+        Line::Leads => {
             let targets = ids(alloc, rest)?;
             history.refs.targets.extend_from_slice(&targets)?;
         }
-        b'R' => history.refs.error = Some(error(rest)),
-        b'a' => history
+        Line::RefsFail => history.refs.error = Some(error(rest)),
+        Line::Alternate => history
             .alternates
             .push(alternate(alloc, ids(alloc, rest)?, None))?,
-        b'A' => history
+        Line::AlternateFails => history
             .alternates
             .push(alternate(alloc, Vec::new(alloc), Some(error(rest))))?,
-        b'x' => history.has_alternates = false,
+        Line::NoAlternates => history.has_alternates = false,
         _ => return Ok(false),
     }
     Ok(true)
 }
 
 fn source(alloc: Global, words: &[u8]) -> Result<Source, AllocError> {
-    let (letter, rest) = cut_at_byte(words, b' ');
+    let (form, rest) = cut_at_byte(words, b' ');
     let (name, rest) = cut_at_byte(rest, b' ');
     let full_ref_name = text(alloc, name)?;
     let (first, second) = cut_at_byte(rest, b' ');
-    Ok(match letter {
-        [b'd'] => Source::Ref(Ref::Direct {
+    Ok(match meaning_of(&FORMS, form) {
+        Some(Form::Direct) => Source::Ref(Ref::Direct {
             full_ref_name,
             object: id(first),
         }),
-        [b'p'] => Source::Ref(Ref::Peeled {
+        Some(Form::Peeled) => Source::Ref(Ref::Peeled {
             full_ref_name,
             tag: id(first),
             object: id(second),
         }),
-        [b's'] => Source::Ref(Ref::Symbolic {
+        Some(Form::Symbolic) => Source::Ref(Ref::Symbolic {
             full_ref_name,
             target: text(alloc, b"refs/heads/main")?,
             tag: option(first).map(id),
             object: id(second),
         }),
-        [b'u'] => Source::Ref(Ref::Unborn {
+        Some(Form::Unborn) => Source::Ref(Ref::Unborn {
             full_ref_name,
             target: text(alloc, b"refs/heads/main")?,
         }),
@@ -247,13 +309,13 @@ fn mapping(alloc: Global, words: &[u8]) -> Result<Mapping, AllocError> {
         Some(name) => Some(text(alloc, name)?),
         None => None,
     };
-    let (letter, digits) = index.split_at(index.len().min(1));
+    let (from, digits) = cut_at_byte(index, b'-');
     let place = usize::try_from(number(digits).unwrap_or(0)).unwrap_or(0);
     Ok(Mapping {
         remote: source(alloc, rest)?,
         local,
-        spec_index: match letter {
-            [b'i'] => SpecIndex::Implicit(place),
+        spec_index: match from {
+            [b'e', b'x', b't', ..] => SpecIndex::Implicit(place),
             _ => SpecIndex::ExplicitInRemote(place),
         },
     })
@@ -263,12 +325,12 @@ fn mapping(alloc: Global, words: &[u8]) -> Result<Mapping, AllocError> {
 fn add_mapping(
     alloc: Global,
     history: &mut History,
-    letter: u8,
+    line: Line,
     rest: &[u8],
 ) -> Result<bool, AllocError> {
-    match letter {
-        b'm' => history.map.mappings.push(mapping(alloc, rest)?)?,
-        b'E' => match parse(BStr::new(rest), Operation::Fetch) {
+    match line {
+        Line::Mapping => history.map.mappings.push(mapping(alloc, rest)?)?,
+        Line::Extra => match parse(BStr::new(rest), Operation::Fetch) {
             Ok(spec) => history.map.extra_refspecs.push(spec.to_owned(alloc)?)?,
             Err(_) => {}
         },
@@ -285,9 +347,9 @@ fn push_common(lines: &mut Vec<u8>, id: &ObjectId) -> Result<(), AllocError> {
 }
 
 // The packet lines of an answer.
-fn answer_lines(alloc: Global, letter: u8, rest: &[u8]) -> Result<Vec<u8>, AllocError> {
+fn answer_lines(alloc: Global, line: Line, rest: &[u8]) -> Result<Vec<u8>, AllocError> {
     let mut lines = b"0014acknowledgments\n".to_vec(alloc)?;
-    if letter == b'*' {
+    if let Line::AnswerMany = line {
         let mut list = Vec::new(alloc);
         push_ids(&mut list, rest)?;
         for id in &list {
@@ -296,8 +358,8 @@ fn answer_lines(alloc: Global, letter: u8, rest: &[u8]) -> Result<Vec<u8>, Alloc
     } else {
         for word in rest.split(|b| *b == b' ') {
             match word {
-                [b'R'] => lines.extend_from_slice(b"000aready\n")?,
-                [b'N'] => lines.extend_from_slice(b"0008NAK\n")?,
+                [b'r', ..] => lines.extend_from_slice(b"000aready\n")?,
+                [b'N', ..] => lines.extend_from_slice(b"0008NAK\n")?,
                 _ => push_common(&mut lines, &id(word))?,
             }
         }
@@ -309,10 +371,10 @@ fn answer_lines(alloc: Global, letter: u8, rest: &[u8]) -> Result<Vec<u8>, Alloc
 fn add_answer(
     alloc: Global,
     history: &mut History,
-    letter: u8,
+    line: Line,
     rest: &[u8],
 ) -> Result<(), AllocError> {
-    let lines = answer_lines(alloc, letter, rest)?;
+    let lines = answer_lines(alloc, line, rest)?;
     let mut bytes = lines.as_slice();
     let mut reader = LineReader::new(alloc, &mut bytes)?;
     match Response::from_line_reader(alloc, Protocol::V2, &mut reader, false, true) {
@@ -324,23 +386,24 @@ fn add_answer(
     }
 }
 
-fn add_line(alloc: Global, history: &mut History, line: &[u8]) -> Result<(), AllocError> {
-    let [letter, b' ', rest @ ..] = line else {
-        if line.first() == Some(&b'x') {
-            history.has_alternates = false;
-        }
+fn add_line(alloc: Global, history: &mut History, text: &[u8]) -> Result<(), AllocError> {
+    if text.is_empty() {
+        return Ok(());
+    }
+    let (word, rest) = cut_at_byte(text, b' ');
+    let Some(line) = meaning_of(&LINES, word) else {
+        history.is_unknown = true;
         return Ok(());
     };
-    let is_added = add_object(alloc, history, *letter, rest)?
-        || add_refs(alloc, history, *letter, rest)?
-        || add_mapping(alloc, history, *letter, rest)?;
+    let is_added = add_object(alloc, history, line, rest)?
+        || add_refs(alloc, history, line, rest)?
+        || add_mapping(alloc, history, line, rest)?;
     if is_added {
         return Ok(());
     }
-    match *letter {
-        b'h' => push_ids(&mut history.haves, rest),
-        b'>' | b'*' => add_answer(alloc, history, *letter, rest),
-        _ => Ok(()),
+    match line {
+        Line::Haves => push_ids(&mut history.haves, rest),
+        _ => add_answer(alloc, history, line, rest),
     }
 }
 
@@ -357,6 +420,7 @@ impl History {
             map: RefMap::empty(alloc),
             haves: Vec::new(alloc),
             answers: Vec::new(alloc),
+            is_unknown: false,
         };
         for line in lines.split(|b| *b == b'\n') {
             add_line(alloc, &mut history, line)?;

@@ -1,15 +1,52 @@
 //! Calls of a line reader.
 //!
-//! S0 is the version, S1 how many letters stand in front of the stream, each a call: `r` `readline`, `p`
-//! `peek_data_line`, `n` `next_line`, `k` `peek_line`, `s` `readline_str`, `t` `stopped_at`, `0`, `1` and `2` a `reset`
-//! to that version. A call whose read failed is made again.
+//! The first line of the bytes has the calls, words with blanks between them, and behind each how often where it is more
+//! than once (`readline*5`): the name of a function, or `reset-0`, `reset-1` and `reset-2`. The stream stands after it. A
+//! call whose read failed is made again. `version` is that of the reader.
 use crate::device::Device;
 use crate::report::Report;
-use crate::rows::{Row, cut_at};
+use crate::rows::{Row, Setting, cut_at_byte, meaning_of, number};
 use crate::values::{read_error, stop, version_of};
 use gixp_packetline::{ExtendedBufRead, LineReader, Protocol, read};
 use std::alloc::{AllocError, Global};
 use std::io::ErrorKind;
+
+pub(crate) const SETTINGS: &[Setting] = &[("version", &[], 2)];
+
+/// A call of a line reader.
+#[derive(Clone, Copy)]
+pub(crate) enum Call {
+    Readline,
+    PeekDataLine,
+    NextLine,
+    PeekLine,
+    ReadlineStr,
+    StoppedAt,
+    Reset(Protocol),
+}
+
+static CALLS: [(&str, Call); 9] = [
+    ("readline", Call::Readline),
+    ("peek_data_line", Call::PeekDataLine),
+    ("next_line", Call::NextLine),
+    ("peek_line", Call::PeekLine),
+    ("readline_str", Call::ReadlineStr),
+    ("stopped_at", Call::StoppedAt),
+    ("reset-0", Call::Reset(Protocol::V0)),
+    ("reset-1", Call::Reset(Protocol::V1)),
+    ("reset-2", Call::Reset(Protocol::V2)),
+];
+
+/// The call of a word, if there is one.
+pub(crate) fn call_of(word: &[u8]) -> Option<Call> {
+    meaning_of(&CALLS, word)
+}
+
+/// A word, and how often it stands.
+pub(crate) fn times_of(word: &[u8]) -> (&[u8], u64) {
+    let (name, digits) = cut_at_byte(word, b'*');
+    (name, number(digits).unwrap_or(1))
+}
 
 /// Whether a read failed, and the stream didn't end.
 pub(crate) fn is_failure(kind: ErrorKind) -> bool {
@@ -98,23 +135,21 @@ fn take_text<R: ExtendedBufRead>(
     }
 }
 
-/// The call of a letter. False where a read failed.
-pub(crate) fn call<R: ExtendedBufRead>(
+/// Makes a call. False where a read failed.
+pub(crate) fn make_call<R: ExtendedBufRead>(
     alloc: Global,
     reader: &mut R,
-    letter: u8,
+    call: Call,
     report: &mut Report,
 ) -> Result<bool, AllocError> {
-    match letter {
-        b'r' => return Ok(take_line(reader, report)),
-        b'p' => return Ok(peek_line(reader, report)),
-        b'n' => return Ok(take_plain(reader, report)),
-        b'k' => return Ok(peek_plain(reader, report)),
-        b's' => return take_text(alloc, reader, report),
-        b't' => stop(report, reader.stopped_at()),
-        b'0' => reader.reset(Protocol::V0),
-        b'1' => reader.reset(Protocol::V1),
-        _ => reader.reset(Protocol::V2),
+    match call {
+        Call::Readline => return Ok(take_line(reader, report)),
+        Call::PeekDataLine => return Ok(peek_line(reader, report)),
+        Call::NextLine => return Ok(take_plain(reader, report)),
+        Call::PeekLine => return Ok(peek_plain(reader, report)),
+        Call::ReadlineStr => return take_text(alloc, reader, report),
+        Call::StoppedAt => stop(report, reader.stopped_at()),
+        Call::Reset(version) => reader.reset(version),
     }
     Ok(true)
 }
@@ -123,15 +158,35 @@ pub(crate) fn call<R: ExtendedBufRead>(
 fn call_again<R: ExtendedBufRead>(
     alloc: Global,
     reader: &mut R,
-    letter: u8,
+    made: Call,
     report: &mut Report,
 ) -> Result<u64, AllocError> {
     for failed in 0..3u64 {
-        if call(alloc, reader, letter, report)? {
+        if make_call(alloc, reader, made, report)? {
             return Ok(failed);
         }
     }
     Ok(3)
+}
+
+// A word's call, as often as it says. How many reads failed.
+fn call_word<R: ExtendedBufRead>(
+    alloc: Global,
+    reader: &mut R,
+    word: &[u8],
+    report: &mut Report,
+) -> Result<u64, AllocError> {
+    let (name, times) = times_of(word);
+    let Some(made) = call_of(name) else {
+        report.is_unknown = true;
+        return Ok(0);
+    };
+    let mut told = 0u64;
+    for _ in 0..times {
+        let failed = call_again(alloc, reader, made, report)?;
+        told = told.saturating_add(failed);
+    }
+    Ok(told)
 }
 
 /// What stands in a reader: its stop, two lines, and three more behind a reset.
@@ -167,15 +222,15 @@ pub(crate) fn report_calls(
     row: &Row<'_>,
     report: &mut Report,
 ) -> Result<(), AllocError> {
-    let [version, letters, ..] = row.settings;
-    let (letters, stream) = cut_at(row.payload, letters);
+    let [version, ..] = row.settings;
+    let (words, stream) = cut_at_byte(row.payload, b'\n');
     let mut device = Device::new(stream, row.cut, row.fail);
     let mut told = 0u64;
     {
         let mut reader = LineReader::new(alloc, &mut device)?;
         reader.reset(version_of(version));
-        for letter in letters {
-            let failed = call_again(alloc, &mut reader, *letter, report)?;
+        for word in words.split(|b| *b == b' ') {
+            let failed = call_word(alloc, &mut reader, word, report)?;
             told = told.saturating_add(failed);
         }
     }

@@ -1,17 +1,17 @@
 //! A ref map by a handshake, and by a list of refs where none came with it.
 //!
-//! S0 is 0 for bodies in memory, 1 for a connection, S1 the version that the client of a connection asks for. S2 is 0
-//! for `obtain`, else the list is prepared first: 1 with the prefixes of the refspecs, 2 without, and 3 twice with them.
-//! S3 is 1 for a table of commands that doesn't know `unborn`, 2 for one that doesn't know `ref-prefix `, 3 for a client
-//! that names itself by a feature that the server doesn't have. S4 is how many letters stand behind the client's name.
-//! The payload has a line of refspecs, a line of those that go with the fetch alone, a line of bodies as `bodies_of` reads
+//! `over` says where the answers come from, `version` what the client of a connection asks for. `by=obtain` is one call;
+//! else the list is prepared first: `prepare` with the prefixes of the refspecs, `prepare-all` without, `prepare-twice`
+//! twice with them. `without=unborn` and `without=ref-prefix` are tables of commands that don't know these,
+//! `without=agent` is a client that names itself by a feature that the server doesn't have. `letters` is how many letters
+//! stand behind the client's name. The bytes are a line of refspecs, a line of those that go with the fetch alone, a line of bodies as `bodies_of` reads
 //! them, and the bytes of the server.
 use crate::device::Device;
 use crate::lines::report_rest;
 use crate::map_values::{init_error, report_map};
 use crate::maps::context_of;
 use crate::report::Report;
-use crate::rows::{Row, cut_at_byte};
+use crate::rows::{BODIES_CONNECTION, Row, Setting, cut_at_byte};
 use crate::shakes::{Helper, bodies_of, connection, memory, shake_error};
 use crate::telling::Telling;
 use gixp_handshake::Handshake;
@@ -23,6 +23,18 @@ use gixp_refmap::refmap::init::{Context, Error};
 use gixp_requests::command::{CommandTable, Feature};
 use gixp_wire::{Service, Transport};
 use std::alloc::{AllocError, Global};
+
+pub(crate) const SETTINGS: &[Setting] = &[
+    ("over", BODIES_CONNECTION, 0),
+    ("version", &[], 2),
+    (
+        "by",
+        &["obtain", "prepare", "prepare-all", "prepare-twice"],
+        0,
+    ),
+    ("without", &["nothing", "unborn", "ref-prefix", "agent"], 0),
+    ("letters", &[], 0),
+];
 
 // How the client lists refs.
 #[derive(Clone, Copy)]
@@ -36,7 +48,7 @@ struct Client {
 
 impl Client {
     fn of_row(row: &Row<'_>) -> Client {
-        let [_, _, way, fault, letters] = row.settings;
+        let [_, _, way, fault, letters, _] = row.settings;
         let mut table = CommandTable::git();
         match fault {
             1 => table.ls_refs_prefixes = &["symrefs", "peel", "ref-prefix "],

@@ -1,13 +1,14 @@
 //! Replays recorded bytes: reads rows from files, runs each through the public calls of the crates that read and
 //! write streams, and prints what they return, one line a row.
 //!
-//! `gixp_replay FILE..` prints whole lines. `gixp_replay --width N FILE..` prints the first N bytes of a longer
-//! line, and its length and Adler-32 checksum. `rows` says what a row is.
+//! `gixp_replay FILE..` prints the line of each row, after its name. `gixp_replay --only NAME FILE..` prints those of the
+//! row or the group of that name alone. `rows` says what a row is.
 #![tactic(auto)]
 
 mod answer_lines;
 mod answers;
 mod bands;
+mod boundaries;
 mod capabilities;
 mod device;
 mod fetches;
@@ -36,13 +37,13 @@ mod telling;
 mod values;
 
 use crate::report::Report;
-use crate::rows::{Mode, Row, RowError, next_row};
+use crate::rows::{Mode, Row, RowError, RowText, next_row};
 use std::alloc::{AllocError, Global};
 use std::io::{BufWriter, ErrorKind, Write};
 use std::process::ExitCode;
 use std::{env, fs, io};
 
-const USAGE: &str = "usage: gixp_replay [--width N] FILE..";
+const USAGE: &str = "usage: gixp_replay [--only NAME] FILE..";
 
 // Why the program ends before the last row.
 #[derive(Drop)]
@@ -52,8 +53,10 @@ enum Failure {
     // A file can't be read, or a line can't be written.
     Io,
     Memory,
-    // The row of this number can't be read.
-    Row(u64, RowError),
+    // The row of this number and name can't be read.
+    Row(u64, String, RowError),
+    // No row has the name that is asked for.
+    Name(String),
 }
 
 fn failure_of(error: &io::Error) -> Failure {
@@ -79,11 +82,16 @@ fn replay_row(alloc: Global, row: &Row<'_>, report: &mut Report) -> Result<(), A
             answer_lines::report_line(alloc, row, report);
             Ok(())
         }
+        Mode::Boundary => boundaries::report_boundary(alloc, row, report),
+        Mode::Agent => requests::report_agent(alloc, row, report),
         Mode::Requests => requests::report_requests(alloc, row, report),
         Mode::Session => sessions::report_session(alloc, row, report),
-        Mode::Refspecs => refspecs::report_refspecs(alloc, row, report),
-        Mode::Map => maps::report_row(alloc, row, report),
-        Mode::Shake => shakes::report_shake(alloc, row, report),
+        Mode::Refspec => refspecs::report_spec(alloc, row, report),
+        Mode::RefName => refspecs::report_name(alloc, row, report),
+        Mode::Prefixes => refspecs::report_prefixes(alloc, row, report),
+        Mode::Matches => refspecs::report_matches(alloc, row, report),
+        Mode::RefMap => maps::report_row(alloc, row, report),
+        Mode::Account => shakes::report_shake(alloc, row, report),
         Mode::Listing => listings::report_listing(alloc, row, report),
         Mode::Progress => progress_lines::report_line(alloc, row, report),
         Mode::Fetch => fetches::report_fetch(alloc, row, report),
@@ -92,57 +100,94 @@ fn replay_row(alloc: Global, row: &Row<'_>, report: &mut Report) -> Result<(), A
     }
 }
 
-// Writes the line of each row.
-fn replay<W: Write>(alloc: Global, bytes: &[u8], width: usize, out: &mut W) -> Result<(), Failure> {
-    let mut rest = bytes;
-    let mut report = Report::new(alloc);
-    for number in 1..u64::MAX {
-        if rest.is_empty() {
-            break;
-        }
-        let (row, behind) = match next_row(rest) {
-            Ok(found) => found,
-            Err(e) => return Err(Failure::Row(number, e)),
-        };
-        rest = behind;
-        report.clear();
-        if replay_row(alloc, &row, &mut report).is_err() {
-            return Err(Failure::Memory);
-        }
-        report.shorten(width);
-        let line = report.bytes().map_err(|_| Failure::Memory)?;
-        out.write_all(line).map_err(|e| failure_of(&e))?;
-        out.write_all(b"\n").map_err(|e| failure_of(&e))?;
+// The failure of a row, with its number and its name.
+fn failure_at(alloc: Global, number: u64, row: &RowText<'_>, error: RowError) -> Failure {
+    if let RowError::Memory = error {
+        return Failure::Memory;
+    }
+    match String::from_utf8_lossy(alloc, row.name) {
+        Ok(name) => Failure::Row(number, name, error),
+        Err(_) => Failure::Memory,
+    }
+}
+
+// What a row gives, in an empty report.
+fn report_row(alloc: Global, text: &RowText<'_>, report: &mut Report) -> Result<(), RowError> {
+    let head = text.head()?;
+    let bytes = text.bytes(alloc, &head)?;
+    let row = head.with_bytes(&bytes);
+    report.clear();
+    if replay_row(alloc, &row, report).is_err() {
+        return Err(RowError::Memory);
+    }
+    if report.is_unknown {
+        return Err(RowError::Script);
     }
     Ok(())
+}
+
+// Writes the name of a row and its line.
+fn write_line<W: Write>(name: &[u8], report: &Report, out: &mut W) -> Result<(), Failure> {
+    let line = report.bytes().map_err(|_| Failure::Memory)?;
+    for part in [name, b" ", line, b"\n"] {
+        out.write_all(part).map_err(|e| failure_of(&e))?;
+    }
+    Ok(())
+}
+
+// Writes the line of each row, of those alone that have a name where one is asked for. Whether there was a row.
+fn replay<W: Write>(
+    alloc: Global,
+    bytes: &[u8],
+    only: Option<&str>,
+    out: &mut W,
+) -> Result<bool, Failure> {
+    let mut rest = bytes;
+    let mut report = Report::new(alloc);
+    let mut is_found = false;
+    for number in 1..u64::MAX {
+        let Some((row, after)) = next_row(rest) else {
+            break;
+        };
+        rest = after;
+        if let Some(name) = only
+            && !row.is_named(name.as_bytes())
+        {
+            continue;
+        }
+        is_found = true;
+        match report_row(alloc, &row, &mut report) {
+            Ok(()) => {}
+            Err(e) => return Err(failure_at(alloc, number, &row, e)),
+        }
+        write_line(row.name, &report, out)?;
+    }
+    Ok(is_found)
 }
 
 fn replay_file<W: Write>(
     rt: &HostRuntime,
     path: &str,
-    width: usize,
+    only: Option<&str>,
     out: &mut W,
-) -> Result<(), Failure> {
+) -> Result<bool, Failure> {
     let bytes = fs::read(rt, path).map_err(|e| failure_of(&e))?;
-    replay(rt.alloc(), &bytes, width, out)
+    replay(rt.alloc(), &bytes, only, out)
 }
 
-// The width of a line, and the files, that the words name.
-fn width_and_files(words: &[String]) -> Option<(usize, &[String])> {
+// The name that is asked for, and the files.
+fn name_and_files(words: &[String]) -> Option<(Option<&str>, &[String])> {
     let [_program, words @ ..] = words else {
         return None;
     };
-    let (width, files) = match words {
-        [flag, width, files @ ..] if flag.as_str() == "--width" => match width.parse::<usize>() {
-            Ok(width) => (width, files),
-            Err(_) => return None,
-        },
-        files => (usize::MAX, files),
+    let (only, files) = match words {
+        [flag, name, files @ ..] if flag.as_str() == "--only" => (Some(name.as_str()), files),
+        files => (None, files),
     };
     if files.is_empty() {
         return None;
     }
-    Some((width, files))
+    Some((only, files))
 }
 
 fn run(rt: &HostRuntime) -> Result<(), Failure> {
@@ -153,14 +198,26 @@ fn run(rt: &HostRuntime) -> Result<(), Failure> {
     let Ok(words) = words.collect::<Vec<String>>(rt.alloc()) else {
         return Err(Failure::Memory);
     };
-    let (width, files) = width_and_files(words.as_slice()).ok_or(Failure::Usage)?;
+    let (only, files) = name_and_files(words.as_slice()).ok_or(Failure::Usage)?;
     let mut out = BufWriter::new(rt.alloc(), io::writer(rt)).map_err(|e| failure_of(&e))?;
+    let mut is_found = false;
     for path in files {
-        let replayed = replay_file(rt, path.as_str(), width, &mut out);
+        let replayed = replay_file(rt, path.as_str(), only, &mut out);
         out.flush().map_err(|e| failure_of(&e))?;
-        replayed?;
+        is_found |= replayed?;
     }
-    Ok(())
+    match only {
+        Some(name) if !is_found => Err(no_row_of(rt.alloc(), name)),
+        _ => Ok(()),
+    }
+}
+
+// No row has this name.
+fn no_row_of(alloc: Global, name: &str) -> Failure {
+    match String::from_str(alloc, name) {
+        Ok(name) => Failure::Name(name),
+        Err(_) => Failure::Memory,
+    }
 }
 
 fn main(rt: HostRuntime) -> ExitCode {
@@ -175,7 +232,11 @@ fn main(rt: HostRuntime) -> ExitCode {
         }
         Failure::Io => eprintln!(rt; "Io"),
         Failure::Memory => eprintln!(rt; "Memory"),
-        Failure::Row(number, error) => eprintln!(rt; "row {number}: {error}"),
+        Failure::Row(number, name, error) => eprintln!(rt; "row {number} ({name}): {error}"),
+        Failure::Name(name) => {
+            let _ = eprintln!(rt; "no row of the name {name}");
+            return ExitCode::from(2);
+        }
     };
     ExitCode::FAILURE
 }

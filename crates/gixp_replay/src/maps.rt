@@ -1,12 +1,12 @@
 //! A ref map, and the prefixes that a server is asked for.
 //!
-//! S0 is 1 where the words of the first line are prefixes and no refspecs, S1 1 where the refspec of all tags goes with
-//! the fetch, S2 1 where the server leaves out the refs that none of the prefixes begins. The payload has a line of
+//! `prefixes=yes`: the words of the first line are prefixes and no refspecs. `tags=yes`: the refspec of all tags goes with
+//! the fetch. `filters=yes`: the server leaves out the refs that none of the prefixes begins. The bytes are a line of
 //! refspecs with blanks between them, a line of those that go with the fetch alone, a line of capabilities, and an
 //! `ls-refs` answer.
 use crate::map_values::{init_error, report_map};
 use crate::report::Report;
-use crate::rows::{Row, cut_at, cut_at_byte};
+use crate::rows::{NO_YES, Row, Setting, cut_at, cut_at_byte};
 use crate::values::{client_error, parse_error};
 use bstr::{BStr, BString};
 use gixp_capabilities::Capabilities;
@@ -20,6 +20,12 @@ use gixp_refs::handshake::refs::from_v2_refs;
 use gixp_refspec::RefSpec;
 use gixp_refspec::parse::{Operation, parse};
 use std::alloc::{AllocError, Global};
+
+pub(crate) const SETTINGS: &[Setting] = &[
+    ("prefixes", NO_YES, 0),
+    ("tags", NO_YES, 0),
+    ("filters", NO_YES, 0),
+];
 
 // The refspecs of a line, or nothing where one is refused.
 fn specs_of(

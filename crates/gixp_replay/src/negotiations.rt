@@ -1,20 +1,22 @@
 //! A negotiation: what the refs call for, which commits are complete, what is asked for, and round by round which
 //! haves are told.
 //!
-//! S0 is 0 where the shallow boundary stays, 1 for a depth of S1 from the refs, 2 for S1 more commits, 3 for those since
-//! the time S1, 4 for those that no ref leads to. S2 is 0 for all tags, 1 for those that come along, 2 for none. S3 is 0
-//! for version 2 over bodies in memory, 1 for version 1 over such, 2 for version 1 over a connection, and 4 more where
-//! refs can be asked for by name. S4 is the number of the negotiator's call that fails, from 1 on, 0 for none; FAIL that
-//! of the look for a commit. `histories` has the payload. A round that is refused is tried once more.
+//! `shallow=no` lets the shallow boundary stay; `depth` is one of `by` from the refs, `deepen` is `by` more commits, `since`
+//! those since the time `by`, `exclude` those that no ref leads to. `tags` says which come. `over=bodies` is version 2 over
+//! bodies in memory, `bodies-1` version 1 over such, `connection` version 1 over a connection. `ref-in-want` says whether
+//! refs can be asked for by name. `offer-fails` is the number of the negotiator's call that fails, from 1 on, 0 for none;
+//! `fail-at` that of the look for a commit. `histories` says what the bytes are. A round that is refused is tried once
+//! more.
 use crate::device::Device;
 use crate::handshakes::{bodies, connection};
 use crate::histories::History;
 use crate::report::Report;
-use crate::rows::Row;
+use crate::rows::{NO_YES, Row, Setting};
 use crate::values::client_error;
+use gixp_doubles::Recorder;
 use gixp_graph::{Flags, Graph, Objects};
 use gixp_hash::ObjectId;
-use gixp_memory::{Lent, MemoryObjects, MemoryRefs, Recorder};
+use gixp_memory::{Lent, MemoryObjects, MemoryRefs};
 use gixp_negotiate::negotiate::negotiation::{NegotiateContext, Negotiation};
 use gixp_negotiate::negotiate::one_round::State;
 use gixp_negotiate::negotiate::{Action, Error, Negotiate, Round};
@@ -28,6 +30,15 @@ use gixp_wire::Transport;
 use std::alloc::{AllocError, Global};
 use std::mem;
 use std::num::NonZeroU32;
+
+pub(crate) const SETTINGS: &[Setting] = &[
+    ("shallow", &["no", "depth", "deepen", "since", "exclude"], 0),
+    ("by", &[], 0),
+    ("tags", &["all", "included", "none"], 2),
+    ("over", &["bodies", "bodies-1", "connection"], 0),
+    ("ref-in-want", NO_YES, 0),
+    ("offer-fails", &[], 0),
+];
 
 // Why lent repositories can't be opened.
 #[derive(Drop)]
@@ -202,12 +213,12 @@ fn run_over<N: Negotiate<AlternatesError = Closed>, T: Transport>(
     answers: &[Response],
     report: &mut Report,
 ) -> Result<(), AllocError> {
-    let [_, _, _, over, _] = row.settings;
+    let [_, _, _, over, by_name, _] = row.settings;
     let mut features = Vec::new(alloc);
-    if over >= 4 {
+    if by_name == 1 {
         features.push(("ref-in-want", None))?;
     }
-    let version = if over % 4 == 0 {
+    let version = if over == 0 {
         Protocol::V2
     } else {
         Protocol::V1
@@ -251,7 +262,8 @@ fn negotiate<N: Negotiate<AlternatesError = Closed>>(
     let Some(known) = report_action(report, action)? else {
         return Ok(());
     };
-    if row.settings[3] % 4 == 2 {
+    let [_, _, _, over, ..] = row.settings;
+    if over == 2 {
         let device = Device::new(b"", 0, 0);
         let mut transport = connection(alloc, device, 0, 1, None)?;
         run_over(
@@ -305,7 +317,8 @@ fn shallow_of(alloc: Global, row: &Row<'_>) -> Shallow {
 }
 
 fn tags_of(row: &Row<'_>) -> Tags {
-    match row.settings[2] {
+    let [_, _, tags, ..] = row.settings;
+    match tags {
         0 => Tags::All,
         1 => Tags::Included,
         _ => Tags::None,
@@ -400,11 +413,13 @@ pub(crate) fn report_negotiation(
     report: &mut Report,
 ) -> Result<(), AllocError> {
     let mut history = History::of_text(alloc, row.payload, row.fail)?;
+    report.is_unknown |= history.is_unknown;
     let mut objects = mem::replace(&mut history.objects, MemoryObjects::new(alloc));
     let haves = Vec::from_slice(alloc, &history.haves)?;
     let mut recorder = Recorder::new(alloc, haves);
-    if row.settings[4] > 0 {
-        recorder.calls = row.settings[4] - 1;
+    let [_, _, _, _, _, offer] = row.settings;
+    if offer > 0 {
+        recorder.calls = offer - 1;
     }
     run_history(
         alloc,

@@ -1,16 +1,23 @@
 //! What a client says first over a connection.
 //!
-//! S0 is the version that it asks for, S1 0 for `git-upload-pack` and 1 for `git-receive-pack`, S2 1 where it names a
-//! host, S3 how many letters stand behind the path. The payload has the path, a NUL, the host, a NUL, and parameters,
+//! `version` is what it asks for, `service` which program, `host` whether it names one, `letters` how many letters stand
+//! behind the path. The bytes are the path, a NUL, the host, a NUL, and parameters,
 //! each with a NUL behind it. The server's answer is a flush packet.
 use crate::device::Device;
 use crate::handshakes::{connection, report_response};
 use crate::report::Report;
-use crate::rows::{Row, cut_at_byte};
+use crate::rows::{NO_YES, Row, Setting, cut_at_byte};
 use crate::values::client_error;
 use bstr::BString;
 use gixp_wire::{Opening, Service, Transport};
 use std::alloc::{AllocError, Global};
+
+pub(crate) const SETTINGS: &[Setting] = &[
+    ("version", &[], 2),
+    ("service", &["git-upload-pack", "git-receive-pack"], 0),
+    ("host", NO_YES, 0),
+    ("letters", &[], 0),
+];
 
 // The text of these bytes, or a question mark.
 fn text_of(alloc: Global, bytes: &[u8]) -> Result<String, AllocError> {
@@ -86,7 +93,7 @@ pub(crate) fn report_opening(
     row: &Row<'_>,
     report: &mut Report,
 ) -> Result<(), AllocError> {
-    let [version, service, has_host, length, _] = row.settings;
+    let [version, service, has_host, length, ..] = row.settings;
     let (path, rest) = cut_at_byte(row.payload, 0);
     let (host, rest) = cut_at_byte(rest, 0);
     let parameters = parameters_of(alloc, rest, 0)?;

@@ -1,19 +1,27 @@
 //! A pack through its bands.
 //!
-//! S0 is the version, S1 how many bytes are read at most, S2 a number from which sizes and kinds of reads follow, 0 for
-//! large reads alone, S3 which question for an interrupt is answered with true, S4 which text can't be allocated, both
-//! from 0 on. The report has how the reading ended, the bytes, the texts, and how many reads were interrupted and
+//! `version`, `limit` (how many bytes are read at most), `reads` (a number from which sizes and kinds of reads follow, 0
+//! for large reads alone), `interrupt-at` (which question for an interrupt is answered with true) and `memory-at` (which
+//! text can't be allocated), both from 0 on. The report has how the reading ended, the bytes, the texts, and how many reads were interrupted and
 //! could not be allocated; where no read fails, what stands in the line reader follows.
 use crate::device::{Device, next_random};
 use crate::lines::{is_failure, report_failures, report_rest};
 use crate::report::Report;
-use crate::rows::Row;
+use crate::rows::{Row, Setting};
 use crate::values;
 use gixp_packetline::{ExtendedBufRead, LineReader, read};
 use gixp_sidebands::{BandText, Interrupt, WithSidebands};
 use std::alloc::{AllocError, Global};
 use std::io;
 use std::io::{BufRead, Read};
+
+pub(crate) const SETTINGS: &[Setting] = &[
+    ("version", &[], 2),
+    ("limit", &[], u64::MAX),
+    ("reads", &[], 0),
+    ("interrupt-at", &[], u64::MAX),
+    ("memory-at", &[], u64::MAX),
+];
 
 /// A listener that writes texts down. The text of number `fails` can't be allocated, once.
 #[derive(Drop)]
@@ -337,7 +345,7 @@ pub(crate) fn report_pack(
     row: &Row<'_>,
     report: &mut Report,
 ) -> Result<(), AllocError> {
-    let [version, limit, seed, interrupt, memory] = row.settings;
+    let [version, limit, seed, interrupt, memory, _] = row.settings;
     let version = values::version_of(version);
     let settings = Settings {
         limit,

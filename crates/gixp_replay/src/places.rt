@@ -1,20 +1,24 @@
 //! An advertisement that ends at each of its places, or whose bytes come so many a read, for each number up to its
 //! length.
 //!
-//! S0 is 0 for the first, over bodies in memory, 1 for the second, over a connection; S1 the version that the client
-//! asks for.
+//! `each=beginning` is the first, over bodies in memory, `each=size` the second, over a connection; `version` is what the
+//! client asks for.
 use crate::handshakes::report_handshake;
-use crate::report::Report;
-use crate::rows::{Row, cut_at};
+use crate::report::{Report, Runs};
+use crate::rows::{Row, Setting, cut_at};
 use std::alloc::{AllocError, Global};
 
-/// The handshakes, one behind the other.
+pub(crate) const SETTINGS: &[Setting] = &[("each", &["beginning", "size"], 0), ("version", &[], 2)];
+
+/// The handshakes, those with one result together.
 pub(crate) fn report_places(
     alloc: Global,
     row: &Row<'_>,
     report: &mut Report,
 ) -> Result<(), AllocError> {
     let ends = row.settings[0] == 0;
+    let mut result = Report::new(alloc);
+    let mut runs = Runs::new(alloc, if ends { 0 } else { 1 });
     for place in 0..row.payload.len() as u64 {
         let mut one = *row;
         if ends {
@@ -22,7 +26,10 @@ pub(crate) fn report_places(
         } else {
             one.cut = place.saturating_add(1);
         }
-        report_handshake(alloc, &one, report)?;
+        result.clear();
+        report_handshake(alloc, &one, &mut result)?;
+        runs.add(&result, report);
     }
+    runs.finish(report);
     Ok(())
 }

@@ -1,10 +1,10 @@
 //! A plan over recorded bodies.
 //!
-//! S0 is the number of refspecs, S1 how many bytes the writer takes before it fails, 0 for one that doesn't, S2 the
-//! number of the body in whose place the server wants an account, from 1 on. The first line of the payload has the
-//! lengths of the haves, of each refspec and of each body, which follow one behind another.
+//! `refspecs` is the number of these, `room` how many bytes the writer takes before it fails, 0 for one that doesn't,
+//! `denied` the number of the body in whose place the server wants an account, from 1 on. The first line of the bytes has
+//! the lengths of the haves, of each refspec and of each body, which follow one behind another.
 use crate::report::Report;
-use crate::rows::{Row, cut_at, cut_at_byte, number};
+use crate::rows::{Row, Setting, cut_at, cut_at_byte, number};
 use bstr::BString;
 use gix_protocol::fetch::negotiate::{Graph, HaveList, NoObjects};
 use gix_protocol::transport::Body;
@@ -12,6 +12,12 @@ use gixp_planner::{PlanError, parse_haves, plan};
 use std::alloc::{AllocError, Global};
 use std::io;
 use std::io::{ErrorKind, Write};
+
+pub(crate) const SETTINGS: &[Setting] = &[
+    ("refspecs", &[], 1),
+    ("room", &[], 0),
+    ("denied", &[], 0),
+];
 
 // Keeps what is written, up to so many bytes.
 #[derive(Drop)]
@@ -109,10 +115,11 @@ pub(crate) fn report_plan(
     row: &Row<'_>,
     report: &mut Report,
 ) -> Result<(), AllocError> {
+    let [_, room, ..] = row.settings;
     let parts = parts_of(alloc, row)?;
     let mut page = Page {
         text: Vec::new(alloc),
-        room: room_of(row.settings[1]),
+        room: room_of(room),
     };
     let planned = plan_parts(alloc, parts, &mut page);
     report.letters(&page.text);

@@ -1,13 +1,15 @@
 //! A line of progress, and what it makes a progress reporter show.
 //!
-//! S0 is 1 for an error of the server. The payload has a line with the name that is shown before, which may be empty
+//! `error` says whether it is an error of the server. The bytes are a line with the name that is shown before, which may be empty
 //! for none, and the text.
 use crate::report::Report;
-use crate::rows::{Row, cut_at_byte};
+use crate::rows::{NO_YES, Row, Setting, cut_at_byte};
 use crate::telling::Telling;
 use gixp_progress::RemoteProgress;
 use gixp_wire::Progress;
 use std::alloc::{AllocError, Global};
+
+pub(crate) const SETTINGS: &[Setting] = &[("error", NO_YES, 0)];
 
 fn report_number(report: &mut Report, number: Option<u64>) {
     match number {

@@ -1,16 +1,18 @@
 //! Refs of version 2.
 //!
-//! S0 is the version of the reader, S1 0 for all refs at once, 1 for one by one. Where no read fails, what stands in
-//! the reader follows.
+//! `version` is that of the reader; `refs=all` reads all at once, `refs=each` one by one. Where no read fails, what stands
+//! in the reader follows.
 use crate::device::Device;
 use crate::lines::{is_failure, report_failures, report_rest};
 use crate::report::Report;
-use crate::rows::Row;
+use crate::rows::{Row, Setting};
 use crate::values::{parse_error, reference, version_of};
 use gixp_packetline::{ExtendedBufRead, LineReader};
 use gixp_refs::handshake::Ref;
 use gixp_refs::handshake::refs::{from_v2_refs, next_v2_ref, parse};
 use std::alloc::{AllocError, Global};
+
+pub(crate) const SETTINGS: &[Setting] = &[("version", &[], 2), ("refs", &["all", "each"], 0)];
 
 /// A list of refs.
 pub(crate) fn report_list(report: &mut Report, refs: &[Ref]) {
@@ -108,14 +110,14 @@ pub(crate) fn report_refs(
     row: &Row<'_>,
     report: &mut Report,
 ) -> Result<(), AllocError> {
-    let [version, calls, ..] = row.settings;
+    let [version, by, ..] = row.settings;
     let version = version_of(version);
     let mut device = Device::of_row(row);
     let mut told = 0u64;
     {
         let mut reader = LineReader::new(alloc, &mut device)?;
         reader.reset(version);
-        if calls == 0 {
+        if by == 0 {
             let _ = report_all(alloc, &mut reader, report);
         } else {
             told = report_each(alloc, &mut reader, report);
@@ -124,6 +126,8 @@ pub(crate) fn report_refs(
             report_rest(&mut reader, version, report);
         }
     }
-    report_failures(report, told, device.failures);
+    if by == 1 {
+        report_failures(report, told, device.failures);
+    }
     Ok(())
 }

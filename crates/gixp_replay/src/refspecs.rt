@@ -1,7 +1,7 @@
 //! Refspecs: what a text or a name is read as, and what refspecs make of refs.
 //!
-//! S0 is 0 where the payload is a refspec, 1 where it is a name, 2 where it is refspecs with blanks between them, whose
-//! prefixes are asked for, and 3 where the names of refs stand behind these, one a line.
+//! The bytes of a `refspec` row are one, those of `ref-name` a name, those of `prefixes` refspecs with blanks between
+//! them, those of `matches` the same in a line, and the names of refs, one a line, after it.
 use crate::report::Report;
 use crate::rows::{Row, cut_at_byte};
 use bstr::{BStr, BString};
@@ -12,18 +12,26 @@ use gixp_refspec::parse::{Operation, parse};
 use gixp_refspec::{PartialName, RefSpecRef};
 use std::alloc::{AllocError, Global};
 
-// The text of a refspec, or why it is none.
-fn report_spec(alloc: Global, text: &[u8], report: &mut Report) -> Result<(), AllocError> {
-    match parse(BStr::new(text), Operation::Fetch) {
+/// The text of a refspec, or why it is none.
+pub(crate) fn report_spec(
+    alloc: Global,
+    row: &Row<'_>,
+    report: &mut Report,
+) -> Result<(), AllocError> {
+    match parse(BStr::new(row.payload), Operation::Fetch) {
         Ok(spec) => report.quote(spec.to_bstring(alloc)?.as_bytes()),
         Err(e) => report.debug(&e),
     }
     Ok(())
 }
 
-// Whether a name is valid.
-fn report_name(alloc: Global, name: &[u8], report: &mut Report) -> Result<(), AllocError> {
-    let name = BString::from_slice(alloc, name)?;
+/// Whether a name is valid.
+pub(crate) fn report_name(
+    alloc: Global,
+    row: &Row<'_>,
+    report: &mut Report,
+) -> Result<(), AllocError> {
+    let name = BString::from_slice(alloc, row.payload)?;
     report.word(if PartialName::new(name).is_ok() {
         "valid"
     } else {
@@ -119,16 +127,17 @@ fn report_issues(report: &mut Report, issues: &[Issue]) {
     }
 }
 
-// The mappings and the fixes, or the conflicts.
-fn report_match(
+/// The mappings and the fixes, or the conflicts.
+pub(crate) fn report_matches(
     alloc: Global,
-    specs: &[RefSpecRef<'_>],
-    names: &[u8],
+    row: &Row<'_>,
     report: &mut Report,
 ) -> Result<(), AllocError> {
+    let (line, names) = cut_at_byte(row.payload, b'\n');
+    let specs = specs_of(alloc, line)?;
     let id = ObjectId::null();
     let items = items_of(alloc, names, &id)?;
-    let outcome = MatchGroup::from_fetch_specs(specs).match_lhs(alloc, &items)?;
+    let outcome = MatchGroup::from_fetch_specs(&specs).match_lhs(alloc, &items)?;
     match outcome.validated(alloc)? {
         Ok((outcome, fixes)) => report_mappings(report, &outcome.mappings, &fixes),
         Err(e) => report_issues(report, &e.issues),
@@ -136,35 +145,19 @@ fn report_match(
     Ok(())
 }
 
-// What is asked for.
-fn report_prefixes(
+/// What is asked for.
+pub(crate) fn report_prefixes(
     alloc: Global,
-    specs: &[RefSpecRef<'_>],
+    row: &Row<'_>,
     report: &mut Report,
 ) -> Result<(), AllocError> {
+    let specs = specs_of(alloc, row.payload)?;
     let mut prefixes = Vec::new(alloc);
-    for spec in specs {
+    for spec in &specs {
         spec.expand_prefixes(alloc, &mut prefixes)?;
     }
     for prefix in &prefixes {
         report.quote(prefix.as_bytes());
     }
     Ok(())
-}
-
-/// What the row asks for.
-pub(crate) fn report_refspecs(
-    alloc: Global,
-    row: &Row<'_>,
-    report: &mut Report,
-) -> Result<(), AllocError> {
-    match row.settings[0] {
-        0 => report_spec(alloc, row.payload, report),
-        1 => report_name(alloc, row.payload, report),
-        2 => report_prefixes(alloc, &specs_of(alloc, row.payload)?, report),
-        _ => {
-            let (line, names) = cut_at_byte(row.payload, b'\n');
-            report_match(alloc, &specs_of(alloc, line)?, names, report)
-        }
-    }
 }

@@ -1,4 +1,5 @@
 //! The line of a row, in printable letters.
+use crate::rows::cut_at;
 use gixp_hash::ObjectId;
 use std::alloc::{AllocError, Global};
 use std::fmt::Debug;
@@ -9,17 +10,23 @@ pub(crate) struct Report {
     alloc: Global,
     text: Vec<u8>,
     has_failed: bool,
+    /// Whether the row has a word that its mode doesn't know.
+    pub(crate) is_unknown: bool,
 }
 
-// The Adler-32 checksum.
-fn checksum(bytes: &[u8]) -> u32 {
-    let mut a = 1u32;
-    let mut b = 0u32;
+// Longer runs of a byte stand as the byte and their length.
+const LONGEST_RUN: usize = 64;
+
+// How many bytes at the front are the same.
+fn run_at_front(bytes: &[u8]) -> usize {
+    let mut count = 0usize;
     for byte in bytes {
-        a = a.wrapping_add(u32::from(*byte)) % 65521;
-        b = b.wrapping_add(a) % 65521;
+        if bytes.first() != Some(byte) {
+            break;
+        }
+        count = count.saturating_add(1);
     }
-    b.wrapping_mul(65536).wrapping_add(a)
+    count.max(1)
 }
 
 fn digit(value: u8) -> u8 {
@@ -38,6 +45,7 @@ impl Report {
             alloc,
             text: Vec::new(alloc),
             has_failed: false,
+            is_unknown: false,
         }
     }
 
@@ -45,6 +53,7 @@ impl Report {
     pub(crate) fn clear(&mut self) {
         self.text.clear();
         self.has_failed = false;
+        self.is_unknown = false;
     }
 
     /// The text, where no allocation failed.
@@ -87,20 +96,8 @@ impl Report {
         self.push(&id.to_hex());
     }
 
-    // The length and the checksum.
-    fn digest(&mut self, bytes: &[u8]) {
-        self.word("#");
-        self.number(bytes.len() as u64);
-        self.word(":");
-        self.number(u64::from(checksum(bytes)));
-    }
-
-    /// Bytes in quotes, those that are no plain letters as two digits behind a backslash; more than 120 as their
-    /// length and checksum.
+    /// Bytes in quotes, as `letters` shows them.
     pub(crate) fn quote(&mut self, bytes: &[u8]) {
-        if bytes.len() > 120 {
-            return self.digest(bytes);
-        }
         self.word("'");
         self.letters(bytes);
         self.word("'");
@@ -112,29 +109,84 @@ impl Report {
         self.has_failed |= other.has_failed;
     }
 
-    /// Bytes, those that are no plain letters as two digits behind a backslash.
-    pub(crate) fn letters(&mut self, bytes: &[u8]) {
-        for byte in bytes {
-            let plain = *byte > b' ' && *byte < 127 && *byte != b'\\' && *byte != b'\'';
-            if plain {
-                self.push(&[*byte]);
-            } else {
-                self.push(&[b'\\', digit(*byte / 16), digit(*byte % 16)]);
-            }
+    // A byte, one that is no plain letter as two digits after a backslash.
+    fn letter(&mut self, byte: u8) {
+        let plain = byte > b' ' && byte < 127 && byte != b'\\' && byte != b'\'';
+        if plain {
+            self.push(&[byte]);
+        } else {
+            self.push(&[b'\\', digit(byte / 16), digit(byte % 16)]);
         }
     }
 
-    /// Keeps so many bytes of a longer text, with its length and checksum behind them.
-    pub(crate) fn shorten(&mut self, width: usize) {
-        if self.text.len() <= width {
+    /// Bytes, a long run of one as `x\*N;`, where `N` is its length.
+    pub(crate) fn letters(&mut self, bytes: &[u8]) {
+        let mut rest = bytes;
+        for _ in 0..bytes.len() {
+            let [byte, ..] = rest else {
+                break;
+            };
+            let run = run_at_front(rest);
+            self.letter(*byte);
+            if run > LONGEST_RUN {
+                self.word("\\*");
+                self.number(run as u64);
+                self.word(";");
+            } else {
+                for _ in 1..run {
+                    self.letter(*byte);
+                }
+            }
+            rest = cut_at(rest, run as u64).1;
+        }
+    }
+}
+
+/// Results of one place after another. Those that are equal stand once, after the first place and the last.
+#[derive(Drop)]
+pub(crate) struct Runs {
+    first: u64,
+    count: u64,
+    last: Report,
+}
+
+impl Runs {
+    /// None yet; the next one is that of this place.
+    pub(crate) fn new(alloc: Global, first: u64) -> Runs {
+        Runs {
+            first,
+            count: 0,
+            last: Report::new(alloc),
+        }
+    }
+
+    /// Adds the result of the next place.
+    pub(crate) fn add(&mut self, found: &Report, report: &mut Report) {
+        if self.count == 0 || self.last.text.as_slice() != found.text.as_slice() {
+            self.finish(report);
+            self.last.clear();
+            self.last.push(&found.text);
+        }
+        self.last.has_failed |= found.has_failed;
+        self.count = self.count.saturating_add(1);
+    }
+
+    /// Writes the last results.
+    pub(crate) fn finish(&mut self, report: &mut Report) {
+        if self.count == 0 {
             return;
         }
-        let sum = checksum(&self.text);
-        let len = self.text.len() as u64;
-        self.text.truncate(width);
-        self.word("..#");
-        self.number(len);
-        self.word(":");
-        self.number(u64::from(sum));
+        let next = self.first.saturating_add(self.count);
+        report.number(self.first);
+        if self.count > 1 {
+            report.word("-");
+            report.number(next.saturating_sub(1));
+        }
+        report.word(": ");
+        report.push(&self.last.text);
+        report.word(" ");
+        report.has_failed |= self.last.has_failed;
+        self.first = next;
+        self.count = 0;
     }
 }

@@ -1,26 +1,67 @@
 //! Requests by a list of calls.
 //!
-//! S0 is the version, S1 0 for bodies in memory and 1 for a connection, S2 a mask of features, S3 one of those with a
-//! value of S4 bytes. A line `+NAME` or `+NAME=VALUE` of the payload is one more feature. Each other line is a letter
-//! and what belongs to it: `w` `want`, `h` `have`, `s` `shallow` of an id, `d` `deepen` and `S` `deepen_since` of a
-//! number, `N` `deepen_not`, `f` `filter`, `A` `add_feature`, `r` and `y` `want_ref` of a text, `R` `deepen_relative`,
-//! `I` `use_include_tag`, `.` and `!` `send`, the second with `done`. A text `#N` is one of N letters, but for `N` and
-//! `y`. What may be called stands behind each call as a row of bits, an `x` behind one that may not be made.
+//! `version` is that of the request, `over` says whether it goes over bodies in memory or a connection. Each line of the
+//! bytes is a call and what belongs to it: `want`, `have` and `shallow` an id, `deepen` and `deepen_since` a number,
+//! `deepen_not`, `filter`, `add_feature` and `want_ref` a text, `deepen_relative`, `use_include_tag`, `send` and
+//! `send-done` nothing. A line `feature NAME` or `feature NAME=VALUE` is a feature of the client. What may be called
+//! stands after each call as a row of bits, an `x` before it where the call may not be made.
 use crate::device::Device;
 use crate::handshakes::{bodies, connection};
-use crate::offers::{features_of, name_of};
+use crate::offers::name_of;
 use crate::report::Report;
-use crate::rows::{Row, cut_at_byte, number};
+use crate::rows::{BODIES_CONNECTION, Row, Setting, cut_at_byte, meaning_of, number};
 use crate::values::{client_error, version_of};
 use bstr::BStr;
 use gixp_hash::ObjectId;
+use gixp_requests::agent;
 use gixp_requests::command::{CommandTable, Feature};
 use gixp_requests::fetch::Arguments;
 use gixp_wire::Transport;
 use std::alloc::{AllocError, Global};
 
-// Adds the feature that a text names, with its value behind an equals sign if it has one.
-fn push_feature(alloc: Global, text: &[u8], features: &mut Vec<Feature>) -> Result<(), AllocError> {
+pub(crate) const SETTINGS: &[Setting] = &[("version", &[], 2), ("over", BODIES_CONNECTION, 0)];
+
+// A line of the bytes.
+#[derive(Clone, Copy)]
+enum Line {
+    Feature,
+    Want,
+    Have,
+    WantRef,
+    Shallow,
+    Filter,
+    UseIncludeTag,
+    AddFeature,
+    Deepen,
+    DeepenSince,
+    DeepenNot,
+    DeepenRelative,
+    Send { done: bool },
+}
+
+static LINES: [(&str, Line); 14] = [
+    ("feature", Line::Feature),
+    ("want", Line::Want),
+    ("have", Line::Have),
+    ("want_ref", Line::WantRef),
+    ("shallow", Line::Shallow),
+    ("filter", Line::Filter),
+    ("use_include_tag", Line::UseIncludeTag),
+    ("add_feature", Line::AddFeature),
+    ("deepen", Line::Deepen),
+    ("deepen_since", Line::DeepenSince),
+    ("deepen_not", Line::DeepenNot),
+    ("deepen_relative", Line::DeepenRelative),
+    ("send", Line::Send { done: false }),
+    ("send-done", Line::Send { done: true }),
+];
+
+/// Adds the feature that a text names, with its value after an equals sign if it has one.
+pub(crate) fn push_feature(
+    alloc: Global,
+    text: &[u8],
+    features: &mut Vec<Feature>,
+) -> Result<(), AllocError> {
     let (name, value) = cut_at_byte(text, b'=');
     let Some(name) = name_of(name) else {
         return Ok(());
@@ -38,10 +79,22 @@ fn push_feature(alloc: Global, text: &[u8], features: &mut Vec<Feature>) -> Resu
 // Adds the features that the payload names.
 fn push_named(alloc: Global, script: &[u8], features: &mut Vec<Feature>) -> Result<(), AllocError> {
     for line in script.split(|b| *b == b'\n') {
-        if let [b'+', rest @ ..] = line {
-            push_feature(alloc, rest, features)?;
+        let (word, text) = cut_at_byte(line, b' ');
+        if let Some(Line::Feature) = meaning_of(&LINES, word) {
+            push_feature(alloc, text, features)?;
         }
     }
+    Ok(())
+}
+
+/// How a client of this name calls itself.
+pub(crate) fn report_agent(
+    alloc: Global,
+    row: &Row<'_>,
+    report: &mut Report,
+) -> Result<(), AllocError> {
+    let name = str::from_utf8(row.payload).unwrap_or("?");
+    report.quote(agent(alloc, name)?.as_bytes());
     Ok(())
 }
 
@@ -67,52 +120,37 @@ fn report_state(asked: &Arguments, report: &mut Report) {
     report.word(" ");
 }
 
-// So many letters where the text is a number behind a `#`, else the text.
-fn long_text(alloc: Global, text: &str) -> Result<String, AllocError> {
-    match text.strip_prefix("#") {
-        Some(digits) => {
-            let mut long = String::new(alloc);
-            for _ in 0..number(digits.as_bytes()).unwrap_or(0).min(200_000) {
-                long.push_str("x")?;
-            }
-            Ok(long)
-        }
-        None => String::from_str(alloc, text),
-    }
-}
-
-// A call that may be made under a condition, beside those for depth. False where it may not be made, or isn't known.
-fn add(alloc: Global, asked: &mut Arguments, letter: u8, rest: &[u8]) -> Result<bool, AllocError> {
-    let long = long_text(alloc, str::from_utf8(rest).unwrap_or("?"))?;
+// A call that may be made under a condition, beside those for depth. False where it may not be made.
+fn add(alloc: Global, asked: &mut Arguments, line: Line, rest: &[u8]) -> Result<bool, AllocError> {
+    let text = str::from_utf8(rest).unwrap_or("?");
     let id = ObjectId::from_hex(rest).unwrap_or(ObjectId::null());
-    let added = match letter {
-        b'w' => asked.want(&id),
-        b'h' => asked.have(&id),
-        b'r' => asked.want_ref(BStr::new(long.as_bytes())),
-        b'y' => asked.want_ref(BStr::new(rest)),
-        b's' if asked.can_use_shallow() => asked.shallow(&id),
-        b'f' if asked.can_use_filter() => asked.filter(long.as_str()),
-        b'I' if asked.can_use_include_tag() => asked.use_include_tag(),
-        b'A' if asked.may_add_feature() => asked.add_feature(long.as_str()),
-        _ => return deepen(asked, letter, rest),
+    let added = match line {
+        Line::Want => asked.want(&id),
+        Line::Have => asked.have(&id),
+        Line::WantRef => asked.want_ref(BStr::new(rest)),
+        Line::Shallow if asked.can_use_shallow() => asked.shallow(&id),
+        Line::Filter if asked.can_use_filter() => asked.filter(text),
+        Line::UseIncludeTag if asked.can_use_include_tag() => asked.use_include_tag(),
+        Line::AddFeature if asked.may_add_feature() => asked.add_feature(text),
+        _ => return deepen(asked, line, rest),
     };
     added?;
     Ok(true)
 }
 
-// A call for depth. False where it may not be made, or isn't known.
-fn deepen(asked: &mut Arguments, letter: u8, rest: &[u8]) -> Result<bool, AllocError> {
-    let added = match letter {
-        b'd' if asked.can_use_deepen() => {
+// A call for depth. False where it may not be made.
+fn deepen(asked: &mut Arguments, line: Line, rest: &[u8]) -> Result<bool, AllocError> {
+    let added = match line {
+        Line::Deepen if asked.can_use_deepen() => {
             let depth = number(rest).unwrap_or(0);
             asked.deepen(usize::try_from(depth).unwrap_or(0))
         }
-        b'S' if asked.can_use_deepen_since() => {
+        Line::DeepenSince if asked.can_use_deepen_since() => {
             let text = str::from_utf8(rest).unwrap_or("?");
             asked.deepen_since(text.parse::<i64>().unwrap_or(0))
         }
-        b'N' if asked.can_use_deepen_not() => asked.deepen_not(BStr::new(rest)),
-        b'R' if asked.can_use_deepen_relative() => asked.deepen_relative(),
+        Line::DeepenNot if asked.can_use_deepen_not() => asked.deepen_not(BStr::new(rest)),
+        Line::DeepenRelative if asked.can_use_deepen_relative() => asked.deepen_relative(),
         _ => return Ok(false),
     };
     added?;
@@ -149,16 +187,15 @@ fn report_calls<T: Transport>(
 ) -> Result<(), AllocError> {
     report_state(asked, report);
     for line in script.split(|b| *b == b'\n') {
-        let [letter, rest @ ..] = line else {
-            continue;
-        };
-        if *letter == b'+' {
-            continue;
-        }
-        let was_possible = match *letter {
-            b'.' => send(asked, transport, false, report)?,
-            b'!' => send(asked, transport, true, report)?,
-            _ => add(alloc, asked, *letter, rest)?,
+        let (word, rest) = cut_at_byte(line, b' ');
+        let was_possible = match meaning_of(&LINES, word) {
+            Some(Line::Feature) => continue,
+            Some(Line::Send { done }) => send(asked, transport, done, report)?,
+            Some(line) => add(alloc, asked, line, rest)?,
+            None => {
+                report.is_unknown |= !line.is_empty();
+                continue;
+            }
         };
         if !was_possible {
             report.word("x");
@@ -170,8 +207,8 @@ fn report_calls<T: Transport>(
 
 // What is asked for at first, by the features that the row names.
 fn first_asked(alloc: Global, row: &Row<'_>) -> Result<Arguments, AllocError> {
-    let [version, _, mask, mask_of_values, length] = row.settings;
-    let mut features = features_of(alloc, mask, mask_of_values, length)?;
+    let [version, ..] = row.settings;
+    let mut features: Vec<Feature> = Vec::new(alloc);
     push_named(alloc, row.payload, &mut features)?;
     Arguments::new(alloc, &CommandTable::git(), version_of(version), features)
 }

@@ -1,85 +1,157 @@
-//! Rows: what is replayed, one behind the other.
+//! Rows: what is replayed, one after another. The README of this crate says what the bytes of each mode are.
 //!
-//! A row is a line of words that single blanks part, so many bytes, and a newline. The words are a letter, its
-//! mode, and decimal numbers:
+//! A row is a head and lines of bytes:
 //!
-//!     MODE S0 S1 S2 S3 S4 CUT FAIL LENGTH [AGAIN FROM]
+//!     NAME MODE SETTING=VALUE.. # what a reader may want to know
+//!     |bytes
+//!     |more bytes\
 //!
-//! The module of a mode says what its settings S0 to S4 mean. CUT says how the bytes come: 0 all at once, up to
-//! 999,999 so many a read, above that in pieces of random sizes. FAIL is the number of the read that fails, from 1
-//! on, as interrupted; 1,000,000 more for one that times out, 2,000,000 for one that is denied; 0 for none. LENGTH is the number of the bytes. They
-//! come AGAIN so many times more from the byte FROM on.
+//! Each line after `|` ends in an LF, but for one that ends in `\`. `\HH` is a byte by two digits, `\*N;` makes the byte
+//! before it stand N times. Lines that are empty or begin with `#` say nothing. A value is a word or a number; the module
+//! of a mode has its settings. Each mode has six more:
+//!
+//! - `pieces=N`: the bytes come in pieces of N; `random-pieces=N`: of sizes that follow from N, a million or more. They
+//!   come all at once where a row says neither.
+//! - `fail-at=N`: the read of that number fails, from 1 on, and `fail-as=`: how. None fails where a row doesn't say.
+//! - `again=N` and `from=N`: the bytes come N times more, from that one on.
+use crate::{
+    answers, bands, boundaries, capabilities, fetches, handshakes, lines, listings, maps,
+    negotiations, openings, packs, places, plans, progress_lines, refs, requests, sessions, shakes,
+};
+use std::alloc::Global;
 use thiserror::Error as DeriveError;
 
 /// What a row asks for.
 #[derive(Clone, Copy)]
 pub(crate) enum Mode {
-    /// `L`: calls of a line reader.
+    /// Calls of a line reader.
     Lines,
-    /// `B`: calls of a reader of bands.
+    /// Calls of a reader of bands.
     Bands,
-    /// `R`: refs of version 2.
+    /// Refs of version 2.
     Refs,
-    /// `H`: a handshake, and the refs of versions 0 and 1.
+    /// A handshake, and the refs of versions 0 and 1.
     Handshake,
-    /// `E`: a handshake at each place of an advertisement.
+    /// A handshake at each place of an advertisement.
     Places,
-    /// `W`: what a client says first.
+    /// What a client says first.
     Opening,
-    /// `A`: an answer to a fetch.
+    /// An answer to a fetch.
     Answer,
-    /// `P`: a pack through its bands.
+    /// A pack through its bands.
     Pack,
-    /// `C`: capabilities and what may be asked for.
+    /// Capabilities and what may be asked for.
     Capabilities,
-    /// `K`: a line of an answer.
+    /// A line of an answer.
     AnswerLine,
-    /// `Q`: requests.
+    /// A shallow boundary as text.
+    Boundary,
+    /// How a client names itself.
+    Agent,
+    /// Requests.
     Requests,
-    /// `Z`: a session of several requests.
+    /// A session of several requests.
     Session,
-    /// `V`: refspecs.
-    Refspecs,
-    /// `M`: a ref map.
-    Map,
-    /// `S`: a handshake with an account.
-    Shake,
-    /// `O`: a ref map by a handshake.
+    /// A refspec.
+    Refspec,
+    /// The name of a ref.
+    RefName,
+    /// The prefixes of refspecs.
+    Prefixes,
+    /// What refspecs make of names.
+    Matches,
+    /// A ref map.
+    RefMap,
+    /// A handshake with an account.
+    Account,
+    /// A ref map by a handshake.
     Listing,
-    /// `G`: a line of progress.
+    /// A line of progress.
     Progress,
-    /// `F`: a whole fetch.
+    /// A whole fetch.
     Fetch,
-    /// `N`: a negotiation.
+    /// A negotiation.
     Negotiation,
-    /// `T`: a plan over recorded bodies.
+    /// A plan over recorded bodies.
     Plan,
 }
 
+static MODES: [(&str, Mode); 25] = [
+    ("lines", Mode::Lines),
+    ("bands", Mode::Bands),
+    ("refs", Mode::Refs),
+    ("handshake", Mode::Handshake),
+    ("places", Mode::Places),
+    ("opening", Mode::Opening),
+    ("answer", Mode::Answer),
+    ("pack", Mode::Pack),
+    ("capabilities", Mode::Capabilities),
+    ("answer-line", Mode::AnswerLine),
+    ("boundary", Mode::Boundary),
+    ("agent", Mode::Agent),
+    ("requests", Mode::Requests),
+    ("session", Mode::Session),
+    ("refspec", Mode::Refspec),
+    ("ref-name", Mode::RefName),
+    ("prefixes", Mode::Prefixes),
+    ("matches", Mode::Matches),
+    ("ref-map", Mode::RefMap),
+    ("account", Mode::Account),
+    ("listing", Mode::Listing),
+    ("progress", Mode::Progress),
+    ("fetch", Mode::Fetch),
+    ("negotiation", Mode::Negotiation),
+    ("plan", Mode::Plan),
+];
+
+/// A setting of a mode: its name, the words for 0, 1 and so on where it isn't a number, and what it is where a row
+/// doesn't name it.
+pub(crate) type Setting = (&'static str, &'static [&'static str], u64);
+
+/// The values of a setting that holds or not.
+pub(crate) const NO_YES: &[&str] = &["no", "yes"];
+
+/// The values of a setting that says where the bytes come from.
+pub(crate) const BODIES_CONNECTION: &[&str] = &["bodies", "connection"];
+
+// The settings of each mode.
+const EACH: &[Setting] = &[
+    ("pieces", &[], 0),
+    ("random-pieces", &[], 0),
+    ("fail-at", &[], 0),
+    ("fail-as", &["interrupted", "timed-out", "denied"], 0),
+    ("again", &[], 0),
+    ("from", &[], 0),
+];
+
 impl Mode {
-    fn from_word(word: &[u8]) -> Option<Mode> {
-        match word {
-            [b'L'] => Some(Mode::Lines),
-            [b'B'] => Some(Mode::Bands),
-            [b'R'] => Some(Mode::Refs),
-            [b'H'] => Some(Mode::Handshake),
-            [b'E'] => Some(Mode::Places),
-            [b'W'] => Some(Mode::Opening),
-            [b'A'] => Some(Mode::Answer),
-            [b'P'] => Some(Mode::Pack),
-            [b'C'] => Some(Mode::Capabilities),
-            [b'K'] => Some(Mode::AnswerLine),
-            [b'Q'] => Some(Mode::Requests),
-            [b'Z'] => Some(Mode::Session),
-            [b'V'] => Some(Mode::Refspecs),
-            [b'M'] => Some(Mode::Map),
-            [b'S'] => Some(Mode::Shake),
-            [b'O'] => Some(Mode::Listing),
-            [b'G'] => Some(Mode::Progress),
-            [b'F'] => Some(Mode::Fetch),
-            [b'N'] => Some(Mode::Negotiation),
-            [b'T'] => Some(Mode::Plan),
-            _ => None,
+    fn settings(self) -> &'static [Setting] {
+        match self {
+            Mode::Lines => lines::SETTINGS,
+            Mode::Bands => bands::SETTINGS,
+            Mode::Refs => refs::SETTINGS,
+            Mode::Handshake => handshakes::SETTINGS,
+            Mode::Places => places::SETTINGS,
+            Mode::Opening => openings::SETTINGS,
+            Mode::Answer => answers::SETTINGS,
+            Mode::Pack => packs::SETTINGS,
+            Mode::Capabilities => capabilities::SETTINGS,
+            Mode::Boundary => boundaries::SETTINGS,
+            Mode::Requests => requests::SETTINGS,
+            Mode::Session => sessions::SETTINGS,
+            Mode::RefMap => maps::SETTINGS,
+            Mode::Account => shakes::SETTINGS,
+            Mode::Listing => listings::SETTINGS,
+            Mode::Progress => progress_lines::SETTINGS,
+            Mode::Fetch => fetches::SETTINGS,
+            Mode::Negotiation => negotiations::SETTINGS,
+            Mode::Plan => plans::SETTINGS,
+            Mode::Agent
+            | Mode::AnswerLine
+            | Mode::Refspec
+            | Mode::RefName
+            | Mode::Prefixes
+            | Mode::Matches => &[],
         }
     }
 }
@@ -93,11 +165,14 @@ pub(crate) struct Repeat {
     pub(crate) start: u64,
 }
 
+/// The values of a row's settings, in the order of its mode's.
+pub(crate) type Settings = [u64; 6];
+
 /// One row.
 #[derive(Clone, Copy)]
 pub(crate) struct Row<'a> {
     pub(crate) mode: Mode,
-    pub(crate) settings: [u64; 5],
+    pub(crate) settings: Settings,
     /// How the bytes come.
     pub(crate) cut: u64,
     /// Which read fails.
@@ -106,22 +181,37 @@ pub(crate) struct Row<'a> {
     pub(crate) repeat: Repeat,
 }
 
+impl<'a> Row<'a> {
+    /// The row with these bytes, none of which come again.
+    pub(crate) fn with_bytes(self, payload: &'a [u8]) -> Row<'a> {
+        Row {
+            payload,
+            repeat: Repeat { times: 0, start: 0 },
+            ..self
+        }
+    }
+}
+
 /// Why a row can't be read.
 #[derive(Clone, Copy, Debug, Drop, DeriveError)]
 pub(crate) enum RowError {
     #[error("no mode of that name")]
     Mode,
-    #[error("a word is no number")]
-    Number,
-    #[error("too few numbers, or too many")]
-    Count,
-    #[error("fewer bytes than it says")]
-    Short,
-    #[error("no newline behind its bytes")]
-    End,
+    #[error("its mode has no such setting")]
+    Setting,
+    #[error("no value of that setting")]
+    Value,
+    #[error("bytes without a row before them")]
+    Head,
+    #[error("no byte, or no end, after a backslash")]
+    Escape,
+    #[error("a call or a line of a script that its mode doesn't know")]
+    Script,
+    #[error("out of memory")]
+    Memory,
 }
 
-/// The text before the first such byte and that behind it.
+/// The text before the first such byte and that after it.
 pub(crate) fn cut_at_byte(text: &[u8], byte: u8) -> (&[u8], &[u8]) {
     match text.iter().position(|b| *b == byte) {
         Some(place) => {
@@ -158,48 +248,241 @@ pub(crate) fn number(text: &[u8]) -> Option<u64> {
     }
 }
 
-// The numbers of a row, without those of a repeat where it has none.
-fn numbers_of(words: &[u8]) -> Result<[u64; 10], RowError> {
-    let mut numbers = [0u64; 10];
-    let mut count = 0usize;
-    for word in words.split(|b| *b == b' ') {
-        if count >= 10 {
-            return Err(RowError::Count);
+/// What a word stands for, if the table has it.
+pub(crate) fn meaning_of<T: Copy>(table: &[(&'static str, T)], word: &[u8]) -> Option<T> {
+    for (name, meaning) in table {
+        if name.as_bytes() == word {
+            return Some(*meaning);
         }
-        let Some(number) = number(word) else {
-            return Err(RowError::Number);
-        };
-        numbers[count] = number;
-        count += 1;
     }
-    if count != 8 && count != 10 {
-        return Err(RowError::Count);
-    }
-    Ok(numbers)
+    None
 }
 
-/// The first row, and what stands behind it.
-pub(crate) fn next_row(text: &[u8]) -> Result<(Row<'_>, &[u8]), RowError> {
-    let (line, rest) = cut_at_byte(text, b'\n');
-    let (word, words) = cut_at_byte(line, b' ');
-    let Some(mode) = Mode::from_word(word) else {
-        return Err(RowError::Mode);
-    };
-    let [s0, s1, s2, s3, s4, cut, fail, length, times, start] = numbers_of(words)?;
-    if length > rest.len() as u64 {
-        return Err(RowError::Short);
+// The place of a word.
+fn place_of(words: &[&str], word: &[u8]) -> Option<u64> {
+    let mut place = 0u64;
+    for name in words {
+        if name.as_bytes() == word {
+            return Some(place);
+        }
+        place = place.saturating_add(1);
     }
-    let (payload, rest) = cut_at(rest, length);
-    let [b'\n', rest @ ..] = rest else {
-        return Err(RowError::End);
-    };
-    let row = Row {
+    None
+}
+
+fn defaults_of(settings: &[Setting]) -> Settings {
+    let mut values = [0u64; 6];
+    for (value, (_name, _words, default)) in values.iter_mut().zip(settings) {
+        *value = *default;
+    }
+    values
+}
+
+// Sets what a name stands for. False where there is no such setting.
+fn set(
+    settings: &[Setting],
+    name: &[u8],
+    text: &[u8],
+    values: &mut Settings,
+) -> Result<bool, RowError> {
+    for (value, (known, words, _default)) in values.iter_mut().zip(settings) {
+        if known.as_bytes() != name {
+            continue;
+        }
+        let found = if words.is_empty() {
+            number(text)
+        } else {
+            place_of(words, text)
+        };
+        return match found {
+            Some(found) => {
+                *value = found;
+                Ok(true)
+            }
+            None => Err(RowError::Value),
+        };
+    }
+    Ok(false)
+}
+
+// A row of this mode and these words, without its bytes.
+fn row_of(mode: Mode, words: &[u8]) -> Result<Row<'static>, RowError> {
+    let mut settings = defaults_of(mode.settings());
+    let mut each = defaults_of(EACH);
+    for word in words.split(|b| *b == b' ') {
+        if word.is_empty() {
+            continue;
+        }
+        let (name, text) = cut_at_byte(word, b'=');
+        let is_set = set(mode.settings(), name, text, &mut settings)?
+            || set(EACH, name, text, &mut each)?;
+        if !is_set {
+            return Err(RowError::Setting);
+        }
+    }
+    let [pieces, random_pieces, fail_at, fail_as, times, start] = each;
+    Ok(Row {
         mode,
-        settings: [s0, s1, s2, s3, s4],
-        cut,
-        fail,
-        payload,
+        settings,
+        cut: pieces.max(random_pieces),
+        fail: fail_at.saturating_add(fail_as.saturating_mul(1_000_000)),
+        payload: &[],
         repeat: Repeat { times, start },
+    })
+}
+
+/// A row as text.
+#[derive(Clone, Copy)]
+pub(crate) struct RowText<'a> {
+    /// Its name: that of a group, and a number after `/` where it is one of many.
+    pub(crate) name: &'a [u8],
+    head: &'a [u8],
+    body: &'a [u8],
+}
+
+// Without lines that say nothing.
+fn without_remarks(text: &[u8]) -> &[u8] {
+    let mut rest = text;
+    for _ in 0..text.len() {
+        match rest {
+            [b'\n' | b'#', ..] => rest = cut_at_byte(rest, b'\n').1,
+            _ => break,
+        }
+    }
+    rest
+}
+
+/// The first row, and what stands after it; nothing at the end.
+pub(crate) fn next_row(text: &[u8]) -> Option<(RowText<'_>, &[u8])> {
+    let text = without_remarks(text);
+    if text.is_empty() {
+        return None;
+    }
+    let (line, body) = cut_at_byte(text, b'\n');
+    let (line, _remark) = cut_at_byte(line, b'#');
+    let (name, head) = cut_at_byte(line, b' ');
+    let mut rest = body;
+    for _ in 0..body.len() {
+        match rest {
+            [b'|', ..] => rest = cut_at_byte(rest, b'\n').1,
+            _ => break,
+        }
+    }
+    let (body, rest) = body.split_at(body.len().saturating_sub(rest.len()));
+    Some((RowText { name, head, body }, rest))
+}
+
+fn digit_of(byte: u8) -> Option<u8> {
+    match byte {
+        b'0'..=b'9' => Some(byte - b'0'),
+        b'a'..=b'f' => Some(byte - b'a' + 10),
+        _ => None,
+    }
+}
+
+// The byte of two digits.
+fn byte_of(high: u8, low: u8) -> Result<u8, RowError> {
+    match (digit_of(high), digit_of(low)) {
+        (Some(high), Some(low)) => Ok(high.wrapping_mul(16).wrapping_add(low)),
+        _ => Err(RowError::Escape),
+    }
+}
+
+fn push(bytes: &mut Vec<u8>, byte: u8) -> Result<(), RowError> {
+    match bytes.push(byte) {
+        Ok(()) => Ok(()),
+        Err(_) => Err(RowError::Memory),
+    }
+}
+
+// Makes the last byte stand so many times, of a number with a `;` after it. What stands after that.
+fn repeat_last<'a>(text: &'a [u8], bytes: &mut Vec<u8>) -> Result<&'a [u8], RowError> {
+    let (digits, rest) = cut_at_byte(text, b';');
+    let (Some(times), Some(byte)) = (number(digits), bytes.last()) else {
+        return Err(RowError::Escape);
     };
-    Ok((row, rest))
+    let byte = *byte;
+    for _ in 1..times.min(1_000_000) {
+        push(bytes, byte)?;
+    }
+    Ok(rest)
+}
+
+// Adds the bytes of a line.
+fn read_line(line: &[u8], bytes: &mut Vec<u8>) -> Result<(), RowError> {
+    let mut rest = line;
+    for _ in 0..line.len() {
+        match rest {
+            [] => break,
+            [b'\\'] => return Ok(()),
+            [b'\\', b'*', after @ ..] => rest = repeat_last(after, bytes)?,
+            [b'\\', high, low, after @ ..] => {
+                push(bytes, byte_of(*high, *low)?)?;
+                rest = after;
+            }
+            [b'\\', ..] => return Err(RowError::Escape),
+            [byte, after @ ..] => {
+                push(bytes, *byte)?;
+                rest = after;
+            }
+        }
+    }
+    push(bytes, b'\n')
+}
+
+// Adds the bytes from a place on so many times more.
+fn add_again(bytes: &mut Vec<u8>, alloc: Global, repeat: Repeat) -> Result<(), RowError> {
+    let (_, chunk) = cut_at(bytes, repeat.start);
+    let Ok(chunk) = chunk.to_vec(alloc) else {
+        return Err(RowError::Memory);
+    };
+    for _ in 0..repeat.times {
+        if bytes.extend_from_slice(&chunk).is_err() {
+            return Err(RowError::Memory);
+        }
+    }
+    Ok(())
+}
+
+impl RowText<'_> {
+    // The bytes as they stand.
+    fn written_bytes(&self, alloc: Global) -> Result<Vec<u8>, RowError> {
+        let mut bytes = Vec::new(alloc);
+        let mut rest = self.body;
+        for _ in 0..self.body.len() {
+            let [b'|', line @ ..] = rest else {
+                break;
+            };
+            let (line, after) = cut_at_byte(line, b'\n');
+            read_line(line, &mut bytes)?;
+            rest = after;
+        }
+        Ok(bytes)
+    }
+
+    /// The bytes of the row, with those that come again.
+    pub(crate) fn bytes(&self, alloc: Global, row: &Row<'_>) -> Result<Vec<u8>, RowError> {
+        let mut bytes = self.written_bytes(alloc)?;
+        if row.repeat.times > 0 {
+            add_again(&mut bytes, alloc, row.repeat)?;
+        }
+        Ok(bytes)
+    }
+
+    /// The row without its bytes.
+    pub(crate) fn head(&self) -> Result<Row<'static>, RowError> {
+        if self.name.starts_with(b"|") {
+            return Err(RowError::Head);
+        }
+        let (word, words) = cut_at_byte(self.head, b' ');
+        match meaning_of(&MODES, word) {
+            Some(mode) => row_of(mode, words),
+            None => Err(RowError::Mode),
+        }
+    }
+
+    /// Whether this is its name, or that of its group.
+    pub(crate) fn is_named(&self, name: &[u8]) -> bool {
+        self.name == name || cut_at_byte(self.name, b'/').0 == name
+    }
 }

@@ -1,13 +1,13 @@
-//! What a whole fetch is asked to do: lines of a letter and a text, up to an empty line.
+//! What a whole fetch is asked to do: lines of a word and a text, up to an empty line.
 //!
-//! `l` has the lengths of the bodies. `s` is a refspec, `h` the id of a have, `m` how many other haves come behind
-//! these, `b` an id of the shallow boundary. `d`, `e` and `t` are a depth from the refs, one from the boundary, and a
-//! time; `x` is a ref that is left out, also with a time. `a` asks for all tags, `i` for those that come with others.
-//! `r` refuses shallow servers. `k` is a table without sideband-all (`r`), without ref-in-want (`b`), without both (`p`),
-//! or that of recorded requests (`o`). `p` passes over the pack. `q` is the question for an interrupt that is answered
-//! with true, and `f` the call of the store that is refused, each from 0 on, and why: `i` as a device that fails, `l` as
-//! locked, `d` for a line that is no id, `m` for memory.
-use crate::rows::{cut_at_byte, number};
+//! `bodies` has the lengths of the bodies. `refspec` is one, `have` the id of a have, `more-haves` how many others come
+//! behind these, `boundary` an id of the shallow boundary. `depth`, `deepen` and `since` are a depth from the refs, one
+//! from the boundary, and a time; `exclude` is a ref that is left out, also with a time. `tags all` asks for all tags,
+//! `tags included` for those that come with others. `reject-shallow` refuses shallow servers. `without` is a table that
+//! lacks `sideband-all`, `ref-in-want` or `both`, or that of `recorded` requests. `no-pack` passes over the pack.
+//! `interrupt-at` is the question for an interrupt that is answered with true, `store-fails` the call of the store that is
+//! refused, each from 0 on, and why: `device`, `locked`, `line` (it is no id) or `memory`.
+use crate::rows::{cut_at_byte, meaning_of, number};
 use bstr::{BStr, BString};
 use gixp_hash::ObjectId;
 use gixp_negotiate::shallow::Shallow;
@@ -26,6 +26,70 @@ pub(crate) enum Fault {
     Line,
     Memory,
 }
+
+static FAULTS: [(&str, Fault); 4] = [
+    ("device", Fault::Device),
+    ("locked", Fault::Locked),
+    ("line", Fault::Line),
+    ("memory", Fault::Memory),
+];
+
+// A line of a script.
+#[derive(Clone, Copy)]
+enum Line {
+    Bodies,
+    Refspec,
+    Have,
+    MoreHaves,
+    Boundary,
+    Depth,
+    Deepen,
+    Since,
+    Exclude,
+    Tags,
+    RejectShallow,
+    Without,
+    NoPack,
+    InterruptAt,
+    StoreFails,
+}
+
+static LINES: [(&str, Line); 15] = [
+    ("bodies", Line::Bodies),
+    ("refspec", Line::Refspec),
+    ("have", Line::Have),
+    ("more-haves", Line::MoreHaves),
+    ("boundary", Line::Boundary),
+    ("depth", Line::Depth),
+    ("deepen", Line::Deepen),
+    ("since", Line::Since),
+    ("exclude", Line::Exclude),
+    ("tags", Line::Tags),
+    ("reject-shallow", Line::RejectShallow),
+    ("without", Line::Without),
+    ("no-pack", Line::NoPack),
+    ("interrupt-at", Line::InterruptAt),
+    ("store-fails", Line::StoreFails),
+];
+
+static TAGS: [(&str, Tags); 2] = [("all", Tags::All), ("included", Tags::Included)];
+
+// What a table of commands lacks.
+#[derive(Clone, Copy)]
+enum Lack {
+    SidebandAll,
+    RefInWant,
+    Both,
+    // All that recorded requests don't have.
+    Recorded,
+}
+
+static LACKS: [(&str, Lack); 4] = [
+    ("sideband-all", Lack::SidebandAll),
+    ("ref-in-want", Lack::RefInWant),
+    ("both", Lack::Both),
+    ("recorded", Lack::Recorded),
+];
 
 /// What a fetch is asked to do.
 #[derive(Drop)]
@@ -58,6 +122,8 @@ pub(crate) struct Script<'a> {
     pub(crate) call: u64,
     /// Why it is refused.
     pub(crate) fault: Fault,
+    /// Whether a line has a word that isn't known.
+    pub(crate) is_unknown: bool,
 }
 
 static RECORDED: [(&str, Option<&str>); 4] = [
@@ -67,14 +133,14 @@ static RECORDED: [(&str, Option<&str>); 4] = [
     ("ofs-delta", None),
 ];
 
-// A table without some features of version 2, or that of recorded requests.
-fn table_of(text: &[u8]) -> CommandTable {
+// A table that lacks something.
+fn table_of(lack: Lack) -> CommandTable {
     let mut table = CommandTable::git();
-    match text {
-        [b'r'] => table.v2_fetch = &["shallow", "filter", "ref-in-want"],
-        [b'b'] => table.v2_fetch = &["shallow", "filter", "sideband-all"],
-        [b'p'] => table.v2_fetch = &["shallow", "filter"],
-        _ => table.v1_fetch = &RECORDED,
+    match lack {
+        Lack::SidebandAll => table.v2_fetch = &["shallow", "filter", "ref-in-want"],
+        Lack::RefInWant => table.v2_fetch = &["shallow", "filter", "sideband-all"],
+        Lack::Both => table.v2_fetch = &["shallow", "filter"],
+        Lack::Recorded => table.v1_fetch = &RECORDED,
     }
     table
 }
@@ -168,6 +234,7 @@ impl<'a> Script<'a> {
             interrupt: u64::MAX,
             call: u64::MAX,
             fault: Fault::Device,
+            is_unknown: false,
         }
     }
 
@@ -175,42 +242,53 @@ impl<'a> Script<'a> {
     fn refuse(&mut self, text: &[u8]) {
         let (call, why) = cut_at_byte(text, b' ');
         self.call = number(call).unwrap_or(u64::MAX);
-        self.fault = match why {
-            [b'l'] => Fault::Locked,
-            [b'd'] => Fault::Line,
-            [b'm'] => Fault::Memory,
-            _ => Fault::Device,
-        };
+        match meaning_of(&FAULTS, why) {
+            Some(fault) => self.fault = fault,
+            None => self.is_unknown = true,
+        }
+    }
+
+    fn choose_tags(&mut self, text: &[u8]) {
+        match meaning_of(&TAGS, text) {
+            Some(tags) => self.tags = tags,
+            None => self.is_unknown = true,
+        }
+    }
+
+    fn choose_table(&mut self, text: &[u8]) {
+        match meaning_of(&LACKS, text) {
+            Some(lack) => self.table = table_of(lack),
+            None => self.is_unknown = true,
+        }
     }
 
     // Settings of a depth.
-    fn read_depth(&mut self, alloc: Global, letter: u8, text: &[u8]) -> Result<(), AllocError> {
-        match letter {
-            b'd' => self.shallow = depth_of(text),
-            b'e' => self.shallow = Shallow::Deepen(small(text)),
-            b't' => self.cutoff = signed(text),
-            b'x' => push_name(alloc, &mut self.excluded, text)?,
-            b'b' => push_id(&mut self.boundary, text)?,
+    fn read_depth(&mut self, alloc: Global, line: Line, text: &[u8]) -> Result<(), AllocError> {
+        match line {
+            Line::Depth => self.shallow = depth_of(text),
+            Line::Deepen => self.shallow = Shallow::Deepen(small(text)),
+            Line::Since => self.cutoff = signed(text),
+            Line::Exclude => push_name(alloc, &mut self.excluded, text)?,
+            Line::Boundary => push_id(&mut self.boundary, text)?,
             _ => {}
         }
         Ok(())
     }
 
     // One line.
-    fn read_line(&mut self, alloc: Global, letter: u8, text: &'a [u8]) -> Result<(), AllocError> {
-        match letter {
-            b'l' => self.lengths = text,
-            b's' => push_spec(alloc, &mut self.specs, text)?,
-            b'h' => push_id(&mut self.haves, text)?,
-            b'm' => push_many(&mut self.haves, small(text))?,
-            b'a' => self.tags = Tags::All,
-            b'i' => self.tags = Tags::Included,
-            b'r' => self.rejects = true,
-            b'k' => self.table = table_of(text),
-            b'p' => self.copies = false,
-            b'q' => self.interrupt = number(text).unwrap_or(u64::MAX),
-            b'f' => self.refuse(text),
-            _ => self.read_depth(alloc, letter, text)?,
+    fn read_line(&mut self, alloc: Global, line: Line, text: &'a [u8]) -> Result<(), AllocError> {
+        match line {
+            Line::Bodies => self.lengths = text,
+            Line::Refspec => push_spec(alloc, &mut self.specs, text)?,
+            Line::Have => push_id(&mut self.haves, text)?,
+            Line::MoreHaves => push_many(&mut self.haves, small(text))?,
+            Line::Tags => self.choose_tags(text),
+            Line::RejectShallow => self.rejects = true,
+            Line::Without => self.choose_table(text),
+            Line::NoPack => self.copies = false,
+            Line::InterruptAt => self.interrupt = number(text).unwrap_or(u64::MAX),
+            Line::StoreFails => self.refuse(text),
+            _ => self.read_depth(alloc, line, text)?,
         }
         Ok(())
     }
@@ -225,10 +303,13 @@ impl<'a> Script<'a> {
         for _ in 0..u64::MAX {
             let (line, behind) = cut_at_byte(rest, b'\n');
             rest = behind;
-            match line {
-                [letter, b' ', text @ ..] => script.read_line(alloc, *letter, text)?,
-                [letter] => script.read_line(alloc, *letter, &[])?,
-                _ => break,
+            if line.is_empty() {
+                break;
+            }
+            let (word, text) = cut_at_byte(line, b' ');
+            match meaning_of(&LINES, word) {
+                Some(line) => script.read_line(alloc, line, text)?,
+                None => script.is_unknown = true,
             }
         }
         if !script.excluded.is_empty() {

@@ -1,8 +1,8 @@
 //! A session: a handshake, refs, up to five requests with a have each, and a pack.
 //!
-//! S0 is 0 for bodies in memory, whose lengths stand in the first line of the payload, 1 for a connection over what is
-//! behind that line. S1 is the version that the client of a connection asks for, S3 the number of the request that
-//! says `done`, S4 the number from which the reads of a pack follow. The bytes that were sent stand at the end.
+//! `over=bodies` is over bodies in memory, whose lengths stand in the first line of the bytes, `over=connection` over a
+//! connection for what is after that line. `version` is what the client of a connection asks for, `done-at` the number of
+//! the request that says `done`, `reads` the number from which the reads of a pack follow. What was sent stands at the end.
 use crate::answers::{Reading, read_response};
 use crate::device::Device;
 use crate::handshakes::{bodies, connection, report_early_refs, shake_hands};
@@ -10,7 +10,7 @@ use crate::lines::report_rest;
 use crate::packs::{Notes, Settings, read_pack};
 use crate::refs::report_all;
 use crate::report::Report;
-use crate::rows::{Row, cut_at, cut_at_byte, number};
+use crate::rows::{BODIES_CONNECTION, Row, Setting, cut_at, cut_at_byte, number};
 use crate::values::client_error;
 use bstr::BString;
 use gixp_capabilities::Capabilities;
@@ -23,6 +23,13 @@ use gixp_response::fetch::Response;
 use gixp_sidebands::{NeverInterrupt, WithSidebands};
 use gixp_wire::{Body, Transport};
 use std::alloc::{AllocError, Global};
+
+pub(crate) const SETTINGS: &[Setting] = &[
+    ("over", BODIES_CONNECTION, 0),
+    ("version", &[], 2),
+    ("done-at", &[], 1),
+    ("reads", &[], 0),
+];
 
 fn agent(alloc: Global) -> Result<Feature, AllocError> {
     Ok(("agent", Some(String::from_str(alloc, "git/probe")?)))
@@ -127,7 +134,7 @@ fn fetch<T: Transport>(
     features: Vec<Feature>,
     report: &mut Report,
 ) -> Result<(), AllocError> {
-    let [_, _, _, last, seed] = row.settings;
+    let [_, _, last, seed, ..] = row.settings;
     let is_banded = features.iter().any(|feature| feature.0 == "sideband-all");
     let mut asked = first_asked(alloc, version, features)?;
     for round in 1..6u8 {
@@ -167,7 +174,7 @@ fn report_over<T: Transport>(
         return Ok(());
     };
     let version = found.actual_protocol;
-    let goes_on = if found.refs_follow {
+    let goes_on = if found.has_refs {
         report_early_refs(alloc, transport, &found.capabilities, report)
     } else {
         list_refs(alloc, transport, report)?

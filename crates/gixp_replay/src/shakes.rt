@@ -1,15 +1,15 @@
 //! A handshake, with an account where the server wants one.
 //!
-//! S0 is 0 for bodies in memory, 1 for a connection, S1 the version that the client of a connection asks for, S2 the
-//! versions that are accepted, from the lowest bit on. The payload has three lines and the bytes of the server: what
-//! the credential helper does at each call (`a` it returns an account, `n` none, `f` it fails), the bodies as
-//! `bodies_of` reads them, and parameters with blanks between them.
+//! `over` says where the answers come from, `version` what the client of a connection asks for, `accepts` which versions it
+//! accepts. The bytes are three lines and those of the server: what the credential helper does at each call (`account`,
+//! `none` or `fails`, with blanks between them), the bodies as `bodies_of` reads them, and parameters with blanks between
+//! them.
 use crate::device::{Device, Paper};
 use crate::lines::report_rest;
 use crate::openings::parameters_of;
 use crate::refs::report_list;
 use crate::report::Report;
-use crate::rows::{Row, cut_at, cut_at_byte, number};
+use crate::rows::{BODIES_CONNECTION, Row, Setting, cut_at, cut_at_byte, number};
 use crate::telling::Telling;
 use crate::values::{capability_list, client_error, parse_error, update, version_of};
 use bstr::BString;
@@ -20,6 +20,16 @@ use gixp_packetline::Protocol;
 use gixp_wire::{Bodies, Body, Connection, Opening, Service, Transport};
 use std::alloc::{AllocError, Global};
 use std::io::ErrorKind;
+
+pub(crate) const SETTINGS: &[Setting] = &[
+    ("over", BODIES_CONNECTION, 0),
+    ("version", &[], 2),
+    (
+        "accepts",
+        &["any", "0", "1", "0,1", "2", "0,2", "1,2", "0,1,2"],
+        0,
+    ),
+];
 
 /// A credential helper that follows a script, and writes down what it is asked for.
 #[derive(Drop)]
@@ -73,11 +83,11 @@ impl<'a> Helper<'a> {
     /// What it says to an action.
     pub(crate) fn answer(&mut self, action: Action) -> Result<Option<Outcome>, credentials::Error> {
         self.write_down(&action);
-        let (letter, rest) = cut_at(self.script, 1);
+        let (word, rest) = cut_at_byte(self.script, b' ');
         self.script = rest;
-        match letter {
-            [b'n'] => Ok(None),
-            [b'f'] => Err(self.failure()),
+        match word {
+            [b'n', ..] => Ok(None),
+            [b'f', ..] => Err(self.failure()),
             _ => match self.account() {
                 Ok(outcome) => Ok(Some(outcome)),
                 Err(_) => Err(self.failure()),
@@ -100,9 +110,9 @@ fn body_of<'a>(
     bytes: &'a [u8],
 ) -> Result<(Body, &'a [u8]), AllocError> {
     match word {
-        [b'd'] => Ok((Body::Fail(ErrorKind::PermissionDenied), bytes)),
-        [b't'] => Ok((Body::Fail(ErrorKind::TimedOut), bytes)),
-        [b'p'] => Ok((Body::Fail(ErrorKind::BrokenPipe), bytes)),
+        [b'd', ..] => Ok((Body::Fail(ErrorKind::PermissionDenied), bytes)),
+        [b't', ..] => Ok((Body::Fail(ErrorKind::TimedOut), bytes)),
+        [b'b', ..] => Ok((Body::Fail(ErrorKind::BrokenPipe), bytes)),
         _ => {
             let (body, rest) = cut_at(bytes, number(word).unwrap_or(0));
             Ok((Body::Bytes(body.to_vec(alloc)?), rest))
@@ -110,8 +120,7 @@ fn body_of<'a>(
     }
 }
 
-/// The bodies of words: the length of each, or `d`, `t` or `p` where getting it fails as one that is denied, too slow or
-/// whose server hung up.
+/// The bodies of words: the length of each, or `denied`, `timed-out` or `broken-pipe` where getting it fails so.
 pub(crate) fn bodies_of(
     alloc: Global,
     words: &[u8],

@@ -1,0 +1,60 @@
+//! A shallow boundary: the ids of a text, or the text of ids.
+//!
+//! `call=read` reads the bytes, `call=write` makes the text of the ids that stand in the lines of the bytes.
+use crate::report::Report;
+use crate::rows::{Row, Setting};
+use gixp_fetch::shallow::{ShallowError, shallow_ids, shallow_text};
+use gixp_hash::ObjectId;
+use std::alloc::{AllocError, Global};
+
+pub(crate) const SETTINGS: &[Setting] = &[("call", &["read", "write"], 0)];
+
+// The ids of a text, or why it has none.
+fn report_ids(alloc: Global, text: &[u8], report: &mut Report) {
+    match shallow_ids(alloc, text) {
+        Ok(ids) => {
+            report.word("ids ");
+            for id in &ids {
+                report.id(id);
+                report.word(" ");
+            }
+        }
+        Err(ShallowError::Decode { line }) => {
+            report.word("Decode(");
+            report.quote(line.as_bytes());
+            report.word(") ");
+        }
+        Err(e) => report.debug(&e),
+    }
+}
+
+// The ids that stand in lines.
+fn ids_of(alloc: Global, lines: &[u8], report: &mut Report) -> Result<Vec<ObjectId>, AllocError> {
+    let mut ids = Vec::new(alloc);
+    for line in lines.split(|b| *b == b'\n') {
+        if line.is_empty() {
+            continue;
+        }
+        match ObjectId::from_hex(line) {
+            Ok(id) => ids.push(id)?,
+            Err(_) => report.is_unknown = true,
+        }
+    }
+    Ok(ids)
+}
+
+/// The ids or the text.
+pub(crate) fn report_boundary(
+    alloc: Global,
+    row: &Row<'_>,
+    report: &mut Report,
+) -> Result<(), AllocError> {
+    let [call, ..] = row.settings;
+    if call == 0 {
+        report_ids(alloc, row.payload, report);
+        return Ok(());
+    }
+    let ids = ids_of(alloc, row.payload, report)?;
+    report.quote(&shallow_text(alloc, &ids)?);
+    Ok(())
+}
