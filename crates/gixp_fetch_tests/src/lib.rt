@@ -1,20 +1,15 @@
-//! Tests of what rows of data can't say of a whole fetch: devices and repositories that fail, consumers that stop early,
-//! boundaries in files, what a progress reporter is told, and the texts of errors. It has no function outside its tests.
+//! Tests of what rows of data can't say of the parts of a fetch and of a whole one: devices and repositories that fail at
+//! each call, consumers that stop early, second tries, boundaries in files, what is sent when a value is dropped, what a
+//! progress reporter is told, and the texts of errors. It has no function outside its tests.
 #![tactic(auto)]
 
 #[cfg(test)]
-mod consumers;
+mod fetches;
 #[cfg(test)]
-mod devices;
+mod handshakes;
 #[cfg(test)]
-mod errors;
+mod negotiations;
 #[cfg(test)]
-mod progress;
+mod shown;
 #[cfg(test)]
-mod repository;
-#[cfg(test)]
-mod runs;
-#[cfg(test)]
-mod sessions;
-#[cfg(test)]
-mod stores;
+mod transports;

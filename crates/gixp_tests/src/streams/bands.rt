@@ -1,5 +1,5 @@
 //! Readers of bands: the interrupt of a caller's flag, and what stands in a transport that is given back.
-use crate::streams::devices::Device;
+use gixp_doubles::Device;
 use gixp_packetline::{ExtendedBufRead, LineReader};
 use gixp_sidebands::{BandText, InterruptFlag, NeverInterrupt, WithSidebands};
 use std::alloc::{AllocError, Global};
@@ -54,7 +54,7 @@ fn heeds_the_flag(
     second: Result<usize, ErrorKind>,
 ) -> Result<bool, AllocError> {
     let flag = Cell::new(interrupted);
-    let mut device = Device::sound(STREAM, 1);
+    let mut device = Device::new(STREAM, 1);
     let mut lines = LineReader::new(alloc, &mut device)?;
     let mut texts = String::new(alloc);
     let got = two_reads(&mut lines, &flag, &mut texts);
@@ -92,7 +92,7 @@ fn leaves<T: ExtendedBufRead>(
 }
 
 fn leaves_line(alloc: Global, read: (usize, bool), want: &[u8]) -> Result<bool, Fail> {
-    let mut device = Device::sound(b"0007\x01PA0006\x01C0000", 1);
+    let mut device = Device::new(b"0007\x01PA0006\x01C0000", 1);
     let mut lines = LineReader::new(alloc, &mut device)?;
     let mut texts = String::new(alloc);
     leaves(&mut lines, &mut texts, read, want)

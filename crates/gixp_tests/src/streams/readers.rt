@@ -1,5 +1,5 @@
 //! Line readers over devices that fail.
-use crate::streams::devices::Device;
+use gixp_doubles::Device;
 use gixp_packetline::read::ExtendedBufRead;
 use gixp_packetline::{LineReader, Protocol};
 use std::alloc::{AllocError, Global};
@@ -42,12 +42,7 @@ fn said(
 // A read that fails as at an end ends the stream.
 #[test]
 fn takes_a_failure_of_that_kind_for_the_end(rt: HostRuntime) -> Result<(), Fail> {
-    let device = Device {
-        bytes: b"0006a\n0000",
-        step: 2,
-        fails: 3,
-        kind: ErrorKind::UnexpectedEof,
-    };
+    let device = Device::failing(b"0006a\n0000", 2, 3, ErrorKind::UnexpectedEof);
     let got = said(rt.alloc(), device, Protocol::V2, 3)?;
     assert!(rt; got.as_str() == "2 Io(UnexpectedEof) Io(UnexpectedEof) ");
     Ok(())

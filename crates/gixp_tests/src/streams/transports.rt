@@ -5,10 +5,10 @@ ghost use Rattle.gixp_wire.specs.Message.{command_frames};
 ghost use Rattle.gixp_packetline.specs.Reading.{Reading, Reads};
 ghost use Rattle.gixp_wire.specs.Transport.{SentBy};
 
-use crate::streams::devices::{Device, Paper};
 use crate::streams::readers::read_all;
 use bstr::BString;
 use gixp_capabilities::client::Error;
+use gixp_doubles::{Device, Paper};
 use gixp_packetline::read::ExtendedBufRead;
 use gixp_packetline::{MessageKind, Protocol};
 use gixp_wire::{Bodies, Body, Connection, Message, Service, Transport};
@@ -32,7 +32,7 @@ fn connection<'a>(
 
 // A connection over which nothing comes.
 fn silent(alloc: Global, paper: Paper) -> Result<Connection<Device<'static>, Paper>, AllocError> {
-    connection(alloc, Device::sound(b"", usize::MAX), paper, Protocol::V2)
+    connection(alloc, Device::new(b"", usize::MAX), paper, Protocol::V2)
 }
 
 // A body for each of these answers: its bytes, or the kind of its failure.
@@ -57,14 +57,9 @@ fn fails_with<T: Drop>(answer: Result<T, Error>, kind: ErrorKind) -> bool {
 }
 
 // A connection of which the write with this number fails.
-fn broken_at(
-    alloc: Global,
-    fails: usize,
-) -> Result<Connection<Device<'static>, Paper>, AllocError> {
-    let mut paper = Paper::sound(alloc, usize::MAX);
-    paper.fails = fails;
-    paper.kind = ErrorKind::BrokenPipe;
-    let device = Device::sound(b"0000", usize::MAX);
+fn broken_at(alloc: Global, fails: u64) -> Result<Connection<Device<'static>, Paper>, AllocError> {
+    let paper = Paper::failing(alloc, usize::MAX, fails, ErrorKind::BrokenPipe);
+    let device = Device::new(b"0000", usize::MAX);
     connection(alloc, device, paper, Protocol::V2)
 }
 
@@ -89,24 +84,22 @@ fn refuses_steps<T: Transport>(alloc: Global, over: &mut T) -> bool {
 }
 
 // Whether every request and step fails over a connection of which the write with this number fails.
-fn stays_broken(alloc: Global, fails: usize) -> Result<bool, AllocError> {
+fn stays_broken(alloc: Global, fails: u64) -> Result<bool, AllocError> {
     let mut over = broken_at(alloc, fails)?;
     Ok(refuses_requests(&mut over) && refuses_steps(alloc, &mut over))
 }
 
 #[test]
 fn repeats_the_fault_of_a_write(rt: HostRuntime) -> Result<(), Fail> {
-    for fails in 0..5usize {
+    for fails in 0..5u64 {
         assert!(rt; stays_broken(rt.alloc(), fails)?);
     }
     Ok(())
 }
 
 // Whether a request is written whole where a write takes two bytes, and that with this number is interrupted.
-fn writes_whole(alloc: Global, fails: usize) -> Result<bool, Fail> {
-    let mut paper = Paper::sound(alloc, 2);
-    paper.fails = fails;
-    paper.kind = ErrorKind::Interrupted;
+fn writes_whole(alloc: Global, fails: u64) -> Result<bool, Fail> {
+    let paper = Paper::failing(alloc, 2, fails, ErrorKind::Interrupted);
     let mut over = silent(alloc, paper)?;
     over.request(&[Message::Line(b"abc"), Message::Flush])?;
     Ok(over.writer().bytes.as_slice() == b"0008abc\n0000".as_slice())
@@ -114,7 +107,7 @@ fn writes_whole(alloc: Global, fails: usize) -> Result<bool, Fail> {
 
 #[test]
 fn writes_on_where_a_write_comes_short(rt: HostRuntime) -> Result<(), Fail> {
-    for fails in 0..8usize {
+    for fails in 0..8u64 {
         assert!(rt; writes_whole(rt.alloc(), fails)?);
     }
     Ok(())
@@ -130,12 +123,15 @@ fn refuses(alloc: Global, paper: Paper, kind: ErrorKind) -> Result<bool, AllocEr
 fn tells_of_a_writer_that_refuses(rt: HostRuntime) -> Result<(), Fail> {
     let a = rt.alloc();
     assert!(rt;
-        refuses(a, Paper::sound(a, 0), ErrorKind::WriteZero)?,
+        refuses(a, Paper::new(a, 0), ErrorKind::WriteZero)?,
         "a write that takes nothing"
     );
-    let mut paper = Paper::sound(a, usize::MAX);
+    let mut paper = Paper::new(a, usize::MAX);
     paper.flushes = false;
-    assert!(rt; refuses(a, paper, ErrorKind::Other)?, "a flush that fails");
+    assert!(rt;
+        refuses(a, paper, ErrorKind::BrokenPipe)?,
+        "a flush that fails"
+    );
     Ok(())
 }
 

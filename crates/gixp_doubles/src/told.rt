@@ -1,0 +1,173 @@
+//! A progress reporter that writes down what it is told.
+ghost use Rattle.std.specs.Prelude.{◌≡◌, [], false, string_bytes};
+ghost use Rattle.std.specs.Option.{option_map};
+ghost use Rattle.gixp_doubles.specs.Told.{call_of, WritesDown, AddsChild};
+
+use gixp_progress::Discard;
+use gixp_wire::{NestedProgress, Progress};
+use std::alloc::{AllocError, Global};
+
+/// What a progress reporter is told.
+#[derive(Debug, Drop)]
+pub enum Call {
+    /// It begins anew: so many steps of this unit.
+    Init(Option<usize>, &'static str),
+    /// One more step was made.
+    Step,
+    /// So many steps were made.
+    Set(usize),
+    /// What is done now.
+    SetName(String),
+    /// What went wrong.
+    Fail(String),
+}
+
+// A call as a line.
+fn line(alloc: Global, call: &Call) -> Result<String, AllocError> {
+    match call {
+        Call::Init(_, unit) => format!(in alloc; "{unit}\n"),
+        Call::Step => format!(in alloc; "step\n"),
+        Call::Set(step) => format!(in alloc; "{step}\n"),
+        Call::SetName(name) => format!(in alloc; "{name}\n"),
+        Call::Fail(message) => format!(in alloc; "{message}\n"),
+    }
+}
+
+/// Writes down each call, and the ids of its parts, which are told nothing.
+#[derive(Drop)]
+pub struct Told {
+    /// The calls.
+    pub calls: Vec<Call>,
+    /// The ids of the parts that were added.
+    pub children: Vec<[u8; 4]>,
+    /// Whether an allocation failed, so that a call isn't among them.
+    pub is_short: bool,
+    name: Option<String>,
+}
+
+impl Told {
+    /// Nothing was told yet.
+    pub fn new(alloc: Global) -> Told
+        ensures calls { result.calls.items ≡ [] }
+        ensures children { result.children.items ≡ [] }
+        ensures whole { result.is_short ≡ false }
+    {
+        Told {
+            calls: Vec::new(alloc),
+            children: Vec::new(alloc),
+            is_short: false,
+            name: None,
+        }
+    }
+
+    // Adds a call.
+    fn write_down(&mut self, call: Call)
+        ensures written { WritesDown self.old (call_of call) self.new }
+        ensures name { self.new.name ≡ self.old.name }
+    {
+        if self.calls.push(call).is_err() {
+            self.is_short = true;
+        }
+    }
+
+    /// The calls, a line for each: the unit, `step`, the number, the name or the message.
+    ///
+    /// # Errors
+    ///
+    /// An allocation failure, also where one kept a call from being written down.
+    pub fn lines(&self, alloc: Global) -> Result<String, AllocError> {
+        if self.is_short {
+            return Err(AllocError);
+        }
+        let mut text = String::new(alloc);
+        for call in &self.calls {
+            text.push_str(line(alloc, call)?.as_str())?;
+        }
+        Ok(text)
+    }
+}
+
+impl Progress for Told {
+    ghost told = { WritesDown };
+
+    ghost name_of = { λ t. option_map string_bytes t.name };
+
+    fn init(&mut self, max: Option<usize>, unit: &'static str) {
+        self.write_down(Call::Init(max, unit));
+    }
+
+    fn step(&mut self) {
+        self.write_down(Call::Step);
+    }
+
+    fn set(&mut self, step: usize) {
+        self.write_down(Call::Set(step));
+    }
+
+    fn set_name(&mut self, name: String) {
+        match name.clone() {
+            Ok(copy) => self.write_down(Call::SetName(copy)),
+            Err(_) => self.is_short = true,
+        }
+        self.name = Some(name);
+    }
+
+    fn name(&self) -> Option<&str> {
+        match &self.name {
+            Some(name) => Some(name.as_str()),
+            None => None,
+        }
+    }
+
+    fn fail(&mut self, message: String) {
+        self.write_down(Call::Fail(message));
+    }
+}
+
+impl NestedProgress for Told {
+    type SubProgress = Discard;
+
+    ghost adds = { λ old name id child new. AddsChild old id new };
+
+    fn add_child_with_id(&mut self, _name: &str, id: [u8; 4]) -> Result<Discard, AllocError> {
+        self.children.push(id)?;
+        Ok(Discard)
+    }
+}
+
+/// A reporter that is lent: afterwards it says what it was told.
+#[derive(Drop)]
+pub struct Lent<'a> {
+    /// This one.
+    pub told: &'a mut Told,
+}
+
+impl Progress for Lent<'_> {
+    ghost told = { λ old call new. WritesDown old.told.now call new.told.now };
+
+    ghost name_of = { λ t. option_map string_bytes t.told.now.name };
+
+    fn init(&mut self, max: Option<usize>, unit: &'static str) {
+        self.told.init(max, unit);
+    }
+
+    fn step(&mut self) {
+        self.told.step();
+    }
+
+    fn set(&mut self, step: usize) {
+        self.told.set(step);
+    }
+
+    fn set_name(&mut self, name: String) {
+        self.told.set_name(name);
+    }
+
+    fn name(&self) -> Option<&str> {
+        self.told.name()
+    }
+
+    fn fail(&mut self, message: String) {
+        self.told.fail(message);
+    }
+}

@@ -1,0 +1,51 @@
+//! Consumers that stop early, and a writer that takes no pack.
+ghost use Rattle.std.specs.Prelude.{◌≡◌, ℕ, List};
+ghost use Rattle.gixp_sidebands.specs.Bands.{side_reading};
+ghost use Rattle.gixp_fetch.specs.Receive.{ReadsOn};
+
+use gixp_fetch::WithSidebands;
+use gixp_fetch::consume::{ConsumePack, CopyError};
+use gixp_packetline::ExtendedBufRead;
+use gixp_sidebands::Interrupt;
+use gixp_wire::Progress;
+use std::io::{ErrorKind, Read};
+
+/// What a consumer says behind its byte.
+#[derive(Clone, Copy)]
+pub(crate) enum Says {
+    ReadOn,
+    Leave,
+    Refuse,
+}
+
+/// Takes one byte of the pack.
+#[derive(Drop)]
+pub(crate) struct Taste {
+    pub(crate) says: Says,
+    pub(crate) byte: [u8; 1],
+}
+
+impl<P> ConsumePack<P> for Taste {
+    type Error = CopyError;
+
+    ghost consumes = { λ c s p r d t q. (read : List ℕ) × ReadsOn s t read × ((side_reading t).held ≡ (side_reading s).held) };
+
+    #[tactic(auto, using(crate::proofs::Taste::reads_on))]
+    fn consume_pack<T: ExtendedBufRead, Q: Progress + Drop, I: Interrupt>(
+        &mut self,
+        reader: &mut WithSidebands<'_, T, Q, I>,
+        _progress: &mut P,
+    ) -> Result<bool, CopyError> {
+        match reader.read(&mut self.byte) {
+            Ok(_) => {}
+            Err(e) => return Err(CopyError::Read(e.kind())),
+        }
+        match self.says {
+            Says::ReadOn => Ok(true),
+            Says::Leave => Ok(false),
+            Says::Refuse => Err(CopyError::Write(ErrorKind::Other)),
+        }
+    }
+
+    ghost owes = { λ c s p r d t q h. h };
+}

@@ -1,0 +1,22 @@
+//! What becomes of the texts of a server.
+use gixp_doubles::{Lent, Told};
+use gixp_fetch::RemoteText;
+use gixp_sidebands::BandText;
+use std::alloc::{AllocError, Global};
+use std::test::Fail;
+
+// Two texts of a server for a progress reporter.
+fn say_two(alloc: Global, told: &mut Told) -> Result<(), AllocError> {
+    let mut text = RemoteText::new(alloc, Lent { told });
+    text.band_text(false, b"Receiving objects:  42% (21/50)")?;
+    text.band_text(true, b"no access")
+}
+
+#[test]
+fn shows_the_texts_of_a_server(rt: HostRuntime) -> Result<(), Fail> {
+    let mut told = Told::new(rt.alloc());
+    say_two(rt.alloc(), &mut told)?;
+    let want = "Receiving objects\nobjects\n21\nno access\n";
+    assert_eq!(rt; told.lines(rt.alloc())?.as_str(), want);
+    Ok(())
+}

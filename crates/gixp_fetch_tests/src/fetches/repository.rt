@@ -1,0 +1,25 @@
+//! A repository with a ref and without objects, of which one call may fail.
+use crate::negotiations::repository::id;
+use gixp_doubles::Recorder;
+use gixp_memory::{MemoryObjects, MemoryRefs};
+use std::alloc::{AllocError, Global};
+
+/// The objects that are looked up, the refs, and what chooses the haves.
+#[derive(Drop)]
+pub(crate) struct Repository {
+    pub(crate) objects: MemoryObjects,
+    pub(crate) refs: MemoryRefs,
+    pub(crate) recorder: Recorder,
+}
+
+/// A repository of which nothing fails, and that offers so many commits.
+pub(crate) fn sound(alloc: Global, haves: usize) -> Result<Repository, AllocError> {
+    let mut refs = MemoryRefs::new(alloc);
+    refs.targets.push(id(1))?;
+    let haves = vec![in alloc; id(2); haves]?;
+    Ok(Repository {
+        objects: MemoryObjects::new(alloc),
+        refs,
+        recorder: Recorder::new(alloc, haves),
+    })
+}

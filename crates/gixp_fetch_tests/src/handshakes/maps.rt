@@ -1,0 +1,174 @@
+//! Lists of refs over devices that fail, and ref maps with allocations that fail.
+use crate::shown::shown;
+use crate::transports::{connection, memory, opening, text};
+use bstr::{BStr, BString};
+use gixp_doubles::{Device, Paper, Told};
+use gixp_handshake::Handshake;
+use gixp_handshake::handshake::obtain;
+use gixp_packetline::Protocol;
+use gixp_refmap::RefMap;
+use gixp_refmap::fetch::Tags;
+use gixp_refmap::ls_refs::RefPrefixes;
+use gixp_refmap::refmap::init::{Context, Error};
+use gixp_refspec::RefSpec;
+use gixp_refspec::parse::{Operation, parse};
+use gixp_requests::command::{CommandTable, Feature};
+use gixp_wire::Transport;
+use std::alloc::{AllocError, Global};
+use std::io::ErrorKind;
+use std::test::Fail;
+
+// A list of two refs.
+const REFS: &[u8] = b"003d0123456789012345678901234567890123456789 refs/heads/main\n\
+    003cbbbbbbbbbbbbbbbbbbbbbbbbbbbbbbbbbbbbbbbb refs/tags/main\n0000";
+
+fn spec(alloc: Global, line: &[u8]) -> Result<RefSpec, Fail> {
+    let spec = parse(BStr::new(line), Operation::Fetch)?;
+    Ok(spec.to_owned(alloc)?)
+}
+
+// This refspec, and that of all tags.
+fn context(alloc: Global, line: &[u8]) -> Result<Context, Fail> {
+    let mut fetch_refspecs = Vec::new(alloc);
+    fetch_refspecs.push(spec(alloc, line)?)?;
+    let mut extra_refspecs = Vec::new(alloc);
+    if let Some(tags) = Tags::All.to_refspec() {
+        extra_refspecs.push(tags.to_owned(alloc)?)?;
+    }
+    Ok(Context {
+        fetch_refspecs,
+        extra_refspecs,
+    })
+}
+
+fn agent(alloc: Global) -> Result<Feature, AllocError> {
+    Ok(("agent", Some(String::from_str(alloc, "git/x")?)))
+}
+
+// The ref map of a server of version 2.
+fn listed<T: Transport>(
+    alloc: Global,
+    transport: &mut T,
+    context: Context,
+) -> Result<RefMap, Error> {
+    let agent = agent(alloc)?;
+    let mut shaken = Handshake::empty(alloc);
+    let mut progress = Told::new(alloc);
+    obtain(
+        alloc,
+        &mut shaken,
+        &CommandTable::git(),
+        agent,
+        context,
+        &mut progress,
+        transport,
+    )
+}
+
+// What a listing returns whose write of this number fails.
+fn listed_over_broken(alloc: Global, fails: u64) -> Result<String, Fail> {
+    let device = Device::new(REFS, usize::MAX);
+    let paper = Paper::failing(alloc, 16, fails, ErrorKind::BrokenPipe);
+    let context = context(alloc, b"HEAD")?;
+    let opening = opening(alloc)?;
+    let mut transport = connection(alloc, device, paper, Protocol::V2, Some(opening))?;
+    Ok(shown(alloc, listed(alloc, &mut transport, context))?)
+}
+
+#[test]
+fn tells_of_each_write_of_a_request_that_fails(rt: HostRuntime) -> Result<(), Fail> {
+    for fails in 0..6u64 {
+        let said = listed_over_broken(rt.alloc(), fails)?;
+        assert_eq!(rt;
+            said.as_str(),
+            "Err(ListRefs(Transport(Io(BrokenPipe))))",
+            "{fails}"
+        );
+    }
+    Ok(())
+}
+
+fn listed_over_memory(alloc: Global, context: Context) -> Result<RefMap, Error> {
+    listed(alloc, &mut memory(alloc, &[REFS])?, context)
+}
+
+// How many mappings and refs a copy has, and whether it lacks a mapping.
+fn counts(map: &RefMap) -> Result<(usize, usize, bool), AllocError> {
+    let copy = map.clone()?;
+    let is_missing = copy.is_missing_required_mapping();
+    Ok((copy.mappings.len(), copy.remote_refs.len(), is_missing))
+}
+
+#[test]
+fn lists_and_maps(rt: HostRuntime) -> Result<(), Fail> {
+    let context = context(rt.alloc(), b"refs/heads/*:refs/remotes/o/*")?;
+    let map = listed_over_memory(rt.alloc(), context)?;
+    assert_eq!(rt; counts(&map)?, (2, 2, false));
+    Ok(())
+}
+
+fn count_issues(listed: Result<RefMap, Error>) -> Result<usize, Fail> {
+    match listed {
+        Err(Error::MappingValidation(e)) => Ok(e.issues.len()),
+        Err(e) => Err(e.into()),
+        Ok(_) => Err("a map".into()),
+    }
+}
+
+#[test]
+fn tells_of_a_conflict(rt: HostRuntime) -> Result<(), Fail> {
+    let context = context(rt.alloc(), b"main:refs/x")?;
+    let issues = count_issues(listed_over_memory(rt.alloc(), context))?;
+    assert_eq!(rt; issues, 1);
+    Ok(())
+}
+
+// Three prefixes, one of them twice.
+fn names(alloc: Global) -> Result<Vec<BString>, AllocError> {
+    let mut names = Vec::new(alloc);
+    for name in [b"HEAD".as_slice(), b"main", b"HEAD", b"refs/tags"] {
+        names.push(text(alloc, name)?)?;
+    }
+    Ok(names)
+}
+
+// What an extension leaves, and whether an allocation failed in it.
+fn extended(alloc: Global) -> Result<(String, Result<(), AllocError>), AllocError> {
+    let names = names(alloc)?;
+    let mut prefixes = RefPrefixes::new(alloc);
+    let added = prefixes.extend(names);
+    Ok((shown(alloc, prefixes)?, added))
+}
+
+const FRONTS: [&str; 4] = [
+    "[]",
+    "[\"HEAD\"]",
+    "[\"HEAD\", \"main\"]",
+    "[\"HEAD\", \"main\", \"refs/tags\"]",
+];
+
+fn is_front(said: &str) -> bool {
+    FRONTS.iter().any(|front| *front == said)
+}
+
+#[test]
+fn keeps_the_prefixes_in_front(rt: HostRuntime) -> Result<(), Fail> {
+    let (said, added) = extended(rt.alloc())?;
+    assert!(rt; is_front(said.as_str()));
+    added?;
+    assert_eq!(rt; said.as_str(), FRONTS[3]);
+    Ok(())
+}
+
+fn count_arguments(alloc: Global) -> Result<usize, AllocError> {
+    let names = names(alloc)?;
+    let mut prefixes = RefPrefixes::new(alloc);
+    prefixes.extend(names)?;
+    Ok(prefixes.into_args(alloc)?.len())
+}
+
+#[test]
+fn makes_an_argument_of_each_prefix(rt: HostRuntime) -> Result<(), Fail> {
+    assert_eq!(rt; count_arguments(rt.alloc())?, 3);
+    Ok(())
+}

@@ -1,0 +1,55 @@
+//! A small repository in memory.
+use bstr::BString;
+use gixp_graph::CommitData;
+use gixp_hash::ObjectId;
+use gixp_memory::MemoryObjects;
+use gixp_negotiate::negotiate::Error;
+use gixp_refmap::refmap::{Mapping, RefMap, Source, SpecIndex};
+use gixp_refs::handshake::Ref;
+use std::alloc::{AllocError, Global};
+
+/// An id for each number.
+pub(crate) fn id(number: u8) -> ObjectId {
+    ObjectId {
+        bytes: [number; 20],
+    }
+}
+
+/// The commits 1 to 4, each with the next one as its parent, the newest first.
+pub(crate) fn chain(alloc: Global) -> Result<MemoryObjects, AllocError> {
+    let mut objects = MemoryObjects::new(alloc);
+    for number in 1..5u8 {
+        let mut parents = Vec::new(alloc);
+        if number < 4 {
+            parents.push(id(number + 1))?;
+        }
+        let time = 10 - i64::from(number);
+        objects.add_commit(id(number), CommitData { time, parents })?;
+    }
+    Ok(objects)
+}
+
+/// Refs of the server that lead to these commits.
+pub(crate) fn ref_map(alloc: Global, numbers: &[u8]) -> Result<RefMap, AllocError> {
+    let mut map = RefMap::empty(alloc);
+    for number in numbers {
+        let found = Ref::Direct {
+            full_ref_name: BString::from_slice(alloc, b"refs/heads/main")?,
+            object: id(*number),
+        };
+        map.mappings.push(Mapping {
+            remote: Source::Ref(found),
+            local: None,
+            spec_index: SpecIndex::ExplicitInRemote(0),
+        })?;
+    }
+    Ok(map)
+}
+
+/// Tells of an allocation that failed in a call.
+pub(crate) fn had_memory<T, E>(answer: &Result<T, Error<E>>) -> Result<(), AllocError> {
+    match answer {
+        Err(Error::Memory) => Err(AllocError),
+        _ => Ok(()),
+    }
+}
