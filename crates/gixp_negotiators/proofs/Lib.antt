@@ -1,0 +1,5 @@
+pub mod FitLemmas
+pub mod GrowLemmas
+pub mod LookLemmas
+pub mod OweLemmas
+pub mod StepLemmas

@@ -1,0 +1,77 @@
+-- Steps of a negotiator.
+use Rattle.std.proofs.Common.{◌≡◌, ℕ, ◌+◌, ◌≤◌, ◌<◌, ◌∙◌, Bool, true, false, List, length, take, get_or, refl, sym, ap, subst, arith, true≢false, Result, Ok, Err}
+use Rattle.std.proofs.lemmas.List.Elements.{All-more, All-weaker}
+use Rattle.std.specs.Result.{OnErr}
+use Rattle.std.specs.Prelude.{IsSome, All}
+use Rattle.std.specs.FinMap as finite
+use Rattle.gixp_hash.specs.declared.object_id.ObjectId.{ObjectId}
+use Rattle.gixp_graph.specs.declared.flags.Flags.{Flags}
+use Rattle.gixp_graph.specs.Object.{commit_at}
+use Rattle.gixp_graph.specs.GraphData.{GraphData, parents_in}
+use Rattle.gixp_negotiators.specs.Marks.{has_all, has_mark, left, Grows, SeesNone, IsMarkedIfThere, IsFoundWith, Claims, IsOffered}
+use Rattle.gixp_negotiators.specs.MarkLaws.{grows_left, claimed_left}
+use Rattle.gixp_negotiators.proofs.GrowLemmas.{grows_on}
+
+-- what lacks a mark after lacked it before
+lacked : (a b : Bool) → (a ≡ true → b ≡ true) → b ≡ false → a ≡ false
+lacked true b k e = absurd (true≢false (sym (k refl) ∙ e))
+lacked false b k e = refl
+
+-- a mark that was lacked is added
+pub claims : (mark : ℕ) (g h k : GraphData) (id : ObjectId) (flags : Flags) → Grows g h → Grows h k → IsFoundWith h id flags → SeesNone g h → has_all mark flags.0 ≡ false → has_mark mark k.held id ≡ true → Claims mark g k id flags
+claims mark g h k id flags v w f sees lacks has =
+    let read : IsSome (commit_at g.objects id) = subst (λ o. IsSome (commit_at o id)) v.objects f.read in
+    let before : has_mark mark g.held id ≡ false = lacked (has_mark mark g.held id) (has_mark mark h.held id) (v.marks mark id) (f.marks mark ∙ lacks) in
+    record {
+      read = read;
+      held = w.held id f.held;
+      before = before;
+      after = has;
+      less = claimed_left mark g k (grows_on g h k v w) id read before has;
+      lacks = λ b e. lacked (has_mark b g.held id) (has_mark b h.held id) (v.marks b id) (f.marks b ∙ e);
+      had = λ b e. w.marks b id (f.marks b ∙ e);
+      seen = λ e. sees id (f.marks 8 ∙ e);
+    }
+
+-- a commit that was taken is offered, also after further steps
+pub offered : (g h k : GraphData) (id : ObjectId) (flags : Flags) → Claims 16 g h id flags → has_all 2 flags.0 ≡ false → Grows h k → All (IsMarkedIfThere 8 g k) (parents_in k.held id) → IsOffered g k id
+offered g h k id flags c lacks w parents = record {
+  read = c.read;
+  held = w.held id c.held;
+  uncommon = c.lacks 2 lacks;
+  before = c.before;
+  after = w.marks 16 id c.after;
+  less = omega (arith, c.less, grows_left 16 h k w);
+  parents = parents;
+}
+
+-- it is so from before earlier steps
+pub offered_since : (g h k : GraphData) (id : ObjectId) → Grows g h → IsOffered h k id → IsOffered g k id
+offered_since g h k id v o = record {
+  read = subst (λ m. IsSome (commit_at m id)) v.objects o.read;
+  held = o.held;
+  uncommon = lacked (has_mark 2 g.held id) (has_mark 2 h.held id) (v.marks 2 id) o.uncommon;
+  before = lacked (has_mark 16 g.held id) (has_mark 16 h.held id) (v.marks 16 id) o.before;
+  after = o.after;
+  less = omega (arith, o.less, grows_left 16 g h v);
+  parents = subst (λ m. All (λ q. IsSome (commit_at m q) → has_mark 8 k.held q ≡ true) (parents_in k.held id)) v.objects o.parents;
+}
+
+-- what holds anyway holds where it was refused
+pub any_err : {A E : Type 0} {P : Type 0} → (r : Result A E) → P → OnErr r P
+any_err (Ok a) p = tt
+any_err (Err e) p = p
+
+-- ---- parents that were seen
+
+-- one more of some that were seen
+pub marked_more : (g h k : GraphData) (xs : List ObjectId) (i : ℕ) (d : ObjectId) → i < length xs → Grows g h → Grows h k → All (IsMarkedIfThere 8 g h) (take i xs) → IsMarkedIfThere 8 h k (get_or xs i d) → All (IsMarkedIfThere 8 g k) (take (i + 1) xs)
+marked_more g h k xs i d lt v w all one = All-more (IsMarkedIfThere 8 g k) xs i d lt
+    (All-weaker (IsMarkedIfThere 8 g h) (IsMarkedIfThere 8 g k) (λ q m s. w.marks 8 q (m s)) (take i xs) all)
+    (λ s. one (subst (λ o. IsSome (commit_at o (get_or xs i d))) (sym v.objects) s))
+
+-- those of a commit
+pub parents_marked : (g h k : GraphData) (id : ObjectId) (xs : List ObjectId) → Grows g h → Grows h k → IsSome (finite.get h.held id) → xs ≡ parents_in h.held id → All (IsMarkedIfThere 8 h k) xs → All (IsMarkedIfThere 8 g k) (parents_in k.held id)
+parents_marked g h k id xs v w held is all =
+    subst (All (IsMarkedIfThere 8 g k)) (is ∙ sym (w.parents id held))
+    (All-weaker (IsMarkedIfThere 8 h k) (IsMarkedIfThere 8 g k) (λ q m s. m (subst (λ o. IsSome (commit_at o q)) (sym v.objects) s)) xs all)

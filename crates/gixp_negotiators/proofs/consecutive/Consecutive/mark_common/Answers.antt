@@ -1,0 +1,18 @@
+-- A commit and its ancestors are marked.
+use Rattle.std.proofs.Common.{◌≡◌, ◌∙◌, arith, subst, sym}
+use Rattle.std.specs.Prelude.{IsSome}
+use Rattle.gixp_negotiators.proofs.GrowLemmas.{grows_on}
+use Rattle.gixp_negotiators.proofs.FitLemmas.{timed_on}
+use Rattle.gixp_negotiators.proofs.consecutive.Consecutive.mark_common.Goals as goal
+
+pub returns-in_err-spread_all-clause-grows : goal.returns-in_err-spread_all-clause-grows
+returns-in_err-spread_all-clause-grows g c = grows_on _ _ _ c.settle.ensures.grows c.spread_all.ensures.grows
+
+pub returns-clause-grows : goal.returns-clause-grows
+returns-clause-grows g c = grows_on _ _ _ c.settle.ensures.grows c.spread_all.ensures.grows
+
+pub returns-clause-keeps : goal.returns-clause-keeps
+returns-clause-keeps g c = timed_on _ _ _ _ _ _ _ _ _ c.settle.ensures.grows c.in_ok-settle.ensures.keeps c.in_ok-spread_all.ensures.keeps
+
+pub returns-clause-common : goal.returns-clause-common
+returns-clause-common g c s = c.spread_all.ensures.grows.marks 2 c.args.id.now (c.in_ok-settle.ensures.marked s)

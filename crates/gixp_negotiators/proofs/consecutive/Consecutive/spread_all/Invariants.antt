@@ -1,0 +1,19 @@
+-- What the loop keeps.
+use Rattle.std.proofs.Common.{◌≡◌, ◌+◌, ◌≤◌, length, take}
+use Rattle.std.specs.Prelude.{All}
+use Rattle.std.specs.BinaryHeap.{heap_len, heap_items}
+use Rattle.gixp_negotiators.specs.Marks.{Grows, IsMarkedIfThere, left}
+use Rattle.gixp_negotiators.specs.Waiting.{KeepsTimed}
+use Rattle.gixp_negotiators.proofs.consecutive.Consecutive.spread_all.Given as goal
+
+abbrev pub invariant-loop-next : goal.invariant-loop-next
+invariant-loop-next g l = record {
+  keeps : KeepsTimed l.fn.self.uncommon (heap_items l.fn.self.queue.waiting) l.fn.graph.graph l.self.uncommon (heap_items l.self.queue.waiting) l.graph.graph;
+  room : left 8 l.graph.graph + heap_len l.self.queue.waiting ≤ left 8 l.fn.graph.graph + heap_len l.fn.self.queue.waiting;
+  grows : Grows l.fn.graph.graph l.graph.graph;
+  failures : l.fn.graph.failures ≤ l.graph.failures;
+}
+
+-- the commits that aren't common, and those that wait for their parents to be so
+abbrev pub decreases-loop-next : goal.decreases-loop-next
+decreases-loop-next g l = left 2 l.graph.graph + length l.due.items

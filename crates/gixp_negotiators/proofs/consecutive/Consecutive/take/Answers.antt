@@ -1,0 +1,26 @@
+-- A commit is taken.
+use Rattle.std.proofs.Common.{◌≡◌, ◌∙◌, ◌+◌, ◌≤◌, sym, refl, false, arith}
+use Rattle.gixp_negotiators.specs.Marks.{Claims, has_all}
+use Rattle.gixp_negotiators.specs.MarkLaws.{not_true}
+use Rattle.gixp_negotiators.specs.Waiting.{open_one}
+use Rattle.gixp_negotiators.proofs.StepLemmas.{offered, parents_marked}
+use Rattle.gixp_negotiators.proofs.FitLemmas.{timed_on, timed_taken, released}
+use Rattle.gixp_negotiators.proofs.consecutive.Consecutive.take.Goals as goal
+
+pub returns-in_default-clause-keeps : goal.returns-in_default-clause-keeps
+returns-in_default-clause-keeps g c = timed_taken _ _ _ _ _ c.args.first.now c.claim.ensures.grows (rw c.in_default.is at c.in_ok-flags.ensures.absent).0 (rw c.in_default.is at c.in_ok-flags.ensures.absent).1 (omega arith)
+
+pub returns-clause-keeps : goal.returns-clause-keeps
+returns-clause-keeps g c =
+    let k : Claims 16 c.args.graph.now.graph c.claim.new.graph.graph c.args.first.now.id c.in-Some.flags = rw c.in-Some.is at c.in_ok-flags.ensures.claimed in
+    let le : c.args.self.now.uncommon ≤ c.release.new.self.uncommon + open_one c.args.graph.now.graph.held c.args.first.now.id =
+    released _ _ _ _ c.has-is_common.result (λ e. k.lacks 2 (sym c.has-is_common.ensures ∙ e)) c.release.ensures.common c.release.ensures.open
+    in
+    timed_on _ _ _ _ _ _ _ _ _ c.claim.ensures.grows (timed_taken _ _ _ _ _ c.args.first.now c.claim.ensures.grows (c.claim.ensures.sees refl) (λ s. k.after) le) (rw c.release.ensures.queue at c.in_ok-follow_all.ensures.keeps)
+
+pub returns-clause-offered : goal.returns-clause-offered
+returns-clause-offered g c t =
+    let k : Claims 16 c.args.graph.now.graph c.claim.new.graph.graph c.args.first.now.id c.in-Some.flags = rw c.in-Some.is at c.in_ok-flags.ensures.claimed in
+    let lacks : has_all 2 c.in-Some.flags.0 ≡ false = sym c.has-is_common.ensures ∙ not_true c.has-is_common.result t in
+    offered c.args.graph.now.graph c.claim.new.graph.graph c.follow_all.new.graph.graph c.args.first.now.id c.in-Some.flags k lacks c.follow_all.ensures.grows
+    (parents_marked c.args.graph.now.graph c.claim.new.graph.graph c.follow_all.new.graph.graph c.args.first.now.id c.deref.result.now c.claim.ensures.grows c.follow_all.ensures.grows k.held (c.deref.ensures.value ∙ c.in_ok-parents.ensures.parents) c.in_ok-follow_all.ensures.waits)

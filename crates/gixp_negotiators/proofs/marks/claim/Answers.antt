@@ -1,0 +1,12 @@
+-- A mark is given.
+use Rattle.std.proofs.Common.{◌≡◌, ◌∙◌, sym, ap, true}
+use Rattle.gixp_negotiators.specs.Marks.{IsFoundWith, has_mark}
+use Rattle.gixp_negotiators.proofs.GrowLemmas.{has_part}
+use Rattle.gixp_negotiators.proofs.StepLemmas.{claims}
+use Rattle.gixp_negotiators.proofs.marks.claim.Goals as goal
+
+pub returns-clause-claimed : goal.returns-clause-claimed
+returns-clause-claimed g c =
+    let f : IsFoundWith c.look.new.graph.graph c.args.id.now c.in-Some.flags = rw c.in-Some.is at c.in_ok-time.ensures.found in
+    claims c.args.mark.0 c.args.graph.now.graph c.look.new.graph.graph c.add.new.graph.graph c.args.id.now c.in-Some.flags c.look.ensures.grows c.add.ensures.grows f c.look.ensures.sees (sym c.has.ensures ∙ c.if-has.false)
+    (has_part c.args.marks.0 c.args.mark.0 c.add.new.graph.graph.held c.args.id.now c.requires.first (c.add.ensures.marked f.held))

@@ -1,0 +1,20 @@
+-- What the loop keeps.
+use Rattle.std.proofs.Common.{◌≡◌, ◌+◌, ◌≤◌, length, true}
+use Rattle.std.specs.BinaryHeap.{heap_items}
+use Rattle.gixp_negotiators.specs.Marks.{Grows, has_mark, left}
+use Rattle.gixp_negotiators.specs.Waiting.{Fits, FitsOwing}
+use Rattle.gixp_negotiators.proofs.skipping.Skipping.mark_common.Given as goal
+
+abbrev pub invariant-loop-next : goal.invariant-loop-next
+invariant-loop-next g l = record {
+  fits : Fits l.fn.self.uncommon (heap_items l.fn.self.queue.waiting) l.fn.graph.graph → FitsOwing l.self.uncommon (heap_items l.fn.self.queue.waiting) l.graph.graph l.due.items;
+  common : has_mark 8 l.fn.graph.graph.held l.fn.id ≡ true → has_mark 2 l.graph.graph.held l.fn.id ≡ true;
+  seen : left 8 l.graph.graph ≤ left 8 l.fn.graph.graph;
+  queue : l.self.queue ≡ l.fn.self.queue;
+  grows : Grows l.fn.graph.graph l.graph.graph;
+  failures : l.fn.graph.failures ≤ l.graph.failures;
+}
+
+-- the commits that aren't common, and those that wait for their parents to be so
+abbrev pub decreases-loop-next : goal.decreases-loop-next
+decreases-loop-next g l = left 2 l.graph.graph + length l.due.items

@@ -1,0 +1,33 @@
+-- The next is found.
+use Rattle.std.proofs.Common.{◌≡◌, ◌∙◌, ⊎_elim, arith, subst}
+use Rattle.std.specs.BinaryHeap.{heap_items}
+use Rattle.gixp_negotiators.specs.Waiting.{Fits}
+use Rattle.gixp_negotiators.proofs.GrowLemmas.{grows_none, grows_on}
+use Rattle.gixp_negotiators.proofs.StepLemmas.{offered_since}
+use Rattle.gixp_negotiators.proofs.FitLemmas.{fits_popped, none_open, none_waits}
+use Rattle.gixp_negotiators.proofs.skipping.Skipping.next.Goals as goal
+
+pub loop-first-init : goal.loop-first-init
+loop-first-init g c = record { fits = λ f. f; grows = grows_none _; failures = omega arith }
+
+pub loop-first-preserved : goal.loop-first-preserved
+loop-first-preserved g c = record {
+  fits = λ f. (rw c.pop.ensures.uncommon at c.in_ok-take.ensures.fits) (fits_popped _ _ _ _ c.in-Some.first c.in-Some.ensures.taken (c.loop-first.invariant.fits f));
+  grows = grows_on _ _ _ c.loop-first.invariant.grows c.take.ensures.grows;
+  failures = omega (arith, c.loop-first.invariant.failures, c.take.ensures.failures);
+}
+
+pub returns-then-branch-clause-offered : goal.returns-then-branch-clause-offered
+returns-then-branch-clause-offered g c = offered_since c.args.graph.now.graph c.loop-first.graph.graph c.take.new.graph.graph c.in-Some.first.id c.loop-first.invariant.grows (c.in_ok-take.ensures.offered c.if-branch.true)
+
+pub returns-then-branch-clause-fits : goal.returns-then-branch-clause-fits
+returns-then-branch-clause-fits g c f = (rw c.pop.ensures.uncommon at c.in_ok-take.ensures.fits) (fits_popped _ _ _ _ c.in-Some.first c.in-Some.ensures.taken (c.loop-first.invariant.fits f))
+
+pub returns-clause-none : goal.returns-clause-none
+returns-clause-none g c f = ⊎_elim
+    (λ e. none_open (heap_items c.loop-first.self.queue.waiting) c.loop-first.graph.graph (subst (λ u. Fits u (heap_items c.loop-first.self.queue.waiting) c.loop-first.graph.graph) e (c.loop-first.invariant.fits f)))
+    (λ e. none_waits _ _ _ e (c.loop-first.invariant.fits f))
+    (rw c.in_default.is at c.pop.ensures.none)
+
+pub returns-clause-fits : goal.returns-clause-fits
+returns-clause-fits g c f = rw (c.pop.ensures.uncommon, rw c.in_default.is at c.pop.ensures.stays) (c.loop-first.invariant.fits f)

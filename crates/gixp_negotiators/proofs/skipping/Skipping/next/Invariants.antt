@@ -1,0 +1,17 @@
+-- What the loop keeps.
+use Rattle.std.proofs.Common.{◌+◌, ◌≤◌}
+use Rattle.std.specs.BinaryHeap.{heap_len, heap_items}
+use Rattle.gixp_negotiators.specs.Marks.{Grows, left}
+use Rattle.gixp_negotiators.specs.Waiting.{Fits}
+use Rattle.gixp_negotiators.proofs.skipping.Skipping.next.Given as goal
+
+abbrev pub invariant-loop-first : goal.invariant-loop-first
+invariant-loop-first g l = record {
+  fits : Fits l.fn.self.uncommon (heap_items l.fn.self.queue.waiting) l.fn.graph.graph → Fits l.self.uncommon (heap_items l.self.queue.waiting) l.graph.graph;
+  grows : Grows l.fn.graph.graph l.graph.graph;
+  failures : l.fn.graph.failures ≤ l.graph.failures;
+}
+
+-- the objects that weren't seen, and the commits that wait
+abbrev pub decreases-loop-first : goal.decreases-loop-first
+decreases-loop-first g l = left 8 l.graph.graph + heap_len l.self.queue.waiting

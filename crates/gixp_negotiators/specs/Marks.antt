@@ -1,0 +1,76 @@
+-- What a negotiator does to the marks of a graph.
+use Rattle.std.specs.Prelude.{◌≡◌, ◌+◌, ◌≤◌, ◌==◌, ◌||◌, ℕ, Bool, true, false, not, All, Option, Some, None, IsSome, bit_and}
+use Rattle.std.specs.Option.{option_map_or}
+use Rattle.std.specs.FinMap as finite
+use Rattle.std.specs.Ordering.{eq_by_cmp}
+use Rattle.gixp_hash.specs.declared.object_id.ObjectId.{ObjectId}
+use Rattle.gixp_hash.specs.ObjectId.{id_cmp}
+use Rattle.gixp_graph.specs.declared.flags.Flags.{Flags}
+use Rattle.gixp_graph.specs.Object.{commit_at}
+use Rattle.gixp_graph.specs.GraphData.{HeldCommit, Commits, GraphData, is_marked, parents_in}
+use Rattle.gixp_graph.specs.Walk.{count}
+
+-- whether some marks have all of others
+abbrev pub has_all : ℕ → ℕ → Bool
+has_all marks flags = bit_and flags marks == marks
+
+-- whether a commit is held and has these marks
+abbrev pub has_mark : ℕ → Commits → ObjectId → Bool
+has_mark marks m id = option_map_or (λ (h : HeldCommit). has_all marks h.flags.0) (finite.get m id) false
+
+-- how many objects there are that aren't commits with these marks
+unfoldable pub left : ℕ → GraphData → ℕ
+left marks g = count (λ q. not (has_mark marks g.held q)) (finite.keys g.objects)
+
+-- marks are only added, and COMPLETE isn't touched
+pub record Grows (g h : GraphData) : Type 0 where
+  pub objects : h.objects ≡ g.objects
+  pub held : (id : ObjectId) → IsSome (finite.get g.held id) → IsSome (finite.get h.held id)
+  pub marks : (marks : ℕ) (id : ObjectId) → has_mark marks g.held id ≡ true → has_mark marks h.held id ≡ true
+  pub complete : (id : ObjectId) → is_marked h.held id ≡ is_marked g.held id
+  pub parents : (id : ObjectId) → IsSome (finite.get g.held id) → parents_in h.held id ≡ parents_in g.held id
+
+-- no commit is seen that wasn't
+abbrev pub SeesNone : GraphData → GraphData → Type 0
+SeesNone g h = (id : ObjectId) → has_mark 8 h.held id ≡ true → has_mark 8 g.held id ≡ true
+
+-- but for this one
+abbrev pub SeesOnly : ObjectId → GraphData → GraphData → Type 0
+SeesOnly one g h = (id : ObjectId) → has_mark 8 h.held id ≡ true → (has_mark 8 g.held id || eq_by_cmp id_cmp id one) ≡ true
+
+-- a commit is there and held, and has these marks
+pub record IsFoundWith (g : GraphData) (id : ObjectId) (flags : Flags) : Type 0 where
+  pub read : IsSome (commit_at g.objects id)
+  pub held : IsSome (finite.get g.held id)
+  pub marks : (marks : ℕ) → has_mark marks g.held id ≡ has_all marks flags.0
+
+-- a commit that is there was without a mark, and now has it. Of its marks before, those that are listed
+pub record Claims (mark : ℕ) (g h : GraphData) (id : ObjectId) (flags : Flags) : Type 0 where
+  pub read : IsSome (commit_at g.objects id)
+  pub held : IsSome (finite.get h.held id)
+  pub before : has_mark mark g.held id ≡ false
+  pub after : has_mark mark h.held id ≡ true
+  pub less : left mark h + 1 ≤ left mark g
+  pub lacks : (marks : ℕ) → has_all marks flags.0 ≡ false → has_mark marks g.held id ≡ false
+  pub had : (marks : ℕ) → has_all marks flags.0 ≡ true → has_mark marks h.held id ≡ true
+  pub seen : has_all 8 flags.0 ≡ true → has_mark 8 g.held id ≡ true
+
+-- a commit that is there has a mark
+abbrev pub IsMarkedIfThere : ℕ → GraphData → GraphData → ObjectId → Type 0
+IsMarkedIfThere marks g h id = IsSome (commit_at g.objects id) → has_mark marks h.held id ≡ true
+
+-- a commit is offered: it is there, wasn't common, and was never offered before; it is held, and won't be offered again; its parents
+-- that are there were seen
+pub record IsOffered (g h : GraphData) (id : ObjectId) : Type 0 where
+  pub read : IsSome (commit_at g.objects id)
+  pub held : IsSome (finite.get h.held id)
+  pub uncommon : has_mark 2 g.held id ≡ false
+  pub before : has_mark 16 g.held id ≡ false
+  pub after : has_mark 16 h.held id ≡ true
+  pub less : left 16 h + 1 ≤ left 16 g
+  pub parents : All (IsMarkedIfThere 8 g h) (parents_in h.held id)
+
+-- an offer, or none
+abbrev pub Offers : GraphData → Option ObjectId → GraphData → Type 0
+Offers g None h = Unit {0}
+Offers g (Some id) h = IsOffered g h id

@@ -1,0 +1,136 @@
+//! A negotiator by its name.
+ghost use Rattle.std.specs.Prelude.{IfSome, IfNone};
+ghost use Rattle.gixp_negotiators.specs.Algorithm.{IsNameOf};
+
+use crate::consecutive::Consecutive;
+use crate::noop::Noop;
+use crate::skipping::Skipping;
+use gixp_graph::{Graph, Negotiator, NegotiatorError, Objects};
+use gixp_hash::ObjectId;
+use std::alloc::Global;
+
+/// How a fetch finds out what both sides have: the value of git's `fetch.negotiationAlgorithm`
+/// (git-config, "fetch.negotiationAlgorithm").
+#[derive(Clone, Copy, Debug, PartialEq, Eq)]
+pub enum Algorithm {
+    /// Offers nothing (`noop`): a pack of all that is asked for comes.
+    Noop,
+    /// Offers one commit after another, the newest first (`consecutive`, and `default`).
+    Consecutive,
+    /// Offers commits at growing distances (`skipping`): fewer haves, and maybe a larger pack.
+    Skipping,
+}
+
+impl Algorithm {
+    /// The algorithm of a name: `noop`, `consecutive`, `skipping`, or `default` for `consecutive`, in letters of
+    /// either case. None where it is another one, which git refuses.
+    pub fn from_name(name: &str) -> Option<Algorithm>
+        ensures named { IfSome result (λ algorithm. IsNameOf algorithm name.now) }
+        ensures none { IfNone result ((algorithm : Algorithm) → IsNameOf algorithm name.now → ⊥) }
+    {
+        if name.eq_ignore_ascii_case("noop") {
+            return Some(Algorithm::Noop);
+        }
+        if name.eq_ignore_ascii_case("consecutive") {
+            return Some(Algorithm::Consecutive);
+        }
+        if name.eq_ignore_ascii_case("default") {
+            return Some(Algorithm::Consecutive);
+        }
+        if name.eq_ignore_ascii_case("skipping") {
+            return Some(Algorithm::Skipping);
+        }
+        None
+    }
+
+    /// A negotiator of this kind that knows no commit yet. It is for one negotiation, over a graph of its own.
+    pub fn negotiator(self, alloc: Global) -> AnyNegotiator {
+        match self {
+            Algorithm::Noop => AnyNegotiator::Noop(Noop),
+            Algorithm::Consecutive => AnyNegotiator::Consecutive(Consecutive::new(alloc)),
+            Algorithm::Skipping => AnyNegotiator::Skipping(Skipping::new(alloc)),
+        }
+    }
+}
+
+/// A negotiator of one of git's kinds, where the kind is known only when it runs.
+#[derive(Drop)]
+pub enum AnyNegotiator {
+    /// Offers nothing.
+    Noop(Noop),
+    /// Offers one commit after another.
+    Consecutive(Consecutive),
+    /// Offers commits at growing distances.
+    Skipping(Skipping),
+}
+
+impl Negotiator for AnyNegotiator {
+    ghost use Rattle.gixp_negotiators.specs.Marks.{Grows, Offers, left};
+    ghost use Rattle.gixp_negotiators.specs.MarkLaws.{offer_lowers, grows_left};
+    ghost use Rattle.gixp_negotiators.specs.Algorithm.{Learns};
+
+    ghost count = { λ n g. left 16 g };
+
+    ghost failures = { λ n. 0 };
+
+    ghost knows = { λ n g id m h. Grows g h };
+
+    ghost adds = { λ n g id m h. Grows g h };
+
+    ghost learns = { λ n g id m h. Grows g h × Learns n g id h };
+
+    ghost offers = { λ n g have m h. Grows g h × Offers g have h };
+
+    fn known_common<O: Objects>(
+        &mut self,
+        id: ObjectId,
+        graph: &mut Graph<O>,
+    ) -> Result<(), NegotiatorError> {
+        match self {
+            AnyNegotiator::Noop(_) => Ok(()),
+            AnyNegotiator::Consecutive(it) => it.known_common(id, graph),
+            AnyNegotiator::Skipping(it) => it.known_common(id, graph),
+        }
+    }
+
+    fn add_tip<O: Objects>(
+        &mut self,
+        id: ObjectId,
+        graph: &mut Graph<O>,
+    ) -> Result<(), NegotiatorError> {
+        match self {
+            AnyNegotiator::Noop(_) => Ok(()),
+            AnyNegotiator::Consecutive(it) => it.add_tip(id, graph),
+            AnyNegotiator::Skipping(it) => it.add_tip(id, graph),
+        }
+    }
+
+    fn in_common_with_remote<O: Objects>(
+        &mut self,
+        id: ObjectId,
+        graph: &mut Graph<O>,
+    ) -> Result<(), NegotiatorError> {
+        match self {
+            AnyNegotiator::Noop(_) => Ok(()),
+            AnyNegotiator::Consecutive(it) => it.in_common_with_remote(id, graph),
+            AnyNegotiator::Skipping(it) => it.in_common_with_remote(id, graph),
+        }
+    }
+
+    fn next_have<O: Objects>(
+        &mut self,
+        graph: &mut Graph<O>,
+    ) -> Option<Result<ObjectId, NegotiatorError>> {
+        match self {
+            AnyNegotiator::Noop(_) => None,
+            AnyNegotiator::Consecutive(it) => it.next_have(graph),
+            AnyNegotiator::Skipping(it) => it.next_have(graph),
+        }
+    }
+
+    ghost offer_lowers = { λ n g id m h r. offer_lowers g h id r.1 };
+
+    ghost none_keeps = { λ n g m h r. grows_left 16 g h r.0 };
+
+    ghost learning_keeps = { λ n g id m h r. grows_left 16 g h r.0 };
+}

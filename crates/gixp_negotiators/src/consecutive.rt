@@ -1,0 +1,471 @@
+//! Offers each commit that isn't known to be common, the newest first.
+ghost use Rattle.std.specs.Prelude.{◌≡◌, ◌≤◌, ◌+◌, ◌⊎◌, ◌∷◌, [], IfOk, IfErr, IfSome, IfNone, OnOk, OnSome, IsTrue, All, length, true, false};
+ghost use Rattle.std.specs.BinaryHeap.{heap_len, heap_items};
+ghost use Rattle.std.specs.List.Sorted.{IsPermutation};
+ghost use Rattle.gixp_graph.specs.GraphData.{parents_in};
+ghost use Rattle.gixp_graph.specs.Negotiation.{IsRefusal};
+ghost use Rattle.gixp_negotiators.specs.Marks.{Grows, SeesNone, IsOffered, IsMarkedIfThere, has_mark, has_all, left};
+ghost use Rattle.gixp_negotiators.specs.Waiting.{Fits, KeepsTimed, AllCommon, AllTimed, NoneNewer, IsNewest, IsNewestAt, Picks};
+
+use crate::marks::{claim, either_has, has, look};
+use crate::queue::{Queue, Waiting};
+use gixp_graph::{Flags, Graph, Negotiator, NegotiatorError, Objects};
+use gixp_hash::ObjectId;
+use std::alloc::Global;
+
+/// Offers each commit that isn't known to be common, the newest first (`consecutive` of git's
+/// `fetch.negotiationAlgorithm`).
+///
+/// A commit that is found waits once, under its own time. One that is taken is offered unless it is
+/// marked as common, and its parents wait from then on. Parents of a common commit are common. It ends
+/// where all that waits is common.
+///
+/// Marks of the graph say what was seen, taken and found common: a graph is for one negotiation.
+#[derive(Drop)]
+pub struct Consecutive {
+    alloc: Global,
+    queue: Queue,
+    // How many wait that aren't common.
+    uncommon: usize,
+}
+
+impl Consecutive {
+    /// Knows no commit yet.
+    pub fn new(alloc: Global) -> Consecutive
+        ensures queue { heap_items result.queue.waiting ≡ [] }
+        ensures uncommon { result.uncommon ≡ 0 }
+    {
+        Consecutive {
+            alloc,
+            queue: Queue::new(alloc),
+            uncommon: 0,
+        }
+    }
+
+    // Has a commit wait, where it is found and didn't before. Marks it as seen, and may mark it with another.
+    fn push<O: Objects>(
+        &mut self,
+        graph: &mut Graph<O>,
+        id: &ObjectId,
+        marks: Flags,
+    ) -> Result<(), NegotiatorError>
+        requires { (marks.0 ≡ 8) ⊎ ((marks.0 ≡ 10) ⊎ (marks.0 ≡ 12)) }
+        ensures keeps { OnOk result (KeepsTimed self.old.uncommon (heap_items self.old.queue.waiting) graph.old.graph self.new.uncommon (heap_items self.new.queue.waiting) graph.new.graph) }
+        ensures room { OnOk result (left 8 graph.new.graph + heap_len self.new.queue.waiting ≤ left 8 graph.old.graph + heap_len self.old.queue.waiting) }
+        ensures common { left 2 graph.new.graph ≤ left 2 graph.old.graph }
+        ensures waits { OnOk result (IsMarkedIfThere 8 graph.old.graph graph.new.graph id.now) }
+        ensures grows { Grows graph.old.graph graph.new.graph }
+        ensures failures { graph.old.failures ≤ graph.new.failures }
+        ensures failed { IfErr result (IsRefusal 0 0 graph.old.failures graph.new.failures) }
+    {
+        let Some((time, flags)) = claim(graph, id, Flags(8), marks)? else {
+            return Ok(());
+        };
+        let is_common = either_has(flags, marks, Flags(2));
+        self.admit(is_common)?;
+        match self.queue.push(time, *id) {
+            Ok(()) => Ok(()),
+            Err(_) => Err(NegotiatorError::Memory),
+        }
+    }
+
+    // One waits: it is counted, unless it is common.
+    fn admit(&mut self, is_common: bool) -> Result<(), NegotiatorError>
+        ensures queue { self.new.queue ≡ self.old.queue }
+        ensures common { IsTrue is_common → OnOk result (self.new.uncommon ≡ self.old.uncommon) }
+        ensures counted { OnOk result (self.new.uncommon ≤ self.old.uncommon + 1) }
+        ensures open { is_common ≡ false → OnOk result (self.new.uncommon ≡ self.old.uncommon + 1) }
+        ensures failed { IfErr result (IsRefusal 0 0 0 0) }
+    {
+        if is_common {
+            return Ok(());
+        }
+        let Some(more) = self.uncommon.checked_add(1) else {
+            return Err(NegotiatorError::Memory);
+        };
+        self.uncommon = more;
+        Ok(())
+    }
+
+    // One that has these marks and is now common: it isn't counted, where it waits.
+    fn discount(&mut self, flags: Flags)
+        ensures queue { self.new.queue ≡ self.old.queue }
+        ensures waits { has_all 8 flags.0 ≡ true → has_all 16 flags.0 ≡ false → self.old.uncommon ≤ self.new.uncommon + 1 }
+        ensures unseen { has_all 8 flags.0 ≡ false → self.new.uncommon ≡ self.old.uncommon }
+        ensures taken { has_all 16 flags.0 ≡ true → self.new.uncommon ≡ self.old.uncommon }
+    {
+        if has(flags, Flags(8)) && !has(flags, Flags(16)) {
+            self.uncommon = self.uncommon.saturating_sub(1);
+        }
+    }
+
+    // Marks a commit as common, where it is found and wasn't before. Returns whether it was so.
+    fn settle<O: Objects>(
+        &mut self,
+        graph: &mut Graph<O>,
+        id: &ObjectId,
+    ) -> Result<bool, NegotiatorError>
+        ensures keeps { OnOk result (KeepsTimed self.old.uncommon (heap_items self.old.queue.waiting) graph.old.graph self.new.uncommon (heap_items self.new.queue.waiting) graph.new.graph) }
+        ensures less { IfOk result (λ done. IsTrue done → left 2 graph.new.graph + 1 ≤ left 2 graph.old.graph) }
+        ensures common { left 2 graph.new.graph ≤ left 2 graph.old.graph }
+        ensures marked { OnOk result (IsMarkedIfThere 2 graph.old.graph graph.new.graph id.now) }
+        ensures seen { left 8 graph.new.graph ≤ left 8 graph.old.graph }
+        ensures queue { self.new.queue ≡ self.old.queue }
+        ensures grows { Grows graph.old.graph graph.new.graph }
+        ensures failures { graph.old.failures ≤ graph.new.failures }
+        ensures failed { IfErr result (IsRefusal 0 0 graph.old.failures graph.new.failures) }
+    {
+        let Some((_, flags)) = claim(graph, id, Flags(2), Flags(2))? else {
+            return Ok(false);
+        };
+        self.discount(flags);
+        Ok(true)
+    }
+
+    // Marks a commit as common, where it is found and wasn't before, and has it wait for its parents to be so.
+    fn reach<O: Objects>(
+        &mut self,
+        graph: &mut Graph<O>,
+        id: &ObjectId,
+        due: &mut Vec<ObjectId>,
+    ) -> Result<(), NegotiatorError>
+        ensures keeps { OnOk result (KeepsTimed self.old.uncommon (heap_items self.old.queue.waiting) graph.old.graph self.new.uncommon (heap_items self.new.queue.waiting) graph.new.graph) }
+        ensures less { OnOk result (left 2 graph.new.graph + length due.new.items ≤ left 2 graph.old.graph + length due.old.items) }
+        ensures seen { left 8 graph.new.graph ≤ left 8 graph.old.graph }
+        ensures queue { self.new.queue ≡ self.old.queue }
+        ensures grows { Grows graph.old.graph graph.new.graph }
+        ensures failures { graph.old.failures ≤ graph.new.failures }
+        ensures failed { IfErr result (IsRefusal 0 0 graph.old.failures graph.new.failures) }
+    {
+        if !self.settle(graph, id)? {
+            return Ok(());
+        }
+        match due.push(*id) {
+            Ok(()) => Ok(()),
+            Err(_) => Err(NegotiatorError::Memory),
+        }
+    }
+
+    // The parents of a commit that is held.
+    fn parents_of<O: Objects>(
+        &self,
+        graph: &Graph<O>,
+        id: &ObjectId,
+    ) -> Result<Vec<ObjectId>, NegotiatorError>
+        ensures parents { IfOk result (λ parents. parents.items ≡ parents_in graph.now.graph.held id.now) }
+        ensures failed { IfErr result (IsRefusal 0 0 graph.now.failures graph.now.failures) }
+    {
+        match graph.parents(self.alloc, id) {
+            Ok(parents) => Ok(parents),
+            Err(_) => Err(NegotiatorError::Memory),
+        }
+    }
+
+    // Marks some commits as common, and has those wait that weren't before for their parents to be so.
+    fn reach_all<O: Objects>(
+        &mut self,
+        graph: &mut Graph<O>,
+        ids: &[ObjectId],
+        due: &mut Vec<ObjectId>,
+    ) -> Result<(), NegotiatorError>
+        ensures keeps { OnOk result (KeepsTimed self.old.uncommon (heap_items self.old.queue.waiting) graph.old.graph self.new.uncommon (heap_items self.new.queue.waiting) graph.new.graph) }
+        ensures less { OnOk result (left 2 graph.new.graph + length due.new.items ≤ left 2 graph.old.graph + length due.old.items) }
+        ensures seen { left 8 graph.new.graph ≤ left 8 graph.old.graph }
+        ensures queue { self.new.queue ≡ self.old.queue }
+        ensures grows { Grows graph.old.graph graph.new.graph }
+        ensures failures { graph.old.failures ≤ graph.new.failures }
+        ensures failed { IfErr result (IsRefusal 0 0 graph.old.failures graph.new.failures) }
+    {
+        for id in ids {
+            self.reach(graph, id, due)?;
+        }
+        Ok(())
+    }
+
+    // Has a common commit wait, where it didn't yet, or else marks its parents as common.
+    fn spread<O: Objects>(
+        &mut self,
+        graph: &mut Graph<O>,
+        id: &ObjectId,
+        due: &mut Vec<ObjectId>,
+    ) -> Result<(), NegotiatorError>
+        ensures keeps { OnOk result (KeepsTimed self.old.uncommon (heap_items self.old.queue.waiting) graph.old.graph self.new.uncommon (heap_items self.new.queue.waiting) graph.new.graph) }
+        ensures less { OnOk result (left 2 graph.new.graph + length due.new.items ≤ left 2 graph.old.graph + length due.old.items) }
+        ensures room { OnOk result (left 8 graph.new.graph + heap_len self.new.queue.waiting ≤ left 8 graph.old.graph + heap_len self.old.queue.waiting) }
+        ensures grows { Grows graph.old.graph graph.new.graph }
+        ensures failures { graph.old.failures ≤ graph.new.failures }
+        ensures failed { IfErr result (IsRefusal 0 0 graph.old.failures graph.new.failures) }
+    {
+        let Some((_, flags)) = look(graph, id)? else {
+            return Ok(());
+        };
+        if !has(flags, Flags(8)) {
+            self.push(graph, id, Flags(8))?;
+            return Ok(());
+        }
+        let parents = self.parents_of(graph, id)?;
+        self.reach_all(graph, &parents, due)?;
+        Ok(())
+    }
+
+    // Marks what leads on from some common commits.
+    fn spread_all<O: Objects>(
+        &mut self,
+        graph: &mut Graph<O>,
+        id: &ObjectId,
+    ) -> Result<(), NegotiatorError>
+        ensures keeps { OnOk result (KeepsTimed self.old.uncommon (heap_items self.old.queue.waiting) graph.old.graph self.new.uncommon (heap_items self.new.queue.waiting) graph.new.graph) }
+        ensures room { OnOk result (left 8 graph.new.graph + heap_len self.new.queue.waiting ≤ left 8 graph.old.graph + heap_len self.old.queue.waiting) }
+        ensures grows { Grows graph.old.graph graph.new.graph }
+        ensures failures { graph.old.failures ≤ graph.new.failures }
+        ensures failed { IfErr result (IsRefusal 0 0 graph.old.failures graph.new.failures) }
+    {
+        let mut due = Vec::new(self.alloc);
+        match due.push(*id) {
+            Ok(()) => {}
+            Err(_) => return Err(NegotiatorError::Memory),
+        }
+        while let Some(next) = due.pop() {
+            self.spread(graph, &next, &mut due)?;
+        }
+        Ok(())
+    }
+
+    // Marks the ancestors of a commit as common, unless it is so itself.
+    fn mark_ancestors<O: Objects>(
+        &mut self,
+        graph: &mut Graph<O>,
+        id: &ObjectId,
+    ) -> Result<(), NegotiatorError>
+        ensures keeps { OnOk result (KeepsTimed self.old.uncommon (heap_items self.old.queue.waiting) graph.old.graph self.new.uncommon (heap_items self.new.queue.waiting) graph.new.graph) }
+        ensures room { OnOk result (left 8 graph.new.graph + heap_len self.new.queue.waiting ≤ left 8 graph.old.graph + heap_len self.old.queue.waiting) }
+        ensures grows { Grows graph.old.graph graph.new.graph }
+        ensures failures { graph.old.failures ≤ graph.new.failures }
+        ensures failed { IfErr result (IsRefusal 0 0 graph.old.failures graph.new.failures) }
+    {
+        let Some((_, flags)) = look(graph, id)? else {
+            return Ok(());
+        };
+        if has(flags, Flags(2)) {
+            return Ok(());
+        }
+        self.spread_all(graph, id)?;
+        Ok(())
+    }
+
+    // Marks a commit and its ancestors as common.
+    fn mark_common<O: Objects>(
+        &mut self,
+        graph: &mut Graph<O>,
+        id: &ObjectId,
+    ) -> Result<(), NegotiatorError>
+        ensures keeps { OnOk result (KeepsTimed self.old.uncommon (heap_items self.old.queue.waiting) graph.old.graph self.new.uncommon (heap_items self.new.queue.waiting) graph.new.graph) }
+        ensures grows { Grows graph.old.graph graph.new.graph }
+        ensures common { OnOk result (IsMarkedIfThere 2 graph.old.graph graph.new.graph id.now) }
+        ensures failures { graph.old.failures ≤ graph.new.failures }
+        ensures failed { IfErr result (IsRefusal 0 0 graph.old.failures graph.new.failures) }
+    {
+        if !self.settle(graph, id)? {
+            return Ok(());
+        }
+        self.spread_all(graph, id)?;
+        Ok(())
+    }
+
+    // Has a parent of a commit that was taken wait.
+    fn follow<O: Objects>(
+        &mut self,
+        graph: &mut Graph<O>,
+        parent: &ObjectId,
+        is_common: bool,
+    ) -> Result<(), NegotiatorError>
+        ensures keeps { OnOk result (KeepsTimed self.old.uncommon (heap_items self.old.queue.waiting) graph.old.graph self.new.uncommon (heap_items self.new.queue.waiting) graph.new.graph) }
+        ensures room { OnOk result (left 8 graph.new.graph + heap_len self.new.queue.waiting ≤ left 8 graph.old.graph + heap_len self.old.queue.waiting) }
+        ensures waits { OnOk result (IsMarkedIfThere 8 graph.old.graph graph.new.graph parent.now) }
+        ensures grows { Grows graph.old.graph graph.new.graph }
+        ensures failures { graph.old.failures ≤ graph.new.failures }
+        ensures failed { IfErr result (IsRefusal 0 0 graph.old.failures graph.new.failures) }
+    {
+        if is_common {
+            self.push(graph, parent, Flags(10))?;
+            self.mark_ancestors(graph, parent)?;
+            return Ok(());
+        }
+        self.push(graph, parent, Flags(8))?;
+        Ok(())
+    }
+
+    // Has the parents of a commit that was taken wait.
+    fn follow_all<O: Objects>(
+        &mut self,
+        graph: &mut Graph<O>,
+        parents: &[ObjectId],
+        is_common: bool,
+    ) -> Result<(), NegotiatorError>
+        ensures keeps { OnOk result (KeepsTimed self.old.uncommon (heap_items self.old.queue.waiting) graph.old.graph self.new.uncommon (heap_items self.new.queue.waiting) graph.new.graph) }
+        ensures room { OnOk result (left 8 graph.new.graph + heap_len self.new.queue.waiting ≤ left 8 graph.old.graph + heap_len self.old.queue.waiting) }
+        ensures waits { OnOk result (All (IsMarkedIfThere 8 graph.old.graph graph.new.graph) parents.now) }
+        ensures grows { Grows graph.old.graph graph.new.graph }
+        ensures failures { graph.old.failures ≤ graph.new.failures }
+        ensures failed { IfErr result (IsRefusal 0 0 graph.old.failures graph.new.failures) }
+    {
+        for parent in parents {
+            self.follow(graph, parent, is_common)?;
+        }
+        Ok(())
+    }
+
+    // One that waited is taken: it was counted, unless it is common.
+    fn release(&mut self, is_common: bool)
+        ensures queue { self.new.queue ≡ self.old.queue }
+        ensures common { IsTrue is_common → self.new.uncommon ≡ self.old.uncommon }
+        ensures open { self.old.uncommon ≤ self.new.uncommon + 1 }
+    {
+        if !is_common {
+            self.uncommon = self.uncommon.saturating_sub(1);
+        }
+    }
+
+    // Takes a commit that waited. Returns whether it is offered.
+    fn take<O: Objects>(
+        &mut self,
+        graph: &mut Graph<O>,
+        first: &Waiting,
+    ) -> Result<bool, NegotiatorError>
+        ensures keeps { OnOk result (KeepsTimed self.old.uncommon (first.now ∷ heap_items self.old.queue.waiting) graph.old.graph self.new.uncommon (heap_items self.new.queue.waiting) graph.new.graph) }
+        ensures offered { IfOk result (λ offered. IsTrue offered → IsOffered graph.old.graph graph.new.graph first.now.id) }
+        ensures room { OnOk result (left 8 graph.new.graph + heap_len self.new.queue.waiting ≤ left 8 graph.old.graph + heap_len self.old.queue.waiting) }
+        ensures grows { Grows graph.old.graph graph.new.graph }
+        ensures failures { graph.old.failures ≤ graph.new.failures }
+        ensures failed { IfErr result (IsRefusal 0 0 graph.old.failures graph.new.failures) }
+    {
+        let Some((_, flags)) = claim(graph, &first.id, Flags(16), Flags(16))? else {
+            return Ok(false);
+        };
+        let is_common = has(flags, Flags(2));
+        self.release(is_common);
+        let spreads = is_common || has(flags, Flags(4));
+        let parents = self.parents_of(graph, &first.id)?;
+        self.follow_all(graph, &parents, spreads)?;
+        Ok(!is_common)
+    }
+
+    // The next that waits, unless all are common.
+    fn pop(&mut self) -> Option<Waiting>
+        ensures some { OnSome result (heap_len self.new.queue.waiting + 1 ≡ heap_len self.old.queue.waiting) }
+        ensures taken { IfSome result (λ first. IsPermutation (heap_items self.old.queue.waiting) (first ∷ heap_items self.new.queue.waiting)) }
+        ensures newest { IfSome result (IsNewest (heap_items self.new.queue.waiting)) }
+        ensures none { IfNone result ((self.old.uncommon ≡ 0) ⊎ (heap_items self.old.queue.waiting ≡ [])) }
+        ensures stays { IfNone result (heap_items self.new.queue.waiting ≡ heap_items self.old.queue.waiting) }
+        ensures uncommon { self.new.uncommon ≡ self.old.uncommon }
+    {
+        if self.uncommon == 0 {
+            return None;
+        }
+        self.queue.pop()
+    }
+
+    // The next to offer.
+    fn next<O: Objects>(
+        &mut self,
+        graph: &mut Graph<O>,
+    ) -> Result<Option<ObjectId>, NegotiatorError>
+        ensures offered { IfOk result (λ have. IfSome have (IsOffered graph.old.graph graph.new.graph)) }
+        ensures newest { IfOk result (λ have. IfSome have (λ id. AllTimed graph.old.graph.objects (heap_items self.old.queue.waiting) → IsNewestAt graph.old.graph id (heap_items self.new.queue.waiting))) }
+        ensures none { IfOk result (λ have. IfNone have (Fits self.old.uncommon (heap_items self.old.queue.waiting) graph.old.graph → AllCommon graph.new.graph)) }
+        ensures keeps { OnOk result (KeepsTimed self.old.uncommon (heap_items self.old.queue.waiting) graph.old.graph self.new.uncommon (heap_items self.new.queue.waiting) graph.new.graph) }
+        ensures grows { Grows graph.old.graph graph.new.graph }
+        ensures failures { graph.old.failures ≤ graph.new.failures }
+        ensures failed { IfErr result (IsRefusal 0 0 graph.old.failures graph.new.failures) }
+    {
+        while let Some(first) = self.pop() {
+            if self.take(graph, &first)? {
+                return Ok(Some(first.id));
+            }
+        }
+        Ok(None)
+    }
+
+    // Has a commit wait that the server has as a ref, and marks its ancestors as common.
+    fn know<O: Objects>(
+        &mut self,
+        graph: &mut Graph<O>,
+        id: &ObjectId,
+    ) -> Result<(), NegotiatorError>
+        ensures keeps { OnOk result (KeepsTimed self.old.uncommon (heap_items self.old.queue.waiting) graph.old.graph self.new.uncommon (heap_items self.new.queue.waiting) graph.new.graph) }
+        ensures waits { OnOk result (IsMarkedIfThere 8 graph.old.graph graph.new.graph id.now) }
+        ensures grows { Grows graph.old.graph graph.new.graph }
+        ensures failures { graph.old.failures ≤ graph.new.failures }
+        ensures failed { IfErr result (IsRefusal 0 0 graph.old.failures graph.new.failures) }
+    {
+        let Some((_, flags)) = look(graph, id)? else {
+            return Ok(());
+        };
+        if has(flags, Flags(8)) {
+            return Ok(());
+        }
+        self.push(graph, id, Flags(12))?;
+        self.mark_ancestors(graph, id)?;
+        Ok(())
+    }
+}
+
+impl Negotiator for Consecutive {
+    ghost use Rattle.gixp_negotiators.specs.Marks.{Grows, IsOffered, Offers, IsMarkedIfThere, left};
+    ghost use Rattle.gixp_negotiators.specs.MarkLaws.{offer_lowers, grows_left};
+    ghost use Rattle.gixp_negotiators.specs.Waiting.{KeepsTimed, Picks};
+    ghost use Rattle.std.specs.BinaryHeap.{heap_items};
+
+    ghost count = { λ n g. left 16 g };
+
+    ghost failures = { λ n. 0 };
+
+    ghost knows = { λ n g id m h. Grows g h × IsMarkedIfThere 8 g h id × KeepsTimed n.uncommon (heap_items n.queue.waiting) g m.uncommon (heap_items m.queue.waiting) h };
+
+    ghost adds = { λ n g id m h. Grows g h × IsMarkedIfThere 8 g h id × KeepsTimed n.uncommon (heap_items n.queue.waiting) g m.uncommon (heap_items m.queue.waiting) h };
+
+    ghost learns = { λ n g id m h. Grows g h × IsMarkedIfThere 2 g h id × KeepsTimed n.uncommon (heap_items n.queue.waiting) g m.uncommon (heap_items m.queue.waiting) h };
+
+    ghost offers = { λ n g have m h. Grows g h × Offers g have h × KeepsTimed n.uncommon (heap_items n.queue.waiting) g m.uncommon (heap_items m.queue.waiting) h × Picks n.uncommon (heap_items n.queue.waiting) g have (heap_items m.queue.waiting) h };
+
+    fn known_common<O: Objects>(
+        &mut self,
+        id: ObjectId,
+        graph: &mut Graph<O>,
+    ) -> Result<(), NegotiatorError> {
+        self.know(graph, &id)
+    }
+
+    fn add_tip<O: Objects>(
+        &mut self,
+        id: ObjectId,
+        graph: &mut Graph<O>,
+    ) -> Result<(), NegotiatorError> {
+        self.push(graph, &id, Flags(8))
+    }
+
+    fn in_common_with_remote<O: Objects>(
+        &mut self,
+        id: ObjectId,
+        graph: &mut Graph<O>,
+    ) -> Result<(), NegotiatorError> {
+        self.mark_common(graph, &id)
+    }
+
+    fn next_have<O: Objects>(
+        &mut self,
+        graph: &mut Graph<O>,
+    ) -> Option<Result<ObjectId, NegotiatorError>> {
+        match self.next(graph) {
+            Ok(Some(id)) => Some(Ok(id)),
+            Ok(None) => None,
+            Err(e) => Some(Err(e)),
+        }
+    }
+
+    ghost offer_lowers = { λ n g id m h r. offer_lowers g h id r.1 };
+
+    ghost none_keeps = { λ n g m h r. grows_left 16 g h r.0 };
+
+    ghost learning_keeps = { λ n g id m h r. grows_left 16 g h r.0 };
+}

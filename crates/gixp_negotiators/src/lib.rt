@@ -1,0 +1,14 @@
+//! The negotiators that git has: which commits are offered as haves, and in which order.
+#![tactic(auto)]
+
+mod algorithm;
+mod consecutive;
+mod marks;
+mod noop;
+mod queue;
+mod skipping;
+
+pub use algorithm::{Algorithm, AnyNegotiator};
+pub use consecutive::Consecutive;
+pub use noop::Noop;
+pub use skipping::Skipping;

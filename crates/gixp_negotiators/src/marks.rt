@@ -1,0 +1,107 @@
+//! Marks of commits.
+ghost use Rattle.std.specs.Prelude.{◌≡◌, ◌≤◌, ◌==◌, ◌⊎◌, IsTrue, IfOk, IfErr, IfSome, IfNone, IsSome, Some, None, bit_and, true, false};
+ghost use Rattle.std.specs.FinMap as finite;
+ghost use Rattle.gixp_graph.specs.Object.{commit_at, time_at};
+ghost use Rattle.gixp_graph.specs.Negotiation.{IsRefusal};
+ghost use Rattle.gixp_negotiators.specs.Marks.{Grows, Claims, IsFoundWith, IsMarkedIfThere, SeesNone, SeesOnly, has_mark, has_all, left};
+
+use gixp_graph::{Flags, Graph, NegotiatorError, Objects};
+use gixp_hash::ObjectId;
+
+/// Whether some marks have all of others.
+pub(crate) fn has(flags: Flags, marks: Flags) -> bool
+    ensures { result ≡ (bit_and flags.0 marks.0 == marks.0) }
+{
+    flags.0 & marks.0 == marks.0
+}
+
+/// Whether some marks, or some more, have all of others.
+pub(crate) fn either_has(flags: Flags, more: Flags, marks: Flags) -> bool
+    ensures { IsTrue result → (has_all marks.0 flags.0 ≡ true) ⊎ (has_all marks.0 more.0 ≡ true) }
+{
+    if has(flags, marks) {
+        return true;
+    }
+    has(more, marks)
+}
+
+/// The time and the marks of a commit, where it is found. It is held from then on.
+pub(crate) fn look<O: Objects>(
+    graph: &mut Graph<O>,
+    id: &ObjectId,
+) -> Result<Option<(i64, Flags)>, NegotiatorError>
+    ensures found { IfOk result (λ found. IfSome found (λ x. IsFoundWith graph.new.graph id.now x.1)) }
+    ensures timed { IfOk result (λ found. IfSome found (λ x. time_at graph.old.graph.objects id.now ≡ Some x.0)) }
+    ensures none { IfOk result (λ found. IfNone found (commit_at graph.old.graph.objects id.now ≡ None)) }
+    ensures absent { IfOk result (λ found. IfNone found (has_mark 8 graph.new.graph.held id.now ≡ false)) }
+    ensures sees { SeesNone graph.old.graph graph.new.graph }
+    ensures grows { Grows graph.old.graph graph.new.graph }
+    ensures seen { left 8 graph.new.graph ≤ left 8 graph.old.graph }
+    ensures common { left 2 graph.new.graph ≤ left 2 graph.old.graph }
+    ensures failures { graph.old.failures ≤ graph.new.failures }
+    ensures failed { IfErr result (IsRefusal 0 0 graph.old.failures graph.new.failures) }
+{
+    match graph.lookup(id) {
+        Ok(found) => Ok(found),
+        Err(e) => Err(NegotiatorError::Lookup(e)),
+    }
+}
+
+/// Adds marks to a commit that is held, but for COMPLETE.
+pub(crate) fn add<O: Objects>(graph: &mut Graph<O>, id: &ObjectId, marks: Flags)
+    requires { bit_and marks.0 1 ≡ 0 }
+    ensures grows { Grows graph.old.graph graph.new.graph }
+    ensures sees { bit_and marks.0 8 ≡ 0 → SeesNone graph.old.graph graph.new.graph }
+    ensures sees_only { SeesOnly id.now graph.old.graph graph.new.graph }
+    ensures seen { left 8 graph.new.graph ≤ left 8 graph.old.graph }
+    ensures common { left 2 graph.new.graph ≤ left 2 graph.old.graph }
+    ensures marked { IsSome (finite.get graph.old.graph.held id.now) → has_mark marks.0 graph.new.graph.held id.now ≡ true }
+    ensures failures { graph.new.failures ≡ graph.old.failures }
+{
+    graph.insert_flags(id, marks);
+}
+
+/// Gives a commit some marks, where it is found and doesn't have the first of them. Returns its time and its marks before.
+pub(crate) fn claim<O: Objects>(
+    graph: &mut Graph<O>,
+    id: &ObjectId,
+    mark: Flags,
+    marks: Flags,
+) -> Result<Option<(i64, Flags)>, NegotiatorError>
+    requires others { bit_and marks.0 1 ≡ 0 }
+    requires first { bit_and marks.0 mark.0 ≡ mark.0 }
+    ensures claimed { IfOk result (λ found. IfSome found (λ x. Claims mark.0 graph.old.graph graph.new.graph id.now x.1)) }
+    ensures timed { IfOk result (λ found. IfSome found (λ x. time_at graph.old.graph.objects id.now ≡ Some x.0)) }
+    ensures marked { IfOk result (λ found. IfSome found (λ x. has_mark marks.0 graph.new.graph.held id.now ≡ true)) }
+    ensures none { IfOk result (λ found. IfNone found (IsMarkedIfThere mark.0 graph.old.graph graph.new.graph id.now)) }
+
+    // Where it isn't claimed, it wasn't seen, or had the mark.
+    ensures absent { IfOk result (λ found. IfNone found (SeesNone graph.old.graph graph.new.graph × (has_mark 8 graph.new.graph.held id.now ≡ true → has_mark mark.0 graph.new.graph.held id.now ≡ true))) }
+    ensures sees { bit_and marks.0 8 ≡ 0 → SeesNone graph.old.graph graph.new.graph }
+    ensures sees_only { SeesOnly id.now graph.old.graph graph.new.graph }
+    ensures grows { Grows graph.old.graph graph.new.graph }
+    ensures seen { left 8 graph.new.graph ≤ left 8 graph.old.graph }
+    ensures common { left 2 graph.new.graph ≤ left 2 graph.old.graph }
+    ensures failures { graph.old.failures ≤ graph.new.failures }
+    ensures failed { IfErr result (IsRefusal 0 0 graph.old.failures graph.new.failures) }
+{
+    let Some((time, flags)) = look(graph, id)? else {
+        return Ok(None);
+    };
+    if has(flags, mark) {
+        return Ok(None);
+    }
+    add(graph, id, marks);
+    Ok(Some((time, flags)))
+}
+
+/// Whether a commit is held and has some marks.
+pub(crate) fn is_marked<O: Objects>(graph: &Graph<O>, id: &ObjectId, marks: Flags) -> bool
+    ensures value { result ≡ has_mark marks.0 graph.now.graph.held id.now }
+    ensures there { IsTrue result → IsSome (commit_at graph.now.graph.objects id.now) }
+{
+    match graph.get(id) {
+        Some((_, flags)) => has(flags, marks),
+        None => false,
+    }
+}

@@ -1,0 +1,74 @@
+//! Commits that wait, by time.
+ghost use Rattle.std.specs.Prelude.{◌≡◌, ◌≤◌, ◌+◌, ◌≤ℤ◌, ◌∷◌, [], All, OnOk, OnSome, IfSome, IfNone};
+ghost use Rattle.std.specs.BinaryHeap.{heap_len, heap_items, IsHeap};
+ghost use Rattle.std.specs.List.Sorted.{IsPermutation};
+ghost use Rattle.std.proofs.Props.{props};
+ghost use Rattle.gixp_negotiators.specs.Waiting.{waiting_cmp, waiting_at};
+
+use gixp_hash::ObjectId;
+use std::alloc::{AllocError, Global};
+use std::collections::BinaryHeap;
+
+/// A commit that waits. The greater one is taken first: the newer one, and of two of one time the one
+/// that came first.
+#[derive(Clone, Copy, PartialEq, Eq, PartialOrd, Ord)]
+pub(crate) struct Waiting {
+    pub time: i64,
+    pub rank: u64,
+    pub id: ObjectId,
+}
+
+/// Commits that wait, the newest first, and those of one time in the order in which they came.
+#[derive(Drop)]
+pub(crate) struct Queue {
+    waiting: BinaryHeap<Waiting>,
+    // That of the next one; it falls.
+    rank: u64,
+    ghost ordered: { IsHeap waiting_cmp (heap_items waiting) } by { Prim.hlevel props },
+}
+
+impl Queue {
+    /// No commits.
+    pub fn new(alloc: Global) -> Queue
+        ensures len { heap_len result.waiting ≡ 0 }
+        ensures empty { heap_items result.waiting ≡ [] }
+    {
+        Queue {
+            waiting: BinaryHeap::new(alloc),
+            rank: u64::MAX,
+        }
+    }
+
+    /// Adds a commit.
+    pub fn push(&mut self, time: i64, id: ObjectId) -> Result<(), AllocError>
+        ensures ok { OnOk result (heap_len self.new.waiting ≡ heap_len self.old.waiting + 1) }
+        ensures waits { OnOk result (IsPermutation (waiting_at time self.old.rank id ∷ heap_items self.old.waiting) (heap_items self.new.waiting)) }
+        ensures rank { OnOk result (self.new.rank + 1 ≡ self.old.rank) }
+    {
+        let rank = self.rank;
+        let Some(next) = rank.checked_sub(1) else {
+            return Err(AllocError);
+        };
+        match self.waiting.push(Waiting { time, rank, id }) {
+            Ok(()) => {
+                self.rank = next;
+                Ok(())
+            }
+            Err(_) => Err(AllocError),
+        }
+    }
+
+    /// Takes the first commit.
+    pub fn pop(&mut self) -> Option<Waiting>
+        ensures some { OnSome result (heap_len self.new.waiting + 1 ≡ heap_len self.old.waiting) }
+        ensures taken { IfSome result (λ first. IsPermutation (heap_items self.old.waiting) (first ∷ heap_items self.new.waiting)) }
+
+        // The newest, and of these the one that came first.
+        ensures newest { IfSome result (λ first. All (λ w. w.time ≤ℤ first.time) (heap_items self.new.waiting)) }
+        ensures earliest { IfSome result (λ first. All (λ w. w.time ≡ first.time → w.rank ≤ first.rank) (heap_items self.new.waiting)) }
+        ensures none { IfNone result (heap_items self.old.waiting ≡ []) }
+        ensures stays { IfNone result (heap_items self.new.waiting ≡ heap_items self.old.waiting) }
+    {
+        self.waiting.pop()
+    }
+}

@@ -1,0 +1,514 @@
+//! Offers commits at growing distances, the newest first.
+ghost use Rattle.std.specs.Prelude.{◌≡◌, ℕ, List, ◌≤◌, ◌<◌, ◌+◌, ◌-◌, ◌⊎◌, ◌∷◌, [], IfOk, IfErr, IfSome, IfNone, IsSome, OnOk, OnSome, IsTrue, All, length, true, false};
+ghost use Rattle.std.specs.BinaryHeap.{heap_len, heap_items};
+ghost use Rattle.std.specs.List.Sorted.{IsPermutation};
+ghost use Rattle.gixp_graph.specs.Object.{commit_at};
+ghost use Rattle.gixp_graph.specs.GraphData.{parents_in};
+ghost use Rattle.gixp_negotiators.specs.declared.queue.Waiting.{Waiting};
+ghost use Rattle.gixp_graph.specs.Negotiation.{IsMemory, IsRefusal};
+ghost use Rattle.gixp_negotiators.specs.Marks.{Grows, SeesNone, IsOffered, IsMarkedIfThere, has_all, has_mark, left};
+ghost use Rattle.gixp_negotiators.specs.Waiting.{Fits, FitsOwing, AllCommon, IsNewest};
+ghost use Rattle.gixp_negotiators.specs.declared.skipping.Legacy.TheVariants.{Common, Skips};
+ghost use Rattle.gixp_negotiators.specs.Distance.{distance_after, skip_of};
+
+use crate::marks::{add, claim, has, is_marked};
+use crate::queue::{Queue, Waiting};
+use gixp_graph::{Flags, Graph, Negotiator, NegotiatorError, Objects};
+use gixp_hash::ObjectId;
+use std::alloc::Global;
+use std::collections::{BTreeMap, BTreeSet};
+
+/// How many commits are passed over before the next is offered.
+#[derive(Clone, Copy)]
+struct Skip {
+    // As it began.
+    whole: u32,
+    // What is left of it.
+    left: u32,
+}
+
+/// What the parents of a commit that was taken get from it.
+#[derive(Clone, Copy)]
+enum Legacy {
+    Common,
+    Skips(Skip),
+}
+
+/// Offers commits at growing distances, the newest first (`skipping` of git's
+/// `fetch.negotiationAlgorithm`).
+///
+/// A commit that is found waits once, under its own time. Along a line of commits that aren't known to be
+/// common, the first is offered, then one after a commit that is passed over, then one after two, and so
+/// on: each distance is half as long again as the one before, and one more. The last of a line is offered
+/// too. Parents of a common commit are common. It ends where all that waits is common.
+///
+/// Marks of the graph say what was seen, taken and found common: a graph is for one negotiation.
+#[derive(Drop)]
+pub struct Skipping {
+    alloc: Global,
+    queue: Queue,
+    // Of commits that were seen.
+    skips: BTreeMap<ObjectId, Skip>,
+    // Those that wait and weren't read before: they wait at time 0, and nothing is known of their parents.
+    unread: BTreeSet<ObjectId>,
+    // How many wait that aren't common.
+    uncommon: usize,
+}
+
+impl Skipping {
+    /// Knows no commit yet.
+    pub fn new(alloc: Global) -> Skipping
+        ensures queue { heap_items result.queue.waiting ≡ [] }
+        ensures uncommon { result.uncommon ≡ 0 }
+    {
+        Skipping {
+            alloc,
+            queue: Queue::new(alloc),
+            skips: BTreeMap::new(alloc),
+            unread: BTreeSet::new(alloc),
+            uncommon: 0,
+        }
+    }
+
+    // Has a commit wait, where it is found and didn't before. Marks it as seen, and may mark it with another.
+    fn push<O: Objects>(
+        &mut self,
+        graph: &mut Graph<O>,
+        id: &ObjectId,
+        marks: Flags,
+    ) -> Result<(), NegotiatorError>
+        requires { (marks.0 ≡ 8) ⊎ (marks.0 ≡ 12) }
+        ensures fits { OnOk result (Fits self.old.uncommon (heap_items self.old.queue.waiting) graph.old.graph → Fits self.new.uncommon (heap_items self.new.queue.waiting) graph.new.graph) }
+        ensures room { OnOk result (left 8 graph.new.graph + heap_len self.new.queue.waiting ≤ left 8 graph.old.graph + heap_len self.old.queue.waiting) }
+        ensures waits { OnOk result (IsMarkedIfThere 8 graph.old.graph graph.new.graph id.now) }
+        ensures grows { Grows graph.old.graph graph.new.graph }
+        ensures failures { graph.old.failures ≤ graph.new.failures }
+        ensures failed { IfErr result (IsRefusal 0 0 graph.old.failures graph.new.failures) }
+    {
+        let is_read = graph.get(id).is_some();
+        let Some((time, _)) = claim(graph, id, Flags(8), marks)? else {
+            return Ok(());
+        };
+        self.admit()?;
+        let due = self.time_of(is_read, time, id)?;
+        match self.queue.push(due, *id) {
+            Ok(()) => Ok(()),
+            Err(_) => Err(NegotiatorError::Memory),
+        }
+    }
+
+    // One more waits.
+    fn admit(&mut self) -> Result<(), NegotiatorError>
+        ensures queue { self.new.queue ≡ self.old.queue }
+        ensures counted { OnOk result (self.new.uncommon ≡ self.old.uncommon + 1) }
+        ensures failed { IfErr result IsMemory }
+    {
+        let Some(more) = self.uncommon.checked_add(1) else {
+            return Err(NegotiatorError::Memory);
+        };
+        self.uncommon = more;
+        Ok(())
+    }
+
+    // The time under which a commit waits.
+    fn time_of(&mut self, is_read: bool, time: i64, id: &ObjectId) -> Result<i64, NegotiatorError>
+        ensures queue { self.new.queue ≡ self.old.queue }
+        ensures uncommon { self.new.uncommon ≡ self.old.uncommon }
+        ensures failed { IfErr result IsMemory }
+    {
+        if is_read {
+            return Ok(time);
+        }
+        match self.unread.insert(*id) {
+            Ok(_) => Ok(0),
+            Err(_) => Err(NegotiatorError::Memory),
+        }
+    }
+
+    // The parents of a commit that is held.
+    fn parents_of<O: Objects>(
+        &self,
+        graph: &Graph<O>,
+        id: &ObjectId,
+    ) -> Result<Vec<ObjectId>, NegotiatorError>
+        ensures parents { IfOk result (λ parents. parents.items ≡ parents_in graph.now.graph.held id.now) }
+        ensures failed { IfErr result (IsRefusal 0 0 graph.now.failures graph.now.failures) }
+    {
+        match graph.parents(self.alloc, id) {
+            Ok(parents) => Ok(parents),
+            Err(_) => Err(NegotiatorError::Memory),
+        }
+    }
+
+    // Marks the parents of a common commit as common that were seen.
+    fn spread<O: Objects>(
+        &mut self,
+        graph: &mut Graph<O>,
+        id: &ObjectId,
+        due: &mut Vec<ObjectId>,
+    ) -> Result<(), NegotiatorError>
+        ensures fits { OnOk result ((u : ℕ) (ws : List Waiting) → FitsOwing u ws graph.old.graph due.old.items → FitsOwing u ws graph.new.graph due.new.items) }
+        ensures less { OnOk result (left 2 graph.new.graph + length due.new.items ≤ left 2 graph.old.graph + length due.old.items) }
+        ensures seen { left 8 graph.new.graph ≤ left 8 graph.old.graph }
+        ensures queue { self.new.queue ≡ self.old.queue }
+        ensures uncommon { self.new.uncommon ≡ self.old.uncommon }
+        ensures grows { Grows graph.old.graph graph.new.graph }
+        ensures failures { graph.old.failures ≤ graph.new.failures }
+        ensures failed { IfErr result (IsRefusal 0 0 graph.old.failures graph.new.failures) }
+    {
+        let parents = self.parents_of(graph, id)?;
+        reach_all(graph, &parents, due)?;
+        Ok(())
+    }
+
+    // One that is now common isn't counted, where it waits.
+    fn discount(&mut self, is_taken: bool)
+        ensures queue { self.new.queue ≡ self.old.queue }
+        ensures taken { is_taken ≡ true → self.new.uncommon ≡ self.old.uncommon }
+        ensures waits { self.old.uncommon ≤ self.new.uncommon + 1 }
+    {
+        if !is_taken {
+            self.uncommon = self.uncommon.saturating_sub(1);
+        }
+    }
+
+    // Marks a commit that was seen as common, and its ancestors that were seen.
+    fn mark_common<O: Objects>(
+        &mut self,
+        graph: &mut Graph<O>,
+        id: &ObjectId,
+    ) -> Result<(), NegotiatorError>
+        ensures fits { OnOk result (Fits self.old.uncommon (heap_items self.old.queue.waiting) graph.old.graph → Fits self.new.uncommon (heap_items self.new.queue.waiting) graph.new.graph) }
+        ensures common { OnOk result (has_mark 8 graph.old.graph.held id.now ≡ true → has_mark 2 graph.new.graph.held id.now ≡ true) }
+        ensures seen { left 8 graph.new.graph ≤ left 8 graph.old.graph }
+        ensures queue { self.new.queue ≡ self.old.queue }
+        ensures grows { Grows graph.old.graph graph.new.graph }
+        ensures failures { graph.old.failures ≤ graph.new.failures }
+        ensures failed { IfErr result (IsRefusal 0 0 graph.old.failures graph.new.failures) }
+    {
+        let mut due = Vec::new(self.alloc);
+        reach(graph, id, &mut due)?;
+        while let Some(next) = due.pop() {
+            self.discount(is_marked(graph, &next, Flags(16)));
+            if self.unread.contains(&next) {
+                return Ok(());
+            }
+            self.spread(graph, &next, &mut due)?;
+        }
+        Ok(())
+    }
+
+    // What is left to pass over of a commit.
+    fn skip_of(&self, id: &ObjectId) -> Skip {
+        match self.skips.get(id) {
+            Some(&skip) => skip,
+            None => Skip { whole: 0, left: 0 },
+        }
+    }
+
+    // Has a commit pass over at least as many.
+    fn raise(&mut self, id: &ObjectId, skip: Skip) -> Result<(), NegotiatorError>
+        ensures queue { self.new.queue ≡ self.old.queue }
+        ensures uncommon { self.new.uncommon ≡ self.old.uncommon }
+        ensures failed { IfErr result IsMemory }
+    {
+        if self.skip_of(id).whole >= skip.whole {
+            return Ok(());
+        }
+        match self.skips.insert(*id, skip) {
+            Ok(_) => Ok(()),
+            Err(_) => Err(NegotiatorError::Memory),
+        }
+    }
+
+    // Gives a commit what it gets from one that was taken.
+    fn pass<O: Objects>(
+        &mut self,
+        graph: &mut Graph<O>,
+        id: &ObjectId,
+        legacy: Legacy,
+    ) -> Result<(), NegotiatorError>
+        ensures fits { OnOk result (Fits self.old.uncommon (heap_items self.old.queue.waiting) graph.old.graph → Fits self.new.uncommon (heap_items self.new.queue.waiting) graph.new.graph) }
+        ensures seen { left 8 graph.new.graph ≤ left 8 graph.old.graph }
+        ensures queue { self.new.queue ≡ self.old.queue }
+        ensures grows { Grows graph.old.graph graph.new.graph }
+        ensures failures { graph.old.failures ≤ graph.new.failures }
+        ensures failed { IfErr result (IsRefusal 0 0 graph.old.failures graph.new.failures) }
+    {
+        match legacy {
+            Legacy::Common => {
+                self.mark_common(graph, id)?;
+                Ok(())
+            }
+            Legacy::Skips(skip) => {
+                self.raise(id, skip)?;
+                Ok(())
+            }
+        }
+    }
+
+    // Has a parent of a commit that was taken wait. Returns whether it waits.
+    fn follow<O: Objects>(
+        &mut self,
+        graph: &mut Graph<O>,
+        parent: &ObjectId,
+        legacy: Legacy,
+    ) -> Result<bool, NegotiatorError>
+        ensures fits { OnOk result (Fits self.old.uncommon (heap_items self.old.queue.waiting) graph.old.graph → Fits self.new.uncommon (heap_items self.new.queue.waiting) graph.new.graph) }
+        ensures room { OnOk result (left 8 graph.new.graph + heap_len self.new.queue.waiting ≤ left 8 graph.old.graph + heap_len self.old.queue.waiting) }
+        ensures waits { OnOk result (IsMarkedIfThere 8 graph.old.graph graph.new.graph parent.now) }
+        ensures grows { Grows graph.old.graph graph.new.graph }
+        ensures failures { graph.old.failures ≤ graph.new.failures }
+        ensures failed { IfErr result (IsRefusal 0 0 graph.old.failures graph.new.failures) }
+    {
+        self.push(graph, parent, Flags(8))?;
+        if is_marked(graph, parent, Flags(16)) {
+            return Ok(false);
+        }
+        self.pass(graph, parent, legacy)?;
+        Ok(true)
+    }
+
+    // The same for some parents. Returns whether one of them waits.
+    fn follow_all<O: Objects>(
+        &mut self,
+        graph: &mut Graph<O>,
+        parents: &[ObjectId],
+        legacy: Legacy,
+    ) -> Result<bool, NegotiatorError>
+        ensures fits { OnOk result (Fits self.old.uncommon (heap_items self.old.queue.waiting) graph.old.graph → Fits self.new.uncommon (heap_items self.new.queue.waiting) graph.new.graph) }
+        ensures room { OnOk result (left 8 graph.new.graph + heap_len self.new.queue.waiting ≤ left 8 graph.old.graph + heap_len self.old.queue.waiting) }
+        ensures waits { OnOk result (All (IsMarkedIfThere 8 graph.old.graph graph.new.graph) parents.now) }
+        ensures grows { Grows graph.old.graph graph.new.graph }
+        ensures failures { graph.old.failures ≤ graph.new.failures }
+        ensures failed { IfErr result (IsRefusal 0 0 graph.old.failures graph.new.failures) }
+    {
+        let mut any = false;
+        for parent in parents {
+            let waits = self.follow(graph, parent, legacy)?;
+            any = any || waits;
+        }
+        Ok(any)
+    }
+
+    // Takes a commit that waited. Returns whether it is offered.
+    fn take<O: Objects>(
+        &mut self,
+        graph: &mut Graph<O>,
+        first: &Waiting,
+    ) -> Result<bool, NegotiatorError>
+        ensures fits { OnOk result (Fits self.old.uncommon (first.now ∷ heap_items self.old.queue.waiting) graph.old.graph → Fits self.new.uncommon (heap_items self.new.queue.waiting) graph.new.graph) }
+        ensures offered { IfOk result (λ offered. IsTrue offered → IsOffered graph.old.graph graph.new.graph first.now.id) }
+        ensures room { OnOk result (left 8 graph.new.graph + heap_len self.new.queue.waiting ≤ left 8 graph.old.graph + heap_len self.old.queue.waiting) }
+        ensures grows { Grows graph.old.graph graph.new.graph }
+        ensures failures { graph.old.failures ≤ graph.new.failures }
+        ensures failed { IfErr result (IsRefusal 0 0 graph.old.failures graph.new.failures) }
+    {
+        let Some((_, flags)) = claim(graph, &first.id, Flags(16), Flags(16))? else {
+            return Ok(false);
+        };
+        self.unread.remove(&first.id);
+        let skip = self.skip_of(&first.id);
+        let is_common = has(flags, Flags(2));
+        self.discount(is_common);
+        let parents = self.parents_of(graph, &first.id)?;
+        let any = self.follow_all(graph, &parents, legacy_of(flags, skip))?;
+        Ok(is_offered(is_common, skip.left, any))
+    }
+
+    // The next that waits, unless all are common.
+    fn pop(&mut self) -> Option<Waiting>
+        ensures some { OnSome result (heap_len self.new.queue.waiting + 1 ≡ heap_len self.old.queue.waiting) }
+        ensures taken { IfSome result (λ first. IsPermutation (heap_items self.old.queue.waiting) (first ∷ heap_items self.new.queue.waiting)) }
+        ensures newest { IfSome result (IsNewest (heap_items self.new.queue.waiting)) }
+        ensures none { IfNone result ((self.old.uncommon ≡ 0) ⊎ (heap_items self.old.queue.waiting ≡ [])) }
+        ensures stays { IfNone result (heap_items self.new.queue.waiting ≡ heap_items self.old.queue.waiting) }
+        ensures uncommon { self.new.uncommon ≡ self.old.uncommon }
+    {
+        if self.uncommon == 0 {
+            return None;
+        }
+        self.queue.pop()
+    }
+
+    // The next to offer.
+    fn next<O: Objects>(
+        &mut self,
+        graph: &mut Graph<O>,
+    ) -> Result<Option<ObjectId>, NegotiatorError>
+        ensures offered { IfOk result (λ have. IfSome have (IsOffered graph.old.graph graph.new.graph)) }
+        ensures none { IfOk result (λ have. IfNone have (Fits self.old.uncommon (heap_items self.old.queue.waiting) graph.old.graph → AllCommon graph.new.graph)) }
+        ensures fits { OnOk result (Fits self.old.uncommon (heap_items self.old.queue.waiting) graph.old.graph → Fits self.new.uncommon (heap_items self.new.queue.waiting) graph.new.graph) }
+        ensures grows { Grows graph.old.graph graph.new.graph }
+        ensures failures { graph.old.failures ≤ graph.new.failures }
+        ensures failed { IfErr result (IsRefusal 0 0 graph.old.failures graph.new.failures) }
+    {
+        while let Some(first) = self.pop() {
+            if self.take(graph, &first)? {
+                return Ok(Some(first.id));
+            }
+        }
+        Ok(None)
+    }
+}
+
+// Marks a commit as common that was seen and wasn't common, and has it wait for its parents to be so.
+fn reach<O: Objects>(
+    graph: &mut Graph<O>,
+    id: &ObjectId,
+    due: &mut Vec<ObjectId>,
+) -> Result<(), NegotiatorError>
+    ensures fits { OnOk result ((u : ℕ) (ws : List Waiting) → FitsOwing u ws graph.old.graph due.old.items → FitsOwing u ws graph.new.graph due.new.items) }
+    ensures common { OnOk result (has_mark 8 graph.old.graph.held id.now ≡ true → has_mark 2 graph.new.graph.held id.now ≡ true) }
+    ensures less { OnOk result (left 2 graph.new.graph + length due.new.items ≤ left 2 graph.old.graph + length due.old.items) }
+    ensures seen { left 8 graph.new.graph ≤ left 8 graph.old.graph }
+    ensures grows { Grows graph.old.graph graph.new.graph }
+    ensures failures { graph.old.failures ≤ graph.new.failures }
+    ensures failed { IfErr result (IsRefusal 0 0 graph.old.failures graph.new.failures) }
+{
+    if is_due(graph, id) {
+        add(graph, id, Flags(2));
+        return match due.push(*id) {
+            Ok(()) => Ok(()),
+            Err(_) => Err(NegotiatorError::Memory),
+        };
+    }
+    Ok(())
+}
+
+// Whether a commit was seen, and isn't common.
+fn is_due<O: Objects>(graph: &Graph<O>, id: &ObjectId) -> bool
+    ensures seen { IsTrue result → has_mark 8 graph.now.graph.held id.now ≡ true }
+    ensures open { IsTrue result → has_mark 2 graph.now.graph.held id.now ≡ false }
+    ensures there { IsTrue result → IsSome (commit_at graph.now.graph.objects id.now) }
+    ensures other { result ≡ false → has_mark 8 graph.now.graph.held id.now ≡ true → has_mark 2 graph.now.graph.held id.now ≡ true }
+{
+    if is_marked(graph, id, Flags(8)) {
+        let is_common = is_marked(graph, id, Flags(2));
+        return !is_common;
+    }
+    false
+}
+
+// The same for some commits.
+fn reach_all<O: Objects>(
+    graph: &mut Graph<O>,
+    ids: &[ObjectId],
+    due: &mut Vec<ObjectId>,
+) -> Result<(), NegotiatorError>
+    ensures fits { OnOk result ((u : ℕ) (ws : List Waiting) → FitsOwing u ws graph.old.graph due.old.items → FitsOwing u ws graph.new.graph due.new.items) }
+    ensures less { OnOk result (left 2 graph.new.graph + length due.new.items ≤ left 2 graph.old.graph + length due.old.items) }
+    ensures seen { left 8 graph.new.graph ≤ left 8 graph.old.graph }
+    ensures grows { Grows graph.old.graph graph.new.graph }
+    ensures failures { graph.old.failures ≤ graph.new.failures }
+    ensures failed { IfErr result (IsRefusal 0 0 graph.old.failures graph.new.failures) }
+{
+    for id in ids {
+        reach(graph, id, due)?;
+    }
+    Ok(())
+}
+
+// Whether a commit that was taken is offered: where nothing is left to pass over, and as the last of a line.
+fn is_offered(is_common: bool, left: u32, any: bool) -> bool
+    ensures common { IsTrue result → is_common ≡ false }
+    ensures reached { is_common ≡ false → left ≡ 0 → IsTrue result }
+    ensures last { is_common ≡ false → any ≡ false → IsTrue result }
+    ensures passed { 0 < left → any ≡ true → result ≡ false }
+{
+    if is_common {
+        return false;
+    }
+    if left == 0 {
+        return true;
+    }
+    !any
+}
+
+// The distance after one: half as long again, and one more.
+fn next_distance(whole: u32) -> u32
+    ensures { result ≡ distance_after whole }
+{
+    (whole / 2).saturating_add(whole).saturating_add(1)
+}
+
+// What the parents of a commit with these marks get.
+fn legacy_of(flags: Flags, skip: Skip) -> Legacy
+    ensures common { has_all 2 flags.0 ≡ true → result ≡ Common }
+    ensures listed { has_all 4 flags.0 ≡ true → result ≡ Common }
+    ensures passes { has_all 2 flags.0 ≡ false → has_all 4 flags.0 ≡ false → 0 < skip.left → result ≡ Skips (skip_of skip.whole (skip.left - 1)) }
+    ensures grows { has_all 2 flags.0 ≡ false → has_all 4 flags.0 ≡ false → skip.left ≡ 0 → result ≡ Skips (skip_of (distance_after skip.whole) (distance_after skip.whole)) }
+{
+    if has(flags, Flags(2)) || has(flags, Flags(4)) {
+        return Legacy::Common;
+    }
+    if skip.left > 0 {
+        return Legacy::Skips(Skip {
+            whole: skip.whole,
+            left: skip.left - 1,
+        });
+    }
+    let whole = next_distance(skip.whole);
+    Legacy::Skips(Skip { whole, left: whole })
+}
+
+impl Negotiator for Skipping {
+    ghost use Rattle.std.specs.Prelude.{◌≡◌, true};
+    ghost use Rattle.std.specs.BinaryHeap.{heap_items};
+    ghost use Rattle.gixp_negotiators.specs.Marks.{Grows, IsOffered, Offers, IsMarkedIfThere, has_mark, left};
+    ghost use Rattle.gixp_negotiators.specs.MarkLaws.{offer_lowers, grows_left};
+    ghost use Rattle.gixp_negotiators.specs.Waiting.{Fits, EndsCommon};
+
+    ghost count = { λ n g. left 16 g };
+
+    ghost failures = { λ n. 0 };
+
+    ghost knows = { λ n g id m h. Grows g h × IsMarkedIfThere 8 g h id × (Fits n.uncommon (heap_items n.queue.waiting) g → Fits m.uncommon (heap_items m.queue.waiting) h) };
+
+    ghost adds = { λ n g id m h. Grows g h × IsMarkedIfThere 8 g h id × (Fits n.uncommon (heap_items n.queue.waiting) g → Fits m.uncommon (heap_items m.queue.waiting) h) };
+
+    ghost learns = { λ n g id m h. Grows g h × (has_mark 8 g.held id ≡ true → has_mark 2 h.held id ≡ true) × (Fits n.uncommon (heap_items n.queue.waiting) g → Fits m.uncommon (heap_items m.queue.waiting) h) };
+
+    ghost offers = { λ n g have m h. Grows g h × Offers g have h × (Fits n.uncommon (heap_items n.queue.waiting) g → Fits m.uncommon (heap_items m.queue.waiting) h) × EndsCommon n.uncommon (heap_items n.queue.waiting) g have h };
+
+    fn known_common<O: Objects>(
+        &mut self,
+        id: ObjectId,
+        graph: &mut Graph<O>,
+    ) -> Result<(), NegotiatorError> {
+        self.push(graph, &id, Flags(12))
+    }
+
+    fn add_tip<O: Objects>(
+        &mut self,
+        id: ObjectId,
+        graph: &mut Graph<O>,
+    ) -> Result<(), NegotiatorError> {
+        self.push(graph, &id, Flags(8))
+    }
+
+    fn in_common_with_remote<O: Objects>(
+        &mut self,
+        id: ObjectId,
+        graph: &mut Graph<O>,
+    ) -> Result<(), NegotiatorError> {
+        self.mark_common(graph, &id)
+    }
+
+    fn next_have<O: Objects>(
+        &mut self,
+        graph: &mut Graph<O>,
+    ) -> Option<Result<ObjectId, NegotiatorError>> {
+        match self.next(graph) {
+            Ok(Some(id)) => Some(Ok(id)),
+            Ok(None) => None,
+            Err(e) => Some(Err(e)),
+        }
+    }
+
+    ghost offer_lowers = { λ n g id m h r. offer_lowers g h id r.1 };
+
+    ghost none_keeps = { λ n g m h r. grows_left 16 g h r.0 };
+
+    ghost learning_keeps = { λ n g id m h r. grows_left 16 g h r.0 };
+}

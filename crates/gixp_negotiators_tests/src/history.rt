@@ -1,0 +1,63 @@
+//! Small histories in memory.
+use gixp_graph::{CommitData, Graph, Negotiator, NegotiatorError, Objects};
+use gixp_hash::ObjectId;
+use gixp_memory::MemoryObjects;
+use std::alloc::{AllocError, Global};
+
+/// An id for each number.
+pub(crate) fn id(number: u8) -> ObjectId {
+    ObjectId {
+        bytes: [number; 20],
+    }
+}
+
+/// Adds a commit.
+pub(crate) fn add(
+    alloc: Global,
+    objects: &mut MemoryObjects,
+    number: u8,
+    time: i64,
+    parents: &[u8],
+) -> Result<(), AllocError> {
+    let mut ids = Vec::new(alloc);
+    for parent in parents {
+        ids.push(id(*parent))?;
+    }
+    objects.add_commit(id(number), CommitData { time, parents: ids })
+}
+
+/// The commits 1 to `last`, each with the next one as its parent, the newest first.
+pub(crate) fn line(alloc: Global, last: u8) -> Result<MemoryObjects, AllocError> {
+    let mut objects = MemoryObjects::new(alloc);
+    for number in 1..last {
+        add(
+            alloc,
+            &mut objects,
+            number,
+            1000 - i64::from(number),
+            &[number + 1],
+        )?;
+    }
+    add(alloc, &mut objects, last, 1000 - i64::from(last), &[])?;
+    Ok(objects)
+}
+
+/// The numbers of the next haves, at most so many.
+pub(crate) fn haves<N: Negotiator, O: Objects>(
+    alloc: Global,
+    negotiator: &mut N,
+    graph: &mut Graph<O>,
+    most: u8,
+) -> Result<Vec<u8>, NegotiatorError> {
+    let mut numbers = Vec::new(alloc);
+    for _ in 0..most {
+        let Some(have) = negotiator.next_have(graph) else {
+            return Ok(numbers);
+        };
+        match numbers.push(have?.bytes[0]) {
+            Ok(()) => {}
+            Err(_) => return Err(NegotiatorError::Memory),
+        }
+    }
+    Ok(numbers)
+}
