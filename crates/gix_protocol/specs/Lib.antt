@@ -139,9 +139,16 @@ pub use Rattle.gixp_fetch.specs.Sent
 pub use Rattle.gixp_fetch.specs.Boundary
 pub use Rattle.gixp_fetch.specs.ShallowText
 pub use Rattle.gixp_fetch.specs.ShallowFile
+pub use Rattle.gixp_fetch.specs.ShallowMemory
 pub use Rattle.gixp_fetch.specs.Sessions
 pub use Rattle.gixp_fetch.specs.Again
+pub use Rattle.gixp_fetch.specs.Mapped
 pub use Rattle.gixp_fetch.specs.Headline
+pub use Rattle.gixp_negotiators.specs.Algorithm as NegotiatorAlgorithm
+pub use Rattle.gixp_negotiators.specs.Distance as NegotiatorDistance
+pub use Rattle.gixp_negotiators.specs.Marks as NegotiatorMarks
+pub use Rattle.gixp_negotiators.specs.MarkLaws as NegotiatorMarkLaws
+pub use Rattle.gixp_negotiators.specs.Waiting as NegotiatorWaiting
 -- The types that they speak of.
 pub use Rattle.gixp_hash.specs.declared.object_id.ObjectId as ObjectIdType
 pub use Rattle.gixp_refs.specs.declared.handshake.refs.parse.Error as RefsError

@@ -8,7 +8,9 @@ pub use gixp_fetch::options::{Context, NegotiateOutcome, Options, Outcome};
 pub use gixp_fetch::shallow::{
     ShallowError, ShallowFile, ShallowMemory, ShallowStore, shallow_ids, shallow_text,
 };
-pub use gixp_fetch::{RemoteText, laws};
+pub use gixp_fetch::{RemoteText, WithSidebands, laws};
+pub use gixp_negotiate::negotiate::Negotiate;
+pub use gixp_negotiate::negotiate::negotiation::NegotiateContext;
 pub use gixp_negotiate::shallow::Shallow;
 pub use gixp_progress::fetch::ProgressId;
 pub use gixp_refmap::fetch::Tags;

@@ -5,10 +5,12 @@ use Rattle.std.specs.Prelude.{IfSome}
 use Rattle.std.specs.Io.KnownBytes.{Appends}
 use Rattle.gixp_packetline.specs.Pieces.{Pieces, Refusal}
 use Rattle.std.specs.declared.io.Error.{Error as io_error}
+use Rattle.std.specs.declared.io.ErrorKind.{ErrorKind}
+use Rattle.std.specs.IoError.{error_kind}
 use Rattle.gixp_packetline.specs.Reading.{Reading, AtStop, Fails}
 use Rattle.gixp_sidebands.specs.Bands.{Side, IsFirstOf, side_content, side_reading, shown, content_bound, Passes, ShowsContent, EndsContent, RefusesContent, ReadsBytes}
 use Rattle.gixp_fetch.specs.Receive.{ReadsOn}
-use Rattle.gixp_fetch.specs.Consume.{Copied}
+use Rattle.gixp_fetch.specs.Consume.{Copied, ReadRefused, WriteRefused}
 use Rattle.gixp_fetch.proofs.SentLemmas.{appends_nil, appends_trans}
 
 passes_none : (s : Side) → Passes s s []
@@ -103,12 +105,23 @@ copied_all old w start now end read h t = (
         u.3 ∙ (ap (λ z. read ++ side_content now z) same ∙ (ap (λ z. read ++ z) y ∙ append-nil read))
 
 -- a read was refused
-pub copied_refused : (old w : Option (List ℕ)) (start now end : Side) (read : List ℕ) (e : io_error) → Copied old start read w now → RefusesContent now end e
-    → (read' : List ℕ) × (lost : List ℕ) × Appends old w read' × ReadsOn start end (read' ++ lost) × ((side_reading end).held ≡ (side_reading start).held)
-copied_refused old w start now end read e h t =
-    (read, t.lost, h.written, record { content = passes_more start now end read t.lost h.reads.content t.rest }, fails_held (side_reading now) (side_reading end) t.refusal t.fails ∙ h.held)
+pub copied_refused : (old w : Option (List ℕ)) (start now end : Side) (read : List ℕ) (e : io_error) (kind : ErrorKind) → kind ≡ error_kind e → Copied old start read w now → RefusesContent now end e
+    → (read' : List ℕ) × (lost : List ℕ) × Appends old w read' × ReadsOn start end (read' ++ lost) × ((side_reading end).held ≡ (side_reading start).held) × ReadRefused old start read' w end kind
+copied_refused old w start now end read e kind g h t = (
+  read,
+  t.lost,
+  h.written,
+  record { content = passes_more start now end read t.lost h.reads.content t.rest },
+  fails_held (side_reading now) (side_reading end) t.refusal t.fails ∙ h.held,
+  record { now = now; copied = h; error = e; refused = t; gives = g },
+)
 
 -- the writer failed
 pub copied_unwritten : (old w : Option (List ℕ)) (start now mid : Side) (read : List ℕ) → Copied old start read w now → ShowsContent now mid
-    → (read' : List ℕ) × ReadsOn start mid read' × ((side_reading mid).held ≡ (side_reading start).held)
-copied_unwritten old w start now mid read h s = (read ++ [], record { content = passes_more start now mid read [] h.reads.content s.content }, s.held ∙ h.held)
+    → (read' : List ℕ) × ReadsOn start mid read' × ((side_reading mid).held ≡ (side_reading start).held) × WriteRefused old start mid
+copied_unwritten old w start now mid read h s = (
+  read ++ [],
+  record { content = passes_more start now mid read [] h.reads.content s.content },
+  s.held ∙ h.held,
+  record { now = now; mid = w; read = read; copied = h; shows = s },
+)

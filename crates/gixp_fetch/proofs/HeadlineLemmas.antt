@@ -1,82 +1,80 @@
 -- What is true of a client's whole run.
-use Rattle.std.proofs.Common.{◌≡◌, ◌⊎◌, inl, inr, ℕ, Bool, true, false, List, [], ◌∷◌, ◌++◌, map, refl, sym, ap, subst, ◌∙◌, Option, Some, None}
+use Rattle.std.proofs.Common.{◌≡◌, ◌⊎◌, inl, inr, Bool, true, false, List, [], ◌∷◌, map, refl, sym, ap, subst, ◌∙◌, Option, Some, None}
 use Rattle.std.specs.Prelude.{Result, Ok, Err, IfSome, Vec}
 use Rattle.std.specs.declared.alloc.Global.{Global}
-use Rattle.std.specs.Borrow.{GName}
 use Rattle.gixp_hash.specs.declared.object_id.ObjectId.{ObjectId}
-use Rattle.gixp_packetline.specs.declared.protocol.Protocol.{Protocol}
-use Rattle.gixp_packetline.specs.declared.protocol.MessageKind.{MessageKind}
-use Rattle.gixp_wire.specs.declared.service.Service.{Service}
-use Rattle.gixp_wire.specs.declared.service.SetServiceResponse.{SetServiceResponse}
-use Rattle.gixp_capabilities.specs.Capabilities.{CapabilityValue}
-use Rattle.gixp_wire.specs.Greeting.{Parameter}
 use Rattle.gixp_packetline.specs.Lines.{stop, lines_to}
 use Rattle.gixp_packetline.specs.Pieces.{Pieces}
 use Rattle.gixp_packetline.specs.Reading.{Reading, lines_ahead}
-use Rattle.gixp_sidebands.specs.Bands.{Side, content_left, content_of, side_content, IsFirstOf}
+use Rattle.gixp_capabilities.specs.Capabilities.{CapabilityValue}
+use Rattle.gixp_capabilities.specs.declared.client.Error.{Error as client_error}
+use Rattle.gixp_wire.specs.declared.service.Service.{Service}
+use Rattle.gixp_wire.specs.declared.service.SetServiceResponse.{SetServiceResponse}
+use Rattle.gixp_wire.specs.Greeting.{Parameter}
+use Rattle.gixp_wire.specs.Handshake.{Greets, Identifies, HandshakesBy, Handshakes}
 use Rattle.gixp_refs.specs.declared.handshake.Ref.{Ref}
-use Rattle.gixp_response.specs.declared.fetch.response.line.ShallowUpdate.{ShallowUpdate}
+use Rattle.gixp_refs.specs.declared.handshake.refs.parse.Error.{Error as refs_error}
+use Rattle.gixp_refs.specs.declared.handshake.refs.parse.Error.TheVariants.{Memory as refs_memory}
 use Rattle.gixp_refs.specs.Ref.{ref_value}
-use Rattle.gixp_refs.specs.RefLine.{refusal_from}
-use Rattle.gixp_refs.specs.Refs.{v2_refs}
-use Rattle.gixp_refs.specs.RefAdvertisement.{Symref, v1_refs}
-use Rattle.gixp_refs.specs.V1Refs.{ReadsV1}
+use Rattle.gixp_refs.specs.RefLine.{RefsRefusal, refusal_from}
+use Rattle.gixp_refs.specs.ParseError.{Answers as RefsAnswers, IsRefusal as IsRefsRefusal}
+use Rattle.gixp_refs.specs.Refs.{ReadsRefs}
+use Rattle.gixp_refs.specs.RefAdvertisement.{Symref, symref_table, v1_refs}
+use Rattle.gixp_refs.specs.V1Refs.{symref_values, ReadsV1, AdvertisementFails}
+use Rattle.gixp_response.specs.declared.fetch.response.line.ShallowUpdate.{ShallowUpdate}
 use Rattle.gixp_response.specs.ResponseError.{from_reader}
-use Rattle.gixp_response.specs.Answer.{AnswerValue, Found}
-use Rattle.gixp_response.specs.AnswerReading.{Answered}
 use Rattle.gixp_requests.specs.Arguments.{ArgumentsValue}
 use Rattle.gixp_requests.specs.Feature.{FeatureValue}
 use Rattle.gixp_requests.specs.Command.{Table}
+use Rattle.gixp_requests.specs.Offers.{Validates}
 use Rattle.gixp_refmap.specs.declared.ls_refs.error.Error.{Error as list_error}
 use Rattle.gixp_refmap.specs.declared.refmap.init.Context.{Context}
 use Rattle.gixp_refmap.specs.declared.refmap.init.Error.{Error as map_error}
 use Rattle.gixp_refmap.specs.declared.refmap.map.RefMap.{RefMap}
-use Rattle.gixp_refmap.specs.Listing.{Listing, listing_of, SendsListing, Lists as ListsRefs}
+use Rattle.gixp_refmap.specs.Listing.{Listing, listing, listing_of, listing_refusal, SendsListing, Lists as ListsRefs}
+use Rattle.gixp_refmap.specs.Mapping.{joined_specs}
 use Rattle.gixp_handshake.specs.declared.handshake.read.Handshake.{Handshake}
+use Rattle.gixp_handshake.specs.declared.handshake.error.Error.{Error as shake_error}
 use Rattle.gixp_handshake.specs.declared.handshake.ref_map.ObtainRefMap.{ObtainRefMap}
 use Rattle.gixp_handshake.specs.declared.handshake.ref_map.ObtainRefMap.TheVariants.{Existing, LsRefsCommand}
-use Rattle.gixp_handshake.specs.Shake.{Turn as credential_turn, Opened, Opens, NoMemory, GoesOn, Keeps, ReadsFirst, Shakes, is_accepted}
-use Rattle.gixp_handshake.specs.Obtain.{MakesMap, PreparesBy, ByList, ObtainsBy, Obtains}
-use Rattle.gixp_negotiate.specs.declared.negotiate.Round.{Round}
-use Rattle.gixp_negotiate.specs.Negotiate.{ActionValue, Lawful, IsWide}
+use Rattle.gixp_handshake.specs.declared.credentials.Outcome.{Outcome as Account}
+use Rattle.gixp_handshake.specs.Credentials.{store, action_value as credential_value, next_value}
+use Rattle.gixp_handshake.specs.ShakeError.{is_denied}
+use Rattle.gixp_handshake.specs.Shake.{Turn as credential_turn, Opened, Opens, NoMemory, Denied, First, Answer, Erased, Stored, Refused, Second, Identified, Got, LogsIn, GoesOn, IsOf, Keeps, ReadsFirst, Shakes, is_accepted}
+use Rattle.gixp_handshake.specs.Obtain.{prefixes_if, MakesMap, PreparesBy, ByList, FetchesList, ObtainsBy}
+use Rattle.gixp_negotiate.specs.Negotiate.{ActionValue, no_change, skip, negotiate, action_value, Lawful, IsWide}
+use Rattle.gixp_negotiate.specs.Wants.{AddsWants}
 use Rattle.gixp_fetch.specs.declared.options.Outcome.{Outcome}
 use Rattle.gixp_fetch.specs.declared.error.Error.{Error}
-use Rattle.gixp_fetch.specs.declared.receive.PackFailure.{PackFailure}
-use Rattle.gixp_fetch.specs.declared.receive.PackFailure.TheVariants.{Consumer, Rest}
-use Rattle.gixp_fetch.specs.FetchRounds.{At, Turn, Manner, Turns, Rounds, Interrupts, DoneWithout, RoundsFail}
-use Rattle.gixp_fetch.specs.View.{view}
-use Rattle.gixp_fetch.specs.Sent.{request_of, requests_of, WroteRequests}
-use Rattle.gixp_fetch.specs.Receive.{fresh_side}
-use Rattle.gixp_fetch.specs.Received.{PackFails, Received}
-use Rattle.gixp_fetch.specs.Session.{Undelivered, at_lock, at_boundary}
-use Rattle.gixp_fetch.specs.Session as session
-use Rattle.gixp_fetch.specs.Sessions.{Begins}
-use Rattle.gixp_fetch.specs.Fetch.{World, Parties, Negotiated, Fails, unopened, unready, unpacked, untold, undelivered}
-use Rattle.gixp_fetch.specs.Fetched.{Call, Fetches, unprepared, unlocked}
-use Rattle.gixp_fetch.specs.Headline.{AnswersAreRefused, RefsAreRefused, AdvertisementsAreRefused, Chain, Run, Shown, Listed, IsAnswer, AreAnswers, TakesPack, manner_of, BreaksOff, at_round, between, at_pack, BrokenOff, Converses, Promise}
-use Rattle.gixp_fetch.proofs.SentLemmas.{none_written, both_written, held_written, turn_written}
-use Rattle.gixp_fetch.proofs.SessionLemmas.{received_held, begins_of, session_held}
+use Rattle.gixp_fetch.specs.FetchRounds.{At}
+use Rattle.gixp_fetch.specs.Session.{Idle, Unready}
+use Rattle.gixp_fetch.specs.Fetch.{World, Parties}
+use Rattle.gixp_fetch.specs.Fetched.{Call}
+use Rattle.gixp_fetch.specs.Mapped.{Knowledge, decided, lines_of, FollowsMap}
+use Rattle.gixp_fetch.specs.Sessions.{Starts, Refuses, at_depth, at_wants, in_session, HoldsSession}
+use Rattle.gixp_fetch.specs.Headline.{IsOfAll, Answers as MapAnswers, of_shown, of_listed, unlisted, unmade, MapsAreOfAll, AnswersAreRefused, RefsAreRefused, AdvertisementsAreRefused, WordsAreSaid, SaysBy, Greeted, Shown, Listed, RefsRefused, AsksAccount, HasAccount, IsErased, NoAccount, unanswered, none_known, untaken, unheard_again, bad, unkept, Unshaken, unbegun, unheard, denied, unaccepted, unread, HandshakesAreRefused, WantsOfMap, NoWants, NoneOfMap, DecidesOfMap, RefusalOfMap, AsksOfMap, Run, Promise}
+use Rattle.gixp_fetch.proofs.SessionLemmas.{session_held}
 
 -- ---- refusals
 
 pub answers_refused : AnswersAreRefused
 answers_refused found plain old new e (inl h) = inl (h.refusal, h.first, h.error)
 answers_refused found plain old new e (inr (inl h)) = inl (from_reader h.refusal, h.first, λ _. h.error)
-answers_refused found plain old new e (inr (inr (inl h))) = inr (inl (h.now, h.refusal, h.failed, h.error))
-answers_refused found plain old new e (inr (inr (inr h))) = inr (inr h.error)
+answers_refused found plain old new e (inr (inr (inl h))) = inr (h.taken, inl (h.now, h.refusal, h.read, (h.failed, h.is_plain), h.error))
+answers_refused found plain old new e (inr (inr (inr h))) = inr (h.taken, inr (h.read, h.stopped, h.error))
 
 pub refs_refused : RefsAreRefused
 refs_refused plain old new e (inl h) = inl (h.refusal, h.first, h.error)
 refs_refused plain old new e (inr (inl h)) = inl (refusal_from h.refusal, h.first, λ _. h.error)
-refs_refused plain old new e (inr (inr (inl h))) = inr (inl (h.now, h.refusal, h.failed, h.error))
-refs_refused plain old new e (inr (inr (inr h))) = inr (inr h.error)
+refs_refused plain old new e (inr (inr (inl h))) = inr (h.taken, inl (h.now, h.refusal, h.read, (h.failed, h.is_plain), h.error))
+refs_refused plain old new e (inr (inr (inr h))) = inr (h.taken, inr (h.read, h.stopped, h.error))
 
 pub advertisements_refused : AdvertisementsAreRefused
 advertisements_refused t plain old new e (inl (inl h)) = inl (h.refusal, h.first, h.error)
 advertisements_refused t plain old new e (inl (inr (inl h))) = inl (refusal_from h.refusal, h.first, λ _. h.error)
-advertisements_refused t plain old new e (inl (inr (inr (inl h)))) = inr (inl (h.now, h.refusal, h.failed, h.error))
-advertisements_refused t plain old new e (inl (inr (inr (inr h)))) = inr (inr h.error)
-advertisements_refused t plain old new e (inr h) = inr (inr h.error)
+advertisements_refused t plain old new e (inl (inr (inr (inl h)))) = inr (inl (h.taken, inl (h.now, h.refusal, h.read, (h.failed, h.is_plain), h.error)))
+advertisements_refused t plain old new e (inl (inr (inr (inr h)))) = inr (inl (h.taken, inr (h.read, h.stopped, h.error)))
+advertisements_refused t plain old new e (inr h) = inr (inr (h.texts, h.now, h.read, h.at, h.error))
 
 -- ---- refs, and the map of them
 
@@ -89,73 +87,103 @@ lines_read t from new refs updates h =
     if_some from.to_come (λ p. (q : Pieces) × (new.to_come ≡ Some q) × (lines_ahead from p ≡ lines_to h.texts (stop h.kind q))) (λ p. v1_refs t (lines_ahead from p) ≡ Ok (map ref_value refs))
     (λ p l. ap (v1_refs t) l.2 ∙ h.values) h.lines
 
+-- what stands next to a handshake: its refs, or none, and nothing more was read
+abbrev By : Handshake → Option (Vec Ref Global) → SetServiceResponse → Reading → Reading → Type 0
+By h (Some refs) found from shaken = Shown found from shaken shaken h refs.items
+By h None found from shaken = (found.has_refs ≡ false) × (shaken ≡ from) × (h.v1_shallow_updates ≡ None)
+
+pub record Heard (service : Service) (ps : List Parameter) (turns : List credential_turn) (start shaken : Reading) (h : Handshake) : Type 0 where
+  pub greeted : Greeted service ps turns start shaken h
+  pub refs : By h h.refs greeted.found greeted.from shaken
+
 module _ (service : Service) (ps : List Parameter) (plain : Bool) (turns : List credential_turn) (start shaken : Reading) (h : Handshake) where
-  shown_first : (mid : Reading) (found : SetServiceResponse) (has : Bool) (refs : Vec Ref Global) → h.refs ≡ Some refs → Opens service ps start mid turns (Ok found) → ReadsFirst has found plain mid shaken (Ok h)
-      → Shown service ps turns start refs.items
-  shown_first mid found false refs e o r = cc (e, r.1)
-  shown_first mid found true refs e o r =
-      let same : r.0 ≡ refs = by_some (sym r.2 ∙ e) in
+  refs_by : (found : SetServiceResponse) (mid : Reading) (has : Bool) (given : Option (Vec Ref Global)) → found.has_refs ≡ has → h.refs ≡ given → ReadsFirst has found plain mid shaken (Ok h) → By h given found mid shaken
+  refs_by found mid false None e g r = (e, r.0, r.2)
+  refs_by found mid false (Some refs) e g r = cc (g, r.1)
+  refs_by found mid true None e g r = cc (g, r.2)
+  refs_by found mid true (Some refs) e g r =
+      let same : r.0 ≡ refs = by_some (sym r.2 ∙ g) in
       let a = r.4 in
-      record {
-        found = found;
-        from = mid;
-        opens = o;
+      subst (λ (v : Vec Ref Global). Shown found mid shaken shaken h v.items) same (record {
+        follow = e;
+        refs = r.0;
+        updates = r.1;
+        came = r.2;
+        told = r.3;
+        same = refl;
         table = a.0;
         symrefs = a.1;
-        refs = subst (λ (v : Vec Ref Global). IfSome mid.to_come (λ p. v1_refs a.0 (lines_ahead mid p) ≡ Ok (map ref_value v.items))) same (lines_read a.0 mid shaken r.0.items r.1.items a.2);
-      }
+        read = a.2;
+        values = lines_read a.0 mid shaken r.0.items r.1.items a.2;
+        stays = refl;
+      })
     where
       by_some : {x y : Vec Ref Global} → Some x ≡ Some y → x ≡ y
       by_some e = cc
 
-  shown_kept : (accepted : Bool) (mid : Reading) (found : SetServiceResponse) (refs : Vec Ref Global) → h.refs ≡ Some refs → Opens service ps start mid turns (Ok found) → Keeps accepted found plain mid shaken (Ok h)
-      → Shown service ps turns start refs.items
-  shown_kept true mid found refs e o k = shown_first mid found found.refs_follow refs e o k.0
-  shown_kept false mid found refs e o k = cc k.1
+  heard_first : (mid : Reading) (found : SetServiceResponse) → is_accepted start.held.accepted found.actual_protocol ≡ true → Opens service ps start mid turns (Ok found) → shaken.held ≡ mid.held
+      → ReadsFirst found.has_refs found plain mid shaken (Ok h) → IsOf found (Ok h) → Heard service ps turns start shaken h
+  heard_first mid found a o s r is = record {
+    greeted = record {
+      found = found;
+      from = mid;
+      opens = o;
+      accepted = a;
+      version = is.0;
+      capabilities = is.1;
+      held = s;
+    };
+    refs = refs_by found mid found.has_refs h.refs refl refl r;
+  }
 
-  shown_opened : (opened : Opened) (mid : Reading) (refs : Vec Ref Global) → h.refs ≡ Some refs → Opens service ps start mid turns opened ⊎ NoMemory start mid turns opened
-      → GoesOn start.held.accepted opened plain mid shaken (Ok h) → Shown service ps turns start refs.items
-  shown_opened (Err x) mid refs e o g = cc g.1
-  shown_opened (Ok found) mid refs e (inl o) g = shown_kept (is_accepted start.held.accepted found.actual_protocol) mid found refs e o g
-  shown_opened (Ok found) mid refs e (inr n) g = cc n.error
+  heard_kept : (accepted : Bool) (mid : Reading) (found : SetServiceResponse) → is_accepted start.held.accepted found.actual_protocol ≡ accepted → Opens service ps start mid turns (Ok found) → shaken.held ≡ mid.held
+      → Keeps accepted found plain mid shaken (Ok h) → Heard service ps turns start shaken h
+  heard_kept true mid found a o s k = heard_first mid found a o s k.0 k.1
+  heard_kept false mid found a o s k = cc k.1
 
-  shown_refs : (refs : Vec Ref Global) → h.refs ≡ Some refs → Shakes service ps plain start shaken turns (Ok h) → Shown service ps turns start refs.items
-  shown_refs refs e s = shown_opened s.opened s.mid refs e s.opens s.goes_on
+  heard_opened : (opened : Opened) (mid : Reading) → Opens service ps start mid turns opened ⊎ NoMemory start mid turns opened → shaken.held ≡ mid.held → GoesOn start.held.accepted opened plain mid shaken (Ok h)
+      → Heard service ps turns start shaken h
+  heard_opened (Err x) mid o s g = cc g.1
+  heard_opened (Ok found) mid (inl o) s g = heard_kept (is_accepted start.held.accepted found.actual_protocol) mid found refl o s g
+  heard_opened (Ok found) mid (inr n) s g = cc n.error
+
+  heard : Shakes service ps plain start shaken turns (Ok h) → Heard service ps turns start shaken h
+  heard s = heard_opened s.opened s.mid s.opens s.held s.goes_on
 
 abbrev ok_map : RefMap → Result RefMap map_error
 ok_map made = Ok made
 
--- what stands behind a map: its refs came with the handshake, or answered the command
-pub record Stands (service : Service) (ps : List Parameter) (turns : List credential_turn) (start shaken : Reading) (table : Table) (agent : FeatureValue) (context : Context) (caps : List CapabilityValue) (made : RefMap) : Type 0 where
-  pub came : Shown service ps turns start made.remote_refs.items ⊎ Listed table agent context caps shaken made.remote_refs.items
-  pub maps : MakesMap caps context made.remote_refs.items (Ok made)
+-- what a map is made of: its refs came with the handshake, or answered the command
+pub record Stands (found : SetServiceResponse) (from shaken mapped : Reading) (h : Handshake) (table : Table) (agent : FeatureValue) (context : Context) (made : RefMap) : Type 0 where
+  pub came : Shown found from shaken mapped h made.remote_refs.items ⊎ ((found.has_refs ≡ false) × (shaken ≡ from) × (h.v1_shallow_updates ≡ None) × Listed table agent context h shaken mapped made.remote_refs.items)
+  pub maps : MakesMap h.capabilities context made.remote_refs.items (Ok made)
 
-module _ (service : Service) (ps : List Parameter) (plain : Bool) (turns : List credential_turn) (start shaken mapped : Reading) (h : Handshake) (table : Table) (agent : FeatureValue) (context : Context) (made : RefMap) where
+module _ (plain : Bool) (found : SetServiceResponse) (from shaken mapped : Reading) (h : Handshake) (table : Table) (agent : FeatureValue) (context : Context) (made : RefMap) where
   abbrev Goal : Type 0
-  Goal = Stands service ps turns start shaken table agent context h.capabilities made
+  Goal = Stands found from shaken mapped h table agent context made
 
   by_listed : (l : Listing) (caps : List CapabilityValue) (ctx : Context) (listed : Result (Vec Ref Global) list_error) → ListsRefs l plain shaken mapped listed → ByList caps ctx listed (Ok made)
       → (refs : Vec Ref Global) × (listed ≡ Ok refs) × MakesMap caps ctx refs.items (Ok made)
   by_listed l caps ctx (Ok refs) s b = (refs, refl, b)
   by_listed l caps ctx (Err e) s b = cc b
 
-  by_prepared : (prepared : Result ObtainRefMap map_error) (given : Option (Vec Ref Global)) → h.refs ≡ given → PreparesBy given table true agent context h.capabilities prepared
-      → ObtainsBy prepared plain shaken mapped (Ok made) → Shakes service ps plain start shaken turns (Ok h) → Goal
-  by_prepared (Err e) given r p o s = cc o.1
-  by_prepared (Ok (Existing m)) None r p o s = absurd p
-  by_prepared (Ok (LsRefsCommand command handed)) (Some refs) r p o s = absurd p
-  by_prepared (Ok (Existing m)) (Some refs) r p o s =
+  by_prepared : (prepared : Result ObtainRefMap map_error) (given : Option (Vec Ref Global)) → h.refs ≡ given → By h given found from shaken → PreparesBy given table true agent context h.capabilities prepared
+      → ObtainsBy prepared plain shaken mapped (Ok made) → Goal
+  by_prepared (Err e) given r b p o = cc o.1
+  by_prepared (Ok (Existing m)) None r b p o = absurd p
+  by_prepared (Ok (LsRefsCommand command handed)) (Some refs) r b p o = absurd p
+  by_prepared (Ok (Existing m)) (Some refs) r b p o =
       let same : made ≡ m = by_ok o.1 in
       let p' : MakesMap h.capabilities context refs.items (Ok made) = subst (λ x. MakesMap h.capabilities context refs.items (Ok x)) (sym same) p in
       let are : made.remote_refs.items ≡ refs.items = p'.refs in
       record {
-        came = inl (subst (Shown service ps turns start) (sym are) (shown_refs service ps plain turns start shaken h refs r s));
+        came = inl (subst (λ (x : Reading). Shown found from shaken x h made.remote_refs.items) (sym o.0) (subst (Shown found from shaken shaken h) (sym are) b));
         maps = subst (λ given. MakesMap h.capabilities context given (Ok made)) (sym are) p';
       }
     where
       by_ok : {x y : RefMap} → ok_map x ≡ ok_map y → x ≡ y
       by_ok e = cc
-  by_prepared (Ok (LsRefsCommand command handed)) None r p o s =
+  by_prepared (Ok (LsRefsCommand command handed)) None r at p o =
       let l : Listing = listing_of command in
       let b = by_listed l l.capabilities handed o.listed o.lists o.maps in
       let list = subst (λ r. ListsRefs l plain shaken mapped r) b.1 o.lists in
@@ -163,193 +191,233 @@ module _ (service : Service) (ps : List Parameter) (plain : Bool) (turns : List 
       let maps : MakesMap h.capabilities handed b.0.items (Ok made) = subst (λ (x : Listing). MakesMap x.capabilities handed b.0.items (Ok made)) p.0 b.2 in
       let mapped_so : MakesMap h.capabilities context b.0.items (Ok made) = subst (λ ctx. MakesMap h.capabilities ctx b.0.items (Ok made)) p.1 maps in
       record {
-        came = inr (record {
-          from = list.mid;
-          sends = subst (λ x. SendsListing x shaken list.mid (Ok tt)) p.0 list.sent;
-          refs = subst (λ (given : List Ref). IfSome list.mid.to_come (λ p. v2_refs (lines_ahead list.mid p) ≡ Ok (map ref_value given))) (sym are) list.read.value;
-        });
+        came = inr (
+          at.0,
+          at.1,
+          at.2,
+          record {
+            none = r;
+            valid = subst (λ x. Validates (listing_refusal x) (Ok tt)) p.0 list.valid;
+            from = list.mid;
+            sends = subst (λ x. SendsListing x shaken list.mid (Ok tt)) p.0 list.sent;
+            read = subst (λ (given : List Ref). ReadsRefs list.mid mapped given) (sym are) list.read;
+            held = list.held;
+          },
+        );
         maps = subst (λ given. MakesMap h.capabilities context given (Ok made)) (sym are) mapped_so;
       }
 
-pub refs_stand : (service : Service) (ps : List Parameter) (plain : Bool) (turns : List credential_turn) (start shaken mapped : Reading) (h : Handshake) (table : Table) (agent : FeatureValue) (context : Context) (made : RefMap)
-    → Shakes service ps plain start shaken turns (Ok h) → Obtains table agent context h plain shaken mapped (Ok made) → Stands service ps turns start shaken table agent context h.capabilities made
-refs_stand service ps plain turns start shaken mapped h table agent context made s o = by_prepared service ps plain turns start shaken mapped h table agent context made o.prepared h.refs refl o.prepares o.obtains s
+-- ---- the server's first words
 
--- ---- answers
+abbrev no_words : client_error → Result SetServiceResponse client_error
+no_words e = Err e
 
-is_answer : (found : Pieces → Found) (version : Protocol) (old new : Reading) (value : AnswerValue) → Answered found version old new value → IsAnswer found old new value
-is_answer found version old new value (inl r) = inl r.answer
-is_answer found version old new value (inr b) = inr b.failures
+same_words : {x y : client_error} → no_words x ≡ no_words y → x ≡ y
+same_words e = cc
 
--- ---- rounds
+why_refused : {A B C : Type 0} → (A × B) ⊎ C → A ⊎ C
+why_refused (inl h) = inl h.0
+why_refused (inr h) = inr h
 
-module _ {N I A : Type 0} (m : Manner N I A) where
-  chain_of : (start end : At N I) (ts : List (Turn N I)) → Rounds m start ts end → Chain m start ts end
-  chain_of start end [] r = r
-  chain_of start end (t ∷ ts) r = (r.0, chain_of t.after end ts r.3)
+said_by : (persists : Bool) (service : Service) (ps : List Parameter) (old new : Reading) (r : Result SetServiceResponse client_error) → HandshakesBy persists service ps old new r → SaysBy persists service ps old new r
+said_by true service ps old new (Ok found) (inl h) = cc h.1
+said_by true service ps old new (Err e) (inl h) = inl (subst (λ x. Greets service ps old new (Err x)) (sym (same_words h.1)) h.2)
+said_by true service ps old new (Ok found) (inr h) = (h.0, h.1, h.2.value, h.2.says)
+said_by true service ps old new (Err e) (inr h) = inr (h.0, h.1, why_refused h.2.why, h.2.caused)
+said_by false service ps old new (Ok found) (inl h) = cc h.1
+said_by false service ps old new (Err e) (inl h) = inl (h.0, same_words h.1, h.2, h.3)
+said_by false service ps old new (Ok found) (inr h) = (h.0, (h.1, h.2), h.3.value, h.3.says)
+said_by false service ps old new (Err e) (inr h) = inr (h.0, (h.1, h.2), why_refused h.3.why, h.3.caused)
 
-  chain_last : (start before : At N I) (ts : List (Turn N I)) (last : Turn N I) → Rounds m start ts before → Turns m before last → Chain m start (ts ++ last ∷ []) last.after
-  chain_last start before [] last r h = (subst (λ x. Turns m x last) r h, refl)
-  chain_last start before (t ∷ ts) last r h = (r.0, chain_last t.after before ts last r.3 h)
+pub words_said : WordsAreSaid
+words_said service ps old new r h = said_by old.held.persists service ps old new r h
 
-  chain_answers : (start end : At N I) (ts : List (Turn N I)) → Chain m start ts end → AreAnswers m.version m.banded ts
-  chain_answers start end [] r = tt
-  chain_answers start end (t ∷ ts) r = (is_answer _ _ _ _ _ r.0.answer, chain_answers t.after end ts r.1)
+no_table : (capabilities : List CapabilityValue) (e : refs_error) (r : Result (List Symref) RefsRefusal) → symref_table capabilities ≡ r → RefsAnswers symref_values r (Err e)
+    → ((x : RefsRefusal) × (symref_table capabilities ≡ Err x) × IsRefsRefusal e x) ⊎ (e ≡ refs_memory)
+no_table capabilities e (Ok t) p a = inr a
+no_table capabilities e (Err x) p a = inl (x, p, a)
 
-  chain_written : (start end : At N I) (ts : List (Turn N I)) → Chain m start ts end → WroteRequests start.reading end.reading (requests_of ts)
-  chain_written start end [] r = subst (λ (x : At N I). WroteRequests start.reading x.reading []) (sym r) (none_written start.reading)
-  chain_written start end (t ∷ ts) r = both_written start.reading t.after.reading end.reading (request_of t ∷ []) (requests_of ts) (turn_written m start t r.0) (chain_written t.after end ts r.1)
+refs_refused_by : (capabilities : List CapabilityValue) (plain : Bool) (old new : Reading) (e : refs_error) → AdvertisementFails capabilities plain old new e → RefsRefused capabilities plain old new e
+refs_refused_by capabilities plain old new e (inl h) = inl (h.0, no_table capabilities e (symref_table capabilities) refl h.1)
+refs_refused_by capabilities plain old new e (inr h) = inr (h.0, h.1, advertisements_refused h.0 plain old new e h.2)
 
--- ---- the pack
+-- ---- the table of accounts
 
-view_stopped : (banded : Bool) (r : Reading) → (view banded r).stopped ≡ r.stopped
-unfolding view
-view_stopped true r = refl
-view_stopped false r = refl
+abbrev unopened : shake_error → Opened
+unopened e = Err e
 
-runs_on : (found : Pieces → Found) (version : Protocol) (old new : Reading) (value : AnswerValue) → value.pack ≡ true → Answered found version old new value → new.stopped ≡ None
-runs_on found version old new value e (inl r) = r.running e
-runs_on found version old new value e (inr b) = b.stopped
+same_opening : {x y : shake_error} → unopened x ≡ unopened y → x ≡ y
+same_opening e = cc
 
-begins_content : (o : Option Pieces) (stopped : Option MessageKind) (end : Side) (read : List ℕ) → stopped ≡ None
-    → IfSome o (λ p. Unit {0} → (q : Pieces) × (end.reading.to_come ≡ Some q) × IsFirstOf end q × (content_left None stopped p ≡ read ++ side_content end q)) → IfSome o (λ p. (rest : List ℕ) × (content_of p ≡ read ++ rest))
-begins_content None stopped end read e h = tt
-begins_content (Some p) stopped end read e h = let x = h tt in (side_content end x.0, subst (λ s. content_left None s p ≡ read ++ side_content end x.0) e x.3)
+module _ (service : Service) (ps : List Parameter) (old new : Reading) (turns : List credential_turn) (e : shake_error) (turn : credential_turn) (later : List credential_turn) (asks : AsksAccount old turns turn later) where
+  abbrev None_of : Type 0
+  None_of = NoAccount service ps old new turns e
 
-module _ {N I A S C P X : Type 0} (parties : Parties N I A S C P X) where
-  takes_pack : (c : C) (from : Reading) (d : C) (new : Reading) (q : P) → from.stopped ≡ None → Received parties.consumes c from d new q → TakesPack parties c from d
-  takes_pack c from d new q e r = record {
-    before = r.p;
-    returned = Ok r.finished;
-    start = fresh_side r.name from;
-    end = r.mid;
-    behind = q;
-    lent = refl;
-    took = r.consumed.took;
-    read = r.consumed.read;
-    reads = r.consumed.reads;
-    begins = begins_content from.to_come from.stopped r.mid r.consumed.read e r.consumed.reads.content;
+  asks_so : (more : List credential_turn) → later ≡ more → AsksAccount old turns turn more
+  asks_so more l = record { all = asks.all ∙ ap (λ ts. turn ∷ ts) l; asked = asks.asked }
+
+  module _ (account : Account) (now : Reading) (has : HasAccount old now turn account) where
+    by_erased : (answer : Answer) (told : credential_turn) → told.answer ≡ answer → Erased answer old.held.url (Err e) → IsErased answer old.held.url e
+    by_erased (Ok x) told a h = (h.0, h.1, same_opening h.2)
+    by_erased (Err x) told a h = same_opening h
+
+    by_stored : (answer : Answer) (told : credential_turn) (found : SetServiceResponse) → told.answer ≡ answer → Handshakes service ps now new (Ok found) → later ≡ told ∷ [] → credential_value told.action ≡ store (next_value account.next)
+        → Stored answer found (Err e) → None_of
+    by_stored (Ok x) told found a h l t s = cc s
+    by_stored (Err x) told found a h l t s = unkept turn told (asks_so (told ∷ []) l) account now has found h t x a (same_opening s)
+
+    by_refused : (b : Bool) (x : client_error) → is_denied x ≡ b → Handshakes service ps now new (Err x) → Refused b x account.next old.held.url later (Err e) → None_of
+    by_refused true x p h r =
+        bad turn r.1.turn (asks_so (r.1.turn ∷ []) r.1.alone) account now has x h p r.1.asked (subst (λ a. IsErased a old.held.url e) (sym r.1.answered) (by_erased r.0 r.1.turn r.1.answered r.2))
+    by_refused false x p h r = unheard_again turn (asks_so [] r.0) account now has x h p (same_opening r.1)
+
+    by_second : (second : Result SetServiceResponse client_error) → Handshakes service ps now new second → Second second account.next old.held.url later (Err e) → None_of
+    by_second (Ok found) h s = by_stored s.0 s.1.turn found s.1.answered h s.1.alone s.1.asked s.2
+    by_second (Err x) h s = by_refused (is_denied x) x refl h s
+
+  by_taken : (account : Account) (taken : Result (Unit {0}) client_error) (now : Reading) → turn.answer ≡ Ok (Some account) → Identifies old now account.identity taken
+      → Identified service ps taken account.next old.held.url now new later (Err e) → None_of
+  by_taken account (Ok x) now a i d = by_second account now (record { got = a; taken = i }) d.0 d.1 d.2
+  by_taken account (Err x) now a i d = untaken turn (asks_so [] d.0) account a x (subst (λ (r : Reading). Identifies old r account.identity (Err x)) (sym d.1) i) (same_opening d.2)
+
+  by_answer : (answer : Answer) → turn.answer ≡ answer → Got service ps answer old.held.url old new later (Err e) → None_of
+  by_answer (Err x) a g = unanswered turn (asks_so [] g.0) x a g.1 (same_opening g.2)
+  by_answer (Ok None) a g = none_known turn (asks_so [] g.0) a g.1 (same_opening g.2)
+  by_answer (Ok (Some account)) a g = by_taken account g.0 g.1 a g.2 g.3
+
+no_account : (service : Service) (ps : List Parameter) (old new : Reading) (turns : List credential_turn) (e : shake_error) → LogsIn service ps old new turns (Err e) ⊎ NoMemory old new turns (Err e)
+    → NoAccount service ps old new turns e ⊎ NoMemory old new turns (Err e)
+no_account service ps old new turns e (inl l) = inl (by_answer service ps old new turns e l.turn l.later (record { all = l.all; asked = l.asked }) l.turn.answer refl l.got)
+no_account service ps old new turns e (inr n) = inr n
+
+-- ---- handshakes that are refused
+
+abbrev no_handshake : shake_error → Result Handshake shake_error
+no_handshake e = Err e
+
+same_refusal : {x y : shake_error} → no_handshake x ≡ no_handshake y → x ≡ y
+same_refusal e = cc
+
+module _ (service : Service) (ps : List Parameter) (plain : Bool) (start reached : Reading) (turns : List credential_turn) (e : shake_error) where
+  abbrev Why : Type 0
+  Why = Unshaken service ps plain start reached turns e
+
+  by_denial : (b : Bool) (x : client_error) (mid : Reading) → is_denied x ≡ b → Handshakes service ps start mid (Err x) → Denied b x service ps mid reached turns (Err e) → Why
+  by_denial true x mid p h d = denied x mid h p (no_account service ps mid reached turns e d)
+  by_denial false x mid p h d = unheard x (subst (λ (r : Reading). Handshakes service ps start r (Err x)) (sym d.1) h) p d.0 (same_opening d.2)
+
+  by_first : (first : Result SetServiceResponse client_error) (mid : Reading) → Handshakes service ps start mid first → First first service ps mid reached turns (Err e) → Why
+  by_first (Ok found) mid h f = cc f.2
+  by_first (Err x) mid h f = by_denial (is_denied x) x mid refl h f
+
+  by_reading : (found : SetServiceResponse) (mid : Reading) (has : Bool) → found.has_refs ≡ has → is_accepted start.held.accepted found.actual_protocol ≡ true → Opens service ps start mid turns (Ok found)
+      → ReadsFirst has found plain mid reached (Err e) → Why
+  by_reading found mid false p a o r = absurd r
+  by_reading found mid true p a o r = unread found mid o a p r.0 (refs_refused_by found.capabilities plain mid reached r.0 r.1) r.2
+
+  by_version : (accepted : Bool) (found : SetServiceResponse) (mid : Reading) → is_accepted start.held.accepted found.actual_protocol ≡ accepted → Opens service ps start mid turns (Ok found)
+      → Keeps accepted found plain mid reached (Err e) → Why
+  by_version true found mid a o k = by_reading found mid found.has_refs refl a o k.0
+  by_version false found mid a o k = unaccepted found (subst (λ (r : Reading). Opens service ps start r turns (Ok found)) (sym k.0) o) a (same_refusal k.1)
+
+  by_opening : (opened : Opened) (mid : Reading) → Opens service ps start mid turns opened ⊎ NoMemory start mid turns opened → GoesOn start.held.accepted opened plain mid reached (Err e) → Why
+  by_opening (Ok found) mid (inl o) g = by_version (is_accepted start.held.accepted found.actual_protocol) found mid refl o g
+  by_opening (Ok found) mid (inr n) g = cc n.error
+  by_opening (Err x) mid (inl o) g =
+      let here : Opens service ps start reached turns (Err e) = subst (λ (r : Reading). Opens service ps start r turns (Err e)) (sym g.0) (subst (λ y. Opens service ps start mid turns (Err y)) (sym (same_refusal g.1)) o) in
+      by_first here.0 here.1 here.2 here.3
+  by_opening (Err x) mid (inr n) g = unbegun (record { untold = n.untold; same = g.0 ∙ n.same; error = ap unopened (same_refusal g.1) ∙ n.error })
+
+pub handshakes_refused : HandshakesAreRefused
+handshakes_refused service ps plain start reached turns e s = by_opening service ps plain start reached turns e s.opened s.mid s.opens s.goes_on
+
+-- ---- ref maps and their refusals
+
+module _ (table : Table) (agent : FeatureValue) (context : Context) (h : Handshake) (plain : Bool) (shaken reached : Reading) (r : Result RefMap map_error) where
+  abbrev wanted_list : Listing
+  wanted_list = listing table (prefixes_if true (joined_specs context.fetch_refspecs.items context.extra_refspecs.items)) h.capabilities agent
+
+  abbrev no_map : map_error → Result RefMap map_error
+  no_map x = Err x
+
+  mapped_by : (listed : Result (Vec Ref Global) list_error) → h.refs ≡ None → ListsRefs wanted_list plain shaken reached listed → ByList h.capabilities context listed r → MapAnswers table agent context h plain shaken reached r
+  mapped_by (Ok refs) n l b = of_listed refs.items (record { none = n; valid = l.valid; from = l.mid; sends = l.sent; read = l.read; held = l.held }) (b.maps, b.filtered)
+  mapped_by (Err e) n l b = unlisted n e l b
+
+  listed_by : (l : Listing) (handed : Context) → l ≡ wanted_list → handed ≡ context → h.refs ≡ None → FetchesList l handed plain shaken reached r → MapAnswers table agent context h plain shaken reached r
+  listed_by l handed p q n f =
+      let at : FetchesList wanted_list context plain shaken reached r = subst (λ x. FetchesList wanted_list x plain shaken reached r) q (subst (λ (x : Listing). FetchesList x handed plain shaken reached r) p f) in
+      mapped_by at.listed n at.lists at.maps
+
+  answers_by : (prepared : Result ObtainRefMap map_error) (given : Option (Vec Ref Global)) → h.refs ≡ given → PreparesBy given table true agent context h.capabilities prepared → ObtainsBy prepared plain shaken reached r
+      → MapAnswers table agent context h plain shaken reached r
+  answers_by (Err e) None n p o = unmade n (o.1 ∙ ap no_map p) o.0
+  answers_by (Err e) (Some refs) n p o = of_shown refs n o.0 (subst (IsOfAll context h.capabilities refs.items) (sym o.1) (p.maps, p.filtered))
+  answers_by (Ok (Existing m)) None n p o = absurd p
+  answers_by (Ok (Existing m)) (Some refs) n p o = of_shown refs n o.0 (subst (IsOfAll context h.capabilities refs.items) (sym o.1) (p.maps, p.filtered))
+  answers_by (Ok (LsRefsCommand command handed)) (Some refs) n p o = absurd p
+  answers_by (Ok (LsRefsCommand command handed)) None n p o = listed_by (listing_of command) handed p.0 p.1 n o
+
+pub maps_are_of_all : MapsAreOfAll
+maps_are_of_all table agent context h plain shaken reached r o = answers_by table agent context h plain shaken reached r o.prepared h.refs refl o.prepares o.obtains
+
+-- ---- what is asked for of a map
+
+module _ {N I A S C P X : Type 0} (parties : Parties N I A S C P X) (map_of : N → RefMap) (knows : N → Knowledge) (follows : FollowsMap parties.negotiation_calls.marks parties.negotiation_calls.adds map_of knows) (made : RefMap) where
+  wants_of_map : (call : Call) (old : World N I S C) (banded : Bool) (ids : List ObjectId) (action : ActionValue) (locked : Bool) (read : S) (start : At N I) → map_of old.negotiate ≡ made
+      → (s : Starts parties call old banded ids action locked read start) → WantsOfMap parties (knows old.negotiate) made s
+  wants_of_map call old banded ids action locked read start same s = record {
+    decides = subst (λ m. action ≡ decided (knows old.negotiate) m) same (follows.decides old.negotiate action s.marked s.marks);
+    wants = subst (λ m. AddsWants (lines_of (knows old.negotiate) m s.asked s.known) true s.asked start.asked) same
+        (follows.asks old.negotiate action s.marked s.known s.asked true start.asked start.negotiate s.marks s.adds);
   }
 
-  -- the consumer refused it, or what stands behind it was refused
-  refuses_pack : (c : C) (from : Reading) (d : C) (q : P) (name : GName) (p : P) (error : PackFailure X) (end : Side) → from.stopped ≡ None → PackFails parties.consumes c (fresh_side name from) p error d end q → TakesPack parties c from d
-  refuses_pack c from d q name p (Consumer e) end s f = record {
-    before = p;
-    returned = Err e;
-    start = fresh_side name from;
-    end = end;
-    behind = q;
-    lent = refl;
-    took = f.took;
-    read = f.read;
-    reads = f.reads;
-    begins = begins_content from.to_come from.stopped end f.read s f.reads.content;
+  none_of_map : (first last : N) (asked : ArgumentsValue) → map_of first ≡ made → (i : Idle parties.negotiation_calls first asked last) → NoneOfMap parties (knows first) made i
+  none_of_map first last asked same i = record {
+    decides = subst (λ m. i.action ≡ decided (knows first) m) same (follows.decides first i.action i.marked i.marks);
+    wants = no_wants i.idle;
   }
-  refuses_pack c from d q name p (Rest e) end s f = record {
-    before = p;
-    returned = Ok true;
-    start = fresh_side name from;
-    end = f.0;
-    behind = q;
-    lent = refl;
-    took = f.1.took;
-    read = f.1.read;
-    reads = f.1.reads;
-    begins = begins_content from.to_come from.stopped f.0 f.1.read s f.1.reads.content;
-  }
+    where
+      no_wants : (h : (((i.action ≡ no_change) ⊎ (i.action ≡ skip)) × (last ≡ i.marked)) ⊎ ((known : List Bool) × (wanted : ArgumentsValue) × (i.action ≡ negotiate known) × parties.negotiation_calls.adds i.marked known asked false wanted last))
+          → NoWants parties (knows first) made h
+      no_wants (inl h) = tt
+      no_wants (inr h) = subst (λ m. AddsWants (lines_of (knows first) m asked h.0) false asked h.1) same (follows.asks first i.action i.marked h.0 asked false h.1 last i.marks h.3)
 
-  module _ (call : Call) (banded : Bool) (given : ArgumentsValue) (old : World N I S C) (e : Error A X) (new : World N I S C) (progress : P) where
-    abbrev Broken : Type 0
-    Broken = BrokenOff parties call old.negotiate old.consumer old.reading e new.negotiate new.consumer new.reading
+  decides_of_map : (first last : N) (asked : ArgumentsValue) (e : Error A X) → map_of first ≡ made → (u : Unready parties.negotiation_calls first asked e last) → DecidesOfMap parties (knows first) made u
+  decides_of_map first last asked e same (inl u) = tt
+  decides_of_map first last asked e same (inr u) = subst (λ m. negotiate u.known ≡ decided (knows first) m) same (follows.decides first (negotiate u.known) u.marked u.marks)
 
-    broken_at : (start end : At N I) (turns : List (Turn N I)) → Begins parties.negotiation_calls old.negotiate start.negotiate → start.reading ≡ old.reading → Chain (manner_of parties call banded) start turns end
-        → BreaksOff parties call banded old.consumer end e new.negotiate new.consumer new.reading → Broken
-    broken_at start end turns b h c ends = record {
-      banded = banded;
-      start = start;
-      turns = turns;
-      end = end;
-      begins = b;
-      here = h;
-      run = c;
-      answers = chain_answers (manner_of parties call banded) start end turns c;
-      requests = subst (λ (r : Reading). WroteRequests r end.reading (requests_of turns)) h (chain_written (manner_of parties call banded) start end turns c);
-      ends = ends;
-    }
+  refusal_of_map : (call : Call) (old : World N I S C) (e : Error A X) (last : World N I S C) (progress : P) → map_of old.negotiate ≡ made → (r : Refuses parties call old e last progress)
+      → RefusalOfMap parties (knows old.negotiate) made r
+  refusal_of_map call old e last progress same (at_depth given banded held p l u n t) = tt
+  refusal_of_map call old e last progress same (at_wants banded ids asked a u t) = decides_of_map old.negotiate last.negotiate asked e same u
+  refusal_of_map call old e last progress same (in_session b) = wants_of_map call old b.banded b.ids b.action b.locked b.read b.start same b.starts
 
-    broken_rounds : (start : At N I) (rounds : List Round) → Begins parties.negotiation_calls old.negotiate start.negotiate → start.reading ≡ old.reading → new.consumer ≡ old.consumer
-        → RoundsFail (manner_of parties call banded) start e rounds new.negotiate new.reading new.interrupt → Broken
-    broken_rounds start rounds b h c (inl f) = by_end f.ends
-      where
-        by_end : Interrupts (manner_of parties call banded) start rounds f.end ⊎ DoneWithout (manner_of parties call banded) start rounds f.end → Broken
-        by_end (inl i) = broken_at start i.before i.turns b h (chain_of (manner_of parties call banded) start i.before i.turns i.run) (between (f.reads ∙ ap (λ (a : At N I). a.reading) i.stands) c)
-        by_end (inr d) = broken_at start d.last.after (d.turns ++ d.last ∷ []) b h (chain_last (manner_of parties call banded) start d.before d.turns d.last d.run d.lasts) (between (f.reads ∙ ap (λ (a : At N I). a.reading) d.stands) c)
-    broken_rounds start rounds b h c (inr f) = broken_at start f.before f.turns b h (chain_of (manner_of parties call banded) start f.before f.turns f.run) (at_round f.refused)
+  asks_of_map : (call : Call) (old : World N I S C) (result : Result (Option Outcome) (Error A X)) (new : World N I S C) (progress : P) → map_of old.negotiate ≡ made → (h : HoldsSession parties call old result new progress)
+      → AsksOfMap parties (knows old.negotiate) made call old result new progress h
+  asks_of_map call old (Ok (Some outcome)) new progress same h = wants_of_map call old h.1.banded h.1.ids (action_value outcome.negotiate.action) h.1.locked h.1.read h.1.start same h.1.starts
+  asks_of_map call old (Ok None) new progress same h = none_of_map old.negotiate h.0.negotiate h.1.asked same h.1.idle
+  asks_of_map call old (Err e) new progress same (inl u) = tt
+  asks_of_map call old (Err e) new progress same (inr h) = refusal_of_map call old e h.0 progress same h.1
 
-    broken_packed : (ids : List ObjectId) (read : S) (action : ActionValue) (rounds : List Round) (updates : List ShallowUpdate) (reply : AnswerValue) (end : At N I)
-        → Negotiated parties call.version banded call.wishes given old ids read action rounds updates reply end
-        → ((from : At N I) → end ≡ from → from.reading.stopped ≡ None → BreaksOff parties call banded old.consumer from e new.negotiate new.consumer new.reading) → Broken
-    broken_packed ids read action rounds updates reply end n ends =
-        let p = n.packed in
-        broken_at _ p.last.after (p.turns ++ p.last ∷ []) (begins_of parties.negotiation_calls old.negotiate n.begun.asked action n.ready n.wanted n.begun.readied) refl
-        (chain_last (manner_of parties call banded) _ p.before p.turns p.last p.run p.lasts)
-        (ends p.last.after p.stands (sym (view_stopped banded p.last.after.reading) ∙ runs_on _ _ _ _ _ p.pack p.lasts.answer))
+-- ---- a whole run
 
-    broken_delivery : (from : At N I) (ids : List ObjectId) (read : S) (updates : List ShallowUpdate) → from.reading.stopped ≡ None
-        → Undelivered parties.store_calls parties.consumes ids updates call.wishes.reject old.consumer read old.locked from.reading e new.consumer new.store new.locked new.reading progress
-        → BreaksOff parties call banded old.consumer from e new.negotiate new.consumer new.reading
-    broken_delivery from ids read updates s (at_lock u d r) = between r d
-    broken_delivery from ids read updates s (session.at_pack h (inl u)) = at_pack (refuses_pack old.consumer from.reading new.consumer progress u.name u.p u.error u.end s u.fails)
-    broken_delivery from ids read updates s (session.at_pack h (inr u)) = between u.2 u.1
-    broken_delivery from ids read updates s (at_boundary held h r u) = at_pack (takes_pack old.consumer from.reading new.consumer new.reading progress s r)
-
-    broken : Fails parties call.version banded call.wishes given old e new progress → (new.reading ≡ old.reading) ⊎ Broken
-    broken (unopened u n r) = inl r.reading
-    broken (unready ids asked o u r) = inl r.reading
-    broken (unpacked rounds u l c) = inr (broken_rounds _ rounds (begins_of parties.negotiation_calls old.negotiate u.begun.asked u.action u.ready u.wanted u.begun.readied) refl c u.fails)
-    broken (untold ids action rounds updates reply end n w g r l c) =
-        inr (broken_packed ids new.store action rounds updates reply end n (λ from at s. between (r ∙ ap (λ (a : At N I). a.reading) at) c))
-    broken (undelivered ids read action rounds updates reply end n g u) =
-        inr (broken_packed ids read action rounds updates reply end n (λ from at s. broken_delivery from ids read (updates ++ call.wishes.told) s
-        (subst (λ (a : At N I). Undelivered parties.store_calls parties.consumes ids (updates ++ call.wishes.told) call.wishes.reject old.consumer read old.locked a.reading e new.consumer new.store new.locked new.reading progress) at u)))
-
-  converses : (call : Call) (old : World N I S C) (result : Result (Option Outcome) (Error A X)) (new : World N I S C) (progress : P) → Fetches parties call old result new progress → Converses parties call old result new
-  converses call old (Err e) new progress (inl (unprepared u s)) = inl (ap (λ (w : World N I S C). w.reading) s)
-  converses call old (Err e) new progress (inl (unlocked a b p u s)) = inl (ap (λ (w : World N I S C). w.reading) s)
-  converses call old (Err e) new progress (inr h) =
-      subst (λ (w : World N I S C). (w.reading ≡ old.reading) ⊎ BrokenOff parties call old.negotiate old.consumer old.reading e w.negotiate w.consumer w.reading) (sym h.stands)
-      (broken call h.banded h.asked (record old { store = h.held; locked = h.first }) e h.last progress h.meets)
-  converses call old (Ok None) new progress h = ap (λ (w : World N I S C). w.reading) h.stands ∙ h.meets.rests.reading
-  converses call old (Ok (Some outcome)) new progress h =
-      let s = h.meets in
-      let n = s.negotiated in
-      let p = n.packed in
-      let m : Manner N I A = manner_of parties call h.banded in
-      let c = chain_last m _ p.before p.turns p.last p.run p.lasts in
-      let runs : s.end.reading.stopped ≡ None = ap (λ (a : At N I). a.reading.stopped) p.stands ∙ sym (view_stopped h.banded p.last.after.reading) ∙ runs_on _ _ _ _ _ p.pack p.lasts.answer in
+module _ {N I A S C P X : Type 0} (parties : Parties N I A S C P X) (map_of : N → RefMap) (knows : N → Knowledge) (follows : FollowsMap parties.negotiation_calls.marks parties.negotiation_calls.adds map_of knows)
+    (lawful : Lawful parties.negotiation_calls.goes parties.negotiation_calls.count) (wide : IsWide parties.negotiation_calls.goes) where
+  pub promised : (call : Call) (context : Context) (start : Reading) (made : RefMap) (old : World N I S C) (result : Result (Option Outcome) (Error A X)) (new : World N I S C) (progress : P)
+      (run : Run parties map_of knows call context start made old result new progress) → Promise parties map_of knows call context start made old result new progress run
+  promised call context start made old result new progress run =
+      let g = heard run.service run.parameters parties.plain run.credentials start run.shaken run.handshake run.shakes in
+      let o = run.obtains in
+      let s = by_prepared parties.plain g.greeted.found g.greeted.from run.shaken old.reading run.handshake call.table call.agent context made o.prepared run.handshake.refs refl g.refs o.prepares o.obtains in
+      let held = session_held parties lawful wide call old result new progress run.fetches in
       record {
-        banded = h.banded;
-        start = _;
-        updates = s.updates;
-        reply = s.reply;
-        end = s.end;
-        begins = begins_of parties.negotiation_calls old.negotiate n.begun.asked _ n.ready n.wanted n.begun.readied;
-        here = refl;
-        packed = p;
-        answers = chain_answers m _ _ _ c;
-        requests = held_written old.reading p.last.after.reading new.reading _ (chain_written m _ _ _ c)
-            (ap (λ (w : World N I S C). w.reading.held) h.stands ∙ received_held _ _ _ _ _ _ s.delivered.received ∙ ap (λ (a : At N I). a.reading.held) p.stands);
-        pack = subst (λ d. TakesPack parties old.consumer s.end.reading d) (ap (λ (w : World N I S C). w.consumer) (sym h.stands)) (takes_pack old.consumer s.end.reading h.last.consumer h.last.reading progress runs s.delivered.received);
-      }
-
-  pub promised : Lawful parties.negotiation_calls.goes parties.negotiation_calls.count → IsWide parties.negotiation_calls.goes
-      → (call : Call) (context : Context) (start : Reading) (made : RefMap) (old : World N I S C) (result : Result (Option Outcome) (Error A X)) (new : World N I S C) (progress : P)
-      (run : Run parties call context start made old result new progress) → Promise parties call context start made old result new progress run
-  promised lawful wide call context start made old result new progress run =
-      let s = refs_stand run.service run.parameters parties.plain run.credentials start run.shaken old.reading run.handshake call.table call.agent context made run.shakes run.obtains in
-      record {
+        greeted = g.greeted;
         refs = s.came;
-        mappings = s.maps.filtered;
-        conversation = converses call old result new progress run.fetches;
-        bound = session_held parties lawful wide call old result new progress run.fetches;
+        mappings = (s.maps.maps, s.maps.filtered);
+        placed = s.maps.found;
+        explicit = s.maps.explicit;
+        extra = s.maps.extra;
+        conversation = held;
+        asks = asks_of_map parties map_of knows follows made call old result new progress run.negotiates held;
       }

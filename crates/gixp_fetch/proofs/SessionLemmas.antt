@@ -1,30 +1,41 @@
 -- A fetch seen from outside.
-use Rattle.std.proofs.Common.{◌≡◌, ◌⊎◌, inl, inr, ℕ, ◌+◌, ◌≤◌, Bool, true, false, List, [], ◌∷◌, ◌++◌, length, map, drop, refl, sym, ap, subst, ◌∙◌, arith, Option, Some, None, length-append}
-use Rattle.std.specs.Prelude.{Result, Ok, Err}
+use Rattle.std.proofs.Common.{◌≡◌, ◌⊎◌, inl, inr, ℕ, ◌+◌, ◌/◌, ◌≤◌, Bool, true, false, not, ◌||◌, List, [], ◌∷◌, ◌++◌, length, map, length-append, arith, refl, sym, ap, subst, ◌∙◌, Option, Some, None, drop}
+use Rattle.std.specs.Prelude.{Result, Ok, Err, IfSome}
 use Rattle.std.proofs.lemmas.List.{append-nil}
-use Rattle.gixp_packetline.specs.TransportState.{TransportState as held_data}
-use Rattle.gixp_packetline.specs.Pieces.{Refusal}
-use Rattle.gixp_packetline.specs.Reading.{Reading, Fails as reader_fails}
-use Rattle.gixp_sidebands.specs.Bands.{Side, side_reading, is_begun}
-use Rattle.gixp_requests.specs.Arguments.{ArgumentsValue}
-use Rattle.gixp_response.specs.declared.fetch.response.line.ShallowUpdate.{ShallowUpdate}
-use Rattle.gixp_response.specs.Answer.{AnswerValue}
+use Rattle.std.specs.Borrow.{GName}
 use Rattle.gixp_hash.specs.declared.object_id.ObjectId.{ObjectId}
+use Rattle.gixp_packetline.specs.declared.protocol.Protocol.{Protocol}
+use Rattle.gixp_packetline.specs.declared.protocol.MessageKind.{MessageKind}
+use Rattle.gixp_packetline.specs.Pieces.{Pieces, Refusal}
+use Rattle.gixp_packetline.specs.Reading.{Reading, Fails as reader_fails}
+use Rattle.gixp_sidebands.specs.Bands.{Side, content_left, content_of, side_content, IsFirstOf, side_reading, is_begun}
+use Rattle.gixp_response.specs.declared.fetch.response.line.ShallowUpdate.{ShallowUpdate}
+use Rattle.gixp_response.specs.Answer.{AnswerValue, Found}
+use Rattle.gixp_response.specs.AnswerReading.{Answered}
+use Rattle.gixp_requests.specs.Arguments.{ArgumentsValue, is_v2}
 use Rattle.gixp_negotiate.specs.declared.negotiate.Round.{Round}
-use Rattle.gixp_negotiate.specs.Negotiate.{ActionValue, Lawful, IsWide}
+use Rattle.gixp_negotiate.specs.declared.negotiate.Error.TheVariants.{NegotiationFailed}
+use Rattle.gixp_negotiate.specs.Negotiate.{ActionValue, Lawful, IsWide, first_window}
 use Rattle.gixp_fetch.specs.declared.options.Outcome.{Outcome}
 use Rattle.gixp_fetch.specs.declared.error.Error.{Error}
+use Rattle.gixp_fetch.specs.declared.error.Error.TheVariants.{Negotiate}
 use Rattle.gixp_fetch.specs.declared.receive.PackFailure.{PackFailure}
 use Rattle.gixp_fetch.specs.declared.receive.PackFailure.TheVariants.{Consumer, Rest}
-use Rattle.gixp_fetch.specs.FetchRounds.{At, Turn, Manner, Packed, Interrupts, DoneWithout, Refused, TurnFails, told_of, Breaks, before_request, at_request, behind_request, at_answer, behind_answer, RoundsFail}
-use Rattle.gixp_fetch.specs.Sent.{request_of, requests_of}
-use Rattle.gixp_fetch.specs.Receive.{Finishes, GivesBack, fresh_side}
+use Rattle.gixp_fetch.specs.FetchRounds.{At, Turn, Manner, Rounds, Packed, Interrupts, DoneWithout, RoundsFail, TurnFails, Breaks, before_request, at_request, behind_request, at_answer, behind_answer, told_of, haves_of, windows_of}
+use Rattle.gixp_fetch.specs.Bound.{Bounded, but_last}
+use Rattle.gixp_fetch.specs.FetchShallow.{is_change}
+use Rattle.gixp_fetch.specs.Prepare.{Prepared, LocksFirst}
+use Rattle.gixp_fetch.specs.View.{view}
+use Rattle.gixp_fetch.specs.Sent.{request_of, requests_of, WroteRequests}
+use Rattle.gixp_fetch.specs.Receive.{fresh_side, Consumed, GivesBack, Finishes}
 use Rattle.gixp_fetch.specs.Received.{PackFails, Received, Unreceived}
-use Rattle.gixp_fetch.specs.Session.{StoreCalls, NegotiationCalls, Readied, Undelivered, at_lock, at_pack, at_boundary}
-use Rattle.gixp_fetch.specs.Fetch.{World, Parties, Negotiated, Fails, unopened, unready, unpacked, untold, undelivered}
-use Rattle.gixp_fetch.specs.Fetched.{Call, Fetches, unprepared, unlocked}
-use Rattle.gixp_fetch.specs.Sessions.{Begins, Requests, Held, HoldsSession}
-use Rattle.gixp_fetch.proofs.SentLemmas.{rounds_written, last_written}
+use Rattle.gixp_fetch.specs.Session.{Undelivered, StoreCalls, at_lock, at_pack, at_boundary}
+use Rattle.gixp_fetch.specs.Fetch.{World, Parties, Begun, Negotiated, Fails, unopened, unready, unpacked, untold, undelivered}
+use Rattle.gixp_fetch.specs.Fetched.{Call, features, Fetches}
+use Rattle.gixp_packetline.specs.TransportState.{TransportState as held_data}
+use Rattle.gixp_fetch.specs.Session as session
+use Rattle.gixp_fetch.specs.Sessions.{IsAnswer, AreAnswers, GoOn, begun_by, begun_in, AreNegotiated, manner_of, Asks, Starts, TakesPack, TakesAll, RefusesPack, Unpacks, lacks_memory, lacks_lock, lacks_room, untaken, unwritten, Unlent, BreaksOff, by_caller, exhausted, at_round, behind_pack, one_more, answered_at, unanswered, told_last, BrokenOff, Refuses, at_depth, at_wants, in_session, HoldsSession}
+use Rattle.gixp_fetch.proofs.SentLemmas.{none_written, both_written, held_written, turn_written}
 
 -- ---- what a transport holds stays while a pack is read
 
@@ -64,191 +75,343 @@ module _ {C P X : Type 0} (consumes : C → Side → P → Result Bool X → C �
   unreceived_held from e d new q (inr m) = ap (λ (r : Reading). r.held) m.2
 
   module _ {S : Type 0} (store_calls : StoreCalls S) (ids : List ObjectId) (updates : List ShallowUpdate) (reject : Bool) (store : S) (locked : Bool) (from : Reading) where
-    undelivered_held : {A : Type 0} (e : Error A X) (d : C) (store' : S) (locked' : Bool) (reading : Reading) (q : P)
+    pub undelivered_held : {A : Type 0} (e : Error A X) (d : C) (store' : S) (locked' : Bool) (reading : Reading) (q : P)
         → Undelivered store_calls consumes ids updates reject c store locked from e d store' locked' reading q → reading.held ≡ from.held
     undelivered_held e d store' locked' reading q (at_lock u x r) = ap (λ (r : Reading). r.held) r
     undelivered_held e d store' locked' reading q (at_pack h u) = unreceived_held from e d reading q u
     undelivered_held e d store' locked' reading q (at_boundary held h r u) = received_held from d reading q r
 
--- ---- the requests of the rounds
+-- ---- answers
 
-length_requests : {N I : Type 0} (ts : List (Turn N I)) → length (requests_of ts) ≡ length (map (λ (t : Turn N I). t.round) ts)
-length_requests [] = refl
-length_requests (t ∷ ts) = let h = length_requests ts in omega arith
+is_answer : (found : Pieces → Found) (version : Protocol) (old new : Reading) (value : AnswerValue) → Answered found version old new value → IsAnswer found version old new value
+is_answer found version old new value (inl r) = inl r.answer
+is_answer found version old new value (inr b) = inr b
 
-few_more : {N I : Type 0} (ts : List (Turn N I)) (x : List ℕ) (r : Round) (rounds : List Round) → rounds ≡ map (λ (t : Turn N I). t.round) ts ++ r ∷ [] → length (requests_of ts ++ x ∷ []) + 0 ≤ length rounds
-few_more ts x r rounds e =
-    let a = length-append (requests_of ts) (x ∷ []) in
-    let b = length-append (map (λ (t : Turn _ _). t.round) ts) (r ∷ []) in
-    let c = length_requests ts in
+-- ---- how many rounds and requests
+
+requests_length : {N I : Type 0} (ts : List (Turn N I)) → length (requests_of ts) ≡ length ts
+requests_length [] = refl
+requests_length (t ∷ ts) = let h = requests_length ts in omega arith
+
+rounds_length : {N I : Type 0} (ts : List (Turn N I)) (rs : List Round) → length (map (λ (t : Turn N I). t.round) ts ++ rs) ≡ length ts + length rs
+rounds_length [] rs = let n = length rs in omega arith
+rounds_length (t ∷ ts) rs = let h = rounds_length ts rs in omega arith
+
+count_same : {N I : Type 0} (ts : List (Turn N I)) (rounds : List Round) (n : ℕ) → n ≡ length rounds → rounds ≡ map (λ (t : Turn N I). t.round) ts → n ≡ length ts
+count_same ts rounds n c e =
+    let a = rounds_length ts [] in
+    let b = ap length (e ∙ sym (append-nil (map (λ (t : Turn _ _). t.round) ts))) in
+    omega arith
+
+count_more : {N I : Type 0} (ts : List (Turn N I)) (r : Round) (rounds : List Round) (n : ℕ) → n ≡ length rounds → rounds ≡ map (λ (t : Turn N I). t.round) ts ++ r ∷ [] → n ≡ length ts + 1
+count_more ts r rounds n c e =
+    let a = rounds_length ts (r ∷ []) in
+    let b = ap length e in
+    omega arith
+
+few_packed : {N I : Type 0} (ts : List (Turn N I)) (t : Turn N I) (rounds : List Round) (n : ℕ) → rounds ≡ map (λ (t : Turn N I). t.round) ts ++ t.round ∷ [] → length rounds ≤ n → length (requests_of (ts ++ t ∷ [])) ≤ n
+few_packed ts t rounds n e l =
+    let a = requests_length (ts ++ t ∷ []) in
+    let b = length-append ts (t ∷ []) in
+    let c = rounds_length ts (t.round ∷ []) in
     let d = ap length e in
     omega arith
 
-few_same : {N I : Type 0} (ts : List (Turn N I)) (rounds : List Round) → rounds ≡ map (λ (t : Turn N I). t.round) ts → length (requests_of ts) + 0 ≤ length rounds
-few_same ts rounds e = let c = length_requests ts in let d = ap length e in omega arith
-
-few_one : {N I : Type 0} (ts : List (Turn N I)) (n : ℕ) (r : Round) (rounds : List Round) → n ≤ 1 → rounds ≡ map (λ (t : Turn N I). t.round) ts ++ r ∷ [] → length (requests_of ts) + n ≤ length rounds
-few_one ts n r rounds l e =
-    let b = length-append (map (λ (t : Turn _ _). t.round) ts) (r ∷ []) in
-    let c = length_requests ts in
-    let d = ap length e in
+few_all : {N I : Type 0} (ts more : List (Turn N I)) (xs : List (List ℕ)) (rs rounds : List Round) (n : ℕ) → rounds ≡ map (λ (t : Turn N I). t.round) ts ++ rs → length more + length xs ≤ length rs → length rounds ≤ n
+    → length (requests_of (ts ++ more) ++ xs) ≤ n
+few_all ts more xs rs rounds n e m l =
+    let a = requests_length (ts ++ more) in
+    let b = length-append ts more in
+    let c = length-append (requests_of (ts ++ more)) xs in
+    let d = rounds_length ts rs in
+    let f = ap length e in
     omega arith
+
+none_of_none : 0 ≤ 0
+none_of_none = omega arith
+
+none_of_one : 0 ≤ 1
+none_of_one = omega arith
+
+add_none : (a b : ℕ) → a ≤ b → 0 + a ≤ b
+add_none a b h = omega arith
+
+one_of_one : 1 ≤ 1
+one_of_one = omega arith
+
+module _ {N I A E : Type 0} (m : Manner N I A) where
+  few_broken : (old : At N I) (asked : ArgumentsValue) (done : Bool) (e : Error A E) (reading : Reading) (b : Breaks m old asked done e reading) → length (begun_by m b) ≤ 1
+  few_broken old asked done e reading (before_request w r) = none_of_one
+  few_broken old asked done e reading (at_request error s g) = one_of_one
+  few_broken old asked done e reading (behind_request s w) = one_of_one
+  few_broken old asked done e reading (at_answer sent s error a h g) = one_of_one
+  few_broken old asked done e reading (behind_answer sent s reply a h w) = one_of_one
+
+  few_begun : (old : At N I) (e : Error A E) (negotiate : N) (reading : Reading) (f : TurnFails m old e negotiate reading) → length (begun_in m f) ≤ length (told_of m f)
+  few_begun old e negotiate reading (inl u) = none_of_none
+  few_begun old e negotiate reading (inr b) = few_broken old b.asked b.done e reading b.breaks
+
+-- ---- rounds
 
 module _ {N I A : Type 0} (m : Manner N I A) where
-  packed_requests : (start : At N I) (rounds : List Round) (updates : List ShallowUpdate) (reply : AnswerValue) (end : At N I) (new : Reading) → Packed m start rounds updates reply end
-      → new.held ≡ end.reading.held → Requests rounds start.reading new
-  packed_requests start rounds updates reply end new p h = record {
-    requests = requests_of p.turns ++ request_of p.last ∷ [];
-    mid = p.last.after.reading;
-    another = false;
-    wrote = last_written m start p.before p.turns p.last p.run p.lasts;
-    rest = h ∙ ap (λ (a : At N I). a.reading.held) p.stands;
-    few = few_more p.turns (request_of p.last) p.last.round rounds p.told;
+  rounds_answers : (start end : At N I) (ts more : List (Turn N I)) → Rounds m start ts end → AreAnswers m.version m.banded more → AreAnswers m.version m.banded (ts ++ more)
+  rounds_answers start end [] more r a = a
+  rounds_answers start end (t ∷ ts) more r a = (is_answer _ _ _ _ _ r.0.answer, rounds_answers t.after end ts more r.3 a)
+
+  rounds_go_on : (start end : At N I) (ts : List (Turn N I)) → Rounds m start ts end → GoOn ts
+  rounds_go_on start end [] r = tt
+  rounds_go_on start end (t ∷ ts) r = (r.1, r.2, rounds_go_on t.after end ts r.3)
+
+  rounds_negotiated : (start end : At N I) (ts more : List (Turn N I)) → Rounds m start ts end → AreNegotiated m end more → AreNegotiated m start (ts ++ more)
+  rounds_negotiated start end [] more r a = subst (λ (x : At N I). AreNegotiated m x more) r a
+  rounds_negotiated start end (t ∷ ts) more r a = (r.0.negotiated, r.0.rest, r.0.previous, rounds_negotiated t.after end ts more r.3 a)
+
+  rounds_wrote : (start end : At N I) (new : Reading) (ts more : List (Turn N I)) → Rounds m start ts end → WroteRequests end.reading new (requests_of more) → WroteRequests start.reading new (requests_of (ts ++ more))
+  rounds_wrote start end new [] more r w = subst (λ (x : At N I). WroteRequests x.reading new (requests_of more)) r w
+  rounds_wrote start end new (t ∷ ts) more r w = both_written start.reading t.after.reading new (request_of t ∷ []) (requests_of (ts ++ more)) (turn_written m start t r.0) (rounds_wrote t.after end new ts more r.3 w)
+
+-- ---- the pack
+
+view_stopped : (banded : Bool) (r : Reading) → (view banded r).stopped ≡ r.stopped
+unfolding view
+view_stopped true r = refl
+view_stopped false r = refl
+
+runs_on : (found : Pieces → Found) (version : Protocol) (old new : Reading) (value : AnswerValue) → value.pack ≡ true → Answered found version old new value → new.stopped ≡ None
+runs_on found version old new value e (inl r) = r.running e
+runs_on found version old new value e (inr b) = b.stopped
+
+begins_content : (o : Option Pieces) (stopped : Option MessageKind) (end : Side) (read : List ℕ) → stopped ≡ None
+    → IfSome o (λ p. Unit {0} → (q : Pieces) × (end.reading.to_come ≡ Some q) × IsFirstOf end q × (content_left None stopped p ≡ read ++ side_content end q))
+    → IfSome o (λ p. (q : Pieces) × (end.reading.to_come ≡ Some q) × (content_of p ≡ read ++ side_content end q))
+begins_content None stopped end read e h = tt
+begins_content (Some p) stopped end read e h = let x = h tt in (x.0, x.1, subst (λ s. content_left None s p ≡ read ++ side_content end x.0) e x.3)
+
+same_pieces : {x y : Pieces} → Some x ≡ Some y → x ≡ y
+same_pieces e = cc
+
+reads_all : (o t : Option Pieces) (end : Side) (read : List ℕ) → IfSome o (λ p. (q : Pieces) × (t ≡ Some q) × (content_of p ≡ read ++ side_content end q))
+    → IfSome o (λ p. IfSome t (λ q. side_content end q ≡ [] → content_of p ≡ read))
+reads_all None t end read h = tt
+reads_all (Some p) None end read h = tt
+reads_all (Some p) (Some q) end read h = λ e. h.2 ∙ (ap (λ xs. read ++ xs) (subst (λ x. side_content end x ≡ []) (same_pieces h.1) e) ∙ append-nil read)
+
+module _ {N I A S C P X : Type 0} (parties : Parties N I A S C P X) where
+  taken : (c : C) (from : Reading) (d : C) (name : GName) (before : P) (returned : Result Bool X) (left : Side) (q : P) → from.stopped ≡ None → Consumed parties.consumes c (fresh_side name from) before returned d left q
+      → TakesPack parties c from returned d left q
+  taken c from d name before returned left q e h =
+      let begins = begins_content from.to_come from.stopped left h.read e h.reads.content in
+      record { name = name; before = before; took = h.took; read = h.read; begins = begins; all = reads_all from.to_come left.reading.to_come left h.read begins }
+
+  takes_all : (c : C) (from : Reading) (d : C) (new : Reading) (q : P) → from.stopped ≡ None → Received parties.consumes c from d new q → TakesAll parties c from d new q
+  takes_all c from d new q e r = record {
+    finished = r.finished;
+    left = r.mid;
+    end = r.end;
+    takes = taken c from d r.name r.p (Ok r.finished) r.mid q e r.consumed;
+    drains = λ f. let x = r.finishes.drains f in record { kind = x.kind; stopped = x.stopped; failures = x.failures; rest = x.rest };
+    stays = r.finishes.stays;
+    back = r.back;
   }
 
-  done_requests : (start : At N I) (rounds : List Round) (end : At N I) (new : Reading) → DoneWithout m start rounds end → new ≡ end.reading → Requests rounds start.reading new
-  done_requests start rounds end new p h = record {
-    requests = requests_of p.turns ++ request_of p.last ∷ [];
-    mid = p.last.after.reading;
-    another = false;
-    wrote = last_written m start p.before p.turns p.last p.run p.lasts;
-    rest = ap (λ (r : Reading). r.held) h ∙ ap (λ (a : At N I). a.reading.held) p.stands;
-    few = few_more p.turns (request_of p.last) p.last.round rounds p.told;
+  -- the consumer refused it, or what stands behind it was refused
+  refuses_pack : (c : C) (from : Reading) (d : C) (new : Reading) (q : P) (name : GName) (p : P) (error : PackFailure X) (end : Side) → from.stopped ≡ None → PackFails parties.consumes c (fresh_side name from) p error d end q
+      → GivesBack end new → RefusesPack parties c from error d new q
+  refuses_pack c from d new q name p (Consumer x) end s f b = (end, taken c from d name p (Err x) end q s f, b)
+  refuses_pack c from d new q name p (Rest x) end s f b = (f.0, end, taken c from d name p (Ok true) f.0 q s f.1, f.2, b)
+
+  -- where the rounds begin
+  abbrev begin_at : World N I S C → N → ArgumentsValue → At N I
+  begin_at old ready wanted = record {
+    negotiate = ready;
+    window = first_window (not old.reading.held.persists || is_v2 wanted.version);
+    asked = wanted;
+    previous = None;
+    reading = old.reading;
+    interrupt = old.interrupt;
   }
 
-  stopped_requests : (start : At N I) (rounds : List Round) (end : At N I) (new : Reading) → Interrupts m start rounds end → new ≡ end.reading → Requests rounds start.reading new
-  stopped_requests start rounds end new p h = record {
-    requests = requests_of p.turns;
-    mid = p.before.reading;
-    another = false;
-    wrote = rounds_written m start p.before p.turns p.run;
-    rest = ap (λ (r : Reading). r.held) h ∙ ap (λ (a : At N I). a.reading.held) p.stands;
-    few = few_same p.turns rounds p.told;
-  }
+  packed_running : (m : Manner N I A) (start : At N I) (rounds : List Round) (updates : List ShallowUpdate) (reply : AnswerValue) (end : At N I) → Packed m start rounds updates reply end → end.reading.stopped ≡ None
+  packed_running m start rounds updates reply end p = ap (λ (a : At N I). a.reading.stopped) p.stands ∙ (sym (view_stopped m.banded p.last.after.reading) ∙ runs_on _ _ _ _ _ p.pack p.lasts.answer)
 
-  module _ {E : Type 0} where
-    refused_requests : (start : At N I) (e : Error A E) (rounds : List Round) (negotiate : N) (reading : Reading) → Refused m start e rounds negotiate reading → Requests rounds start.reading reading
-    refused_requests start e rounds negotiate reading f = by_refusal f.refused f.told
-      where
-        by_break : (asked : ArgumentsValue) (done : Bool) (round : Round) → Breaks m f.before asked done e reading → rounds ≡ map (λ (t : Turn N I). t.round) f.turns ++ round ∷ [] → Requests rounds start.reading reading
-        by_break asked done round (before_request w r) t = record {
-          requests = requests_of f.turns;
-          mid = f.before.reading;
-          another = false;
-          wrote = rounds_written m start f.before f.turns f.run;
-          rest = ap (λ (r : Reading). r.held) r;
-          few = few_one f.turns 0 round rounds (omega arith) t;
-        }
-        by_break asked done round (at_request error s w) t = record {
-          requests = requests_of f.turns;
-          mid = f.before.reading;
-          another = true;
-          wrote = rounds_written m start f.before f.turns f.run;
-          rest = (reading, asked, done, Err error, s, refl);
-          few = few_one f.turns 1 round rounds (omega arith) t;
-        }
-        by_break asked done round (behind_request s w) t = record {
-          requests = requests_of f.turns;
-          mid = f.before.reading;
-          another = true;
-          wrote = rounds_written m start f.before f.turns f.run;
-          rest = (reading, asked, done, Ok tt, s, refl);
-          few = few_one f.turns 1 round rounds (omega arith) t;
-        }
-        by_break asked done round (at_answer sent s error a h w) t = record {
-          requests = requests_of f.turns;
-          mid = f.before.reading;
-          another = true;
-          wrote = rounds_written m start f.before f.turns f.run;
-          rest = (sent, asked, done, Ok tt, s, h);
-          few = few_one f.turns 1 round rounds (omega arith) t;
-        }
-        by_break asked done round (behind_answer sent s reply a h w) t = record {
-          requests = requests_of f.turns;
-          mid = f.before.reading;
-          another = true;
-          wrote = rounds_written m start f.before f.turns f.run;
-          rest = (sent, asked, done, Ok tt, s, h);
-          few = few_one f.turns 1 round rounds (omega arith) t;
-        }
+  -- after the first arguments and the lock
+  module _ (call : Call) (banded : Bool) (given : ArgumentsValue) (old : World N I S C) (held : S) (first : Bool) (prepared : Prepared call.table call.version (features call) call.tags given banded)
+      (locks : LocksFirst parties.store_calls.locks (is_change call.wishes.shallow) old.store held first) where
+    abbrev manner : Manner N I A
+    manner = manner_of parties call banded
 
-        by_refusal : (t : TurnFails m f.before e negotiate reading) → rounds ≡ map (λ (t : Turn N I). t.round) f.turns ++ told_of m t → Requests rounds start.reading reading
-        by_refusal (inl u) t = record {
-          requests = requests_of f.turns;
-          mid = f.before.reading;
-          another = false;
-          wrote = rounds_written m start f.before f.turns f.run;
-          rest = ap (λ (r : Reading). r.held) u.stands;
-          few = few_same f.turns rounds (t ∙ append-nil (map (λ (x : Turn N I). x.round) f.turns));
-        }
-        by_refusal (inr b) t = by_break b.asked b.done b.round b.breaks t
+    abbrev within : World N I S C
+    within = record old { store = held; locked = first }
 
-    failed_requests : (start : At N I) (e : Error A E) (rounds : List Round) (negotiate : N) (reading : Reading) (interrupt : I) → RoundsFail m start e rounds negotiate reading interrupt → Requests rounds start.reading reading
-    failed_requests start e rounds negotiate reading interrupt (inl f) = by_end f.ends
-      where
-        by_end : Interrupts m start rounds f.end ⊎ DoneWithout m start rounds f.end → Requests rounds start.reading reading
-        by_end (inl i) = stopped_requests start rounds f.end reading i f.reads
-        by_end (inr d) = done_requests start rounds f.end reading d f.reads
-    failed_requests start e rounds negotiate reading interrupt (inr f) = refused_requests start e rounds negotiate reading f
-
--- ---- a whole fetch
-
-pub begins_of : {N A : Type 0} (negotiation_calls : NegotiationCalls N A) (first : N) (given : ArgumentsValue) (action : ActionValue) (ready : N) (wanted : ArgumentsValue) → Readied negotiation_calls first given action ready wanted → Begins negotiation_calls first ready
-begins_of negotiation_calls first given action ready wanted r = record {
-  known = r.known;
-  marked = r.marked;
-  given = given;
-  wanted = wanted;
-  marks = subst (λ a. negotiation_calls.marks first a r.marked) r.must r.marks;
-  adds = r.adds;
-}
-
-module _ {N I A S C P X : Type 0} (parties : Parties N I A S C P X) (lawful : Lawful parties.negotiation_calls.goes parties.negotiation_calls.count) (wide : IsWide parties.negotiation_calls.goes) where
-  module _ (call : Call) (banded : Bool) (given : ArgumentsValue) (old : World N I S C) where
-    negotiated_held : (ids : List ObjectId) (read : S) (action : ActionValue) (rounds : List Round) (updates : List ShallowUpdate) (reply : AnswerValue) (end : At N I) (new : Reading)
-        → Negotiated parties call.version banded call.wishes given old ids read action rounds updates reply end → new.held ≡ end.reading.held → Held parties.negotiation_calls old.negotiate rounds old.reading new
-    negotiated_held ids read action rounds updates reply end new n h = record {
-      ready = n.ready;
-      begins = begins_of parties.negotiation_calls old.negotiate n.begun.asked action n.ready n.wanted n.begun.readied;
-      haves = n.bounded.haves lawful;
-      few = n.bounded.requests lawful wide;
-      requests = packed_requests _ _ rounds updates reply end new n.packed h;
+    asks_so : (ids : List ObjectId) (asked : ArgumentsValue) (locked : Bool) (read : S) → LocksFirst parties.store_calls.locks (is_change call.wishes.shallow) old.store held locked
+        → session.Opened parties.store_calls call.wishes.shallow held given ids read asked → Asks parties call old.store banded ids asked locked read
+    asks_so ids asked locked read l o = record {
+      raw = prepared.raw;
+      values = prepared.values;
+      needed = prepared.needed;
+      bands = prepared.bands;
+      given = given;
+      tags = prepared.asks;
+      held = held;
+      locks = l;
+      reads = o.reads;
+      depth = o.asks;
     }
 
-    refused_held : (e : Error A X) (new : World N I S C) (progress : P) → Fails parties call.version banded call.wishes given old e new progress
-        → (new.reading ≡ old.reading) ⊎ ((rounds : List Round) × Held parties.negotiation_calls old.negotiate rounds old.reading new.reading)
-    refused_held e new progress (unopened u n r) = inl r.reading
-    refused_held e new progress (unready ids asked o u r) = inl r.reading
-    refused_held e new progress (unpacked rounds u l c) = inr (
-      rounds,
-      record {
-        ready = u.ready;
-        begins = begins_of parties.negotiation_calls old.negotiate u.begun.asked u.action u.ready u.wanted u.begun.readied;
-        haves = u.bounded.haves lawful;
-        few = u.bounded.requests lawful wide;
-        requests = failed_requests _ _ e rounds new.negotiate new.reading new.interrupt u.fails;
-      },
-    )
-    refused_held e new progress (untold ids action rounds updates reply end n w g r l c) =
-        inr (rounds, negotiated_held ids new.store action rounds updates reply end new.reading n (ap (λ (r : Reading). r.held) r))
-    refused_held e new progress (undelivered ids read action rounds updates reply end n g u) =
-        inr (rounds, negotiated_held ids read action rounds updates reply end new.reading n (undelivered_held _ _ _ _ _ _ _ _ _ _ _ _ _ _ _ u))
+    starts_of : (ids : List ObjectId) (read : S) (action : ActionValue) (ready : N) (wanted : ArgumentsValue) → Begun parties call.version banded call.wishes given within ids read action ready wanted
+        → Starts parties call old banded ids action first read (begin_at old ready wanted)
+    starts_of ids read action ready wanted b = record {
+      asked = b.asked;
+      asks = asks_so ids b.asked first read locks b.opened;
+      known = b.readied.known;
+      marked = b.readied.marked;
+      must = b.readied.must;
+      marks = b.readied.marks;
+      adds = b.readied.adds;
+      window = refl;
+      previous = refl;
+      reading = refl;
+      interrupt = refl;
+    }
 
-  pub session_held : (call : Call) (old : World N I S C) (result : Result (Option Outcome) (Error A X)) (new : World N I S C) (progress : P) → Fetches parties call old result new progress
-      → HoldsSession parties.negotiation_calls old.negotiate result old.reading new.reading
-  session_held call old (Ok (Some outcome)) new progress h =
-      let s = h.meets in
-      negotiated_held call h.banded h.asked (record old { store = h.held; locked = h.first }) s.ids s.read _ _ s.updates s.reply s.end new.reading s.negotiated
-      (ap (λ (w : World N I S C). w.reading.held) h.stands ∙ received_held _ _ _ _ _ _ s.delivered.received)
-  session_held call old (Ok None) new progress h = ap (λ (w : World N I S C). w.reading) h.stands ∙ h.meets.rests.reading
-  session_held call old (Err e) new progress (inl (unprepared u s)) = inl (ap (λ (w : World N I S C). w.reading) s)
-  session_held call old (Err e) new progress (inl (unlocked a b p u s)) = inl (ap (λ (w : World N I S C). w.reading) s)
-  session_held call old (Err e) new progress (inr h) = by_failure (refused_held call h.banded h.asked (record old { store = h.held; locked = h.first }) e h.last progress h.meets)
-    where
-      same : new.reading ≡ h.last.reading
-      same = ap (λ (w : World N I S C). w.reading) h.stands
+    module _ (lawful : Lawful parties.negotiation_calls.goes parties.negotiation_calls.count) (wide : IsWide parties.negotiation_calls.goes) (e : Error A X) (last : World N I S C) (progress : P) where
+      abbrev Broken : Type 0
+      Broken = BrokenOff parties call old e last progress
 
-      by_failure : (h.last.reading ≡ old.reading) ⊎ ((rounds : List Round) × Held parties.negotiation_calls old.negotiate rounds old.reading h.last.reading)
-          → (new.reading ≡ old.reading) ⊎ ((rounds : List Round) × Held parties.negotiation_calls old.negotiate rounds old.reading new.reading)
-      by_failure (inl a) = inl (same ∙ a)
-      by_failure (inr b) = inr (b.0, subst (λ r. Held parties.negotiation_calls old.negotiate b.0 old.reading r) (sym same) b.1)
+      abbrev failed_after : ℕ → Error A X
+      failed_after n = Negotiate (NegotiationFailed n)
+
+      broken_by : (ids : List ObjectId) (read : S) (action : ActionValue) (ready : N) (wanted : ArgumentsValue) (rounds : List Round) → Begun parties call.version banded call.wishes given within ids read action ready wanted
+          → Bounded parties.negotiation_calls.goes parties.negotiation_calls.count ready rounds → (turns : List (Turn N I)) (before : At N I) → Rounds manner (begin_at old ready wanted) turns before
+          → (ends : BreaksOff parties call banded ids old.consumer read first turns before e last progress) → rounds ≡ map (λ (t : Turn N I). t.round) turns ++ told_last parties ends
+          → length (one_more parties ends) + length (unanswered parties ends) ≤ length (told_last parties ends) → AreNegotiated manner before (one_more parties ends) → AreAnswers call.version banded (one_more parties ends)
+          → WroteRequests before.reading (answered_at parties ends) (requests_of (one_more parties ends)) → Broken
+      broken_by ids read action ready wanted rounds b bounded turns before run ends t l g a w = record {
+        banded = banded;
+        ids = ids;
+        action = action;
+        locked = first;
+        read = read;
+        start = begin_at old ready wanted;
+        starts = starts_of ids read action ready wanted b;
+        turns = turns;
+        before = before;
+        run = run;
+        go_on = rounds_go_on manner (begin_at old ready wanted) before turns run;
+        ends = ends;
+        negotiated = rounds_negotiated manner (begin_at old ready wanted) before turns (one_more parties ends) run g;
+        answers = rounds_answers manner (begin_at old ready wanted) before turns (one_more parties ends) run a;
+        requests = rounds_wrote manner (begin_at old ready wanted) before (answered_at parties ends) turns (one_more parties ends) run w;
+        haves = subst (λ rs. haves_of rs ≤ parties.negotiation_calls.count ready) t (bounded.haves lawful);
+        windows = subst (λ rs. windows_of (but_last rs) ≤ parties.negotiation_calls.count ready) t (bounded.windows lawful);
+        few = few_all turns (one_more parties ends) (unanswered parties ends) (told_last parties ends) rounds (parties.negotiation_calls.count ready / 16 + 1) t l (bounded.requests lawful wide);
+      }
+
+      broken_rounds : (ids : List ObjectId) (action : ActionValue) (ready : N) (wanted : ArgumentsValue) (rounds : List Round) → Begun parties call.version banded call.wishes given within ids last.store action ready wanted
+          → Bounded parties.negotiation_calls.goes parties.negotiation_calls.count ready rounds → last.locked ≡ first → last.consumer ≡ old.consumer
+          → RoundsFail manner (begin_at old ready wanted) e rounds last.negotiate last.reading last.interrupt → Broken
+      broken_rounds ids action ready wanted rounds b bounded l c (inl f) = by_end f.ends
+        where
+          unlent_so : Unlent parties old.consumer last.store first last
+          unlent_so = record { consumer = c; store = refl; lock = l }
+
+          by_end : Interrupts manner (begin_at old ready wanted) rounds f.end ⊎ DoneWithout manner (begin_at old ready wanted) rounds f.end → Broken
+          by_end (inl i) = broken_by ids last.store action ready wanted rounds b bounded i.turns i.before i.run
+              (by_caller (subst (λ x. parties.says i.before.interrupt true x) (sym f.asks) i.said) (f.gives ∙ ap failed_after (count_same i.turns rounds f.count f.counted i.told))
+              (record { negotiate = f.negotiates ∙ ap (λ (a : At N I). a.negotiate) i.stands; reading = f.reads ∙ ap (λ (a : At N I). a.reading) i.stands }) unlent_so)
+              (i.told ∙ sym (append-nil (map (λ (t : Turn N I). t.round) i.turns))) none_of_none tt tt (none_written i.before.reading)
+          by_end (inr d) = broken_by ids last.store action ready wanted rounds b bounded d.turns d.before d.run
+              (exhausted d.last d.lasts d.done d.no_pack (f.gives ∙ ap failed_after (count_more d.turns d.last.round rounds f.count f.counted d.told))
+              (record { negotiate = f.negotiates ∙ ap (λ (a : At N I). a.negotiate) d.stands; reading = f.reads ∙ ap (λ (a : At N I). a.reading) d.stands }) (f.asks ∙ ap (λ (a : At N I). a.interrupt) d.stands) unlent_so)
+              d.told one_of_one (d.lasts.negotiated, d.lasts.rest, d.lasts.previous, tt) (is_answer _ _ _ _ _ d.lasts.answer, tt) (turn_written manner d.before d.last d.lasts)
+      broken_rounds ids action ready wanted rounds b bounded l c (inr f) =
+          let few = add_none _ _ (few_begun manner f.before e last.negotiate last.reading f.refused) in
+          broken_by ids last.store action ready wanted rounds b bounded f.turns f.before f.run (at_round f.refused (record { consumer = c; store = refl; lock = l })) f.told few tt tt (none_written f.before.reading)
+
+      broken_packed : (ids : List ObjectId) (read : S) (action : ActionValue) (rounds : List Round) (updates : List ShallowUpdate) (reply : AnswerValue) (end : At N I)
+          → Negotiated parties call.version banded call.wishes given within ids read action rounds updates reply end → last.negotiate ≡ end.negotiate → last.reading.held ≡ end.reading.held
+          → Unpacks parties ids (updates ++ call.wishes.told) call.wishes.reject old.consumer read first end.reading e last progress → Broken
+      broken_packed ids read action rounds updates reply end n g h u =
+          let p = n.packed in
+          broken_by ids read action n.ready n.wanted rounds n.begun n.bounded p.turns p.before p.run
+          (behind_pack p.last p.lasts p.pack (g ∙ ap (λ (a : At N I). a.negotiate) p.stands) (h ∙ ap (λ (a : At N I). a.reading.held) p.stands)
+          (subst (λ us. Unpacks parties ids (us ++ call.wishes.told) call.wishes.reject old.consumer read first p.last.after.reading e last progress) p.gathered
+          (subst (λ (a : At N I). Unpacks parties ids (updates ++ call.wishes.told) call.wishes.reject old.consumer read first a.reading e last progress) p.stands u)))
+          p.told one_of_one (p.lasts.negotiated, p.lasts.rest, p.lasts.previous, tt) (is_answer _ _ _ _ _ p.lasts.answer, tt) (turn_written manner p.before p.last p.lasts)
+
+      unpacks : (ids : List ObjectId) (read : S) (updates : List ShallowUpdate) (from : Reading) → from.stopped ≡ None
+          → Undelivered parties.store_calls parties.consumes ids updates call.wishes.reject old.consumer read first from e last.consumer last.store last.locked last.reading progress
+          → Unpacks parties ids updates call.wishes.reject old.consumer read first from e last progress
+      unpacks ids read updates from s (session.at_lock u d r) = lacks_lock u r d
+      unpacks ids read updates from s (session.at_pack h (inl u)) = untaken h u.error u.gives (refuses_pack old.consumer from last.consumer last.reading progress u.name u.p u.error u.end s u.fails u.back)
+      unpacks ids read updates from s (session.at_pack h (inr u)) = lacks_room h u.0 u.2 u.1
+      unpacks ids read updates from s (session.at_boundary kept h r u) = unwritten kept h (takes_all old.consumer from last.consumer last.reading progress s r) u
+
+      locks_so : last.locked ≡ first → LocksFirst parties.store_calls.locks (is_change call.wishes.shallow) old.store held last.locked
+      locks_so l = subst (λ b. LocksFirst parties.store_calls.locks (is_change call.wishes.shallow) old.store held b) (sym l) locks
+
+      refused : Fails parties call.version banded call.wishes given within e last progress → Refuses parties call old e last progress
+      refused (unopened u n r) = at_depth given banded held prepared (locks_so r.locked) u n (record { reading = r.reading; interrupt = r.interrupt; consumer = r.consumer })
+      refused (unready ids asked o u r) = at_wants banded ids asked (asks_so ids asked last.locked last.store (locks_so r.locked) o) u
+          (record { reading = r.reading; interrupt = r.interrupt; consumer = r.consumer })
+      refused (unpacked rounds u l c) = in_session (broken_rounds u.ids u.action u.ready u.wanted rounds u.begun u.bounded l c u.fails)
+      refused (untold ids action rounds updates reply end n w g r l c) =
+          in_session (broken_packed ids last.store action rounds updates reply end n g (ap (λ (r : Reading). r.held) r) (lacks_memory w r (record { consumer = c; store = refl; lock = l })))
+      refused (undelivered ids read action rounds updates reply end n g u) =
+          in_session (broken_packed ids read action rounds updates reply end n g (undelivered_held _ _ _ _ _ _ _ _ _ _ _ _ _ _ _ u)
+          (unpacks ids read (updates ++ call.wishes.told) end.reading (packed_running manner _ rounds updates reply end n.packed) u))
+
+  module _ (lawful : Lawful parties.negotiation_calls.goes parties.negotiation_calls.count) (wide : IsWide parties.negotiation_calls.goes) where
+    pub session_held : (call : Call) (old : World N I S C) (result : Result (Option Outcome) (Error A X)) (new : World N I S C) (progress : P) → Fetches parties call old result new progress
+        → HoldsSession parties call old result new progress
+    session_held call old (Err e) new progress (inl u) = inl u
+    session_held call old (Err e) new progress (inr h) =
+        inr (h.last, refused call h.banded h.asked old h.held h.first h.prepared h.locks lawful wide e h.last progress h.meets, record { releases = h.releases; stands = h.stands })
+    session_held call old (Ok None) new progress h =
+        let s = h.meets in (
+          h.last,
+          record {
+            banded = h.banded;
+            ids = s.ids;
+            asked = s.asked;
+            asks = asks_so call h.banded h.asked old h.held h.first h.prepared h.locks s.ids s.asked h.last.locked h.last.store
+                (subst (λ b. LocksFirst parties.store_calls.locks (is_change call.wishes.shallow) old.store h.held b) (sym s.rests.locked) h.locks) s.opened;
+            idle = s.idle;
+            untouched = record { reading = s.rests.reading; interrupt = s.rests.interrupt; consumer = s.rests.consumer };
+          },
+          record { releases = h.releases; stands = h.stands },
+        )
+    session_held call old (Ok (Some outcome)) new progress h =
+        let s = h.meets in
+        let n = s.negotiated in
+        let p = n.packed in
+        let m : Manner N I A = manner_of parties call h.banded in (
+          h.last,
+          record {
+            banded = h.banded;
+            ids = s.ids;
+            locked = h.first;
+            read = s.read;
+            start = begin_at old n.ready n.wanted;
+            starts = starts_of call h.banded h.asked old h.held h.first h.prepared h.locks s.ids s.read _ n.ready n.wanted n.begun;
+            updates = s.updates;
+            reply = s.reply;
+            end = s.end;
+            packed = p;
+            go_on = rounds_go_on m _ p.before p.turns p.run;
+            negotiated = rounds_negotiated m _ p.before p.turns (p.last ∷ []) p.run (p.lasts.negotiated, p.lasts.rest, p.lasts.previous, tt);
+            answers = rounds_answers m _ p.before p.turns (p.last ∷ []) p.run (is_answer _ _ _ _ _ p.lasts.answer, tt);
+            requests = held_written old.reading p.last.after.reading h.last.reading _ (rounds_wrote m _ p.before p.last.after.reading p.turns (p.last ∷ []) p.run (turn_written m p.before p.last p.lasts))
+                (received_held _ _ _ _ _ _ s.delivered.received ∙ ap (λ (a : At N I). a.reading.held) p.stands);
+            haves = n.bounded.haves lawful;
+            windows = n.bounded.windows lawful;
+            few = few_packed p.turns p.last _ _ p.told (n.bounded.requests lawful wide);
+            says = s.answers;
+            stands = s.stands;
+            held = s.delivered.held;
+            holds = s.delivered.holds;
+            pack = takes_all old.consumer s.end.reading h.last.consumer h.last.reading progress (packed_running m _ _ _ _ s.end p) s.delivered.received;
+            settles = s.delivered.settles;
+          },
+          record { releases = h.releases; stands = h.stands },
+        )

@@ -1,114 +1,295 @@
--- A client's whole run over one connection, and what is true of it: frames, refs, answers and refusals, requests, the pack, the bound on requests, and ref maps of filtered refs.
-use Rattle.std.specs.Prelude.{◌≡◌, ◌⊎◌, ⊤, ℕ, ◌+◌, Bool, true, not, List, [], ◌∷◌, ◌++◌, map, Option, Some, None, IfSome, Result, Ok, Err}
+-- A client's whole run over one transport, and what is true of it: frames, capabilities, refs, answers and refusals, requests, the pack, the bound on requests, and ref maps of filtered refs.
+use Rattle.std.proofs.Common.{inl, inr}
+use Rattle.std.specs.declared.alloc.Global.{Global}
+use Rattle.std.specs.declared.io.ErrorKind.{ErrorKind}
+use Rattle.std.specs.List.{AllByRecursion}
+use Rattle.std.specs.Prelude.{Vec, ◌≡◌, ◌⊎◌, ⊤, ℕ, Bool, true, false, List, [], ◌∷◌, map, Option, Some, None, IfSome, IsSome, Result, Ok, Err}
 use Rattle.gixp_packetline.specs.declared.protocol.Protocol.{Protocol}
-use Rattle.gixp_wire.specs.declared.service.Service.{Service}
-use Rattle.gixp_wire.specs.declared.service.SetServiceResponse.{SetServiceResponse}
 use Rattle.gixp_packetline.specs.Frames.{Frame, End, frames_of}
 use Rattle.gixp_packetline.specs.Grammar.{AreFrames}
-use Rattle.gixp_packetline.specs.Pieces.{Refusal, Pieces, stream_pieces}
+use Rattle.gixp_packetline.specs.Pieces.{Refusal, Piece, Pieces, stream_pieces}
+use Rattle.gixp_packetline.specs.Reading.{Reading, IsFresh, IsOutside, IsPlain, AtStop, lines_ahead}
+use Rattle.bstr.specs.Owned.{bstring_bytes}
+use Rattle.bstr.specs.declared.bstring.BString.{BString}
+use Rattle.gixp_hash.specs.declared.object_id.ObjectId.{ObjectId}
 use Rattle.gixp_capabilities.specs.Capabilities.{CapabilityValue}
+use Rattle.gixp_capabilities.specs.Client.{client_refusal}
+use Rattle.gixp_capabilities.specs.declared.client.Error.{Error as client_error}
+use Rattle.gixp_capabilities.specs.declared.client.Error.TheVariants.{Io as client_io}
+use Rattle.gixp_wire.specs.declared.service.Service.{Service}
+use Rattle.gixp_wire.specs.declared.service.SetServiceResponse.{SetServiceResponse}
+use Rattle.gixp_wire.specs.declared.service.Opening.{Opening}
+use Rattle.gixp_wire.specs.declared.bodies.Body.{Body}
+use Rattle.gixp_wire.specs.declared.bodies.Bodies.{Bodies}
+use Rattle.gixp_wire.specs.Bodies.{answer_of as body_answer, bodies_reading, IsNewBodies}
+use Rattle.gixp_wire.specs.Connection.{IsNewConnection}
 use Rattle.gixp_wire.specs.Greeting.{Parameter}
-use Rattle.gixp_packetline.specs.Reading.{Reading, IsFresh, IsOutside, Rose, lines_ahead}
-use Rattle.gixp_sidebands.specs.Bands.{Side, content_of}
+use Rattle.gixp_wire.specs.CapabilityAdvertisement.{Advertised, advertisement, Answers as SaysSo, Says, IsFromDevice, IsCaused}
+use Rattle.gixp_wire.specs.Transport.{TakesAnswer, ByAnswer}
+use Rattle.gixp_wire.specs.Handshake.{Greets, Identifies, Handshakes}
 use Rattle.gixp_refs.specs.declared.handshake.Ref.{Ref}
 use Rattle.gixp_refs.specs.declared.handshake.refs.parse.Error.{Error as refs_error}
 use Rattle.gixp_refs.specs.declared.handshake.refs.parse.Error.TheVariants.{Memory as refs_memory}
-use Rattle.gixp_response.specs.declared.fetch.response.error.Error.{Error as answer_error}
-use Rattle.gixp_response.specs.declared.fetch.response.error.Error.TheVariants.{Memory as answer_memory}
 use Rattle.gixp_refs.specs.Ref.{ref_value}
 use Rattle.gixp_refs.specs.RefLine.{RefsRefusal, refusal_from}
 use Rattle.gixp_refs.specs.ParseError.{parse_refusal, IsRefusal as IsRefsRefusal}
-use Rattle.gixp_refs.specs.Refs.{v2_refs, RefsFail}
+use Rattle.gixp_refs.specs.Refs.{v2_refs, ReadsRefs, RefsFail}
 use Rattle.gixp_refs.specs.RefAdvertisement.{Symref, symref_table, v1_refs}
-use Rattle.gixp_refs.specs.V1Refs.{V1Fails}
-use Rattle.gixp_response.specs.ResponseError.{AnswerRefusal, answer_refusal, from_reader, IsRefusal}
-use Rattle.gixp_response.specs.Answer.{AnswerValue, Found, whole, refused}
-use Rattle.gixp_response.specs.Beginnings.{expected as flags}
-use Rattle.gixp_response.specs.AnswerReading.{answer_of, AnswerFails}
+use Rattle.gixp_refs.specs.V1Refs.{ReadsV1, V1Fails}
 use Rattle.gixp_response.specs.declared.fetch.response.line.ShallowUpdate.{ShallowUpdate}
-use Rattle.gixp_requests.specs.Feature.{FeatureValue}
+use Rattle.gixp_response.specs.declared.fetch.response.error.Error.{Error as answer_error}
+use Rattle.gixp_response.specs.declared.fetch.response.error.Error.TheVariants.{Memory as answer_memory}
+use Rattle.gixp_response.specs.Runs.{SoFar}
+use Rattle.gixp_response.specs.ResponseError.{AnswerRefusal, answer_refusal, from_reader, IsRefusal}
+use Rattle.gixp_response.specs.Answer.{Found, refused, update_items}
+use Rattle.gixp_response.specs.AnswerReading.{AnswerFails, Passed as AnswerPassed}
+use Rattle.gixp_requests.specs.Arguments.{ArgumentsValue}
 use Rattle.gixp_requests.specs.Command.{Table}
+use Rattle.gixp_requests.specs.Feature.{FeatureValue}
+use Rattle.gixp_requests.specs.Offers.{Validates}
 use Rattle.gixp_refmap.specs.declared.refmap.init.Context.{Context}
+use Rattle.gixp_refmap.specs.declared.refmap.init.Error.{Error as map_error}
+use Rattle.gixp_refmap.specs.declared.refmap.init.Error.TheVariants.{Memory as map_memory}
 use Rattle.gixp_refmap.specs.declared.refmap.map.RefMap.{RefMap}
-use Rattle.gixp_refmap.specs.Mapping.{joined_specs, AnswersMap, HoldsOfAll}
-use Rattle.gixp_refmap.specs.Listing.{listing, SendsListing}
+use Rattle.gixp_refmap.specs.declared.refmap.mapping.Mapping.{Mapping}
+use Rattle.gixp_refmap.specs.declared.ls_refs.error.Error.{Error as list_error}
+use Rattle.gixp_refmap.specs.Mapping.{joined_specs, spec_at, AnswersMap, HoldsOfAll}
+use Rattle.gixp_refmap.specs.MapError.{from_listing}
+use Rattle.gixp_refmap.specs.Listing.{listing, listing_refusal, SendsListing, Lists as ListsRefs}
+use Rattle.gixp_handshake.specs.declared.handshake.error.Error.{Error as shake_error}
+use Rattle.gixp_handshake.specs.declared.handshake.error.Error.TheVariants.{Credentials, EmptyCredentials, InvalidCredentials, TransportProtocolPolicyViolation}
+use Rattle.gixp_handshake.specs.declared.credentials.Outcome.{Outcome as Account}
+use Rattle.gixp_handshake.specs.declared.credentials.Error.{Error as credentials_error}
+use Rattle.gixp_handshake.specs.Credentials.{get, store, erase, action_value, next_value}
 use Rattle.gixp_handshake.specs.declared.handshake.read.Handshake.{Handshake}
-use Rattle.gixp_handshake.specs.Shake.{Turn as credential_turn, Opens, Shakes}
+use Rattle.gixp_handshake.specs.ShakeError.{from_client, from_parse, is_denied}
+use Rattle.gixp_handshake.specs.Shake.{Answer, Turn as credential_turn, Opens, NoMemory, Shakes, is_accepted}
 use Rattle.gixp_handshake.specs.Obtain.{prefixes_if, Obtains}
-use Rattle.gixp_negotiate.specs.declared.negotiate.Round.{Round}
+use Rattle.gixp_negotiate.specs.Negotiate.{ActionValue, no_change, skip, negotiate}
+use Rattle.gixp_negotiate.specs.Wants.{AddsWants}
 use Rattle.gixp_fetch.specs.declared.options.Outcome.{Outcome}
 use Rattle.gixp_fetch.specs.declared.error.Error.{Error}
-use Rattle.gixp_fetch.specs.FetchRounds.{At, Turn, Manner, Turns, Packed, TurnFails}
-use Rattle.gixp_fetch.specs.View.{view}
-use Rattle.gixp_fetch.specs.Sent.{requests_of, WroteRequests}
-use Rattle.gixp_fetch.specs.Receive.{ReadsOn}
+use Rattle.gixp_fetch.specs.FetchRounds.{At}
+use Rattle.gixp_fetch.specs.Session.{Idle, Unready}
 use Rattle.gixp_fetch.specs.Fetch.{World, Parties}
 use Rattle.gixp_fetch.specs.Fetched.{Call, Fetches}
-use Rattle.gixp_fetch.specs.Sessions.{Begins, HoldsSession}
+use Rattle.gixp_fetch.specs.Mapped.{Knowledge, decided, lines_of}
+use Rattle.gixp_fetch.specs.Sessions.{Starts, Refuses, at_depth, at_wants, in_session, HoldsSession}
 
 -- ---- frames
 
--- what a reader that has read nothing has to come are the pieces of its bytes' frames; and these are those of the grammar, and no others
-abbrev pub FramesAreGrammar : Type 0
-FramesAreGrammar = (bytes : List ℕ) (r : Reading) → IsFresh (Some bytes) r
-    → (r.to_come ≡ Some (stream_pieces bytes)) × AreFrames bytes (frames_of bytes).list (frames_of bytes).end
-    × ((frames : List Frame) (end : End) → AreFrames bytes frames end → frames_of bytes ≡ record { list = frames; end = end })
+-- what a connection that has read nothing has to come are the pieces of its bytes' frames, and where each request has its own answer those of each body's; and these are those of the grammar, and no others
+pub record FramesAreGrammar : Type 0 where
+  pub connections : (bytes : List ℕ) (holds : Option (List ℕ)) (at : List ℕ) (asked : Protocol) (versions : List Protocol) (opening : Option Opening) (r : Reading) → IsNewConnection (Some bytes) holds at asked versions opening r
+      → r.to_come ≡ Some (stream_pieces bytes)
+  pub bodies : (given : List Body) (at : List ℕ) (versions : List Protocol) (b : Bodies) → IsNewBodies given at versions b → (bodies_reading b).held.answers ≡ map body_answer given
+  pub readers : (bytes : List ℕ) (r : Reading) → IsFresh (Some bytes) r → r.to_come ≡ Some (stream_pieces bytes)
+  pub grammar : (bytes : List ℕ) → AreFrames bytes (frames_of bytes).list (frames_of bytes).end
+  pub no_others : (bytes : List ℕ) (frames : List Frame) (end : End) → AreFrames bytes frames end → frames_of bytes ≡ record { list = frames; end = end }
 
 -- ---- refusals
 
--- a read or write failed, an interrupt came, or an allocation failed: nothing that the stream says
-abbrev pub AnswerFromOutside : Reading → answer_error → Type 0
-AnswerFromOutside new e = ((now : Reading) × (refusal : Refusal) × IsOutside now new refusal × (answer_refusal e ≡ from_reader refusal)) ⊎ (e ≡ answer_memory)
+-- after the pieces or lines that were taken a read failed, an interrupt came, or an allocation failed, of which a plain reader has less: nothing that the stream says
+abbrev pub OutsideOf : Bool → Reading → Reading → Refusal → Type 0
+OutsideOf plain now new refusal = IsOutside now new refusal × (plain ≡ true → IsPlain new refusal)
 
-abbrev pub RefsFromOutside : Reading → refs_error → Type 0
-RefsFromOutside new e = ((now : Reading) × (refusal : Refusal) × IsOutside now new refusal × (parse_refusal e ≡ refusal_from refusal)) ⊎ (e ≡ refs_memory)
+abbrev pub AnswerFromOutside : Bool → Reading → Reading → answer_error → Type 0
+AnswerFromOutside plain old new e =
+    (taken : List Piece) × (((now : Reading) × (refusal : Refusal) × AnswerPassed old now taken × OutsideOf plain now new refusal × (answer_refusal e ≡ from_reader refusal))
+    ⊎ (AnswerPassed old new taken × (new.stopped ≡ None) × (e ≡ answer_memory)))
+
+abbrev pub RefsFromOutside : Bool → Reading → Reading → refs_error → Type 0
+RefsFromOutside plain old new e =
+    (taken : List (List ℕ)) × (((now : Reading) × (refusal : Refusal) × SoFar old now taken × OutsideOf plain now new refusal × (parse_refusal e ≡ refusal_from refusal))
+    ⊎ (SoFar old new taken × (new.stopped ≡ None) × (e ≡ refs_memory)))
+
+-- the refs of an advertisement may also lack memory after the stop
+abbrev pub AdvertisementFromOutside : Bool → Reading → Reading → refs_error → Type 0
+AdvertisementFromOutside plain old new e = RefsFromOutside plain old new e ⊎ ((taken : List (List ℕ)) × (now : Reading) × SoFar old now taken × AtStop now new × (e ≡ refs_memory))
 
 -- a refused answer is refused by the grammar, for that reason, or from outside
 abbrev pub AnswersAreRefused : Type 0
 AnswersAreRefused = (found : Pieces → Found) (plain : Bool) (old new : Reading) (e : answer_error) → AnswerFails found plain old new e
-    → ((r : AnswerRefusal) × IfSome old.to_come (λ p. found p ≡ refused r) × IsRefusal e r) ⊎ AnswerFromOutside new e
+    → ((r : AnswerRefusal) × IfSome old.to_come (λ p. found p ≡ refused r) × IsRefusal e r) ⊎ AnswerFromOutside plain old new e
 
 -- so are refused refs, of either kind
 abbrev pub RefsAreRefused : Type 0
 RefsAreRefused = (plain : Bool) (old new : Reading) (e : refs_error) → RefsFail plain old new e
-    → ((r : RefsRefusal) × IfSome old.to_come (λ p. v2_refs (lines_ahead old p) ≡ Err r) × IsRefsRefusal e r) ⊎ RefsFromOutside new e
+    → ((r : RefsRefusal) × IfSome old.to_come (λ p. v2_refs (lines_ahead old p) ≡ Err r) × IsRefsRefusal e r) ⊎ RefsFromOutside plain old new e
 
 abbrev pub AdvertisementsAreRefused : Type 0
 AdvertisementsAreRefused = (t : List Symref) (plain : Bool) (old new : Reading) (e : refs_error) → V1Fails t plain old new e
-    → ((r : RefsRefusal) × IfSome old.to_come (λ p. v1_refs t (lines_ahead old p) ≡ Err r) × IsRefsRefusal e r) ⊎ RefsFromOutside new e
+    → ((r : RefsRefusal) × IfSome old.to_come (λ p. v1_refs t (lines_ahead old p) ≡ Err r) × IsRefsRefusal e r) ⊎ AdvertisementFromOutside plain old new e
 
--- ---- a run
+-- ---- what a server says first
 
--- these refs came with the handshake, and are those of its lines
-pub record Shown (service : Service) (parameters : List Parameter) (credentials : List credential_turn) (start : Reading) (given : List Ref) : Type 0 where
+-- its first words were asked for: over a connection by a greeting, and else they are the next answer
+abbrev pub AsksWords : Bool → Service → List Parameter → Reading → Reading → Type 0
+AsksWords true service parameters old new = Greets service parameters old new (Ok tt)
+AsksWords false service parameters old new = TakesAnswer old new × ByAnswer old new None
+
+-- the greeting wasn't written, or the call that takes the answer failed
+abbrev pub UnaskedWords : Bool → Service → List Parameter → Reading → Reading → client_error → Type 0
+UnaskedWords true service parameters old new e = Greets service parameters old new (Err e)
+UnaskedWords false service parameters old new e = (kind : ErrorKind) × (e ≡ client_io kind) × TakesAnswer old new × ByAnswer old new (Some kind)
+
+-- its version and its capabilities are those of the definition, or its refusal is, unless a read, a write or an allocation failed, which is told apart whether the bytes are known or not
+abbrev pub SaysBy : Bool → Service → List Parameter → Reading → Reading → Result SetServiceResponse client_error → Type 0
+SaysBy persists service parameters old new (Ok found) =
+    (mid : Reading) × AsksWords persists service parameters old mid × IfSome mid.to_come (λ p. (a : Advertised) × (advertisement p ≡ Ok a) × SaysSo a new found) × Says new found
+SaysBy persists service parameters old new (Err e) =
+    UnaskedWords persists service parameters old new e
+    ⊎ ((mid : Reading) × AsksWords persists service parameters old mid × (IfSome mid.to_come (λ p. advertisement p ≡ Err (client_refusal e)) ⊎ IsFromDevice mid new e) × IsCaused mid new e)
+
+abbrev pub WordsAreSaid : Type 0
+WordsAreSaid = (service : Service) (parameters : List Parameter) (old new : Reading) (r : Result SetServiceResponse client_error) → Handshakes service parameters old new r → SaysBy old.held.persists service parameters old new r
+
+-- ---- handshakes and their refusals
+
+-- a handshake has the version and the capabilities of the server's first words, and its version is one of those that are accepted
+pub record Greeted (service : Service) (parameters : List Parameter) (credentials : List credential_turn) (start shaken : Reading) (handshake : Handshake) : Type 0 where
   pub found : SetServiceResponse
   pub from : Reading
   pub opens : Opens service parameters start from credentials (Ok found)
+  pub accepted : is_accepted start.held.accepted found.actual_protocol ≡ true
+  pub version : handshake.server_protocol_version ≡ found.actual_protocol
+  pub capabilities : handshake.capabilities ≡ found.capabilities
+  pub held : shaken.held ≡ from.held
+
+-- these refs came with the handshake, and are those of its lines, after which nothing more was read
+pub record Shown (found : SetServiceResponse) (from shaken reached : Reading) (handshake : Handshake) (given : List Ref) : Type 0 where
+  pub follow : found.has_refs ≡ true
+  pub refs : Vec Ref Global
+  pub updates : Vec ShallowUpdate Global
+  pub came : handshake.refs ≡ Some refs
+  pub told : handshake.v1_shallow_updates ≡ Some updates
+  pub same : given ≡ refs.items
   pub table : List Symref
   pub symrefs : symref_table found.capabilities ≡ Ok table
-  pub refs : IfSome from.to_come (λ p. v1_refs table (lines_ahead from p) ≡ Ok (map ref_value given))
+  pub read : ReadsV1 table from shaken refs.items updates.items
+  pub values : IfSome from.to_come (λ p. v1_refs table (lines_ahead from p) ≡ Ok (map ref_value given))
+  pub stays : reached ≡ shaken
 
--- or they are those of the lines that answer the command, which asks for the prefixes of the refspecs
-pub record Listed (table : Table) (agent : FeatureValue) (context : Context) (capabilities : List CapabilityValue) (shaken : Reading) (given : List Ref) : Type 0 where
+-- or none came, and they are those of the lines that answer the command, which asks for the prefixes of the refspecs
+pub record Listed (table : Table) (agent : FeatureValue) (context : Context) (handshake : Handshake) (shaken reached : Reading) (given : List Ref) : Type 0 where
+  pub none : handshake.refs ≡ None
+  pub valid : Validates (listing_refusal (listing table (prefixes_if true (joined_specs context.fetch_refspecs.items context.extra_refspecs.items)) handshake.capabilities agent)) (Ok tt)
   pub from : Reading
-  pub sends : SendsListing (listing table (prefixes_if true (joined_specs context.fetch_refspecs.items context.extra_refspecs.items)) capabilities agent) shaken from (Ok tt)
-  pub refs : IfSome from.to_come (λ p. v2_refs (lines_ahead from p) ≡ Ok (map ref_value given))
+  pub sends : SendsListing (listing table (prefixes_if true (joined_specs context.fetch_refspecs.items context.extra_refspecs.items)) handshake.capabilities agent) shaken from (Ok tt)
+  pub read : ReadsRefs from reached given
+  pub held : reached.held ≡ from.held
 
--- an answer is that of the grammar, unless a read failed as at the stream's end
-abbrev pub IsAnswer : (Pieces → Found) → Reading → Reading → AnswerValue → Type 0
-IsAnswer found old new value = IfSome old.to_come (λ p. (q : Pieces) × (new.to_come ≡ Some q) × (found p ≡ whole value q)) ⊎ Rose old.failures new.failures
+-- the refs of an advertisement are refused: by its symrefs before the first line, by the first refusal of the lines, or from outside
+abbrev pub RefsRefused : List CapabilityValue → Bool → Reading → Reading → refs_error → Type 0
+RefsRefused capabilities plain old new e =
+    ((new ≡ old) × (((r : RefsRefusal) × (symref_table capabilities ≡ Err r) × IsRefsRefusal e r) ⊎ (e ≡ refs_memory)))
+    ⊎ ((t : List Symref) × (symref_table capabilities ≡ Ok t)
+    × (((r : RefsRefusal) × IfSome old.to_come (λ p. v1_refs t (lines_ahead old p) ≡ Err r) × IsRefsRefusal e r) ⊎ AdvertisementFromOutside plain old new e))
 
-abbrev pub AreAnswers : {N I : Type 0} → Protocol → Bool → List (Turn N I) → Type 0
-AreAnswers version banded [] = ⊤
-AreAnswers version banded (t ∷ ts) = IsAnswer (answer_of version (flags t.done (not t.done))) (view banded t.sent) (view banded t.after.reading) t.reply × AreAnswers version banded ts
+-- an account for the server's URL was asked for first
+pub record AsksAccount (old : Reading) (credentials : List credential_turn) (turn : credential_turn) (later : List credential_turn) : Type 0 where
+  pub all : credentials ≡ turn ∷ later
+  pub asked : action_value turn.action ≡ get old.held.url
 
--- rounds, each from where the one before ended
-abbrev pub Chain : {N I A : Type 0} → Manner N I A → At N I → List (Turn N I) → At N I → Type 0
-Chain m old [] new = new ≡ old
-Chain m old (t ∷ ts) new = Turns m old t × Chain m t.after ts new
+-- one was got, and the transport has it
+pub record HasAccount (old now : Reading) (turn : credential_turn) (account : Account) : Type 0 where
+  pub got : turn.answer ≡ Ok (Some account)
+  pub taken : Identifies old now account.identity (Ok tt)
 
-module _ {N I A S C P X : Type 0} (parties : Parties N I A S C P X) where
-  -- a handshake, the ref map that stands on it, and a fetch, each where the one before left the transport
+-- a bad account was told to be so, or wasn't
+abbrev pub IsErased : Answer → List ℕ → shake_error → Type 0
+IsErased (Ok x) url e = (u : BString) × (bstring_bytes u ≡ url) × (e ≡ InvalidCredentials u)
+IsErased (Err x) url e = e ≡ Credentials x
+
+-- the table of accounts: who has them refused or has none for the server; the transport takes none; the server's first words weren't had again, for another reason; they weren't for want of a good account, which is then told; or that it is good wasn't told
+pub data NoAccount (service : Service) (parameters : List Parameter) (old new : Reading) (credentials : List credential_turn) (e : shake_error) : Type 0 where
+  unanswered : (turn : credential_turn) → AsksAccount old credentials turn [] → (x : credentials_error) → turn.answer ≡ Err x → new ≡ old → e ≡ Credentials x → NoAccount service parameters old new credentials e
+  none_known : (turn : credential_turn) → AsksAccount old credentials turn [] → turn.answer ≡ Ok None → new ≡ old → e ≡ EmptyCredentials → NoAccount service parameters old new credentials e
+  untaken : (turn : credential_turn) → AsksAccount old credentials turn [] → (account : Account) → turn.answer ≡ Ok (Some account) → (x : client_error) → Identifies old new account.identity (Err x) → e ≡ from_client x
+      → NoAccount service parameters old new credentials e
+  unheard_again : (turn : credential_turn) → AsksAccount old credentials turn [] → (account : Account) (now : Reading) → HasAccount old now turn account → (x : client_error) → Handshakes service parameters now new (Err x) → is_denied x ≡ false
+      → e ≡ from_client x → NoAccount service parameters old new credentials e
+  bad : (turn told : credential_turn) → AsksAccount old credentials turn (told ∷ []) → (account : Account) (now : Reading) → HasAccount old now turn account → (x : client_error) → Handshakes service parameters now new (Err x) → is_denied x ≡ true
+      → action_value told.action ≡ erase (next_value account.next) → IsErased told.answer old.held.url e → NoAccount service parameters old new credentials e
+  unkept : (turn told : credential_turn) → AsksAccount old credentials turn (told ∷ []) → (account : Account) (now : Reading) → HasAccount old now turn account → (found : SetServiceResponse) → Handshakes service parameters now new (Ok found)
+      → action_value told.action ≡ store (next_value account.next) → (x : credentials_error) → told.answer ≡ Err x → e ≡ Credentials x → NoAccount service parameters old new credentials e
+
+-- a handshake is refused, for this reason: no memory; the server's first words weren't had, and not for want of an account; they weren't had without an account, and the table of accounts has the refusal; the version isn't accepted; or the refs are refused
+pub data Unshaken (service : Service) (parameters : List Parameter) (plain : Bool) (start reached : Reading) (credentials : List credential_turn) (e : shake_error) : Type 0 where
+  unbegun : NoMemory start reached credentials (Err e) → Unshaken service parameters plain start reached credentials e
+  unheard : (x : client_error) → Handshakes service parameters start reached (Err x) → is_denied x ≡ false → credentials ≡ [] → e ≡ from_client x → Unshaken service parameters plain start reached credentials e
+  denied : (x : client_error) (mid : Reading) → Handshakes service parameters start mid (Err x) → is_denied x ≡ true → NoAccount service parameters mid reached credentials e ⊎ NoMemory mid reached credentials (Err e)
+      → Unshaken service parameters plain start reached credentials e
+  unaccepted : (found : SetServiceResponse) → Opens service parameters start reached credentials (Ok found) → is_accepted start.held.accepted found.actual_protocol ≡ false → e ≡ TransportProtocolPolicyViolation found.actual_protocol
+      → Unshaken service parameters plain start reached credentials e
+  unread : (found : SetServiceResponse) (from : Reading) → Opens service parameters start from credentials (Ok found) → is_accepted start.held.accepted found.actual_protocol ≡ true → found.has_refs ≡ true
+      → (x : refs_error) → RefsRefused found.capabilities plain from reached x → e ≡ from_parse x → Unshaken service parameters plain start reached credentials e
+
+abbrev pub HandshakesAreRefused : Type 0
+HandshakesAreRefused = (service : Service) (parameters : List Parameter) (plain : Bool) (start reached : Reading) (credentials : List credential_turn) (e : shake_error)
+    → Shakes service parameters plain start reached credentials (Err e) → Unshaken service parameters plain start reached credentials e
+
+-- ---- ref maps and their refusals
+
+-- the answer for these refs: the mappings and fixes, or the refusal; and it is that for all refs from which a server that was asked for the prefixes of the refspecs may have left some out
+abbrev pub IsOfAll : Context → List CapabilityValue → List Ref → Result RefMap map_error → Type 0
+IsOfAll context capabilities given r =
+    AnswersMap capabilities context.fetch_refspecs.items context.extra_refspecs.items (map ref_value given) r
+    × HoldsOfAll (joined_specs context.fetch_refspecs.items context.extra_refspecs.items) (map ref_value given) (λ all. AnswersMap capabilities context.fetch_refspecs.items context.extra_refspecs.items all r)
+
+-- a ref map, or why there is none: it is that of the refs that came with the handshake, or of those that the server lists, or these weren't listed; or an allocation failed before
+pub data Answers (table : Table) (agent : FeatureValue) (context : Context) (handshake : Handshake) (plain : Bool) (shaken reached : Reading) (r : Result RefMap map_error) : Type 0 where
+  of_shown : (refs : Vec Ref Global) → handshake.refs ≡ Some refs → reached ≡ shaken → IsOfAll context handshake.capabilities refs.items r → Answers table agent context handshake plain shaken reached r
+  of_listed : (given : List Ref) → Listed table agent context handshake shaken reached given → IsOfAll context handshake.capabilities given r → Answers table agent context handshake plain shaken reached r
+  unlisted : handshake.refs ≡ None → (e : list_error)
+      → ListsRefs (listing table (prefixes_if true (joined_specs context.fetch_refspecs.items context.extra_refspecs.items)) handshake.capabilities agent) plain shaken reached (Err e) → r ≡ Err (from_listing e)
+      → Answers table agent context handshake plain shaken reached r
+  unmade : handshake.refs ≡ None → r ≡ Err map_memory → reached ≡ shaken → Answers table agent context handshake plain shaken reached r
+
+abbrev pub MapsAreOfAll : Type 0
+MapsAreOfAll = (table : Table) (agent : FeatureValue) (context : Context) (handshake : Handshake) (plain : Bool) (shaken reached : Reading) (r : Result RefMap map_error)
+    → Obtains table agent context handshake plain shaken reached r → Answers table agent context handshake plain shaken reached r
+
+-- ---- what is asked for of a map
+
+module _ {N I A S C P X : Type 0} (parties : Parties N I A S C P X) (k : Knowledge) (made : RefMap) where
+  -- the rounds begin: the decision is what the mappings of this map call for, and their lines are asked for
+  pub record WantsOfMap {call : Call} {old : World N I S C} {banded : Bool} {ids : List ObjectId} {action : ActionValue} {locked : Bool} {read : S} {start : At N I} (starts : Starts parties call old banded ids action locked read start) : Type 0 where
+    pub decides : action ≡ decided k made
+    pub wants : AddsWants (lines_of k made starts.asked starts.known) true starts.asked start.asked
+
+  module _ {last marked : N} {asked : ArgumentsValue} {action : ActionValue} where
+    -- no line of theirs is a want
+    abbrev pub NoWants : (((action ≡ no_change) ⊎ (action ≡ skip)) × (last ≡ marked)) ⊎ ((known : List Bool) × (wanted : ArgumentsValue) × (action ≡ negotiate known) × parties.negotiation_calls.adds marked known asked false wanted last) → Type 0
+    NoWants (inl x) = ⊤
+    NoWants (inr x) = AddsWants (lines_of k made asked x.0) false asked x.1
+
+  -- there was nothing to ask for: they call for no objects, or no line of theirs is a want
+  pub record NoneOfMap {first last : N} {asked : ArgumentsValue} (idle : Idle parties.negotiation_calls first asked last) : Type 0 where
+    pub decides : idle.action ≡ decided k made
+    pub wants : NoWants idle.idle
+
+  -- where the second step was refused the first decided what they call for
+  abbrev pub DecidesOfMap : {first last : N} {asked : ArgumentsValue} {e : Error A X} → Unready parties.negotiation_calls first asked e last → Type 0
+  DecidesOfMap (inl u) = ⊤
+  DecidesOfMap (inr u) = negotiate u.known ≡ decided k made
+
+  abbrev pub RefusalOfMap : {call : Call} {old : World N I S C} {e : Error A X} {last : World N I S C} {progress : P} → Refuses parties call old e last progress → Type 0
+  RefusalOfMap (at_depth given banded held p l u n t) = ⊤
+  RefusalOfMap (at_wants banded ids asked a u t) = DecidesOfMap u
+  RefusalOfMap (in_session b) = WantsOfMap b.starts
+
+  -- as far as a fetch came, what it asked for is what the mappings of this map call for
+  abbrev pub AsksOfMap : (call : Call) (old : World N I S C) (result : Result (Option Outcome) (Error A X)) (new : World N I S C) (progress : P) → HoldsSession parties call old result new progress → Type 0
+  AsksOfMap call old (Ok (Some outcome)) new progress h = WantsOfMap h.1.starts
+  AsksOfMap call old (Ok None) new progress h = NoneOfMap h.1.idle
+  AsksOfMap call old (Err e) new progress (inl u) = ⊤
+  AsksOfMap call old (Err e) new progress (inr h) = RefusalOfMap h.1
+
+-- ---- a run
+
+module _ {N I A S C P X : Type 0} (parties : Parties N I A S C P X) (map_of : N → RefMap) (knows : N → Knowledge) where
+  -- a handshake, the ref map that stands on it, and a fetch whose negotiation is over this map, each where the one before left the transport
   pub record Run (call : Call) (context : Context) (start : Reading) (made : RefMap) (old : World N I S C) (result : Result (Option Outcome) (Error A X)) (new : World N I S C) (progress : P) : Type 0 where
     pub service : Service
     pub parameters : List Parameter
@@ -119,67 +300,20 @@ module _ {N I A S C P X : Type 0} (parties : Parties N I A S C P X) where
     pub obtains : Obtains call.table call.agent context handshake parties.plain shaken old.reading (Ok made)
     pub version : call.version ≡ handshake.server_protocol_version
     pub capabilities : call.capabilities ≡ handshake.capabilities
+    pub told : call.wishes.told ≡ update_items handshake.v1_shallow_updates
+    pub negotiates : map_of old.negotiate ≡ made
     pub fetches : Fetches parties call old result new progress
 
-  -- the consumer was lent a reader of the bands here, and what it read begins the joined payloads of band 1, whatever it returned
-  pub record TakesPack (c : C) (from : Reading) (d : C) : Type 0 where
-    pub before : P
-    pub returned : Result Bool X
-    pub start : Side
-    pub end : Side
-    pub behind : P
-    pub lent : start.reading ≡ from
-    pub took : parties.consumes c start before returned d end behind
-    pub read : List ℕ
-    pub reads : ReadsOn start end read
-    pub begins : IfSome from.to_come (λ p. (rest : List ℕ) × (content_of p ≡ read ++ rest))
-
-  -- how the rounds of a call go
-  abbrev pub manner_of : Call → Bool → Manner N I A
-  manner_of call banded = record { goes = parties.negotiation_calls.goes; fails = parties.negotiation_calls.round_fails; says = parties.says; version = call.version; banded = banded; plain = parties.plain }
-
-  -- a session that came to a pack: its rounds one behind another, each with its request, which is the stated function of what was asked for, and its answer
-  pub record Conversation (call : Call) (old : World N I S C) (rounds : List Round) (new : World N I S C) : Type 0 where
-    pub banded : Bool
-    pub start : At N I
-    pub updates : List ShallowUpdate
-    pub reply : AnswerValue
-    pub end : At N I
-    pub begins : Begins parties.negotiation_calls old.negotiate start.negotiate
-    pub here : start.reading ≡ old.reading
-    pub packed : Packed (manner_of call banded) start rounds updates reply end
-    pub answers : AreAnswers call.version banded (packed.turns ++ packed.last ∷ [])
-    pub requests : WroteRequests old.reading new.reading (requests_of (packed.turns ++ packed.last ∷ []))
-    pub pack : TakesPack old.consumer end.reading new.consumer
-
-  -- behind the rounds that were answered one was refused, by the negotiation, in its request or in its answer; or there was no other, and the pack wasn't lent; or it was
-  pub data BreaksOff (call : Call) (banded : Bool) (c : C) (end : At N I) (e : Error A X) (last : N) (d : C) (new : Reading) : Type 0 where
-    at_round : TurnFails (manner_of call banded) end e last new → BreaksOff call banded c end e last d new
-    between : new ≡ end.reading → d ≡ c → BreaksOff call banded c end e last d new
-    at_pack : TakesPack c end.reading d → BreaksOff call banded c end e last d new
-
-  -- a session that broke off: those of its rounds that were answered, each with its request and its answer, and what stands behind them
-  pub record BrokenOff (call : Call) (first : N) (c : C) (old : Reading) (e : Error A X) (last : N) (d : C) (new : Reading) : Type 0 where
-    pub banded : Bool
-    pub start : At N I
-    pub turns : List (Turn N I)
-    pub end : At N I
-    pub begins : Begins parties.negotiation_calls first start.negotiate
-    pub here : start.reading ≡ old
-    pub run : Chain (manner_of call banded) start turns end
-    pub answers : AreAnswers call.version banded turns
-    pub requests : WroteRequests old end.reading (requests_of turns)
-    pub ends : BreaksOff call banded c end e last d new
-
-  abbrev pub Converses : Call → World N I S C → Result (Option Outcome) (Error A X) → World N I S C → Type 0
-  Converses call old (Ok (Some outcome)) new = Conversation call old outcome.negotiate.rounds.items new
-  Converses call old (Ok None) new = new.reading ≡ old.reading
-  Converses call old (Err e) new = (new.reading ≡ old.reading) ⊎ BrokenOff call old.negotiate old.consumer old.reading e new.negotiate new.consumer new.reading
-
   -- what is true of a run
-  pub record Promise (call : Call) (context : Context) (start : Reading) (made : RefMap) (old : World N I S C) (result : Result (Option Outcome) (Error A X)) (new : World N I S C) (progress : P) (run : Run call context start made old result new progress) : Type 0 where
-    pub refs : Shown run.service run.parameters run.credentials start made.remote_refs.items ⊎ Listed call.table call.agent context run.handshake.capabilities run.shaken made.remote_refs.items
-    pub mappings : HoldsOfAll (joined_specs context.fetch_refspecs.items context.extra_refspecs.items) (map ref_value made.remote_refs.items)
-        (λ all. AnswersMap run.handshake.capabilities context.fetch_refspecs.items context.extra_refspecs.items all (Ok made))
-    pub conversation : Converses call old result new
-    pub bound : HoldsSession parties.negotiation_calls old.negotiate result old.reading new.reading
+  pub record Promise (call : Call) (context : Context) (start : Reading) (made : RefMap) (old : World N I S C) (result : Result (Option Outcome) (Error A X)) (new : World N I S C) (progress : P)
+      (run : Run call context start made old result new progress) : Type 0 where
+    pub greeted : Greeted run.service run.parameters run.credentials start run.shaken run.handshake
+    pub refs : Shown greeted.found greeted.from run.shaken old.reading run.handshake made.remote_refs.items
+        ⊎ ((greeted.found.has_refs ≡ false) × (run.shaken ≡ greeted.from) × (run.handshake.v1_shallow_updates ≡ None)
+        × Listed call.table call.agent context run.handshake run.shaken old.reading made.remote_refs.items)
+    pub mappings : IsOfAll context run.handshake.capabilities made.remote_refs.items (Ok made)
+    pub placed : AllByRecursion (λ (m : Mapping). IsSome (spec_at m.spec_index made.refspecs.items made.extra_refspecs.items)) made.mappings.items
+    pub explicit : made.refspecs ≡ context.fetch_refspecs
+    pub extra : made.extra_refspecs ≡ context.extra_refspecs
+    pub conversation : HoldsSession parties call old result new progress
+    pub asks : AsksOfMap parties (knows old.negotiate) made call old result new progress conversation

@@ -1,49 +1,296 @@
--- A fetch seen from outside: its rounds, the requests that went out in them, and what the negotiation had to offer when they began.
-use Rattle.std.specs.Prelude.{◌≡◌, ◌⊎◌, ℕ, ◌+◌, ◌/◌, ◌≤◌, Bool, true, false, if◌then◌else◌, List, length, Option, Some, None, Result, Ok, Err}
-use Rattle.gixp_capabilities.specs.declared.client.Error.{Error as client_error}
-use Rattle.gixp_packetline.specs.Reading.{Reading}
-use Rattle.gixp_requests.specs.Arguments.{ArgumentsValue}
+-- A fetch seen from outside: what it asked for, its rounds with their requests and answers, the pack, and why it was refused (gitprotocol-pack, "Packfile Negotiation"; gitprotocol-v2, "fetch").
+use Rattle.std.proofs.Common.{inl, inr}
+use Rattle.std.specs.Borrow.{GName}
+use Rattle.std.specs.Prelude.{◌≡◌, ◌⊎◌, ⊤, ℕ, ◌+◌, ◌/◌, ◌≤◌, Bool, true, false, not, ◌||◌, length, codes, List, [], ◌∷◌, ◌++◌, map, Option, Some, None, IfSome, Result, Ok, Err}
+use Rattle.gixp_packetline.specs.declared.protocol.Protocol.{Protocol}
+use Rattle.gixp_packetline.specs.declared.protocol.MessageKind.{MessageKind}
+use Rattle.gixp_packetline.specs.Lines.{stop}
+use Rattle.gixp_packetline.specs.Pieces.{Pieces}
+use Rattle.gixp_packetline.specs.FrameText.{texts_of}
+use Rattle.gixp_packetline.specs.Reading.{Reading, lines_ahead}
+use Rattle.gixp_hash.specs.declared.object_id.ObjectId.{ObjectId}
+use Rattle.gixp_sidebands.specs.Bands.{Side, side_reading, side_content, content_of}
+use Rattle.gixp_response.specs.Answer.{AnswerValue, Found, whole}
+use Rattle.gixp_response.specs.Beginnings.{expected as flags}
+use Rattle.gixp_response.specs.AnswerReading.{answer_of, BrokeOff}
+use Rattle.gixp_response.specs.Features.{Feature, missing_feature}
+use Rattle.gixp_response.specs.declared.fetch.response.line.ShallowUpdate.{ShallowUpdate}
+use Rattle.gixp_requests.specs.Feature.{feature_values, has_feature}
+use Rattle.gixp_requests.specs.Arguments.{ArgumentsValue, is_v2, asks_nothing}
+use Rattle.gixp_requests.specs.Request.{request, sent_off}
 use Rattle.gixp_negotiate.specs.declared.negotiate.Round.{Round}
-use Rattle.gixp_negotiate.specs.Negotiate.{negotiate}
+use Rattle.gixp_negotiate.specs.declared.negotiate.Error.TheVariants.{NegotiationFailed}
+use Rattle.gixp_negotiate.specs.Negotiate.{ActionValue, action_value, negotiate, first_window}
 use Rattle.gixp_fetch.specs.declared.options.Outcome.{Outcome}
 use Rattle.gixp_fetch.specs.declared.error.Error.{Error}
-use Rattle.gixp_fetch.specs.FetchRounds.{SendsRound, haves_of}
-use Rattle.gixp_fetch.specs.Sent.{WroteRequests}
-use Rattle.gixp_fetch.specs.Session.{NegotiationCalls}
+use Rattle.gixp_fetch.specs.declared.error.Error.TheVariants.{Negotiate, Memory}
+use Rattle.gixp_fetch.specs.declared.receive.PackFailure.{PackFailure}
+use Rattle.gixp_fetch.specs.declared.receive.PackFailure.TheVariants.{Consumer, Rest}
+use Rattle.gixp_fetch.specs.FetchRounds.{At, Turn, Manner, Turns, Rounds, Packed, TurnFails, Breaks, before_request, at_request, behind_request, at_answer, behind_answer, updates_of, told_of, haves_of, windows_of}
+use Rattle.gixp_fetch.specs.Bound.{but_last}
+use Rattle.gixp_fetch.specs.View.{view}
+use Rattle.gixp_fetch.specs.Sent.{requests_of, WroteRequests}
+use Rattle.gixp_fetch.specs.FetchShallow.{is_change, shallow_asks}
+use Rattle.gixp_fetch.specs.Prepare.{asks_tags, Prepared, LocksFirst, ReleasesIf}
+use Rattle.gixp_fetch.specs.Receive.{GivesBack, Undrained, fresh_side}
+use Rattle.gixp_fetch.specs.Received.{of_pack}
+use Rattle.gixp_fetch.specs.Session.{Unopened, Idle, Unready, Holds, Unheld, Settles, Unsettled}
+use Rattle.gixp_fetch.specs.Fetch.{World, Parties}
+use Rattle.gixp_fetch.specs.Fetched.{Call, features, Unstarted}
 
--- the negotiation behind its first two steps, when the rounds begin: objects are to be asked for, and are
-pub record Begins {N A : Type 0} (negotiation_calls : NegotiationCalls N A) (first ready : N) : Type 0 where
-  pub known : List Bool
-  pub marked : N
-  pub given : ArgumentsValue
-  pub wanted : ArgumentsValue
-  pub marks : negotiation_calls.marks first (negotiate known) marked
-  pub adds : negotiation_calls.adds marked known given true wanted ready
+-- ---- what a round asks for, and its answer
 
--- behind these requests nothing more was written; or one more request was begun, and refused or not answered
-abbrev pub Another : Bool → Reading → Reading → Type 0
-Another false old new = new.held ≡ old.held
-Another true old new = (sent : Reading) × (asked : ArgumentsValue) × (done : Bool) × (result : Result (Unit {0}) client_error) × SendsRound old sent asked done result × (new.held ≡ sent.held)
+-- an answer is that of the grammar in what was to come; or a read failed as at the stream's end, and it is that of the grammar in the pieces before
+abbrev pub IsAnswer : (Pieces → Found) → Protocol → Reading → Reading → AnswerValue → Type 0
+IsAnswer found version old new value = IfSome old.to_come (λ p. (q : Pieces) × (new.to_come ≡ Some q) × (found p ≡ whole value q)) ⊎ BrokeOff found version old new value
 
--- the requests of these rounds, at most one for each, and nothing else was written
-pub record Requests (rounds : List Round) (old new : Reading) : Type 0 where
-  pub requests : List (List ℕ)
-  pub mid : Reading
-  pub another : Bool
-  pub wrote : WroteRequests old mid requests
-  pub rest : Another another mid new
-  pub few : length requests + (if another then 1 else 0) ≤ length rounds
+abbrev pub AreAnswers : {N I : Type 0} → Protocol → Bool → List (Turn N I) → Type 0
+AreAnswers version banded [] = ⊤
+AreAnswers version banded (t ∷ ts) = IsAnswer (answer_of version (flags t.done (not t.done))) version (view banded t.sent) (view banded t.after.reading) t.reply × AreAnswers version banded ts
 
--- these rounds were held: their haves were all on offer when they began, and there are at most a sixteenth as many requests, and one more
-pub record Held {N A : Type 0} (negotiation_calls : NegotiationCalls N A) (first : N) (rounds : List Round) (old new : Reading) : Type 0 where
-  pub ready : N
-  pub begins : Begins negotiation_calls first ready
-  pub haves : haves_of rounds ≤ negotiation_calls.count ready
-  pub few : length rounds ≤ negotiation_calls.count ready / 16 + 1
-  pub requests : Requests rounds old new
+-- none of these rounds is the last or has a pack
+abbrev pub GoOn : {N I : Type 0} → List (Turn N I) → Type 0
+GoOn [] = ⊤
+GoOn (t ∷ ts) = (t.done ≡ false) × (t.reply.pack ≡ false) × GoOn ts
 
--- a fetch by its result: an outcome tells its rounds; a refused one held some or wrote nothing; and where there is nothing to ask for nothing is read or written
-abbrev pub HoldsSession : {N A X : Type 0} → NegotiationCalls N A → N → Result (Option Outcome) (Error A X) → Reading → Reading → Type 0
-HoldsSession negotiation_calls first (Ok (Some outcome)) old new = Held negotiation_calls first outcome.negotiate.rounds.items old new
-HoldsSession negotiation_calls first (Ok None) old new = new ≡ old
-HoldsSession negotiation_calls first (Err e) old new = (new ≡ old) ⊎ ((rounds : List Round) × Held negotiation_calls first rounds old new)
+-- what these rounds told
+abbrev pub rounds_of : {N I : Type 0} → List (Turn N I) → List Round
+rounds_of ts = map (λ t. t.round) ts
+
+module _ {N I A : Type 0} (m : Manner N I A) where
+  -- what each round asks for is what the negotiation makes of what was asked for before, of its window and of the last answer; after its request no have is left, and the lines are where each request says them again
+  abbrev pub AreNegotiated : At N I → List (Turn N I) → Type 0
+  AreNegotiated old [] = ⊤
+  AreNegotiated old (t ∷ ts) =
+      m.goes old.negotiate old.window old.asked old.previous t.round t.done t.after.negotiate t.after.window t.asked × (t.after.asked ≡ sent_off old.reading.held.persists t.asked) × (t.after.previous ≡ Some t.reply)
+      × AreNegotiated t.after ts
+
+  module _ {E : Type 0} where
+    -- the request of a round that came to no answer, where it was begun
+    abbrev pub begun_by : {old : At N I} {asked : ArgumentsValue} {done : Bool} {e : Error A E} {reading : Reading} → Breaks m old asked done e reading → List (List ℕ)
+    begun_by (before_request w r) = []
+    begun_by {old} {asked} {done} (at_request error s g) = texts_of (request asked done) ∷ []
+    begun_by {old} {asked} {done} (behind_request s w) = texts_of (request asked done) ∷ []
+    begun_by {old} {asked} {done} (at_answer sent s error a h g) = texts_of (request asked done) ∷ []
+    begun_by {old} {asked} {done} (behind_answer sent s reply a h w) = texts_of (request asked done) ∷ []
+
+    abbrev pub begun_in : {old : At N I} {e : Error A E} {negotiate : N} {reading : Reading} → TurnFails m old e negotiate reading → List (List ℕ)
+    begun_in (inl u) = []
+    begun_in (inr b) = begun_by b.breaks
+
+module _ {N I A S C P X : Type 0} (parties : Parties N I A S C P X) where
+  -- how the rounds of a call go
+  abbrev pub manner_of : Call → Bool → Manner N I A
+  manner_of call banded = record { goes = parties.negotiation_calls.goes; fails = parties.negotiation_calls.round_fails; says = parties.says; version = call.version; banded = banded; plain = parties.plain }
+
+  -- ---- what is asked for
+
+  -- before any object: the features, the tags, the boundary and the depth, of what the client and the server can do and of the boundary that the store has, whose lock is had where it may change
+  pub record Asks (call : Call) (store : S) (banded : Bool) (ids : List ObjectId) (asked : ArgumentsValue) (locked : Bool) (read : S) : Type 0 where
+    pub raw : List Feature
+    pub values : feature_values raw ≡ features call
+    pub needed : missing_feature call.version raw ≡ None
+    pub bands : banded ≡ has_feature (codes "sideband-all") (features call)
+    pub given : ArgumentsValue
+    pub tags : asks_tags call.tags (asks_nothing call.table call.version (features call)) ≡ Ok given
+    pub held : S
+    pub locks : LocksFirst parties.store_calls.locks (is_change call.wishes.shallow) store held locked
+    pub reads : parties.store_calls.reads held ids read
+    pub depth : shallow_asks call.wishes.shallow ids given ≡ Ok asked
+
+  -- the rounds begin: the wants of the negotiation are asked for next, the window is the first, no answer came, and nothing was written or read
+  pub record Starts (call : Call) (old : World N I S C) (banded : Bool) (ids : List ObjectId) (action : ActionValue) (locked : Bool) (read : S) (start : At N I) : Type 0 where
+    pub asked : ArgumentsValue
+    pub asks : Asks call old.store banded ids asked locked read
+    pub known : List Bool
+    pub marked : N
+    pub must : action ≡ negotiate known
+    pub marks : parties.negotiation_calls.marks old.negotiate action marked
+    pub adds : parties.negotiation_calls.adds marked known asked true start.asked start.negotiate
+    pub window : start.window ≡ first_window (not old.reading.held.persists || is_v2 start.asked.version)
+    pub previous : start.previous ≡ None
+    pub reading : start.reading ≡ old.reading
+    pub interrupt : start.interrupt ≡ old.interrupt
+
+  -- nothing was written or read, the interrupt wasn't asked, and no pack was lent
+  pub record Untouched (old last : World N I S C) : Type 0 where
+    pub reading : last.reading ≡ old.reading
+    pub interrupt : last.interrupt ≡ old.interrupt
+    pub consumer : last.consumer ≡ old.consumer
+
+  -- there was nothing to ask for: the refs call for no objects, or no want was among what the negotiation added
+  pub record AsksNothing (call : Call) (old last : World N I S C) : Type 0 where
+    pub banded : Bool
+    pub ids : List ObjectId
+    pub asked : ArgumentsValue
+    pub asks : Asks call old.store banded ids asked last.locked last.store
+    pub idle : Idle parties.negotiation_calls old.negotiate asked last.negotiate
+    pub untouched : Untouched old last
+
+  -- ---- the pack
+
+  -- the consumer was lent a reader of the bands that stands here. What it read begins the joined payloads of band 1, and the rest of these is what its reader has left: where that is nothing it read all of them
+  pub record TakesPack (c : C) (from : Reading) (returned : Result Bool X) (d : C) (left : Side) (progress : P) : Type 0 where
+    pub name : GName
+    pub before : P
+    pub took : parties.consumes c (fresh_side name from) before returned d left progress
+    pub read : List ℕ
+    pub begins : IfSome from.to_come (λ p. (q : Pieces) × (left.reading.to_come ≡ Some q) × (content_of p ≡ read ++ side_content left q))
+    pub all : IfSome from.to_come (λ p. IfSome left.reading.to_come (λ q. side_content left q ≡ [] → content_of p ≡ read))
+
+  -- all lines up to a stop were read, and the stop, and no read failed
+  pub record ReadsToStop (old new : Reading) : Type 0 where
+    pub kind : MessageKind
+    pub stopped : new.stopped ≡ Some kind
+    pub failures : new.failures ≡ old.failures
+    pub rest : IfSome old.to_come (λ p. (q : Pieces) × (new.to_come ≡ Some q) × ((lines_ahead old p).ending ≡ stop kind q))
+
+  -- where the consumer answered true what it left was read up to the stop, and else nothing more
+  pub record TakesAll (c : C) (from : Reading) (d : C) (new : Reading) (progress : P) : Type 0 where
+    pub finished : Bool
+    pub left : Side
+    pub end : Side
+    pub takes : TakesPack c from (Ok finished) d left progress
+    pub drains : finished ≡ true → ReadsToStop (side_reading left) (side_reading end)
+    pub stays : finished ≡ false → end ≡ left
+    pub back : GivesBack end new
+
+  -- the consumer refused the pack, or what it left was refused before a stop
+  abbrev pub RefusesPack : C → Reading → PackFailure X → C → Reading → P → Type 0
+  RefusesPack c from (Consumer x) d new progress = (left : Side) × TakesPack c from (Err x) d left progress × GivesBack left new
+  RefusesPack c from (Rest x) d new progress = (left end : Side) × TakesPack c from (Ok true) d left progress × Undrained (side_reading left) (side_reading end) x × GivesBack end new
+
+  -- ---- a session that came to a pack
+
+  -- its rounds one behind another, each with its request, which is the stated function of what was asked for, and its answer; and then the lock, the pack and the boundary
+  pub record Conversation (call : Call) (old : World N I S C) (action : ActionValue) (rounds : List Round) (answer : AnswerValue) (last : World N I S C) (progress : P) : Type 0 where
+    pub banded : Bool
+    pub ids : List ObjectId
+    pub locked : Bool
+    pub read : S
+    pub start : At N I
+    pub starts : Starts call old banded ids action locked read start
+    pub updates : List ShallowUpdate
+    pub reply : AnswerValue
+    pub end : At N I
+    pub packed : Packed (manner_of call banded) start rounds updates reply end
+    pub go_on : GoOn packed.turns
+    pub negotiated : AreNegotiated (manner_of call banded) start (packed.turns ++ packed.last ∷ [])
+    pub answers : AreAnswers call.version banded (packed.turns ++ packed.last ∷ [])
+    pub requests : WroteRequests old.reading last.reading (requests_of (packed.turns ++ packed.last ∷ []))
+    pub haves : haves_of rounds ≤ parties.negotiation_calls.count start.negotiate
+    pub windows : windows_of (but_last rounds) ≤ parties.negotiation_calls.count start.negotiate
+    pub few : length (requests_of (packed.turns ++ packed.last ∷ [])) ≤ parties.negotiation_calls.count start.negotiate / 16 + 1
+    pub says : answer ≡ record reply { shallow_updates = reply.shallow_updates ++ call.wishes.told }
+    pub stands : last.negotiate ≡ end.negotiate
+    pub held : S
+    pub holds : Holds parties.store_calls (updates ++ call.wishes.told) call.wishes.reject read locked held last.locked
+    pub pack : TakesAll old.consumer end.reading last.consumer last.reading progress
+    pub settles : Settles parties.store_calls ids (updates ++ call.wishes.told) held last.store
+
+  -- ---- a session that broke off
+
+  -- the boundary and its lock are what they were before the rounds, and no pack was lent
+  pub record Unlent (c : C) (read : S) (had : Bool) (last : World N I S C) : Type 0 where
+    pub consumer : last.consumer ≡ c
+    pub store : last.store ≡ read
+    pub lock : last.locked ≡ had
+
+  -- the negotiation and the transport are where they were between two rounds
+  pub record StandsAt (at : At N I) (last : World N I S C) : Type 0 where
+    pub negotiate : last.negotiate ≡ at.negotiate
+    pub reading : last.reading ≡ at.reading
+
+  -- a pack came, and the rest was refused for this reason: an allocation failed, the lock wasn't had, the pack or what stands behind it was refused, or the boundary wasn't written
+  pub data Unpacks (ids : List ObjectId) (updates : List ShallowUpdate) (reject : Bool) (c : C) (read : S) (locked : Bool) (from : Reading) (e : Error A X) (last : World N I S C) (progress : P) : Type 0 where
+    lacks_memory : e ≡ Memory → last.reading ≡ from → Unlent c read locked last → Unpacks ids updates reject c read locked from e last progress
+    lacks_lock : Unheld parties.store_calls updates reject read locked e last.store last.locked → last.reading ≡ from → last.consumer ≡ c → Unpacks ids updates reject c read locked from e last progress
+    lacks_room : Holds parties.store_calls updates reject read locked last.store last.locked → e ≡ Memory → last.reading ≡ from → last.consumer ≡ c → Unpacks ids updates reject c read locked from e last progress
+    untaken : Holds parties.store_calls updates reject read locked last.store last.locked → (error : PackFailure X) → e ≡ of_pack error → RefusesPack c from error last.consumer last.reading progress
+        → Unpacks ids updates reject c read locked from e last progress
+    unwritten : (held : S) → Holds parties.store_calls updates reject read locked held last.locked → TakesAll c from last.consumer last.reading progress → Unsettled parties.store_calls held e last.store
+        → Unpacks ids updates reject c read locked from e last progress
+
+  -- after rounds that were neither the last nor had a pack, with this refusal: the caller stopped it; one more round was the last and had no pack; one more was refused, by the negotiation, in its request or in its answer; or one more had a pack, and the rest was refused
+  pub data BreaksOff (call : Call) (banded : Bool) (ids : List ObjectId) (c : C) (read : S) (locked : Bool) (turns : List (Turn N I)) (before : At N I) (e : Error A X) (last : World N I S C) (progress : P) : Type 0 where
+    by_caller : parties.says before.interrupt true last.interrupt → e ≡ Negotiate (NegotiationFailed (length turns)) → StandsAt before last → Unlent c read locked last
+        → BreaksOff call banded ids c read locked turns before e last progress
+    exhausted : (t : Turn N I) → Turns (manner_of call banded) before t → t.done ≡ true → t.reply.pack ≡ false → e ≡ Negotiate (NegotiationFailed (length turns + 1)) → StandsAt t.after last → last.interrupt ≡ t.after.interrupt → Unlent c read locked last
+        → BreaksOff call banded ids c read locked turns before e last progress
+    at_round : TurnFails (manner_of call banded) before e last.negotiate last.reading → Unlent c read locked last → BreaksOff call banded ids c read locked turns before e last progress
+    behind_pack : (t : Turn N I) → Turns (manner_of call banded) before t → t.reply.pack ≡ true → last.negotiate ≡ t.after.negotiate → last.reading.held ≡ t.after.reading.held
+        → Unpacks ids ((updates_of (manner_of call banded) turns ++ t.reply.shallow_updates) ++ call.wishes.told) call.wishes.reject c read locked t.after.reading e last progress
+        → BreaksOff call banded ids c read locked turns before e last progress
+
+  module _ {call : Call} {banded : Bool} {ids : List ObjectId} {c : C} {read : S} {locked : Bool} {turns : List (Turn N I)} {before : At N I} {e : Error A X} {last : World N I S C} {progress : P} where
+    -- the one round more that was answered, if there is one
+    abbrev pub one_more : BreaksOff call banded ids c read locked turns before e last progress → List (Turn N I)
+    one_more (by_caller s g at u) = []
+    one_more (exhausted t r d n g at i u) = t ∷ []
+    one_more (at_round f u) = []
+    one_more (behind_pack t r p n h u) = t ∷ []
+
+    -- where the transport stood after the last answer
+    abbrev pub answered_at : BreaksOff call banded ids c read locked turns before e last progress → Reading
+    answered_at (by_caller s g at u) = before.reading
+    answered_at (exhausted t r d n g at i u) = t.after.reading
+    answered_at (at_round f u) = before.reading
+    answered_at (behind_pack t r p n h u) = t.after.reading
+
+    -- the one request more that was begun and not answered, if there is one
+    abbrev pub unanswered : BreaksOff call banded ids c read locked turns before e last progress → List (List ℕ)
+    unanswered (by_caller s g at u) = []
+    unanswered (exhausted t r d n g at i u) = []
+    unanswered (at_round f u) = begun_in (manner_of call banded) f
+    unanswered (behind_pack t r p n h u) = []
+
+    -- what the last round told, if it told anything
+    abbrev pub told_last : BreaksOff call banded ids c read locked turns before e last progress → List Round
+    told_last (by_caller s g at u) = []
+    told_last (exhausted t r d n g at i u) = t.round ∷ []
+    told_last (at_round f u) = told_of (manner_of call banded) f
+    told_last (behind_pack t r p n h u) = t.round ∷ []
+
+  -- its rounds one behind another, each with its request and its answer, and why there is no pack or the rest was refused
+  pub record BrokenOff (call : Call) (old : World N I S C) (e : Error A X) (last : World N I S C) (progress : P) : Type 0 where
+    pub banded : Bool
+    pub ids : List ObjectId
+    pub action : ActionValue
+    pub locked : Bool
+    pub read : S
+    pub start : At N I
+    pub starts : Starts call old banded ids action locked read start
+    pub turns : List (Turn N I)
+    pub before : At N I
+    pub run : Rounds (manner_of call banded) start turns before
+    pub go_on : GoOn turns
+    pub ends : BreaksOff call banded ids old.consumer read locked turns before e last progress
+    pub negotiated : AreNegotiated (manner_of call banded) start (turns ++ one_more ends)
+    pub answers : AreAnswers call.version banded (turns ++ one_more ends)
+    pub requests : WroteRequests old.reading (answered_at ends) (requests_of (turns ++ one_more ends))
+    pub haves : haves_of (rounds_of turns ++ told_last ends) ≤ parties.negotiation_calls.count start.negotiate
+    pub windows : windows_of (but_last (rounds_of turns ++ told_last ends)) ≤ parties.negotiation_calls.count start.negotiate
+    pub few : length (requests_of (turns ++ one_more ends) ++ unanswered ends) ≤ parties.negotiation_calls.count start.negotiate / 16 + 1
+
+  -- ---- by the result
+
+  -- refused after its first arguments and its lock, for this reason: the boundary wasn't read, or it and the depth not asked for; the negotiation refused one of its first two steps; or the session broke off
+  pub data Refuses (call : Call) (old : World N I S C) (e : Error A X) (last : World N I S C) (progress : P) : Type 0 where
+    at_depth : (given : ArgumentsValue) (banded : Bool) (held : S) → Prepared call.table call.version (features call) call.tags given banded
+        → LocksFirst parties.store_calls.locks (is_change call.wishes.shallow) old.store held last.locked → Unopened parties.store_calls call.wishes.shallow held given e last.store
+        → last.negotiate ≡ old.negotiate → Untouched old last → Refuses call old e last progress
+    at_wants : (banded : Bool) (ids : List ObjectId) (asked : ArgumentsValue) → Asks call old.store banded ids asked last.locked last.store → Unready parties.negotiation_calls old.negotiate asked e last.negotiate
+        → Untouched old last → Refuses call old e last progress
+    in_session : BrokenOff call old e last progress → Refuses call old e last progress
+
+  -- a lock that is had is released, and nothing else changes
+  pub record Releases (last new : World N I S C) : Type 0 where
+    pub releases : ReleasesIf parties.store_calls.releases last.locked last.store new.store
+    pub stands : new ≡ record last { store = new.store; locked = false }
+
+  -- a fetch by its result: an outcome is that of a session that came to a pack; without one there was nothing to ask for; and a refusal is that of the first part that is refused
+  abbrev pub HoldsSession : Call → World N I S C → Result (Option Outcome) (Error A X) → World N I S C → P → Type 0
+  HoldsSession call old (Ok (Some outcome)) new progress =
+      (last : World N I S C) × Conversation call old (action_value outcome.negotiate.action) outcome.negotiate.rounds.items outcome.last_response last progress × Releases last new
+  HoldsSession call old (Ok None) new progress = (last : World N I S C) × AsksNothing call old last × Releases last new
+  HoldsSession call old (Err e) new progress = Unstarted parties call old e new ⊎ ((last : World N I S C) × Refuses call old e last progress × Releases last new)

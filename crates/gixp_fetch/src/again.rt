@@ -18,7 +18,7 @@ impl<'a, O: Objects, R: RefStore, N: Negotiator, G: Objects, E: Drop> NamesCommo
     ghost use Rattle.gixp_negotiate.specs.Negotiate.{Window};
 
     ghost renames = { record {
-      keeps = λ n s a p r d m t b o. ap (λ (w : Window). w.kept) o.state;
-      names = λ n s a p r d m t b o. (o.haves, o.asked);
+      keeps = λ n s a p r d m t b o. ap (λ (w : Window). w.kept) o.0.state;
+      names = λ n s a p r d m t b o. (o.0.haves, o.0.asked);
     } };
 }

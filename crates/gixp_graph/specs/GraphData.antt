@@ -8,6 +8,8 @@ use Rattle.gixp_hash.specs.declared.object_id.ObjectId.{ObjectId}
 use Rattle.gixp_graph.specs.declared.flags.Flags.{Flags}
 use Rattle.gixp_hash.specs.ObjectId.{id_cmp, coded_id}
 use Rattle.gixp_graph.specs.Object.{Objects, Commit, commit_at, coded_object}
+use Rattle.gixp_graph.specs.Refusals.{Written, coded_refusals}
+use Rattle.gixp_graph.specs.declared.objects.ObjectError.{ObjectError}
 
 -- a commit that a graph holds
 pub record HeldCommit : Type 0 where
@@ -28,17 +30,18 @@ pub record GraphData : Type 0 where
   pub objects : Objects
   pub held : Commits
 
--- what a contract sees of a graph: its commits, how many calls of its objects have failed, and the ids that they were asked for
+-- what a contract sees of a graph: its commits, how many calls of its objects have failed, the ids that they were asked for, and what refused calls told
 pub record GraphValue : Type 0 where
   pub graph : GraphData
   pub failures : ℕ
   pub asked : List ObjectId
+  pub refusals : Written ObjectError
 
--- a graph is stored as its two maps, the count and the list
+-- a graph is stored as its two maps, the count and the lists
 abbrev pub coded_graph : Coded GraphValue
 coded_graph =
-    code_by (Objects × (Commits × (ℕ × List ObjectId))) (coded× (finite.code coded_id coded_object) (coded× (finite.code coded_id coded_held) (coded× coded_ℕ (coded_list coded_id))))
-    (λ g. (g.graph.objects, (g.graph.held, (g.failures, g.asked)))) (λ p. record { graph = record { objects = p.0; held = p.1.0 }; failures = p.1.1.0; asked = p.1.1.1 }) (λ _. refl)
+    code_by (Objects × (Commits × (ℕ × (List ObjectId × Written ObjectError)))) (coded× (finite.code coded_id coded_object) (coded× (finite.code coded_id coded_held) (coded× coded_ℕ (coded× (coded_list coded_id) coded_refusals))))
+    (λ g. (g.graph.objects, (g.graph.held, (g.failures, (g.asked, g.refusals))))) (λ p. record { graph = record { objects = p.0; held = p.1.0 }; failures = p.1.1.0; asked = p.1.1.1.0; refusals = p.1.1.1.1 }) (λ _. refl)
 
 -- a graph of these objects and commits
 abbrev pub graph_of : Objects → Commits → GraphData

@@ -3,10 +3,12 @@ pub mod Complete
 pub mod CountLaws
 pub mod GraphData
 pub mod GraphLaws
+pub mod KindCode
 pub mod Negotiation
 pub mod Node
 pub mod Object
 pub mod Queue
+pub mod Refusals
 pub mod Run
 pub mod Table
 pub mod Visited

@@ -6,6 +6,7 @@ ghost use Rattle.gixp_graph.specs.declared.objects.ObjectError.TheVariants.{Memo
 ghost use Rattle.gixp_graph.specs.Object.{HasRisen, commit_at, time_at};
 ghost use Rattle.gixp_graph.specs.GraphData.{graph_of, shown, shown_time, parents_in, found_in, looked_up, flagged, is_marked, OnlyMarks, IsFaithful};
 ghost use Rattle.gixp_graph.specs.Asked.{AsksWhere, AsksEach};
+ghost use Rattle.gixp_graph.specs.Refusals.{Tells};
 ghost use Rattle.gixp_graph.specs.Complete.{IsComplete, IsDue};
 
 use crate::commits::Commits;
@@ -33,7 +34,7 @@ impl<O: Objects> Model for Graph<O> {
 
     ghost coded = { coded_graph };
 
-    ghost view = { λ a. record { graph = graph_of (O.contents a.objects) a.commits.held; failures = O.failures a.objects; asked = O.asked a.objects } };
+    ghost view = { λ a. record { graph = graph_of (O.contents a.objects) a.commits.held; failures = O.failures a.objects; asked = O.asked a.objects; refusals = O.refusals a.objects } };
 
     ghost invariant = { λ a. IsFaithful (graph_of (O.contents a.objects) a.commits.held) };
 }
@@ -44,6 +45,7 @@ impl<O: Objects> Graph<O> {
         ensures empty { result.graph ≡ graph_of (O.contents objects) finite.empty }
         ensures failures { result.failures ≡ O.failures objects }
         ensures asked { result.asked ≡ O.asked objects }
+        ensures refusals { result.refusals ≡ O.refusals objects }
     {
         Graph {
             alloc,
@@ -77,6 +79,10 @@ impl<O: Objects> Graph<O> {
 
         // A commit that is held isn't read again.
         ensures asked { AsksWhere (finite.get self.old.graph.held id.now ≡ None) id.now self.old.asked self.new.asked }
+
+        // The error is that of the objects, or an allocation failed and they were refused nothing.
+        ensures unrefused { OnOk result (self.new.refusals ≡ self.old.refusals) }
+        ensures refused { IfErr result (λ e. Tells e self.old.refusals self.new.refusals) }
         ensures failures { self.old.failures ≤ self.new.failures }
         ensures failed { IfErr result (λ e. (e ≡ Memory) ⊎ HasRisen self.old.failures self.new.failures) }
     {
@@ -96,6 +102,7 @@ impl<O: Objects> Graph<O> {
         ensures flagged { self.new.graph ≡ graph_of self.old.graph.objects (flagged self.old.graph.held id.now flags) }
         ensures failures { self.new.failures ≡ self.old.failures }
         ensures asked { self.new.asked ≡ self.old.asked }
+        ensures refusals { self.new.refusals ≡ self.old.refusals }
     {
         self.commits.insert_flags(id, flags)
     }
@@ -132,6 +139,10 @@ impl<O: Objects> Graph<O> {
         // No commit is read twice, and none but those that aren't held and that may be complete: of the
         // ids, and of the parents of each complete commit from the cutoff on.
         ensures asked { AsksEach (λ id. (finite.get self.old.graph.held id ≡ None) × IsDue (commit_at self.old.graph.objects) ids.now cutoff id) self.old.asked self.new.asked }
+
+        // The error is that of the objects, or an allocation failed and they were refused nothing.
+        ensures unrefused { OnOk result (self.new.refusals ≡ self.old.refusals) }
+        ensures refused { IfErr result (λ e. Tells e self.old.refusals self.new.refusals) }
         ensures failures { self.old.failures ≤ self.new.failures }
         ensures failed { IfErr result (λ e. (e ≡ Memory) ⊎ HasRisen self.old.failures self.new.failures) }
     {

@@ -8,6 +8,7 @@ pub mod negotiator;
 pub mod objects;
 mod queue;
 pub mod refs;
+mod same;
 mod visited;
 mod walk;
 

@@ -1,8 +1,9 @@
 //! What a negotiation asks of the one who chooses the haves.
-ghost use Rattle.std.specs.Prelude.{◌≡◌, ℕ, ◌≤◌, ◌<◌, Option, Some, None, IfOk, IfErr, OnOk, OnErr, IfSome, IfNone};
+ghost use Rattle.std.specs.Prelude.{◌≡◌, ⊤, ℕ, ◌≤◌, ◌<◌, Option, Some, None, IfOk, IfErr, OnOk, OnErr, IfSome, IfNone};
 ghost use Rattle.gixp_hash.specs.declared.object_id.ObjectId.{ObjectId};
 ghost use Rattle.gixp_graph.specs.GraphData.{GraphData};
 ghost use Rattle.gixp_graph.specs.Negotiation.{IsRefusal};
+ghost use Rattle.gixp_graph.specs.declared.negotiator.NegotiatorError.{NegotiatorError};
 
 use crate::graph::Graph;
 use crate::objects::{ObjectError, Objects};
@@ -23,7 +24,9 @@ pub enum NegotiatorError {
 /// Chooses the commits to offer as haves (gitprotocol-pack, "Packfile Negotiation").
 ///
 /// Each call says what it does as a relation of the negotiator and the graph before and after it, in
-/// which a graph stands as plain data. No call changes what the graph's objects mean.
+/// which a graph stands as plain data. No call changes what the graph's objects mean. What a refused call
+/// leaves is a relation too, by its error, which an implementation need not give: by default it leaves
+/// all open. Contracts of the calls above say by it that nothing was done after a refusal.
 ///
 /// The law: there is a count of the haves that it may still offer, which each offer lowers, and which
 /// neither `in_common_with_remote` nor a `next_have` with no offer raises.
@@ -46,17 +49,30 @@ pub trait Negotiator {
     /// What `next_have` does, by its offer.
     ghost offers: { Self → GraphData → Option ObjectId → Self → GraphData → Type 0 };
 
+    /// What a refused `known_common` leaves, by its error.
+    ghost knowing_fails: { Self → GraphData → ObjectId → NegotiatorError → Self → GraphData → Type 0 } = { λ _ _ _ _ _ _. ⊤ };
+
+    /// What a refused `add_tip` leaves, by its error.
+    ghost adding_fails: { Self → GraphData → ObjectId → NegotiatorError → Self → GraphData → Type 0 } = { λ _ _ _ _ _ _. ⊤ };
+
+    /// What a refused `in_common_with_remote` leaves, by its error.
+    ghost learning_fails: { Self → GraphData → ObjectId → NegotiatorError → Self → GraphData → Type 0 } = { λ _ _ _ _ _ _. ⊤ };
+
+    /// What a refused `next_have` leaves, by its error.
+    ghost offering_fails: { Self → GraphData → NegotiatorError → Self → GraphData → Type 0 } = { λ _ _ _ _ _. ⊤ };
+
     /// Tells it of a commit that both sides have, before the first have.
     ///
     /// # Errors
     ///
-    /// Why it can't go on. What it and the graph are then is left open.
+    /// Why it can't go on. What it and the graph are then is for the implementation to say.
     fn known_common<O: Objects>(
         &mut self,
         id: ObjectId,
         graph: &mut Graph<O>,
     ) -> Result<(), NegotiatorError>
         ensures told { OnOk result (knows self.old graph.old.graph id self.new graph.new.graph) }
+        ensures fails { IfErr result (λ e. knowing_fails self.old graph.old.graph id e self.new graph.new.graph) }
         ensures objects { graph.new.graph.objects ≡ graph.old.graph.objects }
         ensures failures { failures self.old ≤ failures self.new }
         ensures graph_failures { graph.old.failures ≤ graph.new.failures }
@@ -66,13 +82,14 @@ pub trait Negotiator {
     ///
     /// # Errors
     ///
-    /// Why it can't go on. What it and the graph are then is left open.
+    /// Why it can't go on. What it and the graph are then is for the implementation to say.
     fn add_tip<O: Objects>(
         &mut self,
         id: ObjectId,
         graph: &mut Graph<O>,
     ) -> Result<(), NegotiatorError>
         ensures added { OnOk result (adds self.old graph.old.graph id self.new graph.new.graph) }
+        ensures fails { IfErr result (λ e. adding_fails self.old graph.old.graph id e self.new graph.new.graph) }
         ensures objects { graph.new.graph.objects ≡ graph.old.graph.objects }
         ensures failures { failures self.old ≤ failures self.new }
         ensures graph_failures { graph.old.failures ≤ graph.new.failures }
@@ -89,6 +106,7 @@ pub trait Negotiator {
         graph: &mut Graph<O>,
     ) -> Result<(), NegotiatorError>
         ensures learnt { OnOk result (learns self.old graph.old.graph id self.new graph.new.graph) }
+        ensures fails { IfErr result (λ e. learning_fails self.old graph.old.graph id e self.new graph.new.graph) }
         ensures refused { OnErr result (count self.new graph.new.graph ≤ count self.old graph.old.graph) }
         ensures objects { graph.new.graph.objects ≡ graph.old.graph.objects }
         ensures failures { failures self.old ≤ failures self.new }
@@ -99,13 +117,14 @@ pub trait Negotiator {
     ///
     /// # Errors
     ///
-    /// Why it can't go on. What it and the graph are then is left open.
+    /// Why it can't go on. What it and the graph are then is for the implementation to say.
     fn next_have<O: Objects>(
         &mut self,
         graph: &mut Graph<O>,
     ) -> Option<Result<ObjectId, NegotiatorError>>
         ensures offered { IfSome result (λ have. IfOk have (λ id. offers self.old graph.old.graph (Some id) self.new graph.new.graph)) }
         ensures none { IfNone result (offers self.old graph.old.graph None self.new graph.new.graph) }
+        ensures fails { IfSome result (λ have. IfErr have (λ e. offering_fails self.old graph.old.graph e self.new graph.new.graph)) }
         ensures objects { graph.new.graph.objects ≡ graph.old.graph.objects }
         ensures failures { failures self.old ≤ failures self.new }
         ensures graph_failures { graph.old.failures ≤ graph.new.failures }

@@ -1,8 +1,10 @@
 //! What a repository hands in: its objects.
-ghost use Rattle.std.specs.Prelude.{◌≡◌, ℕ, ◌≤◌, ◌⊎◌, List, [], IfOk, IfErr, option_map};
+ghost use Rattle.std.specs.Prelude.{◌≡◌, ℕ, ◌≤◌, ◌⊎◌, List, [], None, IfOk, IfErr, OnOk, option_map};
 ghost use Rattle.std.specs.FinMap as map;
 ghost use Rattle.gixp_hash.specs.declared.object_id.ObjectId.{ObjectId};
 ghost use Rattle.gixp_graph.specs.Asked.{AsksOnce};
+ghost use Rattle.gixp_graph.specs.Refusals.{Written, writing};
+ghost use Rattle.gixp_graph.specs.declared.objects.ObjectError.{ObjectError};
 ghost use Rattle.gixp_graph.specs.declared.objects.ObjectError.TheVariants.{Memory};
 ghost use Rattle.gixp_graph.specs.Object.{Objects as ObjectMap, kind_at, commit_at, commit_of, HasRisen};
 
@@ -56,7 +58,8 @@ impl From<AllocError> for ObjectError {
 /// A call may fail, and then raises a count of failures, unless it ran out of memory.
 ///
 /// Contracts of the calls above say for which ids a commit is read, by a list that a call adds at most
-/// its id to. An implementation need not write it down: by default the list is empty.
+/// its id to. An implementation need not write it down: by default the list is empty. Nor need it write
+/// down what its refused calls told; where it does, an error of a call above is one of those.
 pub trait Objects {
     /// The map.
     ghost contents: { Self → ObjectMap };
@@ -66,6 +69,9 @@ pub trait Objects {
 
     /// The ids that `commit` was called with so far, as far as they are written down.
     ghost asked: { Self → List ObjectId } = { λ _. [] };
+
+    /// The errors of the calls that were refused so far, where they are written down.
+    ghost refusals: { Self → Written ObjectError } = { λ _. None };
 
     /// Whether there is an object of this name.
     fn exists(&self, id: &ObjectId) -> bool
@@ -85,6 +91,8 @@ pub trait Objects {
         ensures found { IfOk result (λ found. option_map commit_of found ≡ commit_at (contents self.old) id.now) }
         ensures contents { contents self.new ≡ contents self.old }
         ensures asked { AsksOnce id.now (asked self.old) (asked self.new) }
+        ensures unrefused { OnOk result (refusals self.new ≡ refusals self.old) }
+        ensures refused { IfErr result (λ e. refusals self.new ≡ writing (refusals self.old) e) }
         ensures failures { failures self.old ≤ failures self.new }
         ensures failed { IfErr result (λ e. (e ≡ Memory) ⊎ HasRisen (failures self.old) (failures self.new)) };
 }
@@ -96,6 +104,8 @@ impl Objects for Box<dyn Objects + Drop> {
     ghost failures = { λ b. (Objects-box b).failures b.value };
 
     ghost asked = { λ b. (Objects-box b).asked b.value };
+
+    ghost refusals = { λ b. (Objects-box b).refusals b.value };
 
     fn exists(&self, id: &ObjectId) -> bool {
         (**self).exists(id)

@@ -1,5 +1,5 @@
 //! What a repository hands in: its refs.
-ghost use Rattle.std.specs.Prelude.{◌≡◌, ℕ, ◌≤◌, ◌⊎◌, List, IfOk, IfErr};
+ghost use Rattle.std.specs.Prelude.{◌≡◌, ℕ, ◌≤◌, ◌⊎◌, List, Option, Some, None, IfOk, IfErr, OnOk};
 ghost use Rattle.std.specs.Ordering.{nat_cmp};
 ghost use Rattle.std.specs.Cmp.Lexicographic.{slice_cmp};
 ghost use Rattle.std.specs.FinMap as map;
@@ -7,6 +7,8 @@ ghost use Rattle.bstr.specs.BStr.{bstr_bytes};
 ghost use Rattle.gixp_hash.specs.declared.object_id.ObjectId.{ObjectId};
 ghost use Rattle.gixp_graph.specs.declared.refs.RefStoreError.TheVariants.{Memory};
 ghost use Rattle.gixp_graph.specs.Object.{HasRisen};
+ghost use Rattle.gixp_graph.specs.Refusals.{Written, writing};
+ghost use Rattle.gixp_graph.specs.declared.refs.RefStoreError.{RefStoreError};
 
 use bstr::BStr;
 use gixp_hash::ObjectId;
@@ -37,7 +39,9 @@ pub enum RefStoreError {
 /// The refs of a repository: a finite map from full names to ids, and the list of what all refs
 /// peel to. No call changes either.
 ///
-/// A call may fail, and then raises a count of failures, unless it ran out of memory.
+/// A call may fail, and then raises a count of failures, unless it ran out of memory. What the listings
+/// answered may be written down: contracts of the calls above then say which stores are listed, in which
+/// order, and what they are told.
 pub trait RefStore {
     /// The refs that hold an id, by their full names.
     ghost refs: { Self → map.FinMap (slice_cmp nat_cmp) ObjectId };
@@ -47,6 +51,10 @@ pub trait RefStore {
 
     /// How many calls have failed so far.
     ghost failures: { Self → ℕ };
+
+    /// What each call of `peeled` answered so far, where that is written down: its error, or none where
+    /// it listed them.
+    ghost listings: { Self → Written (Option RefStoreError) } = { λ _. None };
 
     /// The id that the ref of this full name holds: none where there is no such ref, or where it
     /// holds the name of another.
@@ -62,6 +70,8 @@ pub trait RefStore {
         ensures peeled { IfOk result (λ ids. ids.items ≡ targets self.old) }
         ensures refs { refs self.new ≡ refs self.old }
         ensures targets { targets self.new ≡ targets self.old }
+        ensures listed { OnOk result (listings self.new ≡ writing (listings self.old) None) }
+        ensures refused { IfErr result (λ e. listings self.new ≡ writing (listings self.old) (Some e)) }
         ensures failures { failures self.old ≤ failures self.new }
         ensures failed { IfErr result (λ e. (e ≡ Memory) ⊎ HasRisen (failures self.old) (failures self.new)) };
 }

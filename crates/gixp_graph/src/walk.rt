@@ -9,6 +9,7 @@ ghost use Rattle.gixp_graph.specs.Table.{id_at, ids_at, AllNamed, KeepsNumbers};
 ghost use Rattle.gixp_graph.specs.Visited.{AllVisitedNamed, IsOneToOne};
 ghost use Rattle.gixp_graph.specs.Waiting.{AllQueuedNamed};
 ghost use Rattle.gixp_graph.specs.Asked.{AsksWhere};
+ghost use Rattle.gixp_graph.specs.Refusals.{Tells};
 ghost use Rattle.gixp_graph.specs.Walk.{walk_of, IsUnread, Visits, VisitsSome, VisitsEach, AsksAll, AsksSome, AsksDue};
 ghost use Rattle.std.specs.FinMap as finite;
 
@@ -36,6 +37,8 @@ fn mark_found<O: Objects>(
     ensures asked { AsksWhere (finite.get commits.old.held (id_at commits.old.ids number) ≡ None) (id_at commits.old.ids number) (O.asked objects.old) (O.asked objects.new) }
     ensures kept { KeepsNumbers commits.old.ids commits.new.ids }
     ensures contents { O.contents objects.new ≡ O.contents objects.old }
+    ensures unrefused { OnOk result (O.refusals objects.new ≡ O.refusals objects.old) }
+    ensures refused { IfErr result (λ e. Tells e (O.refusals objects.old) (O.refusals objects.new)) }
     ensures failures { O.failures objects.old ≤ O.failures objects.new }
     ensures failed { IfErr result (λ e. (e ≡ Memory) ⊎ HasRisen (O.failures objects.old) (O.failures objects.new)) }
 {
@@ -68,6 +71,8 @@ fn visit<O: Objects>(
     ensures err { OnErr result ((commits.new.held ≡ commits.old.held) ⊎ (commits.new.held ≡ marked_found (graph_of (O.contents objects.old) commits.old.held) (id_at commits.old.ids number))) }
     ensures kept { KeepsNumbers commits.old.ids commits.new.ids }
     ensures contents { O.contents objects.new ≡ O.contents objects.old }
+    ensures unrefused { OnOk result (O.refusals objects.new ≡ O.refusals objects.old) }
+    ensures refused { IfErr result (λ e. Tells e (O.refusals objects.old) (O.refusals objects.new)) }
     ensures failures { O.failures objects.old ≤ O.failures objects.new }
     ensures failed { IfErr result (λ e. (e ≡ Memory) ⊎ HasRisen (O.failures objects.old) (O.failures objects.new)) }
 {
@@ -105,6 +110,8 @@ fn visit_each<O: Objects>(
     ensures some { VisitsSome (O.contents objects.old) (ids_at commits.old.ids numbers.now) commits.old.held commits.new.held }
     ensures kept { KeepsNumbers commits.old.ids commits.new.ids }
     ensures contents { O.contents objects.new ≡ O.contents objects.old }
+    ensures unrefused { OnOk result (O.refusals objects.new ≡ O.refusals objects.old) }
+    ensures refused { IfErr result (λ e. Tells e (O.refusals objects.old) (O.refusals objects.new)) }
     ensures failures { O.failures objects.old ≤ O.failures objects.new }
     ensures failed { IfErr result (λ e. (e ≡ Memory) ⊎ HasRisen (O.failures objects.old) (O.failures objects.new)) }
 {
@@ -133,6 +140,8 @@ pub(crate) fn mark_complete<O: Objects>(
     ensures complete { OnOk result ((id : ObjectId) → IsComplete (commit_in (graph_of (O.contents objects.old) commits.old.held)) ids.now cutoff id → IsTrue (is_marked commits.new.held id)) }
     ensures asked { AsksDue (graph_of (O.contents objects.old) commits.old.held) ids.now cutoff (O.asked objects.old) (O.asked objects.new) }
     ensures contents { O.contents objects.new ≡ O.contents objects.old }
+    ensures unrefused { OnOk result (O.refusals objects.new ≡ O.refusals objects.old) }
+    ensures refused { IfErr result (λ e. Tells e (O.refusals objects.old) (O.refusals objects.new)) }
     ensures failures { O.failures objects.old ≤ O.failures objects.new }
     ensures failed { IfErr result (λ e. (e ≡ Memory) ⊎ HasRisen (O.failures objects.old) (O.failures objects.new)) }
 {

@@ -1,6 +1,15 @@
 -- Pairs of hexadecimal digits.
-use Rattle.std.proofs.Common.{◌≡◌, ℕ, ◌+◌, ◌*◌, ◌%◌, ◌<◌, List, length, Option, Some, Ok, ap, ◌∙◌, arith, refl}
+use Rattle.std.proofs.Common.{◌≡◌, ℕ, ◌+◌, ◌*◌, ◌%◌, ◌<◌, List, length, Option, Some, None, Ok, ap, sym, ◌∙◌, arith, refl}
+use Rattle.std.specs.Prelude.{unwrap_or}
 use Rattle.hex.specs.Hex.{hex_digit_value, digit_or_error, value_at, pair_value, decode_of, decode_pairs, ◌>>=◌}
+
+-- a value below 16 is that of a digit
+pub digit_reads : (b v : ℕ) → v ≡ unwrap_or (hex_digit_value b) 255 → v < 16 → hex_digit_value b ≡ Some v
+digit_reads b v e h = at (hex_digit_value b) e
+  where
+    at : (o : Option ℕ) → v ≡ unwrap_or o 255 → o ≡ Some v
+    at None e = absurd (omega arith)
+    at (Some x) e = ap Some (sym e)
 
 -- two digits that read make a byte
 pub pair_reads : (a b i h l : ℕ) → hex_digit_value a ≡ Some h → hex_digit_value b ≡ Some l → h < 16 → l < 16

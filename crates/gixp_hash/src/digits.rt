@@ -1,13 +1,13 @@
 //! Hexadecimal digits, read and written without a branch for each: those of an id are as good as
 //! random, so every such branch would be guessed wrong half of the time. The functions are inlined,
 //! so that an id isn't handed on through memory at each step.
-ghost use Rattle.std.specs.Prelude.{◌≡◌, ◌<◌, length, slice_index, IfSome};
+ghost use Rattle.std.specs.Prelude.{◌≡◌, ◌<◌, length, slice_index, IfSome, unwrap_or};
 ghost use Rattle.hex.specs.Hex.{hex_digit_value, lower_digits, encode_lower, decode_of};
 ghost use Rattle.gixp_hash.specs.Digits.{AreValues};
 
 /// The value of a hexadecimal digit of either case, 0 to 15; 255 of any other byte.
 pub fn digit_value(digit: u8) -> u8
-    ensures { result < 16 → hex_digit_value digit ≡ Some result }
+    ensures { result ≡ unwrap_or (hex_digit_value digit) 255 }
 {
     match digit {
         b'0'..=b'9' => digit - b'0',
@@ -30,6 +30,7 @@ pub fn digit_of(value: u8) -> u8
 }
 
 // The values of 40 digits, or none where one is no digit.
+#[tactic(auto, using(crate::proofs::DigitLemmas::digit_reads))]
 #[inline(always)]
 fn values_of(digits: &[u8]) -> Option<[u8; 40]>
     requires { length digits.now ≡ 40 }

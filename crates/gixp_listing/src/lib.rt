@@ -4,4 +4,4 @@
 mod list;
 mod print;
 
-pub use list::{ListError, list_refs};
+pub use list::{ListError, list_lines, list_refs};

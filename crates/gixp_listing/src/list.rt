@@ -1,8 +1,10 @@
 //! Listing the refs of a recorded `ls-refs` answer.
 ghost use Rattle.std.specs.Prelude.{◌≡◌, OnOk, IfErr, IfSome, MatchResult};
 ghost use Rattle.std.specs.Io.KnownBytes.{Appends, Keeps};
+ghost use Rattle.std.specs.IoError.{error_kind};
 ghost use Rattle.gixp_refs.specs.Refs.{stream_refs};
 ghost use Rattle.gixp_refs.specs.ParseError.{parse_refusal};
+ghost use Rattle.gixp_listing.specs.declared.list.ListError.TheVariants.{Io};
 ghost use Rattle.gixp_listing.specs.ErrorName.{error_name, list_error_name};
 ghost use Rattle.gixp_listing.specs.List.{Prints, PrintsAhead, RefusesAhead, ListsAhead, RefusesLines, RefusesList, IsParse};
 
@@ -76,9 +78,21 @@ fn write_text<W: Write>(writer: &mut W, text: &[u8]) -> io::Result<()>
     writer.flush()
 }
 
-// Writes a line for each ref that a reader of lines gives up to its stop, where the reader is then. Of an I/O error
-// it says what `list_refs` can't: that the reader counted a failure, or that its stream ended so.
-fn list_lines<R: ExtendedBufRead, W: Write>(
+// A write or a flush failed with this error.
+fn write_failed(e: io::Error) -> ListError
+    ensures { result ≡ Io (error_kind e) }
+{
+    ListError::Io(e.kind())
+}
+
+/// Writes a line for each ref that a reader of lines gives up to its stop, where the reader is then (gitprotocol-v2,
+/// "ls-refs"), and flushes the writer.
+///
+/// # Errors
+///
+/// As [`list_refs`]. Of an I/O error it says what that can't: that the reader counted a failure, or that its stream ended
+/// so. After `Parse` the reader stands where it was refused, after `Io` at the stop.
+pub fn list_lines<R: ExtendedBufRead, W: Write>(
     alloc: Global,
     lines: &mut R,
     writer: &mut W,
@@ -93,7 +107,7 @@ fn list_lines<R: ExtendedBufRead, W: Write>(
     };
     match write_text(writer, text.as_slice()) {
         Ok(()) => Ok(()),
-        Err(e) => Err(ListError::Io(e.kind())),
+        Err(e) => Err(write_failed(e)),
     }
 }
 

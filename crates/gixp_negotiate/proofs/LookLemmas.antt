@@ -11,14 +11,20 @@ use Rattle.std.specs.FinMap as finite
 use Rattle.gixp_hash.specs.declared.object_id.ObjectId.{ObjectId}
 use Rattle.gixp_graph.specs.declared.flags.Flags.{Flags}
 use Rattle.gixp_graph.specs.Object.{Objects, Commit, commit_at}
-use Rattle.gixp_graph.specs.GraphData.{HeldCommit, GraphData, found_in, shown, as_read, is_marked, IsFaithful}
+use Rattle.gixp_graph.specs.GraphData.{HeldCommit, GraphData, found_in, shown, as_read, is_marked, OnlyMarks, IsFaithful}
 use Rattle.gixp_graph.specs.Complete.{IsComplete}
 use Rattle.gixp_graph.specs.Run.{Call, IsRun}
 use Rattle.gixp_graph.specs.GraphLaws.{faithful_reads, marked_looked_up, held_looked_up}
 use Rattle.gixp_refmap.specs.declared.refmap.mapping.Mapping.{Mapping}
 use Rattle.gixp_negotiate.specs.NegotiationMapping.{mapping_id}
 use Rattle.gixp_negotiate.specs.Rounds.{with_common, keeping, keeping_all}
-use Rattle.gixp_negotiate.specs.Stopped.{LooksAtSome, CallsSome, StopsTelling, Stops, behind_mappings}
+use Rattle.gixp_graph.specs.Refusals.{Written}
+use Rattle.gixp_graph.specs.declared.objects.ObjectError.{ObjectError}
+use Rattle.gixp_graph.specs.declared.negotiator.NegotiatorError.{NegotiatorError}
+use Rattle.gixp_negotiate.specs.declared.negotiate.Error.{Error}
+use Rattle.gixp_negotiate.specs.Refused.{RefusedCall, CallsSome}
+use Rattle.gixp_negotiate.specs.Stores.{Listings, Lent}
+use Rattle.gixp_negotiate.specs.Stopped.{LooksAtSome, Telling, Step, StopsTelling, StopsBehind, refs_refused, lent_refused, telling_stopped, Stops, at_mappings, at_refs, at_lent, at_telling}
 use Rattle.gixp_negotiate.specs.Marking.{mapping_ids, look, look_each, commit_time, time_at, later, cutoff_from, cutoff_of, is_here, is_known, tips_in, Tells, Marks}
 
 append-none : (xs : List ObjectId) → xs ++ [] ≡ xs
@@ -167,6 +173,7 @@ walk_marks knows adds n g g1 ids tips cutoff m h e ec t =
           (subst (λ (o : Objects). IsTrue (is_marked t.walked.held id) ↔ (IsTrue (is_marked (look_each tips g1).held id) ⊎ IsComplete (commit_at o) tips (cutoff_of g.objects ids) id)) same
           (subst (λ (k : Option ℤ). IsTrue (is_marked t.walked.held id) ↔ (IsTrue (is_marked (look_each tips g1).held id) ⊎ IsComplete (commit_at (look_each tips g1).objects) tips k id)) ec (t.walks.marked id)));
       held = λ id f. by_walk id (t.walks.held id f);
+      only_marks = subst (λ x. OnlyMarks (look_each tips x) t.walked.held) e t.walks.only_marks;
       told = t.told;
       told_graph = t.told_graph;
       known = t.known;
@@ -200,19 +207,42 @@ looks_at ids i g h e = looks_by ids (take i ids) (drop i ids) g h (sym (take-app
 pub looks_none : (ids : List ObjectId) (g h : GraphData) → h ≡ g → LooksAtSome ids g h
 looks_none ids g h e = looks_by ids [] ids g h refl e
 
--- the first calls were made
-pub calls_some : {N : Type 0} (call : Call N) (ids : List ObjectId) (i : ℕ) (d : ObjectId) (n : N) (g : GraphData) (told : N) (told_graph : GraphData) → i < length ids → IsRun call (take i ids) n g told told_graph → CallsSome call ids n g
-calls_some call ids i d n g told told_graph h run = record {
+-- the first calls were made, and the next was refused
+pub calls_some : {N : Type 0} (call : Call N) (fails : RefusedCall N) (ids : List ObjectId) (i : ℕ) (d : ObjectId) (n : N) (g : GraphData) (told : N) (told_graph : GraphData) (x : NegotiatorError) (m : N) (h : GraphData)
+    → i < length ids → IsRun call (take i ids) n g told told_graph → fails told told_graph (get_or ids i d) x m h → CallsSome call fails ids n g x m h
+calls_some call fails ids i d n g told told_graph x m h less run refused = record {
   made = take i ids;
   refused = get_or ids i d;
   left = drop (suc i) ids;
-  split = sym (take-append-drop i ids) ∙ ap (λ rest. take i ids ++ rest) (drop-cons ids i d h);
+  split = sym (take-append-drop i ids) ∙ ap (λ rest. take i ids ++ rest) (drop-cons ids i d less);
   told = told;
   told_graph = told_graph;
   run = run;
+  fails = refused;
 }
 
 -- what was refused behind the mappings, by the graph in front of all looks
-pub stops_behind : {N : Type 0} (knows adds : Call N) (n : N) (g g1 : GraphData) (ids tips : List ObjectId) (cutoff : Option ℤ) (m : N) (h : GraphData) → g1 ≡ look_each ids g → cutoff ≡ cutoff_of g.objects ids → StopsTelling knows adds n g1 ids tips cutoff m h → Stops knows adds n g ids tips m h
-stops_behind knows adds n g g1 ids tips cutoff m h e ec s =
-    behind_mappings (subst (λ x. StopsTelling knows adds n x ids tips (cutoff_of g.objects ids) m h) e (subst (λ k. StopsTelling knows adds n g1 ids tips k m h) ec s))
+pub stops_behind : {N R A : Type 0} (calls : Telling N) (listings : Listings R) (Negotiates : Type 0) (n : N) (g g1 : GraphData) (q q1 : Written ObjectError) (refs : R) (lent : Lent R A) (ids tips : List ObjectId) (cutoff : Option ℤ) (e : Error A) (new : Step N R A)
+    → g1 ≡ look_each ids g → cutoff ≡ cutoff_of g.objects ids → q1 ≡ q → Negotiates
+    → StopsBehind calls listings ids tips cutoff (record { negotiator = n; graph = g1; refusals = q1; refs = refs; lent = lent }) e new
+    → Stops calls listings Negotiates ids tips (record { negotiator = n; graph = g; refusals = q; refs = refs; lent = lent }) e new
+stops_behind calls listings P n g g1 q q1 refs lent ids tips cutoff e new eg ec eq p (refs_refused a b c d) = at_refs p a b (c ∙ eg) d
+stops_behind calls listings P n g g1 q q1 refs lent ids tips cutoff e new eg ec eq p (lent_refused a b c d) = at_lent p a b c (d ∙ eg)
+stops_behind calls listings P n g g1 q q1 refs lent ids tips cutoff e new eg ec eq p (telling_stopped a b x ex s) = at_telling p a b x ex
+    (subst (λ y. StopsTelling calls n y q ids tips (cutoff_of g.objects ids) x new.negotiator new.graph new.refusals) eg
+    (subst (λ z. StopsTelling calls n g1 z ids tips (cutoff_of g.objects ids) x new.negotiator new.graph new.refusals) eq
+    (subst (λ k. StopsTelling calls n g1 q1 ids tips k x new.negotiator new.graph new.refusals) ec s)))
+
+-- the same where the decision is told otherwise
+pub stops_when : {N R A : Type 0} (calls : Telling N) (listings : Listings R) (P Q : Type 0) (ids tips : List ObjectId) (old : Step N R A) (e : Error A) (new : Step N R A) → (P → Q) → Stops calls listings P ids tips old e new → Stops calls listings Q ids tips old e new
+stops_when calls listings P Q ids tips old e new f (at_mappings x a b c d r l) = at_mappings x a b c d r l
+stops_when calls listings P Q ids tips old e new f (at_refs p a b c d) = at_refs (f p) a b c d
+stops_when calls listings P Q ids tips old e new f (at_lent p a b c d) = at_lent (f p) a b c d
+stops_when calls listings P Q ids tips old e new f (at_telling p a b x c d) = at_telling (f p) a b x c d
+
+-- the same calls, by what the ids are
+pub calls_same : {N : Type 0} (call : Call N) (refuses : RefusedCall N) (ids others : List ObjectId) (n : N) (g : GraphData) (x : NegotiatorError) (m : N) (h : GraphData) → ids ≡ others → CallsSome call refuses ids n g x m h → CallsSome call refuses others n g x m h
+calls_same call refuses ids others n g x m h e c = subst (λ i. CallsSome call refuses i n g x m h) e c
+
+pub telling_same : {N : Type 0} (calls : Telling N) (n : N) (g : GraphData) (q : Written ObjectError) (ids tips others : List ObjectId) (cutoff : Option ℤ) (x : NegotiatorError) (m : N) (h : GraphData) (p : Written ObjectError) → tips ≡ others → StopsTelling calls n g q ids tips cutoff x m h p → StopsTelling calls n g q ids others cutoff x m h p
+telling_same calls n g q ids tips others cutoff x m h p e s = subst (λ l. StopsTelling calls n g q ids l cutoff x m h p) e s

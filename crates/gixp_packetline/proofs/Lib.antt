@@ -3,6 +3,7 @@ mod NumberLemmas
 mod FrameLemmas
 mod WindowLemmas
 mod PacketLemmas
+mod FillLemmas
 mod PacketLineLemmas
 mod AdvanceLemmas
 mod GrammarLemmas

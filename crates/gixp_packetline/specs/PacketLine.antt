@@ -1,5 +1,5 @@
 -- The packet line at the front of some bytes (gitprotocol-common, "pkt-line Format").
-use Rattle.std.specs.Prelude.{◌≡◌, ℕ, ◌<◌, List, length, Option, Some, None, Result, Ok, Err}
+use Rattle.std.specs.Prelude.{◌≡◌, ℕ, ◌+◌, ◌<◌, List, length, drop, Option, Some, None, Result, Ok, Err}
 use Rattle.std.specs.Borrow.{Bor}
 use Rattle.gixp_packetline.specs.declared.packet.PacketError.{PacketError}
 use Rattle.gixp_packetline.specs.declared.packet_line.PacketLine.{PacketLine}
@@ -11,8 +11,13 @@ abbrev pub frame_of : PacketLine → Frame
 frame_of (Data text) = payload text.now
 frame_of (Special kind) = special kind
 
--- the first of the frames, and the bytes of the others; or why there is none
+-- how many bytes a frame has, its four digits among them
+abbrev pub frame_size : Frame → ℕ
+frame_size (payload text) = 4 + length text
+frame_size (special kind) = 4
+
+-- the first of the frames, and the bytes behind it, which are the others; or why there is none
 abbrev pub SplitsPacketLine : List ℕ → Result (Option (PacketLine × Bor (List ℕ))) PacketError → Type 0
-SplitsPacketLine bytes (Ok (Some found)) = (frames_of bytes ≡ with_frame (frame_of found.0) (frames_of found.1.now)) × (length found.1.now < length bytes)
+SplitsPacketLine bytes (Ok (Some found)) = (frames_of bytes ≡ with_frame (frame_of found.0) (frames_of found.1.now)) × (length found.1.now < length bytes) × (found.1.now ≡ drop (frame_size (frame_of found.0)) bytes)
 SplitsPacketLine bytes (Ok None) = frames_of bytes ≡ no_frames ended
 SplitsPacketLine bytes (Err e) = frames_of bytes ≡ no_frames (bad e)

@@ -1,5 +1,6 @@
 -- What packets over a reader mean, and what the steps that read them do.
 use Rattle.std.specs.Prelude.{◌≡◌, ℕ, ◌+◌, ◌*◌, ◌<◌, ◌≤◌, ◌⊎◌, Bool, true, false, if◌then◌else◌, List, length, take, drop, Option, Some, None, Result, Ok, Err, Vec}
+use Rattle.std.specs.declared.io.ErrorKind.{ErrorKind}
 use Rattle.std.specs.Option.{option_map}
 use Rattle.std.specs.Io.KnownBytes.{Keeps, prepend_known}
 use Rattle.std.specs.declared.alloc.Global.{Global}
@@ -99,6 +100,21 @@ module _ {R : Type 0} where
     held = nothing_held;
   }
 
+  -- the reads that may still be made, with one more for each byte that was read and isn't taken: a read that gives bytes doesn't lower it
+  abbrev pub reads_and_bytes : Packets R → ℕ
+  reads_and_bytes p = p.reads_left + length p.window.pending
+
+  -- no more reads were spent than bytes came, but for one that gave none: four bytes and the line were taken with a line, and four with a stop
+  abbrev pub Spends : Packets R → Packets R → Result Bool Error → Type 0
+  Spends old new (Ok true) = reads_and_bytes old ≤ reads_and_bytes new + 4 + length new.window.lent
+  Spends old new (Ok false) = reads_and_bytes old ≤ reads_and_bytes new + 4
+  Spends old new (Err e) = reads_and_bytes old ≤ reads_and_bytes new + 1
+
+  -- what a read gave was noted: bytes change nothing, none are the end, and a failure is counted
+  abbrev pub NotesRead : Packets R → Packets R → Result ℕ ErrorKind → Result (Unit {0}) Error → Type 0
+  NotesRead old new (Ok n) r = (n ≡ 0 → (r ≡ Err (Io UnexpectedEof)) × (new ≡ record old { ended = true })) × (0 < n → (r ≡ Ok tt) × (new ≡ old))
+  NotesRead old new (Err kind) r = (r ≡ Err (Io kind)) × Rose old.failures new.failures × (new ≡ record old { failures = new.failures; ended = is_end kind })
+
   -- no byte was lost, and only the window, the reader, the failures and the reads that are left changed, and perhaps that the stream ended
   pub record Kept (remaining : R → Option (List ℕ)) (old new : Packets R) : Type 0 where
     pub bytes : Keeps (known remaining old) (known remaining new)
@@ -113,6 +129,7 @@ module _ {R : Type 0} where
     pub bound : length new.window.pending ≤ 65520
     pub ended : new.ended ≡ old.ended
     pub failures : new.failures ≡ old.failures
+    pub reads : reads_and_bytes old ≤ reads_and_bytes new
 
   -- the stream was at its end
   pub record Ended (remaining : R → Option (List ℕ)) (old new : Packets R) (e : Error) : Type 0 where
@@ -121,6 +138,7 @@ module _ {R : Type 0} where
     pub front : head_of new.window.pending ≡ Partial
     pub ended : new.ended ≡ true
     pub failures : new.failures ≡ old.failures
+    pub reads : reads_and_bytes old ≤ reads_and_bytes new + 1
 
   -- the read failed
   pub record Broke (remaining : R → Option (List ℕ)) (old new : Packets R) (e : Error) : Type 0 where
@@ -130,6 +148,7 @@ module _ {R : Type 0} where
     pub was_open : old.ended ≡ false
     pub is_open : new.ended ≡ false
     pub failures : Rose old.failures new.failures
+    pub reads : reads_and_bytes old ≤ reads_and_bytes new + 1
 
   -- the read failed as at the end
   pub record BrokeOff (old new : Packets R) (e : Error) : Type 0 where
@@ -141,6 +160,7 @@ module _ {R : Type 0} where
     pub version : new.version ≡ old.version
     pub left : bytes_left new ≤ bytes_left old
     pub failures : Rose old.failures new.failures
+    pub reads : reads_and_bytes old ≤ reads_and_bytes new + 1
 
   -- one more read
   abbrev pub Fills : {X : Type 0} → (R → Option (List ℕ)) → Packets R → Packets R → Result X Error → Type 0
@@ -153,6 +173,7 @@ module _ {R : Type 0} where
     pub front : head ≡ head_of new.window.pending
     pub whole : head ≡ Partial → ⊥
     pub failures : new.failures ≡ old.failures
+    pub reads : reads_and_bytes old ≤ reads_and_bytes new
     pub moved : (new ≡ old) ⊎ ((head_of old.window.pending ≡ Partial) × (old.ended ≡ false))
 
   -- the end was reached: nothing changed if it was so before
@@ -181,4 +202,5 @@ module _ {R : Type 0} where
     pub kept : Kept remaining old now
     pub ended : now.ended ≡ old.ended
     pub failures : now.failures ≡ old.failures
+    pub reads : reads_and_bytes old ≤ reads_and_bytes now
     pub moved : (now ≡ old) ⊎ ((head_of old.window.pending ≡ Partial) × (old.ended ≡ false))

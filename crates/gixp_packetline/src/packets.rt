@@ -1,14 +1,14 @@
 //! Packets over a reader, through one buffer.
-ghost use Rattle.std.specs.Prelude.{◌≡◌, ◌≤◌, ◌<◌, ◌+◌, false, length, take, Some, None, Ok, Err, [], IfOk, true, ◌⊎◌};
+ghost use Rattle.std.specs.Prelude.{◌≡◌, ◌≤◌, ◌<◌, ◌+◌, ◌-◌, ◌↔◌, false, length, take, Some, None, Ok, Err, [], IfOk, IsTrue, true, ◌⊎◌};
 ghost use Rattle.gixp_packetline.specs.declared.packet.Head.TheVariants.{Partial};
 ghost use Rattle.gixp_packetline.specs.Frames.{head_of};
-ghost use Rattle.gixp_packetline.specs.Reading.{IsFresh, Rose, Reads, PlainIf, refusal_of, is_end};
+ghost use Rattle.gixp_packetline.specs.Reading.{IsFresh, Rose, Reads, Peeks, PlainIf, refusal_of, is_end};
 ghost use Rattle.gixp_packetline.specs.Pieces.{is_error, error_message, server};
 ghost use Rattle.gixp_packetline.specs.Items.{is_stop};
 ghost use Rattle.std.specs.declared.io.ErrorKind.TheVariants.{Other};
 ghost use Rattle.gixp_packetline.specs.declared.read.Error.TheVariants.{Io, Memory};
 ghost use Rattle.gixp_packetline.specs.declared.packets.Place.TheVariants.{Open};
-ghost use Rattle.gixp_packetline.specs.Packets.{Fills, Settles, packets_reading, memory_remaining};
+ghost use Rattle.gixp_packetline.specs.Packets.{NotesRead, Fills, Settles, Spends, packets_reading, memory_remaining};
 
 use crate::packet::{Head, read_head};
 use crate::protocol::{MessageKind, Protocol};
@@ -131,20 +131,23 @@ impl<R: Read> Packets<R> {
         self.failures = self.failures.saturating_add(1);
     }
 
-    // One more read, of all that is free in the buffer.
-    fn fill(&mut self) -> Result<(), Error>
-        requires front { head_of self.old.window.pending ≡ Partial }
-        requires open { self.old.ended ≡ false }
-        ensures fills { Fills R.remaining self.old self.new result }
-        ensures gives_up { self.old.reads_left ≡ 0 → result ≡ Err (Io Other) }
-        ensures counts { 0 < self.old.reads_left → self.old.reads_left ≡ self.new.reads_left + 1 }
+    // Whether one more read may be made, which then counts.
+    fn spend_read(&mut self) -> bool
+        ensures may { IsTrue result ↔ (0 < self.old.reads_left) }
+        ensures counted { self.new ≡ record self.old { reads_left = self.old.reads_left - 1 } }
     {
         if self.reads_left == 0 {
-            self.note_failure();
-            return Err(Error::Io(ErrorKind::Other));
+            return false;
         }
         self.reads_left -= 1;
-        match self.window.receive(&mut self.reader) {
+        true
+    }
+
+    // Notes what a read gave. Of no bytes it is the end, which is no failure.
+    fn note_read(&mut self, received: Result<usize, ErrorKind>) -> Result<(), Error>
+        ensures { NotesRead self.old self.new received result }
+    {
+        match received {
             Ok(0) => {
                 self.ended = true;
                 Err(Error::Io(ErrorKind::UnexpectedEof))
@@ -156,6 +159,22 @@ impl<R: Read> Packets<R> {
                 Err(Error::Io(kind))
             }
         }
+    }
+
+    // One more read, of all that is free in the buffer.
+    fn fill(&mut self) -> Result<(), Error>
+        requires front { head_of self.old.window.pending ≡ Partial }
+        requires open { self.old.ended ≡ false }
+        ensures fills { Fills R.remaining self.old self.new result }
+        ensures gives_up { self.old.reads_left ≡ 0 → result ≡ Err (Io Other) }
+        ensures counts { 0 < self.old.reads_left → self.old.reads_left ≡ self.new.reads_left + 1 }
+    {
+        if !self.spend_read() {
+            self.note_failure();
+            return Err(Error::Io(ErrorKind::Other));
+        }
+        let received = self.window.receive(&mut self.reader);
+        self.note_read(received)
     }
 
     // What stands at the front, of which as much as that takes is read.
@@ -180,6 +199,7 @@ impl<R: Read> Packets<R> {
         ensures reads { Reads (packets_reading R.remaining self.old) (packets_reading R.remaining self.new) result }
         ensures plain { PlainIf true (packets_reading R.remaining self.new) result }
         ensures open { result ≡ Ok true → self.new.place ≡ Open }
+        ensures spends { Spends self.old self.new result }
     {
         match self.settle() {
             Ok(Head::Data(size)) => {
@@ -212,7 +232,11 @@ impl<R: Read> ExtendedBufRead for Packets<R> {
 
     ghost is_plain = { true };
 
-    fn next_line(&mut self) -> Result<bool, Error> {
+    fn next_line(&mut self) -> Result<bool, Error>
+        ensures reads { Reads (packets_reading R.remaining self.old) (packets_reading R.remaining self.new) result }
+        ensures plain { PlainIf true (packets_reading R.remaining self.new) result }
+        ensures spends { Spends self.old self.new result }
+    {
         match self.place {
             Place::Peeked => {
                 self.place = Place::Open;
@@ -224,7 +248,11 @@ impl<R: Read> ExtendedBufRead for Packets<R> {
         }
     }
 
-    fn peek_line(&mut self) -> Result<bool, Error> {
+    fn peek_line(&mut self) -> Result<bool, Error>
+        ensures peeks { Peeks (packets_reading R.remaining self.old) (packets_reading R.remaining self.new) result }
+        ensures plain { PlainIf true (packets_reading R.remaining self.new) result }
+        ensures spends { Spends self.old self.new result }
+    {
         match self.place {
             Place::Peeked => Ok(true),
             Place::Stopped(_) => Ok(false),

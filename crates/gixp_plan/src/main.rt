@@ -2,6 +2,10 @@
 //! prints what a client would send to a server and what it would map.
 #![tactic(auto)]
 
+ghost use Rattle.std.specs.Prelude.{◌≡◌, IfOk, IfErr, codes, map, string_bytes};
+ghost use Rattle.bstr.specs.Owned.{bstring_bytes};
+ghost use Rattle.gixp_planner.specs.Refusal.{IsMemory};
+
 mod words;
 
 use crate::words::{file_of, session_of};
@@ -47,21 +51,30 @@ fn run_refs(rt: &HostRuntime, path: &str) -> Result<(), Failure> {
     list_refs(rt.alloc(), &mut file, &mut writer).map_err(|e| Failure::Refused(e.variant()))
 }
 
-// The refspecs' texts.
-fn spec_texts(alloc: Global, words: &[String]) -> Result<Vec<BString>, PlanError> {
+// The refusal of a refspec for which an allocation failed.
+fn spec_memory() -> PlanError
+    ensures { IsMemory (codes "spec") result }
+{
+    PlanError {
+        step: "spec",
+        variant: "Memory",
+    }
+}
+
+// The texts of refspecs, each a word, in their order.
+fn spec_texts(alloc: Global, words: &[String]) -> Result<Vec<BString>, PlanError>
+    ensures texts { IfOk result (λ texts. map bstring_bytes texts.items ≡ map string_bytes words.now) }
+    ensures refused { IfErr result (IsMemory (codes "spec")) }
+{
     let mut texts = Vec::new(alloc);
     for word in words {
-        let Ok(text) = BString::from_slice(alloc, word.as_str()) else {
-            return Err(PlanError {
-                step: "spec",
-                variant: "Memory",
-            });
+        let text = match BString::from_slice(alloc, word.as_bytes()) {
+            Ok(text) => text,
+            Err(_) => return Err(spec_memory()),
         };
-        if texts.push(text).is_err() {
-            return Err(PlanError {
-                step: "spec",
-                variant: "Memory",
-            });
+        match texts.push(text) {
+            Ok(()) => {}
+            Err(_) => return Err(spec_memory()),
         }
     }
     Ok(texts)

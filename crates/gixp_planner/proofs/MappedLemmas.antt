@@ -30,6 +30,10 @@ use Rattle.gixp_refs.specs.Ref.{RefValue, ref_value}
 use Rattle.gixp_refs.specs.Refs.{v2_refs, ReadsRefs}
 use Rattle.gixp_refs.specs.RefAdvertisement.{Symref, symref_table, groups}
 use Rattle.gixp_refs.specs.V1Refs.{ReadsV1}
+use Rattle.gixp_hash.specs.declared.object_id.ObjectId.{ObjectId}
+use Rattle.gixp_packetline.specs.FrameText.{texts_of}
+use Rattle.gixp_requests.specs.Arguments.{ArgumentsValue}
+use Rattle.gixp_requests.specs.Request.{request, request_fits}
 use Rattle.gixp_requests.specs.Command.{git_table}
 use Rattle.gixp_refspec.specs.declared.spec.RefSpec.{RefSpec}
 use Rattle.gixp_refspec.specs.Spec.{Spec}
@@ -48,11 +52,11 @@ use Rattle.gixp_handshake.specs.Obtain.{prefixes_if, MakesMap, PreparesBy, ByLis
 use Rattle.gixp_planner.specs.Specs.{specs_of, IsContext}
 use Rattle.gixp_fetch.specs.declared.error.Error.{Error as FetchError}
 use Rattle.gixp_fetch.specs.declared.options.Outcome.{Outcome}
-use Rattle.gixp_fetch.specs.Session.{NegotiationCalls}
-use Rattle.gixp_fetch.specs.Sessions.{Another, Requests, HoldsSession}
+use Rattle.gixp_fetch.specs.Sent.{WroteRequests}
+use Rattle.gixp_fetch.specs.FetchRounds.{SendsRound, At, Turn as FetchTurn, Manner, TurnFails, Breaks, before_request, at_request, behind_request, at_answer, behind_answer}
+use Rattle.gixp_fetch.specs.Sessions.{Untouched, BreaksOff, by_caller, exhausted, at_round, behind_pack, answered_at, Refuses, at_depth, at_wants, in_session, Releases, HoldsSession}
 use Rattle.gixp_fetch.specs.Fetch.{World, Parties}
-use Rattle.gixp_fetch.specs.Fetched.{Call, Fetches}
-use Rattle.gixp_negotiate.specs.declared.negotiate.Round.{Round}
+use Rattle.gixp_fetch.specs.Fetched.{Call, Fetches, unprepared, unlocked}
 use Rattle.gixp_handshake.specs.Taken.{without_refs}
 use Rattle.gixp_planner.specs.declared.error.PlanError.{PlanError}
 use Rattle.gixp_planner.specs.Refusal.{Refusal, refusal}
@@ -149,7 +153,7 @@ stops-alike a b c d texts others kind other s l r =
 record SameAnswer (x y : SetServiceResponse) : Type 0 where
   version : x.actual_protocol ≡ y.actual_protocol
   capabilities : x.capabilities ≡ y.capabilities
-  follow : x.refs_follow ≡ y.refs_follow
+  follow : x.has_refs ≡ y.has_refs
 
 record Said (c d : Reading) (x y : SetServiceResponse) : Type 0 where
   alike : AreAlike c d
@@ -173,7 +177,7 @@ said-alike a b c d x y s l r =
       same = record {
         version = u.2.version ∙ ap (λ (z : Advertised). z.version) same ∙ sym w.2.version;
         capabilities = u.2.capabilities ∙ ap (λ (z : Advertised). z.capabilities) same ∙ sym w.2.capabilities;
-        follow = u.2.refs_follow ∙ ap (λ (z : Advertised). z.refs_follow) same ∙ sym w.2.refs_follow;
+        follow = u.2.has_refs ∙ ap (λ (z : Advertised). z.has_refs) same ∙ sym w.2.has_refs;
       };
     }
 
@@ -215,7 +219,7 @@ record Greeted (plain : Bool) (old new : Reading) (h : Handshake) : Type 0 where
   mid : Reading
   found : SetServiceResponse
   hears : Hears old mid found
-  first : ReadsFirst found.refs_follow found plain mid new (Ok h)
+  first : ReadsFirst found.has_refs found plain mid new (Ok h)
   version : h.server_protocol_version ≡ found.actual_protocol
   capabilities : h.capabilities ≡ found.capabilities
 
@@ -271,7 +275,7 @@ greetings-alike plain a b c d h k s l r =
     let x = greeted plain a c h s.alone l in
     let y = greeted plain b d k (ap (λ (z : TransportState). z.persists) (sym s.held) ∙ s.alone) r in
     let said = said-alike x.hears.mid y.hears.mid x.mid y.mid x.found y.found (answers-alike a b x.hears.mid y.hears.mid s x.hears.takes y.hears.takes) x.hears.reads y.hears.reads in
-    let refs = first-refs-alike y.found.refs_follow plain x.mid y.mid c d x.found y.found h k said.alike said.same.capabilities
+    let refs = first-refs-alike y.found.has_refs plain x.mid y.mid c d x.found y.found h k said.alike said.same.capabilities
     (subst (λ f. ReadsFirst f x.found plain x.mid c (Ok h)) said.same.follow x.first) y.first in
     record {
       alike = refs.alike;
@@ -462,35 +466,69 @@ sends-extends old new fit bytes (Err client.AuthenticationUnsupported) p s = abs
 sends-extends old new fit bytes (Err (client.UnsupportedProtocolVersion line)) p s = absurd s
 sends-extends old new fit bytes (Err client.MissingDelimitingNullByte) p s = absurd s
 
-another-extends : (another : Bool) (old new : Reading) → old.held.persists ≡ false → Another another old new → Extends old new
-another-extends false old new p h = extends-none old new (ap (λ (z : TransportState). z.sent) h)
-another-extends true old new p h =
-    let s = sends-extends old h.0 _ _ h.3 p h.4 in
-    record { later = s.later; sent = ap (λ (z : TransportState). z.sent) h.5 ∙ s.sent }
+wrote-extends : (old new : Reading) (requests : List (List ℕ)) → old.held.persists ≡ false → WroteRequests old new requests → Extends old new
+wrote-extends old new requests p w = record { later = requests; sent = w.enters p }
 
-requests-extend : (rounds : List Round) (old new : Reading) → old.held.persists ≡ false → Requests rounds old new → Extends old new
-requests-extend rounds old new p r =
-    extends-more old r.mid new (record { later = r.requests; sent = r.wrote.enters p }) (another-extends r.another r.mid new (r.wrote.persists ∙ p) r.rest)
+sent-extends : (old sent new : Reading) → new.held ≡ sent.held → Extends old sent → Extends old new
+sent-extends old sent new h s = record { later = s.later; sent = ap (λ (z : TransportState). z.sent) h ∙ s.sent }
 
-session-extends : {N A X : Type 0} (negotiation_calls : NegotiationCalls N A) (first : N) (r : Result (Option Outcome) (FetchError A X)) (old new : Reading) → old.held.persists ≡ false → HoldsSession negotiation_calls first r old new → Extends old new
-session-extends negotiation_calls first (Ok (Some outcome)) old new p h = requests-extend _ old new p h.requests
-session-extends negotiation_calls first (Ok None) old new p h = extends-none old new (ap (λ (z : Reading). z.held.sent) h)
-session-extends negotiation_calls first (Err e) old new p (inl h) = extends-none old new (ap (λ (z : Reading). z.held.sent) h)
-session-extends negotiation_calls first (Err e) old new p (inr h) = requests-extend _ old new p h.1.requests
+round-extends : (old new : Reading) (asked : ArgumentsValue) (done : Bool) (r : Result (Unit {0}) client_error) → old.held.persists ≡ false → SendsRound old new asked done r → Extends old new
+round-extends old new asked done r p s = sends-extends old new (request_fits asked done) (texts_of (request asked done)) r p s
+
+module _ {N I A E : Type 0} (m : Manner N I A) where
+  breaks-extend : (before : At N I) (asked : ArgumentsValue) (done : Bool) (e : FetchError A E) (new : Reading) → before.reading.held.persists ≡ false → Breaks m before asked done e new → Extends before.reading new
+  breaks-extend before asked done e new p (before_request w r) = extends-none before.reading new (ap (λ (z : Reading). z.held.sent) r)
+  breaks-extend before asked done e new p (at_request error s g) = round-extends before.reading new asked done (Err error) p s
+  breaks-extend before asked done e new p (behind_request s w) = round-extends before.reading new asked done (Ok tt) p s
+  breaks-extend before asked done e new p (at_answer sent s error a h g) = sent-extends before.reading sent new h (round-extends before.reading sent asked done (Ok tt) p s)
+  breaks-extend before asked done e new p (behind_answer sent s reply a h w) = sent-extends before.reading sent new h (round-extends before.reading sent asked done (Ok tt) p s)
+
+  refused-extends : (before : At N I) (e : FetchError A E) (n : N) (new : Reading) → before.reading.held.persists ≡ false → TurnFails m before e n new → Extends before.reading new
+  refused-extends before e n new p (inl u) = extends-none before.reading new (ap (λ (z : Reading). z.held.sent) u.stands)
+  refused-extends before e n new p (inr b) = breaks-extend before b.asked b.done e new p b.breaks
 
 module _ {N I A S C P X : Type 0} (parties : Parties N I A S C P X) where
+  same-extends : (call : Call) (old last : World N I S C) → Untouched parties old last → Extends old.reading last.reading
+  same-extends call old last u = extends-none old.reading last.reading (ap (λ (z : Reading). z.held.sent) u.reading)
+
+  ends-extend : (call : Call) (banded : Bool) (ids : List ObjectId) (c : C) (read : S) (locked : Bool) (turns : List (FetchTurn N I)) (before : At N I) (e : FetchError A X) (last : World N I S C) (progress : P)
+      (old : Reading) (requests : List (List ℕ)) → old.held.persists ≡ false → (ends : BreaksOff parties call banded ids c read locked turns before e last progress) → WroteRequests old (answered_at parties ends) requests → Extends old last.reading
+  ends-extend call banded ids c read locked turns before e last progress old requests p (by_caller s g at u) w =
+      sent-extends old before.reading last.reading (ap (λ (z : Reading). z.held) at.reading) (wrote-extends old before.reading requests p w)
+  ends-extend call banded ids c read locked turns before e last progress old requests p (exhausted t r d n g at i u) w =
+      sent-extends old t.after.reading last.reading (ap (λ (z : Reading). z.held) at.reading) (wrote-extends old t.after.reading requests p w)
+  ends-extend call banded ids c read locked turns before e last progress old requests p (at_round f u) w =
+      extends-more old before.reading last.reading (wrote-extends old before.reading requests p w) (refused-extends _ before e last.negotiate last.reading (w.persists ∙ p) f)
+  ends-extend call banded ids c read locked turns before e last progress old requests p (behind_pack t r k n h u) w = sent-extends old t.after.reading last.reading h (wrote-extends old t.after.reading requests p w)
+
+  refuses-extend : (call : Call) (old : World N I S C) (e : FetchError A X) (last : World N I S C) (progress : P) → old.reading.held.persists ≡ false → Refuses parties call old e last progress → Extends old.reading last.reading
+  refuses-extend call old e last progress p (at_depth given banded held prepared l u n t) = same-extends call old last t
+  refuses-extend call old e last progress p (at_wants banded ids asked a u t) = same-extends call old last t
+  refuses-extend call old e last progress p (in_session b) = ends-extend call b.banded b.ids old.consumer b.read b.locked b.turns b.before e last progress old.reading _ p b.ends b.requests
+
+  released-extends : (old : Reading) (last new : World N I S C) → Releases parties last new → Extends old last.reading → Extends old new.reading
+  released-extends old last new r x = subst (λ (z : Reading). Extends old z) (sym (ap (λ (w : World N I S C). w.reading) r.stands)) x
+
+  session-extends : (call : Call) (old : World N I S C) (r : Result (Option Outcome) (FetchError A X)) (new : World N I S C) (progress : P) → old.reading.held.persists ≡ false → HoldsSession parties call old r new progress
+      → Extends old.reading new.reading
+  session-extends call old (Ok (Some outcome)) new progress p h = released-extends old.reading h.0 new h.2 (wrote-extends old.reading h.0.reading _ p h.1.requests)
+  session-extends call old (Ok None) new progress p h = released-extends old.reading h.0 new h.2 (same-extends call old h.0 h.1.untouched)
+  session-extends call old (Err e) new progress p (inl (unprepared u s)) = extends-none old.reading new.reading (ap (λ (w : World N I S C). w.reading.held.sent) s)
+  session-extends call old (Err e) new progress p (inl (unlocked a b k u s)) = extends-none old.reading new.reading (ap (λ (w : World N I S C). w.reading.held.sent) s)
+  session-extends call old (Err e) new progress p (inr h) = released-extends old.reading h.0 new h.2 (refuses-extend call old e h.0 progress p h.1)
+
   -- what is known of a whole fetch
   abbrev pub Holds : Type 0
   Holds = (call : Call) (first : World N I S C) (r : Result (Option Outcome) (FetchError A X)) (last : World N I S C) (progress : P) → Fetches parties call first r last progress
-      → HoldsSession parties.negotiation_calls first.negotiate r first.reading last.reading
+      → HoldsSession parties call first r last progress
 
   pub fetches-extend : Holds → (IsOver : N → Type 0) (IsEmpty : S → Type 0) (h : Handshake) (old new : Reading) (r : Result (Option Outcome) (FetchError A X)) → old.held.persists ≡ false
       → FetchesMapped parties IsOver IsEmpty h old new r → Extends old new
   fetches-extend holds IsOver IsEmpty h old new r p (inr n) = extends-none old new (ap (λ (z : Reading). z.held.sent) n.0)
   fetches-extend holds IsOver IsEmpty h old new r p (inl f) =
       let s = holds (planner_call h) f.first r f.last f.progress f.fetched.fetched in
-      session-extends parties.negotiation_calls f.first.negotiate r old new p
-      (subst (λ (z : Reading). HoldsSession parties.negotiation_calls f.first.negotiate r old z) f.ends (subst (λ (z : Reading). HoldsSession parties.negotiation_calls f.first.negotiate r z f.last.reading) f.begins s))
+      let x = session-extends (planner_call h) f.first r f.last f.progress (subst (λ (z : Reading). z.held.persists ≡ false) (sym f.begins) p) s in
+      subst (λ (z : Reading). Extends old z) f.ends (subst (λ (z : Reading). Extends z f.last.reading) f.begins x)
 
 -- ---- a session that is shown
 

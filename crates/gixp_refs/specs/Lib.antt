@@ -17,3 +17,4 @@ pub mod RefAdvertisement
 pub mod V1Refs
 pub mod V1Line
 pub mod RefGroups
+pub mod Order

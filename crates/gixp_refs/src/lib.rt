@@ -3,4 +3,5 @@
 
 pub mod handshake;
 pub mod laws;
+mod same;
 mod trim;

@@ -16,3 +16,4 @@ pub mod Command
 pub mod Arguments
 pub mod Request
 pub mod Offers
+pub mod Order

@@ -3,6 +3,7 @@
 
 pub mod command;
 pub mod fetch;
+mod same;
 mod util;
 
 pub use command::Command;

@@ -22,3 +22,4 @@ pub mod AnswerReading
 pub mod Features
 pub mod SectionGrammar
 pub mod BeginningGrammar
+pub mod Order

@@ -4,7 +4,7 @@ use Rattle.std.specs.declared.io.ErrorKind.{ErrorKind}
 use Rattle.bstr.specs.Owned.{bstring_bytes}
 use Rattle.gixp_packetline.specs.Pieces.{Refusal, io, server, memory}
 use Rattle.gixp_packetline.specs.Reading.{refusal_of}
-use Rattle.gixp_wire.specs.Spurious.{is_spurious_kind, is_spurious_read, is_spurious_client}
+use Rattle.gixp_wire.specs.Spurious.{is_spurious_kind, is_spurious_client}
 use Rattle.gixp_capabilities.specs.Client.{ClientRefusal, no_memory as client_no_memory, client_refusal}
 use Rattle.gixp_response.specs.ReadFails.{Errors}
 use Rattle.gixp_response.specs.declared.fetch.response.error.Error.{Error}
@@ -39,11 +39,10 @@ answer_refusal (UnknownSectionHeader header) = unknown_header (string_bytes head
 answer_refusal (Reader e) = by_reader (refusal_of e)
 answer_refusal Memory = no_memory
 
--- whether it may pass when the same is tried again: where a connection failed
+-- whether it may pass when the same is tried again: where a read failed, or a call that speaks to a server as one over a network does
 abbrev pub is_spurious_answer : Error → Bool
 is_spurious_answer (Io kind) = is_spurious_kind kind
 is_spurious_answer (Transport e) = is_spurious_client e
-is_spurious_answer (Reader e) = is_spurious_read e
 is_spurious_answer _ = false
 
 -- a reader's refusal among them

@@ -24,7 +24,7 @@ use Rattle.gixp_packetline.specs.Packets.{is_peeked, place_stop, known, packets_
 use Rattle.gixp_capabilities.specs.Capabilities.{CapabilityValue, capability_of_line, capabilities_of_line, capabilities_of_lines, capabilities_behind, IsOfLine}
 use Rattle.gixp_capabilities.specs.Client.{ClientRefusal, failed, reader, no_memory, no_null_byte, unsupported_version, client_refusal, client_from}
 use Rattle.gixp_packetline.specs.Reading.{Reading, reset_to, ShowsLine, TakesLine, TakesStop, AtStop, IsPlain, IsLasting, Faults, IsOutside, refusal_of, is_end, Fails as Failing}
-use Rattle.gixp_wire.specs.CapabilityAdvertisement.{Advertised, Named, another, unnamed, version_named, trimmed, empty_advertisement, ref_line, from_ref_line, by_version, by_first, advertisement, by_lines, from_capability_lines, Answers, ReadsAdvertisement, FailsAdvertisement, IsFromDevice, LinesTaken, TakesNone, TakesAny, TakesFirst, one, two, behind_lines, StandsRefused, StandsIo, Stands, Advertises}
+use Rattle.gixp_wire.specs.CapabilityAdvertisement.{Advertised, Named, another, unnamed, version_named, trimmed, empty_advertisement, ref_line, from_ref_line, by_version, by_first, advertisement, by_lines, from_capability_lines, Answers, ReadsAdvertisement, FailsAdvertisement, IsFromDevice, IsOfSaid, IsCaused, SaysLines, SaysNothing, SaysRefs, LinesTaken, TakesNone, TakesAny, TakesFirst, one, two, behind_lines, StandsRefused, StandsIo, Stands, Advertises}
 use Rattle.gixp_packetline.proofs.LineLemmas.{gives_line, stops_here, refuses_here}
 
 -- what one says of known pieces, the other says of those that are left
@@ -126,6 +126,7 @@ pub advertises-then : (said then : Pieces → Result Advertised ClientRefusal) (
     → Advertises then more mid new r → Advertises said takes old new r
 advertises-then said then takes more texts old mid new (Ok found) f s h = record {
   value = turned_value said then old.to_come mid.to_come (λ a. Answers a new found) s.turns h.value;
+  says = h.says;
   version = h.version;
   failures = h.failures ∙ s.failures;
   left = let a = h.left in let b = s.left in omega arith;
@@ -133,6 +134,7 @@ advertises-then said then takes more texts old mid new (Ok found) f s h = record
 }
 advertises-then said then takes more texts old mid new (Err e) f s h = record {
   why = why h.why;
+  caused = caused h.caused;
   taken = texts ++ h.taken;
   by_version = f new.version h.taken h.by_version;
   stands = stands-then texts h.taken old mid new e s.lines h.stands;
@@ -145,6 +147,10 @@ advertises-then said then takes more texts old mid new (Err e) f s h = record {
         → (IfSome old.to_come (λ p. said p ≡ Err (client_refusal e)) × (new.failures ≡ old.failures)) ⊎ IsFromDevice old new e
     why (inl k) = inl (turned_refusal said then old.to_come mid.to_come (client_refusal e) s.turns k.0, k.1 ∙ s.failures)
     why (inr k) = inr (from_device old mid new e s.failures k)
+
+    caused : IsCaused mid new e → IsCaused old new e
+    caused (inl k) = inl (k.0, k.1 ∙ s.failures)
+    caused (inr k) = inr (from_device old mid new e s.failures k)
 
 -- the errors that failed reads and allocations bring
 is_io : (e : Error) (kind : ErrorKind) → client_refusal e ≡ failed kind → e ≡ Io kind
@@ -198,6 +204,17 @@ is_reader Memory x h P f = absurd (cc)
 stood : (old new : Reading) (x : Refusal) (e : Error) → client_refusal e ≡ reader x → StandsRefused old new x → Stands [] old new e
 stood old new x e is k = is_reader e x is (Stands [] old new) (λ y h. subst (StandsRefused old new) (sym h) k)
 
+-- the refusal of a stream is what was said
+of-said : (new : Reading) (x : Refusal) (e : Error) → IsLasting x → IsPlain new x → client_refusal e ≡ client_from x → IsOfSaid e
+of-said new (io kind) e l p is = subst IsOfSaid (sym (is_io e kind is)) l
+of-said new (decode y) e l p is = is_reader e (decode y) is IsOfSaid (λ z h. subst IsLasting (sym h) tt)
+of-said new (server m) e l p is = is_reader e (server m) is IsOfSaid (λ z h. subst IsLasting (sym h) tt)
+of-said new unexpected_frame e l p is = is_reader e unexpected_frame is IsOfSaid (λ z h. subst IsLasting (sym h) tt)
+of-said new not_utf8 e l p is = absurd l
+of-said new (bad_band b) e l p is = absurd p
+of-said new interrupted e l p is = absurd p
+of-said new memory e l p is = absurd l
+
 -- the refusal of a stream stands
 stands-lasting : (old new : Reading) (x : Refusal) (e : Error) → IsLasting x → IsPlain new x → client_refusal e ≡ client_from x → StandsRefused old new x → Stands [] old new e
 stands-lasting old new (io kind) e l p is k =
@@ -241,13 +258,14 @@ fails-reading said takes old new x e m (inl k) p is f = record {
   taken = [];
   by_version = subst (λ v. takes v []) (sym k.version) m;
   why = inl (refused_known said old.to_come old.version x (client_refusal e) _ (λ q n. f q n ∙ ap Err (sym is)) k.next, k.failures);
+  caused = inl (of-said new x e k.lasting p is, k.failures);
   stands = stands-lasting old new x e k.lasting p is (k.refused, next-stands old.to_come new.to_come old.version x k.next);
   stopped = k.stopped;
   left = k.left;
   held = k.held;
 }
-fails-reading said takes old new x e m (inr (inl k)) p is f = record { taken = []; by_version = subst (λ v. takes v []) (sym k.stays.version) m; why = inr (outside old new x e (inl k) p is); stands = stands-fault old new x e k p is; stopped = k.stays.stopped ∙ k.running; left = k.stays.left; held = k.stays.held }
-fails-reading said takes old new x e m (inr (inr k)) p is f = record { taken = []; by_version = subst (λ v. takes v []) (sym k.version) m; why = inr (outside old new x e (inr k) p is); stands = stands-lasting old new x e (subst IsLasting (sym k.refusal) refl) p is (k.refused, always old.to_come _ k.to_come); stopped = k.stopped; left = k.left; held = k.held }
+fails-reading said takes old new x e m (inr (inl k)) p is f = record { taken = []; by_version = subst (λ v. takes v []) (sym k.stays.version) m; why = inr (outside old new x e (inl k) p is); caused = inr (outside old new x e (inl k) p is); stands = stands-fault old new x e k p is; stopped = k.stays.stopped ∙ k.running; left = k.stays.left; held = k.stays.held }
+fails-reading said takes old new x e m (inr (inr k)) p is f = record { taken = []; by_version = subst (λ v. takes v []) (sym k.version) m; why = inr (outside old new x e (inr k) p is); caused = inr (outside old new x e (inr k) p is); stands = stands-lasting old new x e (subst IsLasting (sym k.refusal) refl) p is (k.refused, always old.to_come _ k.to_come); stopped = k.stopped; left = k.left; held = k.held }
 
 -- a reader that isn't at a stop and comes to one takes it
 pub takes-stop : (old new : Reading) → old.stopped ≡ None → AtStop old new → (kind : MessageKind) × TakesStop old new kind
@@ -262,13 +280,18 @@ stopped_known said (Some p) b v kind found P f g h = (found h.0, f p h.0 h.2, g 
 
 -- a stop in place of the first ref line
 pub reads-empty_advertisement : (said : Pieces → Result Advertised ClientRefusal) (v : Protocol) (old new : Reading) (kind : MessageKind) (found : SetServiceResponse)
-    → old.version ≡ v → found ≡ record { actual_protocol = v; capabilities = []; refs_follow = true } → TakesStop old new kind
+    → old.version ≡ v → found ≡ record { actual_protocol = v; capabilities = []; has_refs = true } → TakesStop old new kind
     → ((p q : Pieces) → next_of v p ≡ stops kind q → said p ≡ Ok (empty_advertisement v kind q)) → ReadsAdvertisement said old new found
 reads-empty_advertisement said v old new kind found version is k f = record {
   value = stopped_known said old.to_come new.to_come old.version kind (empty_advertisement v kind) (λ a. Answers a new found)
       (λ p q n. f p q (ap (λ w. next_of w p) (sym version) ∙ n))
-      (λ q at. rw is (record { version = refl; capabilities = refl; refs_follow = refl; rest = at; stopped = k.stopped }))
+      (λ q at. rw is (record { version = refl; capabilities = refl; has_refs = refl; rest = at; stopped = k.stopped }))
       k.next;
+  says = inr (inl (record {
+    capabilities = ap (λ (f : SetServiceResponse). f.capabilities) is;
+    has_refs = ap (λ (f : SetServiceResponse). f.has_refs) is;
+    stopped = rw k.stopped refl;
+  }));
   version = k.version ∙ version ∙ (rw is refl);
   failures = k.failures;
   left = k.left;
@@ -328,17 +351,23 @@ gathers-steps old mid texts h = record { turns = at old.to_come mid.to_come h.ne
 
 -- the capability lines up to the stop
 pub reads-lines : (old mid new : Reading) (texts : List (List ℕ)) (found : SetServiceResponse) → Gathers old mid texts → AtStop mid new
-    → found ≡ record { actual_protocol = V2; capabilities = capabilities_of_lines texts; refs_follow = false } → ReadsAdvertisement from_capability_lines old new found
+    → found ≡ record { actual_protocol = V2; capabilities = capabilities_of_lines texts; has_refs = false } → ReadsAdvertisement from_capability_lines old new found
 reads-lines old mid new texts found h at is =
     let stop = takes-stop mid new h.running at in
     let kind = stop.0 in
     let k = stop.1 in
-    let said : Pieces → Advertised = λ q. record { version = V2; capabilities = capabilities_of_lines texts; refs_follow = false; rest = q; stopped = Some kind } in
+    let said : Pieces → Advertised = λ q. record { version = V2; capabilities = capabilities_of_lines texts; has_refs = false; rest = q; stopped = Some kind } in
     advertises-then from_capability_lines (said_behind texts) TakesAny TakesAny texts old mid new (Ok found) (λ v ts m. m) (gathers-steps old mid texts h) (record {
       value = stopped_known (said_behind texts) mid.to_come new.to_come mid.version kind said (λ a. Answers a new found)
           (λ p q n. let next : next_of V2 p ≡ stops kind q = ap (λ v. next_of v p) (sym h.version) ∙ n in rw (stops_here V2 p.list p.end kind q next, append-nil) refl)
-          (λ q e. rw is (record { version = refl; capabilities = refl; refs_follow = refl; rest = e; stopped = k.stopped }))
+          (λ q e. rw is (record { version = refl; capabilities = refl; has_refs = refl; rest = e; stopped = k.stopped }))
           k.next;
+      says = inl (record {
+        texts = texts;
+        capabilities = ap (λ (f : SetServiceResponse). f.capabilities) is;
+        has_refs = ap (λ (f : SetServiceResponse). f.has_refs) is;
+        stopped = rw k.stopped refl;
+      });
       version = k.version ∙ h.version ∙ (rw is refl);
       failures = k.failures;
       left = k.left;
@@ -355,7 +384,7 @@ fails-lines old mid new texts x e h k p is =
 
 -- an allocation failed for one of them
 pub fails-memory : (old mid new : Reading) (texts : List (List ℕ)) → Gathers old mid texts → TakesLine mid new → FailsAdvertisement from_capability_lines TakesAny old new Memory
-fails-memory old mid new texts h k = record { why = inr (k.failures ∙ h.failures); taken = texts ++ new.line ∷ []; by_version = k.version ∙ h.version; stands = taken-then texts (new.line ∷ []) old.to_come mid.to_come new.to_come h.lines (one-taken mid.to_come new.to_come mid.version new.line k.next); stopped = k.stopped; left = let a = h.left in let b = k.left in omega arith; held = k.held ∙ h.held }
+fails-memory old mid new texts h k = record { why = inr (k.failures ∙ h.failures); caused = inr (k.failures ∙ h.failures); taken = texts ++ new.line ∷ []; by_version = k.version ∙ h.version; stands = taken-then texts (new.line ∷ []) old.to_come mid.to_come new.to_come h.lines (one-taken mid.to_come new.to_come mid.version new.line k.next); stopped = k.stopped; left = let a = h.left in let b = k.left in omega arith; held = k.held ∙ h.held }
 
 -- the capabilities of one more line
 pub capabilities-push : (texts : List (List ℕ)) (text : List ℕ) → capabilities_of_lines texts ++ capability_of_line text ∷ [] ≡ capabilities_of_lines (texts ++ text ∷ [])
@@ -425,13 +454,22 @@ module _ {R : Type 0} where
   -- the first ref line was cut before its NUL
   pub reads-cut : (rem : R → Option (List ℕ)) (p : Packets R) (v : Protocol) (cs : List CapabilityValue) (n : ℕ) → p.place ≡ Peeked → p.version ≡ v
       → capabilities_of_line p.window.lent ≡ Some (cs, n)
-      → ReadsAdvertisement (from_ref_line v) (packets_reading rem p) (packets_reading rem (shortened p n)) (record { actual_protocol = v; capabilities = cs; refs_follow = true })
+      → ReadsAdvertisement (from_ref_line v) (packets_reading rem p) (packets_reading rem (shortened p n)) (record { actual_protocol = v; capabilities = cs; has_refs = true })
   reads-cut rem p v cs n e version is =
       let new = shortened p n in
-      let found : SetServiceResponse = record { actual_protocol = v; capabilities = cs; refs_follow = true } in
+      let found : SetServiceResponse = record { actual_protocol = v; capabilities = cs; has_refs = true } in
       let P : Option Pieces → Type 0 = λ c. IfSome c (λ q. (a : Advertised) × (from_ref_line v q ≡ Ok a) × Answers a (packets_reading rem new) found) in
       record {
         value = subst P (sym (to_come-peeked rem p e)) (at (option_map stream_pieces (known rem p)) refl);
+        says = inr (inr (record {
+          text = p.window.lent;
+          place = n;
+          capabilities = is;
+          has_refs = refl;
+          line = refl;
+          peeked = ap is_peeked e;
+          stopped = ap place_stop e;
+        }));
         version = version;
         failures = refl;
         left =
@@ -442,15 +480,15 @@ module _ {R : Type 0} where
     where
       at : (o : Option Pieces) → option_map stream_pieces (known rem p) ≡ o
           → IfSome (option_map (with_piece (line p.window.lent)) o) (λ q. (a : Advertised) × (from_ref_line v q ≡ Ok a)
-          × Answers a (packets_reading rem (shortened p n)) (record { actual_protocol = v; capabilities = cs; refs_follow = true }))
+          × Answers a (packets_reading rem (shortened p n)) (record { actual_protocol = v; capabilities = cs; has_refs = true }))
       at None k = tt
       at (Some q) k = (
-        record { version = v; capabilities = cs; refs_follow = true; rest = with_piece (line (take n p.window.lent)) q; stopped = None },
+        record { version = v; capabilities = cs; has_refs = true; rest = with_piece (line (take n p.window.lent)) q; stopped = None },
         ap (ref_line v p.window.lent q) is,
         record {
           version = refl;
           capabilities = refl;
-          refs_follow = refl;
+          has_refs = refl;
           rest = to_come-peeked rem (shortened p n) e ∙ ap (option_map (with_piece (line (take n p.window.lent)))) k;
           stopped = ap place_stop e;
         },
@@ -472,6 +510,7 @@ module _ {R : Type 0} where
           let Q : ClientRefusal → Type 0 = λ x. IfSome (option_map (with_piece (line p.window.lent)) (option_map stream_pieces (known rem p))) (λ q. from_ref_line v q ≡ Err x) in
           record {
             why = inl (subst P (sym (to_come-peeked rem p peeked)) (subst Q (sym refused) (none (option_map stream_pieces (known rem p)) k)), refl);
+            caused = inl (subst IsOfSaid (sym i) tt, refl);
             taken = [];
             by_version = (version, refl);
             stands = subst (Stands [] (packets_reading rem p) (packets_reading rem p)) (sym i) (ap is_peeked peeked, k, none-taken (packets_reading rem p).to_come);
@@ -479,7 +518,7 @@ module _ {R : Type 0} where
             left = omega arith;
             held = refl;
           }
-      by (Some found) k i = record { why = inr (subst (IsFromDevice (packets_reading rem p) (packets_reading rem p)) (sym i) refl); taken = []; by_version = (version, refl); stands = subst (Stands [] (packets_reading rem p) (packets_reading rem p)) (sym i) (none-taken (packets_reading rem p).to_come); stopped = ap place_stop peeked; left = omega arith; held = refl }
+      by (Some found) k i = record { why = inr (subst (IsFromDevice (packets_reading rem p) (packets_reading rem p)) (sym i) refl); caused = inr (subst (IsFromDevice (packets_reading rem p) (packets_reading rem p)) (sym i) refl); taken = []; by_version = (version, refl); stands = subst (Stands [] (packets_reading rem p) (packets_reading rem p)) (sym i) (none-taken (packets_reading rem p).to_come); stopped = ap place_stop peeked; left = omega arith; held = refl }
 
   peeked_known : (rem : R → Option (List ℕ)) (p : Packets R) (P : Option Pieces → Type 0) → p.place ≡ Peeked
       → ((o : Option Pieces) → P (option_map (with_piece (line p.window.lent)) o)) → P (packets_reading rem p).to_come
@@ -501,6 +540,7 @@ module _ {R : Type 0} where
     taken = [];
     by_version = subst (λ v. TakesFirst v []) (sym version) refl;
     why = inl (peeked_known rem p (λ o. IfSome o (λ q. advertisement q ≡ Err (client_refusal e))) peeked at, refl);
+    caused = inl (of-version e refused, refl);
     stands = named e refused;
     stopped = ap place_stop peeked;
     left = omega arith;
@@ -510,6 +550,15 @@ module _ {R : Type 0} where
       at : (o : Option Pieces) → IfSome (option_map (with_piece (line p.window.lent)) o) (λ q. advertisement q ≡ Err (client_refusal e))
       at None = tt
       at (Some q) = ap (λ n. by_version n (with_piece (line p.window.lent) q) q) is ∙ ap Err (sym refused)
+
+      of-version : (e : Error) → client_refusal e ≡ unsupported_version (trimmed p.window.lent) → IsOfSaid e
+      of-version (Io k) h = absurd (cc)
+      of-version (Read y) h = absurd (cc)
+      of-version LineTooLong h = absurd (cc)
+      of-version AuthenticationUnsupported h = absurd (cc)
+      of-version (UnsupportedProtocolVersion t) h = tt
+      of-version MissingDelimitingNullByte h = absurd (cc)
+      of-version Memory h = absurd (cc)
 
       named : (e : Error) → client_refusal e ≡ unsupported_version (trimmed p.window.lent) → Stands [] (packets_reading rem p) (packets_reading rem p) e
       named (Io k) h = absurd (cc)
@@ -525,6 +574,7 @@ module _ {R : Type 0} where
     taken = [];
     by_version = subst (λ v. TakesFirst v []) (sym version) refl;
     why = inr (subst (IsFromDevice (packets_reading rem p) (packets_reading rem p)) (sym full) refl);
+    caused = inr (subst (IsFromDevice (packets_reading rem p) (packets_reading rem p)) (sym full) refl);
     stands = subst (Stands [] (packets_reading rem p) (packets_reading rem p)) (sym full) (none-taken (packets_reading rem p).to_come);
     stopped = ap place_stop peeked;
     left = omega arith;

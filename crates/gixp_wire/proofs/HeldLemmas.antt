@@ -8,7 +8,7 @@ use Rattle.gixp_capabilities.specs.declared.client.Error.{Error as ClientError}
 use Rattle.gixp_capabilities.specs.declared.client.Error.TheVariants.{Io as ClientIo, Read as ClientRead, LineTooLong, AuthenticationUnsupported, UnsupportedProtocolVersion, MissingDelimitingNullByte, Memory as ClientMemory}
 use Rattle.gixp_wire.specs.declared.service.SetServiceResponse.{SetServiceResponse}
 use Rattle.gixp_capabilities.specs.Client.{ClientRefusal, client_refusal}
-use Rattle.gixp_wire.specs.CapabilityAdvertisement.{Advertised, Answers, IsFromDevice, StandsIo, Stands, Advertises}
+use Rattle.gixp_wire.specs.CapabilityAdvertisement.{Advertised, Answers, IsFromDevice, IsCaused, Says, StandsIo, Stands, Advertises}
 use Rattle.std.specs.declared.io.ErrorKind.{ErrorKind}
 use Rattle.gixp_packetline.specs.TransportState.{TransportState}
 use Rattle.gixp_packetline.specs.Reading.{Reading, refusal_of, is_end, Stays, TakesLine, ShowsLine, TakesStop, AtStop, Refuses, IsFault, Fails, IsPlain, PlainIf, Reads, Peeks}
@@ -101,24 +101,34 @@ module _ (h : TransportState) (a b : Reading) where
   stands_held texts ClientMemory k = k
 
   answers_held : (x : Advertised) (found : SetServiceResponse) → Answers x b found → Answers x B found
-  answers_held x found k = record { version = k.version; capabilities = k.capabilities; refs_follow = k.refs_follow; rest = k.rest; stopped = k.stopped }
+  answers_held x found k = record { version = k.version; capabilities = k.capabilities; has_refs = k.has_refs; rest = k.rest; stopped = k.stopped }
 
   value_held : (said : Pieces → Result Advertised ClientRefusal) (found : SetServiceResponse) (o : Option Pieces)
       → IfSome o (λ p. (x : Advertised) × (said p ≡ Ok x) × Answers x b found) → IfSome o (λ p. (x : Advertised) × (said p ≡ Ok x) × Answers x B found)
   value_held said found None k = tt
   value_held said found (Some p) k = (k.0, k.1, answers_held k.0 found k.2)
 
+  says_held : (found : SetServiceResponse) → Says b found → Says B found
+  says_held found (inl k) = inl (record { texts = k.texts; capabilities = k.capabilities; has_refs = k.has_refs; stopped = k.stopped })
+  says_held found (inr (inl k)) = inr (inl (record { capabilities = k.capabilities; has_refs = k.has_refs; stopped = k.stopped }))
+  says_held found (inr (inr k)) = inr (inr (record { text = k.text; place = k.place; capabilities = k.capabilities; has_refs = k.has_refs; line = k.line; peeked = k.peeked; stopped = k.stopped }))
+
   pub advertises : (said : Pieces → Result Advertised ClientRefusal) (takes : Protocol → List (List ℕ) → Type 0) (r : Result SetServiceResponse ClientError) → Advertises said takes a b r → Advertises said takes A B r
   advertises said takes (Ok found) k = record {
     value = value_held said found a.to_come k.value;
+    says = says_held found k.says;
     version = k.version;
     failures = k.failures;
     left = k.left;
     held = refl;
   }
-  advertises said takes (Err e) k = record { why = why k.why; taken = k.taken; by_version = k.by_version; stands = stands_held k.taken e k.stands; stopped = k.stopped; left = k.left; held = refl }
+  advertises said takes (Err e) k = record { why = why k.why; caused = caused k.caused; taken = k.taken; by_version = k.by_version; stands = stands_held k.taken e k.stands; stopped = k.stopped; left = k.left; held = refl }
     where
       why : (IfSome a.to_come (λ p. said p ≡ Err (client_refusal e)) × (b.failures ≡ a.failures)) ⊎ IsFromDevice a b e
           → (IfSome a.to_come (λ p. said p ≡ Err (client_refusal e)) × (b.failures ≡ a.failures)) ⊎ IsFromDevice A B e
       why (inl k) = inl k
       why (inr k) = inr (from_device e k)
+
+      caused : IsCaused a b e → IsCaused A B e
+      caused (inl k) = inl k
+      caused (inr k) = inr (from_device e k)

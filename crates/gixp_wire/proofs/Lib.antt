@@ -1,5 +1,6 @@
 mod AdvertisementLemmas
 mod TransportLemmas
+mod CommandLemmas
 mod GreetingLemmas
 mod HeldLemmas
 mod BodiesLemmas

@@ -1,5 +1,5 @@
 -- What a server says first: its version, its capabilities, and under versions 0 and 1 its refs (gitprotocol-pack, "Reference Discovery" and "Extra Parameters"; gitprotocol-v2, "Capability Advertisement").
-use Rattle.std.specs.Prelude.{◌≡◌, ℕ, ◌≤◌, ◌⊎◌, Bool, true, false, nat_eq, List, [], ◌∷◌, take, codes, if◌then◌else◌, Option, Some, None, Result, Ok, Err, IfSome}
+use Rattle.std.specs.Prelude.{◌≡◌, ℕ, ◌≤◌, ◌⊎◌, Bool, true, false, nat_eq, List, [], ◌∷◌, take, codes, if◌then◌else◌, Option, Some, None, Result, Ok, Err, IfSome, IsSome, ⊤}
 use Rattle.std.specs.Char.{is_whitespace}
 use Rattle.bstr.specs.Trim.{trim_end_by}
 use Rattle.std.specs.List.{starts_with}
@@ -8,6 +8,7 @@ use Rattle.gixp_packetline.specs.declared.protocol.Protocol.{Protocol}
 use Rattle.gixp_packetline.specs.declared.protocol.Protocol.TheVariants.{V0, V1, V2}
 use Rattle.gixp_packetline.specs.declared.protocol.MessageKind.{MessageKind}
 use Rattle.std.specs.declared.io.ErrorKind.{ErrorKind}
+use Rattle.std.specs.declared.io.ErrorKind.TheVariants.{UnexpectedEof}
 use Rattle.gixp_capabilities.specs.declared.client.Error.{Error}
 use Rattle.gixp_capabilities.specs.declared.client.Error.TheVariants.{Io, Read, UnsupportedProtocolVersion, MissingDelimitingNullByte, Memory}
 use Rattle.bstr.specs.Owned.{bstring_bytes}
@@ -16,14 +17,14 @@ use Rattle.gixp_packetline.specs.Pieces.{Refusal, io, line, Pieces, no_pieces, w
 use Rattle.gixp_packetline.specs.Lines.{Next, gives, stops, refuses, next_of, Ending, stop, refusal, lines_of}
 use Rattle.gixp_capabilities.specs.Capabilities.{CapabilityValue, capabilities_of_line, capabilities_of_lines}
 use Rattle.gixp_capabilities.specs.Client.{ClientRefusal, client_refusal, client_from, no_null_byte, unsupported_version}
-use Rattle.gixp_packetline.specs.Reading.{Reading, Rose, refusal_of, is_end}
+use Rattle.gixp_packetline.specs.Reading.{Reading, Rose, IsLasting, refusal_of, is_end}
 
 -- what a server said, and where its reader then is
 pub record Advertised : Type 0 where
   pub version : Protocol
   pub capabilities : List CapabilityValue
   -- whether its refs are the lines that come next
-  pub refs_follow : Bool
+  pub has_refs : Bool
   -- the pieces behind it
   pub rest : Pieces
   -- the stop that the reader is at
@@ -49,13 +50,13 @@ version_named text =
 
 -- a stop in place of the first ref line: no refs, and no capabilities
 abbrev pub empty_advertisement : Protocol → MessageKind → Pieces → Advertised
-empty_advertisement version kind rest = record { version = version; capabilities = []; refs_follow = true; rest = rest; stopped = Some kind }
+empty_advertisement version kind rest = record { version = version; capabilities = []; has_refs = true; rest = rest; stopped = Some kind }
 
 -- the first ref line is still to come, cut before its NUL; the capabilities stand behind that
 abbrev pub ref_line : Protocol → List ℕ → Pieces → Option (List CapabilityValue × ℕ) → Result Advertised ClientRefusal
 ref_line version text rest None = Err no_null_byte
 ref_line version text rest (Some found) =
-    Ok (record { version = version; capabilities = found.0; refs_follow = true; rest = with_piece (line (take found.1 text)) rest; stopped = None })
+    Ok (record { version = version; capabilities = found.0; has_refs = true; rest = with_piece (line (take found.1 text)) rest; stopped = None })
 
 abbrev pub by_ref_line : Protocol → Next → Result Advertised ClientRefusal
 by_ref_line version (gives text rest) = ref_line version text rest (capabilities_of_line text)
@@ -67,7 +68,7 @@ abbrev pub from_ref_line : Protocol → Pieces → Result Advertised ClientRefus
 from_ref_line version p = by_ref_line version (next_of version p)
 
 abbrev pub by_lines : List (List ℕ) → Ending → Result Advertised ClientRefusal
-by_lines texts (stop kind rest) = Ok (record { version = V2; capabilities = capabilities_of_lines texts; refs_follow = false; rest = rest; stopped = Some kind })
+by_lines texts (stop kind rest) = Ok (record { version = V2; capabilities = capabilities_of_lines texts; has_refs = false; rest = rest; stopped = Some kind })
 by_lines texts (refusal e) = Err (client_from e)
 
 -- the capability lines of version 2, up to the stop
@@ -94,13 +95,41 @@ advertisement p = by_first p (next_of V0 p)
 pub record Answers (a : Advertised) (new : Reading) (found : SetServiceResponse) : Type 0 where
   pub version : found.actual_protocol ≡ a.version
   pub capabilities : found.capabilities ≡ a.capabilities
-  pub refs_follow : found.refs_follow ≡ a.refs_follow
+  pub has_refs : found.has_refs ≡ a.has_refs
   pub rest : new.to_come ≡ Some a.rest
   pub stopped : new.stopped ≡ a.stopped
+
+-- capability lines, and a stop behind them
+pub record SaysLines (new : Reading) (found : SetServiceResponse) : Type 0 where
+  pub texts : List (List ℕ)
+  pub capabilities : found.capabilities ≡ capabilities_of_lines texts
+  pub has_refs : found.has_refs ≡ false
+  pub stopped : IsSome new.stopped
+
+-- a stop in place of the first ref line
+pub record SaysNothing (new : Reading) (found : SetServiceResponse) : Type 0 where
+  pub capabilities : found.capabilities ≡ []
+  pub has_refs : found.has_refs ≡ true
+  pub stopped : IsSome new.stopped
+
+-- a first ref line with a NUL, of which what stands before it is peeked at
+pub record SaysRefs (new : Reading) (found : SetServiceResponse) : Type 0 where
+  pub text : List ℕ
+  pub place : ℕ
+  pub capabilities : capabilities_of_line text ≡ Some (found.capabilities, place)
+  pub has_refs : found.has_refs ≡ true
+  pub line : new.line ≡ take place text
+  pub peeked : new.peeked ≡ true
+  pub stopped : new.stopped ≡ None
+
+-- what was said is one of these, whether the bytes are known or not
+abbrev pub Says : Reading → SetServiceResponse → Type 0
+Says new found = SaysLines new found ⊎ SaysNothing new found ⊎ SaysRefs new found
 
 -- what was said was read
 pub record ReadsAdvertisement (said : Pieces → Result Advertised ClientRefusal) (old new : Reading) (found : SetServiceResponse) : Type 0 where
   pub value : IfSome old.to_come (λ p. (a : Advertised) × (said p ≡ Ok a) × Answers a new found)
+  pub says : Says new found
   pub version : new.version ≡ found.actual_protocol
   pub failures : new.failures ≡ old.failures
   pub left : new.left ≤ old.left
@@ -111,6 +140,18 @@ abbrev pub IsFromDevice : Reading → Reading → Error → Type 0
 IsFromDevice old new (Io kind) = Rose old.failures new.failures
 IsFromDevice old new Memory = new.failures ≡ old.failures
 IsFromDevice old new _ = ⊥
+
+-- an error that what was said brings: the stream's end or another refusal of it, another version, or a first ref line without a NUL
+abbrev pub IsOfSaid : Error → Type 0
+IsOfSaid (Io kind) = kind ≡ UnexpectedEof
+IsOfSaid (Read e) = IsLasting (refusal_of e)
+IsOfSaid (UnsupportedProtocolVersion text) = ⊤
+IsOfSaid MissingDelimitingNullByte = ⊤
+IsOfSaid _ = ⊥
+
+-- such an error counts no failure, and any other one is of a failed read or write, or of an allocation
+abbrev pub IsCaused : Reading → Reading → Error → Type 0
+IsCaused old new e = (IsOfSaid e × (new.failures ≡ old.failures)) ⊎ IsFromDevice old new e
 
 -- pieces behind these lines
 abbrev pub behind_lines : List (List ℕ) → Pieces → Pieces
@@ -156,6 +197,7 @@ Stands texts old new _ = ⊥
 -- the first refusal of what was said, or that of a failed read or write, or of an allocation
 pub record FailsAdvertisement (said : Pieces → Result Advertised ClientRefusal) (takes : Protocol → List (List ℕ) → Type 0) (old new : Reading) (e : Error) : Type 0 where
   pub why : (IfSome old.to_come (λ p. said p ≡ Err (client_refusal e)) × (new.failures ≡ old.failures)) ⊎ IsFromDevice old new e
+  pub caused : IsCaused old new e
   pub taken : List (List ℕ)
   pub by_version : takes new.version taken
   pub stands : Stands taken old new e

@@ -54,12 +54,12 @@ fn unsupported(alloc: Global, line: &[u8]) -> Error
 
 // A stop in place of the first ref line.
 fn empty_advertisement(alloc: Global, version: Protocol) -> SetServiceResponse
-    ensures { result ≡ record { actual_protocol = version; capabilities = []; refs_follow = true } }
+    ensures { result ≡ record { actual_protocol = version; capabilities = []; has_refs = true } }
 {
     SetServiceResponse {
         actual_protocol: version,
         capabilities: Capabilities::empty(alloc),
-        refs_follow: true,
+        has_refs: true,
     }
 }
 
@@ -145,7 +145,7 @@ fn cut_ref_line<R: Read>(
             Ok(SetServiceResponse {
                 actual_protocol: version,
                 capabilities,
-                refs_follow: true,
+                has_refs: true,
             })
         }
         Err(e) => Err(e),
@@ -169,7 +169,7 @@ fn capability_lines<R: Read>(
                 return Ok(SetServiceResponse {
                     actual_protocol: Protocol::V2,
                     capabilities,
-                    refs_follow: false,
+                    has_refs: false,
                 });
             }
             Err(e) => return Err(Error::from(e)),

@@ -1,12 +1,47 @@
 //! The messages of a command of version 2.
-ghost use Rattle.std.specs.Prelude.{◌≡◌, [], ◌∷◌, ◌++◌, map, OnOk, IfOk, string_bytes};
+ghost use Rattle.std.specs.Prelude.{◌≡◌, [], ◌∷◌, ◌++◌, codes, map, OnOk, IfOk, string_bytes};
+ghost use Rattle.std.specs.List.{list_all};
 ghost use Rattle.std.specs.Option.{option_map};
 ghost use Rattle.bstr.specs.Owned.{bstring_bytes};
-ghost use Rattle.gixp_wire.specs.Message.{text, message_value, feature_line, feature_lines, command_lines, argument_values, flush};
+ghost use Rattle.gixp_wire.specs.Message.{text, fits, message_value, feature_line, feature_lines, command_lines, argument_values, command_fits, flush};
 
-use crate::message::{Feature, Message};
+use crate::message::{Feature, MAX_LINE, Message, lines_fit};
 use bstr::BString;
 use std::alloc::{AllocError, Global};
+
+// Whether the line of a command's name can be sent.
+fn name_fits(command: &str) -> bool
+    ensures { result ≡ fits (codes "command=" ++ command.now) }
+{
+    command.len() <= MAX_LINE - 8
+}
+
+// Whether a feature's line can be sent.
+fn feature_fits(name: &str, value: &Option<String>) -> bool
+    ensures { result ≡ fits (feature_line name.now (option_map string_bytes value.now)) }
+{
+    match value {
+        Some(value) => name.len() < MAX_LINE && value.len() < MAX_LINE - name.len(),
+        None => name.len() <= MAX_LINE,
+    }
+}
+
+// Whether each feature's line can be sent.
+fn features_fit(features: &[Feature]) -> bool
+    ensures { result ≡ list_all (λ f. fits (feature_line f.0.now (option_map string_bytes f.1))) features.now }
+{
+    features
+        .iter()
+        .all(|feature| feature_fits(feature.0, &feature.1))
+}
+
+/// Whether each line of a command with its features and arguments can be sent.
+#[tactic(auto, using(crate::proofs::CommandLemmas::command_fits_parts))]
+pub(crate) fn command_fits(command: &str, features: &[Feature], arguments: &[BString]) -> bool
+    ensures { result ≡ command_fits command.now (feature_lines features.now) (map bstring_bytes arguments.now) }
+{
+    name_fits(command) && features_fit(features) && lines_fit(arguments)
+}
 
 // A feature as a line.
 fn feature_line(alloc: Global, name: &str, value: &Option<String>) -> Result<BString, AllocError>

@@ -10,7 +10,7 @@ ghost use Rattle.gixp_wire.specs.Transport.{Writes, EndsBy, IsBroken};
 
 use crate::advertisement::advertisement;
 use crate::frame_text;
-use crate::greeting::{MAX_PAYLOAD, greeting};
+use crate::greeting::{greeting, greeting_fits};
 use crate::service::{Account, Opening, Service, SetServiceResponse};
 use crate::transport::Transport;
 use bstr::{BStr, BString};
@@ -156,10 +156,10 @@ impl<R: Read, W: Write> Connection<R, W> {
         let Some(opening) = &self.opening else {
             return self.go_on();
         };
-        let payload = greeting(alloc, opening, service, self.version, extra_parameters)?;
-        if payload.len() > MAX_PAYLOAD {
+        if !greeting_fits(opening, service, self.version, extra_parameters) {
             return Err(Error::LineTooLong);
         }
+        let payload = greeting(alloc, opening, service, self.version, extra_parameters)?;
         self.write_payload(&payload)?;
         self.go_on()
     }

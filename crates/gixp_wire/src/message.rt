@@ -49,8 +49,8 @@ fn all_fit(messages: &[Message<'_>]) -> bool
     messages.iter().all(|message| message.fits())
 }
 
-// Whether each line can be sent.
-fn lines_fit(lines: &[BString]) -> bool
+/// Whether each line can be sent.
+pub(crate) fn lines_fit(lines: &[BString]) -> bool
     ensures { result ≡ lines_fit lines.now }
 {
     lines.iter().all(|line| fits_line(line.as_bytes()))

@@ -53,5 +53,5 @@ pub struct SetServiceResponse {
     /// What it says that it can do.
     pub capabilities: Capabilities,
     /// Whether its refs are the lines that its reader gives next, as under versions 0 and 1.
-    pub refs_follow: bool,
+    pub has_refs: bool,
 }

@@ -9,7 +9,7 @@ ghost use Rattle.gixp_packetline.specs.FrameText.{frame_text, message_text, text
 ghost use Rattle.gixp_wire.specs.Message.{line_frame, message_frame, message_fits, request_frames, all_fit, line_frames, lines_fit, lined_frames, lined_fit, feature_lines, command_frames, command_fits};
 ghost use Rattle.gixp_wire.specs.Transport.{Begins, Writes, WritesAll, Ends, Sends};
 
-use crate::command::{command_lines, command_messages};
+use crate::command::{command_fits, command_lines, command_messages};
 use crate::message::{Feature, MAX_LINE, Message, lined_fit};
 use crate::service::{Account, Service, SetServiceResponse};
 use bstr::{BStr, BString};
@@ -53,7 +53,7 @@ pub trait Transport: ExtendedBufRead {
     /// # Errors
     ///
     /// `LineTooLong` where what is to be written first doesn't fit into a frame, before anything is
-    /// written. `Io` where a write or read failed, an earlier write failed, the stream ended
+    /// written or allocated. `Io` where a write or read failed, an earlier write failed, the stream ended
     /// (`UnexpectedEof`), or the answer is one that fails. `Read` where the reader is refused
     /// otherwise. `UnsupportedProtocolVersion` for a version other than 1 and 2.
     /// `MissingDelimitingNullByte` where the first ref line has no NUL. `Memory`. After
@@ -222,7 +222,11 @@ pub trait Transport: ExtendedBufRead {
         ensures sends { Sends (Self.reading self.old) (Self.reading self.new)
             (command_fits command.now (feature_lines features.now) (map bstring_bytes arguments.now))
             (texts_of (command_frames command.now (feature_lines features.now) (map bstring_bytes arguments.now))) result }
+        ensures fit { result ≡ Err Memory → command_fits command.now (feature_lines features.now) (map bstring_bytes arguments.now) ≡ true }
     {
+        if !command_fits(command, features, arguments) {
+            return Err(Error::LineTooLong);
+        }
         let lines = command_lines(alloc, command, features)?;
         let messages = command_messages(alloc, &lines, arguments)?;
         self.request(&messages)

@@ -1,5 +1,6 @@
 //! Which commits both sides have, round by round.
 pub use gixp_fetch::again::NamesCommons;
+pub use gixp_fetch::mapped::NegotiatesMap;
 pub use gixp_graph::{
     CommitData, Flags, Graph, Negotiator, NegotiatorError, ObjectError, ObjectKind, Objects,
     RefStore, RefStoreError,
@@ -10,3 +11,4 @@ pub use gixp_negotiate::negotiate::negotiation::{NegotiateContext, Negotiation, 
 pub use gixp_negotiate::negotiate::plain::{HaveList, NoObjects, NoRefs};
 pub use gixp_negotiate::negotiate::wants::add_wants;
 pub use gixp_negotiate::negotiate::{Action, Error, Negotiate, Round, one_round};
+pub use gixp_negotiators::{Algorithm, AnyNegotiator, Consecutive, Noop, Skipping};

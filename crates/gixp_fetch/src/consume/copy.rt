@@ -1,10 +1,11 @@
 //! Consumers that are at hand.
-ghost use Rattle.std.specs.Prelude.{None};
-ghost use Rattle.gixp_fetch.specs.Consume.{Copies, copies_owes};
+ghost use Rattle.gixp_fetch.specs.Consume.{Copies, copies_owes, PassesOver, passes_over_owes};
 
 use crate::consume::ConsumePack;
+use crate::remote_text::WithSidebands;
 use gixp_packetline::ExtendedBufRead;
-use gixp_sidebands::{BandText, Interrupt, WithSidebands};
+use gixp_sidebands::Interrupt;
+use gixp_wire::Progress;
 use std::io::{BufRead, ErrorKind, Write};
 use thiserror::Error as DeriveError;
 
@@ -32,7 +33,7 @@ impl<W: Write, P> ConsumePack<P> for CopyPack<W> {
 
     ghost consumes = { λ c s p r d t q. Copies (W.contents c.writer) s r (W.contents d.writer) t };
 
-    fn consume_pack<T: ExtendedBufRead, Q: BandText + Drop, I: Interrupt>(
+    fn consume_pack<T: ExtendedBufRead, Q: Progress + Drop, I: Interrupt>(
         &mut self,
         reader: &mut WithSidebands<'_, T, Q, I>,
         _progress: &mut P,
@@ -63,9 +64,9 @@ pub struct ReadToEnd;
 impl<P> ConsumePack<P> for ReadToEnd {
     type Error = CopyError;
 
-    ghost consumes = { λ c s p r d t q. Copies None s r None t };
+    ghost consumes = { λ c s p r d t q. PassesOver s r t };
 
-    fn consume_pack<T: ExtendedBufRead, Q: BandText + Drop, I: Interrupt>(
+    fn consume_pack<T: ExtendedBufRead, Q: Progress + Drop, I: Interrupt>(
         &mut self,
         reader: &mut WithSidebands<'_, T, Q, I>,
         _progress: &mut P,
@@ -81,5 +82,5 @@ impl<P> ConsumePack<P> for ReadToEnd {
         }
     }
 
-    ghost owes = { λ c s p r d t q h. copies_owes None None s t r h };
+    ghost owes = { λ c s p r d t q h. passes_over_owes s t r h };
 }

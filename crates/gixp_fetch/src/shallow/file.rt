@@ -1,7 +1,7 @@
 //! A shallow boundary in a file.
 ghost use Rattle.std.specs.Prelude.{◌≡◌, ◌++◌, codes, true, false, IfOk, IfErr, OnOk, string_bytes};
-ghost use Rattle.gixp_fetch.specs.Store.{HasFailed, IsStoreRefusal};
-ghost use Rattle.gixp_fetch.specs.ShallowFile.{IsKept, Turns};
+ghost use Rattle.gixp_fetch.specs.Store.{HasFailed, to_lock, to_read};
+ghost use Rattle.gixp_fetch.specs.ShallowFile.{IsKept, Turns, RefusesInFile, RefusesAlone, is_left};
 
 use crate::shallow::{ShallowError, ShallowStore, shallow_ids, shallow_text};
 use gixp_hash::ObjectId;
@@ -54,6 +54,7 @@ impl<'a, F: Files> ShallowFile<'a, F> {
         ensures path { IfOk result (λ file. string_bytes file.path ≡ path.now) }
         ensures lock { IfOk result (λ file. string_bytes file.lock_path ≡ path.now ++ codes ".lock") }
         ensures held { IfOk result (λ file. file.held ≡ false) }
+        ensures failures { IfOk result (λ file. file.failures ≡ 0) }
     {
         let path_text = String::from_str(alloc, path)?;
         let lock_path = lock_path_of(alloc, path)?;
@@ -84,9 +85,10 @@ impl<'a, F: Files> ShallowFile<'a, F> {
     }
 
     // Gets the lock.
+    #[tactic(auto, using(crate::proofs::FileLemmas::lock_refused))]
     fn take_lock(&mut self) -> Result<(), ShallowError>
         ensures locked { OnOk result (Turns true self.old self.new) }
-        ensures refused { IfErr result (IsStoreRefusal self.old.failures self.new.failures) }
+        ensures refused { IfErr result (λ e. RefusesInFile to_lock self.old e self.new) }
     {
         match self.make_lock() {
             Ok(()) => {
@@ -152,9 +154,7 @@ impl<'a, F: Files> ShallowFile<'a, F> {
 
     // What a failed call of the system is told as.
     fn refusal(&mut self, kind: ErrorKind) -> ShallowError
-        ensures refused { IsStoreRefusal self.old.failures self.new.failures result }
-        ensures kept { IsKept self.old self.new }
-        ensures held { self.new.held ≡ self.old.held }
+        ensures refused { RefusesInFile to_read self.old result self.new }
     {
         match kind {
             ErrorKind::OutOfMemory => ShallowError::Memory,
@@ -167,15 +167,39 @@ impl<'a, F: Files> ShallowFile<'a, F> {
 
     // Writes the boundary where the lock is had.
     fn write_locked(&mut self, boundary: &[ObjectId]) -> Result<(), ShallowError>
-        ensures refused { IfErr result (IsStoreRefusal self.old.failures self.new.failures) }
-        ensures kept { IsKept self.old self.new }
+        requires { self.old.held ≡ true }
+        ensures written { OnOk result (Turns (is_left boundary.now) self.old self.new) }
+        ensures refused { IfErr result (λ e. RefusesInFile to_read self.old e self.new) }
     {
-        if boundary.is_empty() {
-            return match self.remove() {
+        match boundary {
+            [] => match self.remove() {
                 Ok(()) => Ok(()),
                 Err(e) => Err(self.refusal(e.kind())),
-            };
+            },
+            [_, ..] => self.write_text(boundary),
         }
+    }
+
+    // The same, and gives the lock back.
+    #[tactic(auto, using(crate::proofs::FileLemmas::alone_refused, crate::proofs::FileLemmas::alone_written))]
+    fn write_alone(&mut self, boundary: &[ObjectId]) -> Result<(), ShallowError>
+        requires { self.old.held ≡ true }
+        ensures written { OnOk result (Turns false self.old self.new) }
+        ensures refused { IfErr result (λ e. RefusesAlone self.old e self.new) }
+    {
+        let result = self.write_locked(boundary);
+        self.drop_lock();
+        match result {
+            Ok(()) => Ok(()),
+            Err(e) => Err(e),
+        }
+    }
+
+    // Writes the text of the boundary into the lock file, which then takes the place of the file.
+    fn write_text(&mut self, boundary: &[ObjectId]) -> Result<(), ShallowError>
+        ensures written { OnOk result (Turns false self.old self.new) }
+        ensures refused { IfErr result (λ e. RefusesInFile to_read self.old e self.new) }
+    {
         let text = match shallow_text(self.alloc, boundary) {
             Ok(text) => text,
             Err(_) => return Err(ShallowError::Memory),
@@ -194,15 +218,17 @@ impl<'a, F: Files> ShallowStore for ShallowFile<'a, F> {
     ghost use Rattle.std.specs.Prelude.{◌≡◌, true, false};
     ghost use Rattle.std.specs.List.Sorted.{IsStrictlySortedBy};
     ghost use Rattle.gixp_hash.specs.ObjectId.{id_cmp};
-    ghost use Rattle.gixp_fetch.specs.ShallowFile.{IsKept, Turns};
+    ghost use Rattle.gixp_fetch.specs.ShallowFile.{IsKept, Turns, RefusesInFile, is_left_of};
 
-    ghost failures = { λ s. s.failures };
+    ghost failures = { λ call s e t. RefusesInFile call s e t };
+
+    ghost count = { λ s. s.failures };
 
     ghost locks = { λ s t. Turns true s t };
 
-    ghost reads = { λ s ids t. IsStrictlySortedBy id_cmp ids × (t.held ≡ s.held) × IsKept s t };
+    ghost reads = { λ s ids t. IsStrictlySortedBy id_cmp ids × Turns s.held s t };
 
-    ghost writes = { λ s ids t. IsKept s t };
+    ghost writes = { λ s ids t. Turns (is_left_of s.held ids) s t };
 
     ghost releases = { λ s t. Turns false s t };
 
@@ -210,6 +236,7 @@ impl<'a, F: Files> ShallowStore for ShallowFile<'a, F> {
         self.take_lock()
     }
 
+    #[tactic(auto, using(crate::proofs::FileLemmas::not_locked))]
     fn read(&mut self, alloc: Global) -> Result<Vec<ObjectId>, ShallowError> {
         let text = match self.load(alloc) {
             Ok(text) => text,
@@ -227,17 +254,23 @@ impl<'a, F: Files> ShallowStore for ShallowFile<'a, F> {
         }
     }
 
+    #[tactic(auto, using(crate::proofs::FileLemmas::write_had, crate::proofs::FileLemmas::write_refused, crate::proofs::FileLemmas::write_unlocked, crate::proofs::FileLemmas::write_alone_refused, crate::proofs::FileLemmas::write_alone_written))]
     fn write(&mut self, boundary: &[ObjectId]) -> Result<(), ShallowError> {
         if self.held {
-            return self.write_locked(boundary);
+            return match self.write_locked(boundary) {
+                Ok(()) => Ok(()),
+                Err(e) => Err(e),
+            };
         }
-        self.take_lock()?;
-        let result = self.write_locked(boundary);
-        self.drop_lock();
-        result
+        match self.take_lock() {
+            Ok(()) => self.write_alone(boundary),
+            Err(e) => Err(e),
+        }
     }
 
     fn release(&mut self) {
         self.drop_lock();
     }
+
+    ghost counted = { λ call s e t h. h.counted };
 }

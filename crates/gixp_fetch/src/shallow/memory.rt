@@ -1,5 +1,7 @@
 //! A shallow boundary in memory.
 ghost use Rattle.std.specs.Prelude.{◌≡◌, true, false};
+ghost use Rattle.gixp_fetch.specs.Store.{HasFailed};
+ghost use Rattle.gixp_fetch.specs.ShallowMemory.{RefusesInMemory, counted_in_memory};
 
 use crate::shallow::{ShallowError, ShallowStore};
 use gixp_hash::ObjectId;
@@ -18,6 +20,7 @@ impl ShallowMemory {
     pub fn new(ids: Vec<ObjectId>) -> ShallowMemory
         ensures ids { result.ids.items ≡ ids.items }
         ensures locked { result.locked ≡ false }
+        ensures failures { result.failures ≡ 0 }
     {
         ShallowMemory {
             ids,
@@ -39,10 +42,20 @@ impl ShallowMemory {
     {
         self.locked
     }
+
+    // Counts a refused call.
+    fn count_failure(&mut self)
+        ensures counted { HasFailed self.old.failures self.new.failures }
+        ensures kept { self.new ≡ record self.old { failures = self.new.failures } }
+    {
+        self.failures = self.failures.saturating_add(1);
+    }
 }
 
 impl ShallowStore for ShallowMemory {
-    ghost failures = { λ s. s.failures };
+    ghost failures = { λ call s e t. RefusesInMemory call s e t };
+
+    ghost count = { λ s. s.failures };
 
     ghost locks = { λ s t. (s.locked ≡ false) × (t.locked ≡ true) × (t.ids.items ≡ s.ids.items) };
 
@@ -54,7 +67,7 @@ impl ShallowStore for ShallowMemory {
 
     fn lock(&mut self) -> Result<(), ShallowError> {
         if self.locked {
-            self.failures = self.failures.saturating_add(1);
+            self.count_failure();
             return Err(ShallowError::Locked);
         }
         self.locked = true;
@@ -81,4 +94,6 @@ impl ShallowStore for ShallowMemory {
     fn release(&mut self) {
         self.locked = false;
     }
+
+    ghost counted = { λ call s e t h. counted_in_memory call s e t h };
 }

@@ -6,7 +6,7 @@ ghost use Rattle.gixp_refs.specs.Ref.{RefValue, ref_value};
 ghost use Rattle.gixp_refspec.specs.RefSpec.{value_of, owned_value_of};
 ghost use Rattle.gixp_matching.specs.MatchGroup.{mapped_of, mapped_in, name_of, names, source_of};
 ghost use Rattle.gixp_refmap.specs.Mapping.{value_name, value_names, joined_specs, spec_at, spec_place, IsRemote, IsMapping, Maps, HoldsOfAll};
-ghost use Rattle.gixp_refmap.specs.RefMapItems.{HasItem, HasRemote};
+ghost use Rattle.gixp_refmap.specs.RefMapItems.{HasItem, HasRemote, item_value, item_values, item_of};
 
 use crate::refmap::init::Error;
 use crate::refmap::mapping::{Mapping, Source, SpecIndex, copy_of};
@@ -44,7 +44,8 @@ fn all_specs<'s>(
 
 // A ref, as it is matched.
 fn item<'a>(found: &'a Ref, null: &'a ObjectId) -> Item<'a>
-    ensures { name_of result ≡ value_name (ref_value found.now) }
+    ensures name { name_of result ≡ value_name (ref_value found.now) }
+    ensures value { item_value result ≡ item_of null.now found.now }
 {
     let (full_ref_name, target, object) = found.unpack();
     Item {
@@ -60,7 +61,8 @@ fn items<'a>(
     refs: &'a [Ref],
     null: &'a ObjectId,
 ) -> Result<Vec<Item<'a>>, AllocError>
-    ensures { IfOk result (λ items. names items.items ≡ value_names (map ref_value refs.now)) }
+    ensures names { IfOk result (λ items. names items.items ≡ value_names (map ref_value refs.now)) }
+    ensures values { IfOk result (λ items. item_values items.items ≡ map (item_of null.now) refs.now) }
 {
     let mut items = Vec::new(alloc);
     'refs: for found in refs {

@@ -1,11 +1,20 @@
-use Rattle.gixp_fetch.proofs.HeadlineLemmas.{answers_refused, refs_refused, advertisements_refused, promised}
+use Rattle.gixp_fetch.proofs.HeadlineLemmas.{answers_refused, refs_refused, advertisements_refused, words_said, handshakes_refused, maps_are_of_all, promised}
 use Rattle.gixp_fetch.proofs.laws.headline.Goals as goal
 
 pub returns : goal.returns
 returns g c = record {
-  frames = λ bytes r f. (f.to_come, c.frames_are_grammar.ensures bytes, λ frames end h. c.no_other_frames_are.ensures bytes frames end h);
+  frames = record {
+    connections = λ bytes holds at asked versions opening r h. h.to_come;
+    bodies = λ given at versions b h. h.answers;
+    readers = λ bytes r f. f.to_come;
+    grammar = λ bytes. c.frames_are_grammar.ensures bytes;
+    no_others = λ bytes frames end h. c.no_other_frames_are.ensures bytes frames end h;
+  };
+  capabilities = words_said;
+  refused_handshakes = handshakes_refused;
   refused_answers = answers_refused;
   refused_refs = refs_refused;
   refused_advertisements = advertisements_refused;
-  run = λ plain call context start made old result new progress run. promised _ g.met.N.PaysForHaves.lawful g.met.N.PaysForHaves.wide call context start made old result new progress run;
+  maps = maps_are_of_all;
+  run = λ plain call context start made old result new progress run. promised _ _ _ g.met.N.NegotiatesMap.follows g.met.N.PaysForHaves.lawful g.met.N.PaysForHaves.wide call context start made old result new progress run;
 }

@@ -54,6 +54,7 @@ loop-time-init g c =
     let fits : SFits w64 c.in-Some.cutoff = search rules in
     record {
       same = c.visit_each.ensures.contents;
+      refusals = c.in_ok-visit_each.ensures.unrefused;
       failures = c.visit_each.ensures.failures;
       cut = c.in-Some.is ∙ ap (λ (z : ℤ). Some z) (sym (to_z-of_z w64 c.in-Some.cutoff fits));
       visited_named = c.in_ok-visit_each.ensures.visited_named;
@@ -159,6 +160,7 @@ loop-time-preserved g c =
     let each = c.in_ok-visit_each-2.ensures.each in
     record {
       same = e.contents ∙ v.same;
+      refusals = c.in_ok-visit_each-2.ensures.unrefused ∙ v.refusals;
       failures = omega arith;
       cut = v.cut;
       visited_named = c.in_ok-visit_each-2.ensures.visited_named;

@@ -12,6 +12,7 @@ invariant-loop-time g l =
     let start : GraphData = graph_of (g.O.Objects.contents l.fn.objects) l.fn.commits.held in
     record {
       same : g.O.Objects.contents l.objects ≡ g.O.Objects.contents l.fn.objects;
+      refusals : g.O.Objects.refusals l.objects ≡ g.O.Objects.refusals l.fn.objects;
       failures : g.O.Objects.failures l.fn.objects ≤ g.O.Objects.failures l.objects;
       cut : l.fn.cutoff ≡ Some l.cutoff;
       visited_named : AllVisitedNamed l.commits.ids l.visited;

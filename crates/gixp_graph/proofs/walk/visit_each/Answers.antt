@@ -48,6 +48,7 @@ returns-in_err-visit-clause-asked_some g c =
 pub loop-number-init : goal.loop-number-init
 loop-number-init g c = record {
   same = refl;
+  refusals = refl;
   failures = omega arith;
   kept = λ n l. (l, refl);
   visited_named = c.requires.visited_named;
@@ -74,6 +75,7 @@ loop-number-preserved g c =
     let visits : Visits objects id mid new = subst (λ i. Visits objects i mid new) name (subst (λ m. Visits m (id_at c.loop-number.commits.ids n) mid new) v.same e.visits) in
     record {
       same = e.contents ∙ v.same;
+      refusals = e.unrefused ∙ v.refusals;
       failures = omega arith;
       kept = kept_trans ids c.loop-number.commits.ids c.visit.new.commits.ids v.kept e.kept;
       visited_named = e.visited_named;

@@ -10,6 +10,7 @@ use Rattle.gixp_graph.proofs.walk.visit_each.Given as goal
 abbrev pub invariant-loop-number : goal.invariant-loop-number
 invariant-loop-number g l = record {
   same : g.O.Objects.contents l.objects ≡ g.O.Objects.contents l.fn.objects;
+  refusals : g.O.Objects.refusals l.objects ≡ g.O.Objects.refusals l.fn.objects;
   failures : g.O.Objects.failures l.fn.objects ≤ g.O.Objects.failures l.objects;
   kept : KeepsNumbers l.fn.commits.ids l.commits.ids;
   visited_named : AllVisitedNamed l.commits.ids l.visited;

@@ -131,7 +131,6 @@ impl IsSpuriousError for Error {
         match self {
             Error::Io(kind) => kind.is_spurious(),
             Error::Transport(e) => e.is_spurious(),
-            Error::Reader(e) => e.is_spurious(),
             _ => false,
         }
     }

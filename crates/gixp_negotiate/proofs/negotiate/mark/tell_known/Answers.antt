@@ -18,4 +18,4 @@ loop-id-preserved g c = record {
 }
 
 pub returns-in_err-known_common-clause-stopped : goal.returns-in_err-known_common-clause-stopped
-returns-in_err-known_common-clause-stopped g c = let p = err_from_is_err_and c.from_residual.result c.from_residual.ensures.1 in rw p.1 (calls_some g.N.Negotiator.knows c.args.ids.now c.loop-id.id-index (record { bytes = [] }) c.args.negotiator.now c.args.graph.now.graph c.loop-id.negotiator c.loop-id.graph.graph c.loop-id-test.true c.loop-id.invariant.run)
+returns-in_err-known_common-clause-stopped g c = let p = err_from_is_err_and c.from_residual.result c.from_residual.ensures.1 in rw (p.1, p.2) (calls_some g.N.Negotiator.knows g.N.Negotiator.knowing_fails c.args.ids.now c.loop-id.id-index (record { bytes = [] }) c.args.negotiator.now c.args.graph.now.graph c.loop-id.negotiator c.loop-id.graph.graph _ c.known_common.new.self c.known_common.new.graph.graph c.loop-id-test.true c.loop-id.invariant.run c.in_err-known_common.ensures.fails)

@@ -2,8 +2,11 @@ use Rattle.std.proofs.Common.{sym, ap, ◌∙◌, inl, inr, arith, subst, ℕ, L
 use Rattle.gixp_packetline.specs.Pieces.{is_error, server, error_message, Refusal}
 use Rattle.gixp_packetline.specs.Reading.{Fails, refusal_of}
 use Rattle.gixp_packetline.specs.Packets.{packets_reading}
+use Rattle.gixp_packetline.specs.Window.{Shown}
 use Rattle.gixp_packetline.specs.declared.packet.Head.TheVariants.{Data}
 use Rattle.gixp_packetline.proofs.AdvanceLemmas.{payload_is, front_fits, takes_line, takes_stop, refuses_bad, refuses_error, refuses_frame, faults_memory, fails_settling, plain_error}
+use Rattle.gixp_packetline.proofs.FillLemmas.{line_spent}
+use Rattle.gixp_packetline.specs.Packets.{reads_and_bytes}
 use Rattle.gixp_packetline.proofs.packets.Packets.advance.Goals as goal
 
 pub returns-in-Err-clause-reads : goal.returns-in-Err-clause-reads
@@ -65,3 +68,12 @@ returns-then-is_server_error-clause-plain g c =
     let wrong = ap is_error (sym text) ∙ sym c.if-is_server_error.ensures in
     let said = rw text at c.server_error.ensures in
     λ _. plain_error g.R.Read.remaining c.args.self.now mid size c.server_error.result h c.requires wrong said
+
+pub returns-else-is_server_error-clause-spends : goal.returns-else-is_server_error-clause-spends
+returns-else-is_server_error-clause-spends g c =
+    let h = rw c.in-Ok-Data.field-0-is at c.in-Ok-Data.ensures in
+    let size = c.in-Ok-Data.size in
+    let mid = c.settle.new.self in
+    let fits = front_fits mid.window.pending (Data size) (sym h.front) in
+    line_spent size mid.reads_left (reads_and_bytes c.args.self.now) mid.window.pending c.take_line.new.self.pending c.take_line.new.self.lent
+    (omega (arith, fits.0)) (omega (arith, fits.1)) (ap (λ (w : Shown). w.lent) c.take_line.ensures) (ap (λ (w : Shown). w.pending) c.take_line.ensures) h.reads

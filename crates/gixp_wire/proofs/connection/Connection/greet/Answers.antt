@@ -1,10 +1,10 @@
-use Rattle.std.proofs.Common.{◌≡◌, ◌≤◌, ℕ, List, length, true, nat_le, Option, Err, refl, sym, subst, ◌∙◌, rules}
+use Rattle.std.proofs.Common.{◌≡◌, ◌≤◌, ℕ, List, length, true, nat_le, Option, Some, Err, refl, sym, subst, ◌∙◌, rules}
 use Rattle.std.specs.Option.{option_map}
 use Rattle.std.proofs.lemmas.Bool.{le-leb}
 use Rattle.std.proofs.lemmas.Result.{err_from_is_err_and}
 use Rattle.gixp_wire.specs.declared.service.Opening.{Opening}
 use Rattle.gixp_packetline.specs.FrameText.{payload_text}
-use Rattle.gixp_wire.specs.Greeting.{parameters_of, greeting_text}
+use Rattle.gixp_wire.specs.Greeting.{parameters_of, greeting_text, greeting_fits}
 use Rattle.gixp_wire.specs.Handshake.{GreetsBy}
 use Rattle.gixp_wire.specs.Connection.{greeting_of, connection_reading}
 use Rattle.gixp_wire.specs.Transport.{Wrote}
@@ -25,9 +25,7 @@ returns-in_err-write_payload g c =
     let old = connection_reading g.R.Read.remaining g.W.Write.contents c.args.self.now in
     let new = connection_reading g.R.Read.remaining g.W.Write.contents c.write_payload.new.self in
     let said = greeting_of c.args.self.now.version c.in-Some.opening in
-    let within : length c.deref.result.now ≤ 65516 = search rules in
-    let fit : nat_le (length (greeting_text said c.args.service ps)) 65516 ≡ true =
-    le-leb _ _ (rw (c.deref.ensures.value, c.in_ok-payload.ensures) at within) in
+    let fit : greeting_fits (Some said) c.args.service ps ≡ true = sym c.if-not-greeting_fits.ensures in
     let p = err_from_is_err_and c.from_residual-in_err-write_payload.result c.from_residual-in_err-write_payload.ensures.1 in
     let P : Option Opening → Type 0 = λ o. GreetsBy (option_map (greeting_of c.args.self.now.version) o) c.args.service ps old new (Err c.in_err-write_payload.field-0.0) in
     rw (p.1, p.2) (subst P (sym c.in-Some.is) (greets-refused said c.args.service ps old new (payload_text c.deref.result.now) c.in_err-write_payload.field-0.0 refl fit c.in_err-write_payload.ensures))
@@ -40,8 +38,7 @@ returns g c =
     let new = connection_reading g.R.Read.remaining g.W.Write.contents c.go_on-2.new.self in
     let said = greeting_of c.args.self.now.version c.in-Some.opening in
     let text : c.deref.result.now ≡ greeting_text said c.args.service ps = c.deref.ensures.value ∙ c.in_ok-payload.ensures in
-    let within : length c.deref.result.now ≤ 65516 = search rules in
-    let fit : nat_le (length (greeting_text said c.args.service ps)) 65516 ≡ true = le-leb _ _ (rw text at within) in
+    let fit : greeting_fits (Some said) c.args.service ps ≡ true = sym c.if-not-greeting_fits.ensures in
     let Q : List ℕ → Type 0 = λ t. Wrote old mid (payload_text t) in
     let P : Option Opening → Type 0 = λ o. GreetsBy (option_map (greeting_of c.args.self.now.version) o) c.args.service ps old new c.go_on-2.result in
     subst P (sym c.in-Some.is) (greets-some said c.args.service ps old mid new c.go_on-2.result fit (subst Q text c.in_ok-write_payload.ensures) c.go_on-2.ensures)

@@ -16,7 +16,7 @@ pieces-preserved g c =
     c.in-Ok.ensures.bytes
 
 pub returns-in-Err : goal.returns-in-Err
-returns-in-Err g c = copied_refused _ _ _ _ _ c.pieces.invariant.0 c.in-Err.e c.pieces.invariant.1 c.in-Err.ensures.fills
+returns-in-Err g c = copied_refused _ _ _ _ _ c.pieces.invariant.0 c.in-Err.e _ c.kind.ensures c.pieces.invariant.1 c.in-Err.ensures.fills
 
 pub returns-in-Err-write_all : goal.returns-in-Err-write_all
 returns-in-Err-write_all g c = copied_unwritten _ _ _ _ _ c.pieces.invariant.0 c.pieces.invariant.1 (rw c.in-Ok-true.field-0-test at c.in-Ok-true.ensures.fills)

@@ -15,4 +15,4 @@ pieces-preserved g c =
     passed_piece _ _ _ _ _ (rw c.in-Ok-true.field-0-test at c.in-Ok-true.ensures.fills) c.consume.ensures.content c.buffer-count.ensures refl _ _ c.pieces.invariant.1
 
 pub returns-in-Err : goal.returns-in-Err
-returns-in-Err g c = copied_refused _ _ _ _ _ c.pieces.invariant.0 c.in-Err.e c.pieces.invariant.1 c.in-Err.ensures.fills
+returns-in-Err g c = copied_refused _ _ _ _ _ c.pieces.invariant.0 c.in-Err.e _ c.kind.ensures c.pieces.invariant.1 c.in-Err.ensures.fills

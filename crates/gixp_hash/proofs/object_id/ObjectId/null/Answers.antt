@@ -1,5 +1,0 @@
-use Rattle.std.proofs.Common.{rules}
-use Rattle.gixp_hash.proofs.object_id.ObjectId.null.Goals as goal
-
-pub returns : goal.returns
-returns c = search rules

@@ -1,0 +1,60 @@
+-- Which stores of refs were listed, by what they wrote down.
+use Rattle.std.specs.Prelude.{◌≡◌, ◌⊎◌, ℕ, zero, suc, List, [], ◌∷◌, length, Option, Some, None, Result, Ok, Err}
+use Rattle.std.specs.Borrow.{MutBor}
+use Rattle.gixp_graph.specs.Refusals.{Written, writing}
+use Rattle.gixp_graph.specs.declared.refs.RefStoreError.{RefStoreError}
+use Rattle.gixp_negotiate.specs.declared.negotiate.Error.{Error}
+use Rattle.gixp_negotiate.specs.declared.negotiate.Error.TheVariants.{AlternateRefsAndObjects, Memory}
+use Rattle.gixp_negotiate.specs.Negotiate.{ActionValue, no_change, skip, negotiate}
+use Rattle.gixp_negotiate.specs.NegotiateError.{from_refs}
+
+-- what a store wrote down of its listings
+abbrev pub Listings : Type 0 → Type 0
+Listings R = R → Written (Option RefStoreError)
+
+module _ {R : Type 0} (listings : Listings R) where
+  -- it listed its refs
+  abbrev pub Listed : R → R → Type 0
+  Listed old new = listings new ≡ writing (listings old) None
+
+  -- it refused to, and that is told
+  abbrev pub RefusesToList : {A : Type 0} → R → R → Error A → Type 0
+  RefusesToList old new e = (x : RefStoreError) × (e ≡ from_refs x) × (listings new ≡ writing (listings old) (Some x))
+
+  -- the first of some stores were listed, and the others are as they were
+  abbrev pub ListsFront : ℕ → List R → List R → Type 0
+  ListsFront zero old new = new ≡ old
+  ListsFront (suc k) (a ∷ old) (b ∷ new) = Listed a b × ListsFront k old new
+  ListsFront (suc k) _ _ = ⊥
+
+  -- the one behind the first was refused, or what it listed couldn't be kept; those behind it are as they were
+  abbrev pub ListsUpTo : {A : Type 0} → ℕ → List R → List R → Error A → Type 0
+  ListsUpTo zero (a ∷ old) (b ∷ new) e = (RefusesToList a b e ⊎ (Listed a b × (e ≡ Memory))) × (new ≡ old)
+  ListsUpTo (suc k) (a ∷ old) (b ∷ new) e = Listed a b × ListsUpTo k old new e
+  ListsUpTo _ _ _ e = ⊥
+
+-- the repositories that lend objects, or why they can't be opened
+abbrev pub Lent : Type 0 → Type 0 → Type 0
+Lent R A = Result (List R) A
+
+abbrev pub lent_value : {R A : Type 0} → Result (MutBor (List R)) A → Lent R A
+lent_value (Ok stores) = Ok stores.now
+lent_value (Err a) = Err a
+
+module _ {R A : Type 0} (listings : Listings R) where
+  -- all of them were listed
+  abbrev pub ListsLent : Lent R A → Lent R A → Type 0
+  ListsLent (Ok old) (Ok new) = ListsFront listings (length old) old new
+  ListsLent _ _ = ⊥
+
+  -- one of them wasn't, or they can't be opened, in which case none are left
+  abbrev pub RefusesLent : Lent R A → Lent R A → Error A → Type 0
+  RefusesLent (Ok old) (Ok new) e = (k : ℕ) × ListsUpTo listings k old new e
+  RefusesLent (Err a) (Ok new) e = (e ≡ AlternateRefsAndObjects a) × (new ≡ [])
+  RefusesLent _ (Err a) e = ⊥
+
+  -- the refs of a repository and of those that lend to it are listed where something is to be negotiated, and else untouched
+  abbrev pub ListsBy : ActionValue → R → Lent R A → R → Lent R A → Type 0
+  ListsBy (negotiate known) refs lent refs' lent' = Listed listings refs refs' × ListsLent lent lent'
+  ListsBy no_change refs lent refs' lent' = (refs' ≡ refs) × (lent' ≡ lent)
+  ListsBy skip refs lent refs' lent' = (refs' ≡ refs) × (lent' ≡ lent)

@@ -1,0 +1,21 @@
+//! Equality and order of refs.
+ghost use Rattle.std.specs.Prelude.{◌≡◌, ◌↔◌, IsTrue};
+ghost use Rattle.gixp_refs.specs.Ref.{ref_value};
+ghost use Rattle.gixp_refs.specs.Order.{ref_cmp};
+
+use crate::handshake::Ref;
+use std::cmp::Ordering;
+
+/// Two refs are equal exactly where they are one value.
+fn is_same_ref(one: &Ref, other: &Ref) -> bool
+    ensures { IsTrue result ↔ (ref_value one.now ≡ ref_value other.now) }
+{
+    one == other
+}
+
+/// Refs are ordered by their kinds, their names, and then what they name.
+fn order_of_refs(first: &Ref, second: &Ref) -> Ordering
+    ensures { result ≡ ref_cmp (ref_value first.now) (ref_value second.now) }
+{
+    first.cmp(second)
+}
