@@ -15,8 +15,8 @@ import tempfile
 
 HERE = pathlib.Path(__file__).resolve().parent
 TOP = HERE.parent.parent
-BELOW = "hash packetline capabilities wire response refs requests graph refspec matching refmap negotiate memory"
-PROGRAM = "negotiate_bench: gixp_hash gixp_refs gixp_graph gixp_refmap gixp_negotiate gixp_memory bstr anyhow\n"
+BELOW = "hash packetline capabilities wire response refs requests graph refspec matching progress refmap negotiate memory doubles"
+PROGRAM = "negotiate_bench: gixp_hash gixp_refs gixp_graph gixp_refmap gixp_negotiate gixp_memory gixp_doubles bstr anyhow\n"
 
 
 def built(work):
