@@ -53,9 +53,9 @@ CHANGES = {
         ("a round is refused, and others are told", "FetchRounds", "++ told_of refused", "++ rounds"),
         ("something was read before the rounds", "Fetch", "reading : new.reading ≡ old.reading", "reading : new.reading ≡ new.reading"),
         ("any refusal after the rounds", "Fetch", "rounds updates reply end → e ≡ Memory", "rounds updates reply end → e ≡ e"),
-        ("any refusal where the lock isn't had", "Session", "at_lock : Unheld store_calls updates reject store locked e store' locked' →", "at_lock : e ≡ e →"),
+        ("any refusal where the lock isn't had", "Session", "at_lock : HoldFails store_calls updates reject store locked e store' locked' →", "at_lock : e ≡ e →"),
         ("any refusal of the pack", "Received", "gives : e ≡ of_pack error", "gives : e ≡ e"),
-        ("any refusal of the boundary", "Session", "reading progress → Unsettled store_calls held e store'", "reading progress → e ≡ e"),
+        ("any refusal of the boundary", "Session", "reading progress → SettleFails store_calls held e store'", "reading progress → e ≡ e"),
     ],
     "each request": [
         ("the first request has no wants", "Fetch", "    asked = wanted;", "    asked = given;"),
@@ -73,7 +73,7 @@ CHANGES = {
         ("the rest isn't read", "Received", "finishes : Finishes finished mid end", "finishes : finished ≡ finished"),
         ("the rest isn't read up to a stop", "Receive", "rest : IfSome old.to_come (λ p. (q : Pieces) × (new.to_come ≡ Some q) × ((lines_ahead old p).ending ≡ stop kind q))", "rest : kind ≡ kind"),
         ("the reader isn't at the stop", "Receive", "stopped : new.stopped ≡ Some kind", "stopped : kind ≡ kind"),
-        ("the boundary isn't written", "Session", "settles : Settles store_calls ids updates held store'", "settles : store' ≡ held"),
+        ("the boundary isn't written", "Session", "settles : SettlesBoundary store_calls ids updates held store'", "settles : store' ≡ held"),
     ],
     "at most n / 16 + 1 requests": [
         ("as many requests as haves", "Bound", "length rounds ≤ count first / 16 + 1", "length rounds ≤ count first + 1"),
@@ -81,7 +81,7 @@ CHANGES = {
         ("wider windows than were on offer", "Bound", "windows_of (but_last rounds) ≤ count first", "windows_of (but_last rounds) ≤ count first + 1"),
     ],
     "a prefix-filtered answer": [
-        ("a map, or its refusal, is that of another place", "Headline", "handshake plain shaken reached r → Answers", "handshake plain shaken shaken r → Answers"),
+        ("a map, or its refusal, is that of another place", "Headline", "handshake plain shaken reached r → FindsRefMap", "handshake plain shaken shaken r → Answers"),
     ],
 }
 

@@ -3,6 +3,6 @@ use Rattle.std.specs.Prelude.{◌≡◌, List, [], ◌∷◌, ◌++◌, Option, 
 use Rattle.gixp_hash.specs.declared.object_id.ObjectId.{ObjectId}
 
 -- the first of the haves that are left is offered, and the others are left, or none was
-abbrev pub OffersFirst : List ObjectId → Option ObjectId → List ObjectId → Type 0
-OffersFirst haves None left = (haves ≡ []) × (left ≡ [])
-OffersFirst haves (Some id) left = haves ≡ id ∷ left
+abbrev pub OffersFirstHave : List ObjectId → Option ObjectId → List ObjectId → Type 0
+OffersFirstHave haves None left = (haves ≡ []) × (left ≡ [])
+OffersFirstHave haves (Some id) left = haves ≡ id ∷ left

@@ -2,7 +2,7 @@
 ghost use Rattle.std.specs.Prelude.{◌≡◌, ◌++◌, ◌∷◌, ◌+◌, ◌-◌, ◌^◌, ◌≤◌, [], length, drop, OnOk, OnErr, IfErr};
 ghost use Rattle.gixp_graph.specs.Object.{HasRisen};
 ghost use Rattle.gixp_graph.specs.declared.negotiator.NegotiatorError.TheVariants.{Memory};
-ghost use Rattle.gixp_doubles.specs.Recorder.{OffersFirst};
+ghost use Rattle.gixp_doubles.specs.Recorder.{OffersFirstHave};
 
 use gixp_graph::{Graph, Negotiator, NegotiatorError, ObjectError, Objects};
 use gixp_hash::ObjectId;
@@ -68,7 +68,7 @@ impl Recorder {
 
     // The next have.
     fn take(&mut self) -> Option<ObjectId>
-        ensures offers { OffersFirst (drop self.old.next self.old.haves.items) result (drop self.new.next self.new.haves.items) }
+        ensures offers { OffersFirstHave (drop self.old.next self.old.haves.items) result (drop self.new.next self.new.haves.items) }
         ensures known { self.new.known ≡ self.old.known }
         ensures tips { self.new.tips ≡ self.old.tips }
         ensures common { self.new.common ≡ self.old.common }
@@ -109,7 +109,7 @@ impl Negotiator for Recorder {
 
     ghost learns = { λ n g id m h. (m.common.items ≡ n.common.items ++ id ∷ []) × (m.known ≡ n.known) × (m.tips ≡ n.tips) × (drop m.next m.haves.items ≡ drop n.next n.haves.items) × (h ≡ g) };
 
-    ghost offers = { λ n g have m h. OffersFirst (drop n.next n.haves.items) have (drop m.next m.haves.items) × (m.known ≡ n.known) × (m.tips ≡ n.tips) × (m.common ≡ n.common) × (h ≡ g) };
+    ghost offers = { λ n g have m h. OffersFirstHave (drop n.next n.haves.items) have (drop m.next m.haves.items) × (m.known ≡ n.known) × (m.tips ≡ n.tips) × (m.common ≡ n.common) × (h ≡ g) };
 
     fn known_common<O: Objects>(
         &mut self,

@@ -17,7 +17,7 @@ use Rattle.gixp_refs.specs.declared.handshake.refs.parse.Error.{Error as refs_er
 use Rattle.gixp_refs.specs.declared.handshake.refs.parse.Error.TheVariants.{Memory as refs_memory}
 use Rattle.gixp_refs.specs.Ref.{ref_value}
 use Rattle.gixp_refs.specs.RefLine.{RefsRefusal, refusal_from}
-use Rattle.gixp_refs.specs.ParseError.{Answers as RefsAnswers, IsRefusal as IsRefsRefusal}
+use Rattle.gixp_refs.specs.ParseError.{AnswersRefs, IsParseRefusal}
 use Rattle.gixp_refs.specs.Refs.{ReadsRefs}
 use Rattle.gixp_refs.specs.RefAdvertisement.{Symref, symref_table, v1_refs}
 use Rattle.gixp_refs.specs.V1Refs.{symref_values, ReadsV1, AdvertisementFails}
@@ -25,13 +25,13 @@ use Rattle.gixp_response.specs.declared.fetch.response.line.ShallowUpdate.{Shall
 use Rattle.gixp_response.specs.ResponseError.{from_reader}
 use Rattle.gixp_requests.specs.Arguments.{ArgumentsValue}
 use Rattle.gixp_requests.specs.Feature.{FeatureValue}
-use Rattle.gixp_requests.specs.Command.{Table}
-use Rattle.gixp_requests.specs.Offers.{Validates}
+use Rattle.gixp_requests.specs.Command.{TableValue}
+use Rattle.gixp_requests.specs.Offers.{AnswersRefusal}
 use Rattle.gixp_refmap.specs.declared.ls_refs.error.Error.{Error as list_error}
 use Rattle.gixp_refmap.specs.declared.refmap.init.Context.{Context}
 use Rattle.gixp_refmap.specs.declared.refmap.init.Error.{Error as map_error}
 use Rattle.gixp_refmap.specs.declared.refmap.map.RefMap.{RefMap}
-use Rattle.gixp_refmap.specs.Listing.{Listing, listing, listing_of, listing_refusal, SendsListing, Lists as ListsRefs}
+use Rattle.gixp_refmap.specs.Listing.{Listing, listing, listing_of, listing_refusal, SendsListing, Lists}
 use Rattle.gixp_refmap.specs.Mapping.{joined_specs}
 use Rattle.gixp_handshake.specs.declared.handshake.read.Handshake.{Handshake}
 use Rattle.gixp_handshake.specs.declared.handshake.error.Error.{Error as shake_error}
@@ -40,19 +40,19 @@ use Rattle.gixp_handshake.specs.declared.handshake.ref_map.ObtainRefMap.TheVaria
 use Rattle.gixp_handshake.specs.declared.credentials.Outcome.{Outcome as Account}
 use Rattle.gixp_handshake.specs.Credentials.{store, action_value as credential_value, next_value}
 use Rattle.gixp_handshake.specs.ShakeError.{is_denied}
-use Rattle.gixp_handshake.specs.Shake.{Turn as credential_turn, Opened, Opens, NoMemory, Denied, First, Answer, Erased, Stored, Refused, Second, Identified, Got, LogsIn, GoesOn, IsOf, Keeps, ReadsFirst, Shakes, is_accepted}
+use Rattle.gixp_handshake.specs.Shake.{CredentialCall, OpeningResult, Opens, StopsForMemory, Denied, First, CredentialAnswer, Erased, Stored, SecondHandshakeRefused, Second, Identified, Got, LogsIn, FinishesHandshake, IsOf, KeepsVersion, ReadsFirst, CompletesHandshake, is_accepted}
 use Rattle.gixp_handshake.specs.Obtain.{prefixes_if, MakesMap, PreparesBy, ByList, FetchesList, ObtainsBy}
 use Rattle.gixp_negotiate.specs.Negotiate.{ActionValue, no_change, skip, negotiate, action_value, Lawful, IsWide}
 use Rattle.gixp_negotiate.specs.Wants.{AddsWants}
 use Rattle.gixp_fetch.specs.declared.options.Outcome.{Outcome}
 use Rattle.gixp_fetch.specs.declared.error.Error.{Error}
 use Rattle.gixp_fetch.specs.FetchRounds.{At}
-use Rattle.gixp_fetch.specs.Session.{Idle, Unready}
+use Rattle.gixp_fetch.specs.Session.{Idle, ReadyFails}
 use Rattle.gixp_fetch.specs.Fetch.{World, Parties}
-use Rattle.gixp_fetch.specs.Fetched.{Call}
+use Rattle.gixp_fetch.specs.Fetched.{FetchCall}
 use Rattle.gixp_fetch.specs.Mapped.{Knowledge, decided, lines_of, FollowsMap}
-use Rattle.gixp_fetch.specs.Sessions.{Starts, Refuses, at_depth, at_wants, in_session, HoldsSession}
-use Rattle.gixp_fetch.specs.Headline.{IsOfAll, Answers as MapAnswers, of_shown, of_listed, unlisted, unmade, MapsAreOfAll, AnswersAreRefused, RefsAreRefused, AdvertisementsAreRefused, WordsAreSaid, SaysBy, Greeted, Shown, Listed, RefsRefused, AsksAccount, HasAccount, IsErased, NoAccount, unanswered, none_known, untaken, unheard_again, bad, unkept, Unshaken, unbegun, unheard, denied, unaccepted, unread, HandshakesAreRefused, WantsOfMap, NoWants, NoneOfMap, DecidesOfMap, RefusalOfMap, AsksOfMap, Run, Promise}
+use Rattle.gixp_fetch.specs.Sessions.{Starts, SessionFails, at_depth, at_wants, in_session, HoldsSession}
+use Rattle.gixp_fetch.specs.Headline.{IsOfAll, FindsRefMap, of_shown, of_listed, unlisted, unmade, MapsAreOfAll, AnswersAreRefused, RefsAreRefused, AdvertisementsAreRefused, WordsAreSaid, SaysBy, Greeted, ShownByHandshake, ListedByCommand, RefsRefused, AsksAccount, HasAccount, IsErased, NoAccount, unanswered, none_known, untaken, unheard_again, bad, unkept, HandshakeFails, unbegun, unheard, denied, unaccepted, unread, HandshakesAreRefused, WantsOfMap, NoWants, NoneOfMap, DecidesOfMap, RefusalOfMap, AsksOfMap, Run, Promise}
 use Rattle.gixp_fetch.proofs.SessionLemmas.{session_held}
 
 -- ---- refusals
@@ -89,14 +89,14 @@ lines_read t from new refs updates h =
 
 -- what stands next to a handshake: its refs, or none, and nothing more was read
 abbrev By : Handshake → Option (Vec Ref Global) → SetServiceResponse → Reading → Reading → Type 0
-By h (Some refs) found from shaken = Shown found from shaken shaken h refs.items
+By h (Some refs) found from shaken = ShownByHandshake found from shaken shaken h refs.items
 By h None found from shaken = (found.has_refs ≡ false) × (shaken ≡ from) × (h.v1_shallow_updates ≡ None)
 
-pub record Heard (service : Service) (ps : List Parameter) (turns : List credential_turn) (start shaken : Reading) (h : Handshake) : Type 0 where
+pub record Heard (service : Service) (ps : List Parameter) (turns : List CredentialCall) (start shaken : Reading) (h : Handshake) : Type 0 where
   pub greeted : Greeted service ps turns start shaken h
   pub refs : By h h.refs greeted.found greeted.from shaken
 
-module _ (service : Service) (ps : List Parameter) (plain : Bool) (turns : List credential_turn) (start shaken : Reading) (h : Handshake) where
+module _ (service : Service) (ps : List Parameter) (plain : Bool) (turns : List CredentialCall) (start shaken : Reading) (h : Handshake) where
   refs_by : (found : SetServiceResponse) (mid : Reading) (has : Bool) (given : Option (Vec Ref Global)) → found.has_refs ≡ has → h.refs ≡ given → ReadsFirst has found plain mid shaken (Ok h) → By h given found mid shaken
   refs_by found mid false None e g r = (e, r.0, r.2)
   refs_by found mid false (Some refs) e g r = cc (g, r.1)
@@ -104,7 +104,7 @@ module _ (service : Service) (ps : List Parameter) (plain : Bool) (turns : List 
   refs_by found mid true (Some refs) e g r =
       let same : r.0 ≡ refs = by_some (sym r.2 ∙ g) in
       let a = r.4 in
-      subst (λ (v : Vec Ref Global). Shown found mid shaken shaken h v.items) same (record {
+      subst (λ (v : Vec Ref Global). ShownByHandshake found mid shaken shaken h v.items) same (record {
         follow = e;
         refs = r.0;
         updates = r.1;
@@ -137,32 +137,32 @@ module _ (service : Service) (ps : List Parameter) (plain : Bool) (turns : List 
   }
 
   heard_kept : (accepted : Bool) (mid : Reading) (found : SetServiceResponse) → is_accepted start.held.accepted found.actual_protocol ≡ accepted → Opens service ps start mid turns (Ok found) → shaken.held ≡ mid.held
-      → Keeps accepted found plain mid shaken (Ok h) → Heard service ps turns start shaken h
+      → KeepsVersion accepted found plain mid shaken (Ok h) → Heard service ps turns start shaken h
   heard_kept true mid found a o s k = heard_first mid found a o s k.0 k.1
   heard_kept false mid found a o s k = cc k.1
 
-  heard_opened : (opened : Opened) (mid : Reading) → Opens service ps start mid turns opened ⊎ NoMemory start mid turns opened → shaken.held ≡ mid.held → GoesOn start.held.accepted opened plain mid shaken (Ok h)
+  heard_opened : (opened : OpeningResult) (mid : Reading) → Opens service ps start mid turns opened ⊎ StopsForMemory start mid turns opened → shaken.held ≡ mid.held → FinishesHandshake start.held.accepted opened plain mid shaken (Ok h)
       → Heard service ps turns start shaken h
   heard_opened (Err x) mid o s g = cc g.1
   heard_opened (Ok found) mid (inl o) s g = heard_kept (is_accepted start.held.accepted found.actual_protocol) mid found refl o s g
   heard_opened (Ok found) mid (inr n) s g = cc n.error
 
-  heard : Shakes service ps plain start shaken turns (Ok h) → Heard service ps turns start shaken h
+  heard : CompletesHandshake service ps plain start shaken turns (Ok h) → Heard service ps turns start shaken h
   heard s = heard_opened s.opened s.mid s.opens s.held s.goes_on
 
 abbrev ok_map : RefMap → Result RefMap map_error
 ok_map made = Ok made
 
 -- what a map is made of: its refs came with the handshake, or answered the command
-pub record Stands (found : SetServiceResponse) (from shaken mapped : Reading) (h : Handshake) (table : Table) (agent : FeatureValue) (context : Context) (made : RefMap) : Type 0 where
-  pub came : Shown found from shaken mapped h made.remote_refs.items ⊎ ((found.has_refs ≡ false) × (shaken ≡ from) × (h.v1_shallow_updates ≡ None) × Listed table agent context h shaken mapped made.remote_refs.items)
+pub record Stands (found : SetServiceResponse) (from shaken mapped : Reading) (h : Handshake) (table : TableValue) (agent : FeatureValue) (context : Context) (made : RefMap) : Type 0 where
+  pub came : ShownByHandshake found from shaken mapped h made.remote_refs.items ⊎ ((found.has_refs ≡ false) × (shaken ≡ from) × (h.v1_shallow_updates ≡ None) × ListedByCommand table agent context h shaken mapped made.remote_refs.items)
   pub maps : MakesMap h.capabilities context made.remote_refs.items (Ok made)
 
-module _ (plain : Bool) (found : SetServiceResponse) (from shaken mapped : Reading) (h : Handshake) (table : Table) (agent : FeatureValue) (context : Context) (made : RefMap) where
+module _ (plain : Bool) (found : SetServiceResponse) (from shaken mapped : Reading) (h : Handshake) (table : TableValue) (agent : FeatureValue) (context : Context) (made : RefMap) where
   abbrev Goal : Type 0
   Goal = Stands found from shaken mapped h table agent context made
 
-  by_listed : (l : Listing) (caps : List CapabilityValue) (ctx : Context) (listed : Result (Vec Ref Global) list_error) → ListsRefs l plain shaken mapped listed → ByList caps ctx listed (Ok made)
+  by_listed : (l : Listing) (caps : List CapabilityValue) (ctx : Context) (listed : Result (Vec Ref Global) list_error) → Lists l plain shaken mapped listed → ByList caps ctx listed (Ok made)
       → (refs : Vec Ref Global) × (listed ≡ Ok refs) × MakesMap caps ctx refs.items (Ok made)
   by_listed l caps ctx (Ok refs) s b = (refs, refl, b)
   by_listed l caps ctx (Err e) s b = cc b
@@ -177,7 +177,7 @@ module _ (plain : Bool) (found : SetServiceResponse) (from shaken mapped : Readi
       let p' : MakesMap h.capabilities context refs.items (Ok made) = subst (λ x. MakesMap h.capabilities context refs.items (Ok x)) (sym same) p in
       let are : made.remote_refs.items ≡ refs.items = p'.refs in
       record {
-        came = inl (subst (λ (x : Reading). Shown found from shaken x h made.remote_refs.items) (sym o.0) (subst (Shown found from shaken shaken h) (sym are) b));
+        came = inl (subst (λ (x : Reading). ShownByHandshake found from shaken x h made.remote_refs.items) (sym o.0) (subst (ShownByHandshake found from shaken shaken h) (sym are) b));
         maps = subst (λ given. MakesMap h.capabilities context given (Ok made)) (sym are) p';
       }
     where
@@ -186,7 +186,7 @@ module _ (plain : Bool) (found : SetServiceResponse) (from shaken mapped : Readi
   by_prepared (Ok (LsRefsCommand command handed)) None r at p o =
       let l : Listing = listing_of command in
       let b = by_listed l l.capabilities handed o.listed o.lists o.maps in
-      let list = subst (λ r. ListsRefs l plain shaken mapped r) b.1 o.lists in
+      let list = subst (λ r. Lists l plain shaken mapped r) b.1 o.lists in
       let are : made.remote_refs.items ≡ b.0.items = b.2.refs in
       let maps : MakesMap h.capabilities handed b.0.items (Ok made) = subst (λ (x : Listing). MakesMap x.capabilities handed b.0.items (Ok made)) p.0 b.2 in
       let mapped_so : MakesMap h.capabilities context b.0.items (Ok made) = subst (λ ctx. MakesMap h.capabilities ctx b.0.items (Ok made)) p.1 maps in
@@ -197,7 +197,7 @@ module _ (plain : Bool) (found : SetServiceResponse) (from shaken mapped : Readi
           at.2,
           record {
             none = r;
-            valid = subst (λ x. Validates (listing_refusal x) (Ok tt)) p.0 list.valid;
+            valid = subst (λ x. AnswersRefusal (listing_refusal x) (Ok tt)) p.0 list.valid;
             from = list.mid;
             sends = subst (λ x. SendsListing x shaken list.mid (Ok tt)) p.0 list.sent;
             read = subst (λ (given : List Ref). ReadsRefs list.mid mapped given) (sym are) list.read;
@@ -232,8 +232,8 @@ said_by false service ps old new (Err e) (inr h) = inr (h.0, (h.1, h.2), why_ref
 pub words_said : WordsAreSaid
 words_said service ps old new r h = said_by old.held.persists service ps old new r h
 
-no_table : (capabilities : List CapabilityValue) (e : refs_error) (r : Result (List Symref) RefsRefusal) → symref_table capabilities ≡ r → RefsAnswers symref_values r (Err e)
-    → ((x : RefsRefusal) × (symref_table capabilities ≡ Err x) × IsRefsRefusal e x) ⊎ (e ≡ refs_memory)
+no_table : (capabilities : List CapabilityValue) (e : refs_error) (r : Result (List Symref) RefsRefusal) → symref_table capabilities ≡ r → AnswersRefs symref_values r (Err e)
+    → ((x : RefsRefusal) × (symref_table capabilities ≡ Err x) × IsParseRefusal e x) ⊎ (e ≡ refs_memory)
 no_table capabilities e (Ok t) p a = inr a
 no_table capabilities e (Err x) p a = inl (x, p, a)
 
@@ -243,30 +243,30 @@ refs_refused_by capabilities plain old new e (inr h) = inr (h.0, h.1, advertisem
 
 -- ---- the table of accounts
 
-abbrev unopened : shake_error → Opened
+abbrev unopened : shake_error → OpeningResult
 unopened e = Err e
 
 same_opening : {x y : shake_error} → unopened x ≡ unopened y → x ≡ y
 same_opening e = cc
 
-module _ (service : Service) (ps : List Parameter) (old new : Reading) (turns : List credential_turn) (e : shake_error) (turn : credential_turn) (later : List credential_turn) (asks : AsksAccount old turns turn later) where
+module _ (service : Service) (ps : List Parameter) (old new : Reading) (turns : List CredentialCall) (e : shake_error) (turn : CredentialCall) (later : List CredentialCall) (asks : AsksAccount old turns turn later) where
   abbrev None_of : Type 0
   None_of = NoAccount service ps old new turns e
 
-  asks_so : (more : List credential_turn) → later ≡ more → AsksAccount old turns turn more
+  asks_so : (more : List CredentialCall) → later ≡ more → AsksAccount old turns turn more
   asks_so more l = record { all = asks.all ∙ ap (λ ts. turn ∷ ts) l; asked = asks.asked }
 
   module _ (account : Account) (now : Reading) (has : HasAccount old now turn account) where
-    by_erased : (answer : Answer) (told : credential_turn) → told.answer ≡ answer → Erased answer old.held.url (Err e) → IsErased answer old.held.url e
+    by_erased : (answer : CredentialAnswer) (told : CredentialCall) → told.answer ≡ answer → Erased answer old.held.url (Err e) → IsErased answer old.held.url e
     by_erased (Ok x) told a h = (h.0, h.1, same_opening h.2)
     by_erased (Err x) told a h = same_opening h
 
-    by_stored : (answer : Answer) (told : credential_turn) (found : SetServiceResponse) → told.answer ≡ answer → Handshakes service ps now new (Ok found) → later ≡ told ∷ [] → credential_value told.action ≡ store (next_value account.next)
+    by_stored : (answer : CredentialAnswer) (told : CredentialCall) (found : SetServiceResponse) → told.answer ≡ answer → Handshakes service ps now new (Ok found) → later ≡ told ∷ [] → credential_value told.action ≡ store (next_value account.next)
         → Stored answer found (Err e) → None_of
     by_stored (Ok x) told found a h l t s = cc s
     by_stored (Err x) told found a h l t s = unkept turn told (asks_so (told ∷ []) l) account now has found h t x a (same_opening s)
 
-    by_refused : (b : Bool) (x : client_error) → is_denied x ≡ b → Handshakes service ps now new (Err x) → Refused b x account.next old.held.url later (Err e) → None_of
+    by_refused : (b : Bool) (x : client_error) → is_denied x ≡ b → Handshakes service ps now new (Err x) → SecondHandshakeRefused b x account.next old.held.url later (Err e) → None_of
     by_refused true x p h r =
         bad turn r.1.turn (asks_so (r.1.turn ∷ []) r.1.alone) account now has x h p r.1.asked (subst (λ a. IsErased a old.held.url e) (sym r.1.answered) (by_erased r.0 r.1.turn r.1.answered r.2))
     by_refused false x p h r = unheard_again turn (asks_so [] r.0) account now has x h p (same_opening r.1)
@@ -280,13 +280,13 @@ module _ (service : Service) (ps : List Parameter) (old new : Reading) (turns : 
   by_taken account (Ok x) now a i d = by_second account now (record { got = a; taken = i }) d.0 d.1 d.2
   by_taken account (Err x) now a i d = untaken turn (asks_so [] d.0) account a x (subst (λ (r : Reading). Identifies old r account.identity (Err x)) (sym d.1) i) (same_opening d.2)
 
-  by_answer : (answer : Answer) → turn.answer ≡ answer → Got service ps answer old.held.url old new later (Err e) → None_of
+  by_answer : (answer : CredentialAnswer) → turn.answer ≡ answer → Got service ps answer old.held.url old new later (Err e) → None_of
   by_answer (Err x) a g = unanswered turn (asks_so [] g.0) x a g.1 (same_opening g.2)
   by_answer (Ok None) a g = none_known turn (asks_so [] g.0) a g.1 (same_opening g.2)
   by_answer (Ok (Some account)) a g = by_taken account g.0 g.1 a g.2 g.3
 
-no_account : (service : Service) (ps : List Parameter) (old new : Reading) (turns : List credential_turn) (e : shake_error) → LogsIn service ps old new turns (Err e) ⊎ NoMemory old new turns (Err e)
-    → NoAccount service ps old new turns e ⊎ NoMemory old new turns (Err e)
+no_account : (service : Service) (ps : List Parameter) (old new : Reading) (turns : List CredentialCall) (e : shake_error) → LogsIn service ps old new turns (Err e) ⊎ StopsForMemory old new turns (Err e)
+    → NoAccount service ps old new turns e ⊎ StopsForMemory old new turns (Err e)
 no_account service ps old new turns e (inl l) = inl (by_answer service ps old new turns e l.turn l.later (record { all = l.all; asked = l.asked }) l.turn.answer refl l.got)
 no_account service ps old new turns e (inr n) = inr n
 
@@ -298,9 +298,9 @@ no_handshake e = Err e
 same_refusal : {x y : shake_error} → no_handshake x ≡ no_handshake y → x ≡ y
 same_refusal e = cc
 
-module _ (service : Service) (ps : List Parameter) (plain : Bool) (start reached : Reading) (turns : List credential_turn) (e : shake_error) where
+module _ (service : Service) (ps : List Parameter) (plain : Bool) (start reached : Reading) (turns : List CredentialCall) (e : shake_error) where
   abbrev Why : Type 0
-  Why = Unshaken service ps plain start reached turns e
+  Why = HandshakeFails service ps plain start reached turns e
 
   by_denial : (b : Bool) (x : client_error) (mid : Reading) → is_denied x ≡ b → Handshakes service ps start mid (Err x) → Denied b x service ps mid reached turns (Err e) → Why
   by_denial true x mid p h d = denied x mid h p (no_account service ps mid reached turns e d)
@@ -316,11 +316,11 @@ module _ (service : Service) (ps : List Parameter) (plain : Bool) (start reached
   by_reading found mid true p a o r = unread found mid o a p r.0 (refs_refused_by found.capabilities plain mid reached r.0 r.1) r.2
 
   by_version : (accepted : Bool) (found : SetServiceResponse) (mid : Reading) → is_accepted start.held.accepted found.actual_protocol ≡ accepted → Opens service ps start mid turns (Ok found)
-      → Keeps accepted found plain mid reached (Err e) → Why
+      → KeepsVersion accepted found plain mid reached (Err e) → Why
   by_version true found mid a o k = by_reading found mid found.has_refs refl a o k.0
   by_version false found mid a o k = unaccepted found (subst (λ (r : Reading). Opens service ps start r turns (Ok found)) (sym k.0) o) a (same_refusal k.1)
 
-  by_opening : (opened : Opened) (mid : Reading) → Opens service ps start mid turns opened ⊎ NoMemory start mid turns opened → GoesOn start.held.accepted opened plain mid reached (Err e) → Why
+  by_opening : (opened : OpeningResult) (mid : Reading) → Opens service ps start mid turns opened ⊎ StopsForMemory start mid turns opened → FinishesHandshake start.held.accepted opened plain mid reached (Err e) → Why
   by_opening (Ok found) mid (inl o) g = by_version (is_accepted start.held.accepted found.actual_protocol) found mid refl o g
   by_opening (Ok found) mid (inr n) g = cc n.error
   by_opening (Err x) mid (inl o) g =
@@ -333,24 +333,24 @@ handshakes_refused service ps plain start reached turns e s = by_opening service
 
 -- ---- ref maps and their refusals
 
-module _ (table : Table) (agent : FeatureValue) (context : Context) (h : Handshake) (plain : Bool) (shaken reached : Reading) (r : Result RefMap map_error) where
+module _ (table : TableValue) (agent : FeatureValue) (context : Context) (h : Handshake) (plain : Bool) (shaken reached : Reading) (r : Result RefMap map_error) where
   abbrev wanted_list : Listing
   wanted_list = listing table (prefixes_if true (joined_specs context.fetch_refspecs.items context.extra_refspecs.items)) h.capabilities agent
 
   abbrev no_map : map_error → Result RefMap map_error
   no_map x = Err x
 
-  mapped_by : (listed : Result (Vec Ref Global) list_error) → h.refs ≡ None → ListsRefs wanted_list plain shaken reached listed → ByList h.capabilities context listed r → MapAnswers table agent context h plain shaken reached r
+  mapped_by : (listed : Result (Vec Ref Global) list_error) → h.refs ≡ None → Lists wanted_list plain shaken reached listed → ByList h.capabilities context listed r → FindsRefMap table agent context h plain shaken reached r
   mapped_by (Ok refs) n l b = of_listed refs.items (record { none = n; valid = l.valid; from = l.mid; sends = l.sent; read = l.read; held = l.held }) (b.maps, b.filtered)
   mapped_by (Err e) n l b = unlisted n e l b
 
-  listed_by : (l : Listing) (handed : Context) → l ≡ wanted_list → handed ≡ context → h.refs ≡ None → FetchesList l handed plain shaken reached r → MapAnswers table agent context h plain shaken reached r
+  listed_by : (l : Listing) (handed : Context) → l ≡ wanted_list → handed ≡ context → h.refs ≡ None → FetchesList l handed plain shaken reached r → FindsRefMap table agent context h plain shaken reached r
   listed_by l handed p q n f =
       let at : FetchesList wanted_list context plain shaken reached r = subst (λ x. FetchesList wanted_list x plain shaken reached r) q (subst (λ (x : Listing). FetchesList x handed plain shaken reached r) p f) in
       mapped_by at.listed n at.lists at.maps
 
   answers_by : (prepared : Result ObtainRefMap map_error) (given : Option (Vec Ref Global)) → h.refs ≡ given → PreparesBy given table true agent context h.capabilities prepared → ObtainsBy prepared plain shaken reached r
-      → MapAnswers table agent context h plain shaken reached r
+      → FindsRefMap table agent context h plain shaken reached r
   answers_by (Err e) None n p o = unmade n (o.1 ∙ ap no_map p) o.0
   answers_by (Err e) (Some refs) n p o = of_shown refs n o.0 (subst (IsOfAll context h.capabilities refs.items) (sym o.1) (p.maps, p.filtered))
   answers_by (Ok (Existing m)) None n p o = absurd p
@@ -364,7 +364,7 @@ maps_are_of_all table agent context h plain shaken reached r o = answers_by tabl
 -- ---- what is asked for of a map
 
 module _ {N I A S C P X : Type 0} (parties : Parties N I A S C P X) (map_of : N → RefMap) (knows : N → Knowledge) (follows : FollowsMap parties.negotiation_calls.marks parties.negotiation_calls.adds map_of knows) (made : RefMap) where
-  wants_of_map : (call : Call) (old : World N I S C) (banded : Bool) (ids : List ObjectId) (action : ActionValue) (locked : Bool) (read : S) (start : At N I) → map_of old.negotiate ≡ made
+  wants_of_map : (call : FetchCall) (old : World N I S C) (banded : Bool) (ids : List ObjectId) (action : ActionValue) (locked : Bool) (read : S) (start : At N I) → map_of old.negotiate ≡ made
       → (s : Starts parties call old banded ids action locked read start) → WantsOfMap parties (knows old.negotiate) made s
   wants_of_map call old banded ids action locked read start same s = record {
     decides = subst (λ m. action ≡ decided (knows old.negotiate) m) same (follows.decides old.negotiate action s.marked s.marks);
@@ -383,17 +383,17 @@ module _ {N I A S C P X : Type 0} (parties : Parties N I A S C P X) (map_of : N 
       no_wants (inl h) = tt
       no_wants (inr h) = subst (λ m. AddsWants (lines_of (knows first) m asked h.0) false asked h.1) same (follows.asks first i.action i.marked h.0 asked false h.1 last i.marks h.3)
 
-  decides_of_map : (first last : N) (asked : ArgumentsValue) (e : Error A X) → map_of first ≡ made → (u : Unready parties.negotiation_calls first asked e last) → DecidesOfMap parties (knows first) made u
+  decides_of_map : (first last : N) (asked : ArgumentsValue) (e : Error A X) → map_of first ≡ made → (u : ReadyFails parties.negotiation_calls first asked e last) → DecidesOfMap parties (knows first) made u
   decides_of_map first last asked e same (inl u) = tt
   decides_of_map first last asked e same (inr u) = subst (λ m. negotiate u.known ≡ decided (knows first) m) same (follows.decides first (negotiate u.known) u.marked u.marks)
 
-  refusal_of_map : (call : Call) (old : World N I S C) (e : Error A X) (last : World N I S C) (progress : P) → map_of old.negotiate ≡ made → (r : Refuses parties call old e last progress)
+  refusal_of_map : (call : FetchCall) (old : World N I S C) (e : Error A X) (last : World N I S C) (progress : P) → map_of old.negotiate ≡ made → (r : SessionFails parties call old e last progress)
       → RefusalOfMap parties (knows old.negotiate) made r
   refusal_of_map call old e last progress same (at_depth given banded held p l u n t) = tt
   refusal_of_map call old e last progress same (at_wants banded ids asked a u t) = decides_of_map old.negotiate last.negotiate asked e same u
   refusal_of_map call old e last progress same (in_session b) = wants_of_map call old b.banded b.ids b.action b.locked b.read b.start same b.starts
 
-  asks_of_map : (call : Call) (old : World N I S C) (result : Result (Option Outcome) (Error A X)) (new : World N I S C) (progress : P) → map_of old.negotiate ≡ made → (h : HoldsSession parties call old result new progress)
+  asks_of_map : (call : FetchCall) (old : World N I S C) (result : Result (Option Outcome) (Error A X)) (new : World N I S C) (progress : P) → map_of old.negotiate ≡ made → (h : HoldsSession parties call old result new progress)
       → AsksOfMap parties (knows old.negotiate) made call old result new progress h
   asks_of_map call old (Ok (Some outcome)) new progress same h = wants_of_map call old h.1.banded h.1.ids (action_value outcome.negotiate.action) h.1.locked h.1.read h.1.start same h.1.starts
   asks_of_map call old (Ok None) new progress same h = none_of_map old.negotiate h.0.negotiate h.1.asked same h.1.idle
@@ -404,7 +404,7 @@ module _ {N I A S C P X : Type 0} (parties : Parties N I A S C P X) (map_of : N 
 
 module _ {N I A S C P X : Type 0} (parties : Parties N I A S C P X) (map_of : N → RefMap) (knows : N → Knowledge) (follows : FollowsMap parties.negotiation_calls.marks parties.negotiation_calls.adds map_of knows)
     (lawful : Lawful parties.negotiation_calls.goes parties.negotiation_calls.count) (wide : IsWide parties.negotiation_calls.goes) where
-  pub promised : (call : Call) (context : Context) (start : Reading) (made : RefMap) (old : World N I S C) (result : Result (Option Outcome) (Error A X)) (new : World N I S C) (progress : P)
+  pub promised : (call : FetchCall) (context : Context) (start : Reading) (made : RefMap) (old : World N I S C) (result : Result (Option Outcome) (Error A X)) (new : World N I S C) (progress : P)
       (run : Run parties map_of knows call context start made old result new progress) → Promise parties map_of knows call context start made old result new progress run
   promised call context start made old result new progress run =
       let g = heard run.service run.parameters parties.plain run.credentials start run.shaken run.handshake run.shakes in

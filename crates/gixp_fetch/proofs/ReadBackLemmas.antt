@@ -15,7 +15,7 @@ use Rattle.gixp_graph.specs.GraphLaws.{ids_total}
 use Rattle.gixp_fetch.specs.declared.shallow.ShallowError.{ShallowError}
 use Rattle.gixp_fetch.specs.declared.shallow.ShallowError.TheVariants.{Io, Locked, Decode, Memory}
 use Rattle.gixp_fetch.specs.Boundary.{IsSetOf}
-use Rattle.gixp_fetch.specs.ShallowText.{text_of, IsTextOf, lines, in_first, IsIdOf, Reads, Unread, IsId}
+use Rattle.gixp_fetch.specs.ShallowText.{text_of, IsTextOf, lines, in_first, IsIdOf, ReadsIds, IdTextFails, IsId}
 use Rattle.gixp_fetch.proofs.SetLemmas.{no_member, first_member, later_member, member_cases}
 
 -- ---- a line
@@ -92,7 +92,7 @@ all_of P (x ∷ xs) f = (f x (first_member x xs x refl), all_of P xs (λ q h. f 
 are_ids : (ids set : List ObjectId) → All IsId ids → IsSetOf ids set → AllByRecursion IsId set
 are_ids ids set a h = all_of IsId set (λ id m. let n = (h.same id).0 m in subst IsId n.2 (a n.0 id n.1))
 
-pub read_back : (ids : List ObjectId) (text : List ℕ) (read : List ObjectId) → All IsId ids → IsTextOf ids text → Reads text read → IsSetOf ids read
+pub read_back : (ids : List ObjectId) (text : List ℕ) (read : List ObjectId) → All IsId ids → IsTextOf ids text → ReadsIds text read → IsSetOf ids read
 read_back ids text read a t r =
     let found : r.ids ≡ t.set = each_back t.set r.ids (are_ids ids t.set a t.is_set) (subst (λ x. AllZip IsIdOf (lines x) r.ids) t.is_text r.each) in
     let set : IsSetOf t.set read = subst (λ x. IsSetOf x read) found r.is_set in
@@ -105,7 +105,7 @@ no_id : (o : Option (List ℕ)) → o ≡ None → IsSome o → ⊥
 no_id None e h = true≢false (sym h)
 no_id (Some x) e h = cc
 
-pub never_refused : (ids : List ObjectId) (text : List ℕ) (e : ShallowError) → All IsId ids → IsTextOf ids text → Unread text e → e ≡ Memory
+pub never_refused : (ids : List ObjectId) (text : List ℕ) (e : ShallowError) → All IsId ids → IsTextOf ids text → IdTextFails text e → e ≡ Memory
 never_refused ids text (Decode found) a t h =
     let lines_are : AllByRecursion (λ l. IsSome (id_of l)) (lines text) = subst (λ x. AllByRecursion (λ l. IsSome (id_of l)) (lines x)) (sym t.is_text) (are_lines t.set (are_ids ids t.set a t.is_set)) in
     let some : IsSome (id_of h.1) = one_of (λ l. IsSome (id_of l)) h.0 h.1 h.2 (subst (AllByRecursion (λ l. IsSome (id_of l))) h.3 lines_are) in
@@ -153,5 +153,5 @@ only_one (x ∷ xs) (y ∷ ys) s t h =
     let more : xs ≡ ys = only_one xs ys s.1 t.1 (λ q. (in_rest x xs ys q s.0 (same q).0, in_rest x ys xs q below (same q).1)) in
     cc
 
-pub read_same : (ids : List ObjectId) (text : List ℕ) (read : List ObjectId) → All IsId ids → IsStrictlySortedBy id_cmp ids → IsTextOf ids text → Reads text read → read ≡ ids
+pub read_same : (ids : List ObjectId) (text : List ℕ) (read : List ObjectId) → All IsId ids → IsStrictlySortedBy id_cmp ids → IsTextOf ids text → ReadsIds text read → read ≡ ids
 read_same ids text read a s t r = let set = read_back ids text read a t r in only_one read ids set.ordered s set.same

@@ -28,13 +28,13 @@ use Rattle.gixp_fetch.specs.Prepare.{Prepared, LocksFirst}
 use Rattle.gixp_fetch.specs.View.{view}
 use Rattle.gixp_fetch.specs.Sent.{request_of, requests_of, WroteRequests}
 use Rattle.gixp_fetch.specs.Receive.{fresh_side, Consumed, GivesBack, Finishes}
-use Rattle.gixp_fetch.specs.Received.{PackFails, Received, Unreceived}
-use Rattle.gixp_fetch.specs.Session.{Undelivered, StoreCalls, at_lock, at_pack, at_boundary}
-use Rattle.gixp_fetch.specs.Fetch.{World, Parties, Begun, Negotiated, Fails, unopened, unready, unpacked, untold, undelivered}
-use Rattle.gixp_fetch.specs.Fetched.{Call, features, Fetches}
+use Rattle.gixp_fetch.specs.Received.{PackFails, Received, ReceiveFails}
+use Rattle.gixp_fetch.specs.Session.{DeliverFails, StoreCalls, at_lock, at_pack, at_boundary}
+use Rattle.gixp_fetch.specs.Fetch.{World, Parties, Begun, Negotiated, FetchFails, unopened, unready, unpacked, untold, undelivered}
+use Rattle.gixp_fetch.specs.Fetched.{FetchCall, features, Fetches}
 use Rattle.gixp_packetline.specs.TransportState.{TransportState as held_data}
 use Rattle.gixp_fetch.specs.Session as session
-use Rattle.gixp_fetch.specs.Sessions.{IsAnswer, AreAnswers, GoOn, begun_by, begun_in, AreNegotiated, manner_of, Asks, Starts, TakesPack, TakesAll, RefusesPack, Unpacks, lacks_memory, lacks_lock, lacks_room, untaken, unwritten, Unlent, BreaksOff, by_caller, exhausted, at_round, behind_pack, one_more, answered_at, unanswered, told_last, BrokenOff, Refuses, at_depth, at_wants, in_session, HoldsSession}
+use Rattle.gixp_fetch.specs.Sessions.{IsAnswer, AreAnswers, GoOn, begun_by, begun_in, AreNegotiated, manner_of, Asks, Starts, TakesPack, TakesAll, RefusesPack, Unpacks, lacks_memory, lacks_lock, lacks_room, untaken, unwritten, Unlent, RoundsBreakOff, by_caller, exhausted, at_round, behind_pack, one_more, answered_at, unanswered, told_last, BrokenOff, SessionFails, at_depth, at_wants, in_session, HoldsSession}
 use Rattle.gixp_fetch.proofs.SentLemmas.{none_written, both_written, held_written, turn_written}
 
 -- ---- what a transport holds stays while a pack is read
@@ -70,13 +70,13 @@ module _ {C P X : Type 0} (consumes : C → Side → P → Result Bool X → C �
   pack_held start p (Consumer e) d end q h = held_through start end h.held
   pack_held start p (Rest e) d end q h = held_through h.0 end (fails_held _ _ _ h.2.refused ∙ h.2.passed.held) ∙ held_through start h.0 h.1.held
 
-  unreceived_held : {A : Type 0} (from : Reading) (e : Error A X) (d : C) (new : Reading) (q : P) → Unreceived consumes c from e d new q → new.held ≡ from.held
+  unreceived_held : {A : Type 0} (from : Reading) (e : Error A X) (d : C) (new : Reading) (q : P) → ReceiveFails consumes c from e d new q → new.held ≡ from.held
   unreceived_held from e d new q (inl r) = back_held r.end new r.back ∙ pack_held (fresh_side r.name from) r.p r.error d r.end q r.fails
   unreceived_held from e d new q (inr m) = ap (λ (r : Reading). r.held) m.2
 
   module _ {S : Type 0} (store_calls : StoreCalls S) (ids : List ObjectId) (updates : List ShallowUpdate) (reject : Bool) (store : S) (locked : Bool) (from : Reading) where
     pub undelivered_held : {A : Type 0} (e : Error A X) (d : C) (store' : S) (locked' : Bool) (reading : Reading) (q : P)
-        → Undelivered store_calls consumes ids updates reject c store locked from e d store' locked' reading q → reading.held ≡ from.held
+        → DeliverFails store_calls consumes ids updates reject c store locked from e d store' locked' reading q → reading.held ≡ from.held
     undelivered_held e d store' locked' reading q (at_lock u x r) = ap (λ (r : Reading). r.held) r
     undelivered_held e d store' locked' reading q (at_pack h u) = unreceived_held from e d reading q u
     undelivered_held e d store' locked' reading q (at_boundary held h r u) = received_held from d reading q r
@@ -235,7 +235,7 @@ module _ {N I A S C P X : Type 0} (parties : Parties N I A S C P X) where
   packed_running m start rounds updates reply end p = ap (λ (a : At N I). a.reading.stopped) p.stands ∙ (sym (view_stopped m.banded p.last.after.reading) ∙ runs_on _ _ _ _ _ p.pack p.lasts.answer)
 
   -- after the first arguments and the lock
-  module _ (call : Call) (banded : Bool) (given : ArgumentsValue) (old : World N I S C) (held : S) (first : Bool) (prepared : Prepared call.table call.version (features call) call.tags given banded)
+  module _ (call : FetchCall) (banded : Bool) (given : ArgumentsValue) (old : World N I S C) (held : S) (first : Bool) (prepared : Prepared call.table call.version (features call) call.tags given banded)
       (locks : LocksFirst parties.store_calls.locks (is_change call.wishes.shallow) old.store held first) where
     abbrev manner : Manner N I A
     manner = manner_of parties call banded
@@ -283,7 +283,7 @@ module _ {N I A S C P X : Type 0} (parties : Parties N I A S C P X) where
 
       broken_by : (ids : List ObjectId) (read : S) (action : ActionValue) (ready : N) (wanted : ArgumentsValue) (rounds : List Round) → Begun parties call.version banded call.wishes given within ids read action ready wanted
           → Bounded parties.negotiation_calls.goes parties.negotiation_calls.count ready rounds → (turns : List (Turn N I)) (before : At N I) → Rounds manner (begin_at old ready wanted) turns before
-          → (ends : BreaksOff parties call banded ids old.consumer read first turns before e last progress) → rounds ≡ map (λ (t : Turn N I). t.round) turns ++ told_last parties ends
+          → (ends : RoundsBreakOff parties call banded ids old.consumer read first turns before e last progress) → rounds ≡ map (λ (t : Turn N I). t.round) turns ++ told_last parties ends
           → length (one_more parties ends) + length (unanswered parties ends) ≤ length (told_last parties ends) → AreNegotiated manner before (one_more parties ends) → AreAnswers call.version banded (one_more parties ends)
           → WroteRequests before.reading (answered_at parties ends) (requests_of (one_more parties ends)) → Broken
       broken_by ids read action ready wanted rounds b bounded turns before run ends t l g a w = record {
@@ -340,7 +340,7 @@ module _ {N I A S C P X : Type 0} (parties : Parties N I A S C P X) where
           p.told one_of_one (p.lasts.negotiated, p.lasts.rest, p.lasts.previous, tt) (is_answer _ _ _ _ _ p.lasts.answer, tt) (turn_written manner p.before p.last p.lasts)
 
       unpacks : (ids : List ObjectId) (read : S) (updates : List ShallowUpdate) (from : Reading) → from.stopped ≡ None
-          → Undelivered parties.store_calls parties.consumes ids updates call.wishes.reject old.consumer read first from e last.consumer last.store last.locked last.reading progress
+          → DeliverFails parties.store_calls parties.consumes ids updates call.wishes.reject old.consumer read first from e last.consumer last.store last.locked last.reading progress
           → Unpacks parties ids updates call.wishes.reject old.consumer read first from e last progress
       unpacks ids read updates from s (session.at_lock u d r) = lacks_lock u r d
       unpacks ids read updates from s (session.at_pack h (inl u)) = untaken h u.error u.gives (refuses_pack old.consumer from last.consumer last.reading progress u.name u.p u.error u.end s u.fails u.back)
@@ -350,7 +350,7 @@ module _ {N I A S C P X : Type 0} (parties : Parties N I A S C P X) where
       locks_so : last.locked ≡ first → LocksFirst parties.store_calls.locks (is_change call.wishes.shallow) old.store held last.locked
       locks_so l = subst (λ b. LocksFirst parties.store_calls.locks (is_change call.wishes.shallow) old.store held b) (sym l) locks
 
-      refused : Fails parties call.version banded call.wishes given within e last progress → Refuses parties call old e last progress
+      refused : FetchFails parties call.version banded call.wishes given within e last progress → SessionFails parties call old e last progress
       refused (unopened u n r) = at_depth given banded held prepared (locks_so r.locked) u n (record { reading = r.reading; interrupt = r.interrupt; consumer = r.consumer })
       refused (unready ids asked o u r) = at_wants banded ids asked (asks_so ids asked last.locked last.store (locks_so r.locked) o) u
           (record { reading = r.reading; interrupt = r.interrupt; consumer = r.consumer })
@@ -362,7 +362,7 @@ module _ {N I A S C P X : Type 0} (parties : Parties N I A S C P X) where
           (unpacks ids read (updates ++ call.wishes.told) end.reading (packed_running manner _ rounds updates reply end n.packed) u))
 
   module _ (lawful : Lawful parties.negotiation_calls.goes parties.negotiation_calls.count) (wide : IsWide parties.negotiation_calls.goes) where
-    pub session_held : (call : Call) (old : World N I S C) (result : Result (Option Outcome) (Error A X)) (new : World N I S C) (progress : P) → Fetches parties call old result new progress
+    pub session_held : (call : FetchCall) (old : World N I S C) (result : Result (Option Outcome) (Error A X)) (new : World N I S C) (progress : P) → Fetches parties call old result new progress
         → HoldsSession parties call old result new progress
     session_held call old (Err e) new progress (inl u) = inl u
     session_held call old (Err e) new progress (inr h) =

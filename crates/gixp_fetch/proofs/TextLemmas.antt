@@ -12,7 +12,7 @@ use Rattle.gixp_hash.specs.declared.object_id.ObjectId.{ObjectId}
 use Rattle.gixp_hash.specs.ObjectId.{id_of}
 use Rattle.gixp_fetch.specs.declared.shallow.ShallowError.{ShallowError}
 use Rattle.gixp_fetch.specs.declared.shallow.ShallowError.TheVariants.{Io, Locked, Decode, Memory}
-use Rattle.gixp_fetch.specs.ShallowText.{lines, in_first, IsIdOf, IsNoId, Unread}
+use Rattle.gixp_fetch.specs.ShallowText.{lines, in_first, IsIdOf, IsNoId, IdTextFails}
 
 abbrev cut : List ℕ → ℕ
 cut text = position_or_len (λ b. b == 10) text
@@ -72,7 +72,7 @@ are_ids (l ∷ ls) (id ∷ ids) h = All-cons (λ l. IsSome (id_of l)) l ls (subs
 
 -- a line that is no id behind lines that are
 pub unread : (text : List ℕ) (before : List (List ℕ)) (ids : List ObjectId) (rest line behind : List ℕ) (e : ShallowError) → lines text ≡ before ++ lines rest → AllZip IsIdOf before ids
-    → lines rest ≡ line ∷ lines behind → IsNoId line e → Unread text e
+    → lines rest ≡ line ∷ lines behind → IsNoId line e → IdTextFails text e
 unread text before ids rest line behind (Decode found) s a c n = (before, line, lines behind, s ∙ ap (λ ls. before ++ ls) c, are_ids before ids a, n.0, n.1)
 unread text before ids rest line behind Memory s a c n = tt
 unread text before ids rest line behind (Io kind) s a c n = n

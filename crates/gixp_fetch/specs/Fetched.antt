@@ -3,19 +3,19 @@ use Rattle.std.specs.Prelude.{◌≡◌, ◌⊎◌, Bool, true, false, List, Opt
 use Rattle.gixp_packetline.specs.declared.protocol.Protocol.{Protocol}
 use Rattle.gixp_capabilities.specs.Capabilities.{CapabilityValue}
 use Rattle.gixp_requests.specs.Feature.{FeatureValue}
-use Rattle.gixp_requests.specs.Command.{Table}
+use Rattle.gixp_requests.specs.Command.{TableValue}
 use Rattle.gixp_requests.specs.Arguments.{ArgumentsValue}
 use Rattle.gixp_refmap.specs.declared.fetch.Tags.{Tags}
 use Rattle.gixp_fetch.specs.declared.options.Outcome.{Outcome}
 use Rattle.gixp_fetch.specs.declared.error.Error.{Error}
 use Rattle.gixp_negotiate.specs.Negotiate.{action_value, negotiate}
 use Rattle.gixp_fetch.specs.FetchShallow.{is_change}
-use Rattle.gixp_fetch.specs.Prepare.{features_of, Prepared, Unprepared, LocksFirst, ReleasesIf, Unlocked}
-use Rattle.gixp_fetch.specs.Fetch.{Wishes, World, Parties, Meets}
+use Rattle.gixp_fetch.specs.Prepare.{features_of, Prepared, PrepareFails, LocksFirst, ReleasesIf, LockFails}
+use Rattle.gixp_fetch.specs.Fetch.{Wishes, World, Parties, SessionEnds}
 
 -- what a fetch is handed in: what the client asks for by default, what the server said first, the client's name, which tags are to come, and what is asked for
-pub record Call : Type 0 where
-  pub table : Table
+pub record FetchCall : Type 0 where
+  pub table : TableValue
   pub version : Protocol
   pub capabilities : List CapabilityValue
   pub agent : FeatureValue
@@ -29,12 +29,12 @@ pub record IsNegotiated (outcome : Outcome) : Type 0 where
   pub pack : outcome.last_response.pack ≡ true
 
 -- the features of its requests
-abbrev pub features : Call → List FeatureValue
+abbrev pub features : FetchCall → List FeatureValue
 features call = features_of call.table call.version call.capabilities call.agent
 
-module _ {N I A S C P X : Type 0} (parties : Parties N I A S C P X) (call : Call) (old : World N I S C) where
+module _ {N I A S C P X : Type 0} (parties : Parties N I A S C P X) (call : FetchCall) (old : World N I S C) where
   -- the first arguments are there, the lock is got where the boundary may change, the rest is met, and a lock that is had is released
-  pub record Carried (result : Result (Option Outcome) (Error A X)) (new : World N I S C) (progress : P) : Type 0 where
+  pub record CarriesOut (result : Result (Option Outcome) (Error A X)) (new : World N I S C) (progress : P) : Type 0 where
     pub asked : ArgumentsValue
     pub banded : Bool
     pub held : S
@@ -42,17 +42,17 @@ module _ {N I A S C P X : Type 0} (parties : Parties N I A S C P X) (call : Call
     pub last : World N I S C
     pub prepared : Prepared call.table call.version (features call) call.tags asked banded
     pub locks : LocksFirst parties.store_calls.locks (is_change call.wishes.shallow) old.store held first
-    pub meets : Meets parties call.version banded call.wishes asked (record old { store = held; locked = first }) result last progress
+    pub meets : SessionEnds parties call.version banded call.wishes asked (record old { store = held; locked = first }) result last progress
     pub releases : ReleasesIf parties.store_calls.releases last.locked last.store new.store
     pub stands : new ≡ record last { store = new.store; locked = false }
 
   -- the first arguments or the lock were refused, and nothing else changed
-  pub data Unstarted (e : Error A X) (new : World N I S C) : Type 0 where
-    unprepared : Unprepared call.table call.version (features call) call.tags e → new ≡ old → Unstarted e new
-    unlocked : (asked : ArgumentsValue) (banded : Bool) → Prepared call.table call.version (features call) call.tags asked banded → Unlocked parties.store_calls.failures old.store e new.store
-        → new ≡ record old { store = new.store } → Unstarted e new
+  pub data StartFails (e : Error A X) (new : World N I S C) : Type 0 where
+    unprepared : PrepareFails call.table call.version (features call) call.tags e → new ≡ old → StartFails e new
+    unlocked : (asked : ArgumentsValue) (banded : Bool) → Prepared call.table call.version (features call) call.tags asked banded → LockFails parties.store_calls.failures old.store e new.store
+        → new ≡ record old { store = new.store } → StartFails e new
 
   -- by its result, before and after which no lock is had
   abbrev pub Fetches : Result (Option Outcome) (Error A X) → World N I S C → P → Type 0
-  Fetches (Ok o) new progress = Carried (Ok o) new progress
-  Fetches (Err e) new progress = Unstarted e new ⊎ Carried (Err e) new progress
+  Fetches (Ok o) new progress = CarriesOut (Ok o) new progress
+  Fetches (Err e) new progress = StartFails e new ⊎ CarriesOut (Err e) new progress

@@ -24,7 +24,7 @@ use Rattle.gixp_wire.specs.declared.bodies.Bodies.{Bodies}
 use Rattle.gixp_wire.specs.Bodies.{answer_of as body_answer, bodies_reading, IsNewBodies}
 use Rattle.gixp_wire.specs.Connection.{IsNewConnection}
 use Rattle.gixp_wire.specs.Greeting.{Parameter}
-use Rattle.gixp_wire.specs.CapabilityAdvertisement.{Advertised, advertisement, Answers as SaysSo, Says, IsFromDevice, IsCaused}
+use Rattle.gixp_wire.specs.CapabilityAdvertisement.{Advertised, advertisement, Answers, Says, IsFromDevice, IsCaused}
 use Rattle.gixp_wire.specs.Transport.{TakesAnswer, ByAnswer}
 use Rattle.gixp_wire.specs.Handshake.{Greets, Identifies, Handshakes}
 use Rattle.gixp_refs.specs.declared.handshake.Ref.{Ref}
@@ -32,7 +32,7 @@ use Rattle.gixp_refs.specs.declared.handshake.refs.parse.Error.{Error as refs_er
 use Rattle.gixp_refs.specs.declared.handshake.refs.parse.Error.TheVariants.{Memory as refs_memory}
 use Rattle.gixp_refs.specs.Ref.{ref_value}
 use Rattle.gixp_refs.specs.RefLine.{RefsRefusal, refusal_from}
-use Rattle.gixp_refs.specs.ParseError.{parse_refusal, IsRefusal as IsRefsRefusal}
+use Rattle.gixp_refs.specs.ParseError.{parse_refusal, IsParseRefusal}
 use Rattle.gixp_refs.specs.Refs.{v2_refs, ReadsRefs, RefsFail}
 use Rattle.gixp_refs.specs.RefAdvertisement.{Symref, symref_table, v1_refs}
 use Rattle.gixp_refs.specs.V1Refs.{ReadsV1, V1Fails}
@@ -40,13 +40,13 @@ use Rattle.gixp_response.specs.declared.fetch.response.line.ShallowUpdate.{Shall
 use Rattle.gixp_response.specs.declared.fetch.response.error.Error.{Error as answer_error}
 use Rattle.gixp_response.specs.declared.fetch.response.error.Error.TheVariants.{Memory as answer_memory}
 use Rattle.gixp_response.specs.Runs.{SoFar}
-use Rattle.gixp_response.specs.ResponseError.{AnswerRefusal, answer_refusal, from_reader, IsRefusal}
+use Rattle.gixp_response.specs.ResponseError.{AnswerRefusal, answer_refusal, from_reader, IsAnswerRefusal}
 use Rattle.gixp_response.specs.Answer.{Found, refused, update_items}
-use Rattle.gixp_response.specs.AnswerReading.{AnswerFails, Passed as AnswerPassed}
+use Rattle.gixp_response.specs.AnswerReading.{AnswerFails, Passed}
 use Rattle.gixp_requests.specs.Arguments.{ArgumentsValue}
-use Rattle.gixp_requests.specs.Command.{Table}
+use Rattle.gixp_requests.specs.Command.{TableValue}
 use Rattle.gixp_requests.specs.Feature.{FeatureValue}
-use Rattle.gixp_requests.specs.Offers.{Validates}
+use Rattle.gixp_requests.specs.Offers.{AnswersRefusal}
 use Rattle.gixp_refmap.specs.declared.refmap.init.Context.{Context}
 use Rattle.gixp_refmap.specs.declared.refmap.init.Error.{Error as map_error}
 use Rattle.gixp_refmap.specs.declared.refmap.init.Error.TheVariants.{Memory as map_memory}
@@ -55,7 +55,7 @@ use Rattle.gixp_refmap.specs.declared.refmap.mapping.Mapping.{Mapping}
 use Rattle.gixp_refmap.specs.declared.ls_refs.error.Error.{Error as list_error}
 use Rattle.gixp_refmap.specs.Mapping.{joined_specs, spec_at, AnswersMap, HoldsOfAll}
 use Rattle.gixp_refmap.specs.MapError.{from_listing}
-use Rattle.gixp_refmap.specs.Listing.{listing, listing_refusal, SendsListing, Lists as ListsRefs}
+use Rattle.gixp_refmap.specs.Listing.{listing, listing_refusal, SendsListing, Lists}
 use Rattle.gixp_handshake.specs.declared.handshake.error.Error.{Error as shake_error}
 use Rattle.gixp_handshake.specs.declared.handshake.error.Error.TheVariants.{Credentials, EmptyCredentials, InvalidCredentials, TransportProtocolPolicyViolation}
 use Rattle.gixp_handshake.specs.declared.credentials.Outcome.{Outcome as Account}
@@ -63,18 +63,18 @@ use Rattle.gixp_handshake.specs.declared.credentials.Error.{Error as credentials
 use Rattle.gixp_handshake.specs.Credentials.{get, store, erase, action_value, next_value}
 use Rattle.gixp_handshake.specs.declared.handshake.read.Handshake.{Handshake}
 use Rattle.gixp_handshake.specs.ShakeError.{from_client, from_parse, is_denied}
-use Rattle.gixp_handshake.specs.Shake.{Answer, Turn as credential_turn, Opens, NoMemory, Shakes, is_accepted}
+use Rattle.gixp_handshake.specs.Shake.{CredentialAnswer, CredentialCall, Opens, StopsForMemory, CompletesHandshake, is_accepted}
 use Rattle.gixp_handshake.specs.Obtain.{prefixes_if, Obtains}
 use Rattle.gixp_negotiate.specs.Negotiate.{ActionValue, no_change, skip, negotiate}
 use Rattle.gixp_negotiate.specs.Wants.{AddsWants}
 use Rattle.gixp_fetch.specs.declared.options.Outcome.{Outcome}
 use Rattle.gixp_fetch.specs.declared.error.Error.{Error}
 use Rattle.gixp_fetch.specs.FetchRounds.{At}
-use Rattle.gixp_fetch.specs.Session.{Idle, Unready}
+use Rattle.gixp_fetch.specs.Session.{Idle, ReadyFails}
 use Rattle.gixp_fetch.specs.Fetch.{World, Parties}
-use Rattle.gixp_fetch.specs.Fetched.{Call, Fetches}
+use Rattle.gixp_fetch.specs.Fetched.{FetchCall, Fetches}
 use Rattle.gixp_fetch.specs.Mapped.{Knowledge, decided, lines_of}
-use Rattle.gixp_fetch.specs.Sessions.{Starts, Refuses, at_depth, at_wants, in_session, HoldsSession}
+use Rattle.gixp_fetch.specs.Sessions.{Starts, SessionFails, at_depth, at_wants, in_session, HoldsSession}
 
 -- ---- frames
 
@@ -95,8 +95,8 @@ OutsideOf plain now new refusal = IsOutside now new refusal × (plain ≡ true �
 
 abbrev pub AnswerFromOutside : Bool → Reading → Reading → answer_error → Type 0
 AnswerFromOutside plain old new e =
-    (taken : List Piece) × (((now : Reading) × (refusal : Refusal) × AnswerPassed old now taken × OutsideOf plain now new refusal × (answer_refusal e ≡ from_reader refusal))
-    ⊎ (AnswerPassed old new taken × (new.stopped ≡ None) × (e ≡ answer_memory)))
+    (taken : List Piece) × (((now : Reading) × (refusal : Refusal) × Passed old now taken × OutsideOf plain now new refusal × (answer_refusal e ≡ from_reader refusal))
+    ⊎ (Passed old new taken × (new.stopped ≡ None) × (e ≡ answer_memory)))
 
 abbrev pub RefsFromOutside : Bool → Reading → Reading → refs_error → Type 0
 RefsFromOutside plain old new e =
@@ -110,16 +110,16 @@ AdvertisementFromOutside plain old new e = RefsFromOutside plain old new e ⊎ (
 -- a refused answer is refused by the grammar, for that reason, or from outside
 abbrev pub AnswersAreRefused : Type 0
 AnswersAreRefused = (found : Pieces → Found) (plain : Bool) (old new : Reading) (e : answer_error) → AnswerFails found plain old new e
-    → ((r : AnswerRefusal) × IfSome old.to_come (λ p. found p ≡ refused r) × IsRefusal e r) ⊎ AnswerFromOutside plain old new e
+    → ((r : AnswerRefusal) × IfSome old.to_come (λ p. found p ≡ refused r) × IsAnswerRefusal e r) ⊎ AnswerFromOutside plain old new e
 
 -- so are refused refs, of either kind
 abbrev pub RefsAreRefused : Type 0
 RefsAreRefused = (plain : Bool) (old new : Reading) (e : refs_error) → RefsFail plain old new e
-    → ((r : RefsRefusal) × IfSome old.to_come (λ p. v2_refs (lines_ahead old p) ≡ Err r) × IsRefsRefusal e r) ⊎ RefsFromOutside plain old new e
+    → ((r : RefsRefusal) × IfSome old.to_come (λ p. v2_refs (lines_ahead old p) ≡ Err r) × IsParseRefusal e r) ⊎ RefsFromOutside plain old new e
 
 abbrev pub AdvertisementsAreRefused : Type 0
 AdvertisementsAreRefused = (t : List Symref) (plain : Bool) (old new : Reading) (e : refs_error) → V1Fails t plain old new e
-    → ((r : RefsRefusal) × IfSome old.to_come (λ p. v1_refs t (lines_ahead old p) ≡ Err r) × IsRefsRefusal e r) ⊎ AdvertisementFromOutside plain old new e
+    → ((r : RefsRefusal) × IfSome old.to_come (λ p. v1_refs t (lines_ahead old p) ≡ Err r) × IsParseRefusal e r) ⊎ AdvertisementFromOutside plain old new e
 
 -- ---- what a server says first
 
@@ -136,7 +136,7 @@ UnaskedWords false service parameters old new e = (kind : ErrorKind) × (e ≡ c
 -- its version and its capabilities are those of the definition, or its refusal is, unless a read, a write or an allocation failed, which is told apart whether the bytes are known or not
 abbrev pub SaysBy : Bool → Service → List Parameter → Reading → Reading → Result SetServiceResponse client_error → Type 0
 SaysBy persists service parameters old new (Ok found) =
-    (mid : Reading) × AsksWords persists service parameters old mid × IfSome mid.to_come (λ p. (a : Advertised) × (advertisement p ≡ Ok a) × SaysSo a new found) × Says new found
+    (mid : Reading) × AsksWords persists service parameters old mid × IfSome mid.to_come (λ p. (a : Advertised) × (advertisement p ≡ Ok a) × Answers a new found) × Says new found
 SaysBy persists service parameters old new (Err e) =
     UnaskedWords persists service parameters old new e
     ⊎ ((mid : Reading) × AsksWords persists service parameters old mid × (IfSome mid.to_come (λ p. advertisement p ≡ Err (client_refusal e)) ⊎ IsFromDevice mid new e) × IsCaused mid new e)
@@ -147,7 +147,7 @@ WordsAreSaid = (service : Service) (parameters : List Parameter) (old new : Read
 -- ---- handshakes and their refusals
 
 -- a handshake has the version and the capabilities of the server's first words, and its version is one of those that are accepted
-pub record Greeted (service : Service) (parameters : List Parameter) (credentials : List credential_turn) (start shaken : Reading) (handshake : Handshake) : Type 0 where
+pub record Greeted (service : Service) (parameters : List Parameter) (credentials : List CredentialCall) (start shaken : Reading) (handshake : Handshake) : Type 0 where
   pub found : SetServiceResponse
   pub from : Reading
   pub opens : Opens service parameters start from credentials (Ok found)
@@ -157,7 +157,7 @@ pub record Greeted (service : Service) (parameters : List Parameter) (credential
   pub held : shaken.held ≡ from.held
 
 -- these refs came with the handshake, and are those of its lines, after which nothing more was read
-pub record Shown (found : SetServiceResponse) (from shaken reached : Reading) (handshake : Handshake) (given : List Ref) : Type 0 where
+pub record ShownByHandshake (found : SetServiceResponse) (from shaken reached : Reading) (handshake : Handshake) (given : List Ref) : Type 0 where
   pub follow : found.has_refs ≡ true
   pub refs : Vec Ref Global
   pub updates : Vec ShallowUpdate Global
@@ -171,9 +171,9 @@ pub record Shown (found : SetServiceResponse) (from shaken reached : Reading) (h
   pub stays : reached ≡ shaken
 
 -- or none came, and they are those of the lines that answer the command, which asks for the prefixes of the refspecs
-pub record Listed (table : Table) (agent : FeatureValue) (context : Context) (handshake : Handshake) (shaken reached : Reading) (given : List Ref) : Type 0 where
+pub record ListedByCommand (table : TableValue) (agent : FeatureValue) (context : Context) (handshake : Handshake) (shaken reached : Reading) (given : List Ref) : Type 0 where
   pub none : handshake.refs ≡ None
-  pub valid : Validates (listing_refusal (listing table (prefixes_if true (joined_specs context.fetch_refspecs.items context.extra_refspecs.items)) handshake.capabilities agent)) (Ok tt)
+  pub valid : AnswersRefusal (listing_refusal (listing table (prefixes_if true (joined_specs context.fetch_refspecs.items context.extra_refspecs.items)) handshake.capabilities agent)) (Ok tt)
   pub from : Reading
   pub sends : SendsListing (listing table (prefixes_if true (joined_specs context.fetch_refspecs.items context.extra_refspecs.items)) handshake.capabilities agent) shaken from (Ok tt)
   pub read : ReadsRefs from reached given
@@ -182,52 +182,52 @@ pub record Listed (table : Table) (agent : FeatureValue) (context : Context) (ha
 -- the refs of an advertisement are refused: by its symrefs before the first line, by the first refusal of the lines, or from outside
 abbrev pub RefsRefused : List CapabilityValue → Bool → Reading → Reading → refs_error → Type 0
 RefsRefused capabilities plain old new e =
-    ((new ≡ old) × (((r : RefsRefusal) × (symref_table capabilities ≡ Err r) × IsRefsRefusal e r) ⊎ (e ≡ refs_memory)))
+    ((new ≡ old) × (((r : RefsRefusal) × (symref_table capabilities ≡ Err r) × IsParseRefusal e r) ⊎ (e ≡ refs_memory)))
     ⊎ ((t : List Symref) × (symref_table capabilities ≡ Ok t)
-    × (((r : RefsRefusal) × IfSome old.to_come (λ p. v1_refs t (lines_ahead old p) ≡ Err r) × IsRefsRefusal e r) ⊎ AdvertisementFromOutside plain old new e))
+    × (((r : RefsRefusal) × IfSome old.to_come (λ p. v1_refs t (lines_ahead old p) ≡ Err r) × IsParseRefusal e r) ⊎ AdvertisementFromOutside plain old new e))
 
 -- an account for the server's URL was asked for first
-pub record AsksAccount (old : Reading) (credentials : List credential_turn) (turn : credential_turn) (later : List credential_turn) : Type 0 where
+pub record AsksAccount (old : Reading) (credentials : List CredentialCall) (turn : CredentialCall) (later : List CredentialCall) : Type 0 where
   pub all : credentials ≡ turn ∷ later
   pub asked : action_value turn.action ≡ get old.held.url
 
 -- one was got, and the transport has it
-pub record HasAccount (old now : Reading) (turn : credential_turn) (account : Account) : Type 0 where
+pub record HasAccount (old now : Reading) (turn : CredentialCall) (account : Account) : Type 0 where
   pub got : turn.answer ≡ Ok (Some account)
   pub taken : Identifies old now account.identity (Ok tt)
 
 -- a bad account was told to be so, or wasn't
-abbrev pub IsErased : Answer → List ℕ → shake_error → Type 0
+abbrev pub IsErased : CredentialAnswer → List ℕ → shake_error → Type 0
 IsErased (Ok x) url e = (u : BString) × (bstring_bytes u ≡ url) × (e ≡ InvalidCredentials u)
 IsErased (Err x) url e = e ≡ Credentials x
 
 -- the table of accounts: who has them refused or has none for the server; the transport takes none; the server's first words weren't had again, for another reason; they weren't for want of a good account, which is then told; or that it is good wasn't told
-pub data NoAccount (service : Service) (parameters : List Parameter) (old new : Reading) (credentials : List credential_turn) (e : shake_error) : Type 0 where
-  unanswered : (turn : credential_turn) → AsksAccount old credentials turn [] → (x : credentials_error) → turn.answer ≡ Err x → new ≡ old → e ≡ Credentials x → NoAccount service parameters old new credentials e
-  none_known : (turn : credential_turn) → AsksAccount old credentials turn [] → turn.answer ≡ Ok None → new ≡ old → e ≡ EmptyCredentials → NoAccount service parameters old new credentials e
-  untaken : (turn : credential_turn) → AsksAccount old credentials turn [] → (account : Account) → turn.answer ≡ Ok (Some account) → (x : client_error) → Identifies old new account.identity (Err x) → e ≡ from_client x
+pub data NoAccount (service : Service) (parameters : List Parameter) (old new : Reading) (credentials : List CredentialCall) (e : shake_error) : Type 0 where
+  unanswered : (turn : CredentialCall) → AsksAccount old credentials turn [] → (x : credentials_error) → turn.answer ≡ Err x → new ≡ old → e ≡ Credentials x → NoAccount service parameters old new credentials e
+  none_known : (turn : CredentialCall) → AsksAccount old credentials turn [] → turn.answer ≡ Ok None → new ≡ old → e ≡ EmptyCredentials → NoAccount service parameters old new credentials e
+  untaken : (turn : CredentialCall) → AsksAccount old credentials turn [] → (account : Account) → turn.answer ≡ Ok (Some account) → (x : client_error) → Identifies old new account.identity (Err x) → e ≡ from_client x
       → NoAccount service parameters old new credentials e
-  unheard_again : (turn : credential_turn) → AsksAccount old credentials turn [] → (account : Account) (now : Reading) → HasAccount old now turn account → (x : client_error) → Handshakes service parameters now new (Err x) → is_denied x ≡ false
+  unheard_again : (turn : CredentialCall) → AsksAccount old credentials turn [] → (account : Account) (now : Reading) → HasAccount old now turn account → (x : client_error) → Handshakes service parameters now new (Err x) → is_denied x ≡ false
       → e ≡ from_client x → NoAccount service parameters old new credentials e
-  bad : (turn told : credential_turn) → AsksAccount old credentials turn (told ∷ []) → (account : Account) (now : Reading) → HasAccount old now turn account → (x : client_error) → Handshakes service parameters now new (Err x) → is_denied x ≡ true
+  bad : (turn told : CredentialCall) → AsksAccount old credentials turn (told ∷ []) → (account : Account) (now : Reading) → HasAccount old now turn account → (x : client_error) → Handshakes service parameters now new (Err x) → is_denied x ≡ true
       → action_value told.action ≡ erase (next_value account.next) → IsErased told.answer old.held.url e → NoAccount service parameters old new credentials e
-  unkept : (turn told : credential_turn) → AsksAccount old credentials turn (told ∷ []) → (account : Account) (now : Reading) → HasAccount old now turn account → (found : SetServiceResponse) → Handshakes service parameters now new (Ok found)
+  unkept : (turn told : CredentialCall) → AsksAccount old credentials turn (told ∷ []) → (account : Account) (now : Reading) → HasAccount old now turn account → (found : SetServiceResponse) → Handshakes service parameters now new (Ok found)
       → action_value told.action ≡ store (next_value account.next) → (x : credentials_error) → told.answer ≡ Err x → e ≡ Credentials x → NoAccount service parameters old new credentials e
 
 -- a handshake is refused, for this reason: no memory; the server's first words weren't had, and not for want of an account; they weren't had without an account, and the table of accounts has the refusal; the version isn't accepted; or the refs are refused
-pub data Unshaken (service : Service) (parameters : List Parameter) (plain : Bool) (start reached : Reading) (credentials : List credential_turn) (e : shake_error) : Type 0 where
-  unbegun : NoMemory start reached credentials (Err e) → Unshaken service parameters plain start reached credentials e
-  unheard : (x : client_error) → Handshakes service parameters start reached (Err x) → is_denied x ≡ false → credentials ≡ [] → e ≡ from_client x → Unshaken service parameters plain start reached credentials e
-  denied : (x : client_error) (mid : Reading) → Handshakes service parameters start mid (Err x) → is_denied x ≡ true → NoAccount service parameters mid reached credentials e ⊎ NoMemory mid reached credentials (Err e)
-      → Unshaken service parameters plain start reached credentials e
+pub data HandshakeFails (service : Service) (parameters : List Parameter) (plain : Bool) (start reached : Reading) (credentials : List CredentialCall) (e : shake_error) : Type 0 where
+  unbegun : StopsForMemory start reached credentials (Err e) → HandshakeFails service parameters plain start reached credentials e
+  unheard : (x : client_error) → Handshakes service parameters start reached (Err x) → is_denied x ≡ false → credentials ≡ [] → e ≡ from_client x → HandshakeFails service parameters plain start reached credentials e
+  denied : (x : client_error) (mid : Reading) → Handshakes service parameters start mid (Err x) → is_denied x ≡ true → NoAccount service parameters mid reached credentials e ⊎ StopsForMemory mid reached credentials (Err e)
+      → HandshakeFails service parameters plain start reached credentials e
   unaccepted : (found : SetServiceResponse) → Opens service parameters start reached credentials (Ok found) → is_accepted start.held.accepted found.actual_protocol ≡ false → e ≡ TransportProtocolPolicyViolation found.actual_protocol
-      → Unshaken service parameters plain start reached credentials e
+      → HandshakeFails service parameters plain start reached credentials e
   unread : (found : SetServiceResponse) (from : Reading) → Opens service parameters start from credentials (Ok found) → is_accepted start.held.accepted found.actual_protocol ≡ true → found.has_refs ≡ true
-      → (x : refs_error) → RefsRefused found.capabilities plain from reached x → e ≡ from_parse x → Unshaken service parameters plain start reached credentials e
+      → (x : refs_error) → RefsRefused found.capabilities plain from reached x → e ≡ from_parse x → HandshakeFails service parameters plain start reached credentials e
 
 abbrev pub HandshakesAreRefused : Type 0
-HandshakesAreRefused = (service : Service) (parameters : List Parameter) (plain : Bool) (start reached : Reading) (credentials : List credential_turn) (e : shake_error)
-    → Shakes service parameters plain start reached credentials (Err e) → Unshaken service parameters plain start reached credentials e
+HandshakesAreRefused = (service : Service) (parameters : List Parameter) (plain : Bool) (start reached : Reading) (credentials : List CredentialCall) (e : shake_error)
+    → CompletesHandshake service parameters plain start reached credentials (Err e) → HandshakeFails service parameters plain start reached credentials e
 
 -- ---- ref maps and their refusals
 
@@ -238,23 +238,23 @@ IsOfAll context capabilities given r =
     × HoldsOfAll (joined_specs context.fetch_refspecs.items context.extra_refspecs.items) (map ref_value given) (λ all. AnswersMap capabilities context.fetch_refspecs.items context.extra_refspecs.items all r)
 
 -- a ref map, or why there is none: it is that of the refs that came with the handshake, or of those that the server lists, or these weren't listed; or an allocation failed before
-pub data Answers (table : Table) (agent : FeatureValue) (context : Context) (handshake : Handshake) (plain : Bool) (shaken reached : Reading) (r : Result RefMap map_error) : Type 0 where
-  of_shown : (refs : Vec Ref Global) → handshake.refs ≡ Some refs → reached ≡ shaken → IsOfAll context handshake.capabilities refs.items r → Answers table agent context handshake plain shaken reached r
-  of_listed : (given : List Ref) → Listed table agent context handshake shaken reached given → IsOfAll context handshake.capabilities given r → Answers table agent context handshake plain shaken reached r
+pub data FindsRefMap (table : TableValue) (agent : FeatureValue) (context : Context) (handshake : Handshake) (plain : Bool) (shaken reached : Reading) (r : Result RefMap map_error) : Type 0 where
+  of_shown : (refs : Vec Ref Global) → handshake.refs ≡ Some refs → reached ≡ shaken → IsOfAll context handshake.capabilities refs.items r → FindsRefMap table agent context handshake plain shaken reached r
+  of_listed : (given : List Ref) → ListedByCommand table agent context handshake shaken reached given → IsOfAll context handshake.capabilities given r → FindsRefMap table agent context handshake plain shaken reached r
   unlisted : handshake.refs ≡ None → (e : list_error)
-      → ListsRefs (listing table (prefixes_if true (joined_specs context.fetch_refspecs.items context.extra_refspecs.items)) handshake.capabilities agent) plain shaken reached (Err e) → r ≡ Err (from_listing e)
-      → Answers table agent context handshake plain shaken reached r
-  unmade : handshake.refs ≡ None → r ≡ Err map_memory → reached ≡ shaken → Answers table agent context handshake plain shaken reached r
+      → Lists (listing table (prefixes_if true (joined_specs context.fetch_refspecs.items context.extra_refspecs.items)) handshake.capabilities agent) plain shaken reached (Err e) → r ≡ Err (from_listing e)
+      → FindsRefMap table agent context handshake plain shaken reached r
+  unmade : handshake.refs ≡ None → r ≡ Err map_memory → reached ≡ shaken → FindsRefMap table agent context handshake plain shaken reached r
 
 abbrev pub MapsAreOfAll : Type 0
-MapsAreOfAll = (table : Table) (agent : FeatureValue) (context : Context) (handshake : Handshake) (plain : Bool) (shaken reached : Reading) (r : Result RefMap map_error)
-    → Obtains table agent context handshake plain shaken reached r → Answers table agent context handshake plain shaken reached r
+MapsAreOfAll = (table : TableValue) (agent : FeatureValue) (context : Context) (handshake : Handshake) (plain : Bool) (shaken reached : Reading) (r : Result RefMap map_error)
+    → Obtains table agent context handshake plain shaken reached r → FindsRefMap table agent context handshake plain shaken reached r
 
 -- ---- what is asked for of a map
 
 module _ {N I A S C P X : Type 0} (parties : Parties N I A S C P X) (k : Knowledge) (made : RefMap) where
   -- the rounds begin: the decision is what the mappings of this map call for, and their lines are asked for
-  pub record WantsOfMap {call : Call} {old : World N I S C} {banded : Bool} {ids : List ObjectId} {action : ActionValue} {locked : Bool} {read : S} {start : At N I} (starts : Starts parties call old banded ids action locked read start) : Type 0 where
+  pub record WantsOfMap {call : FetchCall} {old : World N I S C} {banded : Bool} {ids : List ObjectId} {action : ActionValue} {locked : Bool} {read : S} {start : At N I} (starts : Starts parties call old banded ids action locked read start) : Type 0 where
     pub decides : action ≡ decided k made
     pub wants : AddsWants (lines_of k made starts.asked starts.known) true starts.asked start.asked
 
@@ -270,17 +270,17 @@ module _ {N I A S C P X : Type 0} (parties : Parties N I A S C P X) (k : Knowled
     pub wants : NoWants idle.idle
 
   -- where the second step was refused the first decided what they call for
-  abbrev pub DecidesOfMap : {first last : N} {asked : ArgumentsValue} {e : Error A X} → Unready parties.negotiation_calls first asked e last → Type 0
+  abbrev pub DecidesOfMap : {first last : N} {asked : ArgumentsValue} {e : Error A X} → ReadyFails parties.negotiation_calls first asked e last → Type 0
   DecidesOfMap (inl u) = ⊤
   DecidesOfMap (inr u) = negotiate u.known ≡ decided k made
 
-  abbrev pub RefusalOfMap : {call : Call} {old : World N I S C} {e : Error A X} {last : World N I S C} {progress : P} → Refuses parties call old e last progress → Type 0
+  abbrev pub RefusalOfMap : {call : FetchCall} {old : World N I S C} {e : Error A X} {last : World N I S C} {progress : P} → SessionFails parties call old e last progress → Type 0
   RefusalOfMap (at_depth given banded held p l u n t) = ⊤
   RefusalOfMap (at_wants banded ids asked a u t) = DecidesOfMap u
   RefusalOfMap (in_session b) = WantsOfMap b.starts
 
   -- as far as a fetch came, what it asked for is what the mappings of this map call for
-  abbrev pub AsksOfMap : (call : Call) (old : World N I S C) (result : Result (Option Outcome) (Error A X)) (new : World N I S C) (progress : P) → HoldsSession parties call old result new progress → Type 0
+  abbrev pub AsksOfMap : (call : FetchCall) (old : World N I S C) (result : Result (Option Outcome) (Error A X)) (new : World N I S C) (progress : P) → HoldsSession parties call old result new progress → Type 0
   AsksOfMap call old (Ok (Some outcome)) new progress h = WantsOfMap h.1.starts
   AsksOfMap call old (Ok None) new progress h = NoneOfMap h.1.idle
   AsksOfMap call old (Err e) new progress (inl u) = ⊤
@@ -290,13 +290,13 @@ module _ {N I A S C P X : Type 0} (parties : Parties N I A S C P X) (k : Knowled
 
 module _ {N I A S C P X : Type 0} (parties : Parties N I A S C P X) (map_of : N → RefMap) (knows : N → Knowledge) where
   -- a handshake, the ref map that stands on it, and a fetch whose negotiation is over this map, each where the one before left the transport
-  pub record Run (call : Call) (context : Context) (start : Reading) (made : RefMap) (old : World N I S C) (result : Result (Option Outcome) (Error A X)) (new : World N I S C) (progress : P) : Type 0 where
+  pub record Run (call : FetchCall) (context : Context) (start : Reading) (made : RefMap) (old : World N I S C) (result : Result (Option Outcome) (Error A X)) (new : World N I S C) (progress : P) : Type 0 where
     pub service : Service
     pub parameters : List Parameter
-    pub credentials : List credential_turn
+    pub credentials : List CredentialCall
     pub handshake : Handshake
     pub shaken : Reading
-    pub shakes : Shakes service parameters parties.plain start shaken credentials (Ok handshake)
+    pub shakes : CompletesHandshake service parameters parties.plain start shaken credentials (Ok handshake)
     pub obtains : Obtains call.table call.agent context handshake parties.plain shaken old.reading (Ok made)
     pub version : call.version ≡ handshake.server_protocol_version
     pub capabilities : call.capabilities ≡ handshake.capabilities
@@ -305,12 +305,12 @@ module _ {N I A S C P X : Type 0} (parties : Parties N I A S C P X) (map_of : N 
     pub fetches : Fetches parties call old result new progress
 
   -- what is true of a run
-  pub record Promise (call : Call) (context : Context) (start : Reading) (made : RefMap) (old : World N I S C) (result : Result (Option Outcome) (Error A X)) (new : World N I S C) (progress : P)
+  pub record Promise (call : FetchCall) (context : Context) (start : Reading) (made : RefMap) (old : World N I S C) (result : Result (Option Outcome) (Error A X)) (new : World N I S C) (progress : P)
       (run : Run call context start made old result new progress) : Type 0 where
     pub greeted : Greeted run.service run.parameters run.credentials start run.shaken run.handshake
-    pub refs : Shown greeted.found greeted.from run.shaken old.reading run.handshake made.remote_refs.items
+    pub refs : ShownByHandshake greeted.found greeted.from run.shaken old.reading run.handshake made.remote_refs.items
         ⊎ ((greeted.found.has_refs ≡ false) × (run.shaken ≡ greeted.from) × (run.handshake.v1_shallow_updates ≡ None)
-        × Listed call.table call.agent context run.handshake run.shaken old.reading made.remote_refs.items)
+        × ListedByCommand call.table call.agent context run.handshake run.shaken old.reading made.remote_refs.items)
     pub mappings : IsOfAll context run.handshake.capabilities made.remote_refs.items (Ok made)
     pub placed : AllByRecursion (λ (m : Mapping). IsSome (spec_at m.spec_index made.refspecs.items made.extra_refspecs.items)) made.mappings.items
     pub explicit : made.refspecs ≡ context.fetch_refspecs

@@ -12,7 +12,7 @@ use Rattle.gixp_hash.specs.declared.object_id.ObjectId.{ObjectId}
 use Rattle.gixp_sidebands.specs.Bands.{Side, side_reading, side_content, content_of}
 use Rattle.gixp_response.specs.Answer.{AnswerValue, Found, whole}
 use Rattle.gixp_response.specs.Beginnings.{expected as flags}
-use Rattle.gixp_response.specs.AnswerReading.{answer_of, BrokeOff}
+use Rattle.gixp_response.specs.AnswerReading.{answer_of, AnswerBrokeOff}
 use Rattle.gixp_response.specs.Features.{Feature, missing_feature}
 use Rattle.gixp_response.specs.declared.fetch.response.line.ShallowUpdate.{ShallowUpdate}
 use Rattle.gixp_requests.specs.Feature.{feature_values, has_feature}
@@ -32,17 +32,17 @@ use Rattle.gixp_fetch.specs.View.{view}
 use Rattle.gixp_fetch.specs.Sent.{requests_of, WroteRequests}
 use Rattle.gixp_fetch.specs.FetchShallow.{is_change, shallow_asks}
 use Rattle.gixp_fetch.specs.Prepare.{asks_tags, Prepared, LocksFirst, ReleasesIf}
-use Rattle.gixp_fetch.specs.Receive.{GivesBack, Undrained, fresh_side}
+use Rattle.gixp_fetch.specs.Receive.{GivesBack, DrainFails, fresh_side}
 use Rattle.gixp_fetch.specs.Received.{of_pack}
-use Rattle.gixp_fetch.specs.Session.{Unopened, Idle, Unready, Holds, Unheld, Settles, Unsettled}
+use Rattle.gixp_fetch.specs.Session.{OpenFails, Idle, ReadyFails, Holds, HoldFails, SettlesBoundary, SettleFails}
 use Rattle.gixp_fetch.specs.Fetch.{World, Parties}
-use Rattle.gixp_fetch.specs.Fetched.{Call, features, Unstarted}
+use Rattle.gixp_fetch.specs.Fetched.{FetchCall, features, StartFails}
 
 -- ---- what a round asks for, and its answer
 
 -- an answer is that of the grammar in what was to come; or a read failed as at the stream's end, and it is that of the grammar in the pieces before
 abbrev pub IsAnswer : (Pieces → Found) → Protocol → Reading → Reading → AnswerValue → Type 0
-IsAnswer found version old new value = IfSome old.to_come (λ p. (q : Pieces) × (new.to_come ≡ Some q) × (found p ≡ whole value q)) ⊎ BrokeOff found version old new value
+IsAnswer found version old new value = IfSome old.to_come (λ p. (q : Pieces) × (new.to_come ≡ Some q) × (found p ≡ whole value q)) ⊎ AnswerBrokeOff found version old new value
 
 abbrev pub AreAnswers : {N I : Type 0} → Protocol → Bool → List (Turn N I) → Type 0
 AreAnswers version banded [] = ⊤
@@ -80,13 +80,13 @@ module _ {N I A : Type 0} (m : Manner N I A) where
 
 module _ {N I A S C P X : Type 0} (parties : Parties N I A S C P X) where
   -- how the rounds of a call go
-  abbrev pub manner_of : Call → Bool → Manner N I A
+  abbrev pub manner_of : FetchCall → Bool → Manner N I A
   manner_of call banded = record { goes = parties.negotiation_calls.goes; fails = parties.negotiation_calls.round_fails; says = parties.says; version = call.version; banded = banded; plain = parties.plain }
 
   -- ---- what is asked for
 
   -- before any object: the features, the tags, the boundary and the depth, of what the client and the server can do and of the boundary that the store has, whose lock is had where it may change
-  pub record Asks (call : Call) (store : S) (banded : Bool) (ids : List ObjectId) (asked : ArgumentsValue) (locked : Bool) (read : S) : Type 0 where
+  pub record Asks (call : FetchCall) (store : S) (banded : Bool) (ids : List ObjectId) (asked : ArgumentsValue) (locked : Bool) (read : S) : Type 0 where
     pub raw : List Feature
     pub values : feature_values raw ≡ features call
     pub needed : missing_feature call.version raw ≡ None
@@ -99,7 +99,7 @@ module _ {N I A S C P X : Type 0} (parties : Parties N I A S C P X) where
     pub depth : shallow_asks call.wishes.shallow ids given ≡ Ok asked
 
   -- the rounds begin: the wants of the negotiation are asked for next, the window is the first, no answer came, and nothing was written or read
-  pub record Starts (call : Call) (old : World N I S C) (banded : Bool) (ids : List ObjectId) (action : ActionValue) (locked : Bool) (read : S) (start : At N I) : Type 0 where
+  pub record Starts (call : FetchCall) (old : World N I S C) (banded : Bool) (ids : List ObjectId) (action : ActionValue) (locked : Bool) (read : S) (start : At N I) : Type 0 where
     pub asked : ArgumentsValue
     pub asks : Asks call old.store banded ids asked locked read
     pub known : List Bool
@@ -119,7 +119,7 @@ module _ {N I A S C P X : Type 0} (parties : Parties N I A S C P X) where
     pub consumer : last.consumer ≡ old.consumer
 
   -- there was nothing to ask for: the refs call for no objects, or no want was among what the negotiation added
-  pub record AsksNothing (call : Call) (old last : World N I S C) : Type 0 where
+  pub record AsksNothing (call : FetchCall) (old last : World N I S C) : Type 0 where
     pub banded : Bool
     pub ids : List ObjectId
     pub asked : ArgumentsValue
@@ -158,12 +158,12 @@ module _ {N I A S C P X : Type 0} (parties : Parties N I A S C P X) where
   -- the consumer refused the pack, or what it left was refused before a stop
   abbrev pub RefusesPack : C → Reading → PackFailure X → C → Reading → P → Type 0
   RefusesPack c from (Consumer x) d new progress = (left : Side) × TakesPack c from (Err x) d left progress × GivesBack left new
-  RefusesPack c from (Rest x) d new progress = (left end : Side) × TakesPack c from (Ok true) d left progress × Undrained (side_reading left) (side_reading end) x × GivesBack end new
+  RefusesPack c from (Rest x) d new progress = (left end : Side) × TakesPack c from (Ok true) d left progress × DrainFails (side_reading left) (side_reading end) x × GivesBack end new
 
   -- ---- a session that came to a pack
 
   -- its rounds one behind another, each with its request, which is the stated function of what was asked for, and its answer; and then the lock, the pack and the boundary
-  pub record Conversation (call : Call) (old : World N I S C) (action : ActionValue) (rounds : List Round) (answer : AnswerValue) (last : World N I S C) (progress : P) : Type 0 where
+  pub record Conversation (call : FetchCall) (old : World N I S C) (action : ActionValue) (rounds : List Round) (answer : AnswerValue) (last : World N I S C) (progress : P) : Type 0 where
     pub banded : Bool
     pub ids : List ObjectId
     pub locked : Bool
@@ -186,7 +186,7 @@ module _ {N I A S C P X : Type 0} (parties : Parties N I A S C P X) where
     pub held : S
     pub holds : Holds parties.store_calls (updates ++ call.wishes.told) call.wishes.reject read locked held last.locked
     pub pack : TakesAll old.consumer end.reading last.consumer last.reading progress
-    pub settles : Settles parties.store_calls ids (updates ++ call.wishes.told) held last.store
+    pub settles : SettlesBoundary parties.store_calls ids (updates ++ call.wishes.told) held last.store
 
   -- ---- a session that broke off
 
@@ -204,55 +204,55 @@ module _ {N I A S C P X : Type 0} (parties : Parties N I A S C P X) where
   -- a pack came, and the rest was refused for this reason: an allocation failed, the lock wasn't had, the pack or what stands behind it was refused, or the boundary wasn't written
   pub data Unpacks (ids : List ObjectId) (updates : List ShallowUpdate) (reject : Bool) (c : C) (read : S) (locked : Bool) (from : Reading) (e : Error A X) (last : World N I S C) (progress : P) : Type 0 where
     lacks_memory : e ≡ Memory → last.reading ≡ from → Unlent c read locked last → Unpacks ids updates reject c read locked from e last progress
-    lacks_lock : Unheld parties.store_calls updates reject read locked e last.store last.locked → last.reading ≡ from → last.consumer ≡ c → Unpacks ids updates reject c read locked from e last progress
+    lacks_lock : HoldFails parties.store_calls updates reject read locked e last.store last.locked → last.reading ≡ from → last.consumer ≡ c → Unpacks ids updates reject c read locked from e last progress
     lacks_room : Holds parties.store_calls updates reject read locked last.store last.locked → e ≡ Memory → last.reading ≡ from → last.consumer ≡ c → Unpacks ids updates reject c read locked from e last progress
     untaken : Holds parties.store_calls updates reject read locked last.store last.locked → (error : PackFailure X) → e ≡ of_pack error → RefusesPack c from error last.consumer last.reading progress
         → Unpacks ids updates reject c read locked from e last progress
-    unwritten : (held : S) → Holds parties.store_calls updates reject read locked held last.locked → TakesAll c from last.consumer last.reading progress → Unsettled parties.store_calls held e last.store
+    unwritten : (held : S) → Holds parties.store_calls updates reject read locked held last.locked → TakesAll c from last.consumer last.reading progress → SettleFails parties.store_calls held e last.store
         → Unpacks ids updates reject c read locked from e last progress
 
   -- after rounds that were neither the last nor had a pack, with this refusal: the caller stopped it; one more round was the last and had no pack; one more was refused, by the negotiation, in its request or in its answer; or one more had a pack, and the rest was refused
-  pub data BreaksOff (call : Call) (banded : Bool) (ids : List ObjectId) (c : C) (read : S) (locked : Bool) (turns : List (Turn N I)) (before : At N I) (e : Error A X) (last : World N I S C) (progress : P) : Type 0 where
+  pub data RoundsBreakOff (call : FetchCall) (banded : Bool) (ids : List ObjectId) (c : C) (read : S) (locked : Bool) (turns : List (Turn N I)) (before : At N I) (e : Error A X) (last : World N I S C) (progress : P) : Type 0 where
     by_caller : parties.says before.interrupt true last.interrupt → e ≡ Negotiate (NegotiationFailed (length turns)) → StandsAt before last → Unlent c read locked last
-        → BreaksOff call banded ids c read locked turns before e last progress
+        → RoundsBreakOff call banded ids c read locked turns before e last progress
     exhausted : (t : Turn N I) → Turns (manner_of call banded) before t → t.done ≡ true → t.reply.pack ≡ false → e ≡ Negotiate (NegotiationFailed (length turns + 1)) → StandsAt t.after last → last.interrupt ≡ t.after.interrupt → Unlent c read locked last
-        → BreaksOff call banded ids c read locked turns before e last progress
-    at_round : TurnFails (manner_of call banded) before e last.negotiate last.reading → Unlent c read locked last → BreaksOff call banded ids c read locked turns before e last progress
+        → RoundsBreakOff call banded ids c read locked turns before e last progress
+    at_round : TurnFails (manner_of call banded) before e last.negotiate last.reading → Unlent c read locked last → RoundsBreakOff call banded ids c read locked turns before e last progress
     behind_pack : (t : Turn N I) → Turns (manner_of call banded) before t → t.reply.pack ≡ true → last.negotiate ≡ t.after.negotiate → last.reading.held ≡ t.after.reading.held
         → Unpacks ids ((updates_of (manner_of call banded) turns ++ t.reply.shallow_updates) ++ call.wishes.told) call.wishes.reject c read locked t.after.reading e last progress
-        → BreaksOff call banded ids c read locked turns before e last progress
+        → RoundsBreakOff call banded ids c read locked turns before e last progress
 
-  module _ {call : Call} {banded : Bool} {ids : List ObjectId} {c : C} {read : S} {locked : Bool} {turns : List (Turn N I)} {before : At N I} {e : Error A X} {last : World N I S C} {progress : P} where
+  module _ {call : FetchCall} {banded : Bool} {ids : List ObjectId} {c : C} {read : S} {locked : Bool} {turns : List (Turn N I)} {before : At N I} {e : Error A X} {last : World N I S C} {progress : P} where
     -- the one round more that was answered, if there is one
-    abbrev pub one_more : BreaksOff call banded ids c read locked turns before e last progress → List (Turn N I)
+    abbrev pub one_more : RoundsBreakOff call banded ids c read locked turns before e last progress → List (Turn N I)
     one_more (by_caller s g at u) = []
     one_more (exhausted t r d n g at i u) = t ∷ []
     one_more (at_round f u) = []
     one_more (behind_pack t r p n h u) = t ∷ []
 
     -- where the transport stood after the last answer
-    abbrev pub answered_at : BreaksOff call banded ids c read locked turns before e last progress → Reading
+    abbrev pub answered_at : RoundsBreakOff call banded ids c read locked turns before e last progress → Reading
     answered_at (by_caller s g at u) = before.reading
     answered_at (exhausted t r d n g at i u) = t.after.reading
     answered_at (at_round f u) = before.reading
     answered_at (behind_pack t r p n h u) = t.after.reading
 
     -- the one request more that was begun and not answered, if there is one
-    abbrev pub unanswered : BreaksOff call banded ids c read locked turns before e last progress → List (List ℕ)
+    abbrev pub unanswered : RoundsBreakOff call banded ids c read locked turns before e last progress → List (List ℕ)
     unanswered (by_caller s g at u) = []
     unanswered (exhausted t r d n g at i u) = []
     unanswered (at_round f u) = begun_in (manner_of call banded) f
     unanswered (behind_pack t r p n h u) = []
 
     -- what the last round told, if it told anything
-    abbrev pub told_last : BreaksOff call banded ids c read locked turns before e last progress → List Round
+    abbrev pub told_last : RoundsBreakOff call banded ids c read locked turns before e last progress → List Round
     told_last (by_caller s g at u) = []
     told_last (exhausted t r d n g at i u) = t.round ∷ []
     told_last (at_round f u) = told_of (manner_of call banded) f
     told_last (behind_pack t r p n h u) = t.round ∷ []
 
   -- its rounds one behind another, each with its request and its answer, and why there is no pack or the rest was refused
-  pub record BrokenOff (call : Call) (old : World N I S C) (e : Error A X) (last : World N I S C) (progress : P) : Type 0 where
+  pub record BrokenOff (call : FetchCall) (old : World N I S C) (e : Error A X) (last : World N I S C) (progress : P) : Type 0 where
     pub banded : Bool
     pub ids : List ObjectId
     pub action : ActionValue
@@ -264,7 +264,7 @@ module _ {N I A S C P X : Type 0} (parties : Parties N I A S C P X) where
     pub before : At N I
     pub run : Rounds (manner_of call banded) start turns before
     pub go_on : GoOn turns
-    pub ends : BreaksOff call banded ids old.consumer read locked turns before e last progress
+    pub ends : RoundsBreakOff call banded ids old.consumer read locked turns before e last progress
     pub negotiated : AreNegotiated (manner_of call banded) start (turns ++ one_more ends)
     pub answers : AreAnswers call.version banded (turns ++ one_more ends)
     pub requests : WroteRequests old.reading (answered_at ends) (requests_of (turns ++ one_more ends))
@@ -275,13 +275,13 @@ module _ {N I A S C P X : Type 0} (parties : Parties N I A S C P X) where
   -- ---- by the result
 
   -- refused after its first arguments and its lock, for this reason: the boundary wasn't read, or it and the depth not asked for; the negotiation refused one of its first two steps; or the session broke off
-  pub data Refuses (call : Call) (old : World N I S C) (e : Error A X) (last : World N I S C) (progress : P) : Type 0 where
+  pub data SessionFails (call : FetchCall) (old : World N I S C) (e : Error A X) (last : World N I S C) (progress : P) : Type 0 where
     at_depth : (given : ArgumentsValue) (banded : Bool) (held : S) → Prepared call.table call.version (features call) call.tags given banded
-        → LocksFirst parties.store_calls.locks (is_change call.wishes.shallow) old.store held last.locked → Unopened parties.store_calls call.wishes.shallow held given e last.store
-        → last.negotiate ≡ old.negotiate → Untouched old last → Refuses call old e last progress
-    at_wants : (banded : Bool) (ids : List ObjectId) (asked : ArgumentsValue) → Asks call old.store banded ids asked last.locked last.store → Unready parties.negotiation_calls old.negotiate asked e last.negotiate
-        → Untouched old last → Refuses call old e last progress
-    in_session : BrokenOff call old e last progress → Refuses call old e last progress
+        → LocksFirst parties.store_calls.locks (is_change call.wishes.shallow) old.store held last.locked → OpenFails parties.store_calls call.wishes.shallow held given e last.store
+        → last.negotiate ≡ old.negotiate → Untouched old last → SessionFails call old e last progress
+    at_wants : (banded : Bool) (ids : List ObjectId) (asked : ArgumentsValue) → Asks call old.store banded ids asked last.locked last.store → ReadyFails parties.negotiation_calls old.negotiate asked e last.negotiate
+        → Untouched old last → SessionFails call old e last progress
+    in_session : BrokenOff call old e last progress → SessionFails call old e last progress
 
   -- a lock that is had is released, and nothing else changes
   pub record Releases (last new : World N I S C) : Type 0 where
@@ -289,8 +289,8 @@ module _ {N I A S C P X : Type 0} (parties : Parties N I A S C P X) where
     pub stands : new ≡ record last { store = new.store; locked = false }
 
   -- a fetch by its result: an outcome is that of a session that came to a pack; without one there was nothing to ask for; and a refusal is that of the first part that is refused
-  abbrev pub HoldsSession : Call → World N I S C → Result (Option Outcome) (Error A X) → World N I S C → P → Type 0
+  abbrev pub HoldsSession : FetchCall → World N I S C → Result (Option Outcome) (Error A X) → World N I S C → P → Type 0
   HoldsSession call old (Ok (Some outcome)) new progress =
       (last : World N I S C) × Conversation call old (action_value outcome.negotiate.action) outcome.negotiate.rounds.items outcome.last_response last progress × Releases last new
   HoldsSession call old (Ok None) new progress = (last : World N I S C) × AsksNothing call old last × Releases last new
-  HoldsSession call old (Err e) new progress = Unstarted parties call old e new ⊎ ((last : World N I S C) × Refuses call old e last progress × Releases last new)
+  HoldsSession call old (Err e) new progress = StartFails parties call old e new ⊎ ((last : World N I S C) × SessionFails call old e last progress × Releases last new)

@@ -12,7 +12,7 @@ pub record IsKept {F : Type 0} (old new : ShallowFile F) : Type 0 where
   pub lock_path : new.lock_path ≡ old.lock_path
 
 -- whether the lock is had is this now, and no call counts as refused
-pub record Turns {F : Type 0} (had : Bool) (old new : ShallowFile F) : Type 0 where
+pub record HoldsLock {F : Type 0} (had : Bool) (old new : ShallowFile F) : Type 0 where
   pub held : new.held ≡ had
   pub kept : IsKept old new
   pub failures : new.failures ≡ old.failures

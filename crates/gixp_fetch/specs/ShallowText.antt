@@ -34,7 +34,7 @@ abbrev pub IsIdOf : List ℕ → ObjectId → Type 0
 IsIdOf line id = id_of line ≡ Some id.bytes
 
 -- each line is an id, and these are they, in order, each once
-pub record Reads (text : List ℕ) (set : List ObjectId) : Type 0 where
+pub record ReadsIds (text : List ℕ) (set : List ObjectId) : Type 0 where
   pub ids : List ObjectId
   pub each : AllZip IsIdOf (lines text) ids
   pub is_set : IsSetOf ids set
@@ -47,11 +47,11 @@ IsNoId line (Io kind) = ⊥
 IsNoId line Locked = ⊥
 
 -- the first line that is no id, or an allocation failed
-abbrev pub Unread : List ℕ → ShallowError → Type 0
-Unread text (Decode found) = (before : List (List ℕ)) × (line : List ℕ) × (behind : List (List ℕ)) × (lines text ≡ before ++ line ∷ behind) × All (λ l. IsSome (id_of l)) before × (id_of line ≡ None) × (bstring_bytes found ≡ line)
-Unread text Memory = ⊤
-Unread text (Io kind) = ⊥
-Unread text Locked = ⊥
+abbrev pub IdTextFails : List ℕ → ShallowError → Type 0
+IdTextFails text (Decode found) = (before : List (List ℕ)) × (line : List ℕ) × (behind : List (List ℕ)) × (lines text ≡ before ++ line ∷ behind) × All (λ l. IsSome (id_of l)) before × (id_of line ≡ None) × (bstring_bytes found ≡ line)
+IdTextFails text Memory = ⊤
+IdTextFails text (Io kind) = ⊥
+IdTextFails text Locked = ⊥
 
 -- an id is 20 bytes
 abbrev pub IsId : ObjectId → Type 0

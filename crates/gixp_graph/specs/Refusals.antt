@@ -16,8 +16,8 @@ writing None x = None
 writing (Some xs) x = Some (xs ++ x ∷ [])
 
 -- a call was refused with this error; or none was, and an allocation failed
-abbrev pub Tells : ObjectError → Written ObjectError → Written ObjectError → Type 0
-Tells e old new = ((e ≡ Memory) × (new ≡ old)) ⊎ (new ≡ writing old e)
+abbrev pub TellsRefusal : ObjectError → Written ObjectError → Written ObjectError → Type 0
+TellsRefusal e old new = ((e ≡ Memory) × (new ≡ old)) ⊎ (new ≡ writing old e)
 
 -- an error as the kind of an I/O error, or which of the others it is
 abbrev error_parts : ObjectError → Option (Option ErrorKind)

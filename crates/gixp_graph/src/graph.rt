@@ -6,7 +6,7 @@ ghost use Rattle.gixp_graph.specs.declared.objects.ObjectError.TheVariants.{Memo
 ghost use Rattle.gixp_graph.specs.Object.{HasRisen, commit_at, time_at};
 ghost use Rattle.gixp_graph.specs.GraphData.{graph_of, shown, shown_time, parents_in, found_in, looked_up, flagged, is_marked, OnlyMarks, IsFaithful};
 ghost use Rattle.gixp_graph.specs.Asked.{AsksWhere, AsksEach};
-ghost use Rattle.gixp_graph.specs.Refusals.{Tells};
+ghost use Rattle.gixp_graph.specs.Refusals.{TellsRefusal};
 ghost use Rattle.gixp_graph.specs.Complete.{IsComplete, IsDue};
 
 use crate::commits::Commits;
@@ -82,7 +82,7 @@ impl<O: Objects> Graph<O> {
 
         // The error is that of the objects, or an allocation failed and they were refused nothing.
         ensures unrefused { OnOk result (self.new.refusals ≡ self.old.refusals) }
-        ensures refused { IfErr result (λ e. Tells e self.old.refusals self.new.refusals) }
+        ensures refused { IfErr result (λ e. TellsRefusal e self.old.refusals self.new.refusals) }
         ensures failures { self.old.failures ≤ self.new.failures }
         ensures failed { IfErr result (λ e. (e ≡ Memory) ⊎ HasRisen self.old.failures self.new.failures) }
     {
@@ -142,7 +142,7 @@ impl<O: Objects> Graph<O> {
 
         // The error is that of the objects, or an allocation failed and they were refused nothing.
         ensures unrefused { OnOk result (self.new.refusals ≡ self.old.refusals) }
-        ensures refused { IfErr result (λ e. Tells e self.old.refusals self.new.refusals) }
+        ensures refused { IfErr result (λ e. TellsRefusal e self.old.refusals self.new.refusals) }
         ensures failures { self.old.failures ≤ self.new.failures }
         ensures failed { IfErr result (λ e. (e ≡ Memory) ⊎ HasRisen self.old.failures self.new.failures) }
     {

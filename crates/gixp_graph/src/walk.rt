@@ -9,7 +9,7 @@ ghost use Rattle.gixp_graph.specs.Table.{id_at, ids_at, AllNamed, KeepsNumbers};
 ghost use Rattle.gixp_graph.specs.Visited.{AllVisitedNamed, IsOneToOne};
 ghost use Rattle.gixp_graph.specs.Waiting.{AllQueuedNamed};
 ghost use Rattle.gixp_graph.specs.Asked.{AsksWhere};
-ghost use Rattle.gixp_graph.specs.Refusals.{Tells};
+ghost use Rattle.gixp_graph.specs.Refusals.{TellsRefusal};
 ghost use Rattle.gixp_graph.specs.Walk.{walk_of, IsUnread, Visits, VisitsSome, VisitsEach, AsksAll, AsksSome, AsksDue};
 ghost use Rattle.std.specs.FinMap as finite;
 
@@ -38,7 +38,7 @@ fn mark_found<O: Objects>(
     ensures kept { KeepsNumbers commits.old.ids commits.new.ids }
     ensures contents { O.contents objects.new ≡ O.contents objects.old }
     ensures unrefused { OnOk result (O.refusals objects.new ≡ O.refusals objects.old) }
-    ensures refused { IfErr result (λ e. Tells e (O.refusals objects.old) (O.refusals objects.new)) }
+    ensures refused { IfErr result (λ e. TellsRefusal e (O.refusals objects.old) (O.refusals objects.new)) }
     ensures failures { O.failures objects.old ≤ O.failures objects.new }
     ensures failed { IfErr result (λ e. (e ≡ Memory) ⊎ HasRisen (O.failures objects.old) (O.failures objects.new)) }
 {
@@ -72,7 +72,7 @@ fn visit<O: Objects>(
     ensures kept { KeepsNumbers commits.old.ids commits.new.ids }
     ensures contents { O.contents objects.new ≡ O.contents objects.old }
     ensures unrefused { OnOk result (O.refusals objects.new ≡ O.refusals objects.old) }
-    ensures refused { IfErr result (λ e. Tells e (O.refusals objects.old) (O.refusals objects.new)) }
+    ensures refused { IfErr result (λ e. TellsRefusal e (O.refusals objects.old) (O.refusals objects.new)) }
     ensures failures { O.failures objects.old ≤ O.failures objects.new }
     ensures failed { IfErr result (λ e. (e ≡ Memory) ⊎ HasRisen (O.failures objects.old) (O.failures objects.new)) }
 {
@@ -111,7 +111,7 @@ fn visit_each<O: Objects>(
     ensures kept { KeepsNumbers commits.old.ids commits.new.ids }
     ensures contents { O.contents objects.new ≡ O.contents objects.old }
     ensures unrefused { OnOk result (O.refusals objects.new ≡ O.refusals objects.old) }
-    ensures refused { IfErr result (λ e. Tells e (O.refusals objects.old) (O.refusals objects.new)) }
+    ensures refused { IfErr result (λ e. TellsRefusal e (O.refusals objects.old) (O.refusals objects.new)) }
     ensures failures { O.failures objects.old ≤ O.failures objects.new }
     ensures failed { IfErr result (λ e. (e ≡ Memory) ⊎ HasRisen (O.failures objects.old) (O.failures objects.new)) }
 {
@@ -141,7 +141,7 @@ pub(crate) fn mark_complete<O: Objects>(
     ensures asked { AsksDue (graph_of (O.contents objects.old) commits.old.held) ids.now cutoff (O.asked objects.old) (O.asked objects.new) }
     ensures contents { O.contents objects.new ≡ O.contents objects.old }
     ensures unrefused { OnOk result (O.refusals objects.new ≡ O.refusals objects.old) }
-    ensures refused { IfErr result (λ e. Tells e (O.refusals objects.old) (O.refusals objects.new)) }
+    ensures refused { IfErr result (λ e. TellsRefusal e (O.refusals objects.old) (O.refusals objects.new)) }
     ensures failures { O.failures objects.old ≤ O.failures objects.new }
     ensures failed { IfErr result (λ e. (e ≡ Memory) ⊎ HasRisen (O.failures objects.old) (O.failures objects.new)) }
 {

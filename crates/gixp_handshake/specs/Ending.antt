@@ -10,12 +10,12 @@ abbrev pub DoesNothing : Reading → Reading → Result (Unit {0}) Error → Typ
 DoesNothing old new r = (new ≡ old) × (r ≡ Ok tt)
 
 -- one flush packet over a connection, and nothing otherwise
-abbrev pub EndsBy : Bool → Reading → Reading → Result (Unit {0}) Error → Type 0
-EndsBy true old new r = Sends old new true (codes "0000") r
-EndsBy false old new r = DoesNothing old new r
+abbrev pub EndsRequestBy : Bool → Reading → Reading → Result (Unit {0}) Error → Type 0
+EndsRequestBy true old new r = Sends old new true (codes "0000") r
+EndsRequestBy false old new r = DoesNothing old new r
 
 abbrev pub EndsInteraction : Reading → Reading → Result (Unit {0}) Error → Type 0
-EndsInteraction old new r = EndsBy old.held.persists old new r
+EndsInteraction old new r = EndsRequestBy old.held.persists old new r
 
 -- nothing, where it was sent before
 abbrev pub EndsOnce : Bool → Reading → Reading → Result (Unit {0}) Error → Type 0

@@ -4,7 +4,7 @@ use Rattle.std.specs.Io.KnownBytes.{Appends}
 use Rattle.gixp_hash.specs.Hex.{encode_lower}
 use Rattle.gixp_refs.specs.Ref.{RefValue, peeled, direct, symbolic, unborn}
 use Rattle.gixp_refs.specs.RefLine.{RefsRefusal, io_failed, refusal_from, v2_line}
-use Rattle.gixp_refs.specs.ParseError.{parse_refusal, IsRefusal, IsFromOutside}
+use Rattle.gixp_refs.specs.ParseError.{parse_refusal, IsParseRefusal, IsFromOutside}
 use Rattle.gixp_packetline.specs.Pieces.{Refusal, Pieces}
 use Rattle.gixp_packetline.specs.Lines.{Ending, stop, refusal}
 use Rattle.gixp_packetline.specs.Reading.{Reading, Rose, lines_ahead}
@@ -56,7 +56,7 @@ pub record RefusedFirst (old new : Reading) (e : Error) : Type 0 where
   pub why : RefsRefusal
   pub first : IfSome old.to_come (λ p. v2_refs (lines_ahead old p) ≡ Err why)
   pub by : ((text : List ℕ) × (v2_line text ≡ Err why)) ⊎ ((r : Refusal) × (new.refused ≡ Some r) × (why ≡ refusal_from r))
-  pub error : IsRefusal e why
+  pub error : IsParseRefusal e why
 
 -- whether it is that of a read that failed
 abbrev pub is_device : RefsRefusal → Bool
@@ -88,7 +88,7 @@ IsParse (Io kind) = ⊥
 
 -- what is refused is the stream's first refusal, unless it came from outside
 abbrev pub RefusesRefs : Option (List ℕ) → Error → Type 0
-RefusesRefs known e = IfSome known (λ bytes. (r : RefsRefusal) × (stream_refs bytes ≡ Err r) × IsRefusal e r) ⊎ IsFromOutside e
+RefusesRefs known e = IfSome known (λ bytes. (r : RefsRefusal) × (stream_refs bytes ≡ Err r) × IsParseRefusal e r) ⊎ IsFromOutside e
 
 -- the refs are refused, or a write failed for a stream that isn't refused
 abbrev pub RefusesList : Option (List ℕ) → ListError → Type 0

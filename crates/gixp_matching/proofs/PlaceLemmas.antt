@@ -20,7 +20,7 @@ use Rattle.gixp_refspec.specs.Spec.{Spec}
 use Rattle.gixp_refspec.specs.Matching.{candidates, where_true}
 use Rattle.gixp_matching.specs.Mappings.{Mapped, pair, pairs_of}
 use Rattle.gixp_refspec.specs.Needle.{IsNeedle}
-use Rattle.gixp_matching.specs.Rows.{shown, is_row_of, meant, IsTable, has_place, AddsPlaces, HasPlaces, ArePlaces, ref_at}
+use Rattle.gixp_matching.specs.Rows.{shown, is_row_of, meant, IsRowTable, has_place, AddsPlaces, HasPlaces, ArePlaces, ref_at}
 use Rattle.gixp_matching.proofs.DistinctLemmas.{is_eq-reverse}
 use Rattle.gixp_matching.proofs.FirstLemmas.{or_none}
 use Rattle.gixp_matching.proofs.ListLemmas.{any_same, kept_same}
@@ -85,7 +85,7 @@ any_of_either {X} p a b (x ∷ xs) = at (a x) (b x) (any_of_either p a b xs)
     at false false h = h
 
 -- those of one name more
-pub places_more : (all texts : List (List ℕ)) (text : List ℕ) (rows run : List Row) (now new : BTreeSet ℕ) → IsTable all rows
+pub places_more : (all texts : List (List ℕ)) (text : List ℕ) (rows run : List Row) (now new : BTreeSet ℕ) → IsRowTable all rows
     → ((place : ℕ) → contains nat_cmp now place ≡ has_place place (meant all texts)) → run ≡ filter (is_row_of text) rows → AddsPlaces (map shown run) now new
     → (place : ℕ) → contains nat_cmp new place ≡ has_place place (meant all (texts ++ text ∷ []))
 places_more all texts text rows run now new table kept was step place =
@@ -177,7 +177,7 @@ refs_at {B} f q all front (x ∷ xs) k h e =
     at false more = more
 
 -- a short name maps the refs that it stands for
-pub short_mapped : (specs : List Spec) (all : List (List ℕ)) (s : ℕ × Spec) (name : Bor (List ℕ)) (rows : List Row) (places : List ℕ) (now new : List Mapped) → IsNeedle s.1.source (the_short name) → IsTable all rows
+pub short_mapped : (specs : List Spec) (all : List (List ℕ)) (s : ℕ × Spec) (name : Bor (List ℕ)) (rows : List Row) (places : List ℕ) (now new : List Mapped) → IsNeedle s.1.source (the_short name) → IsRowTable all rows
     → ArePlaces (candidates name.now) rows places → new ≡ now ++ flat_map (λ place. flat_map (pair specs s) (ref_at all place)) places → new ≡ now ++ pairs_of specs all s
 short_mapped specs all s name rows places now new made table was step =
     step ∙ ap (λ l. now ++ flat_map (λ place. flat_map (pair specs s) (ref_at all place)) l) (was all table)

@@ -21,7 +21,7 @@ use Rattle.gixp_refspec.specs.Spec.{Spec, is_negative}
 use Rattle.gixp_refspec.specs.Matching.{where_true}
 use Rattle.gixp_matching.specs.Mappings.{Mapped, pair, pairs_of}
 use Rattle.gixp_refspec.specs.Needle.{IsNeedle}
-use Rattle.gixp_matching.specs.Rows.{shown, is_row_of, AreByName, meant, IsTable}
+use Rattle.gixp_matching.specs.Rows.{shown, is_row_of, AreByName, meant, IsRowTable}
 use Rattle.gixp_matching.specs.Validation.{is_below}
 use Rattle.gixp_matching.proofs.KeyLemmas.{bytes_eq-turned}
 use Rattle.gixp_matching.proofs.ListLemmas.{kept_same, filter_of_map}
@@ -151,7 +151,7 @@ named_stays old new stable name =
 
 -- the table of refs that were listed and sorted
 pub table_is : (names : List (List ℕ)) (rows sorted : List Row) → map shown rows ≡ enumerate_from 0 names → AreByName sorted
-    → ((name : List ℕ) → filter (is_row_of name) sorted ≡ filter (is_row_of name) rows) → IsTable names sorted
+    → ((name : List ℕ) → filter (is_row_of name) sorted ≡ filter (is_row_of name) rows) → IsRowTable names sorted
 table_is names rows sorted listed up same = record {
   in_order = up;
   has_all = λ name. ap (map shown) (same name) ∙ sym (filter_of_map (λ ref. bytes_eq ref.1 name) shown rows) ∙ ap (filter (λ ref. bytes_eq ref.1 name)) listed;
@@ -189,7 +189,7 @@ pub negative_mapped : (specs : List Spec) (all : List (List ℕ)) (s : ℕ × Sp
 negative_mapped specs all s now negative = nothing_mapped specs all s now (λ ref. pair_negative specs s ref negative)
 
 -- an exact name maps the refs of this name
-pub exact_mapped : (specs : List Spec) (all : List (List ℕ)) (s : ℕ × Spec) (name : Bor (List ℕ)) (rows run : List Row) (now new : List Mapped) → IsNeedle s.1.source (the_exact name) → IsTable all rows
+pub exact_mapped : (specs : List Spec) (all : List (List ℕ)) (s : ℕ × Spec) (name : Bor (List ℕ)) (rows run : List Row) (now new : List Mapped) → IsNeedle s.1.source (the_exact name) → IsRowTable all rows
     → run ≡ filter (is_row_of name.now) rows → new ≡ now ++ flat_map (pair specs s) (map shown run) → new ≡ now ++ pairs_of specs all s
 exact_mapped specs all s name rows run now new made table was step =
     step ∙ ap (λ l. now ++ flat_map (pair specs s) l) (ap (map shown) was ∙ table.has_all name.now)

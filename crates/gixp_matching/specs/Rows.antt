@@ -35,7 +35,7 @@ abbrev pub meant : List (List ℕ) → List (List ℕ) → List (ℕ × List ℕ
 meant names texts = filter (λ ref. list_any (λ text. bytes_eq ref.1 text) texts) (enumerate_from 0 names)
 
 -- a table of refs: in order of names, and those of one name in order of places
-pub record IsTable (names : List (List ℕ)) (rows : List Row) : Type 0 where
+pub record IsRowTable (names : List (List ℕ)) (rows : List Row) : Type 0 where
   pub in_order : AreByName rows
   pub has_all : (name : List ℕ) → map shown (filter (is_row_of name) rows) ≡ named names name
 
@@ -49,11 +49,11 @@ AddsPlaces refs old new = (place : ℕ) → contains nat_cmp new place ≡ (cont
 
 -- the set has the places of the refs of a table whose names are among the texts
 abbrev pub HasPlaces : List (List ℕ) → List Row → BTreeSet ℕ → Type 0
-HasPlaces texts rows places = (names : List (List ℕ)) → IsTable names rows → (place : ℕ) → contains nat_cmp places place ≡ has_place place (meant names texts)
+HasPlaces texts rows places = (names : List (List ℕ)) → IsRowTable names rows → (place : ℕ) → contains nat_cmp places place ≡ has_place place (meant names texts)
 
 -- these are the places of the refs of a table whose names are among the texts, in their order
 abbrev pub ArePlaces : List (List ℕ) → List Row → List ℕ → Type 0
-ArePlaces texts rows places = (names : List (List ℕ)) → IsTable names rows → places ≡ map (λ ref. ref.0) (meant names texts)
+ArePlaces texts rows places = (names : List (List ℕ)) → IsRowTable names rows → places ≡ map (λ ref. ref.0) (meant names texts)
 
 -- the ref at a place, where there is one
 abbrev pub ref_at : List (List ℕ) → ℕ → List (ℕ × List ℕ)

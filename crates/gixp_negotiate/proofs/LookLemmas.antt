@@ -24,8 +24,8 @@ use Rattle.gixp_graph.specs.declared.negotiator.NegotiatorError.{NegotiatorError
 use Rattle.gixp_negotiate.specs.declared.negotiate.Error.{Error}
 use Rattle.gixp_negotiate.specs.Refused.{RefusedCall, CallsSome}
 use Rattle.gixp_negotiate.specs.Stores.{Listings, Lent}
-use Rattle.gixp_negotiate.specs.Stopped.{LooksAtSome, Telling, Step, StopsTelling, StopsBehind, refs_refused, lent_refused, telling_stopped, Stops, at_mappings, at_refs, at_lent, at_telling}
-use Rattle.gixp_negotiate.specs.Marking.{mapping_ids, look, look_each, commit_time, time_at, later, cutoff_from, cutoff_of, is_here, is_known, tips_in, Tells, Marks}
+use Rattle.gixp_negotiate.specs.Stopped.{LooksAtSome, Telling, Step, StopsTelling, StopsAfterLookups, refs_refused, lent_refused, telling_stopped, Stops, at_mappings, at_refs, at_lent, at_telling}
+use Rattle.gixp_negotiate.specs.Marking.{mapping_ids, look, look_each, commit_time, time_at, later, cutoff_from, cutoff_of, is_here, is_known, tips_in, TellsNegotiator, Marks}
 
 append-none : (xs : List ObjectId) → xs ++ [] ≡ xs
 append-none [] = refl
@@ -161,7 +161,7 @@ marked_some p front m id b had new eh em eb en =
     ∙ (sym (filter-append p (mapping_ids front) (id ∷ [])) ∙ ap (filter p) (sym (mapping_ids-append front (m ∷ []) ∙ ap (λ o. mapping_ids front ++ with_common o []) (sym em))))))
 
 -- what a walk marks and holds, by the graph in front of all looks
-pub walk_marks : {N : Type 0} (knows adds : Call N) (n : N) (g g1 : GraphData) (ids tips : List ObjectId) (cutoff : Option ℤ) (m : N) (h : GraphData) → g1 ≡ look_each ids g → cutoff ≡ cutoff_of g.objects ids → Tells knows adds n g1 ids tips cutoff m h → Marks knows adds n g ids tips m h
+pub walk_marks : {N : Type 0} (knows adds : Call N) (n : N) (g g1 : GraphData) (ids tips : List ObjectId) (cutoff : Option ℤ) (m : N) (h : GraphData) → g1 ≡ look_each ids g → cutoff ≡ cutoff_of g.objects ids → TellsNegotiator knows adds n g1 ids tips cutoff m h → Marks knows adds n g ids tips m h
 walk_marks knows adds n g g1 ids tips cutoff m h e ec t =
     let same : (look_each tips g1).objects ≡ g.objects = look_each-objects tips g1 ∙ (ap (λ x. x.objects) e ∙ look_each-objects ids g) in
     let near : g1.objects ≡ g.objects = ap (λ x. x.objects) e ∙ look_each-objects ids g in
@@ -224,7 +224,7 @@ calls_some call fails ids i d n g told told_graph x m h less run refused = recor
 -- what was refused behind the mappings, by the graph in front of all looks
 pub stops_behind : {N R A : Type 0} (calls : Telling N) (listings : Listings R) (Negotiates : Type 0) (n : N) (g g1 : GraphData) (q q1 : Written ObjectError) (refs : R) (lent : Lent R A) (ids tips : List ObjectId) (cutoff : Option ℤ) (e : Error A) (new : Step N R A)
     → g1 ≡ look_each ids g → cutoff ≡ cutoff_of g.objects ids → q1 ≡ q → Negotiates
-    → StopsBehind calls listings ids tips cutoff (record { negotiator = n; graph = g1; refusals = q1; refs = refs; lent = lent }) e new
+    → StopsAfterLookups calls listings ids tips cutoff (record { negotiator = n; graph = g1; refusals = q1; refs = refs; lent = lent }) e new
     → Stops calls listings Negotiates ids tips (record { negotiator = n; graph = g; refusals = q; refs = refs; lent = lent }) e new
 stops_behind calls listings P n g g1 q q1 refs lent ids tips cutoff e new eg ec eq p (refs_refused a b c d) = at_refs p a b (c ∙ eg) d
 stops_behind calls listings P n g g1 q q1 refs lent ids tips cutoff e new eg ec eq p (lent_refused a b c d) = at_lent p a b c (d ∙ eg)

@@ -14,10 +14,10 @@ use Rattle.gixp_negotiate.specs.Negotiate.{ActionValue, no_change, skip, negotia
 use Rattle.gixp_negotiate.specs.Marking.{early, settled, settle, is_lone_unborn, has_none}
 use Rattle.gixp_negotiate.specs.Shallow.{is_deepen_zero}
 use Rattle.gixp_negotiate.specs.Stopped.{IsNegotiate}
-use Rattle.gixp_negotiate.specs.Stores.{Listings, Listed, RefusesToList, ListsFront, ListsUpTo, Lent, ListsBy}
+use Rattle.gixp_negotiate.specs.Stores.{Listings, HasListed, RefusesToList, ListsFront, ListsUpTo, Lent, ListsBy}
 
 module _ {R : Type 0} (listings : Listings R) (d b : R) where
-  front_suc : (k : ℕ) (old mid : List R) → ListsFront listings k old mid → k < length mid → Listed listings (get_or mid k d) b → ListsFront listings (suc k) old (set mid k b)
+  front_suc : (k : ℕ) (old mid : List R) → ListsFront listings k old mid → k < length mid → HasListed listings (get_or mid k d) b → ListsFront listings (suc k) old (set mid k b)
   front_suc zero old [] f h l = absurd (omega arith)
   front_suc zero old (x ∷ mid) f h l = subst (λ o. ListsFront listings (suc zero) o (b ∷ mid)) f (l, refl)
   front_suc (suc k) [] mid f h l = absurd f
@@ -25,11 +25,11 @@ module _ {R : Type 0} (listings : Listings R) (d b : R) where
   front_suc (suc k) (a ∷ old) (x ∷ mid) f h l = (f.0, front_suc k old mid f.1 (omega arith) l)
 
   -- one store more
-  pub front_more : (k : ℕ) (old mid : List R) → ListsFront listings k old mid → k < length mid → Listed listings (get_or mid k d) b → ListsFront listings (k + 1) old (set mid k b)
+  pub front_more : (k : ℕ) (old mid : List R) → ListsFront listings k old mid → k < length mid → HasListed listings (get_or mid k d) b → ListsFront listings (k + 1) old (set mid k b)
   front_more k old mid f h l = subst (λ n. ListsFront listings n old (set mid k b)) (sym (add-one k)) (front_suc k old mid f h l)
 
   -- the store that was the last
-  pub up_to : {A : Type 0} (k : ℕ) (old mid : List R) (e : Error A) → ListsFront listings k old mid → k < length mid → RefusesToList listings (get_or mid k d) b e ⊎ (Listed listings (get_or mid k d) b × (e ≡ Memory)) → ListsUpTo listings k old (set mid k b) e
+  pub up_to : {A : Type 0} (k : ℕ) (old mid : List R) (e : Error A) → ListsFront listings k old mid → k < length mid → RefusesToList listings (get_or mid k d) b e ⊎ (HasListed listings (get_or mid k d) b × (e ≡ Memory)) → ListsUpTo listings k old (set mid k b) e
   up_to zero old [] e f h l = absurd (omega arith)
   up_to zero old (x ∷ mid) e f h l = subst (λ o. ListsUpTo listings zero o (b ∷ mid) e) f (l, refl)
   up_to (suc k) [] mid e f h l = absurd f

@@ -5,7 +5,7 @@ use Rattle.gixp_hash.specs.declared.object_id.ObjectId.{ObjectId}
 use Rattle.gixp_graph.specs.Object.{commit_at}
 use Rattle.gixp_graph.specs.GraphData.{GraphData, is_marked, OnlyMarks}
 use Rattle.gixp_graph.specs.Complete.{IsComplete}
-use Rattle.gixp_graph.specs.Refusals.{Written, Tells as TellsRefusal}
+use Rattle.gixp_graph.specs.Refusals.{Written, TellsRefusal}
 use Rattle.gixp_graph.specs.Run.{Call, IsRun}
 use Rattle.gixp_graph.specs.declared.objects.ObjectError.{ObjectError}
 use Rattle.gixp_graph.specs.declared.objects.ObjectError.TheVariants.{Memory}
@@ -16,7 +16,7 @@ use Rattle.gixp_negotiate.specs.Negotiate.{ActionValue, no_change, skip, negotia
 use Rattle.gixp_negotiate.specs.NegotiateError.{from_object, from_negotiator}
 use Rattle.gixp_negotiate.specs.Marking.{look_each, cutoff_of, tips_in, Walks}
 use Rattle.gixp_negotiate.specs.Refused.{RefusedCall, CallsSome}
-use Rattle.gixp_negotiate.specs.Stores.{Listings, Listed, RefusesToList, Lent, ListsLent, RefusesLent}
+use Rattle.gixp_negotiate.specs.Stores.{Listings, HasListed, RefusesToList, Lent, ListsLent, RefusesLent}
 
 -- the first of these ids were looked up, and nothing else was done
 pub record LooksAtSome (ids : List ObjectId) (g h : GraphData) : Type 0 where
@@ -70,13 +70,13 @@ pub record Step (N R A : Type 0) : Type 0 where
 pub data Stops {N R A : Type 0} (calls : Telling N) (listings : Listings R) (Negotiates : Type 0) (ids tips : List ObjectId) (old : Step N R A) (e : Error A) (new : Step N R A) : Type 0 where
   at_mappings : (x : ObjectError) → e ≡ from_object x → TellsRefusal x old.refusals new.refusals → new.negotiator ≡ old.negotiator → LooksAtSome ids old.graph new.graph → new.refs ≡ old.refs → new.lent ≡ old.lent → Stops calls listings Negotiates ids tips old e new
   at_refs : Negotiates → RefusesToList listings old.refs new.refs e → new.negotiator ≡ old.negotiator → new.graph ≡ look_each ids old.graph → new.lent ≡ old.lent → Stops calls listings Negotiates ids tips old e new
-  at_lent : Negotiates → Listed listings old.refs new.refs → RefusesLent listings old.lent new.lent e → new.negotiator ≡ old.negotiator → new.graph ≡ look_each ids old.graph → Stops calls listings Negotiates ids tips old e new
-  at_telling : Negotiates → Listed listings old.refs new.refs → ListsLent listings old.lent new.lent → (x : NegotiatorError) → e ≡ from_negotiator x
+  at_lent : Negotiates → HasListed listings old.refs new.refs → RefusesLent listings old.lent new.lent e → new.negotiator ≡ old.negotiator → new.graph ≡ look_each ids old.graph → Stops calls listings Negotiates ids tips old e new
+  at_telling : Negotiates → HasListed listings old.refs new.refs → ListsLent listings old.lent new.lent → (x : NegotiatorError) → e ≡ from_negotiator x
       → StopsTelling calls old.negotiator (look_each ids old.graph) old.refusals ids tips (cutoff_of old.graph.objects ids) x new.negotiator new.graph new.refusals → Stops calls listings Negotiates ids tips old e new
 
 -- the same once the ids were looked up
-pub data StopsBehind {N R A : Type 0} (calls : Telling N) (listings : Listings R) (ids tips : List ObjectId) (cutoff : Option ℤ) (old : Step N R A) (e : Error A) (new : Step N R A) : Type 0 where
-  refs_refused : RefusesToList listings old.refs new.refs e → new.negotiator ≡ old.negotiator → new.graph ≡ old.graph → new.lent ≡ old.lent → StopsBehind calls listings ids tips cutoff old e new
-  lent_refused : Listed listings old.refs new.refs → RefusesLent listings old.lent new.lent e → new.negotiator ≡ old.negotiator → new.graph ≡ old.graph → StopsBehind calls listings ids tips cutoff old e new
-  telling_stopped : Listed listings old.refs new.refs → ListsLent listings old.lent new.lent → (x : NegotiatorError) → e ≡ from_negotiator x
-      → StopsTelling calls old.negotiator old.graph old.refusals ids tips cutoff x new.negotiator new.graph new.refusals → StopsBehind calls listings ids tips cutoff old e new
+pub data StopsAfterLookups {N R A : Type 0} (calls : Telling N) (listings : Listings R) (ids tips : List ObjectId) (cutoff : Option ℤ) (old : Step N R A) (e : Error A) (new : Step N R A) : Type 0 where
+  refs_refused : RefusesToList listings old.refs new.refs e → new.negotiator ≡ old.negotiator → new.graph ≡ old.graph → new.lent ≡ old.lent → StopsAfterLookups calls listings ids tips cutoff old e new
+  lent_refused : HasListed listings old.refs new.refs → RefusesLent listings old.lent new.lent e → new.negotiator ≡ old.negotiator → new.graph ≡ old.graph → StopsAfterLookups calls listings ids tips cutoff old e new
+  telling_stopped : HasListed listings old.refs new.refs → ListsLent listings old.lent new.lent → (x : NegotiatorError) → e ≡ from_negotiator x
+      → StopsTelling calls old.negotiator old.graph old.refusals ids tips cutoff x new.negotiator new.graph new.refusals → StopsAfterLookups calls listings ids tips cutoff old e new

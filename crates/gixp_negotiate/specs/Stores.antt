@@ -14,8 +14,8 @@ Listings R = R → Written (Option RefStoreError)
 
 module _ {R : Type 0} (listings : Listings R) where
   -- it listed its refs
-  abbrev pub Listed : R → R → Type 0
-  Listed old new = listings new ≡ writing (listings old) None
+  abbrev pub HasListed : R → R → Type 0
+  HasListed old new = listings new ≡ writing (listings old) None
 
   -- it refused to, and that is told
   abbrev pub RefusesToList : {A : Type 0} → R → R → Error A → Type 0
@@ -24,13 +24,13 @@ module _ {R : Type 0} (listings : Listings R) where
   -- the first of some stores were listed, and the others are as they were
   abbrev pub ListsFront : ℕ → List R → List R → Type 0
   ListsFront zero old new = new ≡ old
-  ListsFront (suc k) (a ∷ old) (b ∷ new) = Listed a b × ListsFront k old new
+  ListsFront (suc k) (a ∷ old) (b ∷ new) = HasListed a b × ListsFront k old new
   ListsFront (suc k) _ _ = ⊥
 
   -- the one behind the first was refused, or what it listed couldn't be kept; those behind it are as they were
   abbrev pub ListsUpTo : {A : Type 0} → ℕ → List R → List R → Error A → Type 0
-  ListsUpTo zero (a ∷ old) (b ∷ new) e = (RefusesToList a b e ⊎ (Listed a b × (e ≡ Memory))) × (new ≡ old)
-  ListsUpTo (suc k) (a ∷ old) (b ∷ new) e = Listed a b × ListsUpTo k old new e
+  ListsUpTo zero (a ∷ old) (b ∷ new) e = (RefusesToList a b e ⊎ (HasListed a b × (e ≡ Memory))) × (new ≡ old)
+  ListsUpTo (suc k) (a ∷ old) (b ∷ new) e = HasListed a b × ListsUpTo k old new e
   ListsUpTo _ _ _ e = ⊥
 
 -- the repositories that lend objects, or why they can't be opened
@@ -55,6 +55,6 @@ module _ {R A : Type 0} (listings : Listings R) where
 
   -- the refs of a repository and of those that lend to it are listed where something is to be negotiated, and else untouched
   abbrev pub ListsBy : ActionValue → R → Lent R A → R → Lent R A → Type 0
-  ListsBy (negotiate known) refs lent refs' lent' = Listed listings refs refs' × ListsLent lent lent'
+  ListsBy (negotiate known) refs lent refs' lent' = HasListed listings refs refs' × ListsLent lent lent'
   ListsBy no_change refs lent refs' lent' = (refs' ≡ refs) × (lent' ≡ lent)
   ListsBy skip refs lent refs' lent' = (refs' ≡ refs) × (lent' ≡ lent)

@@ -4,7 +4,7 @@
 
 ghost use Rattle.std.specs.Prelude.{◌≡◌, IfOk, IfErr, codes, map, string_bytes};
 ghost use Rattle.bstr.specs.Owned.{bstring_bytes};
-ghost use Rattle.gixp_planner.specs.Refusal.{IsMemory};
+ghost use Rattle.gixp_planner.specs.Refusal.{IsPlanMemory};
 
 mod words;
 
@@ -53,7 +53,7 @@ fn run_refs(rt: &HostRuntime, path: &str) -> Result<(), Failure> {
 
 // The refusal of a refspec for which an allocation failed.
 fn spec_memory() -> PlanError
-    ensures { IsMemory (codes "spec") result }
+    ensures { IsPlanMemory (codes "spec") result }
 {
     PlanError {
         step: "spec",
@@ -64,7 +64,7 @@ fn spec_memory() -> PlanError
 // The texts of refspecs, each a word, in their order.
 fn spec_texts(alloc: Global, words: &[String]) -> Result<Vec<BString>, PlanError>
     ensures texts { IfOk result (λ texts. map bstring_bytes texts.items ≡ map string_bytes words.now) }
-    ensures refused { IfErr result (IsMemory (codes "spec")) }
+    ensures refused { IfErr result (IsPlanMemory (codes "spec")) }
 {
     let mut texts = Vec::new(alloc);
     for word in words {

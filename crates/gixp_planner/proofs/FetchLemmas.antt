@@ -19,12 +19,12 @@ use Rattle.gixp_negotiate.specs.Wants.{asks_for, asking_all, AddsWants}
 use Rattle.gixp_fetch.specs.declared.options.Outcome.{Outcome}
 use Rattle.gixp_fetch.specs.FetchShallow.{no_change, shallow_asks}
 use Rattle.gixp_fetch.specs.FetchRounds.{At, Manner, Packed}
-use Rattle.gixp_fetch.specs.Session.{NegotiationCalls, Readied, Idle, Opened}
+use Rattle.gixp_fetch.specs.Session.{NegotiationCalls, MakesReady, Idle, OpensFetch}
 use Rattle.gixp_fetch.specs.Prepare.{features_of, Prepared}
 use Rattle.gixp_fetch.specs.Fetch.{World, Parties}
-use Rattle.gixp_fetch.specs.Fetched.{Carried}
+use Rattle.gixp_fetch.specs.Fetched.{CarriesOut}
 use Rattle.gixp_fetch.proofs.SessionLemmas.{received_held}
-use Rattle.gixp_planner.specs.Refusal.{Refusal}
+use Rattle.gixp_planner.specs.Refusal.{PlanRefusal}
 use Rattle.gixp_planner.specs.Session.{planner_agent, planner_call, FetchesOver, FetchesMapped}
 use Rattle.gixp_planner.specs.Follows.{AsksBehind}
 use Rattle.gixp_planner.proofs.MappedLemmas.{HoldAlike, same-ok}
@@ -59,7 +59,7 @@ asks-same p q given wanted other s l r =
     l.asked ∙ ap (λ ws. asking_all ws given) (asked-alike p q given l.known s ∙ ap (asked_for q given) known) ∙ sym r.asked
 
 module _ {N A : Type 0} (negotiation_calls : NegotiationCalls N A) (basis : N → Basis) (haves : N → List ObjectId) (list : OffersList negotiation_calls basis haves) (n : N) (given : ArgumentsValue) where
-  readied-asks : (action : ActionValue) (ready : N) (wanted : ArgumentsValue) → Readied negotiation_calls n given action ready wanted → Asks (basis n) given wanted × (haves ready ≡ haves n)
+  readied-asks : (action : ActionValue) (ready : N) (wanted : ArgumentsValue) → MakesReady negotiation_calls n given action ready wanted → Asks (basis n) given wanted × (haves ready ≡ haves n)
   readied-asks action ready wanted r =
       let m = list.marks n action r.marked r.marks in
       let a = list.adds r.marked r.known given true wanted ready r.adds in (
@@ -102,7 +102,7 @@ abbrev bands : Protocol → List CapabilityValue → Bool
 bands v caps = has_feature (codes "sideband-all") (features_of git_table v caps planner_agent)
 
 -- how a fetch ended that wasn't refused
-abbrev pub came_to : Option Outcome → Result Bool Refusal
+abbrev pub came_to : Option Outcome → Result Bool PlanRefusal
 came_to (Some out) = Ok true
 came_to None = Ok false
 
@@ -158,12 +158,12 @@ module _ {N I A S C P X : Type 0} (parties : Parties N I A S C P X) (basis : N �
         → (asked ≡ first_asks h.server_protocol_version h.capabilities) × (banded ≡ bands h.server_protocol_version h.capabilities)
     prepared-first asked banded p = (sym (same-ok _ (first_asks h.server_protocol_version h.capabilities) asked refl p.asks), p.bands)
 
-    opened-first : (s : S) (ids : List ObjectId) (t : S) (given asked : ArgumentsValue) → IsEmpty s → given ≡ first_asks h.server_protocol_version h.capabilities → Opened parties.store_calls no_change s given ids t asked
+    opened-first : (s : S) (ids : List ObjectId) (t : S) (given asked : ArgumentsValue) → IsEmpty s → given ≡ first_asks h.server_protocol_version h.capabilities → OpensFetch parties.store_calls no_change s given ids t asked
         → shallow_asks no_change [] (first_asks h.server_protocol_version h.capabilities) ≡ Ok asked
     opened-first s ids t given asked e f o =
         ap (λ l. shallow_asks no_change l (first_asks h.server_protocol_version h.capabilities)) (sym (reads s ids t e o.reads)) ∙ ap (λ a. shallow_asks no_change ids a) (sym f) ∙ o.asks
 
-    rounded : (out : Outcome) (f : FetchesOver parties IsOver IsEmpty h old new (Ok (Some out))) → Carried parties (planner_call h) f.first (Ok (Some out)) f.last f.progress
+    rounded : (out : Outcome) (f : FetchesOver parties IsOver IsEmpty h old new (Ok (Some out))) → CarriesOut parties (planner_call h) f.first (Ok (Some out)) f.last f.progress
         → Rounded h.server_protocol_version h.capabilities f.first.negotiate old new
     rounded out f c =
         let p = prepared-first c.asked c.banded c.prepared in
@@ -197,7 +197,7 @@ module _ {N I A S C P X : Type 0} (parties : Parties N I A S C P X) (basis : N �
               ∙ received-failures parties.consumes none f.first.consumer s.end.reading c.last.consumer c.last.reading f.progress s.delivered.received;
         }
 
-    rested : (f : FetchesOver parties IsOver IsEmpty h old new (Ok None)) → Carried parties (planner_call h) f.first (Ok None) f.last f.progress → Rested h.server_protocol_version h.capabilities f.first.negotiate old new
+    rested : (f : FetchesOver parties IsOver IsEmpty h old new (Ok None)) → CarriesOut parties (planner_call h) f.first (Ok None) f.last f.progress → Rested h.server_protocol_version h.capabilities f.first.negotiate old new
     rested f c =
         let p = prepared-first c.asked c.banded c.prepared in
         let s = c.meets in

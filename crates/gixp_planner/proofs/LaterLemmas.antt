@@ -11,12 +11,12 @@ use Rattle.gixp_refmap.specs.declared.refmap.map.RefMap.{RefMap}
 use Rattle.gixp_handshake.specs.Taken.{without_refs}
 use Rattle.gixp_fetch.specs.declared.options.Outcome.{Outcome}
 use Rattle.gixp_fetch.specs.Fetch.{Parties}
-use Rattle.gixp_planner.specs.Refusal.{Refusal, refusal, handshake_name, map_name, fetch_name}
+use Rattle.gixp_planner.specs.Refusal.{PlanRefusal, refusal, handshake_name, map_name, fetch_name}
 use Rattle.gixp_planner.specs.Text.{Course, requests_shown, mapped_shown, end_shown, course_shown}
 use Rattle.gixp_planner.specs.Session.{FetchesMapped, Runs, ungreeted, unmapped, fetched, end_of}
 use Rattle.gixp_planner.specs.PlannedText.{shown, refused}
 use Rattle.gixp_planner.specs.Mapped.{IsMapped}
-use Rattle.gixp_planner.specs.Follows.{AsksBehind, AreSame, Ends, IsWritten, Follow}
+use Rattle.gixp_planner.specs.Follows.{AsksBehind, AreSame, EndsSession, IsWritten, Follow}
 use Rattle.gixp_planner.proofs.SeenLemmas.{LookAlike}
 use Rattle.gixp_planner.proofs.MappedLemmas.{HoldAlike, hold-alike, SameGreeting, SameMap, both-greet, both-alike, not-ok, EndedWhole, ended-whole}
 use Rattle.gixp_planner.proofs.WantLemmas.{Basis, SameBasis}
@@ -30,8 +30,8 @@ end-came A X (Some out) = refl
 end-came A X None = refl
 
 -- what came to its end wasn't refused
-not-refused : (ended : Result Bool Refusal) (e : Refusal) → IsOk ended → ended ≡ Err e → ⊥
-not-refused ended e k f = not-ok e (subst (λ (r : Result Bool Refusal). IsOk r) f k)
+not-refused : (ended : Result Bool PlanRefusal) (e : PlanRefusal) → IsOk ended → ended ≡ Err e → ⊥
+not-refused ended e k f = not-ok e (subst (λ (r : Result Bool PlanRefusal). IsOk r) f k)
 
 module _ {N I A S C P X : Type 0} (parties : Parties N I A S C P X) (basis : N → Basis) (haves : N → List ObjectId) (list : OffersList parties.negotiation_calls basis haves) (IsOne IsOther : RefMap → N → Type 0) (IsEmpty : S → Type 0)
     (reads : (s : S) (ids : List ObjectId) (t : S) → IsEmpty s → parties.store_calls.reads s ids t → ids ≡ [])
@@ -52,10 +52,10 @@ module _ {N I A S C P X : Type 0} (parties : Parties N I A S C P X) (basis : N �
     ended : course.ended ≡ came_to outcome
     uncounted : last.failures ≡ 0
 
-  arrived : (IsOver : RefMap → N → Type 0) (course : Course) → Ends parties IsOver IsEmpty bodies specs course → Arrived IsOver course
+  arrived : (IsOver : RefMap → N → Type 0) (course : Course) → EndsSession parties IsOver IsEmpty bodies specs course → Arrived IsOver course
   arrived IsOver course s = by_run s.0.ran s.0.runs (ended-whole s.0.last.failures s.0.ran course.ended s.0.ended s.1)
     where
-      by_run : (ran : Result Bool Refusal) → Runs (λ m h from to r. FetchesMapped parties (IsOver m) IsEmpty h from to r) s.0.context true (bodies_reading s.0.transport) s.0.last course.mapped ran
+      by_run : (ran : Result Bool PlanRefusal) → Runs (λ m h from to r. FetchesMapped parties (IsOver m) IsEmpty h from to r) s.0.context true (bodies_reading s.0.transport) s.0.last course.mapped ran
           → EndedWhole s.0.last.failures ran course.ended → Arrived IsOver course
       by_run ran (ungreeted e g m f) k = absurd (not-refused ran (refusal (codes "handshake") (handshake_name e)) k.whole f)
       by_run ran (unmapped h mid e g l m f) k = absurd (not-refused ran (refusal (codes "refs") (map_name e)) k.whole f)
@@ -134,7 +134,7 @@ module _ {N I A S C P X : Type 0} (parties : Parties N I A S C P X) (basis : N �
           asked = asked;
         }
 
-  text-same : ((c d : Course) → Ends parties IsOne IsEmpty bodies specs c → Ends parties IsOther IsEmpty bodies specs d → course_shown c ≡ course_shown d) → (old new from to : Option (List ℕ))
+  text-same : ((c d : Course) → EndsSession parties IsOne IsEmpty bodies specs c → EndsSession parties IsOther IsEmpty bodies specs d → course_shown c ≡ course_shown d) → (old new from to : Option (List ℕ))
       → IsWritten parties IsOne IsEmpty bodies specs old new → IsWritten parties IsOther IsEmpty bodies specs from to → (written : List ℕ) × Appends old new written × Appends from to written
   text-same law old new from to (shown c i s) (shown d j t) = (course_shown c, s.0, subst (λ w. Appends from to w) (sym (law c d (i, s.1) (j, t.1))) t.0)
   text-same law old new from to (refused e r why k) b = absurd (not-refused-ok _ _ r)

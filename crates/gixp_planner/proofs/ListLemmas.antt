@@ -6,7 +6,7 @@ use Rattle.gixp_refspec.specs.declared.parse.Error.{Error as SpecError}
 use Rattle.gixp_refspec.specs.Spec.{Spec, spec_of}
 use Rattle.gixp_planner.specs.Haves.{with_id, ids_of}
 use Rattle.gixp_planner.specs.declared.error.PlanError.{PlanError}
-use Rattle.gixp_planner.specs.Refusal.{refusal, refusal_of, spec_name, IsMemory}
+use Rattle.gixp_planner.specs.Refusal.{refusal, refusal_of, spec_name, IsPlanMemory}
 use Rattle.gixp_planner.specs.Specs.{with_spec, specs_of, RefusesSpecs}
 
 -- what is left of a list begins with the element at that place
@@ -83,6 +83,6 @@ specs-refused all left rest text specs e h k f = h.split ∙ ap (λ l. specs_in_
 
 -- the refusal of a text is that of all
 pub refused-so-far : (all left rest : List (List ℕ)) (text : List ℕ) (specs : List Spec) (e : PlanError) → SpecsSoFar all left specs → left ≡ text ∷ rest
-    → ((error : SpecError) × (spec_of text ≡ Err error) × (refusal_of e ≡ refusal (codes "spec") (spec_name error))) ⊎ IsMemory (codes "spec") e → RefusesSpecs all e
+    → ((error : SpecError) × (spec_of text ≡ Err error) × (refusal_of e ≡ refusal (codes "spec") (spec_name error))) ⊎ IsPlanMemory (codes "spec") e → RefusesSpecs all e
 refused-so-far all left rest text specs e h k (inl f) = inl (f.0, specs-refused all left rest text specs f.0 h k f.1, f.2)
 refused-so-far all left rest text specs e h k (inr m) = inr m

@@ -42,26 +42,26 @@ use Rattle.gixp_refmap.specs.declared.refmap.map.RefMap.{RefMap}
 use Rattle.gixp_refmap.specs.declared.refmap.init.Context.{Context}
 use Rattle.gixp_refmap.specs.declared.refmap.init.Error.{Error as map_error}
 use Rattle.gixp_refmap.specs.declared.ls_refs.error.Error.{Error as list_error}
-use Rattle.gixp_refmap.specs.Listing.{Listing, listing, listing_of, Listed, Lists as ListsRefs}
+use Rattle.gixp_refmap.specs.Listing.{Listing, listing, listing_of, Listed, Lists}
 use Rattle.gixp_refmap.specs.Mapping.{unknown_format, joined_specs}
 use Rattle.gixp_handshake.specs.declared.handshake.read.Handshake.{Handshake}
 use Rattle.gixp_handshake.specs.declared.handshake.ref_map.ObtainRefMap.{ObtainRefMap}
 use Rattle.gixp_handshake.specs.declared.handshake.ref_map.ObtainRefMap.TheVariants.{Existing, LsRefsCommand}
-use Rattle.gixp_handshake.specs.Shake.{Turn, Opened, Got, NoMemory, Denied, First, Opens, ReadsFirst, Keeps, GoesOn, is_accepted}
+use Rattle.gixp_handshake.specs.Shake.{CredentialCall, OpeningResult, Got, StopsForMemory, Denied, First, Opens, ReadsFirst, KeepsVersion, FinishesHandshake, is_accepted}
 use Rattle.gixp_handshake.specs.Obtain.{prefixes_if, MakesMap, PreparesBy, ByList, ObtainsBy, Obtains}
 use Rattle.gixp_planner.specs.Specs.{specs_of, IsContext}
 use Rattle.gixp_fetch.specs.declared.error.Error.{Error as FetchError}
 use Rattle.gixp_fetch.specs.declared.options.Outcome.{Outcome}
 use Rattle.gixp_fetch.specs.Sent.{WroteRequests}
 use Rattle.gixp_fetch.specs.FetchRounds.{SendsRound, At, Turn as FetchTurn, Manner, TurnFails, Breaks, before_request, at_request, behind_request, at_answer, behind_answer}
-use Rattle.gixp_fetch.specs.Sessions.{Untouched, BreaksOff, by_caller, exhausted, at_round, behind_pack, answered_at, Refuses, at_depth, at_wants, in_session, Releases, HoldsSession}
+use Rattle.gixp_fetch.specs.Sessions.{Untouched, RoundsBreakOff, by_caller, exhausted, at_round, behind_pack, answered_at, SessionFails, at_depth, at_wants, in_session, Releases, HoldsSession}
 use Rattle.gixp_fetch.specs.Fetch.{World, Parties}
-use Rattle.gixp_fetch.specs.Fetched.{Call, Fetches, unprepared, unlocked}
+use Rattle.gixp_fetch.specs.Fetched.{FetchCall, Fetches, unprepared, unlocked}
 use Rattle.gixp_handshake.specs.Taken.{without_refs}
 use Rattle.gixp_planner.specs.declared.error.PlanError.{PlanError}
-use Rattle.gixp_planner.specs.Refusal.{Refusal, refusal}
+use Rattle.gixp_planner.specs.Refusal.{PlanRefusal, refusal}
 use Rattle.gixp_planner.specs.Text.{map_shown, mapped_shown, requests_shown, end_shown, Course}
-use Rattle.gixp_planner.specs.Session.{planner_agent, planner_call, AreUnanswered, Greets, MapsRefs, FetchesMapped, Runs, ungreeted, unmapped, fetched, end_counted}
+use Rattle.gixp_planner.specs.Session.{planner_agent, planner_call, AreUnanswered, GreetsWithoutAccount, MapsRefs, FetchesMapped, Runs, ungreeted, unmapped, fetched, end_counted}
 use Rattle.gixp_planner.specs.PlannedText.{IsCourse, Shows}
 use Rattle.gixp_planner.specs.Mapped.{IsMapped, MappingsFollow, ShowsMapped}
 use Rattle.gixp_planner.proofs.SeenLemmas.{map_text, map-text, LookAlike, look-alike}
@@ -192,10 +192,10 @@ hears-by service ps true old new x e h = cc e
 hears-by service ps false old new x e (inl h) = cc h.1
 hears-by service ps false old new x e (inr h) = record { mid = h.0; takes = h.1; reads = h.3 }
 
-abbrev opened_ok : SetServiceResponse → Opened
+abbrev opened_ok : SetServiceResponse → OpeningResult
 opened_ok x = Ok x
 
-module _ (old mid new : Reading) (turns : List Turn) (x : SetServiceResponse) where
+module _ (old mid new : Reading) (turns : List CredentialCall) (x : SetServiceResponse) where
   -- who wants an account gets none
   undenied : (denied : Bool) (e : client_error) → AreUnanswered turns → Denied denied e UploadPack [] mid new turns (Ok x) → Hears old new x
   undenied false e u d = cc d.2
@@ -223,18 +223,18 @@ record Greeted (plain : Bool) (old new : Reading) (h : Handshake) : Type 0 where
   version : h.server_protocol_version ≡ found.actual_protocol
   capabilities : h.capabilities ≡ found.capabilities
 
-module _ (plain : Bool) (old new : Reading) (h : Handshake) (turns : List Turn) where
-  kept-accepted : (accepted : Bool) (mid : Reading) (found : SetServiceResponse) → Hears old mid found → Keeps accepted found plain mid new (Ok h) → Greeted plain old new h
+module _ (plain : Bool) (old new : Reading) (h : Handshake) (turns : List CredentialCall) where
+  kept-accepted : (accepted : Bool) (mid : Reading) (found : SetServiceResponse) → Hears old mid found → KeepsVersion accepted found plain mid new (Ok h) → Greeted plain old new h
   kept-accepted true mid found o k = record { mid = mid; found = found; hears = o; first = k.0; version = k.1.0; capabilities = k.1.1 }
   kept-accepted false mid found o k = cc k.1
 
-  greeted-by : (opened : Opened) (mid : Reading) → old.held.persists ≡ false → AreUnanswered turns → Opens UploadPack [] old mid turns opened ⊎ NoMemory old mid turns opened
-      → GoesOn old.held.accepted opened plain mid new (Ok h) → Greeted plain old new h
+  greeted-by : (opened : OpeningResult) (mid : Reading) → old.held.persists ≡ false → AreUnanswered turns → Opens UploadPack [] old mid turns opened ⊎ StopsForMemory old mid turns opened
+      → FinishesHandshake old.held.accepted opened plain mid new (Ok h) → Greeted plain old new h
   greeted-by (Err e) mid p u o g = cc g.1
   greeted-by (Ok found) mid p u (inr n) g = cc n.error
   greeted-by (Ok found) mid p u (inl o) g = kept-accepted (is_accepted old.held.accepted found.actual_protocol) mid found (first-heard old o.1 mid turns found o.0 p u o.2 o.3) g
 
-greeted : (plain : Bool) (old new : Reading) (h : Handshake) → old.held.persists ≡ false → Greets plain old new (Ok h) → Greeted plain old new h
+greeted : (plain : Bool) (old new : Reading) (h : Handshake) → old.held.persists ≡ false → GreetsWithoutAccount plain old new (Ok h) → Greeted plain old new h
 greeted plain old new h p g = greeted-by plain old new h g.turns g.shakes.opened g.shakes.mid p g.unanswered g.shakes.opens g.shakes.goes_on
 
 -- the refs that came first, as values
@@ -270,7 +270,7 @@ first-refs-alike true plain a b c d x y h k s e l r =
       refs = ap values_of l.2 ∙ ap Some values ∙ sym (ap values_of r.2);
     }
 
-greetings-alike : (plain : Bool) (a b c d : Reading) (h k : Handshake) → HoldAlike a b → Greets plain a c (Ok h) → Greets plain b d (Ok k) → SameGreeting c d h k
+greetings-alike : (plain : Bool) (a b c d : Reading) (h k : Handshake) → HoldAlike a b → GreetsWithoutAccount plain a c (Ok h) → GreetsWithoutAccount plain b d (Ok k) → SameGreeting c d h k
 greetings-alike plain a b c d h k s l r =
     let x = greeted plain a c h s.alone l in
     let y = greeted plain b d k (ap (λ (z : TransportState). z.persists) (sym s.held) ∙ s.alone) r in
@@ -296,7 +296,7 @@ ObtainedBy None caps context old new m =
 abbrev ok_map : RefMap → Result RefMap map_error
 ok_map m = Ok m
 
-listed-ok : (l : Listing) (context : Context) (plain : Bool) (old new : Reading) (m : RefMap) (listed : Result (Vec Ref Global) list_error) → ListsRefs l plain old new listed → ByList l.capabilities context listed (Ok m)
+listed-ok : (l : Listing) (context : Context) (plain : Bool) (old new : Reading) (m : RefMap) (listed : Result (Vec Ref Global) list_error) → Lists l plain old new listed → ByList l.capabilities context listed (Ok m)
     → (refs : Vec Ref Global) × Listed l old new refs.items × MakesMap l.capabilities context refs.items (Ok m)
 listed-ok l context plain old new m (Ok refs) h b = (refs, h, b)
 listed-ok l context plain old new m (Err e) h b = cc b
@@ -488,11 +488,11 @@ module _ {N I A E : Type 0} (m : Manner N I A) where
   refused-extends before e n new p (inr b) = breaks-extend before b.asked b.done e new p b.breaks
 
 module _ {N I A S C P X : Type 0} (parties : Parties N I A S C P X) where
-  same-extends : (call : Call) (old last : World N I S C) → Untouched parties old last → Extends old.reading last.reading
+  same-extends : (call : FetchCall) (old last : World N I S C) → Untouched parties old last → Extends old.reading last.reading
   same-extends call old last u = extends-none old.reading last.reading (ap (λ (z : Reading). z.held.sent) u.reading)
 
-  ends-extend : (call : Call) (banded : Bool) (ids : List ObjectId) (c : C) (read : S) (locked : Bool) (turns : List (FetchTurn N I)) (before : At N I) (e : FetchError A X) (last : World N I S C) (progress : P)
-      (old : Reading) (requests : List (List ℕ)) → old.held.persists ≡ false → (ends : BreaksOff parties call banded ids c read locked turns before e last progress) → WroteRequests old (answered_at parties ends) requests → Extends old last.reading
+  ends-extend : (call : FetchCall) (banded : Bool) (ids : List ObjectId) (c : C) (read : S) (locked : Bool) (turns : List (FetchTurn N I)) (before : At N I) (e : FetchError A X) (last : World N I S C) (progress : P)
+      (old : Reading) (requests : List (List ℕ)) → old.held.persists ≡ false → (ends : RoundsBreakOff parties call banded ids c read locked turns before e last progress) → WroteRequests old (answered_at parties ends) requests → Extends old last.reading
   ends-extend call banded ids c read locked turns before e last progress old requests p (by_caller s g at u) w =
       sent-extends old before.reading last.reading (ap (λ (z : Reading). z.held) at.reading) (wrote-extends old before.reading requests p w)
   ends-extend call banded ids c read locked turns before e last progress old requests p (exhausted t r d n g at i u) w =
@@ -501,7 +501,7 @@ module _ {N I A S C P X : Type 0} (parties : Parties N I A S C P X) where
       extends-more old before.reading last.reading (wrote-extends old before.reading requests p w) (refused-extends _ before e last.negotiate last.reading (w.persists ∙ p) f)
   ends-extend call banded ids c read locked turns before e last progress old requests p (behind_pack t r k n h u) w = sent-extends old t.after.reading last.reading h (wrote-extends old t.after.reading requests p w)
 
-  refuses-extend : (call : Call) (old : World N I S C) (e : FetchError A X) (last : World N I S C) (progress : P) → old.reading.held.persists ≡ false → Refuses parties call old e last progress → Extends old.reading last.reading
+  refuses-extend : (call : FetchCall) (old : World N I S C) (e : FetchError A X) (last : World N I S C) (progress : P) → old.reading.held.persists ≡ false → SessionFails parties call old e last progress → Extends old.reading last.reading
   refuses-extend call old e last progress p (at_depth given banded held prepared l u n t) = same-extends call old last t
   refuses-extend call old e last progress p (at_wants banded ids asked a u t) = same-extends call old last t
   refuses-extend call old e last progress p (in_session b) = ends-extend call b.banded b.ids old.consumer b.read b.locked b.turns b.before e last progress old.reading _ p b.ends b.requests
@@ -509,7 +509,7 @@ module _ {N I A S C P X : Type 0} (parties : Parties N I A S C P X) where
   released-extends : (old : Reading) (last new : World N I S C) → Releases parties last new → Extends old last.reading → Extends old new.reading
   released-extends old last new r x = subst (λ (z : Reading). Extends old z) (sym (ap (λ (w : World N I S C). w.reading) r.stands)) x
 
-  session-extends : (call : Call) (old : World N I S C) (r : Result (Option Outcome) (FetchError A X)) (new : World N I S C) (progress : P) → old.reading.held.persists ≡ false → HoldsSession parties call old r new progress
+  session-extends : (call : FetchCall) (old : World N I S C) (r : Result (Option Outcome) (FetchError A X)) (new : World N I S C) (progress : P) → old.reading.held.persists ≡ false → HoldsSession parties call old r new progress
       → Extends old.reading new.reading
   session-extends call old (Ok (Some outcome)) new progress p h = released-extends old.reading h.0 new h.2 (wrote-extends old.reading h.0.reading _ p h.1.requests)
   session-extends call old (Ok None) new progress p h = released-extends old.reading h.0 new h.2 (same-extends call old h.0 h.1.untouched)
@@ -519,7 +519,7 @@ module _ {N I A S C P X : Type 0} (parties : Parties N I A S C P X) where
 
   -- what is known of a whole fetch
   abbrev pub Holds : Type 0
-  Holds = (call : Call) (first : World N I S C) (r : Result (Option Outcome) (FetchError A X)) (last : World N I S C) (progress : P) → Fetches parties call first r last progress
+  Holds = (call : FetchCall) (first : World N I S C) (r : Result (Option Outcome) (FetchError A X)) (last : World N I S C) (progress : P) → Fetches parties call first r last progress
       → HoldsSession parties call first r last progress
 
   pub fetches-extend : Holds → (IsOver : N → Type 0) (IsEmpty : S → Type 0) (h : Handshake) (old new : Reading) (r : Result (Option Outcome) (FetchError A X)) → old.held.persists ≡ false
@@ -532,33 +532,33 @@ module _ {N I A S C P X : Type 0} (parties : Parties N I A S C P X) where
 
 -- ---- a session that is shown
 
-abbrev ends_in : Bool → Result Bool Refusal
+abbrev ends_in : Bool → Result Bool PlanRefusal
 ends_in pack = Ok pack
 
-abbrev ends_refused : Refusal → Result Bool Refusal
+abbrev ends_refused : PlanRefusal → Result Bool PlanRefusal
 ends_refused e = Err e
 
-not-refused : (pack : Bool) (e : Refusal) → ends_in pack ≡ ends_refused e → ⊥
+not-refused : (pack : Bool) (e : PlanRefusal) → ends_in pack ≡ ends_refused e → ⊥
 not-refused pack e h = cc
 
-pub not-ok : (e : Refusal) → IsOk (ends_refused e) → ⊥
+pub not-ok : (e : PlanRefusal) → IsOk (ends_refused e) → ⊥
 not-ok e h = cc
 
 -- the steps of a session that came to its end came to the same one, and no failure was counted
-pub record EndedWhole (failures : ℕ) (ran ended : Result Bool Refusal) : Type 0 where
+pub record EndedWhole (failures : ℕ) (ran ended : Result Bool PlanRefusal) : Type 0 where
   pub uncounted : failures ≡ 0
   pub same : ended ≡ ran
   pub whole : IsOk ran
 
-pub ended-whole : (failures : ℕ) (ran ended : Result Bool Refusal) → ended ≡ end_counted failures ran → IsOk ended → EndedWhole failures ran ended
-ended-whole failures (Err e) ended h k = absurd (not-ok e (subst (λ (r : Result Bool Refusal). IsOk r) h k))
+pub ended-whole : (failures : ℕ) (ran ended : Result Bool PlanRefusal) → ended ≡ end_counted failures ran → IsOk ended → EndedWhole failures ran ended
+ended-whole failures (Err e) ended h k = absurd (not-ok e (subst (λ (r : Result Bool PlanRefusal). IsOk r) h k))
 ended-whole failures (Ok pack) ended h k = by_count (failures == 0) refl
   where
     by_count : (b : Bool) → (failures == 0) ≡ b → EndedWhole failures (Ok pack) ended
     by_count true e =
         let same : ended ≡ Ok pack = rw e at h in
-        record { uncounted = grind (arith, nat_tests); same = same; whole = subst (λ (r : Result Bool Refusal). IsOk r) same k }
-    by_count false e = let refused : ended ≡ Err (refusal (codes "fetch") (codes "Io")) = rw e at h in absurd (not-ok (refusal (codes "fetch") (codes "Io")) (subst (λ (r : Result Bool Refusal). IsOk r) refused k))
+        record { uncounted = grind (arith, nat_tests); same = same; whole = subst (λ (r : Result Bool PlanRefusal). IsOk r) same k }
+    by_count false e = let refused : ended ≡ Err (refusal (codes "fetch") (codes "Io")) = rw e at h in absurd (not-ok (refusal (codes "fetch") (codes "Io")) (subst (λ (r : Result Bool PlanRefusal). IsOk r) refused k))
 
 module _ {A X : Type 0} (Receives : RefMap → Handshake → Reading → Reading → Result (Option Outcome) (FetchError A X) → Type 0) (bodies : List Body) (specs : List (List ℕ)) (old new : Option (List ℕ)) where
   -- a fetch writes behind what was sent
@@ -566,7 +566,7 @@ module _ {A X : Type 0} (Receives : RefMap → Handshake → Reading → Reading
   ReceivesBehind = (m : RefMap) (h : Handshake) (from to : Reading) (r : Result (Option Outcome) (FetchError A X)) → from.held.persists ≡ false → Receives m h from to r → Extends from to
 
   shown-fetched : ReceivesBehind → (context : Context) (transport : Bodies) (mid behind last : Reading) (h : Handshake) (m : RefMap) (r : Result (Option Outcome) (FetchError A X)) (sent : List (List ℕ)) (made : Option RefMap)
-      (pack : Bool) → IsContext specs context → IsNewBodies bodies [] [] transport → Greets true (bodies_reading transport) mid (Ok h) → MapsRefs context h true mid behind (Ok m) → Receives m (without_refs h) behind last r
+      (pack : Bool) → IsContext specs context → IsNewBodies bodies [] [] transport → GreetsWithoutAccount true (bodies_reading transport) mid (Ok h) → MapsRefs context h true mid behind (Ok m) → Receives m (without_refs h) behind last r
       → made ≡ Some m → last.held.sent ≡ sent → Appends old new (requests_shown sent ++ mapped_shown made ++ end_shown (Ok pack)) → ShowsMapped bodies specs old new
   shown-fetched behind-it context transport mid behind last h m r sent made pack c n g l t e s w =
       let mapped : IsMapped bodies specs behind.held.sent m =
@@ -583,18 +583,18 @@ module _ {A X : Type 0} (Receives : RefMap → Handshake → Reading → Reading
             (subst (λ o. Appends old new (requests_shown sent ++ mapped_shown o ++ end_shown (Ok pack))) e w);
       }
 
-  shown-run : ReceivesBehind → (context : Context) (transport : Bodies) (last : Reading) (sent : List (List ℕ)) (made : Option RefMap) (ended : Result Bool Refusal) (pack : Bool) → ended ≡ Ok pack → IsContext specs context
+  shown-run : ReceivesBehind → (context : Context) (transport : Bodies) (last : Reading) (sent : List (List ℕ)) (made : Option RefMap) (ended : Result Bool PlanRefusal) (pack : Bool) → ended ≡ Ok pack → IsContext specs context
       → IsNewBodies bodies [] [] transport → Runs Receives context true (bodies_reading transport) last made ended → last.held.sent ≡ sent
       → Appends old new (requests_shown sent ++ mapped_shown made ++ end_shown (Ok pack)) → ShowsMapped bodies specs old new
   shown-run behind-it context transport last sent made ended pack k c n (ungreeted e g m f) s w = absurd (not-refused pack _ (sym k ∙ f))
   shown-run behind-it context transport last sent made ended pack k c n (unmapped h mid e g l m f) s w = absurd (not-refused pack _ (sym k ∙ f))
   shown-run behind-it context transport last sent made ended pack k c n (fetched h mid behind m r g l t e f) s w = shown-fetched behind-it context transport mid behind last h m r sent made pack c n g l t e s w
 
-  shown-ended : ReceivesBehind → (course : Course) (ended : Result Bool Refusal) → course.ended ≡ ended → IsOk ended → IsCourse Receives bodies specs course
+  shown-ended : ReceivesBehind → (course : Course) (ended : Result Bool PlanRefusal) → course.ended ≡ ended → IsOk ended → IsCourse Receives bodies specs course
       → Appends old new (requests_shown course.sent ++ mapped_shown course.mapped ++ end_shown ended) → ShowsMapped bodies specs old new
   shown-ended behind-it course (Err e) q k c w = absurd (not-ok e k)
   shown-ended behind-it course (Ok pack) q k c w =
-      let h = ended-whole c.last.failures c.ran course.ended c.ended (subst (λ (r : Result Bool Refusal). IsOk r) (sym q) k) in
+      let h = ended-whole c.last.failures c.ran course.ended c.ended (subst (λ (r : Result Bool PlanRefusal). IsOk r) (sym q) k) in
       shown-run behind-it c.context c.transport c.last course.sent course.mapped c.ran pack (sym h.same ∙ q) c.read c.over c.runs c.sent w
 
   pub shows-mapped : ReceivesBehind → (course : Course) (r : Result (Unit {0}) PlanError) → IsCourse Receives bodies specs course → Shows old new course r → IfOk r (λ _. ShowsMapped bodies specs old new)

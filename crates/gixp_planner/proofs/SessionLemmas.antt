@@ -10,32 +10,32 @@ use Rattle.gixp_refmap.specs.declared.refmap.init.Context.{Context}
 use Rattle.gixp_refmap.specs.declared.refmap.map.RefMap.{RefMap}
 use Rattle.gixp_handshake.specs.declared.credentials.Action.{Action}
 use Rattle.gixp_handshake.specs.declared.handshake.read.Handshake.{Handshake}
-use Rattle.gixp_handshake.specs.Shake.{Turn, Answer, Asks}
+use Rattle.gixp_handshake.specs.Shake.{CredentialCall, CredentialAnswer, MakesCredentialCalls}
 use Rattle.gixp_handshake.specs.Taken.{without_refs}
 use Rattle.gixp_fetch.specs.declared.error.Error.{Error as FetchError}
 use Rattle.gixp_fetch.specs.declared.options.Outcome.{Outcome}
-use Rattle.gixp_requests.specs.Command.{Table, git_table}
+use Rattle.gixp_requests.specs.Command.{TableValue, git_table}
 use Rattle.gixp_requests.specs.Feature.{FeatureValue}
 use Rattle.gixp_response.specs.Answer.{update_items}
 use Rattle.gixp_refmap.specs.declared.fetch.Tags.TheVariants as tags
 use Rattle.gixp_fetch.specs.FetchShallow.{ShallowValue, no_change}
 use Rattle.gixp_fetch.specs.Fetch.{World, Parties}
-use Rattle.gixp_fetch.specs.Fetched.{Call, Fetches}
+use Rattle.gixp_fetch.specs.Fetched.{FetchCall, Fetches}
 use Rattle.gixp_planner.specs.declared.error.PlanError.{PlanError}
-use Rattle.gixp_planner.specs.Refusal.{Refusal, Writes}
+use Rattle.gixp_planner.specs.Refusal.{PlanRefusal, WritesPlan}
 use Rattle.gixp_planner.specs.Specs.{IsContext}
 use Rattle.gixp_planner.specs.Text.{course_shown, course_of, ended_of}
-use Rattle.gixp_planner.specs.Session.{planner_agent, AreUnanswered, Greets, MapsRefs, Carries, FetchesOver, Runs, fetched, end_of, end_counted}
+use Rattle.gixp_planner.specs.Session.{planner_agent, AreUnanswered, GreetsWithoutAccount, MapsRefs, Carries, FetchesOver, Runs, fetched, end_of, end_counted}
 use Rattle.gixp_planner.specs.PlannedText.{IsCourse, Shows, IsOutcome}
 
 -- where each call answers that there is no account, all did
-pub unanswered : {A : Type 0} (asks : A → Action → Answer → A → Type 0) → ((a : A) (x : Action) (r : Answer) (b : A) → asks a x r b → r ≡ Ok None) → (old new : A) (turns : List Turn)
-    → Asks asks old turns new → AreUnanswered turns
+pub unanswered : {A : Type 0} (asks : A → Action → CredentialAnswer → A → Type 0) → ((a : A) (x : Action) (r : CredentialAnswer) (b : A) → asks a x r b → r ≡ Ok None) → (old new : A) (turns : List CredentialCall)
+    → MakesCredentialCalls asks old turns new → AreUnanswered turns
 unanswered asks h old new [] k = tt
 unanswered asks h old new (t ∷ ts) k = (h old t.action t.answer k.0 k.1, unanswered asks h k.0 new ts k.2)
 
 -- what a fetch is handed in, by what the planner hands in
-abbrev call_of : Table → FeatureValue → ShallowValue → Handshake → Call
+abbrev call_of : TableValue → FeatureValue → ShallowValue → Handshake → FetchCall
 call_of table agent shallow h = record {
   table = table;
   version = h.server_protocol_version;
@@ -47,7 +47,7 @@ call_of table agent shallow h = record {
 
 module _ {N I A S C P X : Type 0} (parties : Parties N I A S C P X) (h : Handshake) (first : World N I S C) (r : Result (Option Outcome) (FetchError A X)) (last : World N I S C) (progress : P) where
   -- a fetch of the planner, by its table, its name and that the boundary stays
-  pub carries : (table : Table) (agent : FeatureValue) (shallow : ShallowValue) → table ≡ git_table → agent ≡ planner_agent → shallow ≡ no_change
+  pub carries : (table : TableValue) (agent : FeatureValue) (shallow : ShallowValue) → table ≡ git_table → agent ≡ planner_agent → shallow ≡ no_change
       → Fetches parties (call_of table agent shallow h) first r last progress → Carries parties h first r last progress
   carries table agent shallow e f k it = record {
     fetched =
@@ -73,8 +73,8 @@ module _ {N I A S C P X : Type 0} (parties : Parties N I A S C P X) (h : Handsha
 
 module _ {A X : Type 0} (Receives : RefMap → Handshake → Reading → Reading → Result (Option Outcome) (FetchError A X) → Type 0) where
   -- all three steps
-  pub ran : (context : Context) (plain : Bool) (old mid behind new : Reading) (h k : Handshake) (m : RefMap) (r : Result (Option Outcome) (FetchError A X)) (mapped : Option RefMap) (ended : Result Bool Refusal)
-      → Greets plain old mid (Ok h) → MapsRefs context h plain mid behind (Ok m) → k ≡ without_refs h → Receives m k behind new r → mapped ≡ Some m → ended ≡ end_of r → Runs Receives context plain old new mapped ended
+  pub ran : (context : Context) (plain : Bool) (old mid behind new : Reading) (h k : Handshake) (m : RefMap) (r : Result (Option Outcome) (FetchError A X)) (mapped : Option RefMap) (ended : Result Bool PlanRefusal)
+      → GreetsWithoutAccount plain old mid (Ok h) → MapsRefs context h plain mid behind (Ok m) → k ≡ without_refs h → Receives m k behind new r → mapped ≡ Some m → ended ≡ end_of r → Runs Receives context plain old new mapped ended
   ran context plain old mid behind new h k m r mapped ended g l e f p q = fetched h mid behind m r g l (subst (λ x. Receives m x behind new r) e f) p q
 
   -- a session over new bodies
@@ -96,7 +96,7 @@ module _ {A X : Type 0} (Receives : RefMap → Handshake → Reading → Reading
 
 -- its text, and its refusal
 pub shows : (old new : Option (List ℕ)) (requests : List (Vec ℕ Global)) (mapped : Option RefMap) (ended : Result Bool PlanError) (written r : Result (Unit {0}) PlanError)
-    → Writes old new (course_shown (course_of requests mapped ended)) written → IsOutcome written ended r → Shows old new (course_of requests mapped ended) r
+    → WritesPlan old new (course_shown (course_of requests mapped ended)) written → IsOutcome written ended r → Shows old new (course_of requests mapped ended) r
 shows old new requests mapped ended (Err e) r w o = subst (Shows old new (course_of requests mapped ended)) (sym o) (inr w)
 shows old new requests mapped (Err e) (Ok x) r w o = subst (Shows old new (course_of requests mapped (Err e))) (sym o) (inl (w, refl))
 shows old new requests mapped (Ok pack) (Ok x) r w o = subst (Shows old new (course_of requests mapped (Ok pack))) (sym o) (w, refl)

@@ -4,14 +4,14 @@ use Rattle.std.specs.Io.KnownBytes.{Appends}
 use Rattle.gixp_wire.specs.declared.bodies.Body.{Body}
 use Rattle.gixp_refmap.specs.declared.refmap.map.RefMap.{RefMap}
 use Rattle.gixp_fetch.specs.Fetch.{Parties}
-use Rattle.gixp_planner.specs.Refusal.{Refusal}
+use Rattle.gixp_planner.specs.Refusal.{PlanRefusal}
 use Rattle.gixp_planner.specs.Text.{Course, mapped_shown, course_shown}
 use Rattle.gixp_planner.specs.Session.{FetchesMapped}
 use Rattle.gixp_planner.specs.PlannedText.{IsCourse, PlannedText}
 use Rattle.gixp_planner.specs.Mapped.{IsMapped}
 
 -- behind the requests up to its ref map a session sent those of a fetch, or none where nothing came
-abbrev pub AsksBehind : Result Bool Refusal → List (List ℕ) → List (List ℕ) → Type 0
+abbrev pub AsksBehind : Result Bool PlanRefusal → List (List ℕ) → List (List ℕ) → Type 0
 AsksBehind (Ok true) mapping sent = (first : List ℕ) × (later : List (List ℕ)) × (sent ≡ mapping ++ first ∷ later)
 AsksBehind (Ok false) mapping sent = sent ≡ mapping
 AsksBehind (Err e) mapping sent = ⊥
@@ -29,8 +29,8 @@ pub record AreSame (bodies : List Body) (specs : List (List ℕ)) (c d : Course)
 
 module _ {N I A S C P X : Type 0} (parties : Parties N I A S C P X) (IsOver : RefMap → N → Type 0) (IsEmpty : S → Type 0) (bodies : List Body) (specs : List (List ℕ)) where
   -- a session that came to its end, over a negotiation that is so
-  abbrev pub Ends : Course → Type 0
-  Ends course = IsCourse (λ m h old new r. FetchesMapped parties (IsOver m) IsEmpty h old new r) bodies specs course × IsOk course.ended
+  abbrev pub EndsSession : Course → Type 0
+  EndsSession course = IsCourse (λ m h old new r. FetchesMapped parties (IsOver m) IsEmpty h old new r) bodies specs course × IsOk course.ended
 
   -- one that is written whole
   abbrev pub IsWritten : Option (List ℕ) → Option (List ℕ) → Type 0
@@ -39,6 +39,6 @@ module _ {N I A S C P X : Type 0} (parties : Parties N I A S C P X) (IsOver : Re
 module _ {N I A S C P X : Type 0} (parties : Parties N I A S C P X) (IsOne IsOther : RefMap → N → Type 0) (IsEmpty : S → Type 0) (bodies : List Body) (specs : List (List ℕ)) where
   -- sessions of both kinds are the same, and the same text is written of them
   pub record Follow : Type 0 where
-    pub session : (c d : Course) → Ends parties IsOne IsEmpty bodies specs c → Ends parties IsOther IsEmpty bodies specs d → AreSame bodies specs c d
+    pub session : (c d : Course) → EndsSession parties IsOne IsEmpty bodies specs c → EndsSession parties IsOther IsEmpty bodies specs d → AreSame bodies specs c d
     pub text : (old new from to : Option (List ℕ)) → IsWritten parties IsOne IsEmpty bodies specs old new → IsWritten parties IsOther IsEmpty bodies specs from to
         → (written : List ℕ) × Appends old new written × Appends from to written

@@ -6,7 +6,7 @@ use Rattle.std.specs.declared.alloc.Global.{Global}
 use Rattle.gixp_hash.specs.declared.object_id.ObjectId.{ObjectId}
 use Rattle.gixp_hash.specs.ObjectId.{id_of}
 use Rattle.gixp_planner.specs.declared.error.PlanError.{PlanError}
-use Rattle.gixp_planner.specs.Refusal.{refusal, refusal_of, IsMemory}
+use Rattle.gixp_planner.specs.Refusal.{refusal, refusal_of, IsPlanMemory}
 
 -- the pieces of a text between its LFs
 abbrev pub pieces : List ℕ → List (List ℕ)
@@ -32,4 +32,4 @@ bytes_of ids = map (λ (id : ObjectId). id.bytes) ids
 -- these are the ids of the text; or a line of it is none, or an allocation failed
 abbrev pub ReadsHaves : List ℕ → Result (Vec ObjectId Global) PlanError → Type 0
 ReadsHaves text (Ok ids) = ids_of (have_lines text) ≡ Some (bytes_of ids.items)
-ReadsHaves text (Err e) = ((refusal_of e ≡ refusal (codes "have") (codes "Decode")) × (ids_of (have_lines text) ≡ None)) ⊎ IsMemory (codes "have") e
+ReadsHaves text (Err e) = ((refusal_of e ≡ refusal (codes "have") (codes "Decode")) × (ids_of (have_lines text) ≡ None)) ⊎ IsPlanMemory (codes "have") e

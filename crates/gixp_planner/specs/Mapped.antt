@@ -10,7 +10,7 @@ use Rattle.gixp_refmap.specs.declared.refmap.map.RefMap.{RefMap}
 use Rattle.gixp_handshake.specs.declared.handshake.read.Handshake.{Handshake}
 use Rattle.gixp_planner.specs.Specs.{IsContext}
 use Rattle.gixp_planner.specs.Text.{requests_shown, map_shown, end_shown}
-use Rattle.gixp_planner.specs.Session.{Greets, MapsRefs}
+use Rattle.gixp_planner.specs.Session.{GreetsWithoutAccount, MapsRefs}
 
 -- a session over these bodies came to the ref map of these refspecs, and had sent these requests by then
 pub record IsMapped (bodies : List Body) (specs : List (List ℕ)) (sent : List (List ℕ)) (m : RefMap) : Type 0 where
@@ -21,7 +21,7 @@ pub record IsMapped (bodies : List Body) (specs : List (List ℕ)) (sent : List 
   pub behind : Reading
   pub read : IsContext specs context
   pub over : IsNewBodies bodies [] [] transport
-  pub greets : Greets true (bodies_reading transport) mid (Ok handshake)
+  pub greets : GreetsWithoutAccount true (bodies_reading transport) mid (Ok handshake)
   pub maps : MapsRefs context handshake true mid behind (Ok m)
   pub by_then : behind.held.sent ≡ sent
 

@@ -11,7 +11,7 @@ use Rattle.gixp_handshake.specs.declared.handshake.read.Handshake.{Handshake}
 use Rattle.gixp_fetch.specs.declared.error.Error.{Error as FetchError}
 use Rattle.gixp_fetch.specs.declared.options.Outcome.{Outcome}
 use Rattle.gixp_planner.specs.declared.error.PlanError.{PlanError}
-use Rattle.gixp_planner.specs.Refusal.{Refusal, refusal_of, IsMemory, IsUnwritten}
+use Rattle.gixp_planner.specs.Refusal.{PlanRefusal, refusal_of, IsPlanMemory, IsUnwritten}
 use Rattle.gixp_planner.specs.Specs.{IsContext, RefusesSpecs}
 use Rattle.gixp_planner.specs.Text.{Course, course_shown}
 use Rattle.gixp_planner.specs.Session.{Runs, end_counted}
@@ -27,7 +27,7 @@ module _ {A X : Type 0} (Receives : RefMap → Handshake → Reading → Reading
     pub context : Context
     pub transport : Bodies
     pub last : Reading
-    pub ran : Result Bool Refusal
+    pub ran : Result Bool PlanRefusal
     pub read : IsContext specs context
     pub over : IsNewBodies bodies [] [] transport
     pub runs : Runs Receives context true (bodies_reading transport) last course.mapped ran
@@ -37,7 +37,7 @@ module _ {A X : Type 0} (Receives : RefMap → Handshake → Reading → Reading
   -- a session is shown; or a refspec is refused, or memory for the session, and nothing is written
   pub data PlannedText (old new : Option (List ℕ)) (r : Result (Unit {0}) PlanError) : Type 0 where
     shown : (course : Course) → IsCourse course → Shows old new course r → PlannedText old new r
-    refused : (e : PlanError) → r ≡ Err e → RefusesSpecs specs e ⊎ IsMemory (codes "file") e → Keeps old new → PlannedText old new r
+    refused : (e : PlanError) → r ≡ Err e → RefusesSpecs specs e ⊎ IsPlanMemory (codes "file") e → Keeps old new → PlannedText old new r
 
 -- a failed write, or else the refusal of a step
 abbrev pub IsOutcome : Result (Unit {0}) PlanError → Result Bool PlanError → Result (Unit {0}) PlanError → Type 0

@@ -12,36 +12,36 @@ use Rattle.gixp_fetch.specs.declared.error.Error.{Error as FetchError}
 use Rattle.gixp_fetch.specs.declared.error.Error.TheVariants as fetch
 use Rattle.gixp_planner.specs.declared.error.PlanError.{PlanError}
 
-pub record Refusal : Type 0 where
+pub record PlanRefusal : Type 0 where
   pub step : List ℕ
   pub variant : List ℕ
 
-abbrev pub refusal : List ℕ → List ℕ → Refusal
+abbrev pub refusal : List ℕ → List ℕ → PlanRefusal
 refusal step variant = record { step = step; variant = variant }
 
-abbrev pub refusal_of : PlanError → Refusal
+abbrev pub refusal_of : PlanError → PlanRefusal
 refusal_of e = refusal e.step.now e.variant.now
 
 -- an allocation failed in a step
-abbrev pub IsMemory : List ℕ → PlanError → Type 0
-IsMemory step e = refusal_of e ≡ refusal step (codes "Memory")
+abbrev pub IsPlanMemory : List ℕ → PlanError → Type 0
+IsPlanMemory step e = refusal_of e ≡ refusal step (codes "Memory")
 
 -- a write failed, or an allocation for what is written
 abbrev pub IsUnwritten : PlanError → Type 0
-IsUnwritten e = (refusal_of e ≡ refusal (codes "file") (codes "Io")) ⊎ IsMemory (codes "file") e
+IsUnwritten e = (refusal_of e ≡ refusal (codes "file") (codes "Io")) ⊎ IsPlanMemory (codes "file") e
 
 -- a file can't be read, or an allocation failed for what it holds
-abbrev pub IsUnread : PlanError → Type 0
-IsUnread e = (refusal_of e ≡ refusal (codes "file") (codes "Io")) ⊎ IsMemory (codes "file") e
+abbrev pub FileIsUnread : PlanError → Type 0
+FileIsUnread e = (refusal_of e ≡ refusal (codes "file") (codes "Io")) ⊎ IsPlanMemory (codes "file") e
 
 -- a line is no id, or an allocation failed for the ids
 abbrev pub IsNoHave : PlanError → Type 0
-IsNoHave e = (refusal_of e ≡ refusal (codes "have") (codes "Decode")) ⊎ IsMemory (codes "have") e
+IsNoHave e = (refusal_of e ≡ refusal (codes "have") (codes "Decode")) ⊎ IsPlanMemory (codes "have") e
 
 -- this text was written, or a write failed
-abbrev pub Writes : Option (List ℕ) → Option (List ℕ) → List ℕ → Result (Unit {0}) PlanError → Type 0
-Writes old new text (Ok x) = Appends old new text
-Writes old new text (Err e) = IsUnwritten e
+abbrev pub WritesPlan : Option (List ℕ) → Option (List ℕ) → List ℕ → Result (Unit {0}) PlanError → Type 0
+WritesPlan old new text (Ok x) = Appends old new text
+WritesPlan old new text (Err e) = IsUnwritten e
 
 abbrev pub spec_name : SpecError → List ℕ
 spec_name NegativeWithDestination = codes "NegativeWithDestination"

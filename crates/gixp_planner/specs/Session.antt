@@ -12,7 +12,7 @@ use Rattle.gixp_refmap.specs.declared.refmap.init.Error.TheVariants as map
 use Rattle.gixp_refmap.specs.declared.refmap.map.RefMap.{RefMap}
 use Rattle.gixp_handshake.specs.declared.handshake.error.Error.{Error as HandshakeError}
 use Rattle.gixp_handshake.specs.declared.handshake.read.Handshake.{Handshake}
-use Rattle.gixp_handshake.specs.Shake.{Turn, Shakes}
+use Rattle.gixp_handshake.specs.Shake.{CredentialCall, CompletesHandshake}
 use Rattle.gixp_handshake.specs.Taken.{without_refs}
 use Rattle.gixp_handshake.specs.Obtain.{Obtains}
 use Rattle.gixp_fetch.specs.declared.error.Error.{Error as FetchError}
@@ -20,23 +20,23 @@ use Rattle.gixp_fetch.specs.declared.error.Error.TheVariants as fetch
 use Rattle.gixp_fetch.specs.declared.options.Outcome.{Outcome}
 use Rattle.gixp_fetch.specs.FetchShallow.{no_change}
 use Rattle.gixp_fetch.specs.Fetch.{World, Parties}
-use Rattle.gixp_fetch.specs.Fetched.{Call, Fetches}
-use Rattle.gixp_planner.specs.Refusal.{Refusal, refusal, handshake_name, map_name, fetch_name}
+use Rattle.gixp_fetch.specs.Fetched.{FetchCall, Fetches}
+use Rattle.gixp_planner.specs.Refusal.{PlanRefusal, refusal, handshake_name, map_name, fetch_name}
 
 -- how the planner names itself
 abbrev pub planner_agent : FeatureValue
 planner_agent = record { name = codes "agent"; value = Some (codes "git/gixp-plan") }
 
 -- whoever was asked for an account had none
-abbrev pub AreUnanswered : List Turn → Type 0
+abbrev pub AreUnanswered : List CredentialCall → Type 0
 AreUnanswered [] = ⊤
 AreUnanswered (t ∷ ts) = (t.answer ≡ Ok None) × AreUnanswered ts
 
 -- a handshake without an account
-pub record Greets (plain : Bool) (old new : Reading) (r : Result Handshake HandshakeError) : Type 0 where
-  pub turns : List Turn
+pub record GreetsWithoutAccount (plain : Bool) (old new : Reading) (r : Result Handshake HandshakeError) : Type 0 where
+  pub turns : List CredentialCall
   pub unanswered : AreUnanswered turns
-  pub shakes : Shakes UploadPack [] plain old new turns r
+  pub shakes : CompletesHandshake UploadPack [] plain old new turns r
 
 -- a ref map without the refs that it was made of
 abbrev pub IsWithoutRefs : RefMap → RefMap → Type 0
@@ -48,7 +48,7 @@ MapsRefs context h plain old new (Ok m) = (made : RefMap) × Obtains git_table p
 MapsRefs context h plain old new (Err e) = Obtains git_table planner_agent context h plain old new (Err e) ⊎ ((new ≡ old) × (e ≡ map.Memory))
 
 -- what a fetch is handed in: the boundary is to stay, and no tags come but those that are mapped
-abbrev pub planner_call : Handshake → Call
+abbrev pub planner_call : Handshake → FetchCall
 planner_call h = record {
   table = git_table;
   version = h.server_protocol_version;
@@ -79,21 +79,21 @@ abbrev pub FetchesMapped : {N I A S C P X : Type 0} → Parties N I A S C P X �
 FetchesMapped parties IsOver IsEmpty h old new r = FetchesOver parties IsOver IsEmpty h old new r ⊎ ((new ≡ old) × (r ≡ Err fetch.Memory))
 
 -- whether a pack came, or why the fetch was refused
-abbrev pub end_of : {A X : Type 0} → Result (Option Outcome) (FetchError A X) → Result Bool Refusal
+abbrev pub end_of : {A X : Type 0} → Result (Option Outcome) (FetchError A X) → Result Bool PlanRefusal
 end_of (Ok (Some outcome)) = Ok true
 end_of (Ok None) = Ok false
 end_of (Err e) = Err (refusal (codes "fetch") (fetch_name e))
 
 -- how a session ended, by how often its transport failed: behind a failure an answer may have been cut short, so it didn't come to its end
-abbrev pub end_counted : ℕ → Result Bool Refusal → Result Bool Refusal
+abbrev pub end_counted : ℕ → Result Bool PlanRefusal → Result Bool PlanRefusal
 end_counted failures (Ok pack) = if failures == 0 then Ok pack else Err (refusal (codes "fetch") (codes "Io"))
 end_counted failures (Err e) = Err e
 
 module _ {A X : Type 0} (Receives : RefMap → Handshake → Reading → Reading → Result (Option Outcome) (FetchError A X) → Type 0) (context : Context) (plain : Bool) (old : Reading) where
   -- a session: its handshake was refused, or its ref map was, or what is mapped was fetched
-  pub data Runs (new : Reading) (mapped : Option RefMap) (ended : Result Bool Refusal) : Type 0 where
-    ungreeted : (e : HandshakeError) → Greets plain old new (Err e) → mapped ≡ None → ended ≡ Err (refusal (codes "handshake") (handshake_name e)) → Runs new mapped ended
-    unmapped : (h : Handshake) (mid : Reading) (e : MapError) → Greets plain old mid (Ok h) → MapsRefs context h plain mid new (Err e) → mapped ≡ None
+  pub data Runs (new : Reading) (mapped : Option RefMap) (ended : Result Bool PlanRefusal) : Type 0 where
+    ungreeted : (e : HandshakeError) → GreetsWithoutAccount plain old new (Err e) → mapped ≡ None → ended ≡ Err (refusal (codes "handshake") (handshake_name e)) → Runs new mapped ended
+    unmapped : (h : Handshake) (mid : Reading) (e : MapError) → GreetsWithoutAccount plain old mid (Ok h) → MapsRefs context h plain mid new (Err e) → mapped ≡ None
         → ended ≡ Err (refusal (codes "refs") (map_name e)) → Runs new mapped ended
-    fetched : (h : Handshake) (mid behind : Reading) (m : RefMap) (r : Result (Option Outcome) (FetchError A X)) → Greets plain old mid (Ok h) → MapsRefs context h plain mid behind (Ok m)
+    fetched : (h : Handshake) (mid behind : Reading) (m : RefMap) (r : Result (Option Outcome) (FetchError A X)) → GreetsWithoutAccount plain old mid (Ok h) → MapsRefs context h plain mid behind (Ok m)
         → Receives m (without_refs h) behind new r → mapped ≡ Some m → ended ≡ end_of r → Runs new mapped ended

@@ -6,7 +6,7 @@ use Rattle.gixp_refspec.specs.Spec.{Spec, spec_of}
 use Rattle.gixp_refspec.specs.RefSpec.{owned_value_of}
 use Rattle.gixp_refmap.specs.declared.refmap.init.Context.{Context}
 use Rattle.gixp_planner.specs.declared.error.PlanError.{PlanError}
-use Rattle.gixp_planner.specs.Refusal.{refusal, refusal_of, spec_name, IsMemory}
+use Rattle.gixp_planner.specs.Refusal.{refusal, refusal_of, spec_name, IsPlanMemory}
 
 abbrev pub with_spec : Result Spec SpecError → Result (List Spec) SpecError → Result (List Spec) SpecError
 with_spec (Err e) rest = Err e
@@ -20,7 +20,7 @@ specs_of (text ∷ texts) = with_spec (spec_of text) (specs_of texts)
 
 -- a refusal of the texts, or an allocation failure
 abbrev pub RefusesSpecs : List (List ℕ) → PlanError → Type 0
-RefusesSpecs texts e = ((error : SpecError) × (specs_of texts ≡ Err error) × (refusal_of e ≡ refusal (codes "spec") (spec_name error))) ⊎ IsMemory (codes "spec") e
+RefusesSpecs texts e = ((error : SpecError) × (specs_of texts ≡ Err error) × (refusal_of e ≡ refusal (codes "spec") (spec_name error))) ⊎ IsPlanMemory (codes "spec") e
 
 -- the refspecs of the texts, and no others
 pub record IsContext (texts : List (List ℕ)) (context : Context) : Type 0 where
@@ -34,4 +34,4 @@ ReadsSpecs texts (Err e) = RefusesSpecs texts e
 -- the same of one text
 abbrev pub ReadsSpec : List ℕ → Result RefSpec PlanError → Type 0
 ReadsSpec text (Ok s) = spec_of text ≡ Ok (owned_value_of s)
-ReadsSpec text (Err e) = ((error : SpecError) × (spec_of text ≡ Err error) × (refusal_of e ≡ refusal (codes "spec") (spec_name error))) ⊎ IsMemory (codes "spec") e
+ReadsSpec text (Err e) = ((error : SpecError) × (spec_of text ≡ Err error) × (refusal_of e ≡ refusal (codes "spec") (spec_name error))) ⊎ IsPlanMemory (codes "spec") e

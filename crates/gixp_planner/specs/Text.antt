@@ -16,7 +16,7 @@ use Rattle.gixp_refmap.specs.declared.refmap.mapping.Mapping.{Mapping}
 use Rattle.gixp_refmap.specs.declared.refmap.map.RefMap.{RefMap}
 use Rattle.gixp_refmap.specs.Mapping.{source_id, source_name}
 use Rattle.gixp_planner.specs.declared.error.PlanError.{PlanError}
-use Rattle.gixp_planner.specs.Refusal.{Refusal, refusal_of}
+use Rattle.gixp_planner.specs.Refusal.{PlanRefusal, refusal_of}
 
 -- texts one behind the other
 abbrev pub joined : List (List ℕ) → List ℕ
@@ -74,7 +74,7 @@ mapped_shown None = []
 mapped_shown (Some m) = map_shown m
 
 -- whether a pack came, unless a step was refused
-abbrev pub end_shown : Result Bool Refusal → List ℕ
+abbrev pub end_shown : Result Bool PlanRefusal → List ℕ
 end_shown (Ok true) = codes "pack\n"
 end_shown (Ok false) = codes "nothing\n"
 end_shown (Err r) = []
@@ -83,13 +83,13 @@ end_shown (Err r) = []
 pub record Course : Type 0 where
   pub sent : List (List ℕ)
   pub mapped : Option RefMap
-  pub ended : Result Bool Refusal
+  pub ended : Result Bool PlanRefusal
 
 abbrev pub course_shown : Course → List ℕ
 course_shown c = requests_shown c.sent ++ mapped_shown c.mapped ++ end_shown c.ended
 
 -- how it ended, as plain data
-abbrev pub ended_of : Result Bool PlanError → Result Bool Refusal
+abbrev pub ended_of : Result Bool PlanError → Result Bool PlanRefusal
 ended_of (Ok pack) = Ok pack
 ended_of (Err e) = Err (refusal_of e)
 

@@ -1,6 +1,6 @@
 //! Why a plan isn't made.
 ghost use Rattle.std.specs.Prelude.{◌≡◌};
-ghost use Rattle.gixp_planner.specs.Refusal.{refusal, refusal_of, IsMemory, IsUnwritten};
+ghost use Rattle.gixp_planner.specs.Refusal.{refusal, refusal_of, IsPlanMemory, IsUnwritten};
 
 use std::io::ErrorKind;
 use thiserror::Error as DeriveError;
@@ -25,7 +25,7 @@ impl PlanError {
 
     // A step in which an allocation failed.
     pub(crate) fn memory(step: &'static str) -> PlanError
-        ensures { IsMemory step.now result }
+        ensures { IsPlanMemory step.now result }
     {
         PlanError::new(step, "Memory")
     }

@@ -6,7 +6,7 @@ ghost use Rattle.gixp_packetline.specs.Frames.{frames_of};
 ghost use Rattle.gixp_packetline.specs.FrameText.{message_text};
 ghost use Rattle.gixp_packetline.specs.PacketLine.{frame_of};
 ghost use Rattle.gixp_refmap.specs.Mapping.{source_name};
-ghost use Rattle.gixp_planner.specs.Refusal.{Writes};
+ghost use Rattle.gixp_planner.specs.Refusal.{WritesPlan};
 ghost use Rattle.gixp_planner.specs.Text.{frame_content, frame_shown, request_shown, requests_shown, name_shown, mapping_shown, fix_shown, map_shown, mapped_shown, end_shown, ended_of, course_shown, course_of};
 
 use crate::error::PlanError;
@@ -37,7 +37,7 @@ fn write_line<W: Write>(
     text: &mut Vec<u8>,
     pieces: &[&[u8]],
 ) -> Result<(), PlanError>
-    ensures { Writes (W.contents writer.old) (W.contents writer.new) (flat_map (λ piece. piece.now) pieces.now) result }
+    ensures { WritesPlan (W.contents writer.old) (W.contents writer.new) (flat_map (λ piece. piece.now) pieces.now) result }
 {
     text.clear();
     match append(text, pieces) {
@@ -78,7 +78,7 @@ fn write_packet_lines<W: Write>(
     text: &mut Vec<u8>,
     request: &[u8],
 ) -> Result<(), PlanError>
-    ensures { Writes (W.contents writer.old) (W.contents writer.new) (flat_map frame_shown (frames_of request.now).list) result }
+    ensures { WritesPlan (W.contents writer.old) (W.contents writer.new) (flat_map frame_shown (frames_of request.now).list) result }
 {
     let mut rest = request;
     'lines: loop {
@@ -101,7 +101,7 @@ fn write_request<W: Write>(
     number: usize,
     request: &[u8],
 ) -> Result<(), PlanError>
-    ensures { Writes (W.contents writer.old) (W.contents writer.new) (request_shown number (frames_of request.now).list) result }
+    ensures { WritesPlan (W.contents writer.old) (W.contents writer.new) (request_shown number (frames_of request.now).list) result }
 {
     let Ok(number) = number.to_string(alloc) else {
         return Err(PlanError::memory("file"));
@@ -117,7 +117,7 @@ fn write_requests<W: Write>(
     text: &mut Vec<u8>,
     requests: &[Vec<u8>],
 ) -> Result<(), PlanError>
-    ensures { Writes (W.contents writer.old) (W.contents writer.new) (requests_shown (map vec_items requests.now)) result }
+    ensures { WritesPlan (W.contents writer.old) (W.contents writer.new) (requests_shown (map vec_items requests.now)) result }
 {
     for (place, request) in requests.iter().enumerate() {
         write_request(alloc, writer, text, place + 1, request)?;
@@ -154,7 +154,7 @@ fn write_mapping<W: Write>(
     text: &mut Vec<u8>,
     mapping: &Mapping,
 ) -> Result<(), PlanError>
-    ensures { Writes (W.contents writer.old) (W.contents writer.new) (mapping_shown mapping.now) result }
+    ensures { WritesPlan (W.contents writer.old) (W.contents writer.new) (mapping_shown mapping.now) result }
 {
     let name = remote_name(&mapping.remote);
     let local = local_name(&mapping.local);
@@ -178,7 +178,7 @@ fn write_mappings<W: Write>(
     text: &mut Vec<u8>,
     mappings: &[Mapping],
 ) -> Result<(), PlanError>
-    ensures { Writes (W.contents writer.old) (W.contents writer.new) (flat_map mapping_shown mappings.now) result }
+    ensures { WritesPlan (W.contents writer.old) (W.contents writer.new) (flat_map mapping_shown mappings.now) result }
 {
     for mapping in mappings {
         write_mapping(writer, text, mapping)?;
@@ -188,7 +188,7 @@ fn write_mappings<W: Write>(
 
 // A mapping that was taken out.
 fn write_fix<W: Write>(writer: &mut W, text: &mut Vec<u8>, fix: &Fix) -> Result<(), PlanError>
-    ensures { Writes (W.contents writer.old) (W.contents writer.new) (fix_shown fix.now) result }
+    ensures { WritesPlan (W.contents writer.old) (W.contents writer.new) (fix_shown fix.now) result }
 {
     let Fix::MappingWithPartialDestinationRemoved { name, spec } = fix;
     write_line(
@@ -200,7 +200,7 @@ fn write_fix<W: Write>(writer: &mut W, text: &mut Vec<u8>, fix: &Fix) -> Result<
 
 // Those that were taken out.
 fn write_fixes<W: Write>(writer: &mut W, text: &mut Vec<u8>, fixes: &[Fix]) -> Result<(), PlanError>
-    ensures { Writes (W.contents writer.old) (W.contents writer.new) (flat_map fix_shown fixes.now) result }
+    ensures { WritesPlan (W.contents writer.old) (W.contents writer.new) (flat_map fix_shown fixes.now) result }
 {
     for fix in fixes {
         write_fix(writer, text, fix)?;
@@ -210,7 +210,7 @@ fn write_fixes<W: Write>(writer: &mut W, text: &mut Vec<u8>, fixes: &[Fix]) -> R
 
 // The mappings, and then those that were taken out.
 fn write_map<W: Write>(writer: &mut W, text: &mut Vec<u8>, map: &RefMap) -> Result<(), PlanError>
-    ensures { Writes (W.contents writer.old) (W.contents writer.new) (map_shown map.now) result }
+    ensures { WritesPlan (W.contents writer.old) (W.contents writer.new) (map_shown map.now) result }
 {
     write_mappings(writer, text, &map.mappings)?;
     write_fixes(writer, text, &map.fixes)
@@ -222,7 +222,7 @@ fn write_mapped<W: Write>(
     text: &mut Vec<u8>,
     mapped: &Option<RefMap>,
 ) -> Result<(), PlanError>
-    ensures { Writes (W.contents writer.old) (W.contents writer.new) (mapped_shown mapped.now) result }
+    ensures { WritesPlan (W.contents writer.old) (W.contents writer.new) (mapped_shown mapped.now) result }
 {
     match mapped {
         Some(map) => write_map(writer, text, map),
@@ -236,7 +236,7 @@ fn write_end<W: Write>(
     text: &mut Vec<u8>,
     ended: &Result<bool, PlanError>,
 ) -> Result<(), PlanError>
-    ensures { Writes (W.contents writer.old) (W.contents writer.new) (end_shown (ended_of ended.now)) result }
+    ensures { WritesPlan (W.contents writer.old) (W.contents writer.new) (end_shown (ended_of ended.now)) result }
 {
     match ended {
         Ok(true) => write_line(writer, text, &[b"pack\n"]),
@@ -253,7 +253,7 @@ fn write_parts<W: Write>(
     mapped: &Option<RefMap>,
     ended: &Result<bool, PlanError>,
 ) -> Result<(), PlanError>
-    ensures { Writes (W.contents writer.old) (W.contents writer.new) (course_shown (course_of requests.now mapped.now ended.now)) result }
+    ensures { WritesPlan (W.contents writer.old) (W.contents writer.new) (course_shown (course_of requests.now mapped.now ended.now)) result }
 {
     let mut text = Vec::new(alloc);
     write_requests(alloc, writer, &mut text, requests)?;
@@ -269,7 +269,7 @@ pub(crate) fn write_course<W: Write>(
     mapped: &Option<RefMap>,
     ended: &Result<bool, PlanError>,
 ) -> Result<(), PlanError>
-    ensures { Writes (W.contents writer.old) (W.contents writer.new) (course_shown (course_of requests.now mapped.now ended.now)) result }
+    ensures { WritesPlan (W.contents writer.old) (W.contents writer.new) (course_shown (course_of requests.now mapped.now ended.now)) result }
 {
     write_parts(alloc, writer, requests, mapped, ended)?;
     match writer.flush() {

@@ -1,6 +1,6 @@
 //! A recorded session in a folder: what a server sent, and the haves to offer.
 ghost use Rattle.std.specs.Prelude.{◌⊎◌, IfErr};
-ghost use Rattle.gixp_planner.specs.Refusal.{IsUnread, IsNoHave};
+ghost use Rattle.gixp_planner.specs.Refusal.{FileIsUnread, IsNoHave};
 
 use crate::error::PlanError;
 use crate::haves::parse_haves;
@@ -11,7 +11,7 @@ use std::{fs, io};
 
 // A file that can't be read.
 fn unread(e: &io::Error) -> PlanError
-    ensures { IsUnread result }
+    ensures { FileIsUnread result }
 {
     match e.kind() {
         ErrorKind::OutOfMemory => PlanError::memory("file"),
@@ -21,7 +21,7 @@ fn unread(e: &io::Error) -> PlanError
 
 // The bytes of a file, none where it isn't there.
 fn read_file(rt: &HostRuntime, path: &str) -> Result<Option<Vec<u8>>, PlanError>
-    ensures { IfErr result IsUnread }
+    ensures { IfErr result FileIsUnread }
 {
     match fs::read(rt, path) {
         Ok(bytes) => Ok(Some(bytes)),
@@ -34,7 +34,7 @@ fn read_file(rt: &HostRuntime, path: &str) -> Result<Option<Vec<u8>>, PlanError>
 
 // The path of a file of the folder.
 fn path_of(alloc: Global, folder: &str, name: &str) -> Result<String, PlanError>
-    ensures { IfErr result IsUnread }
+    ensures { IfErr result FileIsUnread }
 {
     match format!(in alloc; "{folder}/{name}") {
         Ok(path) => Ok(path),
@@ -44,7 +44,7 @@ fn path_of(alloc: Global, folder: &str, name: &str) -> Result<String, PlanError>
 
 // The path of a body.
 fn body_path(alloc: Global, folder: &str, number: u64) -> Result<String, PlanError>
-    ensures { IfErr result IsUnread }
+    ensures { IfErr result FileIsUnread }
 {
     match number.to_string(alloc) {
         Ok(name) => path_of(alloc, folder, name.as_str()),
@@ -58,7 +58,7 @@ fn body_path(alloc: Global, folder: &str, number: u64) -> Result<String, PlanErr
 ///
 /// `file Io` where one is there and can't be read, `file Memory` on an allocation failure.
 pub fn read_bodies(rt: &HostRuntime, folder: &str) -> Result<Vec<Body>, PlanError>
-    ensures { IfErr result IsUnread }
+    ensures { IfErr result FileIsUnread }
 {
     let mut bodies = Vec::new(rt.alloc());
     for number in 0..u64::MAX {
@@ -79,7 +79,7 @@ pub fn read_bodies(rt: &HostRuntime, folder: &str) -> Result<Vec<Body>, PlanErro
 ///
 /// `file Io` where it is there and can't be read, `file Memory` on an allocation failure, and those of `parse_haves`.
 pub fn read_haves(rt: &HostRuntime, folder: &str) -> Result<Vec<ObjectId>, PlanError>
-    ensures { IfErr result (λ e. IsUnread e ⊎ IsNoHave e) }
+    ensures { IfErr result (λ e. FileIsUnread e ⊎ IsNoHave e) }
 {
     let path = path_of(rt.alloc(), folder, "haves")?;
     match read_file(rt, path.as_str())? {

@@ -2,7 +2,7 @@
 ghost use Rattle.std.specs.Prelude.{◌≡◌, [], true, false, Some, None, Ok, IfOk, IsOk};
 ghost use Rattle.gixp_requests.specs.Feature.{feature_value};
 ghost use Rattle.gixp_handshake.specs.Taken.{without_refs};
-ghost use Rattle.gixp_planner.specs.Session.{planner_agent, Greets, MapsRefs, Carries, FetchesMapped, Runs, end_of};
+ghost use Rattle.gixp_planner.specs.Session.{planner_agent, GreetsWithoutAccount, MapsRefs, Carries, FetchesMapped, Runs, end_of};
 ghost use Rattle.gixp_planner.specs.Text.{ended_of};
 
 use crate::error::PlanError;
@@ -40,7 +40,7 @@ fn agent_feature(alloc: Global) -> Result<Feature, AllocError>
 
 // A handshake without an account.
 fn greet<T: Transport>(alloc: Global, transport: &mut T) -> Result<Handshake, handshake::Error>
-    ensures { Greets T.is_plain (T.reading transport.old) (T.reading transport.new) result }
+    ensures { GreetsWithoutAccount T.is_plain (T.reading transport.old) (T.reading transport.new) result }
 {
     let mut quiet = Discard;
     handshake::handshake(

@@ -11,10 +11,10 @@ use Rattle.gixp_refs.specs.declared.handshake.refs.parse.Error.{Error}
 use Rattle.gixp_refs.specs.declared.handshake.refs.parse.Error.TheVariants.{Memory}
 use Rattle.gixp_refs.specs.Ref.{RefValue, ref_value}
 use Rattle.gixp_refs.specs.RefLine.{RefsRefusal, refusal_from, and_then}
-use Rattle.gixp_refs.specs.ParseError.{Answers, parse_refusal}
+use Rattle.gixp_refs.specs.ParseError.{AnswersRefs, parse_refusal}
 use Rattle.gixp_refs.specs.Refs.{with_ref}
 use Rattle.gixp_response.specs.Runs.{SoFar}
-use Rattle.gixp_refs.specs.RefAdvertisement.{Symref, V1Line, nothing, peels, names, shallows, v1_line, Named, pair, closed, in_front, group_with, groups, v1_refs, with_update, v1_updates}
+use Rattle.gixp_refs.specs.RefAdvertisement.{Symref, V1Line, nothing, peels, names, shallows, v1_line, NamedRef, pair, closed, in_front, group_with, groups, v1_refs, with_update, v1_updates}
 use Rattle.gixp_refs.specs.V1Line.{SoFarValue, nothing_so_far, with_pair, with_line, with_text}
 use Rattle.gixp_refs.specs.V1Refs.{ReadsV1, V1Fails}
 use Rattle.gixp_response.proofs.RunLemmas.{so_far-start, so_far-line, so_far-at_stop, so_far-refuses}
@@ -32,7 +32,7 @@ front_ref xs v (Ok vs) = ap Ok (sym (append_assoc xs (v ∷ []) vs))
 front_ref xs v (Err e) = refl
 
 abbrev Behind : Type 0
-Behind = Option Named → Result (List RefValue) RefsRefusal
+Behind = Option NamedRef → Result (List RefValue) RefsRefusal
 
 -- what stands in front of the lines behind, once one was taken in
 abbrev Goes : SoFarValue → Result (List RefValue) RefsRefusal → Behind → SoFarValue → Type 0
@@ -55,7 +55,7 @@ line_step t s now (Ok (shallows id)) k h =
     let e : made ≡ now = cc in
     subst (Goes s (k s.open_line) k) e refl
 line_step t s now (Ok (names object name)) k h =
-    let line : Named = record { object = object; name = name } in
+    let line : NamedRef = record { object = object; name = name } in
     let made : SoFarValue = record { refs = s.refs ++ closed t s.open_line; open_line = Some line; updates = s.updates } in
     let e : made ≡ now = cc in
     subst (Goes s (in_front (closed t s.open_line) (k (Some line))) k) e (in_front_twice s.refs (closed t s.open_line) (k (Some line)))
@@ -134,7 +134,7 @@ pub v1-start : (t : List Symref) (r : Reading) (s : SoFarValue) → s ≡ nothin
 v1-start t r s e = subst (V1Known t r r) (sym e) (record { texts = []; read = so_far-start r; lines = groups-start t })
 
 pub v1-line : (t : List Symref) (old mid new : Reading) (s now : SoFarValue) (o : Result SoFarValue RefsRefusal) → V1Known t old mid s → TakesLine mid new
-    → with_text t s new.line ≡ o → Answers (λ (u : Unit {0}). now) o (Ok tt) → V1Known t old new now
+    → with_text t s new.line ≡ o → AnswersRefs (λ (u : Unit {0}). now) o (Ok tt) → V1Known t old new now
 v1-line t old mid new s now (Ok made) h k is a = record {
   texts = h.texts ++ new.line ∷ [];
   read = so_far-line old mid new h.texts h.read k;
@@ -152,7 +152,7 @@ first_refused t r s (Some p) n texts text v e h is a =
 
 -- a line that is refused is the first refusal, unless memory ran out
 pub v1-refused : (t : List Symref) (plain : Bool) (old mid new : Reading) (s : SoFarValue) (e : Error) (o : Result SoFarValue RefsRefusal) {X : Type 0} (view : X → SoFarValue) → V1Known t old mid s → TakesLine mid new
-    → with_text t s new.line ≡ o → Answers view o (Err e) → V1Fails t plain old new e
+    → with_text t s new.line ≡ o → AnswersRefs view o (Err e) → V1Fails t plain old new e
 v1-refused t plain old mid new s e (Ok made) view h k is a =
     inl (inr (inr (inr (record { taken = h.texts ++ new.line ∷ []; read = so_far-line old mid new h.texts h.read k; stopped = k.stopped; error = a }))))
 v1-refused t plain old mid new s e (Err r) view h k is a =

@@ -9,7 +9,7 @@ use Rattle.gixp_refs.specs.declared.handshake.refs.parse.Error.{Error}
 use Rattle.gixp_refs.specs.declared.handshake.refs.parse.Error.TheVariants.{Memory}
 use Rattle.gixp_refs.specs.Ref.{RefValue, ref_value}
 use Rattle.gixp_refs.specs.RefLine.{RefsRefusal, refusal_from, v2_line}
-use Rattle.gixp_refs.specs.ParseError.{Answers, parse_refusal}
+use Rattle.gixp_refs.specs.ParseError.{AnswersRefs, parse_refusal}
 use Rattle.gixp_refs.specs.Refs.{with_ref, refs_from, v2_refs, AreRefs, ReadsRefs, RefsFail, RefsSoFar, NextRef, NextOfRefs}
 use Rattle.gixp_response.proofs.RunLemmas.{so_far-start, so_far-line, so_far-at_stop, so_far-refuses}
 
@@ -81,7 +81,7 @@ line_refused r s (Some p) n texts t vs e h is a =
 
 -- a line that is refused is the first refusal
 pub refs-refused : (plain : Bool) (old mid new : Reading) (vs : List RefValue) (e : Error) (o : Result RefValue RefsRefusal) → RefsSoFar old mid vs → TakesLine mid new
-    → v2_line new.line ≡ o → Answers ref_value o (Err e) → RefsFail plain old new e
+    → v2_line new.line ≡ o → AnswersRefs ref_value o (Err e) → RefsFail plain old new e
 refs-refused plain old mid new vs e (Ok v) h k is a =
     inr (inr (inr (record { taken = h.texts ++ new.line ∷ []; read = so_far-line old mid new h.texts h.read k; stopped = k.stopped; error = a })))
 refs-refused plain old mid new vs e (Err r) h k is a =
@@ -121,7 +121,7 @@ map_push refs more r e = rw e (map-append ref_value refs (r ∷ []))
 
 -- one more ref
 pub refs-pushed : (old mid new : Reading) (refs more : List Ref) (r : Ref) (o : Result RefValue RefsRefusal) → RefsSoFar old mid (map ref_value refs) → TakesLine mid new
-    → v2_line new.line ≡ o → Answers ref_value o (Ok r) → more ≡ refs ++ r ∷ [] → RefsSoFar old new (map ref_value more)
+    → v2_line new.line ≡ o → AnswersRefs ref_value o (Ok r) → more ≡ refs ++ r ∷ [] → RefsSoFar old new (map ref_value more)
 refs-pushed old mid new refs more r (Ok v) h k is a e =
     let same : v2_line new.line ≡ Ok (ref_value r) = is ∙ ap Ok (sym a) in
     subst (RefsSoFar old new) (sym (map_push refs more r e))
@@ -144,7 +144,7 @@ first_known r s None n t v is a = tt
 first_known r s (Some p) n t v is a = (a.0, a.1, ap v2_refs a.2 ∙ (rw is refl))
 
 -- the ref of a line is the first of those to come
-pub next-found : (plain : Bool) (old new : Reading) (r : Ref) (o : Result RefValue RefsRefusal) → TakesLine old new → v2_line new.line ≡ o → Answers ref_value o (Ok r)
+pub next-found : (plain : Bool) (old new : Reading) (r : Ref) (o : Result RefValue RefsRefusal) → TakesLine old new → v2_line new.line ≡ o → AnswersRefs ref_value o (Ok r)
     → NextOfRefs plain old new (Ok (Some r))
 next-found plain old new r (Ok v) k is a =
     first_known old new old.to_come new.to_come new.line (ref_value r) (is ∙ ap Ok (sym a)) (so_far-line old old new [] (so_far-start old) k).next

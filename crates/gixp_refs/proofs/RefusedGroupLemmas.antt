@@ -4,12 +4,12 @@ use Rattle.std.specs.Prelude.{filter}
 use Rattle.gixp_refs.specs.Ref.{RefValue}
 use Rattle.gixp_refs.specs.RefLine.{RefsRefusal}
 use Rattle.gixp_refs.specs.Refs.{with_ref}
-use Rattle.gixp_refs.specs.RefAdvertisement.{Symref, V1Line, nothing, peels, names, shallows, v1_line, Named, single, pair, closed, in_front, group_with, group_end, groups}
+use Rattle.gixp_refs.specs.RefAdvertisement.{Symref, V1Line, nothing, peels, names, shallows, v1_line, NamedRef, single, pair, closed, in_front, group_with, group_end, groups}
 use Rattle.gixp_refs.specs.RefGroups.{Group, alone, with_peeled, lines_in, is_grouped, AreLines, AreGroupRefs, open_in, NextRefused, AreRefusedBehind}
 use Rattle.gixp_refs.proofs.GroupLemmas.{open_lines, open_groups, first_alone, no_peels_first, first_peeled, first_ref, open_at_end}
 
 -- the same behind a ref line that may be open
-record Refused (t : List Symref) (last : Option Named) (texts : List (List ℕ)) (end : Option RefsRefusal) (e : RefsRefusal) : Type 0 where
+record Refused (t : List Symref) (last : Option NamedRef) (texts : List (List ℕ)) (end : Option RefsRefusal) (e : RefsRefusal) : Type 0 where
   taken : List (List ℕ)
   more : List (List ℕ)
   split : texts ≡ taken ++ more
@@ -27,19 +27,19 @@ open_front g l ls [] h = cc
 open_front (alone n) l ls (k ∷ gs) h = refl
 open_front (with_peeled n left base) l ls (k ∷ gs) h = refl
 
-open_behind : (n : Named) (left base : List ℕ) (gs : List Group) → open_in (with_peeled n left base ∷ gs) ≡ open_in gs
+open_behind : (n : NamedRef) (left base : List ℕ) (gs : List Group) → open_in (with_peeled n left base ∷ gs) ≡ open_in gs
 open_behind n left base [] = refl
 open_behind n left base (g ∷ gs) = refl
 
 -- it is refused here
-refused_here : (t : List Symref) (last : Option Named) (texts : List (List ℕ)) (end : Option RefsRefusal) (e : RefsRefusal) → NextRefused t last texts end e → Refused t last texts end e
+refused_here : (t : List Symref) (last : Option NamedRef) (texts : List (List ℕ)) (end : Option RefsRefusal) (e : RefsRefusal) → NextRefused t last texts end e → Refused t last texts end e
 refused_here t None texts end e h =
     record { taken = []; more = texts; split = refl; lines = []; read = tt; found = []; grouped = refl; values = []; refs = tt; next = h }
 refused_here t (Some m) texts end e h =
     record { taken = []; more = texts; split = refl; lines = []; read = tt; found = alone m ∷ []; grouped = refl; values = single t m ∷ []; refs = (refl, tt); next = h }
 
 -- behind a line that stands in no group
-refused_apart : (t : List Symref) (last : Option Named) (text : List ℕ) (texts : List (List ℕ)) (end : Option RefsRefusal) (e : RefsRefusal) (l : V1Line) → v1_line text ≡ Ok l → is_grouped l ≡ false
+refused_apart : (t : List Symref) (last : Option NamedRef) (text : List ℕ) (texts : List (List ℕ)) (end : Option RefsRefusal) (e : RefsRefusal) (l : V1Line) → v1_line text ≡ Ok l → is_grouped l ≡ false
     → Refused t last texts end e → Refused t last (text ∷ texts) end e
 refused_apart t last text texts end e l h k x = record {
   taken = text ∷ x.taken;
@@ -55,7 +55,7 @@ refused_apart t last text texts end e l h k x = record {
 }
 
 -- behind a ref line
-refused_names : (t : List Symref) (last : Option Named) (text : List ℕ) (texts : List (List ℕ)) (end : Option RefsRefusal) (e : RefsRefusal) (n : Named) → v1_line text ≡ Ok (names n.object n.name)
+refused_names : (t : List Symref) (last : Option NamedRef) (text : List ℕ) (texts : List (List ℕ)) (end : Option RefsRefusal) (e : RefsRefusal) (n : NamedRef) → v1_line text ≡ Ok (names n.object n.name)
     → Refused t (Some n) texts end e → Refused t last (text ∷ texts) end e
 refused_names t None text texts end e n h x = record {
   taken = text ∷ x.taken;
@@ -83,7 +83,7 @@ refused_names t (Some m) text texts end e n h x = record {
 }
 
 -- behind a peeled line
-refused_peels : (t : List Symref) (last : Option Named) (text : List ℕ) (texts : List (List ℕ)) (end : Option RefsRefusal) (e : RefsRefusal) (left base : List ℕ) (v : RefValue)
+refused_peels : (t : List Symref) (last : Option NamedRef) (text : List ℕ) (texts : List (List ℕ)) (end : Option RefsRefusal) (e : RefsRefusal) (left base : List ℕ) (v : RefValue)
     → v1_line text ≡ Ok (peels left base) → pair t last left base ≡ Ok v → Refused t None texts end e → Refused t last (text ∷ texts) end e
 refused_peels t None text texts end e left base v h p x = cc
 refused_peels t (Some m) text texts end e left base v h p x = record {
@@ -104,7 +104,7 @@ front_err xs (Ok vs) e h = cc
 front_err xs (Err x) e h = h
 
 -- the refusal is the peeled line's, or comes behind it
-refused_pair : (t : List Symref) (last : Option Named) (text : List ℕ) (texts : List (List ℕ)) (end : Option RefsRefusal) (e : RefsRefusal) (left base : List ℕ) (p : Result RefValue RefsRefusal)
+refused_pair : (t : List Symref) (last : Option NamedRef) (text : List ℕ) (texts : List (List ℕ)) (end : Option RefsRefusal) (e : RefsRefusal) (left base : List ℕ) (p : Result RefValue RefsRefusal)
     → v1_line text ≡ Ok (peels left base) → pair t last left base ≡ p → with_ref p (groups texts end t None) ≡ Err e
     → (groups texts end t None ≡ Err e → Refused t None texts end e) → Refused t last (text ∷ texts) end e
 refused_pair t last text texts end e left base (Ok v) h p k f = refused_peels t last text texts end e left base v h p (f (behind (groups texts end t None) k))
@@ -114,23 +114,23 @@ refused_pair t last text texts end e left base (Ok v) h p k f = refused_peels t 
     behind (Err x) h = h
 refused_pair t last text texts end e left base (Err x) h p k f = refused_here t last (text ∷ texts) end e (inr (left, base, h, (let y : x ≡ e = cc in p ∙ ap Err y)))
 
-refused_step : (t : List Symref) (last : Option Named) (text : List ℕ) (texts : List (List ℕ)) (end : Option RefsRefusal) (e : RefsRefusal) (r : Result V1Line RefsRefusal) → v1_line text ≡ r
+refused_step : (t : List Symref) (last : Option NamedRef) (text : List ℕ) (texts : List (List ℕ)) (end : Option RefsRefusal) (e : RefsRefusal) (r : Result V1Line RefsRefusal) → v1_line text ≡ r
     → group_with t last r (λ now. groups texts end t now) ≡ Err e
-    → ((now : Option Named) → groups texts end t now ≡ Err e → Refused t now texts end e)
+    → ((now : Option NamedRef) → groups texts end t now ≡ Err e → Refused t now texts end e)
     → Refused t last (text ∷ texts) end e
 refused_step t last text texts end e (Err x) h k f = refused_here t last (text ∷ texts) end e (inl (let y : x ≡ e = cc in h ∙ ap Err y))
 refused_step t last text texts end e (Ok nothing) h k f = refused_apart t last text texts end e nothing h refl (f last k)
 refused_step t last text texts end e (Ok (shallows id)) h k f = refused_apart t last text texts end e (shallows id) h refl (f last k)
 refused_step t last text texts end e (Ok (names object name)) h k f =
-    let n : Named = record { object = object; name = name } in
+    let n : NamedRef = record { object = object; name = name } in
     refused_names t last text texts end e n h (f (Some n) (front_err (closed t last) (groups texts end t (Some n)) e k))
 refused_step t last text texts end e (Ok (peels left base)) h k f = refused_pair t last text texts end e left base (pair t last left base) h refl k (f None)
 
-refused_end : (t : List Symref) (last : Option Named) (end : Option RefsRefusal) (e : RefsRefusal) → group_end (closed t last) end ≡ Err e → end ≡ Some e
+refused_end : (t : List Symref) (last : Option NamedRef) (end : Option RefsRefusal) (e : RefsRefusal) → group_end (closed t last) end ≡ Err e → end ≡ Some e
 refused_end t last None e h = cc
 refused_end t last (Some x) e h = let y : x ≡ e = cc in ap Some y
 
-refused_from : (t : List Symref) (last : Option Named) (texts : List (List ℕ)) (end : Option RefsRefusal) (e : RefsRefusal) → groups texts end t last ≡ Err e → Refused t last texts end e
+refused_from : (t : List Symref) (last : Option NamedRef) (texts : List (List ℕ)) (end : Option RefsRefusal) (e : RefsRefusal) → groups texts end t last ≡ Err e → Refused t last texts end e
 refused_from t last [] end e h = refused_here t last [] end e (refused_end t last end e h)
 refused_from t last (text ∷ texts) end e h = refused_step t last text texts end e (v1_line text) refl h (λ now k. refused_from t now texts end e k)
 
@@ -151,11 +151,11 @@ refusal_found t texts end e h =
 
 -- ---- and back
 
-open_is : (last : Option Named) → open_in (open_groups last) ≡ last
+open_is : (last : Option NamedRef) → open_in (open_groups last) ≡ last
 open_is None = refl
 open_is (Some n) = refl
 
-next_read : (t : List Symref) (last : Option Named) (more : List (List ℕ)) (end : Option RefsRefusal) (e : RefsRefusal) → NextRefused t last more end e → groups more end t last ≡ Err e
+next_read : (t : List Symref) (last : Option NamedRef) (more : List (List ℕ)) (end : Option RefsRefusal) (e : RefsRefusal) → NextRefused t last more end e → groups more end t last ≡ Err e
 next_read t last [] end e h = rw h refl
 next_read t last (text ∷ texts) end e (inl h) = rw h refl
 next_read t last (text ∷ texts) end e (inr h) =
@@ -164,10 +164,10 @@ next_read t last (text ∷ texts) end e (inr h) =
     rw l (rw p refl)
 
 -- by the line that comes next
-line_read : (t : List Symref) (last : Option Named) (l : V1Line) (ls : List V1Line) (gs : List Group) (values : List RefValue) (more : List (List ℕ)) (end : Option RefsRefusal) (e : RefsRefusal)
-    (rest : Option Named → Result (List RefValue) RefsRefusal)
+line_read : (t : List Symref) (last : Option NamedRef) (l : V1Line) (ls : List V1Line) (gs : List Group) (values : List RefValue) (more : List (List ℕ)) (end : Option RefsRefusal) (e : RefsRefusal)
+    (rest : Option NamedRef → Result (List RefValue) RefsRefusal)
     → open_lines last ++ filter is_grouped (l ∷ ls) ≡ lines_in gs → AreGroupRefs t gs values → NextRefused t (open_in gs) more end e
-    → ((now : Option Named) (others : List Group) (vs : List RefValue) → open_lines now ++ filter is_grouped ls ≡ lines_in others → AreGroupRefs t others vs → NextRefused t (open_in others) more end e → rest now ≡ Err e)
+    → ((now : Option NamedRef) (others : List Group) (vs : List RefValue) → open_lines now ++ filter is_grouped ls ≡ lines_in others → AreGroupRefs t others vs → NextRefused t (open_in others) more end e → rest now ≡ Err e)
     → group_with t last (Ok l) rest ≡ Err e
 line_read t last nothing ls gs values more end e rest g r n f = f last gs values g r n
 line_read t last (shallows id) ls gs values more end e rest g r n f = f last gs values g r n
@@ -185,7 +185,7 @@ line_read t (Some m) (peels left base) ls gs values more end e rest g r n f =
     let one : pair t (Some m) left base ≡ Ok y.0 = y.3 in
     rw one (rw (f None x.0 y.1 x.2 y.4 (subst (λ o. NextRefused t o more end e) stays n)) refl)
 
-read_from : (t : List Symref) (last : Option Named) (taken more : List (List ℕ)) (ls : List V1Line) (gs : List Group) (values : List RefValue) (end : Option RefsRefusal) (e : RefsRefusal) → AreLines taken ls
+read_from : (t : List Symref) (last : Option NamedRef) (taken more : List (List ℕ)) (ls : List V1Line) (gs : List Group) (values : List RefValue) (end : Option RefsRefusal) (e : RefsRefusal) → AreLines taken ls
     → open_lines last ++ filter is_grouped ls ≡ lines_in gs → AreGroupRefs t gs values → NextRefused t (open_in gs) more end e → groups (taken ++ more) end t last ≡ Err e
 read_from t last [] more [] gs values end e h g r n =
     next_read t last more end e (subst (λ o. NextRefused t o more end e) (ap open_in (open_at_end last gs g) ∙ open_is last) n)

@@ -22,9 +22,9 @@ use Rattle.gixp_refs.specs.declared.handshake.refs.parse.Error.{Error}
 use Rattle.gixp_refs.specs.Ref.{RefValue}
 use Rattle.gixp_refs.specs.RefLine.{RefsRefusal}
 use Rattle.gixp_capabilities.specs.Capabilities.{is_text}
-use Rattle.gixp_refs.specs.ParseError.{Answers}
+use Rattle.gixp_refs.specs.ParseError.{AnswersRefs}
 use Rattle.gixp_capabilities.specs.Capabilities.{CapabilityValue}
-use Rattle.gixp_refs.specs.RefAdvertisement.{Symref, symref_named, tells, TellAlike, told_target, V1Line, nothing, peels, names, shallows, v1_line, Named, pair_by, pair, closed, group_with, group_end, end_refusal, groups, v1_refs, symref_table}
+use Rattle.gixp_refs.specs.RefAdvertisement.{Symref, symref_named, tells, TellAlike, told_target, V1Line, nothing, peels, names, shallows, v1_line, NamedRef, pair_by, pair, closed, group_with, group_end, end_refusal, groups, v1_refs, symref_table}
 use Rattle.gixp_refs.specs.V1Refs.{symref_value, name_cmp, symref_values, ReadsV1, V1Fails, GivesAdvertisement, AdvertisementFails}
 
 -- ---- what a map tells
@@ -133,30 +133,30 @@ told_by None (Some y) h = cc
 told_by (Some x) None h = cc
 told_by (Some x) (Some y) h = cc
 
-paired_by : (x y : Option Symref) (n : Named) (left base : List ℕ) → option_map (λ (s : Symref). s.target) x ≡ option_map (λ (s : Symref). s.target) y → pair_by x n left base ≡ pair_by y n left base
+paired_by : (x y : Option Symref) (n : NamedRef) (left base : List ℕ) → option_map (λ (s : Symref). s.target) x ≡ option_map (λ (s : Symref). s.target) y → pair_by x n left base ≡ pair_by y n left base
 paired_by None None n left base h = refl
 paired_by None (Some y) n left base h = cc
 paired_by (Some x) None n left base h = cc
 paired_by (Some x) (Some y) n left base h = refl
 
 module _ (t u : List Symref) (alike : TellAlike t u) where
-  closed_same : (last : Option Named) → closed t last ≡ closed u last
+  closed_same : (last : Option NamedRef) → closed t last ≡ closed u last
   closed_same None = refl
   closed_same (Some n) = let e = told_by (symref_named t n.name) (symref_named u n.name) (alike n.name) in rw e refl
 
-  pair_same : (last : Option Named) (left base : List ℕ) → pair t last left base ≡ pair u last left base
+  pair_same : (last : Option NamedRef) (left base : List ℕ) → pair t last left base ≡ pair u last left base
   pair_same None left base = refl
   pair_same (Some n) left base = paired_by (symref_named t n.name) (symref_named u n.name) n left base (alike n.name)
 
-  group_same : (last : Option Named) (l : Result V1Line RefsRefusal) (k m : Option Named → Result (List RefValue) RefsRefusal) → ((o : Option Named) → k o ≡ m o)
+  group_same : (last : Option NamedRef) (l : Result V1Line RefsRefusal) (k m : Option NamedRef → Result (List RefValue) RefsRefusal) → ((o : Option NamedRef) → k o ≡ m o)
       → group_with t last l k ≡ group_with u last l m
   group_same last (Err e) k m h = refl
   group_same last (Ok nothing) k m h = h last
   group_same last (Ok (shallows id)) k m h = h last
-  group_same last (Ok (names object name)) k m h = let line : Named = record { object = object; name = name } in rw (closed_same last, h (Some line)) refl
+  group_same last (Ok (names object name)) k m h = let line : NamedRef = record { object = object; name = name } in rw (closed_same last, h (Some line)) refl
   group_same last (Ok (peels left base)) k m h = rw (pair_same last left base, h None) refl
 
-  pub groups_same : (texts : List (List ℕ)) (end : Option RefsRefusal) (last : Option Named) → groups texts end t last ≡ groups texts end u last
+  pub groups_same : (texts : List (List ℕ)) (end : Option RefsRefusal) (last : Option NamedRef) → groups texts end t last ≡ groups texts end u last
   groups_same [] end last = ap (λ vs. group_end vs end) (closed_same last)
   groups_same (text ∷ texts) end last = group_same last (v1_line text) (λ o. groups texts end t o) (λ o. groups texts end u o) (groups_same texts end)
 
@@ -220,7 +220,7 @@ given (Ok found) refs_of updates_of caps t plain old new is h = (t, is, h)
 given (Err e) refs_of updates_of caps t plain old new is h = inr (t, is, h)
 
 -- the list that was read is the definition's
-pub list_is : {A B : Type 0} (view : A → B) (o : Result B RefsRefusal) (x : A) → Answers view o (Ok x) → o ≡ Ok (view x)
+pub list_is : {A B : Type 0} (view : A → B) (o : Result B RefsRefusal) (x : A) → AnswersRefs view o (Ok x) → o ≡ Ok (view x)
 list_is view (Ok y) x h = ap Ok (sym h)
 list_is view (Err e) x h = absurd h
 

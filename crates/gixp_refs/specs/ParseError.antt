@@ -58,16 +58,16 @@ abbrev pub parse_errors : Errors Error RefsRefusal
 parse_errors = record { refusal = parse_refusal; from_reader = refusal_from; memory = Memory; is_no_memory = is_no_memory }
 
 -- a refusal is that of the definition, unless memory ran out
-abbrev pub IsRefusal : Error → RefsRefusal → Type 0
-IsRefusal e r = is_no_memory (parse_refusal e) ≡ false → parse_refusal e ≡ r
+abbrev pub IsParseRefusal : Error → RefsRefusal → Type 0
+IsParseRefusal e r = is_no_memory (parse_refusal e) ≡ false → parse_refusal e ≡ r
 
 -- the error of a read that failed, or of an allocation failure
 abbrev pub IsFromOutside : Error → Type 0
 IsFromOutside e = is_outside (parse_refusal e) ≡ true
 
 -- the value that the definition has, or its refusal; but for memory
-abbrev pub Answers : {A B : Type 0} → (A → B) → Result B RefsRefusal → Result A Error → Type 0
-Answers view (Ok value) (Ok x) = view x ≡ value
-Answers view (Ok value) (Err e) = e ≡ Memory
-Answers view (Err refusal) (Ok x) = ⊥
-Answers view (Err refusal) (Err e) = IsRefusal e refusal
+abbrev pub AnswersRefs : {A B : Type 0} → (A → B) → Result B RefsRefusal → Result A Error → Type 0
+AnswersRefs view (Ok value) (Ok x) = view x ≡ value
+AnswersRefs view (Ok value) (Err e) = e ≡ Memory
+AnswersRefs view (Err refusal) (Ok x) = ⊥
+AnswersRefs view (Err refusal) (Err e) = IsParseRefusal e refusal

@@ -80,7 +80,7 @@ abbrev pub v1_line : List ℕ → Result V1Line RefsRefusal
 v1_line line = let text = trim_end_by is_whitespace line in line_by_parts text (cut 32 text)
 
 -- a ref line behind which a peeled one may stand
-pub record Named : Type 0 where
+pub record NamedRef : Type 0 where
   pub object : List ℕ
   pub name : List ℕ
 
@@ -100,7 +100,7 @@ abbrev pub TellAlike : List Symref → List Symref → Type 0
 TellAlike t u = (name : List ℕ) → tells t name ≡ tells u name
 
 -- the ref of a ref line alone, by the first symref of its name
-abbrev pub single : List Symref → Named → RefValue
+abbrev pub single : List Symref → NamedRef → RefValue
 single t n = born n.name n.object (told_target (symref_named t n.name)) None
 
 abbrev pub not_preceded : RefsRefusal
@@ -110,16 +110,16 @@ abbrev pub other_base : RefsRefusal
 other_base = invariant (codes "Expecting peeled refs to have the same base path as the previous, unpeeled one")
 
 -- the ref of a ref line whose name is no symref's, with a peeled line of its name behind it
-abbrev pub pair_by : Option Symref → Named → List ℕ → List ℕ → Result RefValue RefsRefusal
+abbrev pub pair_by : Option Symref → NamedRef → List ℕ → List ℕ → Result RefValue RefsRefusal
 pair_by (Some s) n left base = Err not_preceded
 pair_by None n left base = if is_text n.name base then and_then (id_value left) (λ object. Ok (peeled n.name n.object object)) else Err other_base
 
-abbrev pub pair : List Symref → Option Named → List ℕ → List ℕ → Result RefValue RefsRefusal
+abbrev pub pair : List Symref → Option NamedRef → List ℕ → List ℕ → Result RefValue RefsRefusal
 pair t None left base = Err not_preceded
 pair t (Some n) left base = pair_by (symref_named t n.name) n left base
 
 -- the ref of the ref line before, if one is last
-abbrev pub closed : List Symref → Option Named → List RefValue
+abbrev pub closed : List Symref → Option NamedRef → List RefValue
 closed t None = []
 closed t (Some n) = single t n ∷ []
 
@@ -129,7 +129,7 @@ in_front xs (Ok ys) = Ok (xs ++ ys)
 in_front xs (Err e) = Err e
 
 -- one line, behind a ref line that is open or none, and the groups behind it
-abbrev pub group_with : List Symref → Option Named → Result V1Line RefsRefusal → (Option Named → Result (List RefValue) RefsRefusal) → Result (List RefValue) RefsRefusal
+abbrev pub group_with : List Symref → Option NamedRef → Result V1Line RefsRefusal → (Option NamedRef → Result (List RefValue) RefsRefusal) → Result (List RefValue) RefsRefusal
 group_with t last (Err e) rest = Err e
 group_with t last (Ok nothing) rest = rest last
 group_with t last (Ok (shallows id)) rest = rest last
@@ -146,7 +146,7 @@ group_end vs None = Ok vs
 group_end vs (Some e) = Err e
 
 -- the refs of the groups: a ref line, or one with its peeled line; else the refusal of the first line that begins or ends no group
-abbrev pub groups : List (List ℕ) → Option RefsRefusal → List Symref → Option Named → Result (List RefValue) RefsRefusal
+abbrev pub groups : List (List ℕ) → Option RefsRefusal → List Symref → Option NamedRef → Result (List RefValue) RefsRefusal
 groups [] end t last = group_end (closed t last) end
 groups (text ∷ texts) end t last = group_with t last (v1_line text) (λ now. groups texts end t now)
 

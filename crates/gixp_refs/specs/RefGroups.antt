@@ -2,12 +2,12 @@
 use Rattle.std.specs.Prelude.{◌≡◌, ◌⊎◌, ℕ, ⊤, Bool, true, false, List, [], ◌∷◌, ◌++◌, filter, Option, Some, None, Result, Ok, Err}
 use Rattle.gixp_refs.specs.Ref.{RefValue}
 use Rattle.gixp_refs.specs.RefLine.{RefsRefusal}
-use Rattle.gixp_refs.specs.RefAdvertisement.{Symref, V1Line, peels, names, v1_line, Named, single, pair}
+use Rattle.gixp_refs.specs.RefAdvertisement.{Symref, V1Line, peels, names, v1_line, NamedRef, single, pair}
 
 -- a ref line alone, or with its peeled line behind it
 pub data Group : Type 0 where
-  alone : Named → Group
-  with_peeled : Named → (left base : List ℕ) → Group
+  alone : NamedRef → Group
+  with_peeled : NamedRef → (left base : List ℕ) → Group
 
 abbrev pub group_lines : Group → List V1Line
 group_lines (alone n) = names n.object n.name ∷ []
@@ -32,7 +32,7 @@ AreLines (t ∷ ts) [] = ⊥
 AreLines (t ∷ ts) (l ∷ ls) = (v1_line t ≡ Ok l) × AreLines ts ls
 
 -- the texts are the lines of these groups, and lines that stand in none
-pub record AreGroups (texts : List (List ℕ)) (gs : List Group) : Type 0 where
+pub record AreRefGroups (texts : List (List ℕ)) (gs : List Group) : Type 0 where
   pub lines : List V1Line
   pub read : AreLines texts lines
   pub grouped : filter is_grouped lines ≡ lines_in gs
@@ -50,14 +50,14 @@ AreGroupRefs t (g ∷ gs) [] = ⊥
 AreGroupRefs t (g ∷ gs) (v ∷ vs) = (group_ref t g ≡ Ok v) × AreGroupRefs t gs vs
 
 -- the ref line behind which a peeled one may stand: that of the last group, where it is alone
-abbrev pub open_in : List Group → Option Named
+abbrev pub open_in : List Group → Option NamedRef
 open_in [] = None
 open_in (alone n ∷ []) = Some n
 open_in (with_peeled n left base ∷ []) = None
 open_in (g ∷ h ∷ gs) = open_in (h ∷ gs)
 
 -- what comes next is refused: the end of the lines, a line, or a peeled line that has no ref line before it, or another one's
-abbrev pub NextRefused : List Symref → Option Named → List (List ℕ) → Option RefsRefusal → RefsRefusal → Type 0
+abbrev pub NextRefused : List Symref → Option NamedRef → List (List ℕ) → Option RefsRefusal → RefsRefusal → Type 0
 NextRefused t last [] end e = end ≡ Some e
 NextRefused t last (text ∷ texts) end e =
     (v1_line text ≡ Err e) ⊎ ((left base : List ℕ) × (v1_line text ≡ Ok (peels left base)) × (pair t last left base ≡ Err e))
@@ -68,7 +68,7 @@ pub record AreRefusedBehind (t : List Symref) (texts : List (List ℕ)) (end : O
   pub more : List (List ℕ)
   pub split : texts ≡ taken ++ more
   pub groups : List Group
-  pub are_groups : AreGroups taken groups
+  pub are_groups : AreRefGroups taken groups
   pub values : List RefValue
   pub refs : AreGroupRefs t groups values
   pub next : NextRefused t (open_in groups) more end e

@@ -10,7 +10,7 @@ use Rattle.gixp_refs.specs.declared.handshake.refs.parse.Error.{Error}
 use Rattle.gixp_refs.specs.Ref.{RefValue, ref_value}
 use Rattle.gixp_refs.specs.RefLine.{RefsRefusal, refusal_from, v2_line}
 use Rattle.gixp_response.specs.ReadFails.{ReadFails}
-use Rattle.gixp_refs.specs.ParseError.{Answers, parse_refusal, parse_errors}
+use Rattle.gixp_refs.specs.ParseError.{AnswersRefs, parse_refusal, parse_errors}
 use Rattle.gixp_response.specs.Runs.{SoFar}
 
 -- a line's value in front of the others, or its refusal before theirs
@@ -52,7 +52,7 @@ pub record ReadsRefs (old new : Reading) (refs : List Ref) : Type 0 where
   pub held : new.held ≡ old.held
 
 -- the last of these lines is refused, and none before it
-pub record LastRefused (texts : List (List ℕ)) (refusal : RefsRefusal) : Type 0 where
+pub record LastRefLineRefused (texts : List (List ℕ)) (refusal : RefsRefusal) : Type 0 where
   pub before : List (List ℕ)
   pub text : List ℕ
   pub split : texts ≡ before ++ text ∷ []
@@ -61,7 +61,7 @@ pub record LastRefused (texts : List (List ℕ)) (refusal : RefsRefusal) : Type 
 
 -- the first refusal of the lines to come, or something from outside, which a plain reader has less of
 abbrev pub RefsFail : Bool → Reading → Reading → Error → Type 0
-RefsFail plain old new e = ReadFails parse_errors SoFar (λ now p r. v2_refs (lines_ahead now p) ≡ Err r) (λ texts r _. LastRefused texts r) plain old new e
+RefsFail plain old new e = ReadFails parse_errors SoFar (λ now p r. v2_refs (lines_ahead now p) ≡ Err r) (λ texts r _. LastRefLineRefused texts r) plain old new e
 
 -- these refs were read so far
 pub record RefsSoFar (old now : Reading) (values : List RefValue) : Type 0 where
@@ -78,9 +78,9 @@ pub record ReaderFails (plain : Bool) (old new : Reading) (e : Error) : Type 0 w
 
 -- a call for the next ref: of the line that it takes, and none at a stop
 abbrev pub NextRef : Bool → Reading → Reading → Result (Option Ref) Error → Type 0
-NextRef plain old new (Ok (Some found)) = TakesLine old new × Answers ref_value (v2_line new.line) (Ok found)
+NextRef plain old new (Ok (Some found)) = TakesLine old new × AnswersRefs ref_value (v2_line new.line) (Ok found)
 NextRef plain old new (Ok None) = AtStop old new
-NextRef plain old new (Err e) = (TakesLine old new × Answers ref_value (v2_line new.line) (Err e)) ⊎ ReaderFails plain old new e
+NextRef plain old new (Err e) = (TakesLine old new × AnswersRefs ref_value (v2_line new.line) (Err e)) ⊎ ReaderFails plain old new e
 
 -- what that call says of all refs to come: its ref is the first of them, there are none, or there is no answer
 abbrev pub NextOfRefs : Bool → Reading → Reading → Result (Option Ref) Error → Type 0

@@ -10,7 +10,7 @@ use Rattle.gixp_refs.specs.declared.handshake.refs.v1.RefLine.{RefLine}
 use Rattle.gixp_refs.specs.declared.handshake.refs.v1.Advertised.{Advertised}
 use Rattle.gixp_refs.specs.Ref.{RefValue, ref_value}
 use Rattle.gixp_refs.specs.RefLine.{RefsRefusal, and_then}
-use Rattle.gixp_refs.specs.RefAdvertisement.{Symref, V1Line, nothing, peels, names, shallows, v1_line, Named as NamedValue, pair, closed}
+use Rattle.gixp_refs.specs.RefAdvertisement.{Symref, V1Line, nothing, peels, names, shallows, v1_line, NamedRef, pair, closed}
 
 abbrev pub line_of : Line → V1Line
 line_of Nothing = nothing
@@ -18,13 +18,13 @@ line_of (Peeled left base) = peels left.now base.now
 line_of (Named object name) = names object.bytes name.now
 line_of (ShallowLine id) = shallows id.bytes
 
-abbrev pub named_value : RefLine → NamedValue
+abbrev pub named_value : RefLine → NamedRef
 named_value n = record { object = n.object.bytes; name = bstring_bytes n.name }
 
 -- the refs of the groups that are whole, the ref line that is open, and the updates
 pub record SoFarValue : Type 0 where
   pub refs : List RefValue
-  pub open_line : Option NamedValue
+  pub open_line : Option NamedRef
   pub updates : List ShallowUpdate
 
 abbrev pub so_far_value : Advertised → SoFarValue

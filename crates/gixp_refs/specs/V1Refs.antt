@@ -17,7 +17,7 @@ use Rattle.gixp_refs.specs.declared.handshake.refs.parse.Error.{Error}
 use Rattle.gixp_refs.specs.declared.handshake.refs.parse.Error.TheVariants.{Memory}
 use Rattle.gixp_refs.specs.Ref.{RefValue, ref_value}
 use Rattle.gixp_refs.specs.RefLine.{RefsRefusal}
-use Rattle.gixp_refs.specs.ParseError.{Answers, parse_errors}
+use Rattle.gixp_refs.specs.ParseError.{AnswersRefs, parse_errors}
 use Rattle.gixp_response.specs.Runs.{SoFar}
 use Rattle.gixp_response.specs.ReadFails.{ReadFails}
 use Rattle.gixp_refs.specs.RefAdvertisement.{Symref, symref_table, groups, v1_refs, v1_updates}
@@ -46,7 +46,7 @@ pub record ReadsV1 (t : List Symref) (old new : Reading) (refs : List Ref) (upda
   pub held : new.held ≡ old.held
 
 -- the last of these lines is refused, and none before it
-pub record LastRefused (t : List Symref) (texts : List (List ℕ)) (refusal : RefsRefusal) : Type 0 where
+pub record LastV1LineRefused (t : List Symref) (texts : List (List ℕ)) (refusal : RefsRefusal) : Type 0 where
   pub before : List (List ℕ)
   pub text : List ℕ
   pub split : texts ≡ before ++ text ∷ []
@@ -64,7 +64,7 @@ pub record NoMemoryAtStop (old new : Reading) (e : Error) : Type 0 where
 -- the first refusal of the lines to come, or something from outside, which a plain reader has less of
 abbrev pub V1Fails : List Symref → Bool → Reading → Reading → Error → Type 0
 V1Fails t plain old new e =
-    ReadFails parse_errors SoFar (λ now p r. v1_refs t (lines_ahead now p) ≡ Err r) (λ texts r _. LastRefused t texts r) plain old new e ⊎ NoMemoryAtStop old new e
+    ReadFails parse_errors SoFar (λ now p r. v1_refs t (lines_ahead now p) ≡ Err r) (λ texts r _. LastV1LineRefused t texts r) plain old new e ⊎ NoMemoryAtStop old new e
 
 -- the symrefs are read before the first line, and then the lines
 abbrev pub GivesAdvertisement : List CapabilityValue → Reading → Reading → List Ref → List ShallowUpdate → Type 0
@@ -73,4 +73,4 @@ GivesAdvertisement caps old new refs updates = (t : List Symref) × (symref_tabl
 -- before the first line it was the symrefs' refusal or an allocation failure, and nothing was read
 abbrev pub AdvertisementFails : List CapabilityValue → Bool → Reading → Reading → Error → Type 0
 AdvertisementFails caps plain old new e =
-    ((new ≡ old) × Answers symref_values (symref_table caps) (Err e)) ⊎ ((t : List Symref) × (symref_table caps ≡ Ok t) × V1Fails t plain old new e)
+    ((new ≡ old) × AnswersRefs symref_values (symref_table caps) (Err e)) ⊎ ((t : List Symref) × (symref_table caps ≡ Ok t) × V1Fails t plain old new e)

@@ -3,17 +3,17 @@ ghost use Rattle.std.specs.Prelude.{◌≡◌, ℕ, List, Option, None, Ok, Err}
 ghost use Rattle.gixp_refs.specs.Ref.{RefValue};
 ghost use Rattle.gixp_refs.specs.RefLine.{RefsRefusal};
 ghost use Rattle.gixp_refs.specs.RefAdvertisement.{Symref, groups};
-ghost use Rattle.gixp_refs.specs.RefGroups.{Group, AreGroups, AreGroupRefs, AreRefusedBehind};
+ghost use Rattle.gixp_refs.specs.RefGroups.{Group, AreRefGroups, AreGroupRefs, AreRefusedBehind};
 
 /// The refs of an advertisement under versions 0 and 1 are those of groups: ref lines alone, or with
 /// their peeled lines, and between them lines that stand in none.
 pub fn advertised_refs_are_of_groups()
-    ensures { (t : List Symref) (texts : List (List ℕ)) (values : List RefValue) → groups texts None t None ≡ Ok values → (gs : List Group) × AreGroups texts gs × AreGroupRefs t gs values }
+    ensures { (t : List Symref) (texts : List (List ℕ)) (values : List RefValue) → groups texts None t None ≡ Ok values → (gs : List Group) × AreRefGroups texts gs × AreGroupRefs t gs values }
 {}
 
 /// Groups of lines are read as their refs, so that it doesn't matter how they were found.
 pub fn groups_are_advertised_refs()
-    ensures { (t : List Symref) (texts : List (List ℕ)) (gs : List Group) (values : List RefValue) → AreGroups texts gs → AreGroupRefs t gs values → groups texts None t None ≡ Ok values }
+    ensures { (t : List Symref) (texts : List (List ℕ)) (gs : List Group) (values : List RefValue) → AreRefGroups texts gs → AreGroupRefs t gs values → groups texts None t None ≡ Ok values }
 {}
 
 /// A refused advertisement begins with groups that have refs, and the refusal is that of the first line,

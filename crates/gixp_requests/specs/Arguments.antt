@@ -10,7 +10,7 @@ use Rattle.gixp_packetline.specs.declared.protocol.Protocol.{Protocol}
 use Rattle.gixp_packetline.specs.declared.protocol.Protocol.TheVariants.{V2}
 use Rattle.gixp_requests.specs.declared.command.Command.TheVariants.{Fetch}
 use Rattle.gixp_requests.specs.Feature.{FeatureValue, feature_text, has_feature}
-use Rattle.gixp_requests.specs.Command.{Table, initial_arguments}
+use Rattle.gixp_requests.specs.Command.{TableValue, initial_arguments}
 
 -- what is asked for so far
 pub record ArgumentsValue : Type 0 where
@@ -38,11 +38,11 @@ abbrev pub id_text : ObjectId → List ℕ
 id_text id = encode_lower id.bytes
 
 -- the argument lines that stand there at first
-abbrev pub first_lines : Table → Protocol → List FeatureValue → List (List ℕ)
+abbrev pub first_lines : TableValue → Protocol → List FeatureValue → List (List ℕ)
 first_lines table version features = if is_v2 version then initial_arguments table Fetch features else []
 
 -- nothing but these is asked for
-abbrev pub asks_nothing : Table → Protocol → List FeatureValue → ArgumentsValue
+abbrev pub asks_nothing : TableValue → Protocol → List FeatureValue → ArgumentsValue
 asks_nothing table version features = record {
   version = version;
   features = features;

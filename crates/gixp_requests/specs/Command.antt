@@ -20,30 +20,30 @@ abbrev pub texts : Vec BString Global → List (List ℕ)
 texts v = map bstring_bytes v.items
 
 -- a word, and the name of what decides whether it is taken, if there is one
-pub record Entry : Type 0 where
+pub record WordEntry : Type 0 where
   pub word : List ℕ
   pub other : Option (List ℕ)
 
-abbrev pub entry_of : Bor (List ℕ) × Option (Bor (List ℕ)) → Entry
+abbrev pub entry_of : Bor (List ℕ) × Option (Bor (List ℕ)) → WordEntry
 entry_of e = record { word = e.0.now; other = option_copied e.1 }
 
-abbrev pub entries_of : List (Bor (List ℕ) × Option (Bor (List ℕ))) → List Entry
+abbrev pub entries_of : List (Bor (List ℕ) × Option (Bor (List ℕ))) → List WordEntry
 entries_of = map entry_of
 
 abbrev pub words_of : List (Bor (List ℕ)) → List (List ℕ)
 words_of = map (λ w. w.now)
 
 -- a command table as plain data
-pub record Table : Type 0 where
-  pub v1_fetch : List Entry
+pub record TableValue : Type 0 where
+  pub v1_fetch : List WordEntry
   pub v2_fetch : List (List ℕ)
   pub v2_ls_refs : List (List ℕ)
-  pub fetch_arguments : List Entry
+  pub fetch_arguments : List WordEntry
   pub ls_refs_arguments : List (List ℕ)
   pub fetch_prefixes : List (List ℕ)
   pub ls_refs_prefixes : List (List ℕ)
 
-abbrev pub table_of : CommandTable → Table
+abbrev pub table_of : CommandTable → TableValue
 table_of t = record {
   v1_fetch = entries_of t.v1_fetch.now;
   v2_fetch = words_of t.v2_fetch.now;
@@ -54,14 +54,14 @@ table_of t = record {
   ls_refs_prefixes = words_of t.ls_refs_prefixes.now;
 }
 
-abbrev pub always : List ℕ → Entry
+abbrev pub always : List ℕ → WordEntry
 always word = record { word = word; other = None }
 
-abbrev pub by : List ℕ → List ℕ → Entry
+abbrev pub by : List ℕ → List ℕ → WordEntry
 by other word = record { word = word; other = Some other }
 
 -- what git's own client asks for, as far as this one does
-abbrev pub git_table : Table
+abbrev pub git_table : TableValue
 git_table = record {
   v1_fetch =
       by (codes "multi_ack_detailed") (codes "multi_ack")
@@ -94,11 +94,11 @@ goes_with features None = true
 goes_with features (Some name) = has_feature name features
 
 -- the words of the entries that go with these features, in their order
-abbrev pub lines_with : List FeatureValue → List Entry → List (List ℕ)
-lines_with features entries = map (λ (e : Entry). e.word) (filter (λ e. goes_with features e.other) entries)
+abbrev pub lines_with : List FeatureValue → List WordEntry → List (List ℕ)
+lines_with features entries = map (λ (e : WordEntry). e.word) (filter (λ e. goes_with features e.other) entries)
 
 -- the arguments that a request of version 2 begins with
-abbrev pub initial_arguments : Table → Command → List FeatureValue → List (List ℕ)
+abbrev pub initial_arguments : TableValue → Command → List FeatureValue → List (List ℕ)
 initial_arguments table LsRefs features = table.ls_refs_arguments
 initial_arguments table Fetch features = lines_with features table.fetch_arguments
 

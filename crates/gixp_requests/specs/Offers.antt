@@ -10,7 +10,7 @@ use Rattle.gixp_requests.specs.declared.command.Command.TheVariants.{LsRefs, Fet
 use Rattle.gixp_requests.specs.declared.command.validate_argument_prefixes.Error.{Error}
 use Rattle.gixp_requests.specs.declared.command.validate_argument_prefixes.Error.TheVariants.{UnsupportedArgument, UnsupportedCapability, Memory}
 use Rattle.gixp_requests.specs.Arguments.{is_v2}
-use Rattle.gixp_requests.specs.Command.{Entry, Table, command_name}
+use Rattle.gixp_requests.specs.Command.{WordEntry, TableValue, command_name}
 use Rattle.gixp_requests.specs.Feature.{FeatureValue}
 
 -- whether the capability that decides against an entry is there
@@ -19,7 +19,7 @@ has_other capabilities None = false
 has_other capabilities (Some name) = has_named name capabilities
 
 -- an entry is asked for where the server has its word, and not what decides against it
-abbrev pub is_offered : List CapabilityValue → Entry → Bool
+abbrev pub is_offered : List CapabilityValue → WordEntry → Bool
 is_offered capabilities e = has_named e.word capabilities && not (has_other capabilities e.other)
 
 -- whether a word is among those of a capability's value
@@ -31,16 +31,16 @@ has_word word (Some c) = unwrap_or (supports_word word c.value) false
 abbrev pub supports : List CapabilityValue → Command → List ℕ → Bool
 supports capabilities command word = has_word word (first_named (command_name command) capabilities)
 
-abbrev pub v2_words : Table → Command → List (List ℕ)
+abbrev pub v2_words : TableValue → Command → List (List ℕ)
 v2_words table LsRefs = table.v2_ls_refs
 v2_words table Fetch = table.v2_fetch
 
 -- what is asked for under versions 0 and 1, which have no command but the one for a pack
-abbrev pub v1_names : Table → Command → List CapabilityValue → List (List ℕ)
+abbrev pub v1_names : TableValue → Command → List CapabilityValue → List (List ℕ)
 v1_names table LsRefs capabilities = []
-v1_names table Fetch capabilities = map (λ (e : Entry). e.word) (filter (is_offered capabilities) table.v1_fetch)
+v1_names table Fetch capabilities = map (λ (e : WordEntry). e.word) (filter (is_offered capabilities) table.v1_fetch)
 
-abbrev pub default_names : Table → Command → Protocol → List CapabilityValue → List (List ℕ)
+abbrev pub default_names : TableValue → Command → Protocol → List CapabilityValue → List (List ℕ)
 default_names table command version capabilities =
     if is_v2 version then filter (supports capabilities command) (v2_words table command) else v1_names table command capabilities
 
@@ -48,11 +48,11 @@ default_names table command version capabilities =
 abbrev pub plain_feature : List ℕ → FeatureValue
 plain_feature name = record { name = name; value = None }
 
-abbrev pub default_features : Table → Command → Protocol → List CapabilityValue → List FeatureValue
+abbrev pub default_features : TableValue → Command → Protocol → List CapabilityValue → List FeatureValue
 default_features table command version capabilities = map plain_feature (default_names table command version capabilities)
 
 -- what the arguments of a command may begin with
-abbrev pub prefixes_of : Table → Command → List (List ℕ)
+abbrev pub prefixes_of : TableValue → Command → List (List ℕ)
 prefixes_of table LsRefs = table.ls_refs_prefixes
 prefixes_of table Fetch = table.fetch_prefixes
 
@@ -91,7 +91,7 @@ abbrev pub refusal_from : Command → Option (List ℕ) → Option FeatureValue 
 refusal_from command (Some argument) f = Some (bad_argument_of (command_name command) argument)
 refusal_from command None f = feature_refusal command f
 
-abbrev pub validation : Table → Command → Protocol → List CapabilityValue → List (List ℕ) → List FeatureValue → Option ValidationRefusal
+abbrev pub validation : TableValue → Command → Protocol → List CapabilityValue → List (List ℕ) → List FeatureValue → Option ValidationRefusal
 validation table command version capabilities arguments features =
     refusal_from command (find (bad_argument (prefixes_of table command)) arguments) (find (bad_feature command version capabilities) features)
 
@@ -101,8 +101,8 @@ IsRefusedBy (bad_argument_of command argument) Memory = ⊤
 IsRefusedBy refusal e = validation_refusal e ≡ refusal
 
 -- a call that answers this refusal, if there is one
-abbrev pub Validates : Option ValidationRefusal → Result (Unit {0}) Error → Type 0
-Validates None (Ok t) = ⊤
-Validates None (Err e) = ⊥
-Validates (Some refusal) (Ok t) = ⊥
-Validates (Some refusal) (Err e) = IsRefusedBy refusal e
+abbrev pub AnswersRefusal : Option ValidationRefusal → Result (Unit {0}) Error → Type 0
+AnswersRefusal None (Ok t) = ⊤
+AnswersRefusal None (Err e) = ⊥
+AnswersRefusal (Some refusal) (Ok t) = ⊥
+AnswersRefusal (Some refusal) (Err e) = IsRefusedBy refusal e

@@ -10,7 +10,7 @@ use Rattle.gixp_packetline.specs.Lines.{gives, stops, refuses, next_from, next_o
 use Rattle.gixp_packetline.specs.Reading.{Reading, TakesLine, TakesStop, AtStop, Fails, IsPlain, refusal_of, reset_to}
 use Rattle.gixp_response.specs.declared.fetch.response.error.Error.{Error}
 use Rattle.gixp_response.specs.declared.fetch.response.error.Error.TheVariants.{Memory}
-use Rattle.gixp_response.specs.ResponseError.{AnswerRefusal, answer_refusal, from_reader, IsRefusal}
+use Rattle.gixp_response.specs.ResponseError.{AnswerRefusal, answer_refusal, from_reader, IsAnswerRefusal}
 use Rattle.gixp_response.specs.Answer.{AnswerValue, Found, whole, refused, front, is_of_line}
 use Rattle.gixp_response.specs.AnswerReading.{stop_of, last_stop, stop_behind, Going, IsRunning, EndsAt, ReadsAnswer, AnswerFails}
 use Rattle.gixp_response.proofs.RunLemmas.{Known, known_steps}
@@ -160,7 +160,7 @@ known_refused found k taken (Some p) b r s w h = ap found h.2 ∙ s h.0 ∙ w h.
 
 -- what was taken ends in what is refused
 pub going-refused : (plain : Bool) (found k : Pieces → Found) (taken : List Piece) (old new : Reading) (r : AnswerRefusal) (e : Error) → Going found k taken old new
-    → new.stopped ≡ last_stop taken → ((q : Pieces) → k q ≡ refused r) → is_of_line r ≡ true → IsRefusal e r → AnswerFails found plain old new e
+    → new.stopped ≡ last_stop taken → ((q : Pieces) → k q ≡ refused r) → is_of_line r ≡ true → IsAnswerRefusal e r → AnswerFails found plain old new e
 going-refused plain found k taken old new r e h at w l is = inl (record {
   taken = taken;
   read = record { took = h.took; failures = h.failures };

@@ -8,7 +8,7 @@ use Rattle.gixp_packetline.specs.Pieces.{Refusal, Piece, line, mark, Pieces, no_
 use Rattle.gixp_response.specs.ResponseError.{AnswerRefusal, by_reader, from_reader}
 use Rattle.gixp_response.specs.Answer.{Found, refused, front}
 use Rattle.gixp_response.specs.Beginnings.{AnswerItem, line_item, stopped, Expected, ends, unless_ends, beginnings_from, v1_answer}
-use Rattle.gixp_response.specs.BeginningGrammar.{items_behind, AreStops, IsRefused}
+use Rattle.gixp_response.specs.BeginningGrammar.{items_behind, AreStops, BeginningIsRefused}
 
 -- the same behind items that were read before
 record Refusing (v : Protocol) (a : Expected) (before : List AnswerItem) (p : Pieces) (e : AnswerRefusal) : Type 0 where
@@ -101,7 +101,7 @@ refused_from v a (mark kind ∷ ps) end before e h =
     (λ i none k. refused_further v a before (mark kind) p e none (refused_from v a ps end (stopped ∷ before) e k) (λ _. refl) (λ _ s. (i, s)))
 
 -- where an answer is refused, no beginning ends one
-pub refusal_found : (v : Protocol) (a : Expected) (p : Pieces) (e : AnswerRefusal) → v1_answer v a p ≡ refused e → IsRefused v a p e
+pub refusal_found : (v : Protocol) (a : Expected) (p : Pieces) (e : AnswerRefusal) → v1_answer v a p ≡ refused e → BeginningIsRefused v a p e
 refusal_found v a p e h =
     let x = refused_from v a p.list p.end [] e h in
     record { taken = x.taken; rest = x.rest; split = x.split; stops = x.stops; refusal = x.refusal; next = x.next; error = x.error; unended = x.unended }
@@ -145,5 +145,5 @@ read_behind v a (mark kind ∷ ts) rest before refusal s n f =
     (read_behind v a ts rest (stopped ∷ before) refusal s.1 n (λ shorter more k. f (mark kind ∷ shorter) more (ap (λ l. mark kind ∷ l) k)))
 
 -- where no beginning ends an answer, it is refused
-pub refusal_read : (v : Protocol) (a : Expected) (p : Pieces) (e : AnswerRefusal) → IsRefused v a p e → v1_answer v a p ≡ refused e
+pub refusal_read : (v : Protocol) (a : Expected) (p : Pieces) (e : AnswerRefusal) → BeginningIsRefused v a p e → v1_answer v a p ≡ refused e
 refusal_read v a p e h = ap (v1_answer v a) h.split ∙ read_behind v a h.taken h.rest [] h.refusal h.stops h.next h.unended ∙ ap refused (sym h.error)

@@ -15,7 +15,7 @@ use Rattle.gixp_response.specs.declared.fetch.response.error.Error.TheVariants.{
 use Rattle.gixp_response.specs.declared.fetch.response.sections.Section.{Section}
 use Rattle.gixp_response.specs.declared.fetch.response.sections.Header.{Header}
 use Rattle.gixp_response.specs.declared.fetch.response.sections.Header.TheVariants.{Of, Packfile}
-use Rattle.gixp_response.specs.ResponseError.{AnswerRefusal, io_failed, unknown_line, unknown_header, by_reader, from_reader, answer_refusal, IsRefusal, Answers}
+use Rattle.gixp_response.specs.ResponseError.{AnswerRefusal, io_failed, unknown_line, unknown_header, by_reader, from_reader, answer_refusal, IsAnswerRefusal, AnswersResponse}
 use Rattle.gixp_response.specs.Answer.{AnswerValue, no_more, both, Found, whole, refused, in_front, is_of_line}
 use Rattle.gixp_response.specs.Sections.{or_refused, header_of, item_of, read_header, read_item, closed, not_opened, is_flush, sections_from, v2_answer}
 use Rattle.gixp_response.specs.AnswerLine.{trimmed}
@@ -145,12 +145,12 @@ of_item true (Some x) text r h = cc
 of_item true None text r h = let e : unknown_line text ≡ r = cc in subst (λ x. is_of_line x ≡ true) e refl
 of_item false o text r h = let e : by_reader not_utf8 ≡ r = cc in subst (λ x. is_of_line x ≡ true) e refl
 
-memory_is : (r : AnswerRefusal) (e : Error) → e ≡ Memory → IsRefusal e r
-memory_is r e h = subst (λ k. IsRefusal k r) (sym h) (λ n. cc)
+memory_is : (r : AnswerRefusal) (e : Error) → e ≡ Memory → IsAnswerRefusal e r
+memory_is r e h = subst (λ k. IsAnswerRefusal k r) (sym h) (λ n. cc)
 
 -- a line that is no header
 pub within-bad_header : (plain : Bool) (had : AnswerValue) (old mid new : Reading) (o : Result Header AnswerRefusal) (e : Error) → Within had None old mid → TakesLine mid new
-    → read_header new.line ≡ o → Answers (λ (x : Header). x) o (Err e) → AnswerFails v2_answer plain old new e
+    → read_header new.line ≡ o → AnswersResponse (λ (x : Header). x) o (Err e) → AnswerFails v2_answer plain old new e
 within-bad_header plain had old mid new (Ok x) e h t is a =
     let all = going-line v2_answer (left_of had None) V2 h.taken old mid new h.going h.running t in
     subst (AnswerFails v2_answer plain old new) (sym a) (going-memory plain v2_answer _ _ old new all.0 all.1.stopped)
@@ -198,6 +198,6 @@ within-fails plain had at old mid new r e h f p is =
     (λ q n. ap (in_front had) (sections_refused at q.list q.end (refusal_of r) n)) f p is
 
 -- the header that was read is the definition's
-pub header_is : (o : Result Header AnswerRefusal) (h : Header) → Answers (λ (x : Header). x) o (Ok h) → o ≡ Ok h
+pub header_is : (o : Result Header AnswerRefusal) (h : Header) → AnswersResponse (λ (x : Header). x) o (Ok h) → o ≡ Ok h
 header_is (Ok x) h a = ap Ok (sym a)
 header_is (Err r) h a = absurd a

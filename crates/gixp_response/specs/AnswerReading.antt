@@ -10,7 +10,7 @@ use Rattle.gixp_packetline.specs.Reading.{Reading, BreaksOff, Rose}
 use Rattle.gixp_response.specs.declared.fetch.response.error.Error.{Error}
 use Rattle.gixp_response.specs.declared.fetch.response.error.Error.TheVariants.{Memory}
 use Rattle.gixp_response.specs.ReadFails.{ReadFails}
-use Rattle.gixp_response.specs.ResponseError.{AnswerRefusal, answer_errors, IsRefusal}
+use Rattle.gixp_response.specs.ResponseError.{AnswerRefusal, answer_errors, IsAnswerRefusal}
 use Rattle.gixp_response.specs.Answer.{AnswerValue, Found, whole, refused, front, is_of_line, both}
 use Rattle.gixp_response.specs.Sections.{v2_answer}
 use Rattle.gixp_response.specs.Beginnings.{Expected, v1_answer}
@@ -26,7 +26,7 @@ abbrev pub Adds : Result AnswerValue AnswerRefusal → AnswerValue → AnswerVal
 Adds (Ok item) old new (Ok x) = new ≡ both old.pack old item
 Adds (Ok item) old new (Err e) = e ≡ Memory
 Adds (Err r) old new (Ok x) = ⊥
-Adds (Err r) old new (Err e) = IsRefusal e r
+Adds (Err r) old new (Err e) = IsAnswerRefusal e r
 
 -- these pieces were taken, and nothing else is known to have happened
 abbrev pub Took : List Piece → Reading → Reading → Type 0
@@ -72,7 +72,7 @@ pub record ReadsAnswer (found : Pieces → Found) (under : Protocol) (old new : 
   pub failures : new.failures ≡ old.failures
 
 -- a read failed as at the stream's end behind some pieces, which are then the answer
-pub record BrokeOff (found : Pieces → Found) (under : Protocol) (old new : Reading) (value : AnswerValue) : Type 0 where
+pub record AnswerBrokeOff (found : Pieces → Found) (under : Protocol) (old new : Reading) (value : AnswerValue) : Type 0 where
   pub taken : List Piece
   pub now : Reading
   pub took : Took taken old now
@@ -83,7 +83,7 @@ pub record BrokeOff (found : Pieces → Found) (under : Protocol) (old new : Rea
   pub failures : Rose old.failures new.failures
 
 abbrev pub Answered : (Pieces → Found) → Protocol → Reading → Reading → AnswerValue → Type 0
-Answered found version old new value = ReadsAnswer found version old new value ⊎ BrokeOff found version old new value
+Answered found version old new value = ReadsAnswer found version old new value ⊎ AnswerBrokeOff found version old new value
 
 -- these pieces were taken, and no I/O error was counted
 pub record Passed (old now : Reading) (taken : List Piece) : Type 0 where

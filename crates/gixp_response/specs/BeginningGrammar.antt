@@ -35,7 +35,7 @@ pub record IsShortest (version : Protocol) (a : Expected) (p : Pieces) (value : 
   pub shortest : (shorter : List Piece) (next : Piece) (more : List Piece) → taken ≡ shorter ++ next ∷ more → ends_behind version a shorter (front (next ∷ more) rest) ≡ None
 
 -- no beginning ends an answer, and what stands behind the longest one is refused
-pub record IsRefused (version : Protocol) (a : Expected) (p : Pieces) (e : AnswerRefusal) : Type 0 where
+pub record BeginningIsRefused (version : Protocol) (a : Expected) (p : Pieces) (e : AnswerRefusal) : Type 0 where
   pub taken : List Piece
   pub rest : Pieces
   pub split : p ≡ front taken rest

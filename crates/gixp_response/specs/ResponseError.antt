@@ -67,26 +67,26 @@ abbrev pub answer_errors : Errors Error AnswerRefusal
 answer_errors = record { refusal = answer_refusal; from_reader = from_reader; memory = Memory; is_no_memory = is_no_memory }
 
 -- a refusal is that of the definition, unless memory ran out
-abbrev pub IsRefusal : Error → AnswerRefusal → Type 0
-IsRefusal e r = is_no_memory (answer_refusal e) ≡ false → answer_refusal e ≡ r
+abbrev pub IsAnswerRefusal : Error → AnswerRefusal → Type 0
+IsAnswerRefusal e r = is_no_memory (answer_refusal e) ≡ false → answer_refusal e ≡ r
 
 -- a line's value, which allocates nothing, or the refusal that carries the line
 abbrev pub ReadsLine : {A : Type 0} → Option A → List ℕ → Result A Error → Type 0
 ReadsLine (Some value) line (Ok x) = x ≡ value
 ReadsLine (Some value) line (Err e) = ⊥
 ReadsLine None line (Ok x) = ⊥
-ReadsLine None line (Err e) = IsRefusal e (unknown_line line)
+ReadsLine None line (Err e) = IsAnswerRefusal e (unknown_line line)
 
 -- the same where the value allocates
 abbrev pub ReadsOwned : {A B : Type 0} → (A → B) → Option B → List ℕ → Result A Error → Type 0
 ReadsOwned view (Some value) line (Ok x) = view x ≡ value
 ReadsOwned view (Some value) line (Err e) = e ≡ Memory
 ReadsOwned view None line (Ok x) = ⊥
-ReadsOwned view None line (Err e) = IsRefusal e (unknown_line line)
+ReadsOwned view None line (Err e) = IsAnswerRefusal e (unknown_line line)
 
 -- the value that the definition has, or its refusal; but for memory
-abbrev pub Answers : {A B : Type 0} → (A → B) → Result B AnswerRefusal → Result A Error → Type 0
-Answers view (Ok value) (Ok x) = view x ≡ value
-Answers view (Ok value) (Err e) = e ≡ Memory
-Answers view (Err refusal) (Ok x) = ⊥
-Answers view (Err refusal) (Err e) = IsRefusal e refusal
+abbrev pub AnswersResponse : {A B : Type 0} → (A → B) → Result B AnswerRefusal → Result A Error → Type 0
+AnswersResponse view (Ok value) (Ok x) = view x ≡ value
+AnswersResponse view (Ok value) (Err e) = e ≡ Memory
+AnswersResponse view (Err refusal) (Ok x) = ⊥
+AnswersResponse view (Err refusal) (Err e) = IsAnswerRefusal e refusal

@@ -6,7 +6,7 @@ ghost use Rattle.gixp_response.specs.Answer.{AnswerValue, whole, refused};
 ghost use Rattle.gixp_response.specs.Sections.{v2_answer};
 ghost use Rattle.gixp_packetline.specs.declared.protocol.Protocol.{Protocol};
 ghost use Rattle.gixp_response.specs.Beginnings.{Expected, v1_answer};
-ghost use Rattle.gixp_response.specs.BeginningGrammar.{IsShortest, IsRefused};
+ghost use Rattle.gixp_response.specs.BeginningGrammar.{IsShortest, BeginningIsRefused};
 ghost use Rattle.gixp_response.specs.SectionGrammar.{SectionText, Last, AreSections, said_by, AreRefused};
 
 /// An answer that is found under version 2 is a list of sections, and says what their items say.
@@ -47,10 +47,10 @@ pub fn cut_sections_are_refused()
 /// Where an answer under versions 0 and 1 is refused, no beginning ends one, and the refusal is that of
 /// the reader behind all of it.
 pub fn refused_answers_have_no_end()
-    ensures { (version : Protocol) (a : Expected) (p : Pieces) (e : AnswerRefusal) → v1_answer version a p ≡ refused e → IsRefused version a p e }
+    ensures { (version : Protocol) (a : Expected) (p : Pieces) (e : AnswerRefusal) → v1_answer version a p ≡ refused e → BeginningIsRefused version a p e }
 {}
 
 /// Where no beginning ends an answer under versions 0 and 1, it is refused so, however it is read.
 pub fn answers_without_end_are_refused()
-    ensures { (version : Protocol) (a : Expected) (p : Pieces) (e : AnswerRefusal) → IsRefused version a p e → v1_answer version a p ≡ refused e }
+    ensures { (version : Protocol) (a : Expected) (p : Pieces) (e : AnswerRefusal) → BeginningIsRefused version a p e → v1_answer version a p ≡ refused e }
 {}

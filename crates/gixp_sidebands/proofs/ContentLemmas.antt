@@ -16,7 +16,7 @@ use Rattle.gixp_packetline.specs.Reading.{Reading, TakesLine, ShowsLine, AtStop,
 use Rattle.std.specs.IoError.{error_kind}
 use Rattle.std.specs.declared.io.ErrorKind.TheVariants.{UnexpectedEof}
 use Rattle.std.specs.declared.io.Error.{Error as io_error}
-use Rattle.gixp_sidebands.specs.Bands.{band_of, is_content, unband_line, unband_from, unband, content_from, content_of, Message, messages_line, messages_from, messages_of, is_held, front_line, shown, content_left, messages_left, HandsOut, Side, side_reading, banded_reading, side_content, IsFirstOf, ShowsContent, EndsContent, ShowsFirst, ReadsBytes, RefusesContent, Passes, IsFirst, Fills, io_kind, place_after}
+use Rattle.gixp_sidebands.specs.Bands.{band_of, is_content, unband_line, unband_from, unband, content_from, content_of, Message, messages_line, messages_from, messages_of, is_held, front_line, shown, content_left, messages_left, HandsOut, Side, side_reading, banded_reading, side_content, IsFirstOf, ShowsContent, EndsContent, ShowsFirst, ReadsBytes, RefusesContent, Passes, IsFirst, FillsContent, io_kind, place_after}
 use Rattle.gixp_sidebands.proofs.PieceLemmas.{mark_not_gives}
 
 pub both_true : (a b : Bool) → (a && b) ≡ true → (a ≡ true) × (b ≡ true)
@@ -279,7 +279,7 @@ ends_content_at old new o n f h =
 
 -- a call for lines, as one that sees to it that content is at hand
 pub fills_by : (old new : Side) (more : Bool) → old.place ≡ None → new.place ≡ place_after (Ok more) → new.fault ≡ None → is_held new.place new.reading ≡ true
-    → ShowsFirst old.reading new.reading (Ok more) → Peeks (side_reading old) (side_reading new) (Ok more) → Fills old new (Ok more)
+    → ShowsFirst old.reading new.reading (Ok more) → Peeks (side_reading old) (side_reading new) (Ok more) → FillsContent old new (Ok more)
 fills_by old new true o n f held first h = shows_content_at old new o n f held first (rw (o, n) at h)
 fills_by old new false o n f held first h = ends_content_at old new o n f h
 
@@ -319,7 +319,7 @@ pub none_of : (o : Option ℕ) → is_some o ≡ false → o ≡ None
 none_of None e = refl
 none_of (Some n) e = absurd (let x = e in cc)
 
-pub fills_either : (old new : Side) (more : Bool) → Fills old new (Ok more) → ShowsContent old new ⊎ EndsContent old new
+pub fills_either : (old new : Side) (more : Bool) → FillsContent old new (Ok more) → ShowsContent old new ⊎ EndsContent old new
 fills_either old new true h = inl h
 fills_either old new false h = inr h
 

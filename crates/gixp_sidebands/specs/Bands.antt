@@ -235,10 +235,10 @@ pub record RefusesContent (old new : Side) (e : io_error) : Type 0 where
   pub ends : Refuses (side_reading old) (side_reading new) refusal → IfSome old.reading.to_come (λ p. side_content old p ≡ [])
 
 -- a call that sees to it that content is at hand: true where it is, false at a stop
-abbrev pub Fills : Side → Side → Result Bool io_error → Type 0
-Fills old new (Ok true) = ShowsContent old new
-Fills old new (Ok false) = EndsContent old new
-Fills old new (Err e) = RefusesContent old new e
+abbrev pub FillsContent : Side → Side → Result Bool io_error → Type 0
+FillsContent old new (Ok true) = ShowsContent old new
+FillsContent old new (Ok false) = EndsContent old new
+FillsContent old new (Err e) = RefusesContent old new e
 
 -- a call that lends the bytes at hand, of which there are none only at a stop
 abbrev pub FillsLent : Side → Side → Result (Bor (List ℕ)) io_error → Type 0

@@ -7,7 +7,7 @@ ghost use Rattle.std.specs.Io.BufRead.{DropsConsumable, FillKeeps, Rests};
 ghost use types.Logic.{sem};
 ghost use mir.Syntax.{named};
 ghost use Rattle.gixp_packetline.specs.Reading.{Reading, Reads, Peeks, ReadsLent, PeeksLent, PlainIf, TakesLine, refusal_of};
-ghost use Rattle.gixp_sidebands.specs.Bands.{Fills, ShowsFirst, ReadsContent, ReadsBytes, KeepsMessages, is_begun, place_after, shown, message_in, io_kind};
+ghost use Rattle.gixp_sidebands.specs.Bands.{FillsContent, ShowsFirst, ReadsContent, ReadsBytes, KeepsMessages, is_begun, place_after, shown, message_in, io_kind};
 ghost use Rattle.gixp_sidebands.specs.Telling.{Told, TellsPacket, refusal_in};
 
 mod band;
@@ -137,7 +137,7 @@ impl<'a, T: ExtendedBufRead, P: BandText + Drop, I: Interrupt> WithSidebands<'a,
     /// Those of the transport and of the type, with `Io(kind)` as `kind`, `Memory` as `OutOfMemory`,
     /// `Interrupted` as `Other` and all else as `InvalidData`. `fault` has the refusal itself.
     pub fn fill(&mut self) -> io::Result<bool>
-        ensures fills { Fills (side T.reading self.old) (side T.reading self.new) result }
+        ensures fills { FillsContent (side T.reading self.old) (side T.reading self.new) result }
         ensures told { Told P.hears I.says T.is_plain (side T.reading self.new).fault (side T.reading self.old).reading (side T.reading self.new).reading
             (listener self.old) (listener self.new) }
         ensures interrupt { self.new.interrupt.ghost_name ≡ self.old.interrupt.ghost_name }

@@ -14,7 +14,7 @@ use Rattle.gixp_hash.specs.declared.object_id.ObjectId.{ObjectId}
 use Rattle.gixp_hash.specs.ObjectId.{id_cmp}
 use Rattle.gixp_graph.specs.Object.{Commit}
 use Rattle.gixp_graph.specs.Complete.{IsComplete}
-use Rattle.gixp_tests.specs.Slow.{AreKnown, ParentsAreKnown, IsMissing, IsClosed}
+use Rattle.gixp_tests.specs.Slow.{AreKnown, ParentsAreKnown, IsMissingCommit, IsClosed}
 use Rattle.gixp_graph.specs.Walk.{count}
 use Rattle.gixp_graph.specs.CountLaws.{count_lt}
 use Rattle.gixp_graph.specs.GraphLaws.{ids_total, same_from}
@@ -27,11 +27,11 @@ closed_complete read tips cutoff known k q (IsComplete.parent {id} {p} {c} {leas
 
 -- a parent of a known commit from the cutoff on
 pub missing_parent : (read : ObjectId → Option Commit) (tips : List ObjectId) (least : ℤ) (known : List ObjectId) (id p : ObjectId) (c : Commit) → Contains known id → read id ≡ Some c → least ≤ℤ c.time → Contains c.parents p → IsSome (read p) → ¬ (Contains known p)
-    → IsMissing read tips (Some least) known p
+    → IsMissingCommit read tips (Some least) known p
 missing_parent read tips least known id p c i r t j f n = (f, n, λ all. IsComplete.parent (All-contains (IsComplete read tips (Some least)) known id all i) r refl t j f)
 
 -- a tip
-pub missing_tip : (read : ObjectId → Option Commit) (tips : List ObjectId) (cutoff : Option ℤ) (known : List ObjectId) (id : ObjectId) → Contains tips id → IsSome (read id) → ¬ (Contains known id) → IsMissing read tips cutoff known id
+pub missing_tip : (read : ObjectId → Option Commit) (tips : List ObjectId) (cutoff : Option ℤ) (known : List ObjectId) (id : ObjectId) → Contains tips id → IsSome (read id) → ¬ (Contains known id) → IsMissingCommit read tips cutoff known id
 missing_tip read tips cutoff known id i f n = (f, n, λ _. IsComplete.tip i f)
 
 -- ---- how many are left

@@ -14,7 +14,7 @@ use Rattle.gixp_wire.specs.declared.message.Message.{Message}
 use Rattle.gixp_packetline.specs.FrameText.{texts_of}
 use Rattle.gixp_wire.specs.Message.{MessageValue, text, fits, line_frame, line_frames, lines_fit, lined_frames, lined_fit, value_frame, value_fits, message_value, message_frame, message_fits, request_frames, all_fit}
 use Rattle.gixp_packetline.specs.Reading.{Reading}
-use Rattle.gixp_wire.specs.Transport.{with_written, Wrote, Broke, Unwritten, Unfinished, Writes, WritesAll, Sends}
+use Rattle.gixp_wire.specs.Transport.{with_written, Wrote, WriteBroke, Unwritten, Unfinished, Writes, WritesAll, Sends}
 
 appends_none : (o : Option (List ℕ)) → Appends o o []
 appends_none None = tt
@@ -39,9 +39,9 @@ wrote_more old mid new xs ys h k = record {
 }
 
 -- and then a write failed
-pub broke_then : (old mid new : Reading) (xs : List ℕ) (kind : ErrorKind) → Wrote old mid xs → Broke mid new kind → Broke old new kind
+pub broke_then : (old mid new : Reading) (xs : List ℕ) (kind : ErrorKind) → Wrote old mid xs → WriteBroke mid new kind → WriteBroke old new kind
 broke_then old mid new xs kind h k =
-    let b = subst (λ m. Broke m new kind) h.rest k in
+    let b = subst (λ m. WriteBroke m new kind) h.rest k in
     record {
       persists = b.persists;
       same = subst (λ o. IfSome o (λ x. kind ≡ x)) (sym h.whole) tt;

@@ -12,12 +12,12 @@ use Rattle.gixp_packetline.specs.TransportState.{Greeting}
 use Rattle.gixp_packetline.specs.Reading.{Reading}
 use Rattle.gixp_wire.specs.CapabilityAdvertisement.{advertisement, TakesFirst, Advertises}
 use Rattle.gixp_wire.specs.Greeting.{Parameter, greeting_frames, greeting_fits}
-use Rattle.gixp_wire.specs.Transport.{Broke, SentBy, TakesAnswer, ByAnswer}
+use Rattle.gixp_wire.specs.Transport.{WriteBroke, SentBy, TakesAnswer, ByAnswer}
 
 -- a greeting went out, if there is one, as a request does; that it doesn't fit into a frame is found first
 abbrev pub GreetsBy : Option Greeting → Service → List Parameter → Reading → Reading → Result (Unit {0}) Error → Type 0
 GreetsBy g service ps old new (Ok _) = (greeting_fits g service ps ≡ true) × SentBy true old new (texts_of (greeting_frames g service ps))
-GreetsBy g service ps old new (Err (Io kind)) = (greeting_fits g service ps ≡ true) × Broke old new kind
+GreetsBy g service ps old new (Err (Io kind)) = (greeting_fits g service ps ≡ true) × WriteBroke old new kind
 GreetsBy g service ps old new (Err LineTooLong) = (greeting_fits g service ps ≡ false) × (new ≡ old)
 GreetsBy g service ps old new (Err Memory) = (greeting_fits g service ps ≡ true) × (new ≡ old)
 GreetsBy g service ps old new (Err _) = ⊥

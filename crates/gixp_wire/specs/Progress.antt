@@ -10,6 +10,6 @@ pub data ProgressCall : Type 0 where
   fail : List ℕ → ProgressCall
 
 -- these calls, one behind another, and nothing else
-abbrev pub Told : {P : Type 0} → (P → ProgressCall → P → Type 0) → P → List ProgressCall → P → Type 0
-Told told old [] new = new ≡ old
-Told {P} told old (c ∷ cs) new = (now : P) × told old c now × Told told now cs new
+abbrev pub ToldCalls : {P : Type 0} → (P → ProgressCall → P → Type 0) → P → List ProgressCall → P → Type 0
+ToldCalls told old [] new = new ≡ old
+ToldCalls {P} told old (c ∷ cs) new = (now : P) × told old c now × ToldCalls told now cs new

@@ -24,7 +24,7 @@ pub record Wrote (old new : Reading) (bytes : List ℕ) : Type 0 where
   pub rest : new ≡ with_written old new.held.written
 
 -- a write failed, now or before: nothing is said of what went out, and every later request answers this kind
-pub record Broke (old new : Reading) (kind : ErrorKind) : Type 0 where
+pub record WriteBroke (old new : Reading) (kind : ErrorKind) : Type 0 where
   pub persists : old.held.persists ≡ true
   pub same : IfSome old.held.broken (λ k. kind ≡ k)
   pub failures : Rose old.failures new.failures
@@ -44,13 +44,13 @@ pub record Unwritten (old new : Reading) : Type 0 where
 -- a call that begins a request
 abbrev pub Begins : Reading → Reading → Result (Unit {0}) Error → Type 0
 Begins old new (Ok _) = (old.held.broken ≡ None) × (new ≡ begun old)
-Begins old new (Err (Io kind)) = Broke old new kind
+Begins old new (Err (Io kind)) = WriteBroke old new kind
 Begins old new (Err _) = ⊥
 
 -- a call that writes these bytes
 abbrev pub Writes : Reading → Reading → List ℕ → Result (Unit {0}) Error → Type 0
 Writes old new bytes (Ok _) = Wrote old new bytes
-Writes old new bytes (Err (Io kind)) = Broke old new kind
+Writes old new bytes (Err (Io kind)) = WriteBroke old new kind
 Writes old new bytes (Err Memory) = Unwritten old new
 Writes old new bytes (Err _) = ⊥
 
@@ -62,7 +62,7 @@ pub record Unfinished (old new : Reading) : Type 0 where
 -- calls that write these bytes
 abbrev pub WritesAll : Reading → Reading → List ℕ → Result (Unit {0}) Error → Type 0
 WritesAll old new bytes (Ok _) = Wrote old new bytes
-WritesAll old new bytes (Err (Io kind)) = Broke old new kind
+WritesAll old new bytes (Err (Io kind)) = WriteBroke old new kind
 WritesAll old new bytes (Err Memory) = Unfinished old new
 WritesAll old new bytes (Err _) = ⊥
 
@@ -119,7 +119,7 @@ pub record GoesOn (old new : Reading) : Type 0 where
 -- a call that ends a request, over a connection and otherwise
 abbrev pub EndsBy : Bool → Reading → Reading → Result (Unit {0}) Error → Type 0
 EndsBy true old new (Ok _) = GoesOn old new
-EndsBy true old new (Err (Io kind)) = Broke old new kind
+EndsBy true old new (Err (Io kind)) = WriteBroke old new kind
 EndsBy false old new (Ok _) = TakesAnswer (entered old) new × ByAnswer old new None
 EndsBy false old new (Err (Io kind)) = TakesAnswer (entered old) new × ByAnswer old new (Some kind)
 EndsBy false old new (Err Memory) = new ≡ old
@@ -140,7 +140,7 @@ Unsent old new = (new ≡ with_written old new.held.written) × (old.held.persis
 
 -- a request whose write failed: over a connection nothing is said of what went out, and else its answer is one that fails
 abbrev pub FailsBy : Bool → Reading → Reading → List ℕ → ErrorKind → Type 0
-FailsBy true old new bytes kind = Broke old new kind
+FailsBy true old new bytes kind = WriteBroke old new kind
 FailsBy false old new bytes kind = TakesAnswer (entered (with_written old (Some bytes))) new × ByAnswer old new (Some kind)
 
 -- a call that sends a request of these bytes, whose lines fit or don't; a line too long is found before anything is written

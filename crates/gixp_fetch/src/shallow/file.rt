@@ -1,7 +1,7 @@
 //! A shallow boundary in a file.
 ghost use Rattle.std.specs.Prelude.{◌≡◌, ◌++◌, codes, true, false, IfOk, IfErr, OnOk, string_bytes};
 ghost use Rattle.gixp_fetch.specs.Store.{HasFailed, to_lock, to_read};
-ghost use Rattle.gixp_fetch.specs.ShallowFile.{IsKept, Turns, RefusesInFile, RefusesAlone, is_left};
+ghost use Rattle.gixp_fetch.specs.ShallowFile.{IsKept, HoldsLock, RefusesInFile, RefusesAlone, is_left};
 
 use crate::shallow::{ShallowError, ShallowStore, shallow_ids, shallow_text};
 use gixp_hash::ObjectId;
@@ -87,7 +87,7 @@ impl<'a, F: Files> ShallowFile<'a, F> {
     // Gets the lock.
     #[tactic(auto, using(crate::proofs::FileLemmas::lock_refused))]
     fn take_lock(&mut self) -> Result<(), ShallowError>
-        ensures locked { OnOk result (Turns true self.old self.new) }
+        ensures locked { OnOk result (HoldsLock true self.old self.new) }
         ensures refused { IfErr result (λ e. RefusesInFile to_lock self.old e self.new) }
     {
         match self.make_lock() {
@@ -107,7 +107,7 @@ impl<'a, F: Files> ShallowFile<'a, F> {
 
     // Gives the lock back, if it is had.
     fn drop_lock(&mut self)
-        ensures { Turns false self.old self.new }
+        ensures { HoldsLock false self.old self.new }
     {
         if self.held {
             let _ = fs::remove_file(self.files, self.lock_path.as_str());
@@ -168,7 +168,7 @@ impl<'a, F: Files> ShallowFile<'a, F> {
     // Writes the boundary where the lock is had.
     fn write_locked(&mut self, boundary: &[ObjectId]) -> Result<(), ShallowError>
         requires { self.old.held ≡ true }
-        ensures written { OnOk result (Turns (is_left boundary.now) self.old self.new) }
+        ensures written { OnOk result (HoldsLock (is_left boundary.now) self.old self.new) }
         ensures refused { IfErr result (λ e. RefusesInFile to_read self.old e self.new) }
     {
         match boundary {
@@ -184,7 +184,7 @@ impl<'a, F: Files> ShallowFile<'a, F> {
     #[tactic(auto, using(crate::proofs::FileLemmas::alone_refused, crate::proofs::FileLemmas::alone_written))]
     fn write_alone(&mut self, boundary: &[ObjectId]) -> Result<(), ShallowError>
         requires { self.old.held ≡ true }
-        ensures written { OnOk result (Turns false self.old self.new) }
+        ensures written { OnOk result (HoldsLock false self.old self.new) }
         ensures refused { IfErr result (λ e. RefusesAlone self.old e self.new) }
     {
         let result = self.write_locked(boundary);
@@ -197,7 +197,7 @@ impl<'a, F: Files> ShallowFile<'a, F> {
 
     // Writes the text of the boundary into the lock file, which then takes the place of the file.
     fn write_text(&mut self, boundary: &[ObjectId]) -> Result<(), ShallowError>
-        ensures written { OnOk result (Turns false self.old self.new) }
+        ensures written { OnOk result (HoldsLock false self.old self.new) }
         ensures refused { IfErr result (λ e. RefusesInFile to_read self.old e self.new) }
     {
         let text = match shallow_text(self.alloc, boundary) {
@@ -218,19 +218,19 @@ impl<'a, F: Files> ShallowStore for ShallowFile<'a, F> {
     ghost use Rattle.std.specs.Prelude.{◌≡◌, true, false};
     ghost use Rattle.std.specs.List.Sorted.{IsStrictlySortedBy};
     ghost use Rattle.gixp_hash.specs.ObjectId.{id_cmp};
-    ghost use Rattle.gixp_fetch.specs.ShallowFile.{IsKept, Turns, RefusesInFile, is_left_of};
+    ghost use Rattle.gixp_fetch.specs.ShallowFile.{IsKept, HoldsLock, RefusesInFile, is_left_of};
 
     ghost failures = { λ call s e t. RefusesInFile call s e t };
 
     ghost count = { λ s. s.failures };
 
-    ghost locks = { λ s t. Turns true s t };
+    ghost locks = { λ s t. HoldsLock true s t };
 
-    ghost reads = { λ s ids t. IsStrictlySortedBy id_cmp ids × Turns s.held s t };
+    ghost reads = { λ s ids t. IsStrictlySortedBy id_cmp ids × HoldsLock s.held s t };
 
-    ghost writes = { λ s ids t. Turns (is_left_of s.held ids) s t };
+    ghost writes = { λ s ids t. HoldsLock (is_left_of s.held ids) s t };
 
-    ghost releases = { λ s t. Turns false s t };
+    ghost releases = { λ s t. HoldsLock false s t };
 
     fn lock(&mut self) -> Result<(), ShallowError> {
         self.take_lock()

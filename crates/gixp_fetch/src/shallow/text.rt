@@ -1,7 +1,7 @@
 //! The text of a shallow boundary.
 ghost use Rattle.std.specs.Prelude.{◌≡◌, ◌<◌, ◌==◌, [], ◌∷◌, IfOk, IfErr, length, MatchResult};
 ghost use Rattle.std.specs.List.{position, AllZip};
-ghost use Rattle.gixp_fetch.specs.ShallowText.{lines, text_of, IsTextOf, IsIdOf, Reads, Unread, IsNoId};
+ghost use Rattle.gixp_fetch.specs.ShallowText.{lines, text_of, IsTextOf, IsIdOf, ReadsIds, IdTextFails, IsNoId};
 
 use crate::boundary::sorted_ids;
 use crate::shallow::ShallowError;
@@ -44,8 +44,8 @@ fn id_lines(alloc: Global, ids: &[ObjectId]) -> Result<Vec<u8>, AllocError>
 /// `Decode` with the first line that is no id, without its LF, as one with a CR and an empty one; or
 /// `Memory`.
 pub fn shallow_ids(alloc: Global, text: &[u8]) -> Result<Vec<ObjectId>, ShallowError>
-    ensures ids { IfOk result (λ ids. Reads text.now ids.items) }
-    ensures refused { IfErr result (Unread text.now) }
+    ensures ids { IfOk result (λ ids. ReadsIds text.now ids.items) }
+    ensures refused { IfErr result (IdTextFails text.now) }
 {
     let ids = line_ids(alloc, text)?;
     match sorted_ids(alloc, &ids) {
@@ -57,7 +57,7 @@ pub fn shallow_ids(alloc: Global, text: &[u8]) -> Result<Vec<ObjectId>, ShallowE
 // The ids of the lines, as they come.
 fn line_ids(alloc: Global, text: &[u8]) -> Result<Vec<ObjectId>, ShallowError>
     ensures ids { IfOk result (λ ids. AllZip IsIdOf (lines text.now) ids.items) }
-    ensures refused { IfErr result (Unread text.now) }
+    ensures refused { IfErr result (IdTextFails text.now) }
 {
     let mut ids = Vec::new(alloc);
     let mut rest = text;

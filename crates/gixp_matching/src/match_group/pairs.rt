@@ -6,7 +6,7 @@ ghost use Rattle.gixp_refspec.specs.RefSpec.{value_of};
 ghost use Rattle.gixp_matching.specs.Mappings.{id_mapping, pair, pairs_of, id_mappings, pairs};
 ghost use Rattle.gixp_matching.specs.MatchGroup.{mapped_of, mapped_in, values, names};
 ghost use Rattle.gixp_refspec.specs.Needle.{IsNeedle};
-ghost use Rattle.gixp_matching.specs.Rows.{shown, ref_at, IsPrepared, IsTable};
+ghost use Rattle.gixp_matching.specs.Rows.{shown, ref_at, IsPrepared, IsRowTable};
 
 use crate::match_group::local::local_of;
 use crate::match_group::negatives::{Prepared, is_excluded};
@@ -210,7 +210,7 @@ fn push_looked_up(
     out: &mut Vec<Mapping>,
 ) -> Result<(), AllocError>
     requires prepared { IsPrepared prepared.now }
-    requires table { IsTable (names items.now) table.now }
+    requires table { IsRowTable (names items.now) table.now }
     ensures { OnOk result (mapped_in out.new ≡ mapped_in out.old ++ pairs_of (values prepared.now.specs.now) (names items.now) (index, value_of spec.now)) }
 {
     if is_negative(spec.sign) {

@@ -6,7 +6,7 @@ ghost use Rattle.std.specs.Ordering.{nat_cmp};
 ghost use Rattle.std.specs.List.Sorted.{IsPermutation};
 ghost use Rattle.gixp_refspec.specs.Matching.{candidates, joined, rule_of};
 ghost use Rattle.gixp_matching.specs.MatchGroup.{name_of, names};
-ghost use Rattle.gixp_matching.specs.Rows.{shown, is_row_of, AreByName, IsTable, AddsPlaces, HasPlaces, ArePlaces};
+ghost use Rattle.gixp_matching.specs.Rows.{shown, is_row_of, AreByName, IsRowTable, AddsPlaces, HasPlaces, ArePlaces};
 ghost use Rattle.gixp_matching.specs.Validation.{is_below};
 
 use crate::match_group::Item;
@@ -54,7 +54,7 @@ pub(crate) fn sort_by_name(rows: &mut Vec<Row<'_>>) -> Result<(), AllocError>
 
 /// The refs in byte order of their names. Servers send them so, and then the sort looks at each once.
 pub(crate) fn table_of<'a>(alloc: Global, items: &[Item<'a>]) -> Result<Vec<Row<'a>>, AllocError>
-    ensures { IfOk result (λ rows. IsTable (names items.now) rows.items) }
+    ensures { IfOk result (λ rows. IsRowTable (names items.now) rows.items) }
 {
     let mut rows = rows_of(alloc, items)?;
     sort_by_name(&mut rows)?;

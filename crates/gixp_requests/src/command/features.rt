@@ -2,7 +2,7 @@
 ghost use Rattle.std.specs.Prelude.{◌≡◌, [], ◌∷◌, ◌++◌, map, filter, OnOk, IfOk};
 ghost use Rattle.std.specs.Option.{option_copied};
 ghost use Rattle.gixp_requests.specs.Feature.{feature_values};
-ghost use Rattle.gixp_requests.specs.Command.{Entry, entry_of, entries_of, words_of};
+ghost use Rattle.gixp_requests.specs.Command.{WordEntry, entry_of, entries_of, words_of};
 ghost use Rattle.gixp_requests.specs.Offers.{has_other, is_offered, supports, plain_feature};
 
 use crate::command::{Command, CommandTable, Feature};
@@ -127,7 +127,7 @@ fn push_offered(
     capabilities: &Capabilities,
 ) -> Result<(), AllocError>
     ensures { OnOk result (feature_values features.new.items ≡ feature_values features.old.items
-        ++ map plain_feature (map (λ (e : Entry). e.word) (filter (is_offered capabilities.now) (entry_of entry.now ∷ [])))) }
+        ++ map plain_feature (map (λ (e : WordEntry). e.word) (filter (is_offered capabilities.now) (entry_of entry.now ∷ [])))) }
 {
     if is_offered(capabilities, entry) {
         push_feature(features, entry.0)?;
@@ -141,7 +141,7 @@ fn offered(
     entries: &[(&'static str, Option<&'static str>)],
     capabilities: &Capabilities,
 ) -> Result<Vec<Feature>, AllocError>
-    ensures { IfOk result (λ features. feature_values features.items ≡ map plain_feature (map (λ (e : Entry). e.word) (filter (is_offered capabilities.now) (entries_of entries.now)))) }
+    ensures { IfOk result (λ features. feature_values features.items ≡ map plain_feature (map (λ (e : WordEntry). e.word) (filter (is_offered capabilities.now) (entries_of entries.now)))) }
 {
     let mut features = Vec::new(alloc);
     for entry in entries {

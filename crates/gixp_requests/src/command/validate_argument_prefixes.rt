@@ -47,7 +47,7 @@ impl From<AllocError> for Error {
 
 impl CommandTable {
     ghost use Rattle.gixp_requests.specs.Command.{table_of};
-    ghost use Rattle.gixp_requests.specs.Offers.{prefixes_of, validation, Validates};
+    ghost use Rattle.gixp_requests.specs.Offers.{prefixes_of, validation, AnswersRefusal};
 
     // What the arguments of the command may begin with.
     fn prefixes(&self, command: Command) -> &'static [&'static str]
@@ -77,7 +77,7 @@ impl CommandTable {
         arguments: &[BString],
         features: &[Feature],
     ) -> Result<(), Error>
-        ensures { Validates (validation (table_of self.now) command version capabilities.now (map bstring_bytes arguments.now) (feature_values features.now)) result }
+        ensures { AnswersRefusal (validation (table_of self.now) command version capabilities.now (map bstring_bytes arguments.now) (feature_values features.now)) result }
     {
         if let Some(argument) = unsupported_argument(self.prefixes(command), arguments) {
             return Err(refuse_argument(alloc, command, argument));

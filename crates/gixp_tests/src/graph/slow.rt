@@ -5,7 +5,7 @@ ghost use Rattle.gixp_hash.specs.declared.object_id.ObjectId.{ObjectId};
 ghost use Rattle.gixp_graph.specs.Object.{commit_at};
 ghost use Rattle.gixp_tests.specs.Listed.{objects_of};
 ghost use Rattle.gixp_graph.specs.Complete.{IsComplete};
-ghost use Rattle.gixp_tests.specs.Slow.{AreKnown, ParentsAreKnown, IsMissing, IsClosed};
+ghost use Rattle.gixp_tests.specs.Slow.{AreKnown, ParentsAreKnown, IsMissingCommit, IsClosed};
 
 use gixp_graph::CommitData;
 use gixp_hash::ObjectId;
@@ -51,7 +51,7 @@ fn unknown_parent_of(
     cutoff: i64,
     id: &ObjectId,
 ) -> Option<ObjectId>
-    ensures some { IfSome result (λ p. Contains known.now id.now → (tips : List ObjectId) → IsMissing (commit_at (objects_of commits.now.entries)) tips (Some cutoff) known.now p) }
+    ensures some { IfSome result (λ p. Contains known.now id.now → (tips : List ObjectId) → IsMissingCommit (commit_at (objects_of commits.now.entries)) tips (Some cutoff) known.now p) }
     ensures none { IfNone result (ParentsAreKnown (commit_at (objects_of commits.now.entries)) cutoff known.now id.now) }
 {
     match commits.get(id) {
@@ -72,7 +72,7 @@ fn unknown_parent(
     known: &[ObjectId],
     cutoff: i64,
 ) -> Option<ObjectId>
-    ensures some { IfSome result (λ p. (tips : List ObjectId) → IsMissing (commit_at (objects_of commits.now.entries)) tips (Some cutoff) known.now p) }
+    ensures some { IfSome result (λ p. (tips : List ObjectId) → IsMissingCommit (commit_at (objects_of commits.now.entries)) tips (Some cutoff) known.now p) }
     ensures none { IfNone result (All (ParentsAreKnown (commit_at (objects_of commits.now.entries)) cutoff known.now) known.now) }
 {
     for id in known {
@@ -90,7 +90,7 @@ fn missing(
     tips: &[ObjectId],
     cutoff: Option<i64>,
 ) -> Option<ObjectId>
-    ensures some { IfSome result (IsMissing (commit_at (objects_of commits.now.entries)) tips.now cutoff known.now) }
+    ensures some { IfSome result (IsMissingCommit (commit_at (objects_of commits.now.entries)) tips.now cutoff known.now) }
     ensures none { IfNone result (IsClosed (commit_at (objects_of commits.now.entries)) tips.now cutoff known.now) }
 {
     match unknown(commits, known, tips) {

@@ -6,7 +6,7 @@ ghost use Rattle.gixp_hash.specs.declared.object_id.ObjectId.{ObjectId};
 ghost use Rattle.gixp_refs.specs.Ref.{ref_value};
 ghost use Rattle.gixp_refs.specs.RefLine.{malformed_v2, unknown_attribute, id_value, with_attribute, attributes_of, first_piece, value_of, v2_line};
 ghost use Rattle.gixp_capabilities.specs.Capabilities.{is_text};
-ghost use Rattle.gixp_refs.specs.ParseError.{Answers, IsRefusal, attribute_values, object_of};
+ghost use Rattle.gixp_refs.specs.ParseError.{AnswersRefs, IsParseRefusal, attribute_values, object_of};
 
 use crate::handshake::Ref;
 use crate::handshake::refs::parse::{Error, Invariant};
@@ -32,13 +32,13 @@ pub(super) fn is_null(target: &[u8]) -> bool
 
 #[inline(always)]
 pub(super) fn read_id(text: &[u8]) -> Result<ObjectId, Error>
-    ensures { Answers (λ (id : ObjectId). id.bytes) (id_value text.now) result }
+    ensures { AnswersRefs (λ (id : ObjectId). id.bytes) (id_value text.now) result }
 {
     Ok(ObjectId::from_hex(text)?)
 }
 
 fn malformed(alloc: Global, line: &[u8]) -> Error
-    ensures { IsRefusal result (malformed_v2 line.now) }
+    ensures { IsParseRefusal result (malformed_v2 line.now) }
 {
     match BString::from_slice(alloc, line) {
         Ok(line) => Error::MalformedV2RefLine(line),
@@ -47,7 +47,7 @@ fn malformed(alloc: Global, line: &[u8]) -> Error
 }
 
 fn unknown_attribute(alloc: Global, attribute: &[u8], line: &[u8]) -> Error
-    ensures { IsRefusal result (unknown_attribute attribute.now line.now) }
+    ensures { IsParseRefusal result (unknown_attribute attribute.now line.now) }
 {
     match (
         BString::from_slice(alloc, attribute),
@@ -65,7 +65,7 @@ fn read_attribute<'a>(
     piece: &'a [u8],
     had: Attributes<'a>,
 ) -> Result<Attributes<'a>, Error>
-    ensures { Answers attribute_values (with_attribute line.now piece.now (attribute_values had.entry)) result }
+    ensures { AnswersRefs attribute_values (with_attribute line.now piece.now (attribute_values had.entry)) result }
 {
     let (name, value) = cut(piece, b':');
     let value = match value {
@@ -97,7 +97,7 @@ fn read_attributes<'a>(
     line: &[u8],
     rest: Option<&'a [u8]>,
 ) -> Result<Attributes<'a>, Error>
-    ensures { Answers attribute_values (attributes_of line.now (option_copied rest.entry)) result }
+    ensures { AnswersRefs attribute_values (attributes_of line.now (option_copied rest.entry)) result }
 {
     let none = Attributes {
         symref_target: None,
@@ -118,7 +118,7 @@ fn read_attributes<'a>(
 // An id, or none for `unborn`.
 #[inline(always)]
 fn read_first(text: &[u8]) -> Result<Option<ObjectId>, Error>
-    ensures { Answers object_of (first_piece text.now) result }
+    ensures { AnswersRefs object_of (first_piece text.now) result }
 {
     if text == b"unborn".as_slice() {
         return Ok(None);
@@ -134,7 +134,7 @@ fn make_born(
     full_ref_name: BString,
     had: Attributes<'_>,
 ) -> Result<Ref, Error>
-    ensures { Answers ref_value (value_of (Some object.bytes) (bstring_bytes full_ref_name) (attribute_values had.entry)) result }
+    ensures { AnswersRefs ref_value (value_of (Some object.bytes) (bstring_bytes full_ref_name) (attribute_values had.entry)) result }
 {
     let target = match had.symref_target {
         Some(target) if is_null(target) => None,
@@ -168,7 +168,7 @@ fn make_born(
 
 // The ref of a name without an id, which needs a target and no more.
 fn make_unborn(alloc: Global, full_ref_name: BString, had: Attributes<'_>) -> Result<Ref, Error>
-    ensures { Answers ref_value (value_of None (bstring_bytes full_ref_name) (attribute_values had.entry)) result }
+    ensures { AnswersRefs ref_value (value_of None (bstring_bytes full_ref_name) (attribute_values had.entry)) result }
 {
     let message = match (had.symref_target, had.peeled) {
         (Some(target), _) if is_null(target) => Invariant::UnbornNullTarget,
@@ -188,7 +188,7 @@ fn make_unborn(alloc: Global, full_ref_name: BString, had: Attributes<'_>) -> Re
 // The ref of a line, or its first refusal.
 #[inline(always)]
 pub(crate) fn parse_v2(alloc: Global, line: &[u8]) -> Result<Ref, Error>
-    ensures { Answers ref_value (v2_line line.now) result }
+    ensures { AnswersRefs ref_value (v2_line line.now) result }
 {
     let line = trim_end(line);
     let (first, rest) = cut(line, b' ');

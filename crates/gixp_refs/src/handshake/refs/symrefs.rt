@@ -5,7 +5,7 @@ ghost use Rattle.std.specs.Option.{option_map};
 ghost use Rattle.bstr.specs.Owned.{bstring_bytes};
 ghost use Rattle.gixp_capabilities.specs.Capability.{capability_value};
 ghost use Rattle.gixp_refs.specs.RefLine.{malformed_symref};
-ghost use Rattle.gixp_refs.specs.ParseError.{Answers, IsRefusal};
+ghost use Rattle.gixp_refs.specs.ParseError.{AnswersRefs, IsParseRefusal};
 ghost use Rattle.gixp_capabilities.specs.Cut.{cut};
 ghost use Rattle.gixp_refs.specs.RefAdvertisement.{symref_in, symref_by, made_symref, symref_named, told_target, TellAlike, symref_table};
 ghost use Rattle.gixp_refs.specs.V1Refs.{symref_value, symref_values, name_cmp};
@@ -22,7 +22,7 @@ use std::collections::BTreeMap;
 pub(crate) type Symref = (BString, Option<BString>);
 
 fn malformed(alloc: Global, symref: &[u8]) -> Error
-    ensures { IsRefusal result (malformed_symref symref.now) }
+    ensures { IsParseRefusal result (malformed_symref symref.now) }
 {
     match BString::from_slice(alloc, symref) {
         Ok(symref) => Error::MalformedSymref { symref },
@@ -32,7 +32,7 @@ fn malformed(alloc: Global, symref: &[u8]) -> Error
 
 // The symref of a name and a target that are both there.
 fn make_symref(alloc: Global, name: &[u8], target: &[u8]) -> Result<Symref, Error>
-    ensures { Answers symref_value (made_symref name.now target.now) result }
+    ensures { AnswersRefs symref_value (made_symref name.now target.now) result }
 {
     let name = BString::from_slice(alloc, name)?;
     if is_null(target) {
@@ -44,7 +44,7 @@ fn make_symref(alloc: Global, name: &[u8], target: &[u8]) -> Result<Symref, Erro
 
 // The symref of a value of a capability `symref`.
 fn read_value(alloc: Global, value: &[u8]) -> Result<Symref, Error>
-    ensures { Answers symref_value (symref_by value.now (cut 58 value.now)) result }
+    ensures { AnswersRefs symref_value (symref_by value.now (cut 58 value.now)) result }
 {
     let (name, target) = cut(value, b':');
     match target {
@@ -58,7 +58,7 @@ pub(crate) fn read_symref(
     alloc: Global,
     capability: Capability<'_>,
 ) -> Result<Option<Symref>, Error>
-    ensures { Answers (option_map symref_value) (symref_in (capability_value capability.entry)) result }
+    ensures { AnswersRefs (option_map symref_value) (symref_in (capability_value capability.entry)) result }
 {
     if capability.name().as_bytes() != b"symref".as_slice() {
         return Ok(None);
@@ -121,7 +121,7 @@ pub fn from_capabilities(
     alloc: Global,
     capabilities: &Capabilities,
 ) -> Result<Vec<(BString, Option<BString>)>, Error>
-    ensures { Answers (λ found. symref_values found.items) (symref_table capabilities.now) result }
+    ensures { AnswersRefs (λ found. symref_values found.items) (symref_table capabilities.now) result }
 {
     let mut symrefs = Vec::new(alloc);
     for capability in capabilities.iter() {

@@ -4,7 +4,7 @@ ghost use Rattle.std.specs.List.{list_all};
 ghost use Rattle.gixp_refs.specs.declared.handshake.refs.parse.Error.TheVariants.{Memory};
 ghost use Rattle.gixp_refs.specs.Ref.{ref_value};
 ghost use Rattle.gixp_refs.specs.RefLine.{bad_id, malformed_v1, id_value};
-ghost use Rattle.gixp_refs.specs.ParseError.{Answers, IsRefusal};
+ghost use Rattle.gixp_refs.specs.ParseError.{AnswersRefs, IsParseRefusal};
 ghost use Rattle.gixp_refs.specs.RefAdvertisement.{line_by_path, plain_line, peeled_line, v1_line, names, pair, single, closed};
 ghost use Rattle.gixp_refs.specs.V1Refs.{symref_values};
 ghost use Rattle.gixp_refs.specs.V1Line.{line_of, named_value, so_far_value, nothing_so_far, with_pair, with_found, with_closed, with_line, with_text};
@@ -32,7 +32,7 @@ pub(crate) enum Line<'a> {
 }
 
 fn malformed(alloc: Global, line: &[u8]) -> Error
-    ensures { IsRefusal result (malformed_v1 line.now) }
+    ensures { IsParseRefusal result (malformed_v1 line.now) }
 {
     match BString::from_slice(alloc, line) {
         Ok(line) => Error::MalformedV1RefLine(line),
@@ -66,7 +66,7 @@ fn peeled_line<'a>(left: &'a [u8], base: &'a [u8]) -> Line<'a>
 
 // A line whose path ends otherwise.
 fn read_plain<'a>(left: &[u8], path: &'a [u8]) -> Result<Line<'a>, Error>
-    ensures { Answers line_of (plain_line left.now path.now (id_value left.now)) result }
+    ensures { AnswersRefs line_of (plain_line left.now path.now (id_value left.now)) result }
 {
     match id_in(left) {
         Ok(object) => Ok(Line::Named { object, name: path }),
@@ -80,7 +80,7 @@ fn read_plain<'a>(left: &[u8], path: &'a [u8]) -> Result<Line<'a>, Error>
 }
 
 fn read_path<'a>(left: &'a [u8], path: &'a [u8]) -> Result<Line<'a>, Error>
-    ensures { Answers line_of (line_by_path left.now path.now) result }
+    ensures { AnswersRefs line_of (line_by_path left.now path.now) result }
 {
     match path.strip_suffix(b"^{}") {
         Some(base) => Ok(peeled_line(left, base)),
@@ -90,7 +90,7 @@ fn read_path<'a>(left: &'a [u8], path: &'a [u8]) -> Result<Line<'a>, Error>
 
 // What a line is, or its refusal.
 pub(crate) fn read_line(alloc: Global, line: &[u8]) -> Result<Line<'_>, Error>
-    ensures { Answers line_of (v1_line line.now) result }
+    ensures { AnswersRefs line_of (v1_line line.now) result }
 {
     let line = trim_end(line);
     let (left, path) = cut(line, b' ');
@@ -109,7 +109,7 @@ pub(crate) struct RefLine {
 
 // The ref of a ref line alone.
 fn make_single(targets: &Targets, line: RefLine) -> Result<Ref, Error>
-    ensures { Answers ref_value (Ok (single (symref_values targets.now.entries) (named_value line))) result }
+    ensures { AnswersRefs ref_value (Ok (single (symref_values targets.now.entries) (named_value line))) result }
 {
     let target = match target_of(targets, &line.name) {
         Some(target) => target,
@@ -131,7 +131,7 @@ fn make_single(targets: &Targets, line: RefLine) -> Result<Ref, Error>
 
 // The ref of a ref line and the peeled line behind it.
 fn make_pair(targets: &Targets, line: RefLine, left: &[u8], base: &[u8]) -> Result<Ref, Error>
-    ensures { Answers ref_value (pair (symref_values targets.now.entries) (Some (named_value line)) left.now base.now) result }
+    ensures { AnswersRefs ref_value (pair (symref_values targets.now.entries) (Some (named_value line)) left.now base.now) result }
 {
     if is_symref(targets, &line.name) {
         return Err(Error::InvariantViolation {
@@ -172,7 +172,7 @@ impl Advertised {
 
     // Takes in one more line. What it is after a refusal is left open.
     pub(crate) fn add(&mut self, alloc: Global, targets: &Targets, line: &[u8]) -> Result<(), Error>
-        ensures { Answers (λ _. so_far_value self.new) (with_text (symref_values targets.now.entries) (so_far_value self.old) line.now) result }
+        ensures { AnswersRefs (λ _. so_far_value self.new) (with_text (symref_values targets.now.entries) (so_far_value self.old) line.now) result }
     {
         self.add_line(alloc, targets, read_line(alloc, line)?)
     }
@@ -196,7 +196,7 @@ impl Advertised {
     }
 
     fn add_line(&mut self, alloc: Global, targets: &Targets, line: Line<'_>) -> Result<(), Error>
-        ensures { Answers (λ _. so_far_value self.new) (with_line (symref_values targets.now.entries) (so_far_value self.old) (line_of line.entry)) result }
+        ensures { AnswersRefs (λ _. so_far_value self.new) (with_line (symref_values targets.now.entries) (so_far_value self.old) (line_of line.entry)) result }
     {
         match line {
             Line::Nothing => Ok(()),
@@ -217,7 +217,7 @@ impl Advertised {
         object: ObjectId,
         name: &[u8],
     ) -> Result<(), Error>
-        ensures { Answers (λ _. so_far_value self.new) (with_line (symref_values targets.now.entries) (so_far_value self.old) (names object.bytes name.now)) result }
+        ensures { AnswersRefs (λ _. so_far_value self.new) (with_line (symref_values targets.now.entries) (so_far_value self.old) (names object.bytes name.now)) result }
     {
         let name = BString::from_slice(alloc, name)?;
         self.close(targets)?;
@@ -237,7 +237,7 @@ impl Advertised {
 
     // A peeled line.
     fn peel(&mut self, targets: &Targets, left: &[u8], base: &[u8]) -> Result<(), Error>
-        ensures { Answers (λ _. so_far_value self.new) (with_pair (so_far_value self.old) (pair (symref_values targets.now.entries) (so_far_value self.old).open_line left.now base.now)) result }
+        ensures { AnswersRefs (λ _. so_far_value self.new) (with_pair (so_far_value self.old) (pair (symref_values targets.now.entries) (so_far_value self.old).open_line left.now base.now)) result }
     {
         match self.last.take() {
             None => Err(Error::InvariantViolation {

@@ -2,7 +2,7 @@
 ghost use Rattle.std.specs.Prelude.{◌≡◌, Some, None, Option};
 ghost use Rattle.std.specs.Option.{option_copied};
 ghost use Rattle.gixp_response.specs.AnswerLine.{behind, is_word, described, acknowledged, acknowledgement_line, common_id, shallow_update_line, wanted_ref_line, wanted_value};
-ghost use Rattle.gixp_response.specs.ResponseError.{IsRefusal, unknown_line, ReadsLine, ReadsOwned};
+ghost use Rattle.gixp_response.specs.ResponseError.{IsAnswerRefusal, unknown_line, ReadsLine, ReadsOwned};
 
 use crate::fetch::response::error::Error;
 use bstr::{BString, ByteSlice};
@@ -120,7 +120,7 @@ impl WantedRef {
 
 // The error that carries a line.
 fn unknown_line(alloc: Global, line: &str) -> Error
-    ensures { IsRefusal result (unknown_line line.now) }
+    ensures { IsAnswerRefusal result (unknown_line line.now) }
 {
     match String::from_str(alloc, line) {
         Ok(line) => Error::UnknownLineType { line },

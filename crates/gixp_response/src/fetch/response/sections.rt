@@ -2,7 +2,7 @@
 ghost use Rattle.std.specs.Prelude.{◌≡◌, MatchOption, MatchResult, false, true};
 ghost use Rattle.std.specs.Str.{is_utf8};
 ghost use Rattle.gixp_packetline.specs.declared.protocol.Protocol.TheVariants.{V2};
-ghost use Rattle.gixp_response.specs.ResponseError.{Answers, IsRefusal, unknown_header, unknown_line};
+ghost use Rattle.gixp_response.specs.ResponseError.{AnswersResponse, IsAnswerRefusal, unknown_header, unknown_line};
 ghost use Rattle.gixp_response.specs.Sections.{header_of, item_of, or_refused, is_flush, read_header, read_item, v2_answer};
 ghost use Rattle.gixp_response.specs.AnswerReading.{Adds, Answered, AnswerFails};
 ghost use Rattle.gixp_response.specs.declared.fetch.response.sections.Header.{Header};
@@ -60,7 +60,7 @@ pub(crate) fn text_of(line: &[u8]) -> Option<&str>
 
 // The error that carries a header.
 fn unknown_header(alloc: Global, header: &str) -> Error
-    ensures { IsRefusal result (unknown_header header.now) }
+    ensures { IsAnswerRefusal result (unknown_header header.now) }
 {
     match String::from_str(alloc, header) {
         Ok(header) => Error::UnknownSectionHeader { header },
@@ -70,7 +70,7 @@ fn unknown_header(alloc: Global, header: &str) -> Error
 
 // What a line opens where a header is due.
 fn read_header(alloc: Global, line: &[u8]) -> Result<Header, Error>
-    ensures { Answers (λ (h : Header). h) (read_header line.now) result }
+    ensures { AnswersResponse (λ (h : Header). h) (read_header line.now) result }
 {
     let text = match text_of(line) {
         Some(text) => text,

@@ -8,7 +8,7 @@ use Rattle.std.specs.Prelude.{All, ℤ}
 use Rattle.std.proofs.lemmas.Option.{IfSome_then}
 use Rattle.gixp_graph.specs.Object.{Commit, commit_at}
 use Rattle.gixp_tests.specs.Listed.{objects_of}
-use Rattle.gixp_tests.specs.Slow.{ParentsAreKnown, IsMissing}
+use Rattle.gixp_tests.specs.Slow.{ParentsAreKnown, IsMissingCommit}
 use Rattle.gixp_tests.proofs.SlowLemmas.{if_none, missing_tip, same_cutoff}
 use Rattle.gixp_tests.proofs.graph.slow.missing.Goals as goal
 
@@ -19,8 +19,8 @@ pub returns-in-Some-cutoff-clause-some : goal.returns-in-Some-cutoff-clause-some
 returns-in-Some-cutoff-clause-some c =
     let read : ObjectId → Option Commit = commit_at (objects_of c.args.commits.now.entries) in
     let fits : SFits w64 c.in-Some-cutoff.cutoff = search rules in
-    IfSome_then c.unknown_parent.result c.unknown_parent.ensures.some (λ p h. subst (λ o. IsMissing read c.args.tips.now o c.args.known.now p) (sym c.in-Some-cutoff.is)
-    (subst (λ (z : ℤ). IsMissing read c.args.tips.now (Some z) c.args.known.now p) (to_z-of_z w64 c.in-Some-cutoff.cutoff fits) (h c.args.tips.now)))
+    IfSome_then c.unknown_parent.result c.unknown_parent.ensures.some (λ p h. subst (λ o. IsMissingCommit read c.args.tips.now o c.args.known.now p) (sym c.in-Some-cutoff.is)
+    (subst (λ (z : ℤ). IsMissingCommit read c.args.tips.now (Some z) c.args.known.now p) (to_z-of_z w64 c.in-Some-cutoff.cutoff fits) (h c.args.tips.now)))
 
 pub returns-in-Some-cutoff-clause-none : goal.returns-in-Some-cutoff-clause-none
 returns-in-Some-cutoff-clause-none c =

@@ -8,12 +8,12 @@ use Rattle.std.proofs.lemmas.List.{take_all}
 use Rattle.std.proofs.lemmas.List.Elements.{All-more, Contains-get_or}
 use Rattle.gixp_graph.specs.Object.{commit_at}
 use Rattle.gixp_tests.specs.Listed.{objects_of}
-use Rattle.gixp_tests.specs.Slow.{ParentsAreKnown, IsMissing}
+use Rattle.gixp_tests.specs.Slow.{ParentsAreKnown, IsMissingCommit}
 use Rattle.gixp_tests.proofs.graph.slow.unknown_parent.Goals as goal
 
 pub returns-in-Some-clause-some : goal.returns-in-Some-clause-some
 returns-in-Some-clause-some c tips =
-    subst (λ (z : ℤ). IsMissing (commit_at (objects_of c.args.commits.now.entries)) tips (Some z) c.args.known.now c.in-Some.parent) (to_z-of_z w64 c.args.cutoff c.ranges.cutoff)
+    subst (λ (z : ℤ). IsMissingCommit (commit_at (objects_of c.args.commits.now.entries)) tips (Some z) c.args.known.now c.in-Some.parent) (to_z-of_z w64 c.args.cutoff c.ranges.cutoff)
     (c.in-Some.ensures.some (Contains-get_or c.args.known.now c.loop-id.id-index (record { bytes = [] }) c.loop-id-test.true) tips)
 
 pub loop-id-preserved : goal.loop-id-preserved
