@@ -1,6 +1,5 @@
 //! A reader of bytes in memory, which gives them in pieces, and of which one read fails.
-ghost use Rattle.std.specs.Prelude.{◌≡◌, ◌≤◌, ◌<◌, ◌^◌, ◌-◌, [], length};
-ghost use Rattle.gixp_doubles.specs.Devices.{bytes_to_come};
+ghost use Rattle.std.specs.Prelude.{◌≡◌, ◌<◌, ◌^◌, ◌-◌};
 
 use std::io;
 use std::io::{ErrorKind, Read};
@@ -19,10 +18,6 @@ pub enum Pieces {
 pub struct Device<'a> {
     /// The bytes to come.
     pub bytes: &'a [u8],
-    /// Bytes that come after these.
-    pub chunk: &'a [u8],
-    /// How often those come.
-    pub times: u64,
     /// How many bytes a read gives.
     pub pieces: Pieces,
     /// How many reads come before the one that fails.
@@ -43,14 +38,12 @@ pub fn next_random(number: u64) -> u64 {
 impl<'a> Device<'a> {
     /// These bytes, of which a read gives at most so many. No read fails.
     pub fn new(bytes: &'a [u8], most: usize) -> Device<'a>
-        ensures bytes { bytes_to_come result ≡ bytes.now }
+        ensures bytes { result.bytes.now ≡ bytes.now }
         ensures fails { result.fails ≡ 2 ^ 64 - 1 }
         ensures failures { result.failures ≡ 0 }
     {
         Device {
             bytes,
-            chunk: &[],
-            times: 0,
             pieces: Pieces::UpTo(most),
             fails: u64::MAX,
             kind: ErrorKind::Other,
@@ -60,7 +53,7 @@ impl<'a> Device<'a> {
 
     /// The same, but the read after so many others fails.
     pub fn failing(bytes: &'a [u8], most: usize, fails: u64, kind: ErrorKind) -> Device<'a>
-        ensures bytes { bytes_to_come result ≡ bytes.now }
+        ensures bytes { result.bytes.now ≡ bytes.now }
         ensures fails { result.fails ≡ fails }
         ensures kind { result.kind ≡ kind }
         ensures failures { result.failures ≡ 0 }
@@ -75,8 +68,6 @@ impl<'a> Device<'a> {
     fn next_piece(&mut self) -> usize
         ensures some { 0 < result }
         ensures bytes { self.new.bytes ≡ self.old.bytes }
-        ensures chunk { self.new.chunk ≡ self.old.chunk }
-        ensures times { self.new.times ≡ self.old.times }
     {
         match self.pieces {
             Pieces::UpTo(most) => most.max(1),
@@ -85,17 +76,6 @@ impl<'a> Device<'a> {
                 self.pieces = Pieces::Random(number);
                 piece_of(number / 4_294_967_296)
             }
-        }
-    }
-
-    // Begins with the bytes that come again, where no others are left.
-    fn refill(&mut self)
-        ensures bytes { bytes_to_come self.new ≡ bytes_to_come self.old }
-        ensures end { length self.new.bytes.now ≡ 0 → bytes_to_come self.new ≡ [] }
-    {
-        if self.bytes.is_empty() && self.times > 0 {
-            self.times -= 1;
-            self.bytes = self.chunk;
         }
     }
 }
@@ -113,7 +93,7 @@ fn piece_of(random: u64) -> usize
 impl Read for Device<'_> {
     ghost use Rattle.std.specs.Prelude.{Some};
 
-    ghost remaining = { λ d. Some (bytes_to_come d) };
+    ghost remaining = { λ d. Some d.bytes.now };
 
     fn read(&mut self, buf: &mut [u8]) -> io::Result<usize> {
         if self.fails == 0 {
@@ -122,7 +102,6 @@ impl Read for Device<'_> {
             return Err(io::Error::from(self.kind));
         }
         self.fails -= 1;
-        self.refill();
         let amount = self.next_piece().min(self.bytes.len()).min(buf.len());
         let (front, rest) = self.bytes.split_at(amount);
         buf[..amount].copy_from_slice(front);

@@ -3,7 +3,6 @@
 //! `version`, `pack` (whether one is expected), `negotiates` (whether the client wants to), `bands` (whether the answer
 //! comes in them), `over` and `lines`, how many lines are taken behind an answer in bands. What stands in the reader
 //! follows.
-use crate::device::Device;
 use crate::handshakes::{connection, one_body};
 use crate::lines::{report_rest, take_line};
 use crate::packs::Notes;
@@ -128,7 +127,7 @@ fn request_and_report<T: Transport>(
 }
 
 fn report_over_reader(alloc: Global, row: &Row<'_>, report: &mut Report) -> Result<(), AllocError> {
-    let mut device = Device::of_row(row);
+    let mut device = row.device(row.payload);
     let mut reader = LineReader::new(alloc, &mut device)?;
     report_over(alloc, row, &mut reader, report)
 }
@@ -138,8 +137,8 @@ fn report_over_connection(
     row: &Row<'_>,
     report: &mut Report,
 ) -> Result<(), AllocError> {
-    let device = Device::new(row.payload, row.cut, 0);
-    let mut transport = connection(alloc, device, row.cut, 2, None)?;
+    let device = row.whole_device(row.payload);
+    let mut transport = connection(alloc, device, 2, None)?;
     request_and_report(alloc, row, &mut transport, report)
 }
 

@@ -4,7 +4,6 @@
 //! there are `read-1` to `read-9`, a `read` of so many bytes, `fill_buf`, `buffer`, `consume-0`, `consume-1` and
 //! `consume-9`, and `fault`. `version` is that of the reader, `interrupt-at` which question for an interrupt is answered
 //! with true, `memory-at` which text can't be allocated, both from 0 on.
-use crate::device::Device;
 use crate::packs::{Notes, Once, report_fault};
 use crate::report::Report;
 use crate::rows::{Row, Setting, cut_at_byte, meaning_of};
@@ -134,7 +133,7 @@ pub(crate) fn report_calls(
     let [version, interrupt, memory, ..] = row.settings;
     let version = values::version_of(version);
     let (words, stream) = cut_at_byte(row.payload, b'\n');
-    let mut device = Device::new(stream, row.cut, row.fail);
+    let mut device = row.device(stream);
     let mut reader = LineReader::new(alloc, &mut device)?;
     reader.reset(version);
     let mut told = Report::new(alloc);

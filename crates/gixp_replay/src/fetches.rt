@@ -7,7 +7,6 @@
 ghost use Rattle.std.specs.Prelude.{◌≡◌};
 ghost use Rattle.gixp_fetch.specs.Store.{IsStoreRefusal};
 
-use crate::device::Device;
 use crate::handshakes::{bodies, connection};
 use crate::lines::report_rest;
 use crate::packs::Once;
@@ -371,8 +370,8 @@ fn report_once(
 ) -> Result<(), AllocError> {
     let [over, version, ..] = row.settings;
     if over == 1 {
-        let device = Device::new(bytes, row.cut, row.fail);
-        let mut transport = connection(alloc, device, row.cut, version, None)?;
+        let device = row.device(bytes);
+        let mut transport = connection(alloc, device, version, None)?;
         report_over(alloc, &mut script, &mut transport, report)?;
         report.quote(&transport.writer().bytes);
         return Ok(());

@@ -2,7 +2,6 @@
 //!
 //! `over` says whether the bytes are a body in memory or come over a connection, `version` which version the client of a
 //! connection asks for. What stands in the transport follows, and over a connection the bytes that were written.
-use crate::device::{Device, Paper};
 use crate::lines::report_rest;
 use crate::refs::report_list;
 use crate::report::Report;
@@ -10,6 +9,7 @@ use crate::rows::{BODIES_CONNECTION, Row, Setting};
 use crate::values::{capability_list, client_error, parse_error, update, version_of};
 use bstr::BString;
 use gixp_capabilities::Capabilities;
+use gixp_doubles::{Device, Paper, Pieces};
 use gixp_refs::handshake::refs::from_v1_refs_received_as_part_of_handshake_and_capabilities;
 use gixp_wire::{Bodies, Body, Connection, Opening, Service, SetServiceResponse, Transport};
 use std::alloc::{AllocError, Global};
@@ -105,16 +105,23 @@ pub(crate) fn one_body(alloc: Global, answer: &[u8]) -> Result<Bodies, AllocErro
     bodies(alloc, answers)
 }
 
-/// A connection that reads from this device, and whose writer takes bytes that are cut so.
+/// A writer beside a reader of such pieces: it takes at most 1,000 bytes a write where those are few.
+pub(crate) fn paper_of(alloc: Global, pieces: Pieces) -> Paper {
+    match pieces {
+        Pieces::UpTo(most) if most < 1000 => Paper::new(alloc, 1000),
+        _ => Paper::new(alloc, usize::MAX),
+    }
+}
+
+/// A connection that reads from this device, and whose writer takes as few bytes at a time.
 pub(crate) fn connection<'a>(
     alloc: Global,
     device: Device<'a>,
-    cut: u64,
     version: u64,
     opening: Option<Opening>,
 ) -> Result<Connection<Device<'a>, Paper>, AllocError> {
     let url = BString::new(Vec::new(alloc));
-    let paper = Paper::new(alloc, cut);
+    let paper = paper_of(alloc, device.pieces);
     let accepted = Vec::new(alloc);
     Connection::new(
         alloc,
@@ -138,8 +145,8 @@ fn report_over_connection(
     report: &mut Report,
 ) -> Result<(), AllocError> {
     let [_, version, ..] = row.settings;
-    let device = Device::of_row(row);
-    let mut transport = connection(alloc, device, row.cut, version, None)?;
+    let device = row.device(row.payload);
+    let mut transport = connection(alloc, device, version, None)?;
     report_over(alloc, &mut transport, report)?;
     report.quote(&transport.writer().bytes);
     Ok(())

@@ -3,7 +3,6 @@
 //! The first line of the bytes has the calls, words with blanks between them, and behind each how often where it is more
 //! than once (`readline*5`): the name of a function, or `reset-0`, `reset-1` and `reset-2`. The stream stands after it. A
 //! call whose read failed is made again. `version` is that of the reader.
-use crate::device::Device;
 use crate::report::Report;
 use crate::rows::{Row, Setting, cut_at_byte, meaning_of, number};
 use crate::values::{read_error, stop, version_of};
@@ -224,7 +223,7 @@ pub(crate) fn report_calls(
 ) -> Result<(), AllocError> {
     let [version, ..] = row.settings;
     let (words, stream) = cut_at_byte(row.payload, b'\n');
-    let mut device = Device::new(stream, row.cut, row.fail);
+    let mut device = row.device(stream);
     let mut told = 0u64;
     {
         let mut reader = LineReader::new(alloc, &mut device)?;

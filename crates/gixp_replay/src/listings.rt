@@ -6,7 +6,6 @@
 //! `without=agent` is a client that names itself by a feature that the server doesn't have. `letters` is how many letters
 //! stand behind the client's name. The bytes are a line of refspecs, a line of those that go with the fetch alone, a line of bodies as `bodies_of` reads
 //! them, and the bytes of the server.
-use crate::device::Device;
 use crate::lines::report_rest;
 use crate::map_values::{init_error, report_map};
 use crate::maps::context_of;
@@ -248,8 +247,8 @@ pub(crate) fn report_listing(
     };
     let client = Client::of_row(row);
     if over == 1 {
-        let device = Device::new(bytes, row.cut, row.fail);
-        let mut transport = connection(alloc, device, row.cut, version, 0)?;
+        let device = row.device(bytes);
+        let mut transport = connection(alloc, device, version, 0)?;
         report_over(alloc, &mut transport, client, context, report)?;
         report_sent(&transport.writer().bytes, report);
         return Ok(());

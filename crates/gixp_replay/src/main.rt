@@ -10,7 +10,6 @@ mod answers;
 mod bands;
 mod boundaries;
 mod capabilities;
-mod device;
 mod fetches;
 mod handshakes;
 mod histories;

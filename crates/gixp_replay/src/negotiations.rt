@@ -7,13 +7,12 @@
 //! refs can be asked for by name. `offer-fails` is the number of the negotiator's call that fails, from 1 on, 0 for none;
 //! `fail-at` that of the look for a commit. `histories` says what the bytes are. A round that is refused is tried once
 //! more.
-use crate::device::Device;
 use crate::handshakes::{bodies, connection};
 use crate::histories::History;
 use crate::report::Report;
 use crate::rows::{NO_YES, Row, Setting};
 use crate::values::client_error;
-use gixp_doubles::Recorder;
+use gixp_doubles::{Device, Recorder};
 use gixp_graph::{Flags, Graph, Objects};
 use gixp_hash::ObjectId;
 use gixp_memory::{Lent, MemoryObjects, MemoryRefs};
@@ -264,8 +263,8 @@ fn negotiate<N: Negotiate<AlternatesError = Closed>>(
     };
     let [_, _, _, over, ..] = row.settings;
     if over == 2 {
-        let device = Device::new(b"", 0, 0);
-        let mut transport = connection(alloc, device, 0, 1, None)?;
+        let device = Device::new(b"", usize::MAX);
+        let mut transport = connection(alloc, device, 1, None)?;
         run_over(
             alloc,
             row,
@@ -412,7 +411,7 @@ pub(crate) fn report_negotiation(
     row: &Row<'_>,
     report: &mut Report,
 ) -> Result<(), AllocError> {
-    let mut history = History::of_text(alloc, row.payload, row.fail)?;
+    let mut history = History::of_text(alloc, row.payload, row.fail_at)?;
     report.is_unknown |= history.is_unknown;
     let mut objects = mem::replace(&mut history.objects, MemoryObjects::new(alloc));
     let haves = Vec::from_slice(alloc, &history.haves)?;

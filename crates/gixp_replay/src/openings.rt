@@ -3,7 +3,6 @@
 //! `version` is what it asks for, `service` which program, `host` whether it names one, `letters` how many letters stand
 //! behind the path. The bytes are the path, a NUL, the host, a NUL, and parameters,
 //! each with a NUL behind it. The server's answer is a flush packet.
-use crate::device::Device;
 use crate::handshakes::{connection, report_response};
 use crate::report::Report;
 use crate::rows::{NO_YES, Row, Setting, cut_at_byte};
@@ -104,8 +103,8 @@ pub(crate) fn report_opening(
     } else {
         Service::ReceivePack
     };
-    let device = Device::new(b"0000", row.cut, 0);
-    let mut transport = connection(alloc, device, row.cut, version, Some(opening))?;
+    let device = row.whole_device(b"0000");
+    let mut transport = connection(alloc, device, version, Some(opening))?;
     open(alloc, &mut transport, service, &parameters, report)?;
     report.word(" ");
     report.quote(&transport.writer().bytes);

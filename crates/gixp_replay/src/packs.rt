@@ -4,11 +4,11 @@
 //! for large reads alone), `interrupt-at` (which question for an interrupt is answered with true) and `memory-at` (which
 //! text can't be allocated), both from 0 on. The report has how the reading ended, the bytes, the texts, and how many reads were interrupted and
 //! could not be allocated; where no read fails, what stands in the line reader follows.
-use crate::device::{Device, next_random};
 use crate::lines::{is_failure, report_failures, report_rest};
 use crate::report::Report;
 use crate::rows::{Row, Setting};
 use crate::values;
+use gixp_doubles::next_random;
 use gixp_packetline::{ExtendedBufRead, LineReader, read};
 use gixp_sidebands::{BandText, Interrupt, WithSidebands};
 use std::alloc::{AllocError, Global};
@@ -353,12 +353,12 @@ pub(crate) fn report_pack(
         interrupt,
         memory,
     };
-    let mut device = Device::of_row(row);
+    let mut device = row.device(row.payload);
     let told = {
         let mut reader = LineReader::new(alloc, &mut device)?;
         reader.reset(version);
         let told = read_pack(alloc, &mut reader, settings, report)?;
-        if row.fail == 0 {
+        if row.fail_at == 0 {
             report_rest(&mut reader, version, report);
         }
         told

@@ -5,7 +5,8 @@
 //! client asks for.
 use crate::handshakes::report_handshake;
 use crate::report::{Report, Runs};
-use crate::rows::{Row, Setting, cut_at};
+use crate::rows::{Row, Setting};
+use gixp_doubles::Pieces;
 use std::alloc::{AllocError, Global};
 
 pub(crate) const SETTINGS: &[Setting] = &[("each", &["beginning", "size"], 0), ("version", &[], 2)];
@@ -19,12 +20,12 @@ pub(crate) fn report_places(
     let ends = row.settings[0] == 0;
     let mut result = Report::new(alloc);
     let mut runs = Runs::new(alloc, if ends { 0 } else { 1 });
-    for place in 0..row.payload.len() as u64 {
+    for place in 0..row.payload.len() {
         let mut one = *row;
         if ends {
-            one.payload = cut_at(row.payload, place).0;
+            one.payload = &row.payload[..place];
         } else {
-            one.cut = place.saturating_add(1);
+            one.pieces = Pieces::UpTo(place.saturating_add(1));
         }
         result.clear();
         report_handshake(alloc, &one, &mut result)?;

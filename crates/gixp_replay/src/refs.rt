@@ -2,7 +2,6 @@
 //!
 //! `version` is that of the reader; `refs=all` reads all at once, `refs=each` one by one. Where no read fails, what stands
 //! in the reader follows.
-use crate::device::Device;
 use crate::lines::{is_failure, report_failures, report_rest};
 use crate::report::Report;
 use crate::rows::{Row, Setting};
@@ -112,7 +111,7 @@ pub(crate) fn report_refs(
 ) -> Result<(), AllocError> {
     let [version, by, ..] = row.settings;
     let version = version_of(version);
-    let mut device = Device::of_row(row);
+    let mut device = row.device(row.payload);
     let mut told = 0u64;
     {
         let mut reader = LineReader::new(alloc, &mut device)?;
@@ -122,7 +121,7 @@ pub(crate) fn report_refs(
         } else {
             told = report_each(alloc, &mut reader, report);
         }
-        if row.fail == 0 {
+        if row.fail_at == 0 {
             report_rest(&mut reader, version, report);
         }
     }

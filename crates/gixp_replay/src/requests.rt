@@ -5,7 +5,6 @@
 //! `deepen_not`, `filter`, `add_feature` and `want_ref` a text, `deepen_relative`, `use_include_tag`, `send` and
 //! `send-done` nothing. A line `feature NAME` or `feature NAME=VALUE` is a feature of the client. What may be called
 //! stands after each call as a row of bits, an `x` before it where the call may not be made.
-use crate::device::Device;
 use crate::handshakes::{bodies, connection};
 use crate::offers::name_of;
 use crate::report::Report;
@@ -237,8 +236,8 @@ fn report_over_connection(
     report: &mut Report,
 ) -> Result<(), AllocError> {
     let [version, ..] = row.settings;
-    let device = Device::new(b"", row.cut, 0);
-    let mut transport = connection(alloc, device, row.cut, version, None)?;
+    let device = row.whole_device(b"");
+    let mut transport = connection(alloc, device, version, None)?;
     report_calls(alloc, row.payload, asked, &mut transport, report)?;
     report.quote(&transport.writer().bytes);
     Ok(())

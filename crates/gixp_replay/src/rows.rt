@@ -18,7 +18,9 @@ use crate::{
     answers, bands, boundaries, capabilities, fetches, handshakes, lines, listings, maps,
     negotiations, openings, packs, places, plans, progress_lines, refs, requests, sessions, shakes,
 };
+use gixp_doubles::{Device, Pieces};
 use std::alloc::Global;
+use std::io::ErrorKind;
 use thiserror::Error as DeriveError;
 
 /// What a row asks for.
@@ -156,13 +158,13 @@ impl Mode {
     }
 }
 
-/// Bytes that come again.
+// Bytes that come again.
 #[derive(Clone, Copy)]
-pub(crate) struct Repeat {
-    /// How often they come again.
-    pub(crate) times: u64,
-    /// The place of the first of them.
-    pub(crate) start: u64,
+struct Repeat {
+    // How often they come again.
+    times: u64,
+    // The place of the first of them.
+    start: u64,
 }
 
 /// The values of a row's settings, in the order of its mode's.
@@ -174,21 +176,36 @@ pub(crate) struct Row<'a> {
     pub(crate) mode: Mode,
     pub(crate) settings: Settings,
     /// How the bytes come.
-    pub(crate) cut: u64,
-    /// Which read fails.
-    pub(crate) fail: u64,
+    pub(crate) pieces: Pieces,
+    /// The number of the read that fails, from 1 on, or 0 for none.
+    pub(crate) fail_at: u64,
+    /// How it fails.
+    pub(crate) fail_as: ErrorKind,
     pub(crate) payload: &'a [u8],
-    pub(crate) repeat: Repeat,
+    repeat: Repeat,
 }
 
 impl<'a> Row<'a> {
-    /// The row with these bytes, none of which come again.
+    /// The row with these bytes.
     pub(crate) fn with_bytes(self, payload: &'a [u8]) -> Row<'a> {
-        Row {
-            payload,
-            repeat: Repeat { times: 0, start: 0 },
-            ..self
+        Row { payload, ..self }
+    }
+
+    /// A reader that gives these bytes as the row says.
+    pub(crate) fn device<'b>(&self, bytes: &'b [u8]) -> Device<'b> {
+        let mut device = self.whole_device(bytes);
+        if self.fail_at > 0 {
+            device.fails = self.fail_at - 1;
+            device.kind = self.fail_as;
         }
+        device
+    }
+
+    /// The same, of which no read fails.
+    pub(crate) fn whole_device<'b>(&self, bytes: &'b [u8]) -> Device<'b> {
+        let mut device = Device::new(bytes, usize::MAX);
+        device.pieces = self.pieces;
+        device
     }
 }
 
@@ -305,6 +322,26 @@ fn set(
     Ok(false)
 }
 
+// How the bytes of a row come.
+fn pieces_of(most: u64, random: u64) -> Pieces {
+    if random > 0 {
+        return Pieces::Random(random);
+    }
+    match usize::try_from(most) {
+        Ok(most) if most > 0 => Pieces::UpTo(most),
+        _ => Pieces::UpTo(usize::MAX),
+    }
+}
+
+// How a read fails, by the place of its word.
+fn kind_of(word: u64) -> ErrorKind {
+    match word {
+        0 => ErrorKind::Interrupted,
+        1 => ErrorKind::TimedOut,
+        _ => ErrorKind::PermissionDenied,
+    }
+}
+
 // A row of this mode and these words, without its bytes.
 fn row_of(mode: Mode, words: &[u8]) -> Result<Row<'static>, RowError> {
     let mut settings = defaults_of(mode.settings());
@@ -324,8 +361,9 @@ fn row_of(mode: Mode, words: &[u8]) -> Result<Row<'static>, RowError> {
     Ok(Row {
         mode,
         settings,
-        cut: pieces.max(random_pieces),
-        fail: fail_at.saturating_add(fail_as.saturating_mul(1_000_000)),
+        pieces: pieces_of(pieces, random_pieces),
+        fail_at,
+        fail_as: kind_of(fail_as),
         payload: &[],
         repeat: Repeat { times, start },
     })

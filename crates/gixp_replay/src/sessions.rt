@@ -4,7 +4,6 @@
 //! connection for what is after that line. `version` is what the client of a connection asks for, `done-at` the number of
 //! the request that says `done`, `reads` the number from which the reads of a pack follow. What was sent stands at the end.
 use crate::answers::{Reading, read_response};
-use crate::device::Device;
 use crate::handshakes::{bodies, connection, report_early_refs, shake_hands};
 use crate::lines::report_rest;
 use crate::packs::{Notes, Settings, read_pack};
@@ -210,8 +209,8 @@ fn report_over_connection(
     report: &mut Report,
 ) -> Result<(), AllocError> {
     let [_, version, ..] = row.settings;
-    let device = Device::new(bytes, row.cut, 0);
-    let mut transport = connection(alloc, device, row.cut, version, None)?;
+    let device = row.whole_device(bytes);
+    let mut transport = connection(alloc, device, version, None)?;
     report_over(alloc, row, &mut transport, report)?;
     report.word(" ");
     report.quote(&transport.writer().bytes);

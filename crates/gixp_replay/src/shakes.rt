@@ -4,7 +4,7 @@
 //! accepts. The bytes are three lines and those of the server: what the credential helper does at each call (`account`,
 //! `none` or `fails`, with blanks between them), the bodies as `bodies_of` reads them, and parameters with blanks between
 //! them.
-use crate::device::{Device, Paper};
+use crate::handshakes::paper_of;
 use crate::lines::report_rest;
 use crate::openings::parameters_of;
 use crate::refs::report_list;
@@ -13,6 +13,7 @@ use crate::rows::{BODIES_CONNECTION, Row, Setting, cut_at, cut_at_byte, number};
 use crate::telling::Telling;
 use crate::values::{capability_list, client_error, parse_error, update, version_of};
 use bstr::BString;
+use gixp_doubles::{Device, Paper};
 use gixp_handshake::Handshake;
 use gixp_handshake::credentials::{self, Account, Action, NextAction, Outcome};
 use gixp_handshake::handshake::{Error, handshake};
@@ -162,7 +163,6 @@ pub(crate) fn memory(alloc: Global, bodies: Vec<Body>, mask: u64) -> Result<Bodi
 pub(crate) fn connection<'a>(
     alloc: Global,
     device: Device<'a>,
-    cut: u64,
     version: u64,
     mask: u64,
 ) -> Result<Connection<Device<'a>, Paper>, AllocError> {
@@ -170,10 +170,11 @@ pub(crate) fn connection<'a>(
         path: BString::from_slice(alloc, "/p.git")?,
         host: Some(BString::from_slice(alloc, "h")?),
     };
+    let paper = paper_of(alloc, device.pieces);
     Connection::new(
         alloc,
         device,
-        Paper::new(alloc, cut),
+        paper,
         url(alloc)?,
         version_of(version),
         accepted_of(alloc, mask)?,
@@ -288,8 +289,8 @@ pub(crate) fn report_shake(
     let (words, rest) = cut_at_byte(rest, b'\n');
     let (parameters, bytes) = cut_at_byte(rest, b'\n');
     if over == 1 {
-        let device = Device::new(bytes, row.cut, row.fail);
-        let mut transport = connection(alloc, device, row.cut, version, mask)?;
+        let device = row.device(bytes);
+        let mut transport = connection(alloc, device, version, mask)?;
         report_over(alloc, &mut transport, script, parameters, report)?;
         report.quote(&transport.writer().bytes);
         return Ok(());
