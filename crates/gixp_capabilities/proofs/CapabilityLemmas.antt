@@ -80,11 +80,6 @@ behind_shorter b text (inr le) rest e =
     let none : nat_lt (position_or_len (λ x. x == b) text) (length text) ≡ false = false_from_ne_true _ (λ t. let x = ltb-true (position_or_len (λ x. x == b) text) (length text) t in absurd (omega arith)) in
     let wrong = rw none at e in cc
 
--- what is behind a piece is shorter
-pub rest_shorter : (text word : List ℕ) (rest : Option (Bor (List ℕ))) → cut 32 text ≡ (word, option_copied rest) → text_left rest < length text + 1
-rest_shorter text word None e = omega arith
-rest_shorter text word (Some r) e = let h = behind_shorter 32 text (cases_lt (position_or_len (λ x. x == 32) text) (length text)) r.now (ap (λ (c : List ℕ × Option (List ℕ)). c.1) e) in omega arith
-
 -- a name and a value, once they are cut apart
 pub capability_from_cut : (text name : List ℕ) (value : Option (List ℕ)) → cut 61 text ≡ (name, value) → capability_of text ≡ record { name = name; value = value }
 unfolding capability_of

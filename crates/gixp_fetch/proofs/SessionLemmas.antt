@@ -244,7 +244,7 @@ module _ {N I A S C P X : Type 0} (parties : Parties N I A S C P X) where
     within = record old { store = held; locked = first }
 
     asks_so : (ids : List ObjectId) (asked : ArgumentsValue) (locked : Bool) (read : S) → LocksFirst parties.store_calls.locks (is_change call.wishes.shallow) old.store held locked
-        → session.Opened parties.store_calls call.wishes.shallow held given ids read asked → Asks parties call old.store banded ids asked locked read
+        → session.OpensFetch parties.store_calls call.wishes.shallow held given ids read asked → Asks parties call old.store banded ids asked locked read
     asks_so ids asked locked read l o = record {
       raw = prepared.raw;
       values = prepared.values;

@@ -55,16 +55,6 @@ unfinished_then old mid new xs h k =
     let b = subst (λ m. Unwritten m new) h.rest k in
     record { alone = b.alone; rest = k.rest ∙ h.rest ∙ ap (with_written old) (ap (λ (r : Reading). r.held.written) (sym k.rest)) }
 
--- a write that is refused behind others
-pub refused_then : (old mid new : Reading) (xs ys zs : List ℕ) (e : Error) → Wrote old mid xs → Writes mid new ys (Err e) → WritesAll old new zs (Err e)
-refused_then old mid new xs ys zs (Io kind) h k = broke_then old mid new xs kind h k
-refused_then old mid new xs ys zs Memory h k = unfinished_then old mid new xs h k
-refused_then old mid new xs ys zs (Read e) h k = k
-refused_then old mid new xs ys zs LineTooLong h k = k
-refused_then old mid new xs ys zs AuthenticationUnsupported h k = k
-refused_then old mid new xs ys zs (UnsupportedProtocolVersion line) h k = k
-refused_then old mid new xs ys zs MissingDelimitingNullByte h k = k
-
 -- and then memory ran out in several writes
 unfinished_behind : (old mid new : Reading) (xs : List ℕ) → Wrote old mid xs → Unfinished mid new → Unfinished old new
 unfinished_behind old mid new xs h k =

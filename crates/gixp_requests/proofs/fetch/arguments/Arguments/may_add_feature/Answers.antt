@@ -1,5 +1,0 @@
-use Rattle.std.proofs.Common.{rules}
-use Rattle.gixp_requests.proofs.fetch.arguments.Arguments.may_add_feature.Goals as goal
-
-pub returns-else-eq : goal.returns-else-eq
-returns-else-eq c = search rules

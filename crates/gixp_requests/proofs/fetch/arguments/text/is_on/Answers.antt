@@ -1,8 +1,0 @@
-use Rattle.std.proofs.Common.{rules}
-use Rattle.gixp_requests.proofs.fetch.arguments.text.is_on.Goals as goal
-
-pub returns-then-eq : goal.returns-then-eq
-returns-then-eq c = search rules
-
-pub returns-else-eq-2 : goal.returns-else-eq-2
-returns-else-eq-2 c = search rules

@@ -1,5 +1,0 @@
-use Rattle.std.proofs.Common.{rules}
-use Rattle.gixp_wire.proofs.bodies.Bodies.identity.Goals as goal
-
-pub returns : goal.returns
-returns c = search rules
