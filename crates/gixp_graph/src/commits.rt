@@ -92,6 +92,8 @@ pub(crate) struct Commits {
     nodes: Vec<Node>,
     numbers: BTreeMap<ObjectId, usize>,
     parents: Vec<usize>,
+    // The number that was looked up last: its commit is often asked for next.
+    last: usize,
 }
 
 impl Model for Commits {
@@ -117,7 +119,18 @@ impl Commits {
             nodes: Vec::new(alloc),
             numbers: BTreeMap::new(alloc),
             parents: Vec::new(alloc),
+            last: 0,
         }
+    }
+
+    /// Whether a number is that of an id.
+    fn names(&self, number: usize, id: &ObjectId) -> bool
+        ensures { IsTrue result → (number < length self.now.ids) × (id_at self.now.ids number ≡ id.now) }
+    {
+        if number < self.nodes.len() {
+            return self.id(number) == *id;
+        }
+        false
     }
 
     /// The number of an id, if it has one. An id that has none isn't held.
@@ -125,6 +138,9 @@ impl Commits {
         ensures some { IfSome result (λ n. (n < length self.now.ids) × (id_at self.now.ids n ≡ id.now)) }
         ensures none { IfNone result (finite.get self.now.held id.now ≡ None) }
     {
+        if self.names(self.last, id) {
+            return Some(self.last);
+        }
         self.numbers.get(id).copied()
     }
 
@@ -225,8 +241,9 @@ impl Commits {
         ensures failures { O.failures objects.old ≤ O.failures objects.new }
         ensures failed { IfErr result (λ e. (e ≡ Memory) ⊎ HasRisen (O.failures objects.old) (O.failures objects.new)) }
     {
-        if let Some(known) = self.get(id) {
-            return Ok(Some(known));
+        if let Some(number) = self.find(id) {
+            self.last = number;
+            return self.lookup_at(alloc, objects, number);
         }
         let Some(found) = objects.commit(alloc, id)? else {
             return Ok(None);
@@ -234,6 +251,7 @@ impl Commits {
         let Ok(number) = self.number(id) else {
             return Err(ObjectError::Memory);
         };
+        self.last = number;
         let time = found.time;
         match self.hold(number, time, found.parents.as_slice()) {
             Ok(()) => Ok(Some((time, Flags(0)))),

@@ -1,4 +1,5 @@
 pub mod Numbers
 pub mod Line
+pub mod Order
 pub mod Translation
 pub mod Laws

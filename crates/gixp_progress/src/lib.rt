@@ -7,6 +7,7 @@ pub mod fetch;
 pub mod laws;
 mod numbers;
 mod remote_progress;
+mod same;
 mod translate;
 
 pub use discard::Discard;

@@ -40,6 +40,8 @@ impl<'a> Notes<'a> {
 impl BandText for Notes<'_> {
     ghost hears = { λ old is_error text new. Unit {0} };
 
+    ghost spares = { λ old is_error text new. Unit {0} };
+
     fn band_text(&mut self, is_error: bool, text: &[u8]) -> Result<(), AllocError> {
         if self.fails == 0 {
             self.fails = u64::MAX;

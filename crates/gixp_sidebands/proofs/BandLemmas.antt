@@ -119,6 +119,19 @@ content_next (Some p) (Some r) b v w text e k h n =
     let d : p ≡ with_piece (line (drop 1 text)) (unband n.0) = sym same ∙ c ∙ ap (λ x. unband_line x text (unband n.0)) k in
     (unband n.0, ap (option_map unband) n.1 ∙ ap Some same, ap (next_of v) d)
 
+-- and is taken above with it
+taken_next : (o a b : Option Pieces) (v w : Protocol) (shown text : List ℕ) → w ≡ v → band_of text ≡ Content
+    → IfSome o (λ p. (q : Pieces) × (option_map unband a ≡ Some p) × (next_of v p ≡ gives shown q))
+    → IfSome a (λ p. (q : Pieces) × (b ≡ Some q) × (next_of w p ≡ gives text q))
+    → IfSome o (λ p. (q : Pieces) × (option_map unband b ≡ Some q) × (next_of v p ≡ gives (drop 1 text) q))
+taken_next None a b v w shown text e k h n = tt
+taken_next (Some p) None b v w shown text e k h n = absurd (let x = h.1 in cc)
+taken_next (Some p) (Some r) b v w shown text e k h n =
+    let same : unband r ≡ p = let x = h.1 in cc in
+    let c : unband r ≡ unband_line (band_of text) text (unband n.0) = unband_gives w r.list r.end text n.0 n.2 in
+    let d : p ≡ with_piece (line (drop 1 text)) (unband n.0) = sym same ∙ c ∙ ap (λ x. unband_line x text (unband n.0)) k in
+    (unband n.0, ap (option_map unband) n.1, ap (next_of v) d)
+
 unknown_next : (o a b : Option Pieces) (v w : Protocol) (text : List ℕ) (band : ℕ) → w ≡ v → band_of text ≡ Unknown band
     → IfSome o (λ p. option_map unband a ≡ Some p)
     → IfSome a (λ p. (q : Pieces) × (b ≡ Some p) × (next_of w p ≡ gives text q))
@@ -265,6 +278,22 @@ shows_content o now new name s h k =
       left = let a = s.left in let b = h.left in omega arith;
       room = let a = h.room in omega (arith, length-drop 1 new.line);
       held = held_above name now new h.held ∙ s.held;
+    }
+
+pub takes_content : (o now new : Reading) (name : GName) → ShowsLine o (seen name now) → band_of now.line ≡ Content → now.peeked ≡ true → TakesLine now new → TakesLine o (seen name new)
+takes_content o now new name s k p t =
+    let line : new.line ≡ now.line = t.again p in
+    record {
+      running = s.running;
+      sound = s.sound;
+      again = λ q. ap (drop 1) line ∙ s.again q;
+      next = taken_next o.to_come now.to_come new.to_come o.version now.version (drop 1 now.line) new.line s.version (ap band_of line ∙ k) s.next t.next;
+      stopped = t.stopped;
+      version = t.version ∙ s.version;
+      peeked = ap (λ b. b && is_content (band_of new.line)) t.peeked;
+      failures = t.failures ∙ s.failures;
+      left = let a = t.left in let b = s.left in omega (arith, length-drop 1 new.line);
+      held = held_above name now new t.held ∙ s.held;
     }
 
 pub refuses_band : (o now new : Reading) (name : GName) (band : ℕ) → Skipping o name now → ShowsLine now new → band_of new.line ≡ Unknown band → Refuses o (seen name new) (bad_band band)

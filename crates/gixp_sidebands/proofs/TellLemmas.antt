@@ -12,7 +12,7 @@ use Rattle.gixp_packetline.specs.Items.{is_stop}
 use Rattle.gixp_packetline.specs.Lines.{gives, stops, refuses, next_from, next_of}
 use Rattle.gixp_packetline.specs.Reading.{Reading, TakesLine, ShowsLine, AtStop, Refuses, Fails, Stays, IsPlain, Rose, refusal_of, is_end}
 use Rattle.gixp_sidebands.specs.Bands.{band_of, Message, message_in, messages_line, messages_from, messages_of, messages_left, is_held, is_begun}
-use Rattle.gixp_sidebands.specs.Telling.{Listener, TellsThen, Tells, ToldTo, ToldUnless, ToldBy, Told, TellsPacket}
+use Rattle.gixp_sidebands.specs.Telling.{Listener, SparesThen, TellsThen, Tells, ToldTo, ToldUnless, ToldBy, Told, TellsPacket}
 use Rattle.gixp_sidebands.proofs.PieceLemmas.{mark_not_gives}
 use Rattle.gixp_sidebands.proofs.ContentLemmas.{holds_line, content_gives}
 
@@ -52,56 +52,61 @@ known_at : (o : Option Pieces) (q : Pieces) (P : Pieces → Type 0) → o ≡ So
 known_at None q P e h = absurd (let x = e in cc)
 known_at (Some p) q P e h = let same : p ≡ q = cc in subst P same h
 
-module _ {P I : Type 0} (hears : P → Bool → List ℕ → P → Type 0) (says : I → Bool → I → Type 0) where
-  tells-more : (ms : List Message) (m : Message) (a b c : Listener P I) → Tells hears says ms a b → TellsThen hears says m false b c → Tells hears says (ms ++ m ∷ []) a c
-  tells-more [] m a b c h t = (c, subst (λ (x : Listener P I). TellsThen hears says m false x c) h t, refl)
+module _ {P I : Type 0} (hears spares : P → Bool → List ℕ → P → Type 0) (says : I → Bool → I → Type 0) where
+  tells-more : (ms : List Message) (m : Message) (a b c : Listener P I) → Tells hears spares says ms a b → TellsThen hears spares says m false b c → Tells hears spares says (ms ++ m ∷ []) a c
+  tells-more [] m a b c h t = (c, subst (λ (x : Listener P I). TellsThen hears spares says m false x c) h t, refl)
   tells-more (n ∷ ms) m a b c h t = (h.0, h.1, tells-more ms m h.0 b c h.2 t)
 
   -- what was told so far, and is still to come from `now`, is so from `new`
-  step : (o now new : Reading) (a b c : Listener P I) → Told hears says true None o now a b
-      → ((p q : Pieces) → ToldTo hears says o now a b p q → (r : Pieces) × ToldTo hears says o new a c p r)
-      → Told hears says true None o new a c
+  step : (o now new : Reading) (a b c : Listener P I) → Told hears spares says true None o now a b
+      → ((p q : Pieces) → ToldTo hears spares says o now a b p q → (r : Pieces) × ToldTo hears spares says o new a c p r)
+      → Told hears spares says true None o new a c
   step o now new a b c h f = at o.to_come h
     where
-      at : (x : Option Pieces) → IfSome x (ToldBy hears says true None o now a b) → IfSome x (ToldBy hears says true None o new a c)
+      at : (x : Option Pieces) → IfSome x (ToldBy hears spares says true None o now a b) → IfSome x (ToldBy hears spares says true None o new a c)
       at None k = tt
       at (Some p) k = f p k.0 k.1
 
-  pub told-start : (r : Reading) (a : Listener P I) → Told hears says true None r r a a
+  pub told-start : (r : Reading) (a : Listener P I) → Told hears spares says true None r r a a
   told-start r a = at r.to_come refl
     where
-      at : (x : Option Pieces) → r.to_come ≡ x → IfSome x (ToldBy hears says true None r r a a)
+      at : (x : Option Pieces) → r.to_come ≡ x → IfSome x (ToldBy hears spares says true None r r a a)
       at None e = tt
       at (Some p) e = (p, record { to_come = e; told = []; messages = refl; tells = refl })
 
-  -- behind a packet of content
-  told-behind : (r new : Reading) (a : Listener P I) → band_of r.line ≡ Content → r.peeked ≡ true → TakesLine r new → Told hears says true None r new a a
-  told-behind r new a k p t = at r.to_come t.next
-    where
-      at : (x : Option Pieces) → IfSome x (λ p. (q : Pieces) × (new.to_come ≡ Some q) × (next_of r.version p ≡ gives new.line q)) → IfSome x (ToldBy hears says true None r new a a)
-      at None n = tt
-      at (Some y) n =
-          let c = content_gives r.version y.list y.end new.line n.0 n.2 (ap band_of (t.again p) ∙ k) in
-          (n.0, record { to_come = n.1; told = []; messages = at_none r.stopped y t.running ∙ c.1 ∙ sym (at_none new.stopped n.0 t.stopped); tells = refl })
+  -- a packet of content is taken
+  pub told-content : (o now new : Reading) (a b : Listener P I) → Told hears spares says true None o now a b → band_of now.line ≡ Content → now.peeked ≡ true → TakesLine now new
+      → Told hears spares says true None o new a b
+  told-content o now new a b h k p t = step o now new a b b h (λ x q v.
+      let n = known_at now.to_come q (λ y. (r : Pieces) × (new.to_come ≡ Some r) × (next_of now.version y ≡ gives new.line r)) v.to_come t.next in
+      let c = content_gives now.version q.list q.end new.line n.0 n.2 (ap band_of (t.again p) ∙ k) in (
+        n.0,
+        record {
+          to_come = n.1;
+          told = v.told;
+          messages = v.messages ∙ ap (λ x. v.told ++ x) (at_none now.stopped q t.running ∙ c.1 ∙ sym (at_none new.stopped n.0 t.stopped));
+          tells = v.tells;
+        },
+      ))
 
   -- at the start of a call
   pub told-init : (place : Option ℕ) (r new : Reading) (a b : Listener P I) → b ≡ a → is_held place r ≡ true → (is_begun place ≡ true → TakesLine r new) → (is_begun place ≡ false → new ≡ r)
-      → Told hears says true None r new a b
-  told-init place r new a b same held begun fresh = subst (λ (x : Listener P I). Told hears says true None r new a x) (sym same) (at place held begun fresh)
+      → Told hears spares says true None r new a b
+  told-init place r new a b same held begun fresh = subst (λ (x : Listener P I). Told hears spares says true None r new a x) (sym same) (at place held begun fresh)
     where
-      stays : new ≡ r → Told hears says true None r new a a
-      stays e = subst (λ (x : Reading). Told hears says true None r x a a) (sym e) (told-start r a)
+      stays : new ≡ r → Told hears spares says true None r new a a
+      stays e = subst (λ (x : Reading). Told hears spares says true None r x a a) (sym e) (told-start r a)
 
-      at : (place : Option ℕ) → is_held place r ≡ true → (is_begun place ≡ true → TakesLine r new) → (is_begun place ≡ false → new ≡ r) → Told hears says true None r new a a
+      at : (place : Option ℕ) → is_held place r ≡ true → (is_begun place ≡ true → TakesLine r new) → (is_begun place ≡ false → new ≡ r) → Told hears spares says true None r new a a
       at None h t f = stays (f refl)
       at (Some n) h t f = by (is_begun (Some n)) refl
         where
-          by : (b : Bool) → is_begun (Some n) ≡ b → Told hears says true None r new a a
+          by : (b : Bool) → is_begun (Some n) ≡ b → Told hears spares says true None r new a a
           by false e = stays (f e)
-          by true e = let l = holds_line n r h in told-behind r new a l.content l.peeked (t e)
+          by true e = let l = holds_line n r h in told-content r r new a a (told-start r a) l.content l.peeked (t e)
 
   -- a line is peeked at
-  pub told-shown : (o now new : Reading) (a b : Listener P I) → Told hears says true None o now a b → ShowsLine now new → Told hears says true None o new a b
+  pub told-shown : (o now new : Reading) (a b : Listener P I) → Told hears spares says true None o now a b → ShowsLine now new → Told hears spares says true None o new a b
   told-shown o now new a b h s = step o now new a b b h (λ p q k. (
     q,
     record {
@@ -126,15 +131,15 @@ module _ {P I : Type 0} (hears : P → Bool → List ℕ → P → Type 0) (says
       )
 
   -- a line that tells nothing is taken
-  pub told-empty : (o now mid new : Reading) (a b : Listener P I) → Told hears says true None o now a b → ShowsLine now mid → band_of mid.line ≡ Empty → TakesLine mid new
-      → Told hears says true None o new a b
+  pub told-empty : (o now mid new : Reading) (a b : Listener P I) → Told hears spares says true None o now a b → ShowsLine now mid → band_of mid.line ≡ Empty → TakesLine mid new
+      → Told hears spares says true None o new a b
   told-empty o now mid new a b h s k t = step o now new a b b h (λ p q w.
       let n = told-taken o now mid new p q w.to_come s t in
       (n.0, record { to_come = n.1; told = w.told; messages = w.messages ∙ ap (λ x. w.told ++ x) (n.2 ∙ ap (λ k. messages_line k mid.line (messages_left new.stopped n.0)) k); tells = w.tells }))
 
   -- a message is told and its packet taken
-  pub told-text : (o now mid new : Reading) (a b c : Listener P I) (is_error : Bool) → Told hears says true None o now a b → ShowsLine now mid → band_of mid.line ≡ Text is_error → TakesLine mid new
-      → TellsThen hears says (message_in is_error mid.line) false b c → Told hears says true None o new a c
+  pub told-text : (o now mid new : Reading) (a b c : Listener P I) (is_error : Bool) → Told hears spares says true None o now a b → ShowsLine now mid → band_of mid.line ≡ Text is_error → TakesLine mid new
+      → TellsThen hears spares says (message_in is_error mid.line) false b c → Told hears spares says true None o new a c
   told-text o now mid new a b c is_error h s k t w = step o now new a b c h (λ p q v.
       let n = told-taken o now mid new p q v.to_come s t in
       let m = message_in is_error mid.line in
@@ -149,11 +154,11 @@ module _ {P I : Type 0} (hears : P → Bool → List ℕ → P → Type 0) (says
       ))
 
   -- a message is told, its packet taken, and the interrupt says to stop
-  told-until : (plain : Bool) (o now mid new : Reading) (a b c : Listener P I) (is_error : Bool) → Told hears says true None o now a b → ShowsLine now mid → band_of mid.line ≡ Text is_error → TakesLine mid new
-      → TellsThen hears says (message_in is_error mid.line) true b c → Told hears says plain (Some interrupted) o new a c
+  told-until : (plain : Bool) (o now mid new : Reading) (a b c : Listener P I) (is_error : Bool) → Told hears spares says true None o now a b → ShowsLine now mid → band_of mid.line ≡ Text is_error → TakesLine mid new
+      → TellsThen hears spares says (message_in is_error mid.line) true b c → Told hears spares says plain (Some interrupted) o new a c
   told-until plain o now mid new a b c is_error h s k t w = at o.to_come h
     where
-      at : (x : Option Pieces) → IfSome x (ToldBy hears says true None o now a b) → IfSome x (ToldBy hears says plain (Some interrupted) o new a c)
+      at : (x : Option Pieces) → IfSome x (ToldBy hears spares says true None o now a b) → IfSome x (ToldBy hears spares says plain (Some interrupted) o new a c)
       at None h = tt
       at (Some p) h =
           let v = h.1 in
@@ -172,19 +177,32 @@ module _ {P I : Type 0} (hears : P → Bool → List ℕ → P → Type 0) (says
           )
 
   -- memory ran out for a text
-  told-but : (plain : Bool) (o now : Reading) (a b c : Listener P I) → Told hears says true None o now a b → c.interrupt ≡ b.interrupt → Told hears says plain (Some memory) o now a c
-  told-but plain o now a b c h e = at o.to_come h
+  told-but : (plain : Bool) (o now mid : Reading) (a b c : Listener P I) (is_error : Bool) → Told hears spares says true None o now a b → ShowsLine now mid → band_of mid.line ≡ Text is_error
+      → SparesThen hears spares says (message_in is_error mid.line) b c → Told hears spares says plain (Some memory) o mid a c
+  told-but plain o now mid a b c is_error h s k w = at o.to_come h
     where
-      at : (x : Option Pieces) → IfSome x (ToldBy hears says true None o now a b) → IfSome x (ToldBy hears says plain (Some memory) o now a c)
+      at : (x : Option Pieces) → IfSome x (ToldBy hears spares says true None o now a b) → IfSome x (ToldBy hears spares says plain (Some memory) o mid a c)
       at None h = tt
-      at (Some p) h = (h.0, record { before = b; told = h.1; interrupt = e })
+      at (Some p) h =
+          let q = h.0 in
+          let v = h.1 in
+          let n = known_at now.to_come q (λ p. (r : Pieces) × (mid.to_come ≡ Some p) × (next_of now.version p ≡ gives mid.line r)) v.to_come s.next in
+          let m = message_in is_error mid.line in
+          let next = at_none mid.stopped q s.stopped ∙ messages_gives now.version q.list q.end mid.line n.0 n.2 ∙ ap (λ k. messages_line k mid.line (messages_of n.0)) k in (
+            q,
+            record {
+              before = b;
+              told = record { to_come = n.1; told = v.told; messages = v.messages ∙ ap (λ x. v.told ++ messages_left x q) (s.running ∙ sym s.stopped); tells = v.tells };
+              spared = inr (m, messages_of n.0, next, w);
+            },
+          )
 
   -- a packet was told or not
-  pub told-tell : (X : Type 0) (plain : Bool) (o now mid new : Reading) (a b c : Listener P I) (is_error : Bool) (e : Error) → Told hears says true None o now a b → ShowsLine now mid → band_of mid.line ≡ Text is_error
-      → TellsPacket hears says {X = X} (message_in is_error mid.line) mid new b c (Err e) → Told hears says plain (Some (refusal_of e)) o new a c
+  pub told-tell : (X : Type 0) (plain : Bool) (o now mid new : Reading) (a b c : Listener P I) (is_error : Bool) (e : Error) → Told hears spares says true None o now a b → ShowsLine now mid → band_of mid.line ≡ Text is_error
+      → TellsPacket hears spares says {X = X} (message_in is_error mid.line) mid new b c (Err e) → Told hears spares says plain (Some (refusal_of e)) o new a c
   told-tell X plain o now mid new a b c is_error Interrupted h s k t = told-until plain o now mid new a b c is_error h s k t.0 t.1
   told-tell X plain o now mid new a b c is_error Memory h s k t =
-      subst (λ (r : Reading). Told hears says plain (Some memory) o r a c) (sym t.0) (told-but plain o mid a b c (told-shown o now mid a b h s) t.1)
+      subst (λ (r : Reading). Told hears spares says plain (Some memory) o r a c) (sym t.0) (told-but plain o now mid a b c is_error h s k t.1)
   told-tell X plain o now mid new a b c is_error (Io kind) h s k t = absurd t
   told-tell X plain o now mid new a b c is_error (Decode x) h s k t = absurd t
   told-tell X plain o now mid new a b c is_error (Server x) h s k t = absurd t
@@ -193,7 +211,7 @@ module _ {P I : Type 0} (hears : P → Bool → List ℕ → P → Type 0) (says
   told-tell X plain o now mid new a b c is_error (BadBand x) h s k t = absurd t
 
   -- nothing is lost
-  told-stays : (o now new : Reading) (a b : Listener P I) → Told hears says true None o now a b → Stays now new → Told hears says true None o new a b
+  told-stays : (o now new : Reading) (a b : Listener P I) → Told hears spares says true None o now a b → Stays now new → Told hears spares says true None o new a b
   told-stays o now new a b h s = step o now new a b b h (λ p q k. (
     q,
     record {
@@ -205,7 +223,7 @@ module _ {P I : Type 0} (hears : P → Bool → List ℕ → P → Type 0) (says
   ))
 
   -- a stop is told
-  pub told-stop : (o now new : Reading) (a b : Listener P I) → Told hears says true None o now a b → AtStop now new → Told hears says true None o new a b
+  pub told-stop : (o now new : Reading) (a b : Listener P I) → Told hears spares says true None o now a b → AtStop now new → Told hears spares says true None o new a b
   told-stop o now new a b h (inl s) = told-stays o now new a b h s.stays
   told-stop o now new a b h (inr s) = step o now new a b b h (λ p q k.
       let t = s.1 in
@@ -219,7 +237,7 @@ module _ {P I : Type 0} (hears : P → Bool → List ℕ → P → Type 0) (says
         },
       ))
 
-  told-refuses : (o now new : Reading) (a b : Listener P I) (e : Refusal) → Told hears says true None o now a b → Refuses now new e → Told hears says true None o new a b
+  told-refuses : (o now new : Reading) (a b : Listener P I) (e : Refusal) → Told hears spares says true None o now a b → Refuses now new e → Told hears spares says true None o new a b
   told-refuses o now new a b e h r = step o now new a b b h (λ p q k.
       let n = known_at now.to_come q (λ p. (new.to_come ≡ Some (no_pieces e)) × (next_of now.version p ≡ refuses e)) k.to_come r.next in (
         no_pieces e,
@@ -232,32 +250,32 @@ module _ {P I : Type 0} (hears : P → Bool → List ℕ → P → Type 0) (says
       ))
 
   -- whatever the refusal is that left what is to come
-  whole : (plain : Bool) (e : Refusal) (o new : Reading) (a b : Listener P I) → (e ≡ interrupted → plain ≡ false) → Told hears says true None o new a b → Told hears says plain (Some e) o new a b
-  whole plain e o new a b f h = at o.to_come h
+  pub told-kept : (plain : Bool) (e : Refusal) (o new : Reading) (a b : Listener P I) → (e ≡ interrupted → plain ≡ false) → Told hears spares says true None o new a b → Told hears spares says plain (Some e) o new a b
+  told-kept plain e o new a b f h = at o.to_come h
     where
-      unless : (c : Bool) (p : Pieces) → (q : Pieces) × ToldTo hears says o new a b p q → ToldUnless hears says c o new a b p
+      unless : (c : Bool) (p : Pieces) → (q : Pieces) × ToldTo hears spares says o new a b p q → ToldUnless hears spares says c o new a b p
       unless false p k = k
       unless true p k = inl k
 
-      by : (e : Refusal) → (e ≡ interrupted → plain ≡ false) → (p : Pieces) → (q : Pieces) × ToldTo hears says o new a b p q → ToldBy hears says plain (Some e) o new a b p
+      by : (e : Refusal) → (e ≡ interrupted → plain ≡ false) → (p : Pieces) → (q : Pieces) × ToldTo hears spares says o new a b p q → ToldBy hears spares says plain (Some e) o new a b p
       by (io kind) f p k = unless (is_end kind) p k
       by interrupted f p k = (k.0, inr (f refl, k.1))
-      by memory f p k = (k.0, record { before = b; told = k.1; interrupt = refl })
+      by memory f p k = (k.0, record { before = b; told = k.1; spared = inl refl })
       by (decode x) f p k = k
       by (server m) f p k = k
       by unexpected_frame f p k = k
       by not_utf8 f p k = k
       by (bad_band x) f p k = k
 
-      at : (x : Option Pieces) → IfSome x (ToldBy hears says true None o new a b) → IfSome x (ToldBy hears says plain (Some e) o new a b)
+      at : (x : Option Pieces) → IfSome x (ToldBy hears spares says true None o new a b) → IfSome x (ToldBy hears spares says plain (Some e) o new a b)
       at None h = tt
       at (Some p) h = by e f p h
 
   -- the stream broke off
-  broken : (plain : Bool) (kind : ErrorKind) (o now new : Reading) (a b : Listener P I) → is_end kind ≡ true → Rose o.failures new.failures → Told hears says true None o now a b → Told hears says plain (Some (io kind)) o new a b
+  broken : (plain : Bool) (kind : ErrorKind) (o now new : Reading) (a b : Listener P I) → is_end kind ≡ true → Rose o.failures new.failures → Told hears spares says true None o now a b → Told hears spares says plain (Some (io kind)) o new a b
   broken plain kind o now new a b e f h = at o.to_come h
     where
-      at : (x : Option Pieces) → IfSome x (ToldBy hears says true None o now a b) → IfSome x (ToldBy hears says plain (Some (io kind)) o new a b)
+      at : (x : Option Pieces) → IfSome x (ToldBy hears spares says true None o now a b) → IfSome x (ToldBy hears spares says plain (Some (io kind)) o new a b)
       at None h = tt
       at (Some p) h = rw e (inr (record { told = h.1.told; rest = messages_left now.stopped h.0; messages = h.1.messages; tells = h.1.tells }, f))
 
@@ -266,13 +284,13 @@ module _ {P I : Type 0} (hears : P → Bool → List ℕ → P → Type 0) (says
   not_plain true new e f i = absurd (subst (IsPlain new) i (f refl))
 
   -- the reader below was refused
-  pub told-fails : (plain : Bool) (e : Refusal) (o now new : Reading) (a b : Listener P I) → now.failures ≡ o.failures → Told hears says true None o now a b → Fails now new e → (plain ≡ true → IsPlain new e)
-      → Told hears says plain (Some e) o new a b
-  told-fails plain e o now new a b s h (inl r) f = whole plain e o new a b (not_plain plain new e f) (told-refuses o now new a b e h r)
-  told-fails plain e o now new a b s h (inr (inl r)) f = whole plain e o new a b (not_plain plain new e f) (told-stays o now new a b h r.stays)
+  pub told-fails : (plain : Bool) (e : Refusal) (o now new : Reading) (a b : Listener P I) → now.failures ≡ o.failures → Told hears spares says true None o now a b → Fails now new e → (plain ≡ true → IsPlain new e)
+      → Told hears spares says plain (Some e) o new a b
+  told-fails plain e o now new a b s h (inl r) f = told-kept plain e o new a b (not_plain plain new e f) (told-refuses o now new a b e h r)
+  told-fails plain e o now new a b s h (inr (inl r)) f = told-kept plain e o new a b (not_plain plain new e f) (told-stays o now new a b h r.stays)
   told-fails plain e o now new a b s h (inr (inr r)) f = at e r.refusal
     where
-      at : (e : Refusal) → e ≡ io UnexpectedEof → Told hears says plain (Some e) o new a b
+      at : (e : Refusal) → e ≡ io UnexpectedEof → Told hears spares says plain (Some e) o new a b
       at (io kind) i = broken plain kind o now new a b (let k : kind ≡ UnexpectedEof = cc in ap is_end k) (subst (λ n. Rose n new.failures) s r.failures) h
       at (decode x) i = absurd (let j = i in cc)
       at (server x) i = absurd (let j = i in cc)
@@ -283,13 +301,13 @@ module _ {P I : Type 0} (hears : P → Bool → List ℕ → P → Type 0) (says
       at memory i = absurd (let j = i in cc)
 
   -- a band that there isn't
-  pub told-band : (plain : Bool) (band : ℕ) (o now new : Reading) (a b : Listener P I) → Told hears says true None o now a b → ShowsLine now new → Told hears says plain (Some (bad_band band)) o new a b
-  told-band plain band o now new a b h s = whole plain (bad_band band) o new a b (λ e. absurd (let i = e in cc)) (told-shown o now new a b h s)
+  pub told-band : (plain : Bool) (band : ℕ) (o now new : Reading) (a b : Listener P I) → Told hears spares says true None o now a b → ShowsLine now new → Told hears spares says plain (Some (bad_band band)) o new a b
+  told-band plain band o now new a b h s = told-kept plain (bad_band band) o new a b (λ e. absurd (let i = e in cc)) (told-shown o now new a b h s)
 
   -- what is to come is known where it was
-  pub told-known : (o now : Reading) (a b : Listener P I) → Told hears says true None o now a b → IfSome o.to_come (λ p. (q : Pieces) × (now.to_come ≡ Some q))
+  pub told-known : (o now : Reading) (a b : Listener P I) → Told hears spares says true None o now a b → IfSome o.to_come (λ p. (q : Pieces) × (now.to_come ≡ Some q))
   told-known o now a b h = at o.to_come h
     where
-      at : (x : Option Pieces) → IfSome x (ToldBy hears says true None o now a b) → IfSome x (λ p. (q : Pieces) × (now.to_come ≡ Some q))
+      at : (x : Option Pieces) → IfSome x (ToldBy hears spares says true None o now a b) → IfSome x (λ p. (q : Pieces) × (now.to_come ≡ Some q))
       at None h = tt
       at (Some p) h = (h.0, h.1.to_come)

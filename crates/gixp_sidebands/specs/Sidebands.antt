@@ -25,11 +25,11 @@ module _ {T P I : Type 0} {b : _} where
   abbrev pub transport_of : WithSidebands T P I b → T
   transport_of s = s.front.at.now
 
-  module _ (reading : T → Reading) (hears : P → Bool → List ℕ → P → Type 0) (says : I → Bool → I → Type 0) (plain : Bool) where
+  module _ (reading : T → Reading) (hears spares : P → Bool → List ℕ → P → Type 0) (says : I → Bool → I → Type 0) (plain : Bool) where
     -- a call that lends the content at hand: the reader that stands behind it, and what was told on the way
     pub record Lends (old : WithSidebands T P I b) (result : Result (Bor (List ℕ)) io_error) (new : WithSidebands T P I b) : Type 0 where
       pub fills : FillsLent (side reading old) (side reading new) result
-      pub told : Told hears says plain (side reading new).fault (side reading old).reading (side reading new).reading (listener old) (listener new)
+      pub told : Told hears spares says plain (side reading new).fault (side reading old).reading (side reading new).reading (listener old) (listener new)
       pub interrupt : new.interrupt.ghost_name ≡ old.interrupt.ghost_name
 
     -- such a call, while the content is lent
@@ -38,7 +38,7 @@ module _ {T P I : Type 0} {b : _} where
 
     -- what was told by a call that lends a line
     abbrev pub ToldLent : WithSidebands T P I b → Side → Listener P I → Result (Option (Bor (List ℕ))) Error → Type 0
-    ToldLent old new heard result = Told hears says plain (refusal_in result) (side reading old).reading new.reading (listener old) heard
+    ToldLent old new heard result = Told hears spares says plain (refusal_in result) (side reading old).reading new.reading (listener old) heard
 
     -- a call that lends the line that comes next, and what was told on the way
     abbrev pub PeeksAndTells : WithSidebands T P I b → Result (Option (Bor (List ℕ))) Error → Type 0

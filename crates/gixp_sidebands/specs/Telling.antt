@@ -11,11 +11,20 @@ pub record Listener (P I : Type 0) : Type 0 where
   pub progress : P
   pub interrupt : I
 
-module _ {P I : Type 0} (hears : P → Bool → List ℕ → P → Type 0) (says : I → Bool → I → Type 0) where
+module _ {P I : Type 0} (hears spares : P → Bool → List ℕ → P → Type 0) (says : I → Bool → I → Type 0) where
   -- a text is handed on unless it is empty
   abbrev pub TellsText : Bool → List ℕ → P → P → Type 0
   TellsText is_error [] p q = q ≡ p
   TellsText is_error (x ∷ xs) p q = hears p is_error (x ∷ xs) q
+
+  -- there was no memory for a text, which isn't empty
+  abbrev pub SparesText : Bool → List ℕ → P → P → Type 0
+  SparesText is_error [] p q = ⊥
+  SparesText is_error (x ∷ xs) p q = spares p is_error (x ∷ xs) q
+
+  -- there was none for a message, and the interrupt isn't asked
+  abbrev pub SparesThen : Message → Listener P I → Listener P I → Type 0
+  SparesThen m a b = SparesText m.is_error m.text a.progress b.progress × (b.interrupt ≡ a.interrupt)
 
   -- a message is told, and then the interrupt answers this
   abbrev pub TellsThen : Message → Bool → Listener P I → Listener P I → Type 0
@@ -43,11 +52,11 @@ module _ {P I : Type 0} (hears : P → Bool → List ℕ → P → Type 0) (says
     pub tells : Tells told a before
     pub stops : TellsThen last true before c
 
-  -- the messages up to what is left were told, and what the next made of the listener isn't known: it is still to come
+  -- the messages up to what is left were told; if it was the next that there was no memory for, that one is still to come, and no other text was told behind it
   pub record ToldBut (old new : Reading) (a c : Listener P I) (p q : Pieces) : Type 0 where
     pub before : Listener P I
     pub told : ToldTo old new a before p q
-    pub interrupt : c.interrupt ≡ before.interrupt
+    pub spared : (c ≡ before) ⊎ ((m : Message) × (rest : List Message) × (messages_left new.stopped q ≡ m ∷ rest) × SparesThen m before c)
 
   -- some of the messages were told
   pub record ToldSome (old : Reading) (a b : Listener P I) (p : Pieces) : Type 0 where
@@ -77,7 +86,7 @@ module _ {P I : Type 0} (hears : P → Bool → List ℕ → P → Type 0) (says
   abbrev pub TellsPacket : {X : Type 0} → Message → Reading → Reading → Listener P I → Listener P I → Result X Error → Type 0
   TellsPacket m old new a b (Ok x) = TakesLine old new × TellsThen m false a b
   TellsPacket m old new a b (Err Interrupted) = TakesLine old new × TellsThen m true a b
-  TellsPacket m old new a b (Err Memory) = (new ≡ old) × (b.interrupt ≡ a.interrupt)
+  TellsPacket m old new a b (Err Memory) = (new ≡ old) × SparesThen m a b
   TellsPacket m old new a b (Err e) = ⊥
 
 -- the refusal of a result

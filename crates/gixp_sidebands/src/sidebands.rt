@@ -1,12 +1,12 @@
 //! The bands of a stream: content, and the texts of progress and errors.
-ghost use Rattle.std.specs.Prelude.{◌≡◌, ℕ, Bool, List, true, false, Option, None, Some, Ok, OnOk, IfOk, IfSome, [], ◌++◌, drop, take, length, min};
+ghost use Rattle.std.specs.Prelude.{◌≡◌, ℕ, Bool, List, true, false, Option, None, Some, Ok, OnOk, OnErr, IfOk, IfSome, [], ◌++◌, drop, take, length, min, string_bytes};
 ghost use Rattle.std.specs.Option.{option_map};
 ghost use Rattle.std.specs.Io.{ReadsAtMost, StartsWith};
 ghost use Rattle.std.specs.Io.KnownBytes.{ReadConsumes};
 ghost use Rattle.std.specs.Io.BufRead.{DropsConsumable, FillKeeps, Rests};
 ghost use types.Logic.{sem};
 ghost use mir.Syntax.{named};
-ghost use Rattle.gixp_packetline.specs.Reading.{Reading, Reads, Peeks, ReadsLent, PeeksLent, PlainIf, TakesLine, refusal_of};
+ghost use Rattle.gixp_packetline.specs.Reading.{Reading, Reads, Peeks, ReadsLent, PeeksLent, ReadsText, PlainIf, PlainText, TakesLine, refusal_of, reset_to};
 ghost use Rattle.gixp_sidebands.specs.Bands.{FillsContent, ShowsFirst, ReadsContent, ReadsBytes, KeepsMessages, is_begun, place_after, shown, message_in, io_kind};
 ghost use Rattle.gixp_sidebands.specs.Telling.{Told, TellsPacket, refusal_in};
 
@@ -28,6 +28,9 @@ pub trait BandText {
     // What a listener was, and is after it took a text.
     ghost hears: { Self → Bool → List ℕ → Self → Type 0 };
 
+    // What a listener was, and is after it had no memory for a text.
+    ghost spares: { Self → Bool → List ℕ → Self → Type 0 };
+
     /// Takes the text of an error (band 3) or of progress (band 2), without one ending LF and
     /// never empty.
     ///
@@ -35,7 +38,8 @@ pub trait BandText {
     ///
     /// An allocation failed. The same text comes again, so what was kept of it should go.
     fn band_text(&mut self, is_error: bool, text: &[u8]) -> Result<(), AllocError>
-        ensures { OnOk result (hears self.old is_error text.now self.new) };
+        ensures ok { OnOk result (hears self.old is_error text.now self.new) }
+        ensures err { OnErr result (spares self.old is_error text.now self.new) };
 }
 
 /// The content of a banded stream, and its texts on the way (gitprotocol-pack, "Packfile Data").
@@ -138,7 +142,7 @@ impl<'a, T: ExtendedBufRead, P: BandText + Drop, I: Interrupt> WithSidebands<'a,
     /// `Interrupted` as `Other` and all else as `InvalidData`. `fault` has the refusal itself.
     pub fn fill(&mut self) -> io::Result<bool>
         ensures fills { FillsContent (side T.reading self.old) (side T.reading self.new) result }
-        ensures told { Told P.hears I.says T.is_plain (side T.reading self.new).fault (side T.reading self.old).reading (side T.reading self.new).reading
+        ensures told { Told P.hears P.spares I.says T.is_plain (side T.reading self.new).fault (side T.reading self.old).reading (side T.reading self.new).reading
             (listener self.old) (listener self.new) }
         ensures interrupt { self.new.interrupt.ghost_name ≡ self.old.interrupt.ghost_name }
     {
@@ -167,7 +171,7 @@ impl<'a, T: ExtendedBufRead, P: BandText + Drop, I: Interrupt> WithSidebands<'a,
     fn tell(&mut self, is_error: bool) -> Result<(), Error>
         requires peeked { (T.reading self.old.front.at.now).peeked ≡ true }
         requires nowhere { self.old.front.place ≡ None }
-        ensures tells { TellsPacket P.hears I.says (message_in is_error (T.reading self.old.front.at.now).line)
+        ensures tells { TellsPacket P.hears P.spares I.says (message_in is_error (T.reading self.old.front.at.now).line)
             (T.reading self.old.front.at.now) (T.reading self.new.front.at.now) (listener self.old) (listener self.new) result }
         ensures same { self.new.front.at.ghost_name ≡ self.old.front.at.ghost_name }
         ensures interrupt { self.new.interrupt.ghost_name ≡ self.old.interrupt.ghost_name }
@@ -193,7 +197,7 @@ impl<'a, T: ExtendedBufRead, P: BandText + Drop, I: Interrupt> WithSidebands<'a,
     // Tells what stands before the next content, which is then peeked at.
     fn settle(&mut self) -> Result<bool, Error>
         ensures peeks { Peeks (sidebands_reading T.reading self.old) (sidebands_reading T.reading self.new) result }
-        ensures told { Told P.hears I.says T.is_plain (refusal_in result) (T.reading self.old.front.at.now) (T.reading self.new.front.at.now)
+        ensures told { Told P.hears P.spares I.says T.is_plain (refusal_in result) (T.reading self.old.front.at.now) (T.reading self.new.front.at.now)
             (listener self.old) (listener self.new) }
         ensures same { self.new.front.at.ghost_name ≡ self.old.front.at.ghost_name }
         ensures interrupt { self.new.interrupt.ghost_name ≡ self.old.interrupt.ghost_name }
@@ -230,7 +234,7 @@ impl<'a, T: ExtendedBufRead, P: BandText + Drop, I: Interrupt> ExtendedBufRead
     fn next_line(&mut self) -> Result<bool, Error>
         ensures reads { Reads (sidebands_reading T.reading self.old) (sidebands_reading T.reading self.new) result }
         ensures plain { PlainIf false (sidebands_reading T.reading self.new) result }
-        ensures told { Told P.hears I.says T.is_plain (refusal_in result) (side T.reading self.old).reading (side T.reading self.new).reading
+        ensures told { Told P.hears P.spares I.says T.is_plain (refusal_in result) (side T.reading self.old).reading (side T.reading self.new).reading
             (listener self.old) (listener self.new) }
         ensures fault { (side T.reading self.new).fault ≡ (side T.reading self.old).fault }
         ensures interrupt { self.new.interrupt.ghost_name ≡ self.old.interrupt.ghost_name }
@@ -245,7 +249,7 @@ impl<'a, T: ExtendedBufRead, P: BandText + Drop, I: Interrupt> ExtendedBufRead
     fn peek_line(&mut self) -> Result<bool, Error>
         ensures peeks { Peeks (sidebands_reading T.reading self.old) (sidebands_reading T.reading self.new) result }
         ensures plain { PlainIf false (sidebands_reading T.reading self.new) result }
-        ensures told { Told P.hears I.says T.is_plain (refusal_in result) (side T.reading self.old).reading (side T.reading self.new).reading
+        ensures told { Told P.hears P.spares I.says T.is_plain (refusal_in result) (side T.reading self.old).reading (side T.reading self.new).reading
             (listener self.old) (listener self.new) }
         ensures first { ShowsFirst (side T.reading self.old).reading (side T.reading self.new).reading result }
         ensures place { (side T.reading self.new).place ≡ place_after result }
@@ -265,7 +269,7 @@ impl<'a, T: ExtendedBufRead, P: BandText + Drop, I: Interrupt> ExtendedBufRead
 
     fn peek_data_line(&mut self) -> Result<Option<&[u8]>, Error>
         ensures answers { (new : Reading) × PeeksLent (sidebands_reading T.reading self.old) new result × PlainIf false new result }
-        ensures told { PeeksAndTells T.reading P.hears I.says T.is_plain self.old result }
+        ensures told { PeeksAndTells T.reading P.hears P.spares I.says T.is_plain self.old result }
     {
         match self.peek_line() {
             Ok(true) => Ok(Some(self.line())),
@@ -276,7 +280,7 @@ impl<'a, T: ExtendedBufRead, P: BandText + Drop, I: Interrupt> ExtendedBufRead
 
     fn readline(&mut self) -> Result<Option<&[u8]>, Error>
         ensures answers { (new : Reading) × ReadsLent (sidebands_reading T.reading self.old) new result × PlainIf false new result }
-        ensures told { ReadsAndTells T.reading P.hears I.says T.is_plain self.old result }
+        ensures told { ReadsAndTells T.reading P.hears P.spares I.says T.is_plain self.old result }
     {
         match self.next_line() {
             Ok(true) => Ok(Some(self.line())),
@@ -289,7 +293,36 @@ impl<'a, T: ExtendedBufRead, P: BandText + Drop, I: Interrupt> ExtendedBufRead
         self.front.stopped_at()
     }
 
-    fn reset(&mut self, version: Protocol) {
+    fn readline_str(&mut self, text: &mut String) -> Result<usize, Error>
+        ensures text { ReadsText (sidebands_reading T.reading self.old) (sidebands_reading T.reading self.new) (string_bytes text.old) (string_bytes text.new) result }
+        ensures plain { PlainText false (sidebands_reading T.reading self.old) (sidebands_reading T.reading self.new) result }
+        ensures told { Told P.hears P.spares I.says T.is_plain (refusal_in result) (side T.reading self.old).reading (side T.reading self.new).reading
+            (listener self.old) (listener self.new) }
+        ensures fault { (side T.reading self.new).fault ≡ (side T.reading self.old).fault }
+        ensures interrupt { self.new.interrupt.ghost_name ≡ self.old.interrupt.ghost_name }
+    {
+        if !self.peek_line()? {
+            return Ok(0);
+        }
+        let Ok(line) = str::from_utf8(self.line()) else {
+            self.front.take();
+            return Err(Error::NotUtf8);
+        };
+        let len = line.len();
+        if text.push_str(line).is_err() {
+            return Err(Error::Memory);
+        }
+        self.front.take();
+        Ok(len)
+    }
+
+    fn reset(&mut self, version: Protocol)
+        ensures reading { sidebands_reading T.reading self.new ≡ reset_to version (sidebands_reading T.reading self.old) }
+        ensures listener { listener self.new ≡ listener self.old }
+        ensures fault { (side T.reading self.new).fault ≡ (side T.reading self.old).fault }
+        ensures place { (side T.reading self.new).place ≡ (side T.reading self.old).place }
+        ensures interrupt { self.new.interrupt.ghost_name ≡ self.old.interrupt.ghost_name }
+    {
         self.front.reset(version);
     }
 }
@@ -301,7 +334,7 @@ impl<'a, T: ExtendedBufRead, P: BandText + Drop, I: Interrupt> Read for WithSide
         ensures bound { ReadsAtMost result buf.new }
         ensures bytes { ReadConsumes None None result buf.new }
         ensures content { ReadsContent (side T.reading self.old) (side T.reading self.new) result buf.new }
-        ensures told { Told P.hears I.says T.is_plain (side T.reading self.new).fault (side T.reading self.old).reading (side T.reading self.new).reading
+        ensures told { Told P.hears P.spares I.says T.is_plain (side T.reading self.new).fault (side T.reading self.old).reading (side T.reading self.new).reading
             (listener self.old) (listener self.new) }
         ensures interrupt { self.new.interrupt.ghost_name ≡ self.old.interrupt.ghost_name }
     {
@@ -324,7 +357,7 @@ impl<'a, T: ExtendedBufRead, P: BandText + Drop, I: Interrupt> BufRead
         ensures end { IfSome None (λ (xs : List ℕ). IfOk result (λ s. length s.now ≡ 0 → xs ≡ [])) }
         ensures* after_borrow { sem 𝓛 (Rests (the_row (record { mir = named 1; lft = [] }) T.row P.row I.row T.ExtendedBufRead) self.entry (λ new.
             FillKeeps None None None result)) }
-        ensures shown { LendsFrom T.reading P.hears I.says T.is_plain self.old result }
+        ensures shown { LendsFrom T.reading P.hears P.spares I.says T.is_plain self.old result }
     {
         match self.fill() {
             Ok(_) => Ok(self.front.rest()),

@@ -17,6 +17,8 @@ struct Notes<'a> {
 impl BandText for Notes<'_> {
     ghost hears = { λ old is_error text new. Unit {0} };
 
+    ghost spares = { λ old is_error text new. Unit {0} };
+
     fn band_text(&mut self, is_error: bool, text: &[u8]) -> Result<(), AllocError> {
         self.said.push_str(if is_error { "[3:" } else { "[2:" })?;
         self.said.push_str(str::from_utf8(text).unwrap_or("?"))?;
