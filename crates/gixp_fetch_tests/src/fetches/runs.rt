@@ -105,16 +105,22 @@ fn map<T: Transport, P: NestedProgress>(
 }
 
 // A whole fetch over a ref map.
-fn fetch_by<T: Transport, P: NestedProgress, S: ShallowStore, C: ConsumePack<P, Error = CopyError>>(
+fn fetch_by<
+    'a,
+    T: Transport,
+    P: NestedProgress,
+    S: ShallowStore,
+    C: ConsumePack<P, Error = CopyError>,
+>(
     alloc: Global,
-    transport: &mut T,
-    hands: &mut Handshake,
-    map: &RefMap,
+    transport: &'a mut T,
+    hands: &'a mut Handshake,
+    map: &'a RefMap,
     repository: Repository,
     consumer: &mut C,
     progress: &mut P,
-    store: &mut S,
-    shallow: &Shallow,
+    store: &'a mut S,
+    shallow: &'a Shallow,
 ) -> Result<Option<Outcome>, Error<AllocError, CopyError>>
 where
     P::SubProgress: Drop,
