@@ -4,3 +4,4 @@ pub mod Cut
 pub mod Client
 pub mod Capabilities
 pub mod Capability
+pub mod ClientMessage

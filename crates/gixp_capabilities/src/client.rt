@@ -1,9 +1,9 @@
 //! Why a call that speaks to a server is refused.
 ghost use Rattle.std.specs.Prelude.{◌≡◌};
 
-use bstr::BString;
-use gixp_packetline::read;
-use std::alloc::AllocError;
+use bstr::{BStr, BString};
+use gixp_packetline::{ServerMessage, read};
+use std::alloc::{AllocError, AllocFailed};
 use std::io::ErrorKind;
 use thiserror::Error as DeriveError;
 
@@ -60,5 +60,28 @@ impl From<AllocError> for Error {
 
     fn from(_e: AllocError) -> Error {
         Error::Memory
+    }
+}
+
+impl<T: Drop> From<AllocFailed<T>> for Error {
+    ghost use Rattle.gixp_capabilities.specs.declared.client.Error.TheVariants.{Memory};
+
+    ghost from_gives = { λ _ error. error ≡ Memory };
+
+    fn from(_e: AllocFailed<T>) -> Error {
+        Error::Memory
+    }
+}
+
+impl ServerMessage for Error {
+    ghost use Rattle.gixp_capabilities.specs.ClientMessage.{client_message};
+
+    ghost message = { client_message };
+
+    fn server_message(&self) -> Option<BStr<'_>> {
+        match self {
+            Error::Read(e) => e.server_message(),
+            _ => None,
+        }
     }
 }

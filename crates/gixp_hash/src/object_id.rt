@@ -1,15 +1,16 @@
 //! Object ids.
-ghost use Rattle.std.specs.Prelude.{◌≡◌, ◌↔◌, IsTrue, MatchResult, replicate};
+ghost use Rattle.std.specs.Prelude.{◌≡◌, ◌↔◌, IsTrue, MatchResult, Some, replicate};
 ghost use Rattle.hex.specs.Hex.{encode_lower};
 ghost use Rattle.gixp_hash.specs.ObjectId.{id_of, IsIdRefusal};
 
 use crate::{decode, digits};
 use hex;
+use std::fmt;
 
 /// The name of an object: the 20 bytes of its SHA-1 (gitprotocol-common, "ABNF Notation", `obj-id`).
 ///
 /// Ids are ordered by their bytes, from the first one on.
-#[derive(Clone, Copy, Debug, PartialEq, Eq, PartialOrd, Ord, Hash)]
+#[derive(Clone, Copy, PartialEq, Eq, PartialOrd, Ord, Hash)]
 pub struct ObjectId {
     /// The 20 bytes. Any 20 bytes are an id.
     pub bytes: [u8; 20],
@@ -65,5 +66,26 @@ impl ObjectId {
         ensures { result.now ≡ self.now.bytes }
     {
         self.bytes.as_slice()
+    }
+}
+
+/// Shows as its text.
+impl fmt::Display for ObjectId {
+    ghost output = { λ id. Some (encode_lower id.bytes) };
+
+    fn fmt<W: fmt::Write>(&self, f: &mut fmt::Formatter<W>) -> fmt::Result {
+        match str::from_utf8(&self.to_hex()) {
+            Ok(text) => f.write_str(text),
+            Err(_) => Err(fmt::Error),
+        }
+    }
+}
+
+/// Shows as its text here too.
+impl fmt::Debug for ObjectId {
+    ghost debug_output = { λ id. Some (encode_lower id.bytes) };
+
+    fn fmt<W: fmt::Write>(&self, f: &mut fmt::Formatter<W>) -> fmt::Result {
+        fmt::Display::fmt(self, f)
     }
 }

@@ -11,3 +11,4 @@ mod FrameTextLemmas
 mod ItemLemmas
 pub mod RunLemmas
 pub mod LineLemmas
+pub mod PartsLemmas

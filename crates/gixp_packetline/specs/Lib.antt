@@ -12,3 +12,5 @@ pub mod Window
 pub mod PacketLine
 pub mod Packets
 pub mod LineReader
+pub mod ServerMessage
+pub mod ReadAhead

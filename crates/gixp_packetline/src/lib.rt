@@ -7,6 +7,7 @@
 pub mod digits;
 pub mod laws;
 mod line_reader;
+mod message;
 mod packet;
 mod packet_line;
 pub mod packets;
@@ -15,6 +16,7 @@ pub mod read;
 mod window;
 
 pub use line_reader::LineReader;
+pub use message::ServerMessage;
 pub use packet::{Frame, PacketError};
 pub use packet_line::{PacketLine, split_packet_line};
 pub use protocol::{MessageKind, Protocol};

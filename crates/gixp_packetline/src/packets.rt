@@ -101,6 +101,27 @@ impl Packets<Cursor<Vec<u8>>> {
 }
 
 impl<R: Read> Packets<R> {
+    ghost use Rattle.gixp_packetline.specs.ReadAhead.{StandsAhead};
+
+    /// Takes it apart: the reader, and the bytes that were read of it and stand in no line or stop that
+    /// was taken or peeked at.
+    pub fn into_parts(self) -> (R, Vec<u8>)
+        ensures reader { result.0 ≡ self.reader }
+        ensures ahead { StandsAhead (packets_reading R.remaining self) (R.remaining result.0) result.1.items }
+    {
+        let Packets {
+            alloc: _alloc,
+            reader,
+            window,
+            place: _place,
+            ended: _ended,
+            version: _version,
+            reads_left: _reads_left,
+            failures: _failures,
+        } = self;
+        (reader, window.into_pending())
+    }
+
     /// Lends only the first bytes, as many, of the line that it lends.
     pub fn shorten_line(&mut self, len: usize)
         requires { len ≤ length self.old.window.lent }

@@ -5,6 +5,7 @@ ghost use Rattle.gixp_packetline.specs.Reading.{Reading, Reads, Peeks, ReadsLent
 use crate::packet::PacketError;
 use crate::protocol::{MessageKind, Protocol};
 use bstr::BString;
+use std::alloc::{AllocError, AllocFailed};
 use std::io::ErrorKind;
 use thiserror::Error as DeriveError;
 
@@ -42,6 +43,26 @@ pub enum Error {
     /// An allocation failed.
     #[error("Memory")]
     Memory,
+}
+
+impl From<AllocError> for Error {
+    ghost use Rattle.gixp_packetline.specs.declared.read.Error.TheVariants.{Memory};
+
+    ghost from_gives = { λ _ error. error ≡ Memory };
+
+    fn from(_e: AllocError) -> Error {
+        Error::Memory
+    }
+}
+
+impl<T: Drop> From<AllocFailed<T>> for Error {
+    ghost use Rattle.gixp_packetline.specs.declared.read.Error.TheVariants.{Memory};
+
+    ghost from_gives = { λ _ error. error ≡ Memory };
+
+    fn from(_e: AllocFailed<T>) -> Error {
+        Error::Memory
+    }
 }
 
 /// A reader of lines up to a stop (gitprotocol-common, "pkt-line Format"; gitprotocol-v2,

@@ -99,6 +99,22 @@ impl Window {
         &self.bytes[self.line_start..self.line_end]
     }
 
+    // The bytes that were read and not yet taken, in the buffer that held them.
+    pub(crate) fn into_pending(self) -> Vec<u8>
+        ensures { result.items ≡ self.pending }
+    {
+        let Window {
+            mut bytes,
+            start,
+            end,
+            line_start: _line_start,
+            line_end: _line_end,
+        } = self;
+        to_front(&mut bytes, start, end);
+        bytes.truncate(end - start);
+        bytes
+    }
+
     // Holds nothing from here on.
     pub(crate) fn clear(&mut self)
         ensures { self.new ≡ record { pending = []; lent = [] } }

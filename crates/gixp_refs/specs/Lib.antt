@@ -18,3 +18,4 @@ pub mod V1Refs
 pub mod V1Line
 pub mod RefGroups
 pub mod Order
+pub mod RefsMessage

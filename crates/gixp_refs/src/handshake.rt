@@ -46,6 +46,18 @@ pub enum Ref {
 impl Ref {
     ghost use Rattle.gixp_refs.specs.Ref.{unpacked_name, unpacked_target, unpacked_peeled};
 
+    /// The full name.
+    pub fn name(&self) -> BStr<'_>
+        ensures { bstr_bytes result ≡ unpacked_name self.now }
+    {
+        match self {
+            Ref::Peeled { full_ref_name, .. }
+            | Ref::Direct { full_ref_name, .. }
+            | Ref::Symbolic { full_ref_name, .. }
+            | Ref::Unborn { full_ref_name, .. } => full_ref_name.as_bstr(),
+        }
+    }
+
     /// The name, the object that the ref names, and the object behind it where that one is a tag.
     ///
     /// An unborn ref has neither object.

@@ -23,3 +23,4 @@ pub mod Features
 pub mod SectionGrammar
 pub mod BeginningGrammar
 pub mod Order
+pub mod AnswerMessage

@@ -54,3 +54,10 @@ module _ {R W : Type 0} where
 
   abbrev pub connection_reading : (R → Option (List ℕ)) → (W → Option (List ℕ)) → Connection R W → Reading
   connection_reading remaining contents c = record (packets_reading remaining c.packets) { held = connection_held contents c }
+
+  -- the reader and the writer that it was made of
+  abbrev pub connection_reader : Connection R W → R
+  connection_reader c = c.packets.reader
+
+  abbrev pub connection_writer : Connection R W → W
+  connection_writer c = c.writer

@@ -3,6 +3,7 @@ ghost use Rattle.std.specs.Prelude.{◌≡◌, ◌≤◌, Err, IfOk, true, lengt
 ghost use Rattle.std.specs.IoError.{error_kind};
 ghost use Rattle.bstr.specs.Owned.{bstring_bytes};
 ghost use Rattle.gixp_packetline.specs.FrameText.{payload_text};
+ghost use Rattle.gixp_packetline.specs.ReadAhead.{StandsAhead};
 ghost use Rattle.gixp_wire.specs.Greeting.{parameters_of};
 ghost use Rattle.gixp_capabilities.specs.declared.client.Error.TheVariants.{AuthenticationUnsupported};
 ghost use Rattle.gixp_wire.specs.Handshake.{Greets, Identifies};
@@ -78,7 +79,28 @@ impl<R: Read + Drop, W: Write + Drop> Connection<R, W> {
 }
 
 impl<R: Read, W: Write> Connection<R, W> {
-    ghost use Rattle.gixp_wire.specs.Connection.{connection_reading};
+    ghost use Rattle.gixp_wire.specs.Connection.{connection_reading, connection_reader, connection_writer};
+
+    /// Takes it apart: the reader, the writer, and the bytes that were read of the reader and not taken,
+    /// which stand before those that it gives next. A line that was peeked at counts as taken.
+    pub fn into_parts(self) -> (R, W, Vec<u8>)
+        ensures reader { result.0 ≡ connection_reader self }
+        ensures writer { result.1 ≡ connection_writer self }
+        ensures ahead { StandsAhead (connection_reading R.remaining W.contents self) (R.remaining result.0) result.2.items }
+        ensures written { W.contents result.1 ≡ (connection_reading R.remaining W.contents self).held.written }
+    {
+        let Connection {
+            packets,
+            writer,
+            url: _url,
+            version: _version,
+            accepted: _accepted,
+            opening: _opening,
+            broken: _broken,
+        } = self;
+        let (reader, ahead) = packets.into_parts();
+        (reader, writer, ahead)
+    }
 
     /// The writer, with all that was written.
     pub fn writer(&self) -> &W

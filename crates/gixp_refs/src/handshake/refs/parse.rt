@@ -2,9 +2,9 @@
 ghost use Rattle.std.specs.Prelude.{◌≡◌};
 ghost use Rattle.gixp_packetline.specs.Reading.{refusal_of};
 
-use bstr::BString;
+use bstr::{BStr, BString};
 use gixp_hash::decode;
-use gixp_packetline::{PacketError, read};
+use gixp_packetline::{PacketError, ServerMessage, read};
 use std::alloc::{AllocError, AllocFailed};
 use std::fmt;
 use std::io::ErrorKind;
@@ -153,5 +153,19 @@ impl<T: Drop> From<AllocFailed<T>> for Error {
 
     fn from(_e: AllocFailed<T>) -> Error {
         Error::Memory
+    }
+}
+
+impl ServerMessage for Error {
+    ghost use Rattle.gixp_refs.specs.RefsMessage.{refs_message};
+
+    ghost message = { refs_message };
+
+    fn server_message(&self) -> Option<BStr<'_>> {
+        match self {
+            Error::UploadPack { message } => Some(message.as_bstr()),
+            Error::Reader(e) => e.server_message(),
+            _ => None,
+        }
     }
 }

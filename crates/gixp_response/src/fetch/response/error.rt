@@ -1,11 +1,11 @@
 //! Why there is no answer.
 ghost use Rattle.std.specs.Prelude.{◌≡◌};
 
-use bstr::BString;
+use bstr::{BStr, BString};
 use gixp_capabilities::client;
-use gixp_packetline::read;
+use gixp_packetline::{ServerMessage, read};
 use gixp_wire::IsSpuriousError;
-use std::alloc::AllocError;
+use std::alloc::{AllocError, AllocFailed};
 use std::fmt;
 use std::io::ErrorKind;
 use thiserror::Error as DeriveError;
@@ -132,6 +132,31 @@ impl IsSpuriousError for Error {
             Error::Io(kind) => kind.is_spurious(),
             Error::Transport(e) => e.is_spurious(),
             _ => false,
+        }
+    }
+}
+
+impl<T: Drop> From<AllocFailed<T>> for Error {
+    ghost use Rattle.gixp_response.specs.declared.fetch.response.error.Error.TheVariants.{Memory};
+
+    ghost from_gives = { λ _ error. error ≡ Memory };
+
+    fn from(_e: AllocFailed<T>) -> Error {
+        Error::Memory
+    }
+}
+
+impl ServerMessage for Error {
+    ghost use Rattle.gixp_response.specs.AnswerMessage.{answer_message};
+
+    ghost message = { answer_message };
+
+    fn server_message(&self) -> Option<BStr<'_>> {
+        match self {
+            Error::UploadPack { message } => Some(message.as_bstr()),
+            Error::Transport(e) => e.server_message(),
+            Error::Reader(e) => e.server_message(),
+            _ => None,
         }
     }
 }
