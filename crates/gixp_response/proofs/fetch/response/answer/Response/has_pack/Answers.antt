@@ -1,5 +1,0 @@
-use Rattle.std.proofs.Common.{rules}
-use Rattle.gixp_response.proofs.fetch.response.answer.Response.has_pack.Goals as goal
-
-pub returns : goal.returns
-returns c = search rules
