@@ -185,7 +185,8 @@ fn kept_of_three(alloc: Global) -> Result<(usize, Result<(), AllocError>), Alloc
 #[test]
 fn keeps_two_where_the_third_finds_no_room(rt: HostRuntime) -> Result<(), Fail> {
     let (kept, added) = kept_of_three(rt.alloc())?;
-    assert_eq!(rt; kept, if added.is_ok() { 3 } else { 2 });
+    let wanted = if added.is_ok() { 3 } else { 2 };
+    assert_eq!(rt; kept, wanted);
     added?;
     Ok(())
 }
