@@ -18,7 +18,7 @@ turned a b =
     one_answer (bytes_eq a b) (bytes_eq b a) d (λ t. sym (e.0 t), λ h. e.1 (sym h))
 
 -- a key is among others where its text is among theirs
-among_keys : (eq : BString → BString → Bool) → ((a b : BString) → eq a b ≡ bytes_eq (bstring_bytes a) (bstring_bytes b)) → (keys : List BString) (key : BString)
+pub among_keys : (eq : BString → BString → Bool) → ((a b : BString) → eq a b ≡ bytes_eq (bstring_bytes a) (bstring_bytes b)) → (keys : List BString) (key : BString)
     → list_any (eq key) keys ≡ is_among (map bstring_bytes keys) (bstring_bytes key)
 among_keys eq same [] key = refl
 among_keys eq same (k ∷ ks) key = rw (same key k, turned (bstring_bytes key) (bstring_bytes k), among_keys eq same ks key) refl

@@ -90,7 +90,15 @@ fn prepare_alone(
     report: &mut Report,
 ) -> Result<(), AllocError> {
     let agent = client.agent(alloc)?;
-    match shaken.prepare_lsrefs_or_extract_refmap(alloc, &client.table, agent, true, context) {
+    match Handshake::prepare_lsrefs_or_extract_refmap(
+        alloc,
+        &mut shaken.refs,
+        &shaken.capabilities,
+        &client.table,
+        agent,
+        true,
+        context,
+    ) {
         Ok(prepared) => {
             let word = prepared_word(&prepared);
             drop(prepared);
@@ -113,7 +121,15 @@ fn prepare_and_fetch<T: Transport>(
 ) -> Result<Option<Result<RefMap, Error>>, AllocError> {
     let agent = client.agent(alloc)?;
     let wanted = client.way != 2;
-    match shaken.prepare_lsrefs_or_extract_refmap(alloc, &client.table, agent, wanted, context) {
+    match Handshake::prepare_lsrefs_or_extract_refmap(
+        alloc,
+        &mut shaken.refs,
+        &shaken.capabilities,
+        &client.table,
+        agent,
+        wanted,
+        context,
+    ) {
         Ok(prepared) => {
             let word = prepared_word(&prepared);
             let map = prepared.fetch_blocking(alloc, progress, transport);

@@ -160,6 +160,37 @@ fn keeps_the_prefixes_in_front(rt: HostRuntime) -> Result<(), Fail> {
     Ok(())
 }
 
+// Names that aren't among the others, so many.
+fn new_names(alloc: Global, count: u8, first: u8) -> Result<Vec<BString>, AllocError> {
+    let mut names = Vec::new(alloc);
+    for at in 0..count {
+        names.push(text(alloc, &[first.saturating_add(at)])?)?;
+    }
+    Ok(names)
+}
+
+// The prefixes that there is room for behind the first, but for two.
+const FULL: u8 = 7;
+
+// How many of three new prefixes an extension keeps that finds room for two, and whether an allocation failed in it.
+fn kept_of_three(alloc: Global) -> Result<(usize, Result<(), AllocError>), AllocError> {
+    let mut prefixes = RefPrefixes::new(alloc);
+    prefixes.extend(new_names(alloc, FULL, b'a')?)?;
+    let more = new_names(alloc, 3, b'A')?;
+    let added = prefixes.extend(more);
+    let lines = prefixes.into_args(alloc)?;
+    Ok((lines.len().saturating_sub(usize::from(FULL)), added))
+}
+
+#[test]
+fn keeps_two_where_the_third_finds_no_room(rt: HostRuntime) -> Result<(), Fail> {
+    let (kept, added) = kept_of_three(rt.alloc())?;
+    let wanted = if added.is_ok() { 3 } else { 2 };
+    assert_eq!(rt; kept, wanted);
+    added?;
+    Ok(())
+}
+
 fn count_arguments(alloc: Global) -> Result<usize, AllocError> {
     let names = names(alloc)?;
     let mut prefixes = RefPrefixes::new(alloc);
