@@ -90,15 +90,7 @@ fn prepare_alone(
     report: &mut Report,
 ) -> Result<(), AllocError> {
     let agent = client.agent(alloc)?;
-    match Handshake::prepare_lsrefs_or_extract_refmap(
-        alloc,
-        &mut shaken.refs,
-        &shaken.capabilities,
-        &client.table,
-        agent,
-        true,
-        context,
-    ) {
+    match shaken.prepare_lsrefs_or_extract_refmap(alloc, &client.table, agent, true, context) {
         Ok(prepared) => {
             let word = prepared_word(&prepared);
             drop(prepared);
@@ -121,7 +113,7 @@ fn prepare_and_fetch<T: Transport>(
 ) -> Result<Option<Result<RefMap, Error>>, AllocError> {
     let agent = client.agent(alloc)?;
     let wanted = client.way != 2;
-    match Handshake::prepare_lsrefs_or_extract_refmap(
+    match ObtainRefMap::prepare(
         alloc,
         &mut shaken.refs,
         &shaken.capabilities,
