@@ -40,6 +40,7 @@ ALGORITHMS = ("consecutive", "skipping")
 BRANCHES = {"linear": 1, "tips": 8, "mixed": 4}
 SPEC = "+refs/heads/*:refs/remotes/o/*"
 BATCH = 100
+FIRST_WINDOW, MOST_IN_VAIN = 16, 256
 
 
 class Git:
@@ -337,14 +338,19 @@ class Model:
         return offered or ("COMMON" not in self.flags[id] and not pushed)
 
     def haves(self):
-        """What it offers where git sent as many, over the answers that git had."""
-        sent, offered = [], []
+        """What it offers where as many were sent, over the answers of the trace."""
+        sent, offered, window = [], [], FIRST_WINDOW
         for request in self.text.split(" fetch> command=fetch")[1:]:
             new = [id for id in re.findall(r" fetch> have ([0-9a-f]+)", request) if id not in sent]
             for _ in new:
                 id = self.next()
                 offered += [id] if id else []
             sent += new
+            # Haves run out where a window isn't filled, unless too many were in vain.
+            if len(new) < window and len(sent) < MOST_IN_VAIN:
+                id = self.next()
+                offered += [id] if id else []
+            window *= 2
             for id in re.findall(r" fetch< ACK ([0-9a-f]+)", request):
                 if "SEEN" in self.flags.get(id, ()):
                     self.common(id)
