@@ -18,7 +18,7 @@ over the library's. The causes are what the two models do unlike each other, and
     tags as listed     git takes of an annotated tag that the server lists the commit that it leads to as known to both sides, and for its
                        cutoff; the library takes the tag's own id
     marks left off     `skipping` of git 2.39 leaves off marking what is common at a commit that it marked before; the library goes on
-    other wants        git also asks for commits that are there and that it doesn't know as complete
+    other wants        git also asks for tags that follow, and for commits that are there and that it doesn't know as complete
 
 Prints a line for each difference, with its cause, and how many of how many agree. Ends with 1 where one has no cause.
 """
