@@ -10,10 +10,15 @@ the program in scripts/haves (built in a temporary folder by `rt try`, which pro
 `git upload-pack` of its own under the same trace. Compared are the different haves in their order: which of them stand in one
 request is the library's choice and git's, and git names those in common again with each request.
 
-With `--tags` the histories have tags, lightweight and annotated ones, which both fetch as they follow. Git takes of an
-annotated tag that the server lists the commit that it leads to as known to both sides, and for its cutoff; the library takes the tag's own
-id. Where the two differ, a model of git's two algorithms below says whether that is the cause: with the ids as listed it has to send
-what the library sent, with peeled ids what git sent, over the same answers.
+With `--tags` the histories have tags, lightweight and annotated ones, which both fetch as they follow.
+
+Where the two differ, a model of both algorithms below says why. Over git's answers it has to send what git sent, and what the library sent
+over the library's. The causes are what the two models do unlike each other, and which commits were asked for:
+
+    tags as listed     git takes of an annotated tag that the server lists the commit that it leads to as known to both sides, and for its
+                       cutoff; the library takes the tag's own id
+    marks left off     `skipping` of git 2.39 leaves off marking what is common at a commit that it marked before; the library goes on
+    other wants        git also asks for tags that follow, and for commits that are there and that it doesn't know as complete
 
 Prints a line for each difference, with its cause, and how many of how many agree. Ends with 1 where one has no cause.
 """
@@ -35,6 +40,7 @@ ALGORITHMS = ("consecutive", "skipping")
 BRANCHES = {"linear": 1, "tips": 8, "mixed": 4}
 SPEC = "+refs/heads/*:refs/remotes/o/*"
 BATCH = 100
+FIRST_WINDOW, MOST_IN_VAIN = 16, 256
 
 
 class Git:
@@ -201,15 +207,15 @@ def haves_of_git(text):
 
 
 class Model:
-    """git's two algorithms (negotiator/default.c and negotiator/skipping.c of git 2.39) as a plain program, over git's own answers."""
+    """git's two algorithms (negotiator/default.c and negotiator/skipping.c of git 2.39) as a plain program, over the answers of a trace."""
 
-    def __init__(self, git, folder, algorithm, peels):
-        self.skips = algorithm == "skipping"
+    def __init__(self, folder, algorithm, text, peels, leaves_off):
+        self.skips, self.leaves_off = algorithm == "skipping", leaves_off
         self.commits = {}
         for line in (folder / algorithm / "texts" / "commits").read_text().splitlines():
             time, id, *parents = line.split()
             self.commits[id] = (int(time), parents)
-        self.text = trace(folder / algorithm / "git")
+        self.text = text
         tips = [line.split()[1] for line in (folder / algorithm / "texts" / "refs").read_text().splitlines()]
         listed = re.findall(r" fetch< ([0-9a-f]{40}) \S+(?: symref-target:\S+)?(?: peeled:([0-9a-f]{40}))?", self.text.split(" fetch> command=fetch")[0])
         listed = [peeled if peeled and peels else id for id, peeled in listed]
@@ -266,7 +272,21 @@ class Model:
         self.flags[id].add("COMMON")
         self.open -= "SEEN" in self.flags[id] and "POPPED" not in self.flags[id]
 
+    def common_leaving_off(self, id):
+        due = [id]
+        while due:
+            id = due.pop()
+            if "COMMON" in self.flags[id]:
+                return
+            self.flags[id].add("COMMON")
+            self.open -= "POPPED" not in self.flags[id]
+            if id not in self.read:
+                return
+            due += [parent for parent in self.commits[id][1] if "SEEN" in self.flags[parent]]
+
     def common_skipping(self, id):
+        if self.leaves_off:
+            return self.common_leaving_off(id)
         self.flags[id].add("COMMON")
         due = [id]
         while due:
@@ -318,14 +338,19 @@ class Model:
         return offered or ("COMMON" not in self.flags[id] and not pushed)
 
     def haves(self):
-        """What it offers where git sent as many, over the answers that git had."""
-        sent, offered = [], []
+        """What it offers where as many were sent, over the answers of the trace."""
+        sent, offered, window = [], [], FIRST_WINDOW
         for request in self.text.split(" fetch> command=fetch")[1:]:
             new = [id for id in re.findall(r" fetch> have ([0-9a-f]+)", request) if id not in sent]
             for _ in new:
                 id = self.next()
                 offered += [id] if id else []
             sent += new
+            # Haves run out where a window isn't filled, unless too many were in vain.
+            if len(new) < window and len(sent) < MOST_IN_VAIN:
+                id = self.next()
+                offered += [id] if id else []
+            window *= 2
             for id in re.findall(r" fetch< ACK ([0-9a-f]+)", request):
                 if "SEEN" in self.flags.get(id, ()):
                     self.common(id)
@@ -334,16 +359,28 @@ class Model:
         return offered
 
 
-def cause(git, folder, algorithm, ours, theirs):
+def as_git_traces(text):
+    """The trace of the library's server, as git writes that of a client."""
+    return text.replace(" upload-pack< ", " fetch> ").replace(" upload-pack> ", " fetch< ")
+
+
+def wants(text):
+    return set(re.findall(r" fetch> want ([0-9a-f]+)", text.partition(" fetch< packfile")[0]))
+
+
+def cause(folder, algorithm, ours, theirs):
     """Why the haves differ: none where that isn't known."""
-    by_peeled = Model(git, folder, algorithm, True).haves()
-    by_ids = Model(git, folder, algorithm, False).haves()
-    at = next((at for at, pair in enumerate(zip(ours, by_ids)) if pair[0] != pair[1]), min(len(ours), len(by_ids)))
-    # Where the haves part, other answers come, so the model has no more to say.
-    parted = next((at for at, pair in enumerate(zip(ours, theirs)) if pair[0] != pair[1]), min(len(ours), len(theirs)))
-    if by_peeled == theirs and by_ids != theirs and at >= parted:
-        return "tags as listed, not peeled"
-    return None
+    by_git, by_us = trace(folder / algorithm / "git"), as_git_traces(trace(folder / algorithm / "ours"))
+
+    def git_haves(peels, leaves_off):
+        return Model(folder, algorithm, by_git, peels, leaves_off).haves()
+
+    if git_haves(True, True) != theirs or Model(folder, algorithm, by_us, False, False).haves() != ours:
+        return None
+    causes = ["tags as listed"] if git_haves(False, True) != theirs else []
+    causes += ["marks left off"] if git_haves(True, False) != theirs else []
+    causes += ["other wants"] if wants(by_git) != wants(by_us) else []
+    return ", ".join(causes) or None
 
 
 def build(work):
@@ -381,7 +418,7 @@ def fetch_by_us(git, program, cases, has_tags):
     return ran.stdout + ran.stderr
 
 
-def compare(git, histories, has_tags):
+def compare(histories):
     agree, explained, unexplained = dict.fromkeys(ALGORITHMS, 0), dict.fromkeys(ALGORITHMS, 0), dict.fromkeys(ALGORITHMS, 0)
     for folder, kind in histories:
         for algorithm in ALGORITHMS:
@@ -391,7 +428,7 @@ def compare(git, histories, has_tags):
             if said and ours == theirs:
                 agree[algorithm] += 1
                 continue
-            why = cause(git, folder, algorithm, ours, theirs) if said else None
+            why = cause(folder, algorithm, ours, theirs) if said else None
             (explained if why else unexplained)[algorithm] += 1
             print(f"{folder.name} {kind} {algorithm}: git sent {len(theirs)}, we sent {len(ours)}: {why or 'NO CAUSE'}")
     for algorithm in ALGORITHMS:
@@ -423,7 +460,7 @@ def main():
             said = fetch_by_us(git, program, cases[at : at + 2 * BATCH], words.tags)
             if "error" in said:
                 print(said, file=sys.stderr)
-        sys.exit(1 if compare(git, histories, words.tags) else 0)
+        sys.exit(1 if compare(histories) else 0)
 
 
 main()
