@@ -176,7 +176,7 @@ module _ {P I : Type 0} (hears spares : P → Bool → List ℕ → P → Type 0
             }),
           )
 
-  -- memory ran out for a text
+  -- an allocation failed for a text
   told-but : (plain : Bool) (o now mid : Reading) (a b c : Listener P I) (is_error : Bool) → Told hears spares says true None o now a b → ShowsLine now mid → band_of mid.line ≡ Text is_error
       → SparesThen hears spares says (message_in is_error mid.line) b c → Told hears spares says plain (Some memory) o mid a c
   told-but plain o now mid a b c is_error h s k w = at o.to_come h

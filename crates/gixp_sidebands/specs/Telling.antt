@@ -17,12 +17,12 @@ module _ {P I : Type 0} (hears spares : P → Bool → List ℕ → P → Type 0
   TellsText is_error [] p q = q ≡ p
   TellsText is_error (x ∷ xs) p q = hears p is_error (x ∷ xs) q
 
-  -- there was no memory for a text, which isn't empty
+  -- an allocation failed for a text, which isn't empty
   abbrev pub SparesText : Bool → List ℕ → P → P → Type 0
   SparesText is_error [] p q = ⊥
   SparesText is_error (x ∷ xs) p q = spares p is_error (x ∷ xs) q
 
-  -- there was none for a message, and the interrupt isn't asked
+  -- one failed for a message, and the interrupt isn't asked
   abbrev pub SparesThen : Message → Listener P I → Listener P I → Type 0
   SparesThen m a b = SparesText m.is_error m.text a.progress b.progress × (b.interrupt ≡ a.interrupt)
 
@@ -52,7 +52,7 @@ module _ {P I : Type 0} (hears spares : P → Bool → List ℕ → P → Type 0
     pub tells : Tells told a before
     pub stops : TellsThen last true before c
 
-  -- the messages up to what is left were told; if it was the next that there was no memory for, that one is still to come, and no other text was told behind it
+  -- the messages up to what is left were told; if an allocation failed for the next one, that is still to come, and no other was told in its place
   pub record ToldBut (old new : Reading) (a c : Listener P I) (p q : Pieces) : Type 0 where
     pub before : Listener P I
     pub told : ToldTo old new a before p q

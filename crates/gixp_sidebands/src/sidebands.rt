@@ -28,7 +28,7 @@ pub trait BandText {
     // What a listener was, and is after it took a text.
     ghost hears: { Self → Bool → List ℕ → Self → Type 0 };
 
-    // What a listener was, and is after it had no memory for a text.
+    // What a listener was, and is after an allocation failed for a text.
     ghost spares: { Self → Bool → List ℕ → Self → Type 0 };
 
     /// Takes the text of an error (band 3) or of progress (band 2), without one ending LF and
