@@ -12,7 +12,7 @@ use crate::command::{Command, CommandTable, Feature};
 use bstr::BString;
 use gixp_capabilities::Capabilities;
 use gixp_packetline::Protocol;
-use std::alloc::{AllocError, Global};
+use std::alloc::{AllocError, AllocFailed, Global};
 use thiserror::Error as DeriveError;
 
 /// Why a request isn't made: nothing of it is written.
@@ -41,6 +41,16 @@ impl From<AllocError> for Error {
     ghost from_gives = { λ _ error. error ≡ Memory };
 
     fn from(_e: AllocError) -> Error {
+        Error::Memory
+    }
+}
+
+impl<T: Drop> From<AllocFailed<T>> for Error {
+    ghost use Rattle.gixp_requests.specs.declared.command.validate_argument_prefixes.Error.TheVariants.{Memory};
+
+    ghost from_gives = { λ _ error. error ≡ Memory };
+
+    fn from(_e: AllocFailed<T>) -> Error {
         Error::Memory
     }
 }
