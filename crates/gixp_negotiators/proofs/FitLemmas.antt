@@ -1,23 +1,24 @@
 -- A queue and its count fit a graph.
-use Rattle.std.proofs.Common.{◌≡◌, ℕ, ℤ, ◌+◌, ◌-◌, ◌≤◌, ◌∙◌, ⊎_elim, Bool, true, false, not, cond, List, [], ◌∷◌, Option, Some, None, refl, sym, ap, subst, arith, true≢false}
-use Rattle.std.specs.Prelude.{◌≤ℤ◌, ◌||◌, All}
+use Rattle.std.proofs.Common.{◌≡◌, ℕ, ℤ, ◌+◌, ◌-◌, ◌≤◌, ◌∙◌, ◌⊎◌, inl, inr, ⊎_elim, Bool, true, false, not, cond, List, [], ◌∷◌, Option, Some, None, refl, sym, ap, subst, arith, true≢false}
+use Rattle.std.specs.Prelude.{◌≤ℤ◌, ◌||◌, pos, is_some, option_map, All, Contains}
+use Rattle.std.specs.FinMap as finite
 use Rattle.std.specs.List.{list_any, sum_by}
 use Rattle.std.specs.List.Sorted.{IsPermutation}
 use Rattle.std.specs.Ordering.{eq_by_cmp}
 use Rattle.std.proofs.lemmas.Bool.{or_cases}
 use Rattle.std.proofs.lemmas.Grind.{common_steps}
 use Rattle.std.proofs.lemmas.Int.{ints}
-use Rattle.std.proofs.lemmas.List.Elements.{All-cons, All-tail, All-head, All-weaker}
+use Rattle.std.proofs.lemmas.List.Elements.{All-cons, All-tail, All-head, All-weaker, All-contains, All-contains_itself}
 use Rattle.std.proofs.lemmas.List.Sorted.{All-permutation, IsPermutation-sym, list_any-IsPermutation, sum_by-IsPermutation}
 use Rattle.gixp_hash.specs.declared.object_id.ObjectId.{ObjectId}
 use Rattle.gixp_hash.specs.ObjectId.{id_cmp}
 use Rattle.gixp_graph.specs.declared.flags.Flags.{Flags}
 use Rattle.gixp_graph.specs.Object.{Objects, time_at}
-use Rattle.gixp_graph.specs.GraphData.{Commits, GraphData}
+use Rattle.gixp_graph.specs.GraphData.{HeldCommit, Commits, GraphData, shown}
 use Rattle.gixp_graph.specs.GraphLaws.{same_from}
 use Rattle.gixp_negotiators.specs.declared.queue.Waiting.{Waiting}
 use Rattle.gixp_negotiators.specs.Marks.{has_all, has_mark, Grows, SeesNone, SeesOnly, Claims}
-use Rattle.gixp_negotiators.specs.Waiting.{waiting_at, waits_in, open_one, open_in, Fits, Keeps, KeepsTimed, AllTimed, NoneNewer, AllCommon, IsNewest, IsNewestAt}
+use Rattle.gixp_negotiators.specs.Waiting.{waiting_at, waits_in, open_one, open_in, Fits, Keeps, KeepsTimed, AllTimed, NoneNewer, AllCommon, IsNewest, IsNewestAt, IsNewestIn, IsDated, QueuesNew}
 use Rattle.gixp_negotiators.proofs.GrowLemmas.{grows_none, grows_on}
 
 -- what lacks a mark after lacked it before
@@ -259,3 +260,66 @@ fits_admitted u v ws xs g h new p id is w s count f = fits_pushed u v ws xs g h 
 -- the first is set apart
 pub fits_popped : (u : ℕ) (ws xs : List Waiting) (g : GraphData) (first : Waiting) → IsPermutation ws (first ∷ xs) → Fits u ws g → Fits u (first ∷ xs) g
 fits_popped u ws xs g first p f = (keeps_popped u ws xs g first p).fits f
+
+-- ---- what comes to wait
+
+-- it is dated from before earlier steps
+none_before : (a b : Bool) → (a ≡ true → b ≡ true) → b ≡ false → a ≡ false
+none_before true b k e = absurd (true≢false (sym (k refl) ∙ e))
+none_before false b k e = refl
+
+none_held : (o : Option HeldCommit) → is_some o ≡ false → o ≡ None
+none_held None e = refl
+none_held (Some h) e = absurd (true≢false e)
+
+pub dated_since : (g h : GraphData) (w : Waiting) → Grows g h → IsDated h w → IsDated g w
+dated_since g h w v d = ⊎_elim
+    (λ own. inl (subst (λ (o : Objects). time_at o w.id ≡ Some w.time) v.objects own))
+    (λ zero. inr (zero.0, none_held (finite.get g.held w.id) (none_before (is_some (finite.get g.held w.id)) (is_some (finite.get h.held w.id)) (v.held w.id) (ap is_some zero.1))))
+    d
+
+-- none comes
+pub queues_same : (ws xs : List Waiting) (g : GraphData) → xs ≡ ws → QueuesNew ws g xs
+queues_same ws xs g e = subst (QueuesNew ws g) (sym e) (record { order = λ f time v all. all; dated = All-weaker (Contains ws) (λ (w : Waiting). Contains ws w ⊎ IsDated g w) (λ w c. inl c) ws (All-contains_itself ws) })
+
+pub queues_on : (ws ys xs : List Waiting) (g h : GraphData) → Grows g h → QueuesNew ws g ys → QueuesNew ys h xs → QueuesNew ws g xs
+queues_on ws ys xs g h v a b = record {
+  order = λ f time w all. b.order f time (grows_on f g h w v) (a.order f time w all);
+  dated = All-weaker (λ (w : Waiting). Contains ys w ⊎ IsDated h w) (λ (w : Waiting). Contains ws w ⊎ IsDated g w)
+      (λ w e. ⊎_elim (λ c. All-contains (λ (x : Waiting). Contains ws x ⊎ IsDated g x) ys w a.dated c) (λ d. inr (dated_since g h w v d)) e) xs b.dated;
+}
+
+-- one comes that wasn't seen
+pub queues_pushed : (ws xs : List Waiting) (g : GraphData) (new : Waiting) → has_mark 8 g.held new.id ≡ false → IsPermutation (new ∷ ws) xs → IsDated g new → QueuesNew ws g xs
+queues_pushed ws xs g new unseen p d = record {
+  order = order_pushed ws xs g new unseen p;
+  dated = All-permutation (λ (w : Waiting). Contains ws w ⊎ IsDated g w) (new ∷ ws) xs p
+      (All-cons (λ (w : Waiting). Contains ws w ⊎ IsDated g w) new ws (inr d) (All-weaker (Contains ws) (λ (w : Waiting). Contains ws w ⊎ IsDated g w) (λ w c. inl c) ws (All-contains_itself ws)));
+}
+
+-- its time is 0 where it isn't held
+dated_at : (g : GraphData) (w : Waiting) (o : Option HeldCommit) (time : ℤ) → finite.get g.held w.id ≡ o → time_at g.objects w.id ≡ Some time → (is_some o ≡ true → w.time ≡ time) → (is_some o ≡ false → w.time ≡ pos 0) → IsDated g w
+dated_at g w None time e t read unread = inr (unread refl, e)
+dated_at g w (Some h) time e t read unread = inl (t ∙ ap Some (sym (read refl)))
+
+pub dated_new : (g : GraphData) (w : Waiting) (time : ℤ) → time_at g.objects w.id ≡ Some time → (is_some (finite.get g.held w.id) ≡ true → w.time ≡ time) → (is_some (finite.get g.held w.id) ≡ false → w.time ≡ pos 0) → IsDated g w
+dated_new g w time = dated_at g w (finite.get g.held w.id) time refl
+
+-- what is shown is held
+pub shown_some : (o : Option HeldCommit) → is_some (option_map shown o) ≡ is_some o
+shown_some None = refl
+shown_some (Some h) = refl
+
+-- the first is taken
+pub queues_taken : (ws xs : List Waiting) (g : GraphData) (first : Waiting) → IsPermutation ws (first ∷ xs) → QueuesNew ws g xs
+queues_taken ws xs g first p = record {
+  order = λ f time v all. All-tail (λ (w : Waiting). has_mark 8 f.held w.id ≡ true → w.time ≤ℤ time) first xs (All-permutation (λ (w : Waiting). has_mark 8 f.held w.id ≡ true → w.time ≤ℤ time) ws (first ∷ xs) p all);
+  dated = All-tail (λ (w : Waiting). Contains ws w ⊎ IsDated g w) first xs
+      (All-permutation (λ (w : Waiting). Contains ws w ⊎ IsDated g w) ws (first ∷ xs) p (All-weaker (Contains ws) (λ (w : Waiting). Contains ws w ⊎ IsDated g w) (λ w c. inl c) ws (All-contains_itself ws)));
+}
+
+-- and is the newest
+pub newest_in : (us ws xs ys : List Waiting) (g l : GraphData) (first : Waiting) → Grows g l → QueuesNew us g ws → IsPermutation ws (first ∷ xs) → IsNewest xs first → QueuesNew xs l ys → IsNewestIn us g first.id ys
+newest_in us ws xs ys g l first v q p n step = (first, refl,
+    All-head (λ (w : Waiting). Contains us w ⊎ IsDated g w) first xs (All-permutation (λ (w : Waiting). Contains us w ⊎ IsDated g w) ws (first ∷ xs) p q.dated),
+    step.order g first.time v (All-weaker (λ (w : Waiting). w.time ≤ℤ first.time) (λ (w : Waiting). has_mark 8 g.held w.id ≡ true → w.time ≤ℤ first.time) (λ w le s. le) xs n.newest))

@@ -14,7 +14,7 @@ use Rattle.gixp_hash.specs.ObjectId.{id_cmp}
 use Rattle.gixp_graph.specs.declared.flags.Flags.{Flags}
 use Rattle.gixp_graph.specs.GraphData.{HeldCommit, Commits, GraphData, graph_of, put, flagged, with_flags, is_marked, is_complete, parents_in}
 use Rattle.gixp_graph.specs.GraphLaws.{ids_total, same_from}
-use Rattle.gixp_negotiators.specs.Marks.{has_all, has_mark, Grows, SeesNone, SeesOnly}
+use Rattle.gixp_negotiators.specs.Marks.{has_all, has_mark, Grows, AddsNone, AddsOnly}
 
 -- bits that are there stay
 at_bits : (x y z : ℕ) → min x z ≡ z → min (max x y) z ≡ z
@@ -102,7 +102,7 @@ has_at m id flags (Some k) e s = ap (λ (o : Option HeldCommit). option_map_or (
 pub has_flagged : (m : Commits) (id : ObjectId) (flags : Flags) → IsSome (finite.get m id) → has_mark flags.0 (flagged m id flags) id ≡ true
 has_flagged m id flags s = has_at m id flags (finite.get m id) refl s
 
--- ---- what is seen
+-- ---- which commits get a mark
 
 or_left : (a b : Bool) → a ≡ true → (a || b) ≡ true
 or_left true b e = refl
@@ -113,39 +113,39 @@ or_right true b e = refl
 or_right false b e = e
 
 -- a commit is written
-module _ (g : GraphData) (id : ObjectId) (k : HeldCommit) where
-  sees_at : (q : ObjectId) (c : Bool) → eq_by_cmp id_cmp q id ≡ c → option_map_or (λ (h : HeldCommit). has_all 8 h.flags.0) (cond c (Some k) (finite.get g.held q)) false ≡ true → (has_mark 8 g.held q || eq_by_cmp id_cmp q id) ≡ true
-  sees_at q true e m = or_right (has_mark 8 g.held q) (eq_by_cmp id_cmp q id) e
-  sees_at q false e m = or_left (has_mark 8 g.held q) (eq_by_cmp id_cmp q id) m
+module _ (b : ℕ) (g : GraphData) (id : ObjectId) (k : HeldCommit) where
+  only_at : (q : ObjectId) (c : Bool) → eq_by_cmp id_cmp q id ≡ c → option_map_or (λ (h : HeldCommit). has_all b h.flags.0) (cond c (Some k) (finite.get g.held q)) false ≡ true → (has_mark b g.held q || eq_by_cmp id_cmp q id) ≡ true
+  only_at q true e m = or_right (has_mark b g.held q) (eq_by_cmp id_cmp q id) e
+  only_at q false e m = or_left (has_mark b g.held q) (eq_by_cmp id_cmp q id) m
 
-  is_written : (q : ObjectId) → has_mark 8 (finite.insert g.held id k) q ≡ option_map_or (λ (h : HeldCommit). has_all 8 h.flags.0) (cond (eq_by_cmp id_cmp q id) (Some k) (finite.get g.held q)) false
-  is_written q = ap (λ (o : Option HeldCommit). option_map_or (λ (h : HeldCommit). has_all 8 h.flags.0) o false) (get-insert ids_total g.held id k q)
+  is_written : (q : ObjectId) → has_mark b (finite.insert g.held id k) q ≡ option_map_or (λ (h : HeldCommit). has_all b h.flags.0) (cond (eq_by_cmp id_cmp q id) (Some k) (finite.get g.held q)) false
+  is_written q = ap (λ (o : Option HeldCommit). option_map_or (λ (h : HeldCommit). has_all b h.flags.0) o false) (get-insert ids_total g.held id k q)
 
-  pub sees_insert : SeesOnly id g (graph_of g.objects (finite.insert g.held id k))
-  sees_insert q m = sees_at q (eq_by_cmp id_cmp q id) refl (sym (is_written q) ∙ m)
+  pub only_insert : AddsOnly b id g (graph_of g.objects (finite.insert g.held id k))
+  only_insert q m = only_at q (eq_by_cmp id_cmp q id) refl (sym (is_written q) ∙ m)
 
-  none_at : (has_all 8 k.flags.0 ≡ true → has_mark 8 g.held id ≡ true) → (q : ObjectId) (c : Bool) → eq_by_cmp id_cmp q id ≡ c → option_map_or (λ (h : HeldCommit). has_all 8 h.flags.0) (cond c (Some k) (finite.get g.held q)) false ≡ true → has_mark 8 g.held q ≡ true
-  none_at had q true e m = subst (λ i. has_mark 8 g.held i ≡ true) (sym (same_from q id e)) (had m)
+  none_at : (has_all b k.flags.0 ≡ true → has_mark b g.held id ≡ true) → (q : ObjectId) (c : Bool) → eq_by_cmp id_cmp q id ≡ c → option_map_or (λ (h : HeldCommit). has_all b h.flags.0) (cond c (Some k) (finite.get g.held q)) false ≡ true → has_mark b g.held q ≡ true
+  none_at had q true e m = subst (λ i. has_mark b g.held i ≡ true) (sym (same_from q id e)) (had m)
   none_at had q false e m = m
 
-  pub sees_none_insert : (has_all 8 k.flags.0 ≡ true → has_mark 8 g.held id ≡ true) → SeesNone g (graph_of g.objects (finite.insert g.held id k))
-  sees_none_insert had q m = none_at had q (eq_by_cmp id_cmp q id) refl (sym (is_written q) ∙ m)
+  pub none_insert : (has_all b k.flags.0 ≡ true → has_mark b g.held id ≡ true) → AddsNone b g (graph_of g.objects (finite.insert g.held id k))
+  none_insert had q m = none_at had q (eq_by_cmp id_cmp q id) refl (sym (is_written q) ∙ m)
 
 -- marks are added
-sees_flagged_at : (g : GraphData) (id : ObjectId) (flags : Flags) (o : Option HeldCommit) → SeesOnly id g (graph_of g.objects (put g.held id (option_map (with_flags flags) o)))
-sees_flagged_at g id flags None = λ q m. or_left (has_mark 8 g.held q) (eq_by_cmp id_cmp q id) m
-sees_flagged_at g id flags (Some k) = sees_insert g id (with_flags flags k)
+only_flagged_at : (b : ℕ) (g : GraphData) (id : ObjectId) (flags : Flags) (o : Option HeldCommit) → AddsOnly b id g (graph_of g.objects (put g.held id (option_map (with_flags flags) o)))
+only_flagged_at b g id flags None = λ q m. or_left (has_mark b g.held q) (eq_by_cmp id_cmp q id) m
+only_flagged_at b g id flags (Some k) = only_insert b g id (with_flags flags k)
 
-pub sees_flagged : (g : GraphData) (id : ObjectId) (flags : Flags) → SeesOnly id g (graph_of g.objects (flagged g.held id flags))
-sees_flagged g id flags = sees_flagged_at g id flags (finite.get g.held id)
+pub only_flagged : (b : ℕ) (g : GraphData) (id : ObjectId) (flags : Flags) → AddsOnly b id g (graph_of g.objects (flagged g.held id flags))
+only_flagged b g id flags = only_flagged_at b g id flags (finite.get g.held id)
 
-none_flagged_at : (g : GraphData) (id : ObjectId) (flags : Flags) → bit_and flags.0 8 ≡ 0 → (o : Option HeldCommit) → finite.get g.held id ≡ o → SeesNone g (graph_of g.objects (put g.held id (option_map (with_flags flags) o)))
-none_flagged_at g id flags apart None e = λ q m. m
-none_flagged_at g id flags apart (Some k) e = sees_none_insert g id (with_flags flags k)
-    (λ m. ap (λ (o : Option HeldCommit). option_map_or (λ (h : HeldCommit). has_all 8 h.flags.0) o false) e ∙ sym (ap (λ n. n == 8) (and_or_apart 8 k.flags.0 flags.0 apart)) ∙ m)
+none_flagged_at : (b : ℕ) (g : GraphData) (id : ObjectId) (flags : Flags) → bit_and flags.0 b ≡ 0 → (o : Option HeldCommit) → finite.get g.held id ≡ o → AddsNone b g (graph_of g.objects (put g.held id (option_map (with_flags flags) o)))
+none_flagged_at b g id flags apart None e = λ q m. m
+none_flagged_at b g id flags apart (Some k) e = none_insert b g id (with_flags flags k)
+    (λ m. ap (λ (o : Option HeldCommit). option_map_or (λ (h : HeldCommit). has_all b h.flags.0) o false) e ∙ sym (ap (λ n. n == b) (and_or_apart b k.flags.0 flags.0 apart)) ∙ m)
 
-pub sees_none_flagged : (g : GraphData) (id : ObjectId) (flags : Flags) → bit_and flags.0 8 ≡ 0 → SeesNone g (graph_of g.objects (flagged g.held id flags))
-sees_none_flagged g id flags apart = none_flagged_at g id flags apart (finite.get g.held id) refl
+pub none_flagged : (b : ℕ) (g : GraphData) (id : ObjectId) (flags : Flags) → bit_and flags.0 b ≡ 0 → AddsNone b g (graph_of g.objects (flagged g.held id flags))
+none_flagged b g id flags apart = none_flagged_at b g id flags apart (finite.get g.held id) refl
 
 -- ---- some of some marks
 

@@ -8,8 +8,8 @@ use Rattle.gixp_graph.specs.declared.flags.Flags.{Flags}
 use Rattle.gixp_graph.specs.Object.{Commit, commit_at, time_at}
 use Rattle.gixp_graph.specs.GraphData.{HeldCommit, Commits, GraphData, graph_of, put, found_in, looked_up, unmarked, shown, shown_time, is_marked, is_complete, IsFaithful}
 use Rattle.gixp_graph.specs.GraphLaws.{put_same}
-use Rattle.gixp_negotiators.specs.Marks.{has_all, has_mark, Grows, IsFoundWith, SeesNone}
-use Rattle.gixp_negotiators.proofs.GrowLemmas.{grows_none, grows_insert, get_insert_same, sees_none_insert}
+use Rattle.gixp_negotiators.specs.Marks.{has_all, has_mark, Grows, IsFoundWith, AddsNone}
+use Rattle.gixp_negotiators.proofs.GrowLemmas.{grows_none, grows_insert, get_insert_same, none_insert}
 
 -- by what is held and what is read
 looked_at : (g : GraphData) (id : ObjectId) (o : Option HeldCommit) (p : Option Commit) → finite.get g.held id ≡ o → Grows g (graph_of g.objects (put g.held id (option_or o (option_map unmarked p))))
@@ -24,14 +24,14 @@ looked_at g id None (Some c) e = grows_insert g id (unmarked c)
 pub grows_looked : (g h : GraphData) (id : ObjectId) → h ≡ graph_of g.objects (looked_up g id) → Grows g h
 grows_looked g h id is = subst (Grows g) (sym is) (looked_at g id (finite.get g.held id) (commit_at g.objects id) refl)
 
--- what is looked for and isn't held is seen by no one
-sees_at : (g : GraphData) (id : ObjectId) (o : Option HeldCommit) (p : Option Commit) → finite.get g.held id ≡ o → SeesNone g (graph_of g.objects (put g.held id (option_or o (option_map unmarked p))))
-sees_at g id (Some k) p e = subst (λ m. SeesNone g (graph_of g.objects m)) (sym (put_same g.held id k e)) (λ q m. m)
-sees_at g id None None e = λ q m. m
-sees_at g id None (Some c) e = sees_none_insert g id (unmarked c) (λ m. absurd (true≢false (sym m)))
+-- a look adds no mark
+adds_at : (b : ℕ) → has_all b 0 ≡ false → (g : GraphData) (id : ObjectId) (o : Option HeldCommit) (p : Option Commit) → finite.get g.held id ≡ o → AddsNone b g (graph_of g.objects (put g.held id (option_or o (option_map unmarked p))))
+adds_at b z g id (Some k) p e = subst (λ m. AddsNone b g (graph_of g.objects m)) (sym (put_same g.held id k e)) (λ q m. m)
+adds_at b z g id None None e = λ q m. m
+adds_at b z g id None (Some c) e = none_insert b g id (unmarked c) (λ m. absurd (true≢false (sym m ∙ z)))
 
-pub sees_looked : (g h : GraphData) (id : ObjectId) → h ≡ graph_of g.objects (looked_up g id) → SeesNone g h
-sees_looked g h id is = subst (SeesNone g) (sym is) (sees_at g id (finite.get g.held id) (commit_at g.objects id) refl)
+pub none_looked : (b : ℕ) → has_all b 0 ≡ false → (g h : GraphData) (id : ObjectId) → h ≡ graph_of g.objects (looked_up g id) → AddsNone b g h
+none_looked b z g h id is = subst (AddsNone b g) (sym is) (adds_at b z g id (finite.get g.held id) (commit_at g.objects id) refl)
 
 -- what isn't found isn't held
 absent_at : (g : GraphData) (id : ObjectId) (o : Option HeldCommit) (p : Option Commit) → finite.get g.held id ≡ o → ◌≡◌ {A = Option (ℤ × Flags)} None (option_map shown (option_or o (option_map unmarked p))) → has_mark 8 (put g.held id (option_or o (option_map unmarked p))) id ≡ false
@@ -75,9 +75,9 @@ none_time : (o : Option Commit) → ◌≡◌ {A = Option ℤ} None (option_map 
 none_time None e = refl
 none_time (Some c) e = cc
 
-pub none_looked : (g : GraphData) (id : ObjectId) (found : Option (ℤ × Flags)) → shown_time found ≡ time_at g.objects id → IfNone found (commit_at g.objects id ≡ None)
-none_looked g id None t = none_time (commit_at g.objects id) t
-none_looked g id (Some x) t = tt
+pub missing_looked : (g : GraphData) (id : ObjectId) (found : Option (ℤ × Flags)) → shown_time found ≡ time_at g.objects id → IfNone found (commit_at g.objects id ≡ None)
+missing_looked g id None t = none_time (commit_at g.objects id) t
+missing_looked g id (Some x) t = tt
 
 -- what has marks is there
 there_at : (g : GraphData) (id : ObjectId) (marks : ℕ) (o : Option HeldCommit) → finite.get g.held id ≡ o → IsFaithful g → option_map_or (λ (h : HeldCommit). has_all marks h.flags.0) o false ≡ true → IsSome (commit_at g.objects id)
@@ -86,11 +86,3 @@ there_at g id marks (Some h) e f m = ap is_some (f id h e)
 
 pub marked_there : (g : GraphData) (id : ObjectId) (marks : ℕ) → IsFaithful g → has_mark marks g.held id ≡ true → IsSome (commit_at g.objects id)
 marked_there g id marks f m = there_at g id marks (finite.get g.held id) refl f m
-
--- and held
-held_at : (o : Option HeldCommit) (marks : ℕ) → option_map_or (λ (h : HeldCommit). has_all marks h.flags.0) o false ≡ true → IsSome o
-held_at None marks m = absurd (true≢false (sym m))
-held_at (Some h) marks m = refl
-
-pub held_marked : (g : GraphData) (id : ObjectId) (marks : ℕ) → has_mark marks g.held id ≡ true → IsSome (finite.get g.held id)
-held_marked g id marks m = held_at (finite.get g.held id) marks m

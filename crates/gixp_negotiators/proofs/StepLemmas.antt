@@ -75,3 +75,11 @@ pub parents_marked : (g h k : GraphData) (id : ObjectId) (xs : List ObjectId) �
 parents_marked g h k id xs v w held is all =
     subst (All (IsMarkedIfThere 8 g k)) (is ∙ sym (w.parents id held))
     (All-weaker (IsMarkedIfThere 8 h k) (IsMarkedIfThere 8 g k) (λ q m s. m (subst (λ o. IsSome (commit_at o q)) (sym v.objects) s)) xs all)
+
+-- a commit that is there and is seen now was seen before, where none was seen between
+pub unseen_marked : (g h : GraphData) (id : ObjectId) → SeesNone g h → has_mark 8 h.held id ≡ true → has_mark 8 g.held id ≡ false → ⊥
+unseen_marked g h id sees seen unseen = true≢false (sym (sees id seen) ∙ unseen)
+
+-- a commit that wasn't seen isn't, where none was seen between
+pub none_seen : (g h : GraphData) (id : ObjectId) → SeesNone g h → has_mark 8 g.held id ≡ false → has_mark 8 h.held id ≡ false
+none_seen g h id sees unseen = lacked (has_mark 8 h.held id) (has_mark 8 g.held id) (sees id) unseen

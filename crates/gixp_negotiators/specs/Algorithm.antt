@@ -1,5 +1,5 @@
 -- git's negotiators by their names (git-config, `fetch.negotiationAlgorithm`).
-use Rattle.std.specs.Prelude.{◌≡◌, ◌⊎◌, ℕ, true, List, map, codes}
+use Rattle.std.specs.Prelude.{◌≡◌, ◌⊎◌, ℕ, List, Option, Some, None, map, codes}
 use Rattle.std.specs.Char.{to_ascii_lowercase}
 use Rattle.gixp_hash.specs.declared.object_id.ObjectId.{ObjectId}
 use Rattle.gixp_graph.specs.GraphData.{GraphData}
@@ -7,7 +7,7 @@ use Rattle.gixp_negotiators.specs.declared.algorithm.Algorithm.{Algorithm}
 use Rattle.gixp_negotiators.specs.declared.algorithm.Algorithm.TheVariants as kind
 use Rattle.gixp_negotiators.specs.declared.algorithm.AnyNegotiator.{AnyNegotiator}
 use Rattle.gixp_negotiators.specs.declared.algorithm.AnyNegotiator.TheVariants as any
-use Rattle.gixp_negotiators.specs.Marks.{has_mark, IsMarkedIfThere}
+use Rattle.gixp_negotiators.specs.Calls.{KnowsInTurn, AddsInTurn, LearnsInTurn, OffersInTurn, KnowsSkipping, AddsSkipping, LearnsSkipping, OffersSkipping}
 
 -- a text is a word, but for the case of its letters
 abbrev pub IsWord : List ℕ → List ℕ → Type 0
@@ -19,8 +19,41 @@ IsNameOf kind.Noop text = IsWord text (codes "noop")
 IsNameOf kind.Consecutive text = IsWord text (codes "consecutive") ⊎ IsWord text (codes "default")
 IsNameOf kind.Skipping text = IsWord text (codes "skipping")
 
--- what the server has is common from then on, where it was seen; of `consecutive` wherever it is there
-abbrev pub Learns : AnyNegotiator → GraphData → ObjectId → GraphData → Type 0
-Learns (any.Noop n) g id h = h ≡ g
-Learns (any.Consecutive n) g id h = IsMarkedIfThere 2 g h id
-Learns (any.Skipping n) g id h = has_mark 8 g.held id ≡ true → has_mark 2 h.held id ≡ true
+-- ---- what a negotiator's calls do, by its kind
+
+abbrev pub KnowsByKind : AnyNegotiator → GraphData → ObjectId → AnyNegotiator → GraphData → Type 0
+KnowsByKind (any.Noop n) g id m h = (m ≡ any.Noop n) × (h ≡ g)
+KnowsByKind (any.Consecutive n) g id (any.Consecutive m) h = KnowsInTurn n g id m h
+KnowsByKind (any.Consecutive n) g id (any.Noop m) h = ⊥
+KnowsByKind (any.Consecutive n) g id (any.Skipping m) h = ⊥
+KnowsByKind (any.Skipping n) g id (any.Skipping m) h = KnowsSkipping n g id m h
+KnowsByKind (any.Skipping n) g id (any.Noop m) h = ⊥
+KnowsByKind (any.Skipping n) g id (any.Consecutive m) h = ⊥
+
+abbrev pub AddsByKind : AnyNegotiator → GraphData → ObjectId → AnyNegotiator → GraphData → Type 0
+AddsByKind (any.Noop n) g id m h = (m ≡ any.Noop n) × (h ≡ g)
+AddsByKind (any.Consecutive n) g id (any.Consecutive m) h = AddsInTurn n g id m h
+AddsByKind (any.Consecutive n) g id (any.Noop m) h = ⊥
+AddsByKind (any.Consecutive n) g id (any.Skipping m) h = ⊥
+AddsByKind (any.Skipping n) g id (any.Skipping m) h = AddsSkipping n g id m h
+AddsByKind (any.Skipping n) g id (any.Noop m) h = ⊥
+AddsByKind (any.Skipping n) g id (any.Consecutive m) h = ⊥
+
+abbrev pub LearnsByKind : AnyNegotiator → GraphData → ObjectId → AnyNegotiator → GraphData → Type 0
+LearnsByKind (any.Noop n) g id m h = (m ≡ any.Noop n) × (h ≡ g)
+LearnsByKind (any.Consecutive n) g id (any.Consecutive m) h = LearnsInTurn n g id m h
+LearnsByKind (any.Consecutive n) g id (any.Noop m) h = ⊥
+LearnsByKind (any.Consecutive n) g id (any.Skipping m) h = ⊥
+LearnsByKind (any.Skipping n) g id (any.Skipping m) h = LearnsSkipping n g id m h
+LearnsByKind (any.Skipping n) g id (any.Noop m) h = ⊥
+LearnsByKind (any.Skipping n) g id (any.Consecutive m) h = ⊥
+
+-- `noop` offers nothing
+abbrev pub OffersByKind : AnyNegotiator → GraphData → Option ObjectId → AnyNegotiator → GraphData → Type 0
+OffersByKind (any.Noop n) g have m h = (have ≡ None) × (m ≡ any.Noop n) × (h ≡ g)
+OffersByKind (any.Consecutive n) g have (any.Consecutive m) h = OffersInTurn n g have m h
+OffersByKind (any.Consecutive n) g have (any.Noop m) h = ⊥
+OffersByKind (any.Consecutive n) g have (any.Skipping m) h = ⊥
+OffersByKind (any.Skipping n) g have (any.Skipping m) h = OffersSkipping n g have m h
+OffersByKind (any.Skipping n) g have (any.Noop m) h = ⊥
+OffersByKind (any.Skipping n) g have (any.Consecutive m) h = ⊥

@@ -2,7 +2,11 @@ pub use Rattle.gixp_graph.specs.Object
 pub use Rattle.gixp_graph.specs.GraphData
 pub use Rattle.gixp_graph.specs.Negotiation
 pub mod Algorithm
+pub mod AlgorithmLaws
+pub mod Calls
 pub mod Distance
 pub mod MarkLaws
 pub mod Marks
+pub mod Spread
+pub mod SpreadLaws
 pub mod Waiting

@@ -30,13 +30,29 @@ pub record Grows (g h : GraphData) : Type 0 where
   pub complete : (id : ObjectId) → is_marked h.held id ≡ is_marked g.held id
   pub parents : (id : ObjectId) → IsSome (finite.get g.held id) → parents_in h.held id ≡ parents_in g.held id
 
+-- no commit gets a mark that it didn't have
+abbrev pub AddsNone : ℕ → GraphData → GraphData → Type 0
+AddsNone mark g h = (id : ObjectId) → has_mark mark h.held id ≡ true → has_mark mark g.held id ≡ true
+
+-- but for this one
+abbrev pub AddsOnly : ℕ → ObjectId → GraphData → GraphData → Type 0
+AddsOnly mark one g h = (id : ObjectId) → has_mark mark h.held id ≡ true → (has_mark mark g.held id || eq_by_cmp id_cmp id one) ≡ true
+
 -- no commit is seen that wasn't
 abbrev pub SeesNone : GraphData → GraphData → Type 0
-SeesNone g h = (id : ObjectId) → has_mark 8 h.held id ≡ true → has_mark 8 g.held id ≡ true
+SeesNone g h = AddsNone 8 g h
 
 -- but for this one
 abbrev pub SeesOnly : ObjectId → GraphData → GraphData → Type 0
-SeesOnly one g h = (id : ObjectId) → has_mark 8 h.held id ≡ true → (has_mark 8 g.held id || eq_by_cmp id_cmp id one) ≡ true
+SeesOnly one g h = AddsOnly 8 one g h
+
+-- no commit becomes common
+abbrev pub SettlesNone : GraphData → GraphData → Type 0
+SettlesNone g h = AddsNone 2 g h
+
+-- but for this one
+abbrev pub SettlesOnly : ObjectId → GraphData → GraphData → Type 0
+SettlesOnly one g h = AddsOnly 2 one g h
 
 -- a commit is there and held, and has these marks
 pub record IsFoundWith (g : GraphData) (id : ObjectId) (flags : Flags) : Type 0 where
@@ -58,6 +74,10 @@ pub record Claims (mark : ℕ) (g h : GraphData) (id : ObjectId) (flags : Flags)
 -- a commit that is there has a mark
 abbrev pub IsMarkedIfThere : ℕ → GraphData → GraphData → ObjectId → Type 0
 IsMarkedIfThere marks g h id = IsSome (commit_at g.objects id) → has_mark marks h.held id ≡ true
+
+-- a commit that wasn't seen is listed as a ref of the server
+abbrev pub IsListedIfNew : GraphData → GraphData → ObjectId → Type 0
+IsListedIfNew g h id = IsSome (commit_at g.objects id) → has_mark 8 g.held id ≡ false → has_mark 4 h.held id ≡ true
 
 -- a commit is offered: it is there, wasn't common, and was never offered before; it is held, and won't be offered again; its parents
 -- that are there were seen

@@ -1,6 +1,7 @@
 -- Commits that wait for a negotiator to take them (gitprotocol-pack, "Packfile Negotiation").
-use Rattle.std.specs.Prelude.{◌≡◌, ℕ, ℤ, ◌+◌, ◌≤◌, ◌≤ℤ◌, Bool, true, false, List, ◌∷◌, All, Option, Some, None, if◌then◌else◌}
+use Rattle.std.specs.Prelude.{◌≡◌, ◌⊎◌, ℕ, ℤ, pos, ◌+◌, ◌≤◌, ◌≤ℤ◌, Bool, true, false, List, ◌∷◌, All, Contains, Option, Some, None, if◌then◌else◌}
 use Rattle.std.specs.List.{list_any, sum_by}
+use Rattle.std.specs.FinMap as finite
 use Rattle.std.specs.Ordering.{eq_by_cmp, int_cmp, nat_cmp, ordering_then}
 use Rattle.std.specs.declared.cmp.Ordering.{Ordering}
 use Rattle.gixp_hash.specs.declared.object_id.ObjectId.{ObjectId}
@@ -84,7 +85,21 @@ pub record FitsOwing (uncommon : ℕ) (ws : List Waiting) (g : GraphData) (due :
   pub waiting : (id : ObjectId) → has_mark 8 g.held id ≡ true → has_mark 16 g.held id ≡ false → waits_in ws id ≡ true
   pub counted : open_in g.held ws + owed_by g.held due ≤ uncommon
 
--- none is offered only where nothing waits that isn't common
-abbrev pub EndsCommon : ℕ → List Waiting → GraphData → Option ObjectId → GraphData → Type 0
-EndsCommon u ws g None h = Fits u ws g → AllCommon h
-EndsCommon u ws g (Some id) h = Unit {0}
+-- a commit waits under its own time, or under 0 where it wasn't read before
+abbrev pub IsDated : GraphData → Waiting → Type 0
+IsDated g w = (time_at g.objects w.id ≡ Some w.time) ⊎ ((w.time ≡ pos 0) × (finite.get g.held w.id ≡ None))
+
+-- what comes to wait in a step wasn't seen before, and is dated
+pub record QueuesNew (ws : List Waiting) (g : GraphData) (xs : List Waiting) : Type 0 where
+  pub order : (f : GraphData) (time : ℤ) → Grows f g → NoneNewer time f ws → NoneNewer time f xs
+  pub dated : All (λ (w : Waiting). Contains ws w ⊎ IsDated g w) xs
+
+-- a commit that waited, or came to wait in this step: of those that were seen before it, none that still waits is newer than the time
+-- under which it waited
+abbrev pub IsNewestIn : List Waiting → GraphData → ObjectId → List Waiting → Type 0
+IsNewestIn ws g id xs = (w : Waiting) × (w.id ≡ id) × (Contains ws w ⊎ IsDated g w) × NoneNewer w.time g xs
+
+-- which commit is offered: the newest of those that waited; none only where nothing waits that isn't common
+abbrev pub PicksDated : ℕ → List Waiting → GraphData → Option ObjectId → List Waiting → GraphData → Type 0
+PicksDated u ws g None xs h = Fits u ws g → AllCommon h
+PicksDated u ws g (Some id) xs h = IsNewestIn ws g id xs

@@ -65,21 +65,21 @@ pub enum AnyNegotiator {
 }
 
 impl Negotiator for AnyNegotiator {
-    ghost use Rattle.gixp_negotiators.specs.Marks.{Grows, Offers, left};
-    ghost use Rattle.gixp_negotiators.specs.MarkLaws.{offer_lowers, grows_left};
-    ghost use Rattle.gixp_negotiators.specs.Algorithm.{Learns};
+    ghost use Rattle.gixp_negotiators.specs.Marks.{left};
+    ghost use Rattle.gixp_negotiators.specs.Algorithm.{KnowsByKind, AddsByKind, LearnsByKind, OffersByKind};
+    ghost use Rattle.gixp_negotiators.specs.AlgorithmLaws.{any_lowers, any_keeps, any_learns};
 
     ghost count = { λ n g. left 16 g };
 
     ghost failures = { λ n. 0 };
 
-    ghost knows = { λ n g id m h. Grows g h };
+    ghost knows = { λ n g id m h. KnowsByKind n g id m h };
 
-    ghost adds = { λ n g id m h. Grows g h };
+    ghost adds = { λ n g id m h. AddsByKind n g id m h };
 
-    ghost learns = { λ n g id m h. Grows g h × Learns n g id h };
+    ghost learns = { λ n g id m h. LearnsByKind n g id m h };
 
-    ghost offers = { λ n g have m h. Grows g h × Offers g have h };
+    ghost offers = { λ n g have m h. OffersByKind n g have m h };
 
     fn known_common<O: Objects>(
         &mut self,
@@ -128,9 +128,9 @@ impl Negotiator for AnyNegotiator {
         }
     }
 
-    ghost offer_lowers = { λ n g id m h r. offer_lowers g h id r.1 };
+    ghost offer_lowers = { λ n g id m h r. any_lowers n g id m h r };
 
-    ghost none_keeps = { λ n g m h r. grows_left 16 g h r.0 };
+    ghost none_keeps = { λ n g m h r. any_keeps n g m h r };
 
-    ghost learning_keeps = { λ n g id m h r. grows_left 16 g h r.0 };
+    ghost learning_keeps = { λ n g id m h r. any_learns n g id m h r };
 }

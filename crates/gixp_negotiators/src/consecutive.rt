@@ -1,10 +1,12 @@
 //! Offers each commit that isn't known to be common, the newest first.
-ghost use Rattle.std.specs.Prelude.{◌≡◌, ◌≤◌, ◌+◌, ◌⊎◌, ◌∷◌, [], IfOk, IfErr, IfSome, IfNone, OnOk, OnSome, IsTrue, All, length, true, false};
+ghost use Rattle.std.specs.Prelude.{◌≡◌, ◌≤◌, ◌+◌, ◌⊎◌, ◌∷◌, [], IfOk, IfErr, IfSome, IfNone, IsSome, OnOk, OnSome, IsTrue, All, Some, ◌||◌, length, bit_and, true, false};
 ghost use Rattle.std.specs.BinaryHeap.{heap_len, heap_items};
 ghost use Rattle.std.specs.List.Sorted.{IsPermutation};
+ghost use Rattle.gixp_graph.specs.Object.{commit_at};
 ghost use Rattle.gixp_graph.specs.GraphData.{parents_in};
 ghost use Rattle.gixp_graph.specs.Negotiation.{IsRefusal};
-ghost use Rattle.gixp_negotiators.specs.Marks.{Grows, SeesNone, IsOffered, IsMarkedIfThere, has_mark, has_all, left};
+ghost use Rattle.gixp_negotiators.specs.Marks.{Grows, SeesNone, SeesOnly, SettlesNone, SettlesOnly, IsOffered, IsMarkedIfThere, IsListedIfNew, has_mark, has_all, left};
+ghost use Rattle.gixp_negotiators.specs.Spread.{is_there, SeesCommon, SeesAmong, FindsCommon, HasCommonParents, KeepsSpread, SpreadsFrom, SpreadsAllFrom, StaysSpread};
 ghost use Rattle.gixp_negotiators.specs.Waiting.{Fits, KeepsTimed, AllCommon, AllTimed, NoneNewer, IsNewest, IsNewestAt, Picks};
 
 use crate::marks::{claim, either_has, has, look};
@@ -54,6 +56,12 @@ impl Consecutive {
         ensures room { OnOk result (left 8 graph.new.graph + heap_len self.new.queue.waiting ≤ left 8 graph.old.graph + heap_len self.old.queue.waiting) }
         ensures common { left 2 graph.new.graph ≤ left 2 graph.old.graph }
         ensures waits { OnOk result (IsMarkedIfThere 8 graph.old.graph graph.new.graph id.now) }
+        ensures spreads { OnOk result (StaysSpread is_there graph.old.graph graph.new.graph) }
+        ensures settles { bit_and marks.0 2 ≡ 0 → SettlesNone graph.old.graph graph.new.graph }
+        ensures settles_only { SettlesOnly id.now graph.old.graph graph.new.graph }
+        ensures marked { OnOk result (IsSome (commit_at graph.old.graph.objects id.now) → has_mark 8 graph.old.graph.held id.now ≡ false → has_mark marks.0 graph.new.graph.held id.now ≡ true) }
+        ensures sees_only { SeesOnly id.now graph.old.graph graph.new.graph }
+        ensures finds { OnOk result (bit_and marks.0 2 ≡ 2 → SeesCommon graph.old.graph graph.new.graph) }
         ensures grows { Grows graph.old.graph graph.new.graph }
         ensures failures { graph.old.failures ≤ graph.new.failures }
         ensures failed { IfErr result (IsRefusal 0 0 graph.old.failures graph.new.failures) }
@@ -111,6 +119,10 @@ impl Consecutive {
         ensures marked { OnOk result (IsMarkedIfThere 2 graph.old.graph graph.new.graph id.now) }
         ensures seen { left 8 graph.new.graph ≤ left 8 graph.old.graph }
         ensures queue { self.new.queue ≡ self.old.queue }
+        ensures kept { IfOk result (λ done. done ≡ false → SettlesNone graph.old.graph graph.new.graph) }
+        ensures settles_only { SettlesOnly id.now graph.old.graph graph.new.graph }
+        ensures sees { SeesNone graph.old.graph graph.new.graph }
+        ensures settled { IfOk result (λ done. IsTrue done → has_mark 2 graph.new.graph.held id.now ≡ true) }
         ensures grows { Grows graph.old.graph graph.new.graph }
         ensures failures { graph.old.failures ≤ graph.new.failures }
         ensures failed { IfErr result (IsRefusal 0 0 graph.old.failures graph.new.failures) }
@@ -133,6 +145,10 @@ impl Consecutive {
         ensures less { OnOk result (left 2 graph.new.graph + length due.new.items ≤ left 2 graph.old.graph + length due.old.items) }
         ensures seen { left 8 graph.new.graph ≤ left 8 graph.old.graph }
         ensures queue { self.new.queue ≡ self.old.queue }
+        ensures spreads { OnOk result (KeepsSpread is_there due.old.items graph.old.graph due.new.items graph.new.graph) }
+        ensures marked { OnOk result (IsMarkedIfThere 2 graph.old.graph graph.new.graph id.now) }
+        ensures sees { SeesNone graph.old.graph graph.new.graph }
+        ensures common { OnOk result (All (λ q. has_mark 2 graph.old.graph.held q ≡ true) due.old.items → All (λ q. has_mark 2 graph.new.graph.held q ≡ true) due.new.items) }
         ensures grows { Grows graph.old.graph graph.new.graph }
         ensures failures { graph.old.failures ≤ graph.new.failures }
         ensures failed { IfErr result (IsRefusal 0 0 graph.old.failures graph.new.failures) }
@@ -172,6 +188,10 @@ impl Consecutive {
         ensures less { OnOk result (left 2 graph.new.graph + length due.new.items ≤ left 2 graph.old.graph + length due.old.items) }
         ensures seen { left 8 graph.new.graph ≤ left 8 graph.old.graph }
         ensures queue { self.new.queue ≡ self.old.queue }
+        ensures spreads { OnOk result (KeepsSpread is_there due.old.items graph.old.graph due.new.items graph.new.graph) }
+        ensures marked { OnOk result (All (IsMarkedIfThere 2 graph.old.graph graph.new.graph) ids.now) }
+        ensures sees { SeesNone graph.old.graph graph.new.graph }
+        ensures common { OnOk result (All (λ q. has_mark 2 graph.old.graph.held q ≡ true) due.old.items → All (λ q. has_mark 2 graph.new.graph.held q ≡ true) due.new.items) }
         ensures grows { Grows graph.old.graph graph.new.graph }
         ensures failures { graph.old.failures ≤ graph.new.failures }
         ensures failed { IfErr result (IsRefusal 0 0 graph.old.failures graph.new.failures) }
@@ -192,6 +212,10 @@ impl Consecutive {
         ensures keeps { OnOk result (KeepsTimed self.old.uncommon (heap_items self.old.queue.waiting) graph.old.graph self.new.uncommon (heap_items self.new.queue.waiting) graph.new.graph) }
         ensures less { OnOk result (left 2 graph.new.graph + length due.new.items ≤ left 2 graph.old.graph + length due.old.items) }
         ensures room { OnOk result (left 8 graph.new.graph + heap_len self.new.queue.waiting ≤ left 8 graph.old.graph + heap_len self.old.queue.waiting) }
+        ensures spreads { OnOk result (SpreadsFrom is_there id.now due.old.items graph.old.graph due.new.items graph.new.graph) }
+        ensures ancestors { OnOk result (has_mark 8 graph.old.graph.held id.now ≡ true → HasCommonParents is_there graph.old.graph graph.new.graph id.now) }
+        ensures finds { OnOk result ((IsSome (commit_at graph.old.graph.objects id.now) → (has_mark 8 graph.old.graph.held id.now || has_mark 2 graph.old.graph.held id.now) ≡ true) → SeesCommon graph.old.graph graph.new.graph) }
+        ensures common { OnOk result (All (λ q. has_mark 2 graph.old.graph.held q ≡ true) due.old.items → All (λ q. has_mark 2 graph.new.graph.held q ≡ true) due.new.items) }
         ensures grows { Grows graph.old.graph graph.new.graph }
         ensures failures { graph.old.failures ≤ graph.new.failures }
         ensures failed { IfErr result (IsRefusal 0 0 graph.old.failures graph.new.failures) }
@@ -216,15 +240,15 @@ impl Consecutive {
     ) -> Result<(), NegotiatorError>
         ensures keeps { OnOk result (KeepsTimed self.old.uncommon (heap_items self.old.queue.waiting) graph.old.graph self.new.uncommon (heap_items self.new.queue.waiting) graph.new.graph) }
         ensures room { OnOk result (left 8 graph.new.graph + heap_len self.new.queue.waiting ≤ left 8 graph.old.graph + heap_len self.old.queue.waiting) }
+        ensures spreads { OnOk result (SpreadsAllFrom is_there id.now graph.old.graph graph.new.graph) }
+        ensures ancestors { OnOk result (has_mark 8 graph.old.graph.held id.now ≡ true → HasCommonParents is_there graph.old.graph graph.new.graph id.now) }
+        ensures finds { OnOk result ((IsSome (commit_at graph.old.graph.objects id.now) → (has_mark 8 graph.old.graph.held id.now || has_mark 2 graph.old.graph.held id.now) ≡ true) → SeesCommon graph.old.graph graph.new.graph) }
         ensures grows { Grows graph.old.graph graph.new.graph }
         ensures failures { graph.old.failures ≤ graph.new.failures }
         ensures failed { IfErr result (IsRefusal 0 0 graph.old.failures graph.new.failures) }
     {
         let mut due = Vec::new(self.alloc);
-        match due.push(*id) {
-            Ok(()) => {}
-            Err(_) => return Err(NegotiatorError::Memory),
-        }
+        self.spread(graph, id, &mut due)?;
         while let Some(next) = due.pop() {
             self.spread(graph, &next, &mut due)?;
         }
@@ -239,6 +263,9 @@ impl Consecutive {
     ) -> Result<(), NegotiatorError>
         ensures keeps { OnOk result (KeepsTimed self.old.uncommon (heap_items self.old.queue.waiting) graph.old.graph self.new.uncommon (heap_items self.new.queue.waiting) graph.new.graph) }
         ensures room { OnOk result (left 8 graph.new.graph + heap_len self.new.queue.waiting ≤ left 8 graph.old.graph + heap_len self.old.queue.waiting) }
+        ensures spreads { OnOk result (StaysSpread is_there graph.old.graph graph.new.graph) }
+        ensures ancestors { OnOk result (has_mark 8 graph.old.graph.held id.now ≡ true → has_mark 2 graph.old.graph.held id.now ≡ false → HasCommonParents is_there graph.old.graph graph.new.graph id.now) }
+        ensures finds { OnOk result ((IsSome (commit_at graph.old.graph.objects id.now) → (has_mark 8 graph.old.graph.held id.now || has_mark 2 graph.old.graph.held id.now) ≡ true) → SeesCommon graph.old.graph graph.new.graph) }
         ensures grows { Grows graph.old.graph graph.new.graph }
         ensures failures { graph.old.failures ≤ graph.new.failures }
         ensures failed { IfErr result (IsRefusal 0 0 graph.old.failures graph.new.failures) }
@@ -260,6 +287,7 @@ impl Consecutive {
         id: &ObjectId,
     ) -> Result<(), NegotiatorError>
         ensures keeps { OnOk result (KeepsTimed self.old.uncommon (heap_items self.old.queue.waiting) graph.old.graph self.new.uncommon (heap_items self.new.queue.waiting) graph.new.graph) }
+        ensures spreads { OnOk result (StaysSpread is_there graph.old.graph graph.new.graph) }
         ensures grows { Grows graph.old.graph graph.new.graph }
         ensures common { OnOk result (IsMarkedIfThere 2 graph.old.graph graph.new.graph id.now) }
         ensures failures { graph.old.failures ≤ graph.new.failures }
@@ -282,6 +310,9 @@ impl Consecutive {
         ensures keeps { OnOk result (KeepsTimed self.old.uncommon (heap_items self.old.queue.waiting) graph.old.graph self.new.uncommon (heap_items self.new.queue.waiting) graph.new.graph) }
         ensures room { OnOk result (left 8 graph.new.graph + heap_len self.new.queue.waiting ≤ left 8 graph.old.graph + heap_len self.old.queue.waiting) }
         ensures waits { OnOk result (IsMarkedIfThere 8 graph.old.graph graph.new.graph parent.now) }
+        ensures spreads { OnOk result (StaysSpread is_there graph.old.graph graph.new.graph) }
+        ensures finds { IsTrue is_common → OnOk result (SeesCommon graph.old.graph graph.new.graph) }
+        ensures others { is_common ≡ false → OnOk result (SeesOnly parent.now graph.old.graph graph.new.graph) }
         ensures grows { Grows graph.old.graph graph.new.graph }
         ensures failures { graph.old.failures ≤ graph.new.failures }
         ensures failed { IfErr result (IsRefusal 0 0 graph.old.failures graph.new.failures) }
@@ -305,6 +336,9 @@ impl Consecutive {
         ensures keeps { OnOk result (KeepsTimed self.old.uncommon (heap_items self.old.queue.waiting) graph.old.graph self.new.uncommon (heap_items self.new.queue.waiting) graph.new.graph) }
         ensures room { OnOk result (left 8 graph.new.graph + heap_len self.new.queue.waiting ≤ left 8 graph.old.graph + heap_len self.old.queue.waiting) }
         ensures waits { OnOk result (All (IsMarkedIfThere 8 graph.old.graph graph.new.graph) parents.now) }
+        ensures spreads { OnOk result (StaysSpread is_there graph.old.graph graph.new.graph) }
+        ensures finds { IsTrue is_common → OnOk result (SeesCommon graph.old.graph graph.new.graph) }
+        ensures others { is_common ≡ false → OnOk result (SeesAmong parents.now graph.old.graph graph.new.graph) }
         ensures grows { Grows graph.old.graph graph.new.graph }
         ensures failures { graph.old.failures ≤ graph.new.failures }
         ensures failed { IfErr result (IsRefusal 0 0 graph.old.failures graph.new.failures) }
@@ -335,6 +369,9 @@ impl Consecutive {
         ensures keeps { OnOk result (KeepsTimed self.old.uncommon (first.now ∷ heap_items self.old.queue.waiting) graph.old.graph self.new.uncommon (heap_items self.new.queue.waiting) graph.new.graph) }
         ensures offered { IfOk result (λ offered. IsTrue offered → IsOffered graph.old.graph graph.new.graph first.now.id) }
         ensures room { OnOk result (left 8 graph.new.graph + heap_len self.new.queue.waiting ≤ left 8 graph.old.graph + heap_len self.old.queue.waiting) }
+        ensures spreads { OnOk result (StaysSpread is_there graph.old.graph graph.new.graph) }
+        ensures passes { IfOk result (λ offered. offered ≡ false → SeesCommon graph.old.graph graph.new.graph) }
+        ensures finds { IfOk result (λ offered. IsTrue offered → FindsCommon graph.old.graph (Some first.now.id) graph.new.graph) }
         ensures grows { Grows graph.old.graph graph.new.graph }
         ensures failures { graph.old.failures ≤ graph.new.failures }
         ensures failed { IfErr result (IsRefusal 0 0 graph.old.failures graph.new.failures) }
@@ -344,7 +381,7 @@ impl Consecutive {
         };
         let is_common = has(flags, Flags(2));
         self.release(is_common);
-        let spreads = is_common || has(flags, Flags(4));
+        let spreads = is_shared(flags);
         let parents = self.parents_of(graph, &first.id)?;
         self.follow_all(graph, &parents, spreads)?;
         Ok(!is_common)
@@ -374,6 +411,8 @@ impl Consecutive {
         ensures newest { IfOk result (λ have. IfSome have (λ id. AllTimed graph.old.graph.objects (heap_items self.old.queue.waiting) → IsNewestAt graph.old.graph id (heap_items self.new.queue.waiting))) }
         ensures none { IfOk result (λ have. IfNone have (Fits self.old.uncommon (heap_items self.old.queue.waiting) graph.old.graph → AllCommon graph.new.graph)) }
         ensures keeps { OnOk result (KeepsTimed self.old.uncommon (heap_items self.old.queue.waiting) graph.old.graph self.new.uncommon (heap_items self.new.queue.waiting) graph.new.graph) }
+        ensures spreads { OnOk result (StaysSpread is_there graph.old.graph graph.new.graph) }
+        ensures finds { IfOk result (λ have. FindsCommon graph.old.graph have graph.new.graph) }
         ensures grows { Grows graph.old.graph graph.new.graph }
         ensures failures { graph.old.failures ≤ graph.new.failures }
         ensures failed { IfErr result (IsRefusal 0 0 graph.old.failures graph.new.failures) }
@@ -394,6 +433,9 @@ impl Consecutive {
     ) -> Result<(), NegotiatorError>
         ensures keeps { OnOk result (KeepsTimed self.old.uncommon (heap_items self.old.queue.waiting) graph.old.graph self.new.uncommon (heap_items self.new.queue.waiting) graph.new.graph) }
         ensures waits { OnOk result (IsMarkedIfThere 8 graph.old.graph graph.new.graph id.now) }
+        ensures spreads { OnOk result (StaysSpread is_there graph.old.graph graph.new.graph) }
+        ensures ancestors { OnOk result (IsSome (commit_at graph.old.graph.objects id.now) → has_mark 8 graph.old.graph.held id.now ≡ false → has_mark 2 graph.old.graph.held id.now ≡ false → HasCommonParents is_there graph.old.graph graph.new.graph id.now) }
+        ensures listed { OnOk result (IsListedIfNew graph.old.graph graph.new.graph id.now) }
         ensures grows { Grows graph.old.graph graph.new.graph }
         ensures failures { graph.old.failures ≤ graph.new.failures }
         ensures failed { IfErr result (IsRefusal 0 0 graph.old.failures graph.new.failures) }
@@ -410,23 +452,32 @@ impl Consecutive {
     }
 }
 
+// Whether a commit with these marks is common, or a ref of the server is it.
+fn is_shared(flags: Flags) -> bool
+    ensures { result ≡ (has_all 2 flags.0 || has_all 4 flags.0) }
+{
+    if has(flags, Flags(2)) {
+        return true;
+    }
+    has(flags, Flags(4))
+}
+
 impl Negotiator for Consecutive {
-    ghost use Rattle.gixp_negotiators.specs.Marks.{Grows, IsOffered, Offers, IsMarkedIfThere, left};
     ghost use Rattle.gixp_negotiators.specs.MarkLaws.{offer_lowers, grows_left};
-    ghost use Rattle.gixp_negotiators.specs.Waiting.{KeepsTimed, Picks};
-    ghost use Rattle.std.specs.BinaryHeap.{heap_items};
+    ghost use Rattle.gixp_negotiators.specs.Marks.{left};
+    ghost use Rattle.gixp_negotiators.specs.Calls.{KnowsInTurn, AddsInTurn, LearnsInTurn, OffersInTurn};
 
     ghost count = { λ n g. left 16 g };
 
     ghost failures = { λ n. 0 };
 
-    ghost knows = { λ n g id m h. Grows g h × IsMarkedIfThere 8 g h id × KeepsTimed n.uncommon (heap_items n.queue.waiting) g m.uncommon (heap_items m.queue.waiting) h };
+    ghost knows = { λ n g id m h. KnowsInTurn n g id m h };
 
-    ghost adds = { λ n g id m h. Grows g h × IsMarkedIfThere 8 g h id × KeepsTimed n.uncommon (heap_items n.queue.waiting) g m.uncommon (heap_items m.queue.waiting) h };
+    ghost adds = { λ n g id m h. AddsInTurn n g id m h };
 
-    ghost learns = { λ n g id m h. Grows g h × IsMarkedIfThere 2 g h id × KeepsTimed n.uncommon (heap_items n.queue.waiting) g m.uncommon (heap_items m.queue.waiting) h };
+    ghost learns = { λ n g id m h. LearnsInTurn n g id m h };
 
-    ghost offers = { λ n g have m h. Grows g h × Offers g have h × KeepsTimed n.uncommon (heap_items n.queue.waiting) g m.uncommon (heap_items m.queue.waiting) h × Picks n.uncommon (heap_items n.queue.waiting) g have (heap_items m.queue.waiting) h };
+    ghost offers = { λ n g have m h. OffersInTurn n g have m h };
 
     fn known_common<O: Objects>(
         &mut self,
@@ -463,9 +514,9 @@ impl Negotiator for Consecutive {
         }
     }
 
-    ghost offer_lowers = { λ n g id m h r. offer_lowers g h id r.1 };
+    ghost offer_lowers = { λ n g id m h r. offer_lowers g h id r.offers };
 
-    ghost none_keeps = { λ n g m h r. grows_left 16 g h r.0 };
+    ghost none_keeps = { λ n g m h r. grows_left 16 g h r.grows };
 
-    ghost learning_keeps = { λ n g id m h r. grows_left 16 g h r.0 };
+    ghost learning_keeps = { λ n g id m h r. grows_left 16 g h r.grows };
 }

@@ -1,13 +1,14 @@
 //! Offers commits at growing distances, the newest first.
-ghost use Rattle.std.specs.Prelude.{◌≡◌, ℕ, List, ◌≤◌, ◌<◌, ◌+◌, ◌-◌, ◌⊎◌, ◌∷◌, [], IfOk, IfErr, IfSome, IfNone, IsSome, OnOk, OnSome, IsTrue, All, length, true, false};
+ghost use Rattle.std.specs.Prelude.{◌≡◌, ℕ, pos, List, ◌≤◌, ◌<◌, ◌+◌, ◌-◌, ◌⊎◌, ◌∷◌, [], IfOk, IfErr, IfSome, IfNone, IsSome, OnOk, OnSome, IsTrue, All, length, bit_and, true, false};
 ghost use Rattle.std.specs.BinaryHeap.{heap_len, heap_items};
 ghost use Rattle.std.specs.List.Sorted.{IsPermutation};
 ghost use Rattle.gixp_graph.specs.Object.{commit_at};
-ghost use Rattle.gixp_graph.specs.GraphData.{parents_in};
+ghost use Rattle.gixp_graph.specs.GraphData.{GraphData, parents_in};
 ghost use Rattle.gixp_negotiators.specs.declared.queue.Waiting.{Waiting};
 ghost use Rattle.gixp_graph.specs.Negotiation.{IsMemory, IsRefusal};
-ghost use Rattle.gixp_negotiators.specs.Marks.{Grows, SeesNone, IsOffered, IsMarkedIfThere, has_all, has_mark, left};
-ghost use Rattle.gixp_negotiators.specs.Waiting.{Fits, FitsOwing, AllCommon, IsNewest};
+ghost use Rattle.gixp_negotiators.specs.Marks.{Grows, SettlesNone, IsOffered, IsMarkedIfThere, IsListedIfNew, has_all, has_mark, left};
+ghost use Rattle.gixp_negotiators.specs.Spread.{was_seen, BecomesCommon, KeepsSpread, SpreadsFrom, IsNewlyCommon, AllRead, Spreads};
+ghost use Rattle.gixp_negotiators.specs.Waiting.{Fits, FitsOwing, AllCommon, IsNewest, IsNewestIn, QueuesNew};
 ghost use Rattle.gixp_negotiators.specs.declared.skipping.Legacy.TheVariants.{Common, Skips};
 ghost use Rattle.gixp_negotiators.specs.Distance.{distance_after, skip_of};
 
@@ -81,6 +82,9 @@ impl Skipping {
         ensures fits { OnOk result (Fits self.old.uncommon (heap_items self.old.queue.waiting) graph.old.graph → Fits self.new.uncommon (heap_items self.new.queue.waiting) graph.new.graph) }
         ensures room { OnOk result (left 8 graph.new.graph + heap_len self.new.queue.waiting ≤ left 8 graph.old.graph + heap_len self.old.queue.waiting) }
         ensures waits { OnOk result (IsMarkedIfThere 8 graph.old.graph graph.new.graph id.now) }
+        ensures listed { OnOk result (bit_and marks.0 4 ≡ 4 → IsListedIfNew graph.old.graph graph.new.graph id.now) }
+        ensures settles { SettlesNone graph.old.graph graph.new.graph }
+        ensures queues { OnOk result (QueuesNew (heap_items self.old.queue.waiting) graph.old.graph (heap_items self.new.queue.waiting)) }
         ensures grows { Grows graph.old.graph graph.new.graph }
         ensures failures { graph.old.failures ≤ graph.new.failures }
         ensures failed { IfErr result (IsRefusal 0 0 graph.old.failures graph.new.failures) }
@@ -114,6 +118,8 @@ impl Skipping {
     fn time_of(&mut self, is_read: bool, time: i64, id: &ObjectId) -> Result<i64, NegotiatorError>
         ensures queue { self.new.queue ≡ self.old.queue }
         ensures uncommon { self.new.uncommon ≡ self.old.uncommon }
+        ensures read { is_read ≡ true → IfOk result (λ due. due ≡ time) }
+        ensures unread { is_read ≡ false → IfOk result (λ due. due ≡ pos 0) }
         ensures failed { IfErr result IsMemory }
     {
         if is_read {
@@ -142,7 +148,7 @@ impl Skipping {
 
     // Marks the parents of a common commit as common that were seen.
     fn spread<O: Objects>(
-        &mut self,
+        &self,
         graph: &mut Graph<O>,
         id: &ObjectId,
         due: &mut Vec<ObjectId>,
@@ -150,8 +156,8 @@ impl Skipping {
         ensures fits { OnOk result ((u : ℕ) (ws : List Waiting) → FitsOwing u ws graph.old.graph due.old.items → FitsOwing u ws graph.new.graph due.new.items) }
         ensures less { OnOk result (left 2 graph.new.graph + length due.new.items ≤ left 2 graph.old.graph + length due.old.items) }
         ensures seen { left 8 graph.new.graph ≤ left 8 graph.old.graph }
-        ensures queue { self.new.queue ≡ self.old.queue }
-        ensures uncommon { self.new.uncommon ≡ self.old.uncommon }
+        ensures spreads { OnOk result (SpreadsFrom was_seen id.now due.old.items graph.old.graph due.new.items graph.new.graph) }
+        ensures newly { OnOk result ((f : GraphData) → Grows f graph.old.graph → All (IsNewlyCommon f graph.old.graph) due.old.items → All (IsNewlyCommon f graph.new.graph) due.new.items) }
         ensures grows { Grows graph.old.graph graph.new.graph }
         ensures failures { graph.old.failures ≤ graph.new.failures }
         ensures failed { IfErr result (IsRefusal 0 0 graph.old.failures graph.new.failures) }
@@ -164,6 +170,7 @@ impl Skipping {
     // One that is now common isn't counted, where it waits.
     fn discount(&mut self, is_taken: bool)
         ensures queue { self.new.queue ≡ self.old.queue }
+        ensures unread { self.new.unread ≡ self.old.unread }
         ensures taken { is_taken ≡ true → self.new.uncommon ≡ self.old.uncommon }
         ensures waits { self.old.uncommon ≤ self.new.uncommon + 1 }
     {
@@ -182,6 +189,7 @@ impl Skipping {
         ensures common { OnOk result (has_mark 8 graph.old.graph.held id.now ≡ true → has_mark 2 graph.new.graph.held id.now ≡ true) }
         ensures seen { left 8 graph.new.graph ≤ left 8 graph.old.graph }
         ensures queue { self.new.queue ≡ self.old.queue }
+        ensures spreads { OnOk result (AllRead self.old.unread graph.old.graph graph.new.graph → Spreads was_seen graph.old.graph graph.new.graph) }
         ensures grows { Grows graph.old.graph graph.new.graph }
         ensures failures { graph.old.failures ≤ graph.new.failures }
         ensures failed { IfErr result (IsRefusal 0 0 graph.old.failures graph.new.failures) }
@@ -257,6 +265,7 @@ impl Skipping {
         ensures fits { OnOk result (Fits self.old.uncommon (heap_items self.old.queue.waiting) graph.old.graph → Fits self.new.uncommon (heap_items self.new.queue.waiting) graph.new.graph) }
         ensures room { OnOk result (left 8 graph.new.graph + heap_len self.new.queue.waiting ≤ left 8 graph.old.graph + heap_len self.old.queue.waiting) }
         ensures waits { OnOk result (IsMarkedIfThere 8 graph.old.graph graph.new.graph parent.now) }
+        ensures queues { OnOk result (QueuesNew (heap_items self.old.queue.waiting) graph.old.graph (heap_items self.new.queue.waiting)) }
         ensures grows { Grows graph.old.graph graph.new.graph }
         ensures failures { graph.old.failures ≤ graph.new.failures }
         ensures failed { IfErr result (IsRefusal 0 0 graph.old.failures graph.new.failures) }
@@ -279,6 +288,7 @@ impl Skipping {
         ensures fits { OnOk result (Fits self.old.uncommon (heap_items self.old.queue.waiting) graph.old.graph → Fits self.new.uncommon (heap_items self.new.queue.waiting) graph.new.graph) }
         ensures room { OnOk result (left 8 graph.new.graph + heap_len self.new.queue.waiting ≤ left 8 graph.old.graph + heap_len self.old.queue.waiting) }
         ensures waits { OnOk result (All (IsMarkedIfThere 8 graph.old.graph graph.new.graph) parents.now) }
+        ensures queues { OnOk result (QueuesNew (heap_items self.old.queue.waiting) graph.old.graph (heap_items self.new.queue.waiting)) }
         ensures grows { Grows graph.old.graph graph.new.graph }
         ensures failures { graph.old.failures ≤ graph.new.failures }
         ensures failed { IfErr result (IsRefusal 0 0 graph.old.failures graph.new.failures) }
@@ -300,6 +310,7 @@ impl Skipping {
         ensures fits { OnOk result (Fits self.old.uncommon (first.now ∷ heap_items self.old.queue.waiting) graph.old.graph → Fits self.new.uncommon (heap_items self.new.queue.waiting) graph.new.graph) }
         ensures offered { IfOk result (λ offered. IsTrue offered → IsOffered graph.old.graph graph.new.graph first.now.id) }
         ensures room { OnOk result (left 8 graph.new.graph + heap_len self.new.queue.waiting ≤ left 8 graph.old.graph + heap_len self.old.queue.waiting) }
+        ensures queues { OnOk result (QueuesNew (heap_items self.old.queue.waiting) graph.old.graph (heap_items self.new.queue.waiting)) }
         ensures grows { Grows graph.old.graph graph.new.graph }
         ensures failures { graph.old.failures ≤ graph.new.failures }
         ensures failed { IfErr result (IsRefusal 0 0 graph.old.failures graph.new.failures) }
@@ -337,8 +348,10 @@ impl Skipping {
         graph: &mut Graph<O>,
     ) -> Result<Option<ObjectId>, NegotiatorError>
         ensures offered { IfOk result (λ have. IfSome have (IsOffered graph.old.graph graph.new.graph)) }
+        ensures newest { IfOk result (λ have. IfSome have (λ id. IsNewestIn (heap_items self.old.queue.waiting) graph.old.graph id (heap_items self.new.queue.waiting))) }
         ensures none { IfOk result (λ have. IfNone have (Fits self.old.uncommon (heap_items self.old.queue.waiting) graph.old.graph → AllCommon graph.new.graph)) }
         ensures fits { OnOk result (Fits self.old.uncommon (heap_items self.old.queue.waiting) graph.old.graph → Fits self.new.uncommon (heap_items self.new.queue.waiting) graph.new.graph) }
+        ensures queues { OnOk result (QueuesNew (heap_items self.old.queue.waiting) graph.old.graph (heap_items self.new.queue.waiting)) }
         ensures grows { Grows graph.old.graph graph.new.graph }
         ensures failures { graph.old.failures ≤ graph.new.failures }
         ensures failed { IfErr result (IsRefusal 0 0 graph.old.failures graph.new.failures) }
@@ -362,6 +375,8 @@ fn reach<O: Objects>(
     ensures common { OnOk result (has_mark 8 graph.old.graph.held id.now ≡ true → has_mark 2 graph.new.graph.held id.now ≡ true) }
     ensures less { OnOk result (left 2 graph.new.graph + length due.new.items ≤ left 2 graph.old.graph + length due.old.items) }
     ensures seen { left 8 graph.new.graph ≤ left 8 graph.old.graph }
+    ensures spreads { OnOk result (KeepsSpread was_seen due.old.items graph.old.graph due.new.items graph.new.graph) }
+    ensures newly { OnOk result ((f : GraphData) → Grows f graph.old.graph → All (IsNewlyCommon f graph.old.graph) due.old.items → All (IsNewlyCommon f graph.new.graph) due.new.items) }
     ensures grows { Grows graph.old.graph graph.new.graph }
     ensures failures { graph.old.failures ≤ graph.new.failures }
     ensures failed { IfErr result (IsRefusal 0 0 graph.old.failures graph.new.failures) }
@@ -399,6 +414,9 @@ fn reach_all<O: Objects>(
     ensures fits { OnOk result ((u : ℕ) (ws : List Waiting) → FitsOwing u ws graph.old.graph due.old.items → FitsOwing u ws graph.new.graph due.new.items) }
     ensures less { OnOk result (left 2 graph.new.graph + length due.new.items ≤ left 2 graph.old.graph + length due.old.items) }
     ensures seen { left 8 graph.new.graph ≤ left 8 graph.old.graph }
+    ensures spreads { OnOk result (KeepsSpread was_seen due.old.items graph.old.graph due.new.items graph.new.graph) }
+    ensures newly { OnOk result ((f : GraphData) → Grows f graph.old.graph → All (IsNewlyCommon f graph.old.graph) due.old.items → All (IsNewlyCommon f graph.new.graph) due.new.items) }
+    ensures common { OnOk result (All (BecomesCommon was_seen graph.old.graph graph.new.graph) ids.now) }
     ensures grows { Grows graph.old.graph graph.new.graph }
     ensures failures { graph.old.failures ≤ graph.new.failures }
     ensures failed { IfErr result (IsRefusal 0 0 graph.old.failures graph.new.failures) }
@@ -453,23 +471,21 @@ fn legacy_of(flags: Flags, skip: Skip) -> Legacy
 }
 
 impl Negotiator for Skipping {
-    ghost use Rattle.std.specs.Prelude.{◌≡◌, true};
-    ghost use Rattle.std.specs.BinaryHeap.{heap_items};
-    ghost use Rattle.gixp_negotiators.specs.Marks.{Grows, IsOffered, Offers, IsMarkedIfThere, has_mark, left};
     ghost use Rattle.gixp_negotiators.specs.MarkLaws.{offer_lowers, grows_left};
-    ghost use Rattle.gixp_negotiators.specs.Waiting.{Fits, EndsCommon};
+    ghost use Rattle.gixp_negotiators.specs.Marks.{left};
+    ghost use Rattle.gixp_negotiators.specs.Calls.{KnowsSkipping, AddsSkipping, LearnsSkipping, OffersSkipping};
 
     ghost count = { λ n g. left 16 g };
 
     ghost failures = { λ n. 0 };
 
-    ghost knows = { λ n g id m h. Grows g h × IsMarkedIfThere 8 g h id × (Fits n.uncommon (heap_items n.queue.waiting) g → Fits m.uncommon (heap_items m.queue.waiting) h) };
+    ghost knows = { λ n g id m h. KnowsSkipping n g id m h };
 
-    ghost adds = { λ n g id m h. Grows g h × IsMarkedIfThere 8 g h id × (Fits n.uncommon (heap_items n.queue.waiting) g → Fits m.uncommon (heap_items m.queue.waiting) h) };
+    ghost adds = { λ n g id m h. AddsSkipping n g id m h };
 
-    ghost learns = { λ n g id m h. Grows g h × (has_mark 8 g.held id ≡ true → has_mark 2 h.held id ≡ true) × (Fits n.uncommon (heap_items n.queue.waiting) g → Fits m.uncommon (heap_items m.queue.waiting) h) };
+    ghost learns = { λ n g id m h. LearnsSkipping n g id m h };
 
-    ghost offers = { λ n g have m h. Grows g h × Offers g have h × (Fits n.uncommon (heap_items n.queue.waiting) g → Fits m.uncommon (heap_items m.queue.waiting) h) × EndsCommon n.uncommon (heap_items n.queue.waiting) g have h };
+    ghost offers = { λ n g have m h. OffersSkipping n g have m h };
 
     fn known_common<O: Objects>(
         &mut self,
@@ -506,9 +522,9 @@ impl Negotiator for Skipping {
         }
     }
 
-    ghost offer_lowers = { λ n g id m h r. offer_lowers g h id r.1 };
+    ghost offer_lowers = { λ n g id m h r. offer_lowers g h id r.offers };
 
-    ghost none_keeps = { λ n g m h r. grows_left 16 g h r.0 };
+    ghost none_keeps = { λ n g m h r. grows_left 16 g h r.grows };
 
-    ghost learning_keeps = { λ n g id m h r. grows_left 16 g h r.0 };
+    ghost learning_keeps = { λ n g id m h r. grows_left 16 g h r.grows };
 }

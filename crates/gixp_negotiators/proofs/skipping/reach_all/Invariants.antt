@@ -1,13 +1,19 @@
 -- What the loop keeps.
-use Rattle.std.proofs.Common.{ℕ, ◌+◌, ◌≤◌, List, length}
+use Rattle.std.proofs.Common.{ℕ, ◌+◌, ◌≤◌, List, length, take}
+use Rattle.std.specs.Prelude.{All}
+use Rattle.gixp_graph.specs.GraphData.{GraphData}
 use Rattle.gixp_negotiators.specs.declared.queue.Waiting.{Waiting}
 use Rattle.gixp_negotiators.specs.Marks.{Grows, left}
 use Rattle.gixp_negotiators.specs.Waiting.{FitsOwing}
+use Rattle.gixp_negotiators.specs.Spread.{was_seen, BecomesCommon, IsNewlyCommon, KeepsSpread}
 use Rattle.gixp_negotiators.proofs.skipping.reach_all.Given as goal
 
 abbrev pub invariant-loop-id : goal.invariant-loop-id
 invariant-loop-id g l = record {
   fits : (u : ℕ) (ws : List Waiting) → FitsOwing u ws l.fn.graph.graph l.fn.due.items → FitsOwing u ws l.graph.graph l.due.items;
+  spreads : KeepsSpread was_seen l.fn.due.items l.fn.graph.graph l.due.items l.graph.graph;
+  newly : (f : GraphData) → Grows f l.fn.graph.graph → All (IsNewlyCommon f l.fn.graph.graph) l.fn.due.items → All (IsNewlyCommon f l.graph.graph) l.due.items;
+  common : All (BecomesCommon was_seen l.fn.graph.graph l.graph.graph) (take l.id-index l.ids);
   less : left 2 l.graph.graph + length l.due.items ≤ left 2 l.fn.graph.graph + length l.fn.due.items;
   seen : left 8 l.graph.graph ≤ left 8 l.fn.graph.graph;
   grows : Grows l.fn.graph.graph l.graph.graph;

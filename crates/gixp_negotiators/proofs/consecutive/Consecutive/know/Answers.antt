@@ -1,9 +1,12 @@
 -- A commit waits that the server has as a ref.
-use Rattle.std.proofs.Common.{subst, sym}
+use Rattle.std.proofs.Common.{refl, subst, sym}
 use Rattle.std.specs.Prelude.{IsSome}
 use Rattle.gixp_graph.specs.Object.{Objects, commit_at}
 use Rattle.gixp_negotiators.proofs.FitLemmas.{timed_grown, timed_on}
-use Rattle.gixp_negotiators.proofs.GrowLemmas.{grows_on}
+use Rattle.gixp_negotiators.proofs.GrowLemmas.{grows_on, has_part}
+use Rattle.gixp_negotiators.specs.Spread.{is_there}
+use Rattle.gixp_negotiators.proofs.SpreadLemmas.{stays_there, stays_grown, stays_on}
+use Rattle.gixp_negotiators.proofs.StepLemmas.{none_seen}
 use Rattle.gixp_negotiators.proofs.consecutive.Consecutive.know.Goals as goal
 
 pub returns-in_default-clause-keeps : goal.returns-in_default-clause-keeps
@@ -18,3 +21,15 @@ returns-clause-waits g c s = c.mark_ancestors.ensures.grows.marks 8 c.args.id.no
 
 pub returns-then-has-clause-keeps : goal.returns-then-has-clause-keeps
 returns-then-has-clause-keeps g c = timed_grown _ _ _ _ c.look.ensures.grows c.look.ensures.sees
+
+pub returns-in_default-clause-spreads : goal.returns-in_default-clause-spreads
+returns-in_default-clause-spreads g c = stays_grown is_there stays_there _ _ c.look.ensures.grows c.look.ensures.settles
+
+pub returns-then-has-clause-spreads : goal.returns-then-has-clause-spreads
+returns-then-has-clause-spreads g c = stays_grown is_there stays_there _ _ c.look.ensures.grows c.look.ensures.settles
+
+pub returns-clause-spreads : goal.returns-clause-spreads
+returns-clause-spreads g c = stays_on is_there stays_there _ _ _ c.look.ensures.grows (stays_grown is_there stays_there _ _ c.look.ensures.grows c.look.ensures.settles) (stays_on is_there stays_there _ _ _ c.push.ensures.grows c.in_ok-push.ensures.spreads c.in_ok-mark_ancestors.ensures.spreads)
+
+pub returns-clause-listed : goal.returns-clause-listed
+returns-clause-listed g c s unseen = c.mark_ancestors.ensures.grows.marks 4 c.args.id.now (has_part 12 4 c.push.new.graph.graph.held c.args.id.now refl (c.in_ok-push.ensures.marked (subst (λ (o : Objects). IsSome (commit_at o c.args.id.now)) (sym c.look.ensures.grows.objects) s) (none_seen c.args.graph.now.graph c.look.new.graph.graph c.args.id.now c.look.ensures.sees unseen)))

@@ -3,6 +3,8 @@ use Rattle.std.proofs.Common.{◌≡◌, ◌∙◌, arith, subst, sym}
 use Rattle.std.specs.Prelude.{IsSome}
 use Rattle.gixp_negotiators.proofs.GrowLemmas.{grows_on}
 use Rattle.gixp_negotiators.proofs.FitLemmas.{timed_on}
+use Rattle.gixp_negotiators.specs.Spread.{is_there}
+use Rattle.gixp_negotiators.proofs.SpreadLemmas.{stays_there, stays_grown, stays_settled}
 use Rattle.gixp_negotiators.proofs.consecutive.Consecutive.mark_common.Goals as goal
 
 pub returns-in_err-spread_all-clause-grows : goal.returns-in_err-spread_all-clause-grows
@@ -16,3 +18,9 @@ returns-clause-keeps g c = timed_on _ _ _ _ _ _ _ _ _ c.settle.ensures.grows c.i
 
 pub returns-clause-common : goal.returns-clause-common
 returns-clause-common g c s = c.spread_all.ensures.grows.marks 2 c.args.id.now (c.in_ok-settle.ensures.marked s)
+
+pub returns-clause-spreads : goal.returns-clause-spreads
+returns-clause-spreads g c = stays_settled is_there stays_there c.args.id.now _ _ _ c.settle.ensures.grows c.settle.ensures.settles_only c.in_ok-spread_all.ensures.spreads
+
+pub returns-then-not-branch-clause-spreads : goal.returns-then-not-branch-clause-spreads
+returns-then-not-branch-clause-spreads g c = stays_grown is_there stays_there _ _ c.settle.ensures.grows (c.in_ok-settle.ensures.kept c.if-not-branch.true)

@@ -5,15 +5,20 @@ use Rattle.std.specs.BinaryHeap.{heap_items}
 use Rattle.gixp_negotiators.proofs.GrowLemmas.{grows_none, grows_on}
 use Rattle.gixp_negotiators.proofs.StepLemmas.{offered_since}
 use Rattle.gixp_negotiators.proofs.FitLemmas.{timed_none, timed_on, timed_popped, newest_at, none_open, none_waits}
+use Rattle.gixp_negotiators.specs.Spread.{is_there}
+use Rattle.gixp_negotiators.proofs.SpreadLemmas.{stays_there, stays_none, stays_on}
+use Rattle.gixp_negotiators.proofs.SeeLemmas.{sees_same, sees_on, finds_since}
 use Rattle.gixp_negotiators.proofs.consecutive.Consecutive.next.Goals as goal
 
 pub loop-first-init : goal.loop-first-init
-loop-first-init g c = record { keeps = timed_none _ _ _; grows = grows_none _; failures = omega arith }
+loop-first-init g c = record { keeps = timed_none _ _ _; spreads = stays_none is_there stays_there _; finds = sees_same _ _ (λ id s. s); grows = grows_none _; failures = omega arith }
 
 pub loop-first-preserved : goal.loop-first-preserved
 loop-first-preserved g c = record {
   keeps = timed_on _ _ _ _ _ _ _ _ _ c.loop-first.invariant.grows c.loop-first.invariant.keeps
       (timed_on _ _ _ _ _ _ _ _ _ (grows_none _) (timed_popped c.loop-first.self.uncommon _ _ _ c.in-Some.first c.in-Some.ensures.taken) (rw c.pop.ensures.uncommon at c.in_ok-take.ensures.keeps));
+  spreads = stays_on is_there stays_there _ _ _ c.loop-first.invariant.grows c.loop-first.invariant.spreads c.in_ok-take.ensures.spreads;
+  finds = sees_on _ _ _ c.take.ensures.grows c.loop-first.invariant.finds (c.in_ok-take.ensures.passes c.if-branch.false);
   grows = grows_on _ _ _ c.loop-first.invariant.grows c.take.ensures.grows;
   failures = omega (arith, c.loop-first.invariant.failures, c.take.ensures.failures);
 }
@@ -36,3 +41,9 @@ returns-clause-none g c f = ⊎_elim
 
 pub returns-clause-keeps : goal.returns-clause-keeps
 returns-clause-keeps g c = rw (c.pop.ensures.uncommon, rw c.in_default.is at c.pop.ensures.stays) c.loop-first.invariant.keeps
+
+pub returns-then-branch-clause-spreads : goal.returns-then-branch-clause-spreads
+returns-then-branch-clause-spreads g c = stays_on is_there stays_there _ _ _ c.loop-first.invariant.grows c.loop-first.invariant.spreads c.in_ok-take.ensures.spreads
+
+pub returns-then-branch-clause-finds : goal.returns-then-branch-clause-finds
+returns-then-branch-clause-finds g c = finds_since _ _ _ c.in-Some.first.id c.loop-first.invariant.grows c.take.ensures.grows c.loop-first.invariant.finds (c.in_ok-take.ensures.finds c.if-branch.true)

@@ -4,11 +4,14 @@ use Rattle.std.specs.Prelude.{All}
 use Rattle.std.specs.BinaryHeap.{heap_len, heap_items}
 use Rattle.gixp_negotiators.specs.Marks.{Grows, IsMarkedIfThere, left}
 use Rattle.gixp_negotiators.specs.Waiting.{KeepsTimed}
+use Rattle.gixp_negotiators.specs.Spread.{is_there, SeesCommon, StaysSpread}
 use Rattle.gixp_negotiators.proofs.consecutive.Consecutive.next.Given as goal
 
 abbrev pub invariant-loop-first : goal.invariant-loop-first
 invariant-loop-first g l = record {
   keeps : KeepsTimed l.fn.self.uncommon (heap_items l.fn.self.queue.waiting) l.fn.graph.graph l.self.uncommon (heap_items l.self.queue.waiting) l.graph.graph;
+  spreads : StaysSpread is_there l.fn.graph.graph l.graph.graph;
+  finds : SeesCommon l.fn.graph.graph l.graph.graph;
   grows : Grows l.fn.graph.graph l.graph.graph;
   failures : l.fn.graph.failures ≤ l.graph.failures;
 }

@@ -2,6 +2,7 @@
 use Rattle.std.proofs.Common.{◌≡◌, ℕ, ℤ, ◌+◌, ◌≤◌, ◌∙◌, ⊎_elim, ap, sym, arith, refl, true, Option, Some}
 use Rattle.std.proofs.Common.{rules, w64}
 use mir.Val.{SFits}
+use Rattle.std.proofs.lemmas.Bool.{or_right}
 use Rattle.std.proofs.lemmas.Int.{to_z-of_z}
 use Rattle.std.specs.BinaryHeap.{heap_len}
 use Rattle.gixp_graph.specs.Object.{time_at}
@@ -9,6 +10,10 @@ use Rattle.gixp_negotiators.specs.Marks.{Claims, has_mark}
 use Rattle.gixp_negotiators.specs.Waiting.{waiting_at, open_one}
 use Rattle.gixp_negotiators.proofs.GrowLemmas.{has_part, from_eq}
 use Rattle.gixp_negotiators.proofs.FitLemmas.{timed_grown, timed_pushed, admitted}
+use Rattle.gixp_negotiators.specs.Spread.{is_there}
+use Rattle.gixp_negotiators.proofs.SpreadLemmas.{stays_there, stays_grown, stays_pushed}
+use Rattle.gixp_negotiators.proofs.StepLemmas.{unseen_marked}
+use Rattle.gixp_negotiators.proofs.SeeLemmas.{sees_same, sees_one}
 use Rattle.gixp_negotiators.proofs.consecutive.Consecutive.push.Goals as goal
 
 pub returns-in_default-clause-keeps : goal.returns-in_default-clause-keeps
@@ -36,3 +41,23 @@ pub returns-in-Ok-clause-waits : goal.returns-in-Ok-clause-waits
 returns-in-Ok-clause-waits g c s =
     let k : Claims 8 c.args.graph.now.graph c.claim.new.graph.graph c.args.id.now c.in-Some.flags = rw c.in-Some.is at c.in_ok-time.ensures.claimed in
     k.after
+
+pub returns-in_default-clause-spreads : goal.returns-in_default-clause-spreads
+returns-in_default-clause-spreads g c = stays_grown is_there stays_there _ _ c.claim.ensures.grows (rw c.in_default.is at c.in_ok-time.ensures.kept)
+
+pub returns-in-Ok-clause-spreads : goal.returns-in-Ok-clause-spreads
+returns-in-Ok-clause-spreads g c =
+    let k : Claims 8 c.args.graph.now.graph c.claim.new.graph.graph c.args.id.now c.in-Some.flags = rw c.in-Some.is at c.in_ok-time.ensures.claimed in
+    stays_pushed is_there stays_there c.args.id.now _ _ c.claim.ensures.grows c.claim.ensures.settles_only k.before
+
+pub returns-in_default-clause-marked : goal.returns-in_default-clause-marked
+returns-in_default-clause-marked g c s unseen = absurd (unseen_marked c.args.graph.now.graph c.claim.new.graph.graph c.args.id.now (rw c.in_default.is at c.in_ok-time.ensures.absent).0 ((rw c.in_default.is at c.in_ok-time.ensures.none) s) unseen)
+
+pub returns-in-Ok-clause-marked : goal.returns-in-Ok-clause-marked
+returns-in-Ok-clause-marked g c s unseen = rw c.in-Some.is at c.in_ok-time.ensures.marked
+
+pub returns-in_default-clause-finds : goal.returns-in_default-clause-finds
+returns-in_default-clause-finds g c two = sees_same _ _ (rw c.in_default.is at c.in_ok-time.ensures.absent).0
+
+pub returns-in-Ok-clause-finds : goal.returns-in-Ok-clause-finds
+returns-in-Ok-clause-finds g c two = sees_one _ _ c.args.id.now c.claim.ensures.sees_only (or_right (has_mark 8 c.args.graph.now.graph.held c.args.id.now) (has_mark 2 c.claim.new.graph.graph.held c.args.id.now) (has_part c.args.marks.0 2 c.claim.new.graph.graph.held c.args.id.now two (rw c.in-Some.is at c.in_ok-time.ensures.marked)))

@@ -1,21 +1,30 @@
 -- Some commits become common.
 use Rattle.std.proofs.Common.{◌∙◌, arith, refl}
+use Rattle.std.proofs.lemmas.List.Elements.{All-nil}
 use Rattle.gixp_negotiators.proofs.GrowLemmas.{grows_none, grows_on}
 use Rattle.gixp_negotiators.proofs.FitLemmas.{timed_none, timed_on}
+use Rattle.gixp_negotiators.specs.Spread.{is_there}
+use Rattle.gixp_negotiators.proofs.SpreadLemmas.{stays_there, common_more, kept_none, kept_on}
 use Rattle.gixp_negotiators.proofs.consecutive.Consecutive.reach_all.Goals as goal
 
 pub loop-id-init : goal.loop-id-init
-loop-id-init g c = record { keeps = timed_none _ _ _; less = omega arith; seen = omega arith; queue = refl; grows = grows_none _; failures = omega arith }
+loop-id-init g c = record { keeps = timed_none _ _ _; spreads = kept_none is_there stays_there _ _; marked = All-nil _; sees = λ id s. s; common = λ all. all; less = omega arith; seen = omega arith; queue = refl; grows = grows_none _; failures = omega arith }
 
 pub loop-id-preserved : goal.loop-id-preserved
 loop-id-preserved g c = record {
   keeps = timed_on _ _ _ _ _ _ _ _ _ c.loop-id.invariant.grows c.loop-id.invariant.keeps c.in_ok-reach.ensures.keeps;
+  spreads = kept_on is_there stays_there _ _ _ _ _ _ c.loop-id.invariant.grows c.loop-id.invariant.spreads c.in_ok-reach.ensures.spreads;
+  marked = common_more is_there stays_there c.args.graph.now.graph c.loop-id.graph.graph c.reach.new.graph.graph c.args.ids.now c.loop-id.id-index _ c.loop-id-test.true c.loop-id.invariant.grows c.reach.ensures.grows c.loop-id.invariant.marked c.in_ok-reach.ensures.marked;
   less = omega (arith, c.loop-id.invariant.less, c.in_ok-reach.ensures.less);
   seen = omega (arith, c.loop-id.invariant.seen, c.reach.ensures.seen);
   queue = c.reach.ensures.queue ∙ c.loop-id.invariant.queue;
+  sees = λ id s. c.loop-id.invariant.sees id (c.reach.ensures.sees id s);
+  common = λ all. c.in_ok-reach.ensures.common (c.loop-id.invariant.common all);
   grows = grows_on _ _ _ c.loop-id.invariant.grows c.reach.ensures.grows;
   failures = omega (arith, c.loop-id.invariant.failures, c.reach.ensures.failures);
 }
 
 pub returns-in_err-reach-clause-grows : goal.returns-in_err-reach-clause-grows
 returns-in_err-reach-clause-grows g c = grows_on _ _ _ c.loop-id.invariant.grows c.reach.ensures.grows
+
+

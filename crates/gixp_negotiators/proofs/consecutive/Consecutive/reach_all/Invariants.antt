@@ -1,9 +1,10 @@
 -- What the loop keeps.
-use Rattle.std.proofs.Common.{◌≡◌, ◌+◌, ◌≤◌, length, take}
+use Rattle.std.proofs.Common.{◌≡◌, ◌+◌, ◌≤◌, length, take, true}
 use Rattle.std.specs.Prelude.{All}
 use Rattle.std.specs.BinaryHeap.{heap_len, heap_items}
-use Rattle.gixp_negotiators.specs.Marks.{Grows, IsMarkedIfThere, left}
+use Rattle.gixp_negotiators.specs.Marks.{Grows, SeesNone, has_mark, IsMarkedIfThere, left}
 use Rattle.gixp_negotiators.specs.Waiting.{KeepsTimed}
+use Rattle.gixp_negotiators.specs.Spread.{is_there, KeepsSpread}
 use Rattle.gixp_negotiators.proofs.consecutive.Consecutive.reach_all.Given as goal
 
 abbrev pub invariant-loop-id : goal.invariant-loop-id
@@ -12,6 +13,10 @@ invariant-loop-id g l = record {
   less : left 2 l.graph.graph + length l.due.items ≤ left 2 l.fn.graph.graph + length l.fn.due.items;
   seen : left 8 l.graph.graph ≤ left 8 l.fn.graph.graph;
   queue : l.self.queue ≡ l.fn.self.queue;
+  spreads : KeepsSpread is_there l.fn.due.items l.fn.graph.graph l.due.items l.graph.graph;
+  marked : All (IsMarkedIfThere 2 l.fn.graph.graph l.graph.graph) (take l.id-index l.ids);
+  sees : SeesNone l.fn.graph.graph l.graph.graph;
+  common : All (λ q. has_mark 2 l.fn.graph.graph.held q ≡ true) l.fn.due.items → All (λ q. has_mark 2 l.graph.graph.held q ≡ true) l.due.items;
   grows : Grows l.fn.graph.graph l.graph.graph;
   failures : l.fn.graph.failures ≤ l.graph.failures;
 }

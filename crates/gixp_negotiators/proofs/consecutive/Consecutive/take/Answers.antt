@@ -1,10 +1,14 @@
 -- A commit is taken.
 use Rattle.std.proofs.Common.{◌≡◌, ◌∙◌, ◌+◌, ◌≤◌, sym, refl, false, arith}
+use Rattle.std.proofs.lemmas.Bool.{or_parts}
 use Rattle.gixp_negotiators.specs.Marks.{Claims, has_all}
 use Rattle.gixp_negotiators.specs.MarkLaws.{not_true}
 use Rattle.gixp_negotiators.specs.Waiting.{open_one}
 use Rattle.gixp_negotiators.proofs.StepLemmas.{offered, parents_marked}
 use Rattle.gixp_negotiators.proofs.FitLemmas.{timed_on, timed_taken, released}
+use Rattle.gixp_negotiators.specs.Spread.{is_there}
+use Rattle.gixp_negotiators.proofs.SpreadLemmas.{stays_there, stays_grown, stays_on}
+use Rattle.gixp_negotiators.proofs.SeeLemmas.{sees_same, sees_on, finds_taken, shared_common}
 use Rattle.gixp_negotiators.proofs.consecutive.Consecutive.take.Goals as goal
 
 pub returns-in_default-clause-keeps : goal.returns-in_default-clause-keeps
@@ -24,3 +28,23 @@ returns-clause-offered g c t =
     let lacks : has_all 2 c.in-Some.flags.0 ≡ false = sym c.has-is_common.ensures ∙ not_true c.has-is_common.result t in
     offered c.args.graph.now.graph c.claim.new.graph.graph c.follow_all.new.graph.graph c.args.first.now.id c.in-Some.flags k lacks c.follow_all.ensures.grows
     (parents_marked c.args.graph.now.graph c.claim.new.graph.graph c.follow_all.new.graph.graph c.args.first.now.id c.deref.result.now c.claim.ensures.grows c.follow_all.ensures.grows k.held (c.deref.ensures.value ∙ c.in_ok-parents.ensures.parents) c.in_ok-follow_all.ensures.waits)
+
+pub returns-in_default-clause-spreads : goal.returns-in_default-clause-spreads
+returns-in_default-clause-spreads g c = stays_grown is_there stays_there _ _ c.claim.ensures.grows (rw c.in_default.is at c.in_ok-flags.ensures.kept)
+
+pub returns-clause-spreads : goal.returns-clause-spreads
+returns-clause-spreads g c = stays_on is_there stays_there _ _ _ c.claim.ensures.grows (stays_grown is_there stays_there _ _ c.claim.ensures.grows (c.claim.ensures.settles refl)) c.in_ok-follow_all.ensures.spreads
+
+pub returns-in_default-clause-passes : goal.returns-in_default-clause-passes
+returns-in_default-clause-passes g c f = sees_same _ _ (rw c.in_default.is at c.in_ok-flags.ensures.absent).0
+
+pub returns-clause-passes : goal.returns-clause-passes
+returns-clause-passes g c f = sees_on _ _ _ c.follow_all.ensures.grows (sees_same _ _ (c.claim.ensures.sees refl)) (c.in_ok-follow_all.ensures.finds (c.is_shared-spreads.ensures ∙ shared_common c.has-is_common.result (has_all 2 c.in-Some.flags.0) (has_all 4 c.in-Some.flags.0) c.has-is_common.ensures f))
+
+pub returns-clause-finds : goal.returns-clause-finds
+returns-clause-finds g c t =
+    let k : Claims 16 c.args.graph.now.graph c.claim.new.graph.graph c.args.first.now.id c.in-Some.flags = rw c.in-Some.is at c.in_ok-flags.ensures.claimed in
+    finds_taken c.args.graph.now.graph c.claim.new.graph.graph c.follow_all.new.graph.graph c.args.first.now.id c.deref.result.now c.is_shared-spreads.result c.follow_all.ensures.grows (c.claim.ensures.sees refl)
+    (λ e. k.lacks 4 (or_parts (has_all 2 c.in-Some.flags.0) (has_all 4 c.in-Some.flags.0) (sym c.is_shared-spreads.ensures ∙ e)).1)
+    (c.deref.ensures.value ∙ c.in_ok-parents.ensures.parents ∙ sym (c.follow_all.ensures.grows.parents c.args.first.now.id k.held))
+    c.in_ok-follow_all.ensures.finds c.in_ok-follow_all.ensures.others

@@ -3,7 +3,7 @@ use Rattle.std.proofs.Common.{◌+◌, ◌≤◌, take}
 use Rattle.std.specs.Prelude.{All}
 use Rattle.std.specs.BinaryHeap.{heap_len, heap_items}
 use Rattle.gixp_negotiators.specs.Marks.{Grows, IsMarkedIfThere, left}
-use Rattle.gixp_negotiators.specs.Waiting.{Fits}
+use Rattle.gixp_negotiators.specs.Waiting.{Fits, QueuesNew}
 use Rattle.gixp_negotiators.proofs.skipping.Skipping.follow_all.Given as goal
 
 abbrev pub invariant-loop-parent : goal.invariant-loop-parent
@@ -11,6 +11,7 @@ invariant-loop-parent g l = record {
   fits : Fits l.fn.self.uncommon (heap_items l.fn.self.queue.waiting) l.fn.graph.graph → Fits l.self.uncommon (heap_items l.self.queue.waiting) l.graph.graph;
   room : left 8 l.graph.graph + heap_len l.self.queue.waiting ≤ left 8 l.fn.graph.graph + heap_len l.fn.self.queue.waiting;
   waits : All (IsMarkedIfThere 8 l.fn.graph.graph l.graph.graph) (take l.parent-index l.parents);
+  queues : QueuesNew (heap_items l.fn.self.queue.waiting) l.fn.graph.graph (heap_items l.self.queue.waiting);
   grows : Grows l.fn.graph.graph l.graph.graph;
   failures : l.fn.graph.failures ≤ l.graph.failures;
 }

@@ -1,14 +1,19 @@
 -- What the loop keeps.
 use Rattle.std.proofs.Common.{◌≡◌, ◌+◌, ◌≤◌, length, true}
+use Rattle.std.specs.Prelude.{All}
 use Rattle.std.specs.BinaryHeap.{heap_items}
 use Rattle.gixp_negotiators.specs.Marks.{Grows, has_mark, left}
 use Rattle.gixp_negotiators.specs.Waiting.{Fits, FitsOwing}
+use Rattle.gixp_negotiators.specs.Spread.{was_seen, SpreadsBut, IsNewlyCommon}
 use Rattle.gixp_negotiators.proofs.skipping.Skipping.mark_common.Given as goal
 
 abbrev pub invariant-loop-next : goal.invariant-loop-next
 invariant-loop-next g l = record {
   fits : Fits l.fn.self.uncommon (heap_items l.fn.self.queue.waiting) l.fn.graph.graph → FitsOwing l.self.uncommon (heap_items l.fn.self.queue.waiting) l.graph.graph l.due.items;
   common : has_mark 8 l.fn.graph.graph.held l.fn.id ≡ true → has_mark 2 l.graph.graph.held l.fn.id ≡ true;
+  spreads : SpreadsBut was_seen l.due.items l.fn.graph.graph l.graph.graph;
+  newly : All (IsNewlyCommon l.fn.graph.graph l.graph.graph) l.due.items;
+  unread : l.self.unread ≡ l.fn.self.unread;
   seen : left 8 l.graph.graph ≤ left 8 l.fn.graph.graph;
   queue : l.self.queue ≡ l.fn.self.queue;
   grows : Grows l.fn.graph.graph l.graph.graph;

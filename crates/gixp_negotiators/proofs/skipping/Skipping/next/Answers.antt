@@ -1,18 +1,19 @@
 -- The next is found.
-use Rattle.std.proofs.Common.{◌≡◌, ◌∙◌, ⊎_elim, arith, subst}
+use Rattle.std.proofs.Common.{◌≡◌, ◌∙◌, ⊎_elim, arith, refl, subst}
 use Rattle.std.specs.BinaryHeap.{heap_items}
 use Rattle.gixp_negotiators.specs.Waiting.{Fits}
 use Rattle.gixp_negotiators.proofs.GrowLemmas.{grows_none, grows_on}
 use Rattle.gixp_negotiators.proofs.StepLemmas.{offered_since}
-use Rattle.gixp_negotiators.proofs.FitLemmas.{fits_popped, none_open, none_waits}
+use Rattle.gixp_negotiators.proofs.FitLemmas.{queues_same, queues_on, queues_taken, newest_in, fits_popped, none_open, none_waits}
 use Rattle.gixp_negotiators.proofs.skipping.Skipping.next.Goals as goal
 
 pub loop-first-init : goal.loop-first-init
-loop-first-init g c = record { fits = λ f. f; grows = grows_none _; failures = omega arith }
+loop-first-init g c = record { fits = λ f. f; queues = queues_same _ _ _ refl; grows = grows_none _; failures = omega arith }
 
 pub loop-first-preserved : goal.loop-first-preserved
 loop-first-preserved g c = record {
   fits = λ f. (rw c.pop.ensures.uncommon at c.in_ok-take.ensures.fits) (fits_popped _ _ _ _ c.in-Some.first c.in-Some.ensures.taken (c.loop-first.invariant.fits f));
+  queues = queues_on _ _ _ _ _ c.loop-first.invariant.grows c.loop-first.invariant.queues (queues_on _ _ _ _ _ (grows_none _) (queues_taken _ _ _ c.in-Some.first c.in-Some.ensures.taken) c.in_ok-take.ensures.queues);
   grows = grows_on _ _ _ c.loop-first.invariant.grows c.take.ensures.grows;
   failures = omega (arith, c.loop-first.invariant.failures, c.take.ensures.failures);
 }
@@ -31,3 +32,12 @@ returns-clause-none g c f = ⊎_elim
 
 pub returns-clause-fits : goal.returns-clause-fits
 returns-clause-fits g c f = rw (c.pop.ensures.uncommon, rw c.in_default.is at c.pop.ensures.stays) (c.loop-first.invariant.fits f)
+
+pub returns-then-branch-clause-newest : goal.returns-then-branch-clause-newest
+returns-then-branch-clause-newest g c = newest_in _ _ _ _ _ _ c.in-Some.first c.loop-first.invariant.grows c.loop-first.invariant.queues c.in-Some.ensures.taken c.in-Some.ensures.newest c.in_ok-take.ensures.queues
+
+pub returns-then-branch-clause-queues : goal.returns-then-branch-clause-queues
+returns-then-branch-clause-queues g c = queues_on _ _ _ _ _ c.loop-first.invariant.grows c.loop-first.invariant.queues (queues_on _ _ _ _ _ (grows_none _) (queues_taken _ _ _ c.in-Some.first c.in-Some.ensures.taken) c.in_ok-take.ensures.queues)
+
+pub returns-clause-queues : goal.returns-clause-queues
+returns-clause-queues g c = rw (rw c.in_default.is at c.pop.ensures.stays) c.loop-first.invariant.queues

@@ -3,7 +3,7 @@ use Rattle.std.proofs.Common.{◌≡◌, ◌∙◌, ◌+◌, ◌≤◌, sym, ref
 use Rattle.gixp_negotiators.specs.Marks.{Claims, has_all}
 use Rattle.gixp_negotiators.specs.Waiting.{open_one}
 use Rattle.gixp_negotiators.proofs.StepLemmas.{offered, parents_marked}
-use Rattle.gixp_negotiators.proofs.FitLemmas.{fits_taken, released}
+use Rattle.gixp_negotiators.proofs.FitLemmas.{fits_taken, released, queues_on, queues_same}
 use Rattle.gixp_negotiators.proofs.skipping.Skipping.take.Goals as goal
 
 pub returns-in_default-clause-fits : goal.returns-in_default-clause-fits
@@ -23,3 +23,6 @@ returns-clause-offered g c t =
     let lacks : has_all 2 c.in-Some.flags.0 ≡ false = sym c.has-is_common.ensures ∙ c.is_offered.ensures.common t in
     offered c.args.graph.now.graph c.claim.new.graph.graph c.follow_all.new.graph.graph c.args.first.now.id c.in-Some.flags k lacks c.follow_all.ensures.grows
     (parents_marked c.args.graph.now.graph c.claim.new.graph.graph c.follow_all.new.graph.graph c.args.first.now.id c.deref.result.now c.claim.ensures.grows c.follow_all.ensures.grows k.held (c.deref.ensures.value ∙ c.in_ok-parents.ensures.parents) c.in_ok-any.ensures.waits)
+
+pub returns-clause-queues : goal.returns-clause-queues
+returns-clause-queues g c = queues_on _ _ _ _ _ c.claim.ensures.grows (queues_same _ _ _ refl) (rw c.discount.ensures.queue at c.in_ok-any.ensures.queues)

@@ -1,0 +1,74 @@
+-- How what is common spreads from a commit to its ancestors (gitprotocol-pack, "Packfile Negotiation").
+use Rattle.std.specs.Prelude.{◌≡◌, ◌⊎◌, ◌||◌, Option, Some, None, Bool, true, false, List, [], ◌∷◌, ◌++◌, All, Contains, is_some}
+use Rattle.std.specs.BTreeSet.{BTreeSet, contains}
+use Rattle.gixp_hash.specs.declared.object_id.ObjectId.{ObjectId}
+use Rattle.gixp_hash.specs.ObjectId.{id_cmp}
+use Rattle.gixp_graph.specs.Object.{commit_at}
+use Rattle.gixp_graph.specs.GraphData.{GraphData, parents_in}
+use Rattle.gixp_negotiators.specs.Marks.{has_mark, Grows}
+
+-- which parents of a common commit become common: those that are there
+abbrev pub is_there : GraphData → ObjectId → Bool
+is_there g id = is_some (commit_at g.objects id)
+
+-- or those that were seen
+abbrev pub was_seen : GraphData → ObjectId → Bool
+was_seen g id = has_mark 8 g.held id
+
+-- a commit is common, where it is of this kind
+abbrev pub BecomesCommon : (GraphData → ObjectId → Bool) → GraphData → GraphData → ObjectId → Type 0
+BecomesCommon kind g h id = kind g id ≡ true → has_mark 2 h.held id ≡ true
+
+-- so are the parents of a commit
+abbrev pub HasCommonParents : (GraphData → ObjectId → Bool) → GraphData → GraphData → ObjectId → Type 0
+HasCommonParents kind g h id = All (BecomesCommon kind g h) (parents_in h.held id)
+
+-- the parents of each commit that was seen and became common are common
+abbrev pub Spreads : (GraphData → ObjectId → Bool) → GraphData → GraphData → Type 0
+Spreads kind g h = (id : ObjectId) → has_mark 8 g.held id ≡ true → has_mark 2 g.held id ≡ false → has_mark 2 h.held id ≡ true → HasCommonParents kind g h id
+
+-- but for those of these commits
+abbrev pub SpreadsBut : (GraphData → ObjectId → Bool) → List ObjectId → GraphData → GraphData → Type 0
+SpreadsBut kind due g h = (id : ObjectId) → has_mark 8 g.held id ≡ true → has_mark 2 g.held id ≡ false → has_mark 2 h.held id ≡ true → Contains due id ⊎ HasCommonParents kind g h id
+
+-- a step that may leave some due, by those that were due before
+unfoldable pub KeepsSpread : (GraphData → ObjectId → Bool) → List ObjectId → GraphData → List ObjectId → GraphData → Type 0
+KeepsSpread kind before g due h = (f : GraphData) (xs : List ObjectId) → Grows f g → SpreadsBut kind (xs ++ before) f g → SpreadsBut kind (xs ++ due) f h
+
+-- a step keeps it that what is common has spread
+unfoldable pub StaysSpread : (GraphData → ObjectId → Bool) → GraphData → GraphData → Type 0
+StaysSpread kind g h = (f : GraphData) → Grows f g → Spreads kind f g → Spreads kind f h
+
+-- it spreads from a commit, and may leave others due
+unfoldable pub SpreadsFrom : (GraphData → ObjectId → Bool) → ObjectId → List ObjectId → GraphData → List ObjectId → GraphData → Type 0
+SpreadsFrom kind id before g due h = (f : GraphData) → Grows f g → SpreadsBut kind (id ∷ before) f g → SpreadsBut kind due f h
+
+-- and to the end
+unfoldable pub SpreadsAllFrom : (GraphData → ObjectId → Bool) → ObjectId → GraphData → GraphData → Type 0
+SpreadsAllFrom kind id g h = (f : GraphData) → Grows f g → SpreadsBut kind (id ∷ []) f g → Spreads kind f h
+
+-- a commit wasn't common, and is
+abbrev pub IsNewlyCommon : GraphData → GraphData → ObjectId → Type 0
+IsNewlyCommon g h id = (has_mark 2 g.held id ≡ false) × (has_mark 2 h.held id ≡ true)
+
+-- each commit that became common was read before
+abbrev pub AllRead : BTreeSet ObjectId → GraphData → GraphData → Type 0
+AllRead unread g h = (id : ObjectId) → IsNewlyCommon g h id → contains id_cmp unread id ≡ false
+
+-- the commits that a commit leads on to: itself, and the parents of each of them that was seen and wasn't common
+pub data LeadsTo (kind : GraphData → ObjectId → Bool) (g : GraphData) (id : ObjectId) : ObjectId → Type 0 where
+  itself : LeadsTo kind g id id
+  parent : {child : ObjectId} {p : ObjectId} → LeadsTo kind g id child → has_mark 8 g.held child ≡ true → has_mark 2 g.held child ≡ false → Contains (parents_in g.held child) p → kind g p ≡ true → LeadsTo kind g id p
+
+-- what comes to be seen is common
+unfoldable pub SeesCommon : GraphData → GraphData → Type 0
+SeesCommon g h = (id : ObjectId) → has_mark 8 h.held id ≡ true → (has_mark 8 g.held id || has_mark 2 h.held id) ≡ true
+
+-- or is one of these
+unfoldable pub SeesAmong : List ObjectId → GraphData → GraphData → Type 0
+SeesAmong ids g h = (id : ObjectId) → has_mark 8 h.held id ≡ true → ((has_mark 8 g.held id || has_mark 2 h.held id) ≡ true) ⊎ Contains ids id
+
+-- what comes to be seen by a call is common, but for the parents of the commit that is offered, where no ref of the server is it
+abbrev pub FindsCommon : GraphData → Option ObjectId → GraphData → Type 0
+FindsCommon g None h = SeesCommon g h
+FindsCommon g (Some one) h = SeesCommon g h ⊎ ((has_mark 4 g.held one ≡ false) × SeesAmong (parents_in h.held one) g h)
