@@ -1,5 +1,5 @@
 -- A commit waits.
-use Rattle.std.proofs.Common.{◌≡◌, Some, ◌+◌, ◌≤◌, ◌∙◌, ap, arith, refl}
+use Rattle.std.proofs.Common.{◌≡◌, Some, ◌∙◌, ap, arith, refl}
 use Rattle.std.proofs.Common.{rules, w64}
 use mir.Val.{SFits}
 use Rattle.std.proofs.lemmas.Int.{to_z-of_z}
