@@ -1,5 +1,5 @@
 -- Marks that are added.
-use Rattle.std.proofs.Common.{◌≡◌, ℕ, ◌∙◌, Bool, true, false, cond, List, [], Option, Some, None, refl, sym, ap, subst, arith, true≢false}
+use Rattle.std.proofs.Common.{◌≡◌, ℕ, ◌∙◌, Bool, true, false, cond, [], Option, Some, None, refl, sym, ap, subst, arith, true≢false}
 use Rattle.std.specs.Prelude.{option_map, unwrap_or, ◌||◌, IsSome, is_some, bit_and, bit_or, ◌==◌, min, max}
 use Rattle.std.specs.Int.{bit_at}
 use Rattle.std.specs.Option.{option_map_or}

@@ -1,12 +1,12 @@
 -- What a look leaves.
-use Rattle.std.proofs.Common.{◌≡◌, ℕ, ℤ, ◌∙◌, Bool, true, false, cond, Option, Some, None, refl, sym, ap, subst, arith, true≢false}
+use Rattle.std.proofs.Common.{◌≡◌, ℕ, ℤ, ◌∙◌, true, false, Option, Some, None, refl, sym, ap, subst, true≢false}
 use Rattle.std.specs.Prelude.{option_map, IsSome, is_some, IfSome, IfNone}
 use Rattle.std.specs.Option.{option_map_or, option_or}
 use Rattle.std.specs.FinMap as finite
 use Rattle.gixp_hash.specs.declared.object_id.ObjectId.{ObjectId}
 use Rattle.gixp_graph.specs.declared.flags.Flags.{Flags}
 use Rattle.gixp_graph.specs.Object.{Commit, commit_at, time_at}
-use Rattle.gixp_graph.specs.GraphData.{HeldCommit, Commits, GraphData, graph_of, put, found_in, looked_up, unmarked, shown, shown_time, is_marked, is_complete, IsFaithful}
+use Rattle.gixp_graph.specs.GraphData.{HeldCommit, GraphData, graph_of, put, found_in, looked_up, unmarked, shown, shown_time, is_complete, IsFaithful}
 use Rattle.gixp_graph.specs.GraphLaws.{put_same}
 use Rattle.gixp_negotiators.specs.Marks.{has_all, has_mark, Grows, IsFoundWith, AddsNone}
 use Rattle.gixp_negotiators.proofs.GrowLemmas.{grows_none, grows_insert, get_insert_same, none_insert}

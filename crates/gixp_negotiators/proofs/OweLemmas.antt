@@ -1,13 +1,12 @@
 -- Commits that became common and are still counted.
-use Rattle.std.proofs.Common.{◌≡◌, ℕ, ◌+◌, ◌≤◌, ◌∙◌, Bool, true, false, cond, List, [], ◌∷◌, ◌++◌, refl, sym, ap, subst, arith, true≢false}
-use Rattle.std.specs.List.{sum_by}
+use Rattle.std.proofs.Common.{◌≡◌, ℕ, ◌+◌, ◌≤◌, Bool, true, false, cond, List, [], ◌∷◌, ◌++◌, refl, sym, ap, subst, arith}
 use Rattle.std.proofs.lemmas.Grind.{common_steps}
 use Rattle.gixp_hash.specs.declared.object_id.ObjectId.{ObjectId}
 use Rattle.gixp_graph.specs.GraphData.{Commits, GraphData}
 use Rattle.gixp_negotiators.specs.declared.queue.Waiting.{Waiting}
 use Rattle.gixp_negotiators.specs.Marks.{has_mark, Grows, SeesNone}
 use Rattle.gixp_negotiators.specs.Waiting.{open_in, owed_by, Fits, FitsOwing}
-use Rattle.gixp_negotiators.proofs.FitLemmas.{lacked, one_less, at_most_one, open_grown, open_less}
+use Rattle.gixp_negotiators.proofs.FitLemmas.{lacked, one_less, open_grown, open_less}
 
 -- one of these
 abbrev owed_one : Commits → ObjectId → ℕ

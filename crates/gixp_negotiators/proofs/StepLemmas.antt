@@ -1,5 +1,5 @@
 -- Steps of a negotiator.
-use Rattle.std.proofs.Common.{◌≡◌, ℕ, ◌+◌, ◌≤◌, ◌<◌, ◌∙◌, Bool, true, false, List, length, take, get_or, refl, sym, ap, subst, arith, true≢false, Result, Ok, Err}
+use Rattle.std.proofs.Common.{◌≡◌, ℕ, ◌+◌, ◌<◌, ◌∙◌, Bool, true, false, List, length, take, get_or, refl, sym, subst, arith, true≢false, Result, Ok, Err}
 use Rattle.std.proofs.lemmas.List.Elements.{All-more, All-weaker}
 use Rattle.std.specs.Result.{OnErr}
 use Rattle.std.specs.Prelude.{IsSome, All}
@@ -8,7 +8,7 @@ use Rattle.gixp_hash.specs.declared.object_id.ObjectId.{ObjectId}
 use Rattle.gixp_graph.specs.declared.flags.Flags.{Flags}
 use Rattle.gixp_graph.specs.Object.{commit_at}
 use Rattle.gixp_graph.specs.GraphData.{GraphData, parents_in}
-use Rattle.gixp_negotiators.specs.Marks.{has_all, has_mark, left, Grows, SeesNone, IsMarkedIfThere, IsFoundWith, Claims, IsOffered}
+use Rattle.gixp_negotiators.specs.Marks.{has_all, has_mark, Grows, SeesNone, IsMarkedIfThere, IsFoundWith, Claims, IsOffered}
 use Rattle.gixp_negotiators.specs.MarkLaws.{grows_left, claimed_left}
 use Rattle.gixp_negotiators.proofs.GrowLemmas.{grows_on}
 

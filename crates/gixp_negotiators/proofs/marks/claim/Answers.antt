@@ -1,6 +1,6 @@
 -- A mark is given.
-use Rattle.std.proofs.Common.{◌≡◌, ◌∙◌, sym, ap, true}
-use Rattle.gixp_negotiators.specs.Marks.{IsFoundWith, has_mark}
+use Rattle.std.proofs.Common.{◌∙◌, sym}
+use Rattle.gixp_negotiators.specs.Marks.{IsFoundWith}
 use Rattle.gixp_negotiators.proofs.GrowLemmas.{has_part}
 use Rattle.gixp_negotiators.proofs.StepLemmas.{claims}
 use Rattle.gixp_negotiators.proofs.marks.claim.Goals as goal

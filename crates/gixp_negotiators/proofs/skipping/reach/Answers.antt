@@ -1,5 +1,5 @@
 -- A commit becomes common that was seen.
-use Rattle.std.proofs.Common.{◌≡◌, ◌+◌, ◌≤◌, ap, arith, refl, true}
+use Rattle.std.proofs.Common.{◌≡◌, ◌+◌, ◌≤◌, arith, refl, true}
 use Rattle.std.proofs.lemmas.List.{length-append}
 use Rattle.gixp_negotiators.specs.Marks.{has_mark, left}
 use Rattle.gixp_negotiators.specs.MarkLaws.{claimed_left, held_marked}

@@ -1,10 +1,6 @@
 -- Parents wait.
-use Rattle.std.proofs.Common.{◌≡◌, ◌∙◌, ◌+◌, arith, sym, subst, take, true}
-use Rattle.std.specs.Prelude.{All, IsSome}
-use Rattle.std.proofs.lemmas.List.Elements.{All-nil, All-more, All-weaker}
-use Rattle.gixp_hash.specs.declared.object_id.ObjectId.{ObjectId}
-use Rattle.gixp_graph.specs.Object.{commit_at}
-use Rattle.gixp_negotiators.specs.Marks.{IsMarkedIfThere, has_mark}
+use Rattle.std.proofs.Common.{arith}
+use Rattle.std.proofs.lemmas.List.Elements.{All-nil}
 use Rattle.gixp_negotiators.proofs.GrowLemmas.{grows_none, grows_on}
 use Rattle.gixp_negotiators.proofs.FitLemmas.{timed_none, timed_on}
 use Rattle.gixp_negotiators.proofs.StepLemmas.{marked_more}

@@ -1,6 +1,4 @@
 -- A commit and its ancestors are marked.
-use Rattle.std.proofs.Common.{◌≡◌, ◌∙◌, arith, subst, sym}
-use Rattle.std.specs.Prelude.{IsSome}
 use Rattle.gixp_negotiators.proofs.GrowLemmas.{grows_on}
 use Rattle.gixp_negotiators.proofs.FitLemmas.{timed_on}
 use Rattle.gixp_negotiators.specs.Spread.{is_there}

@@ -1,6 +1,6 @@
 -- The next is found.
-use Rattle.std.proofs.Common.{◌≡◌, ◌∙◌, ⊎_elim, arith, subst}
-use Rattle.gixp_negotiators.specs.Waiting.{KeepsTimed, Fits}
+use Rattle.std.proofs.Common.{⊎_elim, arith, subst}
+use Rattle.gixp_negotiators.specs.Waiting.{Fits}
 use Rattle.std.specs.BinaryHeap.{heap_items}
 use Rattle.gixp_negotiators.proofs.GrowLemmas.{grows_none, grows_on}
 use Rattle.gixp_negotiators.proofs.StepLemmas.{offered_since}

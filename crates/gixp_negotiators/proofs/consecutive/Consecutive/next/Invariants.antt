@@ -1,8 +1,7 @@
 -- What the loop keeps.
-use Rattle.std.proofs.Common.{◌≡◌, ◌+◌, ◌≤◌, length, take}
-use Rattle.std.specs.Prelude.{All}
+use Rattle.std.proofs.Common.{◌+◌, ◌≤◌}
 use Rattle.std.specs.BinaryHeap.{heap_len, heap_items}
-use Rattle.gixp_negotiators.specs.Marks.{Grows, IsMarkedIfThere, left}
+use Rattle.gixp_negotiators.specs.Marks.{Grows, left}
 use Rattle.gixp_negotiators.specs.Waiting.{KeepsTimed}
 use Rattle.gixp_negotiators.specs.Spread.{is_there, SeesCommon, StaysSpread}
 use Rattle.gixp_negotiators.proofs.consecutive.Consecutive.next.Given as goal

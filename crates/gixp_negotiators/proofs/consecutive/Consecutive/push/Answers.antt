@@ -1,5 +1,5 @@
 -- A commit waits.
-use Rattle.std.proofs.Common.{◌≡◌, ℕ, ℤ, ◌+◌, ◌≤◌, ◌∙◌, ⊎_elim, ap, sym, arith, refl, true, Option, Some}
+use Rattle.std.proofs.Common.{◌≡◌, ◌+◌, ◌≤◌, ⊎_elim, ap, arith, true, Some}
 use Rattle.std.proofs.Common.{rules, w64}
 use mir.Val.{SFits}
 use Rattle.std.proofs.lemmas.Bool.{or_right}

@@ -1,5 +1,5 @@
 -- A commit becomes common.
-use Rattle.std.proofs.Common.{◌≡◌, refl}
+use Rattle.std.proofs.Common.{refl}
 use Rattle.gixp_negotiators.specs.Marks.{Claims}
 use Rattle.gixp_negotiators.proofs.FitLemmas.{timed_grown, timed_fits, settled}
 use Rattle.gixp_negotiators.proofs.consecutive.Consecutive.settle.Goals as goal
