@@ -8,6 +8,7 @@ ghost use Rattle.gixp_graph.specs.declared.negotiator.NegotiatorError.{Negotiato
 use crate::graph::Graph;
 use crate::objects::{ObjectError, Objects};
 use gixp_hash::ObjectId;
+use std::alloc::{AllocError, AllocFailed};
 use thiserror::Error;
 
 /// Why a negotiator can't go on.
@@ -19,6 +20,26 @@ pub enum NegotiatorError {
     /// An allocation failed.
     #[error("Memory")]
     Memory,
+}
+
+impl From<AllocError> for NegotiatorError {
+    ghost use Rattle.gixp_graph.specs.declared.negotiator.NegotiatorError.TheVariants.{Memory};
+
+    ghost from_gives = { λ _ e. e ≡ Memory };
+
+    fn from(_error: AllocError) -> NegotiatorError {
+        NegotiatorError::Memory
+    }
+}
+
+impl<T: Drop> From<AllocFailed<T>> for NegotiatorError {
+    ghost use Rattle.gixp_graph.specs.declared.negotiator.NegotiatorError.TheVariants.{Memory};
+
+    ghost from_gives = { λ _ e. e ≡ Memory };
+
+    fn from(_error: AllocFailed<T>) -> NegotiatorError {
+        NegotiatorError::Memory
+    }
 }
 
 /// Chooses the commits to offer as haves (gitprotocol-pack, "Packfile Negotiation").

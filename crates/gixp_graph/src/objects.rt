@@ -9,7 +9,7 @@ ghost use Rattle.gixp_graph.specs.declared.objects.ObjectError.TheVariants.{Memo
 ghost use Rattle.gixp_graph.specs.Object.{Objects as ObjectMap, kind_at, commit_at, commit_of, HasRisen};
 
 use gixp_hash::ObjectId;
-use std::alloc::{AllocError, Global};
+use std::alloc::{AllocError, AllocFailed, Global};
 use std::io;
 use thiserror::Error;
 
@@ -49,6 +49,14 @@ impl From<AllocError> for ObjectError {
     ghost from_gives = { λ _ e. e ≡ Memory };
 
     fn from(_error: AllocError) -> ObjectError {
+        ObjectError::Memory
+    }
+}
+
+impl<T: Drop> From<AllocFailed<T>> for ObjectError {
+    ghost from_gives = { λ _ e. e ≡ Memory };
+
+    fn from(_error: AllocFailed<T>) -> ObjectError {
         ObjectError::Memory
     }
 }

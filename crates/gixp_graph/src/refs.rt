@@ -12,7 +12,7 @@ ghost use Rattle.gixp_graph.specs.declared.refs.RefStoreError.{RefStoreError};
 
 use bstr::BStr;
 use gixp_hash::ObjectId;
-use std::alloc::Global;
+use std::alloc::{AllocError, AllocFailed, Global};
 use std::io;
 use thiserror::Error;
 
@@ -34,6 +34,22 @@ pub enum RefStoreError {
     /// An allocation failed.
     #[error("Memory")]
     Memory,
+}
+
+impl From<AllocError> for RefStoreError {
+    ghost from_gives = { λ _ e. e ≡ Memory };
+
+    fn from(_error: AllocError) -> RefStoreError {
+        RefStoreError::Memory
+    }
+}
+
+impl<T: Drop> From<AllocFailed<T>> for RefStoreError {
+    ghost from_gives = { λ _ e. e ≡ Memory };
+
+    fn from(_error: AllocFailed<T>) -> RefStoreError {
+        RefStoreError::Memory
+    }
 }
 
 /// The refs of a repository: a finite map from full names to ids, and the list of what all refs

@@ -133,6 +133,16 @@ impl<'a, T: ExtendedBufRead, P: BandText + Drop, I: Interrupt> WithSidebands<'a,
         self.fault.as_ref()
     }
 
+    /// Takes out the refusal that `fault` shows.
+    pub fn take_fault(&mut self) -> Option<Error>
+        ensures taken { option_map refusal_of result ≡ (side T.reading self.old).fault }
+        ensures side { side T.reading self.new ≡ record (side T.reading self.old) { fault = None } }
+        ensures listener { listener self.new ≡ listener self.old }
+        ensures interrupt { self.new.interrupt.ghost_name ≡ self.old.interrupt.ghost_name }
+    {
+        self.fault.take()
+    }
+
     /// Sees to it that bytes of content are at hand, which `buffer` then lends, and returns true; at
     /// a stop false. Of content it takes nothing.
     ///
