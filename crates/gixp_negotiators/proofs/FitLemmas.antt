@@ -1,26 +1,15 @@
 -- A queue and its count fit a graph.
-<<<<<<< HEAD
-use Rattle.std.proofs.Common.{◌≡◌, ℕ, ℤ, ◌+◌, ◌-◌, ◌≤◌, ◌∙◌, ◌⊎◌, inl, inr, ⊎_elim, Bool, true, false, not, cond, List, [], ◌∷◌, Option, Some, None, refl, sym, ap, subst, arith, true≢false}
-use Rattle.std.specs.Prelude.{◌≤ℤ◌, ◌||◌, pos, is_some, option_map, All, Contains}
-use Rattle.std.specs.FinMap as finite
-use Rattle.std.specs.List.{list_any, sum_by}
-=======
 use Rattle.std.proofs.Common.{◌≡◌, ℕ, ℤ, ◌+◌, ◌≤◌, ◌∙◌, ◌⊎◌, inl, inr, ⊎_elim, Bool, true, false, cond, List, [], ◌∷◌, Option, Some, None, refl, sym, ap, subst, arith, true≢false}
 use Rattle.std.specs.Prelude.{◌≤ℤ◌, ◌||◌, pos, is_some, option_map, Contains}
 use Rattle.std.specs.FinMap as finite
 use Rattle.std.specs.List.{list_any}
->>>>>>> neg
 use Rattle.std.specs.List.Sorted.{IsPermutation}
 use Rattle.std.specs.Ordering.{eq_by_cmp}
 use Rattle.std.proofs.lemmas.Bool.{or_cases}
 use Rattle.std.proofs.lemmas.Grind.{common_steps}
 use Rattle.std.proofs.lemmas.Int.{ints}
 use Rattle.std.proofs.lemmas.List.Elements.{All-cons, All-tail, All-head, All-weaker, All-contains, All-contains_itself}
-<<<<<<< HEAD
-use Rattle.std.proofs.lemmas.List.Sorted.{All-permutation, IsPermutation-sym, list_any-IsPermutation, sum_by-IsPermutation}
-=======
 use Rattle.std.proofs.lemmas.List.Sorted.{All-permutation, list_any-IsPermutation, sum_by-IsPermutation}
->>>>>>> neg
 use Rattle.gixp_hash.specs.declared.object_id.ObjectId.{ObjectId}
 use Rattle.gixp_hash.specs.ObjectId.{id_cmp}
 use Rattle.gixp_graph.specs.declared.flags.Flags.{Flags}
@@ -29,13 +18,8 @@ use Rattle.gixp_graph.specs.GraphData.{HeldCommit, Commits, GraphData, shown}
 use Rattle.gixp_graph.specs.GraphLaws.{same_from}
 use Rattle.gixp_negotiators.specs.declared.queue.Waiting.{Waiting}
 use Rattle.gixp_negotiators.specs.Marks.{has_all, has_mark, Grows, SeesNone, SeesOnly, Claims}
-<<<<<<< HEAD
-use Rattle.gixp_negotiators.specs.Waiting.{waiting_at, waits_in, open_one, open_in, Fits, Keeps, KeepsTimed, AllTimed, NoneNewer, AllCommon, IsNewest, IsNewestAt, IsNewestIn, IsDated, QueuesNew}
-use Rattle.gixp_negotiators.proofs.GrowLemmas.{grows_none, grows_on}
-=======
 use Rattle.gixp_negotiators.specs.Waiting.{waits_in, open_one, open_in, Fits, Keeps, KeepsTimed, AllTimed, NoneNewer, AllCommon, IsNewest, IsNewestAt, IsNewestIn, IsDated, QueuesNew}
 use Rattle.gixp_negotiators.proofs.GrowLemmas.{grows_on}
->>>>>>> neg
 
 -- what lacks a mark after lacked it before
 pub lacked : (a b : Bool) → (a ≡ true → b ≡ true) → b ≡ false → a ≡ false
@@ -336,15 +320,9 @@ queues_taken ws xs g first p = record {
 
 -- and is the newest
 pub newest_in : (us ws xs ys : List Waiting) (g l : GraphData) (first : Waiting) → Grows g l → QueuesNew us g ws → IsPermutation ws (first ∷ xs) → IsNewest xs first → QueuesNew xs l ys → IsNewestIn us g first.id ys
-<<<<<<< HEAD
-newest_in us ws xs ys g l first v q p n step = (first, refl,
-    All-head (λ (w : Waiting). Contains us w ⊎ IsDated g w) first xs (All-permutation (λ (w : Waiting). Contains us w ⊎ IsDated g w) ws (first ∷ xs) p q.dated),
-    step.order g first.time v (All-weaker (λ (w : Waiting). w.time ≤ℤ first.time) (λ (w : Waiting). has_mark 8 g.held w.id ≡ true → w.time ≤ℤ first.time) (λ w le s. le) xs n.newest))
-=======
 newest_in us ws xs ys g l first v q p n step = (
   first,
   refl,
   All-head (λ (w : Waiting). Contains us w ⊎ IsDated g w) first xs (All-permutation (λ (w : Waiting). Contains us w ⊎ IsDated g w) ws (first ∷ xs) p q.dated),
   step.order g first.time v (All-weaker (λ (w : Waiting). w.time ≤ℤ first.time) (λ (w : Waiting). has_mark 8 g.held w.id ≡ true → w.time ≤ℤ first.time) (λ w le s. le) xs n.newest),
 )
->>>>>>> neg

@@ -1,11 +1,6 @@
 -- Which commits come to be seen.
-<<<<<<< HEAD
-use Rattle.std.proofs.Common.{◌≡◌, ◌∙◌, ◌⊎◌, inl, inr, ⊎_elim, ℕ, ◌<◌, Bool, true, false, List, [], ◌∷◌, ◌++◌, length, get_or, Option, Some, None, refl, sym, ap, subst, true≢false}
-use Rattle.std.specs.Prelude.{◌||◌, All, Contains, IsSome, not}
-=======
 use Rattle.std.proofs.Common.{◌≡◌, ◌∙◌, inl, inr, ⊎_elim, ℕ, ◌<◌, Bool, true, false, List, [], ◌∷◌, ◌++◌, length, get_or, Some, refl, sym, subst, true≢false}
 use Rattle.std.specs.Prelude.{◌||◌, All, Contains, not}
->>>>>>> neg
 use Rattle.std.specs.Ordering.{eq_by_cmp}
 use Rattle.std.proofs.lemmas.Bool.{or_cases, or_left, or_right}
 use Rattle.std.proofs.lemmas.List.Elements.{All-weaker, All-push, All-contains, All-contains_itself, Contains-get_or, Contains-push, Contains-append_left}
@@ -13,11 +8,7 @@ use Rattle.gixp_hash.specs.declared.object_id.ObjectId.{ObjectId}
 use Rattle.gixp_hash.specs.ObjectId.{id_cmp}
 use Rattle.gixp_graph.specs.GraphData.{GraphData, parents_in}
 use Rattle.gixp_graph.specs.GraphLaws.{same_from}
-<<<<<<< HEAD
-use Rattle.gixp_negotiators.specs.Marks.{has_mark, has_all, Grows, SeesNone, SeesOnly}
-=======
 use Rattle.gixp_negotiators.specs.Marks.{has_mark, Grows, SeesNone, SeesOnly}
->>>>>>> neg
 use Rattle.gixp_negotiators.specs.Spread.{SeesCommon, SeesAmong, FindsCommon}
 
 pub sees_same : (g h : GraphData) → SeesNone g h → SeesCommon g h
@@ -105,13 +96,7 @@ shared_common false two four e f = absurd (true≢false f)
 
 -- the last of them, and the others
 pub common_popped : (g : GraphData) (due rest : List ObjectId) (one : ObjectId) → due ≡ rest ++ one ∷ [] → All (λ q. has_mark 2 g.held q ≡ true) due → (has_mark 2 g.held one ≡ true) × All (λ q. has_mark 2 g.held q ≡ true) rest
-<<<<<<< HEAD
-common_popped g due rest one is all =
-    (All-contains (λ q. has_mark 2 g.held q ≡ true) due one all (subst (λ xs. Contains xs one) (sym is) (Contains-push rest one)),
-    All-weaker (Contains rest) (λ q. has_mark 2 g.held q ≡ true) (λ q c. All-contains (λ q. has_mark 2 g.held q ≡ true) due q all (subst (λ xs. Contains xs q) (sym is) (Contains-append_left rest (one ∷ []) q c))) rest (All-contains_itself rest))
-=======
 common_popped g due rest one is all = (
   All-contains (λ q. has_mark 2 g.held q ≡ true) due one all (subst (λ xs. Contains xs one) (sym is) (Contains-push rest one)),
   All-weaker (Contains rest) (λ q. has_mark 2 g.held q ≡ true) (λ q c. All-contains (λ q. has_mark 2 g.held q ≡ true) due q all (subst (λ xs. Contains xs q) (sym is) (Contains-append_left rest (one ∷ []) q c))) rest (All-contains_itself rest),
 )
->>>>>>> neg

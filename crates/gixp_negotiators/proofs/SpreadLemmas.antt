@@ -1,11 +1,6 @@
 -- What is common spreads, step by step.
-<<<<<<< HEAD
-use Rattle.std.proofs.Common.{◌≡◌, ◌∙◌, ◌⊎◌, inl, inr, ⊎_elim, ℕ, ◌+◌, ◌<◌, Bool, true, false, length, take, get_or, List, [], ◌∷◌, ◌++◌, refl, sym, ap, subst, arith, true≢false}
-use Rattle.std.specs.Prelude.{◌||◌, All, Contains, IsSome, is_some}
-=======
 use Rattle.std.proofs.Common.{◌≡◌, ◌∙◌, inl, inr, ⊎_elim, ℕ, ◌+◌, ◌<◌, Bool, true, false, length, take, get_or, List, [], ◌∷◌, ◌++◌, refl, sym, ap, subst, arith, true≢false}
 use Rattle.std.specs.Prelude.{All, Contains, IsSome, is_some}
->>>>>>> neg
 use Rattle.std.specs.FinMap as finite
 use Rattle.std.specs.Ordering.{eq_by_cmp}
 use Rattle.std.proofs.lemmas.Bool.{or_cases}

@@ -1,9 +1,5 @@
 -- git's negotiators by their names (git-config, `fetch.negotiationAlgorithm`).
-<<<<<<< HEAD
-use Rattle.std.specs.Prelude.{◌≡◌, ◌⊎◌, ℕ, List, Option, Some, None, map, codes}
-=======
 use Rattle.std.specs.Prelude.{◌≡◌, ◌⊎◌, ℕ, List, Option, None, map, codes}
->>>>>>> neg
 use Rattle.std.specs.Char.{to_ascii_lowercase}
 use Rattle.gixp_hash.specs.declared.object_id.ObjectId.{ObjectId}
 use Rattle.gixp_graph.specs.GraphData.{GraphData}

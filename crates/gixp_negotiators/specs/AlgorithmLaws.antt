@@ -1,9 +1,5 @@
 -- Laws of a negotiator whose kind is known only when it runs.
-<<<<<<< HEAD
-use Rattle.std.proofs.Common.{◌≡◌, ℕ, ◌≤◌, ◌<◌, Option, Some, None, arith, subst, sym}
-=======
 use Rattle.std.proofs.Common.{◌≡◌, ◌≤◌, ◌<◌, Option, Some, None, arith, subst, sym}
->>>>>>> neg
 use Rattle.gixp_hash.specs.declared.object_id.ObjectId.{ObjectId}
 use Rattle.gixp_graph.specs.GraphData.{GraphData}
 use Rattle.gixp_negotiators.specs.declared.algorithm.AnyNegotiator.{AnyNegotiator}

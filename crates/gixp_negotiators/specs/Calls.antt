@@ -1,18 +1,9 @@
 -- What the calls of git's negotiators do (git-config, `fetch.negotiationAlgorithm`).
-<<<<<<< HEAD
-use Rattle.std.specs.Prelude.{◌≡◌, ⊤, ℕ, List, Option, Some, None, IsSome, true, false}
-=======
 use Rattle.std.specs.Prelude.{◌≡◌, Option, IsSome, true, false}
->>>>>>> neg
 use Rattle.std.specs.BinaryHeap.{heap_items}
 use Rattle.gixp_hash.specs.declared.object_id.ObjectId.{ObjectId}
 use Rattle.gixp_graph.specs.Object.{commit_at}
 use Rattle.gixp_graph.specs.GraphData.{GraphData}
-<<<<<<< HEAD
-use Rattle.gixp_negotiators.specs.declared.queue.Waiting.{Waiting}
-use Rattle.gixp_negotiators.specs.declared.queue.Queue.{Queue}
-=======
->>>>>>> neg
 use Rattle.gixp_negotiators.specs.declared.consecutive.Consecutive.{Consecutive}
 use Rattle.gixp_negotiators.specs.declared.skipping.Skipping.{Skipping}
 use Rattle.gixp_negotiators.specs.Marks.{Grows, Offers, SettlesNone, IsMarkedIfThere, IsListedIfNew, has_mark}

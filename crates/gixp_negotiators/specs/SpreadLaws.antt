@@ -6,11 +6,7 @@ use Rattle.gixp_hash.specs.declared.object_id.ObjectId.{ObjectId}
 use Rattle.gixp_graph.specs.GraphData.{GraphData, parents_in}
 use Rattle.gixp_negotiators.specs.Marks.{has_mark, Grows}
 use Rattle.gixp_negotiators.specs.MarkLaws.{held_marked}
-<<<<<<< HEAD
-use Rattle.gixp_negotiators.specs.Spread.{is_there, BecomesCommon, Spreads, StaysSpread, LeadsTo}
-=======
 use Rattle.gixp_negotiators.specs.Spread.{BecomesCommon, Spreads, StaysSpread, LeadsTo}
->>>>>>> neg
 
 -- where what is common spreads, all that a common commit leads on to are common
 pub ancestors_common : (kind : GraphData → ObjectId → Bool) (g h : GraphData) (id q : ObjectId) → Grows g h → Spreads kind g h → has_mark 2 h.held id ≡ true → LeadsTo kind g id q → has_mark 2 h.held q ≡ true

@@ -1,9 +1,5 @@
 -- Commits that wait for a negotiator to take them (gitprotocol-pack, "Packfile Negotiation").
-<<<<<<< HEAD
-use Rattle.std.specs.Prelude.{◌≡◌, ◌⊎◌, ℕ, ℤ, pos, ◌+◌, ◌≤◌, ◌≤ℤ◌, Bool, true, false, List, ◌∷◌, All, Contains, Option, Some, None, if◌then◌else◌}
-=======
 use Rattle.std.specs.Prelude.{◌≡◌, ◌⊎◌, ℕ, ℤ, pos, ◌+◌, ◌≤◌, ◌≤ℤ◌, Bool, true, false, List, All, Contains, Option, Some, None, if◌then◌else◌}
->>>>>>> neg
 use Rattle.std.specs.List.{list_any, sum_by}
 use Rattle.std.specs.FinMap as finite
 use Rattle.std.specs.Ordering.{eq_by_cmp, int_cmp, nat_cmp, ordering_then}

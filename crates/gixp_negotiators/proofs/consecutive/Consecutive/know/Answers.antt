@@ -3,11 +3,7 @@ use Rattle.std.proofs.Common.{refl, subst, sym}
 use Rattle.std.specs.Prelude.{IsSome}
 use Rattle.gixp_graph.specs.Object.{Objects, commit_at}
 use Rattle.gixp_negotiators.proofs.FitLemmas.{timed_grown, timed_on}
-<<<<<<< HEAD
-use Rattle.gixp_negotiators.proofs.GrowLemmas.{grows_on, has_part}
-=======
 use Rattle.gixp_negotiators.proofs.GrowLemmas.{has_part}
->>>>>>> neg
 use Rattle.gixp_negotiators.specs.Spread.{is_there}
 use Rattle.gixp_negotiators.proofs.SpreadLemmas.{stays_there, stays_grown, stays_on}
 use Rattle.gixp_negotiators.proofs.StepLemmas.{none_seen}

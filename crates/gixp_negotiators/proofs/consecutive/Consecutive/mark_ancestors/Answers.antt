@@ -1,9 +1,5 @@
 -- Ancestors are marked.
-<<<<<<< HEAD
-use Rattle.std.proofs.Common.{◌∙◌, arith, subst}
-=======
 use Rattle.std.proofs.Common.{subst}
->>>>>>> neg
 use Rattle.std.specs.Prelude.{IsSome}
 use Rattle.gixp_graph.specs.Object.{Objects, commit_at}
 use Rattle.gixp_negotiators.proofs.GrowLemmas.{grows_on}

@@ -26,5 +26,3 @@ loop-id-preserved g c = record {
 
 pub returns-in_err-reach-clause-grows : goal.returns-in_err-reach-clause-grows
 returns-in_err-reach-clause-grows g c = grows_on _ _ _ c.loop-id.invariant.grows c.reach.ensures.grows
-
-

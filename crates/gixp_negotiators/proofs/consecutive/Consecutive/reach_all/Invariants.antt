@@ -1,11 +1,7 @@
 -- What the loop keeps.
 use Rattle.std.proofs.Common.{◌≡◌, ◌+◌, ◌≤◌, length, take, true}
 use Rattle.std.specs.Prelude.{All}
-<<<<<<< HEAD
-use Rattle.std.specs.BinaryHeap.{heap_len, heap_items}
-=======
 use Rattle.std.specs.BinaryHeap.{heap_items}
->>>>>>> neg
 use Rattle.gixp_negotiators.specs.Marks.{Grows, SeesNone, has_mark, IsMarkedIfThere, left}
 use Rattle.gixp_negotiators.specs.Waiting.{KeepsTimed}
 use Rattle.gixp_negotiators.specs.Spread.{is_there, KeepsSpread}

@@ -1,25 +1,13 @@
 -- What is common spreads.
-<<<<<<< HEAD
-use Rattle.std.proofs.Common.{◌≡◌, ◌∙◌, arith, refl, subst, sym, false}
-=======
 use Rattle.std.proofs.Common.{◌≡◌, ◌∙◌, refl, subst, sym, false}
->>>>>>> neg
 use Rattle.std.specs.Prelude.{IsSome}
 use Rattle.std.proofs.lemmas.Bool.{or_right}
 use Rattle.gixp_graph.specs.Object.{Objects, commit_at}
 use Rattle.gixp_negotiators.specs.Marks.{IsFoundWith, has_mark}
-<<<<<<< HEAD
-use Rattle.gixp_negotiators.proofs.GrowLemmas.{grows_on}
-use Rattle.gixp_negotiators.proofs.FitLemmas.{timed_grown, timed_on}
-use Rattle.gixp_negotiators.specs.Spread.{is_there}
-use Rattle.gixp_negotiators.proofs.SpreadLemmas.{stays_there, parents_common, common_since, from_unseen, from_pushed, from_parents}
-use Rattle.gixp_negotiators.proofs.SeeLemmas.{sees_same, sees_on, sees_one, near_unseen, common_grown}
-=======
 use Rattle.gixp_negotiators.proofs.FitLemmas.{timed_grown, timed_on}
 use Rattle.gixp_negotiators.specs.Spread.{is_there}
 use Rattle.gixp_negotiators.proofs.SpreadLemmas.{stays_there, parents_common, common_since, from_unseen, from_pushed, from_parents}
 use Rattle.gixp_negotiators.proofs.SeeLemmas.{sees_same, sees_on, sees_one, near_unseen}
->>>>>>> neg
 use Rattle.gixp_negotiators.proofs.consecutive.Consecutive.spread.Goals as goal
 
 pub returns-in_default-clause-keeps : goal.returns-in_default-clause-keeps

@@ -1,9 +1,5 @@
 -- What is common spreads on.
-<<<<<<< HEAD
-use Rattle.std.proofs.Common.{◌≡◌, ◌∙◌, [], arith, refl, rules}
-=======
 use Rattle.std.proofs.Common.{◌∙◌, [], arith, refl, rules}
->>>>>>> neg
 use Rattle.std.proofs.lemmas.List.Elements.{All-nil, All-same, All-pop}
 use Rattle.gixp_negotiators.specs.Spread.{was_seen, IsNewlyCommon}
 use Rattle.gixp_negotiators.proofs.SpreadLemmas.{stays_seen, spread_all, spread_popped, kept_from, from_step}

@@ -1,9 +1,5 @@
 -- The next is found.
-<<<<<<< HEAD
-use Rattle.std.proofs.Common.{◌≡◌, ◌∙◌, ⊎_elim, arith, refl, subst}
-=======
 use Rattle.std.proofs.Common.{⊎_elim, arith, refl, subst}
->>>>>>> neg
 use Rattle.std.specs.BinaryHeap.{heap_items}
 use Rattle.gixp_negotiators.specs.Waiting.{Fits}
 use Rattle.gixp_negotiators.proofs.GrowLemmas.{grows_none, grows_on}

@@ -1,9 +1,5 @@
 -- A commit waits.
-<<<<<<< HEAD
-use Rattle.std.proofs.Common.{◌≡◌, Some, ◌+◌, ◌≤◌, ◌∙◌, ap, arith, refl}
-=======
 use Rattle.std.proofs.Common.{◌≡◌, Some, ◌∙◌, ap, arith, refl}
->>>>>>> neg
 use Rattle.std.proofs.Common.{rules, w64}
 use mir.Val.{SFits}
 use Rattle.std.proofs.lemmas.Int.{to_z-of_z}
