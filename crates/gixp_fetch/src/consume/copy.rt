@@ -3,7 +3,8 @@ ghost use Rattle.gixp_fetch.specs.Consume.{Copies, copies_owes, PassesOver, pass
 
 use crate::consume::ConsumePack;
 use crate::remote_text::WithSidebands;
-use gixp_packetline::ExtendedBufRead;
+use bstr::BStr;
+use gixp_packetline::{ExtendedBufRead, ServerMessage};
 use gixp_sidebands::Interrupt;
 use gixp_wire::Progress;
 use std::io::{BufRead, ErrorKind, Write};
@@ -18,6 +19,17 @@ pub enum CopyError {
     /// The writer failed with this kind. Nothing is said of what it wrote.
     #[error("Write")]
     Write(ErrorKind),
+}
+
+/// It keeps a kind alone, and so no message.
+impl ServerMessage for CopyError {
+    ghost use Rattle.std.specs.Prelude.{None};
+
+    ghost message = { λ _. None };
+
+    fn server_message(&self) -> Option<BStr<'_>> {
+        None
+    }
 }
 
 /// Copies a pack into a writer as it comes, up to its stop, in pieces that are lent from the buffer of

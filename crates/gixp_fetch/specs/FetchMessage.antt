@@ -1,0 +1,15 @@
+-- The server's own words in an error of a fetch.
+use Rattle.std.specs.Prelude.{ℕ, List, Option, None}
+use Rattle.gixp_packetline.specs.ServerMessage.{read_message}
+use Rattle.gixp_capabilities.specs.ClientMessage.{client_message}
+use Rattle.gixp_response.specs.AnswerMessage.{answer_message}
+use Rattle.gixp_fetch.specs.declared.error.Error.{Error}
+use Rattle.gixp_fetch.specs.declared.error.Error.TheVariants.{FetchResponse, Client, ConsumePack, ReadRemainingBytes}
+
+-- that of the answer, of the request, of the consumer's error, or of what stands behind the pack
+abbrev pub fetch_message : {A E : Type 0} → (E → Option (List ℕ)) → Error A E → Option (List ℕ)
+fetch_message of_consumer (FetchResponse e) = answer_message e
+fetch_message of_consumer (Client e) = client_message e
+fetch_message of_consumer (ConsumePack e) = of_consumer e
+fetch_message of_consumer (ReadRemainingBytes e) = read_message e
+fetch_message of_consumer _ = None
