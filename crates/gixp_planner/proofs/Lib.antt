@@ -1,5 +1,6 @@
 pub mod ListLemmas
 pub mod PrintLemmas
+pub mod RecordedLemmas
 pub mod SessionLemmas
 pub mod SeenLemmas
 pub mod MappedLemmas
