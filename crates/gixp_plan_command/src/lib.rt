@@ -15,7 +15,7 @@ use gixp_listing::list_refs;
 use gixp_planner::{PlanError, plan, read_bodies, read_haves};
 use std::alloc::Global;
 use std::fs::File;
-use std::io::{BufWriter, ErrorKind};
+use std::io::ErrorKind;
 use std::process::ExitCode;
 use std::{env, io};
 
@@ -87,12 +87,7 @@ fn run_plan(rt: &HostRuntime, folder: &str, words: &[String]) -> Result<(), Plan
     let specs = spec_texts(rt.alloc(), words)?;
     let mut negotiator = HaveList::new(haves);
     let mut graph = Graph::new(rt.alloc(), NoObjects);
-    let Ok(mut writer) = BufWriter::new(rt.alloc(), io::writer(rt)) else {
-        return Err(PlanError {
-            step: "file",
-            variant: "Memory",
-        });
-    };
+    let mut writer = io::writer(rt);
     plan(
         rt.alloc(),
         bodies,
