@@ -1,4 +1,4 @@
-use Rattle.std.proofs.Common.{List, ◌++◌, Result, Option, Vec}
+use Rattle.std.proofs.Common.{◌++◌}
 use Rattle.gixp_planner.specs.Recorded.{AreBodies}
 use Rattle.gixp_planner.proofs.recording.bodies_of.Given as goal
 
