@@ -1,7 +1,7 @@
 -- Two sessions over the same bodies, whose negotiators offer the same list, that came to their ends: all that they send and print is the same.
-use Rattle.std.proofs.Common.{◌≡◌, ℕ, Bool, true, List, [], ◌++◌, codes, Option, Some, None, Result, Ok, Err, refl, sym, ap, ◌∙◌, subst}
+use Rattle.std.proofs.Common.{◌≡◌, ℕ, Bool, true, List, [], ◌++◌, codes, Option, Some, None, Result, Ok, Err, ◌⊎◌, inl, inr, refl, sym, ap, ◌∙◌, subst}
 use Rattle.std.specs.Prelude.{IsOk}
-use Rattle.std.specs.Io.KnownBytes.{Appends}
+use Rattle.std.specs.Io.KnownBytes.{Appends, Keeps}
 use Rattle.gixp_wire.specs.declared.bodies.Body.{Body}
 use Rattle.gixp_hash.specs.declared.object_id.ObjectId.{ObjectId}
 use Rattle.gixp_wire.specs.Bodies.{bodies_reading}
@@ -11,12 +11,19 @@ use Rattle.gixp_refmap.specs.declared.refmap.map.RefMap.{RefMap}
 use Rattle.gixp_handshake.specs.Taken.{without_refs}
 use Rattle.gixp_fetch.specs.declared.options.Outcome.{Outcome}
 use Rattle.gixp_fetch.specs.Fetch.{Parties}
-use Rattle.gixp_planner.specs.Refusal.{PlanRefusal, refusal, handshake_name, map_name, fetch_name}
+use Rattle.gixp_fetch.specs.declared.error.Error.{Error as FetchError}
+use Rattle.gixp_handshake.specs.declared.handshake.read.Handshake.{Handshake}
+use Rattle.gixp_refspec.specs.declared.parse.Error.{Error as SpecError}
+use Rattle.gixp_refspec.specs.Spec.{Spec}
+use Rattle.gixp_planner.specs.declared.error.PlanError.{PlanError}
+use Rattle.gixp_planner.specs.Refusal.{PlanRefusal, refusal, spec_name, handshake_name, map_name, fetch_name, IsPlanMemory}
+use Rattle.gixp_planner.specs.Specs.{specs_of, RefusesSpecs}
 use Rattle.gixp_planner.specs.Text.{Course, requests_shown, mapped_shown, end_shown, course_shown}
 use Rattle.gixp_planner.specs.Session.{FetchesMapped, Runs, ungreeted, unmapped, fetched, end_of}
-use Rattle.gixp_planner.specs.PlannedText.{shown, refused}
+use Rattle.gixp_planner.specs.PlannedText.{PlannedText, shown, refused}
 use Rattle.gixp_planner.specs.Mapped.{IsMapped}
-use Rattle.gixp_planner.specs.Follows.{AsksBehind, AreSame, EndsSession, IsWritten, Follow}
+use Rattle.gixp_planner.specs.Follows.{AsksBehind, AreSame, RefusedForSpec, EndsSession, IsWritten, Follow}
+use Rattle.gixp_planner.proofs.RefusedLemmas.{planned-ungreeted}
 use Rattle.gixp_planner.proofs.SeenLemmas.{LookAlike}
 use Rattle.gixp_planner.proofs.MappedLemmas.{HoldAlike, hold-alike, SameGreeting, SameMap, both-greet, both-alike, not-ok, EndedWhole, ended-whole}
 use Rattle.gixp_planner.proofs.WantLemmas.{Basis, SameBasis}
@@ -32,6 +39,30 @@ end-came A X None = refl
 -- what came to its end wasn't refused
 not-refused : (ended : Result Bool PlanRefusal) (e : PlanRefusal) → IsOk ended → ended ≡ Err e → ⊥
 not-refused ended e k f = not-ok e (subst (λ (r : Result Bool PlanRefusal). IsOk r) f k)
+
+-- ---- a refspec that is refused
+
+abbrev read_as : List Spec → Result (List Spec) SpecError
+read_as specs = Ok specs
+
+abbrev unread_for : SpecError → Result (List Spec) SpecError
+unread_for e = Err e
+
+read-or-refused : (specs : List Spec) (e : SpecError) → read_as specs ≡ unread_for e → ⊥
+read-or-refused specs e h = cc
+
+same-refusal : (e f : SpecError) → unread_for e ≡ unread_for f → e ≡ f
+same-refusal e f h = cc
+
+refused-so : (specs : List (List ℕ)) (error : SpecError) (e : PlanError) → specs_of specs ≡ Err error → RefusesSpecs specs e ⊎ IsPlanMemory (codes "file") e → RefusedForSpec error (Err e)
+refused-so specs error e q (inl (inl k)) = inl (k.2 ∙ ap (λ x. refusal (codes "spec") (spec_name x)) (same-refusal k.0 error (sym k.1 ∙ q)))
+refused-so specs error e q (inl (inr k)) = inr (inl k)
+refused-so specs error e q (inr k) = inr (inr k)
+
+module _ {A X : Type 0} (Receives : RefMap → Handshake → Reading → Reading → Result (Option Outcome) (FetchError A X) → Type 0) (bodies : List Body) (specs : List (List ℕ)) where
+  spec-refused : (error : SpecError) → specs_of specs ≡ Err error → (old new : Option (List ℕ)) (r : Result (Unit {0}) PlanError) → PlannedText Receives bodies specs old new r → Keeps old new × RefusedForSpec error r
+  spec-refused error q old new r (shown course i s) = absurd (read-or-refused _ error (sym i.read.specs ∙ q))
+  spec-refused error q old new r (refused e p why keeps) = (keeps, subst (RefusedForSpec error) (sym p) (refused-so specs error e q why))
 
 module _ {N I A S C P X : Type 0} (parties : Parties N I A S C P X) (basis : N → Basis) (haves : N → List ObjectId) (list : OffersList parties.negotiation_calls basis haves) (IsOne IsOther : RefMap → N → Type 0) (IsEmpty : S → Type 0)
     (reads : (s : S) (ids : List ObjectId) (t : S) → IsEmpty s → parties.store_calls.reads s ids t → ids ≡ [])
@@ -144,4 +175,6 @@ module _ {N I A S C P X : Type 0} (parties : Parties N I A S C P X) (basis : N �
   follow = record {
     session = λ c d i j. are-same c d (arrived IsOne c i) (arrived IsOther d j);
     text = text-same (λ c d i j. (are-same c d (arrived IsOne c i) (arrived IsOther d j)).shown);
+    no_specs = spec-refused (λ m h from to x. FetchesMapped parties (IsOne m) IsEmpty h from to x) bodies specs;
+    no_greeting = λ e q old new. planned-ungreeted (λ m h from to x. FetchesMapped parties (IsOne m) IsEmpty h from to x) bodies specs old new e q;
   }

@@ -1,8 +1,11 @@
 pub mod ListLemmas
 pub mod PrintLemmas
+pub mod RecordedLemmas
 pub mod SessionLemmas
 pub mod SeenLemmas
+pub mod StepLemmas
 pub mod MappedLemmas
+pub mod RefusedLemmas
 pub mod WantLemmas
 pub mod AnswerLemmas
 pub mod CountLemmas

@@ -1,7 +1,7 @@
 -- Two sessions over the same bodies: each step leaves readers of which the same is to come, and which hold the same.
 use Rattle.std.proofs.Common.{◌≡◌, ◌⊎◌, ℕ, Bool, true, false, List, [], ◌∷◌, ◌++◌, map, Option, Some, None, Vec, Result, Ok, Err, IfSome, inl, inr, refl, sym, ap, ◌∙◌, subst, append_assoc, append-nil, arith}
 use Rattle.std.proofs.lemmas.Bool.Decides.{nat_tests}
-use Rattle.std.specs.Prelude.{IfOk, IsOk, ◌==◌, codes}
+use Rattle.std.specs.Prelude.{IsOk, ◌==◌, codes}
 use Rattle.std.specs.Io.KnownBytes.{Appends}
 use Rattle.std.specs.Option.{option_map}
 use Rattle.std.specs.declared.alloc.Global.{Global}
@@ -59,11 +59,12 @@ use Rattle.gixp_fetch.specs.Fetch.{World, Parties}
 use Rattle.gixp_fetch.specs.Fetched.{FetchCall, Fetches, unprepared, unlocked}
 use Rattle.gixp_handshake.specs.Taken.{without_refs}
 use Rattle.gixp_planner.specs.declared.error.PlanError.{PlanError}
-use Rattle.gixp_planner.specs.Refusal.{PlanRefusal, refusal}
+use Rattle.gixp_planner.specs.Refusal.{PlanRefusal, refusal, refusal_of}
 use Rattle.gixp_planner.specs.Text.{map_shown, mapped_shown, requests_shown, end_shown, Course}
 use Rattle.gixp_planner.specs.Session.{planner_agent, planner_call, AreUnanswered, GreetsWithoutAccount, MapsRefs, FetchesMapped, Runs, ungreeted, unmapped, fetched, end_counted}
 use Rattle.gixp_planner.specs.PlannedText.{IsCourse, Shows}
-use Rattle.gixp_planner.specs.Mapped.{IsMapped, MappingsFollow, ShowsMapped}
+use Rattle.gixp_planner.specs.Mapped.{IsMapped, MappingsFollow, ShowsMapped, ShowsFetch}
+use Rattle.gixp_planner.proofs.StepLemmas.{other-step, not-unwritten, n-not-t, f-not-t, l-not-t}
 use Rattle.gixp_planner.proofs.SeenLemmas.{map_text, map-text, LookAlike, look-alike}
 
 -- ---- readers of which the same is to come
@@ -560,15 +561,22 @@ ended-whole failures (Ok pack) ended h k = by_count (failures == 0) refl
         record { uncounted = grind (arith, nat_tests); same = same; whole = subst (λ (r : Result Bool PlanRefusal). IsOk r) same k }
     by_count false e = let refused : ended ≡ Err (refusal (codes "fetch") (codes "Io")) = rw e at h in absurd (not-ok (refusal (codes "fetch") (codes "Io")) (subst (λ (r : Result Bool PlanRefusal). IsOk r) refused k))
 
+-- the step of a session that was refused before its fetch
+pub step-before : (failures : ℕ) (ran ended : Result Bool PlanRefusal) (e : PlanRefusal) {why : PlanRefusal} → ended ≡ end_counted failures ran → ended ≡ Err e → ran ≡ Err why → e.step ≡ why.step
+step-before failures ran ended e {why} h k f =
+    let same : ends_refused e ≡ ends_refused why = sym k ∙ h ∙ ap (end_counted failures) f in
+    let alike : e ≡ why = cc same in
+    ap (λ (r : PlanRefusal). r.step) alike
+
 module _ {A X : Type 0} (Receives : RefMap → Handshake → Reading → Reading → Result (Option Outcome) (FetchError A X) → Type 0) (bodies : List Body) (specs : List (List ℕ)) (old new : Option (List ℕ)) where
   -- a fetch writes behind what was sent
   abbrev pub ReceivesBehind : Type 0
   ReceivesBehind = (m : RefMap) (h : Handshake) (from to : Reading) (r : Result (Option Outcome) (FetchError A X)) → from.held.persists ≡ false → Receives m h from to r → Extends from to
 
   shown-fetched : ReceivesBehind → (context : Context) (transport : Bodies) (mid behind last : Reading) (h : Handshake) (m : RefMap) (r : Result (Option Outcome) (FetchError A X)) (sent : List (List ℕ)) (made : Option RefMap)
-      (pack : Bool) → IsContext specs context → IsNewBodies bodies [] [] transport → GreetsWithoutAccount true (bodies_reading transport) mid (Ok h) → MapsRefs context h true mid behind (Ok m) → Receives m (without_refs h) behind last r
-      → made ≡ Some m → last.held.sent ≡ sent → Appends old new (requests_shown sent ++ mapped_shown made ++ end_shown (Ok pack)) → ShowsMapped bodies specs old new
-  shown-fetched behind-it context transport mid behind last h m r sent made pack c n g l t e s w =
+      (ended : Result Bool PlanRefusal) → IsContext specs context → IsNewBodies bodies [] [] transport → GreetsWithoutAccount true (bodies_reading transport) mid (Ok h) → MapsRefs context h true mid behind (Ok m)
+      → Receives m (without_refs h) behind last r → made ≡ Some m → last.held.sent ≡ sent → Appends old new (requests_shown sent ++ mapped_shown made ++ end_shown ended) → ShowsMapped bodies specs old new ended
+  shown-fetched behind-it context transport mid behind last h m r sent made ended c n g l t e s w =
       let mapped : IsMapped bodies specs behind.held.sent m =
       record { context = context; transport = transport; handshake = h; mid = mid; behind = behind; read = c; over = n; greets = g; maps = l; by_then = refl } in
       let alone = both-alike bodies specs behind.held.sent behind.held.sent m m mapped mapped in
@@ -578,25 +586,40 @@ module _ {A X : Type 0} (Receives : RefMap → Handshake → Reading → Reading
         made = m;
         mapped = mapped;
         later = x.later;
-        pack = pack;
-        text = subst (λ q. Appends old new (requests_shown q ++ map_shown m ++ end_shown (Ok pack))) (sym s ∙ x.sent)
-            (subst (λ o. Appends old new (requests_shown sent ++ mapped_shown o ++ end_shown (Ok pack))) e w);
+        text = subst (λ q. Appends old new (requests_shown q ++ map_shown m ++ end_shown ended)) (sym s ∙ x.sent)
+            (subst (λ o. Appends old new (requests_shown sent ++ mapped_shown o ++ end_shown ended)) e w);
       }
 
   shown-run : ReceivesBehind → (context : Context) (transport : Bodies) (last : Reading) (sent : List (List ℕ)) (made : Option RefMap) (ended : Result Bool PlanRefusal) (pack : Bool) → ended ≡ Ok pack → IsContext specs context
       → IsNewBodies bodies [] [] transport → Runs Receives context true (bodies_reading transport) last made ended → last.held.sent ≡ sent
-      → Appends old new (requests_shown sent ++ mapped_shown made ++ end_shown (Ok pack)) → ShowsMapped bodies specs old new
+      → Appends old new (requests_shown sent ++ mapped_shown made ++ end_shown (Ok pack)) → ShowsMapped bodies specs old new (Ok pack)
   shown-run behind-it context transport last sent made ended pack k c n (ungreeted e g m f) s w = absurd (not-refused pack _ (sym k ∙ f))
   shown-run behind-it context transport last sent made ended pack k c n (unmapped h mid e g l m f) s w = absurd (not-refused pack _ (sym k ∙ f))
-  shown-run behind-it context transport last sent made ended pack k c n (fetched h mid behind m r g l t e f) s w = shown-fetched behind-it context transport mid behind last h m r sent made pack c n g l t e s w
+  shown-run behind-it context transport last sent made ended pack k c n (fetched h mid behind m r g l t e f) s w = shown-fetched behind-it context transport mid behind last h m r sent made (Ok pack) c n g l t e s w
 
   shown-ended : ReceivesBehind → (course : Course) (ended : Result Bool PlanRefusal) → course.ended ≡ ended → IsOk ended → IsCourse Receives bodies specs course
-      → Appends old new (requests_shown course.sent ++ mapped_shown course.mapped ++ end_shown ended) → ShowsMapped bodies specs old new
+      → Appends old new (requests_shown course.sent ++ mapped_shown course.mapped ++ end_shown ended) → (pack : Bool) × ShowsMapped bodies specs old new (Ok pack)
   shown-ended behind-it course (Err e) q k c w = absurd (not-ok e k)
   shown-ended behind-it course (Ok pack) q k c w =
       let h = ended-whole c.last.failures c.ran course.ended c.ended (subst (λ (r : Result Bool PlanRefusal). IsOk r) (sym q) k) in
-      shown-run behind-it c.context c.transport c.last course.sent course.mapped c.ran pack (sym h.same ∙ q) c.read c.over c.runs c.sent w
+      (pack, shown-run behind-it c.context c.transport c.last course.sent course.mapped c.ran pack (sym h.same ∙ q) c.read c.over c.runs c.sent w)
 
-  pub shows-mapped : ReceivesBehind → (course : Course) (r : Result (Unit {0}) PlanError) → IsCourse Receives bodies specs course → Shows old new course r → IfOk r (λ _. ShowsMapped bodies specs old new)
+  -- a session whose fetch was refused came to its ref map
+  shown-stopped : ReceivesBehind → (e : PlanRefusal) → e.step ≡ codes "fetch" → (context : Context) (transport : Bodies) (last : Reading) (sent : List (List ℕ)) (made : Option RefMap) (ran ended : Result Bool PlanRefusal)
+      → ended ≡ end_counted last.failures ran → ended ≡ Err e → IsContext specs context → IsNewBodies bodies [] [] transport → Runs Receives context true (bodies_reading transport) last made ran → last.held.sent ≡ sent
+      → Appends old new (requests_shown sent ++ mapped_shown made ++ end_shown ended) → ShowsMapped bodies specs old new ended
+  shown-stopped behind-it e q context transport last sent made ran ended h k c n (ungreeted x g m f) s w =
+      absurd (other-step (codes "fetch") (codes "handshake") e q (step-before last.failures ran ended e h k f) n-not-t)
+  shown-stopped behind-it e q context transport last sent made ran ended h k c n (unmapped o mid x g l m f) s w =
+      absurd (other-step (codes "fetch") (codes "refs") e q (step-before last.failures ran ended e h k f) f-not-t)
+  shown-stopped behind-it e q context transport last sent made ran ended h k c n (fetched o mid behind m r g l t p f) s w = shown-fetched behind-it context transport mid behind last o m r sent made ended c n g l t p s w
+
+  shown-unfetched : ReceivesBehind → (course : Course) (e : PlanError) → e.step.now ≡ codes "fetch" → IsCourse Receives bodies specs course → Shows old new course (Err e) → ShowsMapped bodies specs old new (Err (refusal_of e))
+  shown-unfetched behind-it course e q c (inr u) = absurd (not-unwritten (codes "fetch") e q l-not-t u.1)
+  shown-unfetched behind-it course e q c (inl s) =
+      subst (λ o. ShowsMapped bodies specs old new o) s.1
+      (shown-stopped behind-it (refusal_of e) q c.context c.transport c.last course.sent course.mapped c.ran course.ended c.ended s.1 c.read c.over c.runs c.sent s.0)
+
+  pub shows-mapped : ReceivesBehind → (course : Course) (r : Result (Unit {0}) PlanError) → IsCourse Receives bodies specs course → Shows old new course r → ShowsFetch bodies specs old new r
   shows-mapped behind-it course (Ok x) c s = shown-ended behind-it course course.ended refl s.1 c s.0
-  shows-mapped behind-it course (Err e) c s = tt
+  shows-mapped behind-it course (Err e) c s = λ q. shown-unfetched behind-it course e q c s

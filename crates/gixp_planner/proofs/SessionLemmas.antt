@@ -22,7 +22,8 @@ use Rattle.gixp_fetch.specs.FetchShallow.{ShallowValue, no_change}
 use Rattle.gixp_fetch.specs.Fetch.{World, Parties}
 use Rattle.gixp_fetch.specs.Fetched.{FetchCall, Fetches}
 use Rattle.gixp_planner.specs.declared.error.PlanError.{PlanError}
-use Rattle.gixp_planner.specs.Refusal.{PlanRefusal, WritesPlan}
+use Rattle.gixp_planner.specs.Refusal.{PlanRefusal}
+use Rattle.gixp_planner.specs.Written.{WritesPlan}
 use Rattle.gixp_planner.specs.Specs.{IsContext}
 use Rattle.gixp_planner.specs.Text.{course_shown, course_of, ended_of}
 use Rattle.gixp_planner.specs.Session.{planner_agent, AreUnanswered, GreetsWithoutAccount, MapsRefs, Carries, FetchesOver, Runs, fetched, end_of, end_counted}

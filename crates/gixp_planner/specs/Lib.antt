@@ -1,5 +1,7 @@
 pub mod Refusal
+pub mod Written
 pub mod Haves
+pub mod Recorded
 pub mod Specs
 pub mod Text
 pub mod Session

@@ -1,5 +1,5 @@
 -- A session over recorded bodies up to its ref map: what it sent by then, and that this and what is printed of the ref map follow from the bodies and the refspecs.
-use Rattle.std.specs.Prelude.{ℕ, ◌≡◌, ◌++◌, Bool, true, List, [], Option, Ok}
+use Rattle.std.specs.Prelude.{ℕ, ◌≡◌, ◌++◌, Bool, true, List, [], codes, Option, Result, Ok, Err}
 use Rattle.std.specs.Io.KnownBytes.{Appends}
 use Rattle.gixp_wire.specs.declared.bodies.Body.{Body}
 use Rattle.gixp_wire.specs.declared.bodies.Bodies.{Bodies}
@@ -8,6 +8,8 @@ use Rattle.gixp_packetline.specs.Reading.{Reading}
 use Rattle.gixp_refmap.specs.declared.refmap.init.Context.{Context}
 use Rattle.gixp_refmap.specs.declared.refmap.map.RefMap.{RefMap}
 use Rattle.gixp_handshake.specs.declared.handshake.read.Handshake.{Handshake}
+use Rattle.gixp_planner.specs.declared.error.PlanError.{PlanError}
+use Rattle.gixp_planner.specs.Refusal.{PlanRefusal, refusal_of}
 use Rattle.gixp_planner.specs.Specs.{IsContext}
 use Rattle.gixp_planner.specs.Text.{requests_shown, map_shown, end_shown}
 use Rattle.gixp_planner.specs.Session.{GreetsWithoutAccount, MapsRefs}
@@ -30,11 +32,15 @@ abbrev pub MappingsFollow : Type 0
 MappingsFollow = (bodies : List Body) (specs : List (List ℕ)) (sent others : List (List ℕ)) (m n : RefMap) → IsMapped bodies specs sent m → IsMapped bodies specs others n
     → (sent ≡ others) × (map_shown m ≡ map_shown n)
 
--- the requests of a session, of which the first are those up to its ref map, then its mappings, and whether a pack came
-pub record ShowsMapped (bodies : List Body) (specs : List (List ℕ)) (old new : Option (List ℕ)) : Type 0 where
+-- the requests of a session, of which the first are those up to its ref map, then its mappings, and how it ended
+pub record ShowsMapped (bodies : List Body) (specs : List (List ℕ)) (old new : Option (List ℕ)) (ended : Result Bool PlanRefusal) : Type 0 where
   pub sent : List (List ℕ)
   pub made : RefMap
   pub mapped : IsMapped bodies specs sent made
   pub later : List (List ℕ)
-  pub pack : Bool
-  pub text : Appends old new (requests_shown (sent ++ later) ++ map_shown made ++ end_shown (Ok pack))
+  pub text : Appends old new (requests_shown (sent ++ later) ++ map_shown made ++ end_shown ended)
+
+-- by its result: one that wasn't refused, or whose fetch was, came to its ref map
+abbrev pub ShowsFetch : List Body → List (List ℕ) → Option (List ℕ) → Option (List ℕ) → Result (Unit {0}) PlanError → Type 0
+ShowsFetch bodies specs old new (Ok x) = (pack : Bool) × ShowsMapped bodies specs old new (Ok pack)
+ShowsFetch bodies specs old new (Err e) = e.step.now ≡ codes "fetch" → ShowsMapped bodies specs old new (Err (refusal_of e))

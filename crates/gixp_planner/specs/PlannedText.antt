@@ -12,14 +12,15 @@ use Rattle.gixp_fetch.specs.declared.error.Error.{Error as FetchError}
 use Rattle.gixp_fetch.specs.declared.options.Outcome.{Outcome}
 use Rattle.gixp_planner.specs.declared.error.PlanError.{PlanError}
 use Rattle.gixp_planner.specs.Refusal.{PlanRefusal, refusal_of, IsPlanMemory, IsUnwritten}
+use Rattle.gixp_planner.specs.Written.{WritesBeginning}
 use Rattle.gixp_planner.specs.Specs.{IsContext, RefusesSpecs}
 use Rattle.gixp_planner.specs.Text.{Course, course_shown}
 use Rattle.gixp_planner.specs.Session.{Runs, end_counted}
 
--- the text of a session is written, and its refusal is the error; or a write failed
+-- the text of a session is written, and its refusal is the error; or a write failed behind a beginning of it
 abbrev pub Shows : Option (List ℕ) → Option (List ℕ) → Course → Result (Unit {0}) PlanError → Type 0
 Shows old new course (Ok x) = Appends old new (course_shown course) × IsOk course.ended
-Shows old new course (Err e) = (Appends old new (course_shown course) × (course.ended ≡ Err (refusal_of e))) ⊎ IsUnwritten e
+Shows old new course (Err e) = (Appends old new (course_shown course) × (course.ended ≡ Err (refusal_of e))) ⊎ (WritesBeginning old new (course_shown course) × IsUnwritten e)
 
 module _ {A X : Type 0} (Receives : RefMap → Handshake → Reading → Reading → Result (Option Outcome) (FetchError A X) → Type 0) (bodies : List Body) (specs : List (List ℕ)) where
   -- how far a session over these bodies came, by these refspecs; it came to its end only where nothing failed on the way

@@ -1,7 +1,9 @@
 -- Why a plan isn't made: which step was refused, and the name of the variant of its own error.
 use Rattle.std.specs.Prelude.{ℕ, ◌≡◌, ◌⊎◌, List, codes, Result, Ok, Err}
-use Rattle.std.specs.Io.KnownBytes.{Appends}
-use Rattle.std.specs.Prelude.{Option}
+use Rattle.std.specs.declared.io.Error.{Error as IoError}
+use Rattle.std.specs.declared.io.ErrorKind.{ErrorKind}
+use Rattle.std.specs.declared.io.ErrorKind.TheVariants.{OutOfMemory}
+use Rattle.std.specs.IoError.{error_kind}
 use Rattle.gixp_refspec.specs.declared.parse.Error.{Error as SpecError}
 use Rattle.gixp_refspec.specs.declared.parse.Error.TheVariants.{NegativeWithDestination, NegativeObjectHash, NegativePartialName, PatternUnbalanced, PatternUnsupported, InvalidName}
 use Rattle.gixp_handshake.specs.declared.handshake.error.Error.{Error as HandshakeError}
@@ -38,10 +40,16 @@ FileIsUnread e = (refusal_of e ≡ refusal (codes "file") (codes "Io")) ⊎ IsPl
 abbrev pub IsNoHave : PlanError → Type 0
 IsNoHave e = (refusal_of e ≡ refusal (codes "have") (codes "Decode")) ⊎ IsPlanMemory (codes "have") e
 
--- this text was written, or a write failed
-abbrev pub WritesPlan : Option (List ℕ) → Option (List ℕ) → List ℕ → Result (Unit {0}) PlanError → Type 0
-WritesPlan old new text (Ok x) = Appends old new text
-WritesPlan old new text (Err e) = IsUnwritten e
+-- how a read or a write of a file is refused that failed by this kind
+abbrev pub device_refusal : ErrorKind → PlanRefusal
+device_refusal OutOfMemory = refusal (codes "file") (codes "Memory")
+device_refusal _ = refusal (codes "file") (codes "Io")
+
+-- a flush is refused exactly where it failed, by its kind
+abbrev pub Answers : Result (Unit {0}) IoError → Result (Unit {0}) PlanError → Type 0
+Answers (Ok x) r = r ≡ Ok tt
+Answers (Err e) (Ok x) = ⊥
+Answers (Err e) (Err refused) = refusal_of refused ≡ device_refusal (error_kind e)
 
 abbrev pub spec_name : SpecError → List ℕ
 spec_name NegativeWithDestination = codes "NegativeWithDestination"

@@ -1,7 +1,8 @@
 //! Why a plan isn't made.
-ghost use Rattle.std.specs.Prelude.{◌≡◌};
-ghost use Rattle.gixp_planner.specs.Refusal.{refusal, refusal_of, IsPlanMemory, IsUnwritten};
+ghost use Rattle.std.specs.Prelude.{◌≡◌, IfErr};
+ghost use Rattle.gixp_planner.specs.Refusal.{refusal, refusal_of, IsPlanMemory, FileIsUnread, IsUnwritten, device_refusal, Answers};
 
+use std::io;
 use std::io::ErrorKind;
 use thiserror::Error as DeriveError;
 
@@ -30,13 +31,25 @@ impl PlanError {
         PlanError::new(step, "Memory")
     }
 
-    // A write that failed with this kind.
-    pub(crate) fn writing(kind: ErrorKind) -> PlanError
-        ensures { IsUnwritten result }
+    // A read or a write of a file that failed with this kind.
+    pub(crate) fn device(kind: ErrorKind) -> PlanError
+        ensures by_kind { refusal_of result ≡ device_refusal kind }
+        ensures unread { FileIsUnread result }
     {
         match kind {
             ErrorKind::OutOfMemory => PlanError::memory("file"),
             _ => PlanError::new("file", "Io"),
         }
+    }
+}
+
+// What a flush answered: it is refused exactly where that failed, by its kind.
+pub(crate) fn answered(answer: io::Result<()>) -> Result<(), PlanError>
+    ensures answer { Answers answer result }
+    ensures unwritten { IfErr result IsUnwritten }
+{
+    match answer {
+        Ok(()) => Ok(()),
+        Err(e) => Err(PlanError::device(e.kind())),
     }
 }

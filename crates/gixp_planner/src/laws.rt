@@ -13,6 +13,7 @@ use std::alloc::AllocError;
 
 /// What a client sends up to its ref map, and the lines of the mappings and of those taken out, are a function of the
 /// bodies and the refspecs: two sessions over the same have the same, whatever their objects, graphs and negotiators.
+/// Sessions whose fetch was refused too: [`plan`](crate::plan) says of each that it came to a ref map, and writes its lines.
 pub fn mappings_follow_bodies()
     ensures { MappingsFollow }
 {}
@@ -23,6 +24,9 @@ pub fn mappings_follow_bodies()
 ///
 /// The objects are those of the repository and of the graph, whatever the graph holds by then; with `NoObjects` there are
 /// none. A session whose transport counted a failure is refused, so each answer is the one that its body holds.
+///
+/// Where a refspec is refused, so is each plan over these refspecs, by the same name or for memory, and nothing is written;
+/// nor is anything of a plan whose handshake is refused.
 pub fn texts_follow_bodies<'a, O: Objects + 'a, G: Objects + 'a>()
     ensures { (bodies : List Body) (specs : List (List ℕ)) (haves : List ObjectId) (objects others : O) (graph another : GraphValue)
         → O.contents objects ≡ O.contents others → graph.graph.objects ≡ another.graph.objects

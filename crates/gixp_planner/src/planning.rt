@@ -4,7 +4,7 @@ ghost use Rattle.bstr.specs.Owned.{bstring_bytes};
 ghost use Rattle.gixp_planner.specs.Session.{FetchesMapped, end_counted};
 ghost use Rattle.gixp_planner.specs.Text.{ended_of};
 ghost use Rattle.gixp_planner.specs.PlannedText.{PlannedText, IsOutcome};
-ghost use Rattle.gixp_planner.specs.Mapped.{ShowsMapped};
+ghost use Rattle.gixp_planner.specs.Mapped.{ShowsFetch};
 
 use crate::error::PlanError;
 use crate::print::write_course;
@@ -58,10 +58,10 @@ fn counted(failures: u64, ended: Result<bool, PlanError>) -> Result<bool, PlanEr
 /// payload without an ending LF, or its four digits where it has none. Then, where the refs were mapped, a line
 /// `map ID NAME LOCAL` for each mapping, with `unborn` for an id that isn't there and `-` for a name that isn't, and a line
 /// `fix LOCAL REFSPEC` for each that was taken out. Then `pack`, or `nothing` where there was nothing to ask for. All is
-/// written behind the session, a line at a time, and the writer is flushed: hand in one that is buffered.
+/// written behind the session, in one piece where the writer takes it so, and the writer is flushed.
 ///
-/// Of a plan that isn't refused, the requests up to the ref map, the mappings and those taken out are a function of the
-/// bodies and the refspecs alone ([`mappings_follow_bodies`](crate::laws::mappings_follow_bodies)). With a
+/// Of a plan that isn't refused, or whose fetch is, the requests up to the ref map, the mappings and those taken out are a
+/// function of the bodies and the refspecs alone ([`mappings_follow_bodies`](crate::laws::mappings_follow_bodies)). With a
 /// [`HaveList`](gix_protocol::fetch::negotiate::HaveList) the whole text is one of these, the objects and the ids, whatever
 /// version the server speaks ([`texts_follow_bodies`](crate::laws::texts_follow_bodies)).
 ///
@@ -70,8 +70,9 @@ fn counted(failures: u64, ended: Result<bool, PlanError>) -> Result<bool, PlanEr
 /// `spec` with the variant of a refspec's error, and `file Memory` where no transport can be made: nothing is written then.
 /// `handshake`, `refs` and `fetch` with the outermost variant of that step's error: the requests and mappings so far are
 /// written. `fetch Io` where the fetch came to its end, but the transport has counted a failure: a read that failed may have
-/// cut an answer short, so all is written but for whether a pack came. `file Io` where a write failed, and
-/// `file Memory` where an allocation for what is written did: of the text some may be written.
+/// cut an answer short, so all is written but for whether a pack came. `file Io` where a write or the flush failed, and
+/// `file Memory` where an allocation for what is written did, or a write for want of memory: a beginning of the text is
+/// written.
 pub fn plan<'a, O: Objects, G: Objects, N: Negotiator, W: Write>(
     alloc: Global,
     bodies: Vec<Body>,
@@ -93,7 +94,7 @@ pub fn plan<'a, O: Objects, G: Objects, N: Negotiator, W: Write>(
         (λ n. (n.objects.now ≡ objects.now) × (n.graph.now ≡ graph.old) × (n.negotiator.now ≡ negotiator.old) × (n.ref_map.now ≡ m) × (n.shallow.now ≡ Shallow.NoChange) × (n.tags ≡ Tags.None) × IfOk n.alternates (λ a. a.now ≡ []) × IsOk n.alternates)
         (λ s. (s.ids.items ≡ []) × (s.locked ≡ false)) h old new r)
         bodies.items (map bstring_bytes specs.now) (W.contents writer.old) (W.contents writer.new) result }
-    ensures mapped { IfOk result (λ _. ShowsMapped bodies.items (map bstring_bytes specs.now) (W.contents writer.old) (W.contents writer.new)) }
+    ensures mapped { ShowsFetch bodies.items (map bstring_bytes specs.now) (W.contents writer.old) (W.contents writer.new) result }
 {
     sessions_are_bounded::<
         Negotiation<'a, O, NoRefs, N, G, AllocError>,

@@ -1,15 +1,15 @@
 //! What is printed of a session.
-ghost use Rattle.std.specs.Prelude.{◌≡◌, ◌++◌, OnOk, flat_map, map, vec_items};
+ghost use Rattle.std.specs.Prelude.{◌≡◌, ◌++◌, ◌≤◌, OnOk, IfOk, drop, flat_map, length, map, vec_items};
 ghost use Rattle.std.specs.Option.{option_map};
 ghost use Rattle.bstr.specs.Owned.{bstring_bytes};
 ghost use Rattle.gixp_packetline.specs.Frames.{frames_of};
 ghost use Rattle.gixp_packetline.specs.FrameText.{message_text};
 ghost use Rattle.gixp_packetline.specs.PacketLine.{frame_of};
 ghost use Rattle.gixp_refmap.specs.Mapping.{source_name};
-ghost use Rattle.gixp_planner.specs.Refusal.{WritesPlan};
+ghost use Rattle.gixp_planner.specs.Written.{WritesPlan, WritesSome};
 ghost use Rattle.gixp_planner.specs.Text.{frame_content, frame_shown, request_shown, requests_shown, name_shown, mapping_shown, fix_shown, map_shown, mapped_shown, end_shown, ended_of, course_shown, course_of};
 
-use crate::error::PlanError;
+use crate::error::{PlanError, answered};
 use crate::haves::without_line_end;
 use bstr::BString;
 use gix_protocol::fetch::RefMap;
@@ -17,7 +17,7 @@ use gix_protocol::fetch::refmap::{Mapping, Source};
 use gix_protocol::refspec::match_group::validate::Fix;
 use gixp_packetline::{MessageKind, PacketLine, split_packet_line};
 use std::alloc::{AllocError, Global};
-use std::io::Write;
+use std::io::{ErrorKind, Write};
 
 // Appends the pieces, one behind the other.
 #[inline(always)]
@@ -28,26 +28,6 @@ fn append(text: &mut Vec<u8>, pieces: &[&[u8]]) -> Result<(), AllocError>
         text.extend_from_slice(piece)?;
     }
     Ok(())
-}
-
-// Writes these pieces as one. The text is room for them.
-#[inline(always)]
-fn write_line<W: Write>(
-    writer: &mut W,
-    text: &mut Vec<u8>,
-    pieces: &[&[u8]],
-) -> Result<(), PlanError>
-    ensures { WritesPlan (W.contents writer.old) (W.contents writer.new) (flat_map (λ piece. piece.now) pieces.now) result }
-{
-    text.clear();
-    match append(text, pieces) {
-        Ok(()) => {}
-        Err(AllocError) => return Err(PlanError::memory("file")),
-    }
-    match writer.write_all(text) {
-        Ok(()) => Ok(()),
-        Err(e) => Err(PlanError::writing(e.kind())),
-    }
 }
 
 // The digits of a packet line without a payload.
@@ -73,18 +53,14 @@ fn content<'a>(line: PacketLine<'a>) -> &'a [u8]
 }
 
 // The packet lines of a request.
-fn write_packet_lines<W: Write>(
-    writer: &mut W,
-    text: &mut Vec<u8>,
-    request: &[u8],
-) -> Result<(), PlanError>
-    ensures { WritesPlan (W.contents writer.old) (W.contents writer.new) (flat_map frame_shown (frames_of request.now).list) result }
+fn append_packet_lines(text: &mut Vec<u8>, request: &[u8]) -> Result<(), AllocError>
+    ensures { OnOk result (text.new.items ≡ text.old.items ++ flat_map frame_shown (frames_of request.now).list) }
 {
     let mut rest = request;
     'lines: loop {
         match split_packet_line(rest) {
             Ok(Some((line, behind))) => {
-                write_line(writer, text, &[b"> ", content(line), b"\n"])?;
+                append(text, &[b"> ", content(line), b"\n"])?;
                 rest = behind;
             }
             Ok(None) => return Ok(()),
@@ -94,33 +70,29 @@ fn write_packet_lines<W: Write>(
 }
 
 // A request behind its number.
-fn write_request<W: Write>(
+fn append_request(
     alloc: Global,
-    writer: &mut W,
     text: &mut Vec<u8>,
     number: usize,
     request: &[u8],
-) -> Result<(), PlanError>
-    ensures { WritesPlan (W.contents writer.old) (W.contents writer.new) (request_shown number (frames_of request.now).list) result }
+) -> Result<(), AllocError>
+    ensures { OnOk result (text.new.items ≡ text.old.items ++ request_shown number (frames_of request.now).list) }
 {
-    let Ok(number) = number.to_string(alloc) else {
-        return Err(PlanError::memory("file"));
-    };
-    write_line(writer, text, &[b"request ", number.as_bytes(), b"\n"])?;
-    write_packet_lines(writer, text, request)
+    let number = number.to_string(alloc)?;
+    append(text, &[b"request ", number.as_bytes(), b"\n"])?;
+    append_packet_lines(text, request)
 }
 
 // The requests, numbered from 1 on.
-fn write_requests<W: Write>(
+fn append_requests(
     alloc: Global,
-    writer: &mut W,
     text: &mut Vec<u8>,
     requests: &[Vec<u8>],
-) -> Result<(), PlanError>
-    ensures { WritesPlan (W.contents writer.old) (W.contents writer.new) (requests_shown (map vec_items requests.now)) result }
+) -> Result<(), AllocError>
+    ensures { OnOk result (text.new.items ≡ text.old.items ++ requests_shown (map vec_items requests.now)) }
 {
     for (place, request) in requests.iter().enumerate() {
-        write_request(alloc, writer, text, place + 1, request)?;
+        append_request(alloc, text, place + 1, request)?;
     }
     Ok(())
 }
@@ -149,119 +121,144 @@ fn local_name(local: &Option<BString>) -> &[u8]
 
 // A mapping.
 #[inline(always)]
-fn write_mapping<W: Write>(
-    writer: &mut W,
-    text: &mut Vec<u8>,
-    mapping: &Mapping,
-) -> Result<(), PlanError>
-    ensures { WritesPlan (W.contents writer.old) (W.contents writer.new) (mapping_shown mapping.now) result }
+fn append_mapping(text: &mut Vec<u8>, mapping: &Mapping) -> Result<(), AllocError>
+    ensures { OnOk result (text.new.items ≡ text.old.items ++ mapping_shown mapping.now) }
 {
     let name = remote_name(&mapping.remote);
     let local = local_name(&mapping.local);
     match mapping.remote.as_id() {
-        Some(id) => write_line(
-            writer,
+        Some(id) => append(
             text,
             &[b"map ", &id.to_hex(), b" ", name, b" ", local, b"\n"],
         ),
-        None => write_line(
-            writer,
-            text,
-            &[b"map ", b"unborn", b" ", name, b" ", local, b"\n"],
-        ),
+        None => append(text, &[b"map ", b"unborn", b" ", name, b" ", local, b"\n"]),
     }
 }
 
 // The mappings.
-fn write_mappings<W: Write>(
-    writer: &mut W,
-    text: &mut Vec<u8>,
-    mappings: &[Mapping],
-) -> Result<(), PlanError>
-    ensures { WritesPlan (W.contents writer.old) (W.contents writer.new) (flat_map mapping_shown mappings.now) result }
+fn append_mappings(text: &mut Vec<u8>, mappings: &[Mapping]) -> Result<(), AllocError>
+    ensures { OnOk result (text.new.items ≡ text.old.items ++ flat_map mapping_shown mappings.now) }
 {
     for mapping in mappings {
-        write_mapping(writer, text, mapping)?;
+        append_mapping(text, mapping)?;
     }
     Ok(())
 }
 
 // A mapping that was taken out.
-fn write_fix<W: Write>(writer: &mut W, text: &mut Vec<u8>, fix: &Fix) -> Result<(), PlanError>
-    ensures { WritesPlan (W.contents writer.old) (W.contents writer.new) (fix_shown fix.now) result }
+fn append_fix(text: &mut Vec<u8>, fix: &Fix) -> Result<(), AllocError>
+    ensures { OnOk result (text.new.items ≡ text.old.items ++ fix_shown fix.now) }
 {
     let Fix::MappingWithPartialDestinationRemoved { name, spec } = fix;
-    write_line(
-        writer,
+    append(
         text,
         &[b"fix ", name.as_bytes(), b" ", spec.as_bytes(), b"\n"],
     )
 }
 
 // Those that were taken out.
-fn write_fixes<W: Write>(writer: &mut W, text: &mut Vec<u8>, fixes: &[Fix]) -> Result<(), PlanError>
-    ensures { WritesPlan (W.contents writer.old) (W.contents writer.new) (flat_map fix_shown fixes.now) result }
+fn append_fixes(text: &mut Vec<u8>, fixes: &[Fix]) -> Result<(), AllocError>
+    ensures { OnOk result (text.new.items ≡ text.old.items ++ flat_map fix_shown fixes.now) }
 {
     for fix in fixes {
-        write_fix(writer, text, fix)?;
+        append_fix(text, fix)?;
     }
     Ok(())
 }
 
 // The mappings, and then those that were taken out.
-fn write_map<W: Write>(writer: &mut W, text: &mut Vec<u8>, map: &RefMap) -> Result<(), PlanError>
-    ensures { WritesPlan (W.contents writer.old) (W.contents writer.new) (map_shown map.now) result }
+fn append_map(text: &mut Vec<u8>, map: &RefMap) -> Result<(), AllocError>
+    ensures { OnOk result (text.new.items ≡ text.old.items ++ map_shown map.now) }
 {
-    write_mappings(writer, text, &map.mappings)?;
-    write_fixes(writer, text, &map.fixes)
+    append_mappings(text, &map.mappings)?;
+    append_fixes(text, &map.fixes)
 }
 
 // Where the refs were mapped.
-fn write_mapped<W: Write>(
-    writer: &mut W,
-    text: &mut Vec<u8>,
-    mapped: &Option<RefMap>,
-) -> Result<(), PlanError>
-    ensures { WritesPlan (W.contents writer.old) (W.contents writer.new) (mapped_shown mapped.now) result }
+fn append_mapped(text: &mut Vec<u8>, mapped: &Option<RefMap>) -> Result<(), AllocError>
+    ensures { OnOk result (text.new.items ≡ text.old.items ++ mapped_shown mapped.now) }
 {
     match mapped {
-        Some(map) => write_map(writer, text, map),
+        Some(map) => append_map(text, map),
         None => Ok(()),
     }
 }
 
 // Whether a pack came.
-fn write_end<W: Write>(
-    writer: &mut W,
-    text: &mut Vec<u8>,
-    ended: &Result<bool, PlanError>,
-) -> Result<(), PlanError>
-    ensures { WritesPlan (W.contents writer.old) (W.contents writer.new) (end_shown (ended_of ended.now)) result }
+fn append_end(text: &mut Vec<u8>, ended: &Result<bool, PlanError>) -> Result<(), AllocError>
+    ensures { OnOk result (text.new.items ≡ text.old.items ++ end_shown (ended_of ended.now)) }
 {
     match ended {
-        Ok(true) => write_line(writer, text, &[b"pack\n"]),
-        Ok(false) => write_line(writer, text, &[b"nothing\n"]),
+        Ok(true) => append(text, &[b"pack\n"]),
+        Ok(false) => append(text, &[b"nothing\n"]),
         Err(_) => Ok(()),
     }
 }
 
-// The requests, the mappings, and whether a pack came.
-fn write_parts<W: Write>(
+// The text: the requests, the mappings, and whether a pack came.
+fn course_text(
     alloc: Global,
-    writer: &mut W,
     requests: &[Vec<u8>],
     mapped: &Option<RefMap>,
     ended: &Result<bool, PlanError>,
-) -> Result<(), PlanError>
-    ensures { WritesPlan (W.contents writer.old) (W.contents writer.new) (course_shown (course_of requests.now mapped.now ended.now)) result }
+) -> Result<Vec<u8>, AllocError>
+    ensures { IfOk result (λ text. text.items ≡ course_shown (course_of requests.now mapped.now ended.now)) }
 {
     let mut text = Vec::new(alloc);
-    write_requests(alloc, writer, &mut text, requests)?;
-    write_mapped(writer, &mut text, mapped)?;
-    write_end(writer, &mut text, ended)
+    append_requests(alloc, &mut text, requests)?;
+    append_mapped(&mut text, mapped)?;
+    append_end(&mut text, ended)?;
+    Ok(text)
+}
+
+// How many bytes of the text one write takes: none where it is interrupted.
+fn write_some<W: Write>(writer: &mut W, text: &[u8]) -> Result<usize, PlanError>
+    ensures { WritesSome (W.contents writer.old) (W.contents writer.new) text.now result }
+{
+    match writer.write(text) {
+        Ok(0) => Err(PlanError::new("file", "Io")),
+        Ok(amount) => Ok(amount),
+        Err(e) => match e.kind() {
+            ErrorKind::Interrupted => Ok(0),
+            kind => Err(PlanError::device(kind)),
+        },
+    }
+}
+
+// What is left behind so many bytes.
+fn behind(text: &[u8], amount: usize) -> &[u8]
+    requires { amount ≤ length text.now }
+    ensures { result.now ≡ drop amount text.now }
+{
+    &text[amount..]
+}
+
+// Writes the text. A write that was interrupted is made again.
+fn write_text<W: Write>(writer: &mut W, text: &[u8]) -> Result<(), PlanError>
+    ensures { WritesPlan (W.contents writer.old) (W.contents writer.new) text.now result }
+{
+    let mut rest = text;
+    for _ in 0..u64::MAX {
+        if rest.is_empty() {
+            return Ok(());
+        }
+        let amount = write_some(writer, rest)?;
+        rest = behind(rest, amount);
+    }
+    Err(PlanError::new("file", "Io"))
 }
 
 // The same, and no byte of it left in the writer.
+fn write_whole<W: Write>(writer: &mut W, text: &[u8]) -> Result<(), PlanError>
+    ensures { WritesPlan (W.contents writer.old) (W.contents writer.new) text.now result }
+{
+    match write_text(writer, text) {
+        Ok(()) => answered(writer.flush()),
+        Err(e) => Err(e),
+    }
+}
+
+// Writes the requests, the mappings, and whether a pack came.
 pub(crate) fn write_course<W: Write>(
     alloc: Global,
     writer: &mut W,
@@ -271,9 +268,8 @@ pub(crate) fn write_course<W: Write>(
 ) -> Result<(), PlanError>
     ensures { WritesPlan (W.contents writer.old) (W.contents writer.new) (course_shown (course_of requests.now mapped.now ended.now)) result }
 {
-    write_parts(alloc, writer, requests, mapped, ended)?;
-    match writer.flush() {
-        Ok(()) => Ok(()),
-        Err(e) => Err(PlanError::writing(e.kind())),
+    match course_text(alloc, requests, mapped, ended) {
+        Ok(text) => write_whole(writer, &text),
+        Err(_) => Err(PlanError::memory("file")),
     }
 }

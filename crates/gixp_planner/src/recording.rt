@@ -1,6 +1,7 @@
 //! A recorded session in a folder: what a server sent, and the haves to offer.
-ghost use Rattle.std.specs.Prelude.{◌⊎◌, IfErr};
+ghost use Rattle.std.specs.Prelude.{◌≡◌, ◌⊎◌, IfErr};
 ghost use Rattle.gixp_planner.specs.Refusal.{FileIsUnread, IsNoHave};
+ghost use Rattle.gixp_planner.specs.Recorded.{file_given, ReadsBodies, ReadsGiven};
 
 use crate::error::PlanError;
 use crate::haves::parse_haves;
@@ -9,47 +10,56 @@ use std::alloc::Global;
 use std::io::ErrorKind;
 use std::{fs, io};
 
-// A file that can't be read.
-fn unread(e: &io::Error) -> PlanError
-    ensures { FileIsUnread result }
+// What a read of a file gives: its bytes, nothing where it isn't there, or why it can't be read.
+fn given(read: io::Result<Vec<u8>>) -> Result<Option<Vec<u8>>, ErrorKind>
+    ensures { result ≡ file_given read }
 {
-    match e.kind() {
-        ErrorKind::OutOfMemory => PlanError::memory("file"),
-        _ => PlanError::new("file", "Io"),
-    }
-}
-
-// The bytes of a file, none where it isn't there.
-fn read_file(rt: &HostRuntime, path: &str) -> Result<Option<Vec<u8>>, PlanError>
-    ensures { IfErr result FileIsUnread }
-{
-    match fs::read(rt, path) {
+    match read {
         Ok(bytes) => Ok(Some(bytes)),
         Err(e) => match e.kind() {
             ErrorKind::NotFound => Ok(None),
-            _ => Err(unread(&e)),
+            kind => Err(kind),
         },
     }
 }
 
-// The path of a file of the folder.
-fn path_of(alloc: Global, folder: &str, name: &str) -> Result<String, PlanError>
-    ensures { IfErr result FileIsUnread }
-{
-    match format!(in alloc; "{folder}/{name}") {
-        Ok(path) => Ok(path),
-        Err(_) => Err(PlanError::memory("file")),
+// The same of a file of the folder.
+fn read_file(rt: &HostRuntime, folder: &str, name: &str) -> Result<Option<Vec<u8>>, ErrorKind> {
+    match format!(in rt.alloc(); "{folder}/{name}") {
+        Ok(path) => given(fs::read(rt, path.as_str())),
+        Err(_) => Err(ErrorKind::OutOfMemory),
     }
 }
 
-// The path of a body.
-fn body_path(alloc: Global, folder: &str, number: u64) -> Result<String, PlanError>
-    ensures { IfErr result FileIsUnread }
-{
-    match number.to_string(alloc) {
-        Ok(name) => path_of(alloc, folder, name.as_str()),
-        Err(_) => Err(PlanError::memory("file")),
+// The same of the body of this number.
+fn read_body(rt: &HostRuntime, folder: &str, number: u64) -> Result<Option<Vec<u8>>, ErrorKind> {
+    match number.to_string(rt.alloc()) {
+        Ok(name) => read_file(rt, folder, name.as_str()),
+        Err(_) => Err(ErrorKind::OutOfMemory),
     }
+}
+
+// The bodies that files give, by their numbers from 0 on, up to the first that isn't there.
+fn bodies_of<F: Fn(u64) -> Result<Option<Vec<u8>>, ErrorKind>>(
+    alloc: Global,
+    file: F,
+) -> Result<Vec<Body>, ErrorKind>
+    requires { F.IsAlwaysCallable file }
+    ensures { ReadsBodies (F.post file) result }
+{
+    let mut bodies = Vec::new(alloc);
+    for number in 0..u64::MAX {
+        let bytes = match file(number) {
+            Ok(Some(bytes)) => bytes,
+            Ok(None) => return Ok(bodies),
+            Err(kind) => return Err(kind),
+        };
+        match bodies.push(Body::Bytes(bytes)) {
+            Ok(()) => {}
+            Err(_) => return Err(ErrorKind::OutOfMemory),
+        }
+    }
+    Err(ErrorKind::OutOfMemory)
 }
 
 /// The bodies of a folder: the files `0`, `1`, `2` and so on, up to the first that isn't there.
@@ -60,17 +70,24 @@ fn body_path(alloc: Global, folder: &str, number: u64) -> Result<String, PlanErr
 pub fn read_bodies(rt: &HostRuntime, folder: &str) -> Result<Vec<Body>, PlanError>
     ensures { IfErr result FileIsUnread }
 {
-    let mut bodies = Vec::new(rt.alloc());
-    for number in 0..u64::MAX {
-        let path = body_path(rt.alloc(), folder, number)?;
-        let Some(bytes) = read_file(rt, path.as_str())? else {
-            break;
-        };
-        if bodies.push(Body::Bytes(bytes)).is_err() {
-            return Err(PlanError::memory("file"));
-        }
+    match bodies_of(rt.alloc(), |number| read_body(rt, folder, number)) {
+        Ok(bodies) => Ok(bodies),
+        Err(kind) => Err(PlanError::device(kind)),
     }
-    Ok(bodies)
+}
+
+// The ids of what a file gives, none where it isn't there.
+fn haves_of(
+    alloc: Global,
+    file: Result<Option<Vec<u8>>, ErrorKind>,
+) -> Result<Vec<ObjectId>, PlanError>
+    ensures { ReadsGiven file result }
+{
+    match file {
+        Ok(Some(text)) => parse_haves(alloc, &text),
+        Ok(None) => parse_haves(alloc, b""),
+        Err(kind) => Err(PlanError::device(kind)),
+    }
 }
 
 /// The ids of the folder's file `haves`, none where it isn't there.
@@ -81,9 +98,5 @@ pub fn read_bodies(rt: &HostRuntime, folder: &str) -> Result<Vec<Body>, PlanErro
 pub fn read_haves(rt: &HostRuntime, folder: &str) -> Result<Vec<ObjectId>, PlanError>
     ensures { IfErr result (λ e. FileIsUnread e ⊎ IsNoHave e) }
 {
-    let path = path_of(rt.alloc(), folder, "haves")?;
-    match read_file(rt, path.as_str())? {
-        Some(text) => parse_haves(rt.alloc(), &text),
-        None => Ok(Vec::new(rt.alloc())),
-    }
+    haves_of(rt.alloc(), read_file(rt, folder, "haves"))
 }

@@ -1,7 +1,0 @@
-use Rattle.std.proofs.Common.{map, vec_items, drop}
-use Rattle.gixp_planner.specs.Text.{requests_behind, requests_shown}
-use Rattle.gixp_planner.proofs.PrintLemmas.{Partly}
-use Rattle.gixp_planner.proofs.print.write_requests.Given as goal
-
-abbrev pub invariant-loop-place : goal.invariant-loop-place
-invariant-loop-place g l = Partly (g.W.Write.contents l.fn.writer) (g.W.Write.contents l.writer) (requests_behind l.place (map vec_items (drop l.place l.fn.requests))) (requests_shown (map vec_items l.fn.requests))

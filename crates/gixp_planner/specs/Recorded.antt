@@ -1,0 +1,42 @@
+-- What is read of the files of a recorded session.
+use Rattle.std.specs.Prelude.{ℕ, ◌≡◌, ◌+◌, ◌⊎◌, List, [], ◌∷◌, Option, Some, None, Vec, Result, Ok, Err}
+use Rattle.std.specs.declared.alloc.Global.{Global}
+use Rattle.std.specs.declared.io.Error.{Error as IoError}
+use Rattle.std.specs.declared.io.ErrorKind.TheVariants.{NotFound, OutOfMemory}
+use Rattle.std.specs.declared.io.ErrorKind.{ErrorKind}
+use Rattle.std.specs.IoError.{error_kind}
+use Rattle.gixp_wire.specs.declared.bodies.Body.{Body}
+use Rattle.gixp_wire.specs.declared.bodies.Body.TheVariants.{Bytes, Fail}
+use Rattle.gixp_hash.specs.declared.object_id.ObjectId.{ObjectId}
+use Rattle.gixp_planner.specs.declared.error.PlanError.{PlanError}
+use Rattle.gixp_planner.specs.Haves.{ReadsHaves}
+use Rattle.gixp_planner.specs.Refusal.{refusal_of, device_refusal}
+
+-- nothing where a file isn't there, and else the kind by which it can't be read
+abbrev pub missing_file : ErrorKind → Result (Option (Vec ℕ Global)) ErrorKind
+missing_file NotFound = Ok None
+missing_file kind = Err kind
+
+-- what a read of a file gives
+abbrev pub file_given : Result (Vec ℕ Global) IoError → Result (Option (Vec ℕ Global)) ErrorKind
+file_given (Ok bytes) = Ok (Some bytes)
+file_given (Err e) = missing_file (error_kind e)
+
+module _ (Gives : ℕ → Result (Option (Vec ℕ Global)) ErrorKind → Type 0) where
+  -- the files from this number on give these bodies, and the next one this
+  abbrev pub AreBodies : ℕ → List Body → Result (Option (Vec ℕ Global)) ErrorKind → Type 0
+  AreBodies k [] last = Gives k last
+  AreBodies k (Bytes bytes ∷ bodies) last = Gives k (Ok (Some bytes)) × AreBodies (k + 1) bodies last
+  AreBodies k (Fail kind ∷ bodies) last = ⊥
+
+  -- the bodies of the files up to the first that isn't there; or the next one can't be read, or an allocation failed
+  abbrev pub ReadsBodies : Result (Vec Body Global) ErrorKind → Type 0
+  ReadsBodies (Ok bodies) = AreBodies 0 bodies.items (Ok None)
+  ReadsBodies (Err kind) = ((before : List Body) × AreBodies 0 before (Err kind)) ⊎ (kind ≡ OutOfMemory)
+
+-- the haves of what a file gives, none where it isn't there; or it can't be read
+abbrev pub ReadsGiven : Result (Option (Vec ℕ Global)) ErrorKind → Result (Vec ObjectId Global) PlanError → Type 0
+ReadsGiven (Ok None) r = ReadsHaves [] r
+ReadsGiven (Ok (Some text)) r = ReadsHaves text.items r
+ReadsGiven (Err kind) (Ok ids) = ⊥
+ReadsGiven (Err kind) (Err e) = refusal_of e ≡ device_refusal kind
