@@ -149,6 +149,15 @@ pub use Rattle.gixp_negotiators.specs.Distance as NegotiatorDistance
 pub use Rattle.gixp_negotiators.specs.Marks as NegotiatorMarks
 pub use Rattle.gixp_negotiators.specs.MarkLaws as NegotiatorMarkLaws
 pub use Rattle.gixp_negotiators.specs.Waiting as NegotiatorWaiting
+pub use Rattle.gixp_packetline.specs.ServerMessage
+pub use Rattle.gixp_packetline.specs.ReadAhead
+pub use Rattle.gixp_capabilities.specs.ClientMessage
+pub use Rattle.gixp_response.specs.AnswerMessage
+pub use Rattle.gixp_refs.specs.RefsMessage
+pub use Rattle.gixp_refmap.specs.MapMessage
+pub use Rattle.gixp_refmap.specs.SafeNames
+pub use Rattle.gixp_handshake.specs.HandshakeMessage
+pub use Rattle.gixp_fetch.specs.FetchMessage
 -- The types that they speak of.
 pub use Rattle.gixp_hash.specs.declared.object_id.ObjectId as ObjectIdType
 pub use Rattle.gixp_refs.specs.declared.handshake.refs.parse.Error as RefsError
@@ -156,3 +165,105 @@ pub use Rattle.gixp_matching.specs.declared.match_group.validate.Fix as FixType
 pub use Rattle.gixp_refmap.specs.declared.refmap.mapping.Mapping as MappingType
 pub use Rattle.gixp_refmap.specs.declared.refmap.map.RefMap as RefMapType
 pub use Rattle.gixp_handshake.specs.declared.handshake.read.Handshake as HandshakeType
+pub use Rattle.gixp_hash.specs.declared.decode.Error as IdErrorType
+pub use Rattle.gixp_hash.specs.declared.kind.Kind as KindType
+pub use Rattle.gixp_packetline.specs.declared.line_reader.LineReader as LineReaderType
+pub use Rattle.gixp_packetline.specs.declared.packet.Frame as FrameType
+pub use Rattle.gixp_packetline.specs.declared.packet.PacketError as PacketErrorType
+pub use Rattle.gixp_packetline.specs.declared.packet_line.PacketLine as PacketLineType
+pub use Rattle.gixp_packetline.specs.declared.protocol.Protocol as ProtocolType
+pub use Rattle.gixp_packetline.specs.declared.protocol.MessageKind as MessageKindType
+pub use Rattle.gixp_packetline.specs.declared.read.Error as ReadErrorType
+pub use Rattle.gixp_capabilities.specs.declared.capabilities.Capabilities as CapabilitiesType
+pub use Rattle.gixp_capabilities.specs.declared.capabilities.Capability as CapabilityType
+pub use Rattle.gixp_capabilities.specs.declared.capabilities.CapabilityIter as CapabilityIterType
+pub use Rattle.gixp_capabilities.specs.declared.client.Error as ClientErrorType
+pub use Rattle.gixp_wire.specs.declared.bodies.Body as BodyType
+pub use Rattle.gixp_wire.specs.declared.bodies.Bodies as BodiesType
+pub use Rattle.gixp_wire.specs.declared.connection.Connection as ConnectionType
+pub use Rattle.gixp_wire.specs.declared.message.Message as MessageType
+pub use Rattle.gixp_wire.specs.declared.service.Service as ServiceType
+pub use Rattle.gixp_wire.specs.declared.service.Account as AccountType
+pub use Rattle.gixp_wire.specs.declared.service.Opening as OpeningType
+pub use Rattle.gixp_wire.specs.declared.service.SetServiceResponse as SetServiceResponseType
+pub use Rattle.gixp_sidebands.specs.declared.sidebands.WithSidebands as WithSidebandsType
+pub use Rattle.gixp_sidebands.specs.declared.sidebands.interrupt.NeverInterrupt as NeverInterruptType
+pub use Rattle.gixp_sidebands.specs.declared.sidebands.interrupt.InterruptFlag as InterruptFlagType
+pub use Rattle.gixp_response.specs.declared.fetch.response.answer.Response as ResponseType
+pub use Rattle.gixp_response.specs.declared.fetch.response.error.RequiredFeature as RequiredFeatureType
+pub use Rattle.gixp_response.specs.declared.fetch.response.error.Error as AnswerErrorType
+pub use Rattle.gixp_response.specs.declared.fetch.response.line.Acknowledgement as AcknowledgementType
+pub use Rattle.gixp_response.specs.declared.fetch.response.line.ShallowUpdate as ShallowUpdateType
+pub use Rattle.gixp_response.specs.declared.fetch.response.line.WantedRef as WantedRefType
+pub use Rattle.gixp_refs.specs.declared.handshake.Ref as RefType
+pub use Rattle.gixp_refs.specs.declared.handshake.refs.parse.Invariant as InvariantType
+pub use Rattle.gixp_requests.specs.declared.command.Command as CommandType
+pub use Rattle.gixp_requests.specs.declared.command.table.CommandTable as CommandTableType
+pub use Rattle.gixp_requests.specs.declared.command.validate_argument_prefixes.Error as RequestErrorType
+pub use Rattle.gixp_requests.specs.declared.fetch.arguments.Arguments as ArgumentsType
+pub use Rattle.gixp_graph.specs.declared.flags.Flags as FlagsType
+pub use Rattle.gixp_graph.specs.declared.graph.Graph as GraphType
+pub use Rattle.gixp_graph.specs.declared.negotiator.NegotiatorError as NegotiatorErrorType
+pub use Rattle.gixp_graph.specs.declared.objects.ObjectKind as ObjectKindType
+pub use Rattle.gixp_graph.specs.declared.objects.CommitData as CommitDataType
+pub use Rattle.gixp_graph.specs.declared.objects.ObjectError as ObjectErrorType
+pub use Rattle.gixp_graph.specs.declared.refs.RefStoreError as RefStoreErrorType
+pub use Rattle.gixp_refspec.specs.declared.instruction.Instruction as InstructionType
+pub use Rattle.gixp_refspec.specs.declared.instruction.Fetch as FetchType
+pub use Rattle.gixp_refspec.specs.declared.name.PartialName as PartialNameType
+pub use Rattle.gixp_refspec.specs.declared.parse.Operation as OperationType
+pub use Rattle.gixp_refspec.specs.declared.parse.Error as RefspecErrorType
+pub use Rattle.gixp_refspec.specs.declared.spec.RefSpecRef as RefSpecRefType
+pub use Rattle.gixp_refspec.specs.declared.spec.RefSpec as RefSpecType
+pub use Rattle.gixp_matching.specs.declared.match_group.Item as ItemType
+pub use Rattle.gixp_matching.specs.declared.match_group.SourceRef as SourceRefType
+pub use Rattle.gixp_matching.specs.declared.match_group.Mapping as GroupMappingType
+pub use Rattle.gixp_matching.specs.declared.match_group.Outcome as GroupOutcomeType
+pub use Rattle.gixp_matching.specs.declared.match_group.MatchGroup as MatchGroupType
+pub use Rattle.gixp_matching.specs.declared.match_group.validate.Issue as IssueType
+pub use Rattle.gixp_matching.specs.declared.match_group.validate.Error as ConflictErrorType
+pub use Rattle.gixp_progress.specs.declared.discard.Discard as DiscardType
+pub use Rattle.gixp_progress.specs.declared.fetch.ProgressId as ProgressIdType
+pub use Rattle.gixp_progress.specs.declared.remote_progress.RemoteProgress as RemoteProgressType
+pub use Rattle.gixp_refmap.specs.declared.fetch.Tags as TagsType
+pub use Rattle.gixp_refmap.specs.declared.ls_refs.command.LsRefsCommand as LsRefsCommandType
+pub use Rattle.gixp_refmap.specs.declared.ls_refs.error.Error as ListErrorType
+pub use Rattle.gixp_refmap.specs.declared.ls_refs.prefixes.RefPrefixes as RefPrefixesType
+pub use Rattle.gixp_refmap.specs.declared.refmap.init.Context as MapContextType
+pub use Rattle.gixp_refmap.specs.declared.refmap.init.Error as MapErrorType
+pub use Rattle.gixp_refmap.specs.declared.refmap.mapping.Source as SourceType
+pub use Rattle.gixp_refmap.specs.declared.refmap.mapping.SpecIndex as SpecIndexType
+pub use Rattle.gixp_handshake.specs.declared.credentials.Action as CredentialsActionType
+pub use Rattle.gixp_handshake.specs.declared.credentials.NextAction as NextActionType
+pub use Rattle.gixp_handshake.specs.declared.credentials.Outcome as CredentialsOutcomeType
+pub use Rattle.gixp_handshake.specs.declared.credentials.Error as CredentialsErrorType
+pub use Rattle.gixp_handshake.specs.declared.handshake.error.Error as HandshakeErrorType
+pub use Rattle.gixp_handshake.specs.declared.handshake.ref_map.ObtainRefMap as ObtainRefMapType
+pub use Rattle.gixp_handshake.specs.declared.util.SendFlushOnDrop as SendFlushOnDropType
+pub use Rattle.gixp_negotiate.specs.declared.negotiate.Action as ActionType
+pub use Rattle.gixp_negotiate.specs.declared.negotiate.Round as RoundType
+pub use Rattle.gixp_negotiate.specs.declared.negotiate.Error as NegotiateErrorType
+pub use Rattle.gixp_negotiate.specs.declared.negotiate.ignore.IgnoreMapping as IgnoreMappingType
+pub use Rattle.gixp_negotiate.specs.declared.negotiate.negotiation.NegotiateContext as NegotiateContextType
+pub use Rattle.gixp_negotiate.specs.declared.negotiate.negotiation.Negotiation as NegotiationType
+pub use Rattle.gixp_negotiate.specs.declared.negotiate.plain.NoObjects as NoObjectsType
+pub use Rattle.gixp_negotiate.specs.declared.negotiate.plain.NoRefs as NoRefsType
+pub use Rattle.gixp_negotiate.specs.declared.negotiate.plain.HaveList as HaveListType
+pub use Rattle.gixp_negotiate.specs.declared.shallow.Shallow as ShallowType
+pub use Rattle.gixp_fetch.specs.declared.consume.copy.CopyError as CopyErrorType
+pub use Rattle.gixp_fetch.specs.declared.consume.copy.CopyPack as CopyPackType
+pub use Rattle.gixp_fetch.specs.declared.consume.copy.ReadToEnd as ReadToEndType
+pub use Rattle.gixp_fetch.specs.declared.error.Error as FetchErrorType
+pub use Rattle.gixp_fetch.specs.declared.options.NegotiateOutcome as NegotiateOutcomeType
+pub use Rattle.gixp_fetch.specs.declared.options.Outcome as FetchOutcomeType
+pub use Rattle.gixp_fetch.specs.declared.options.Context as FetchContextType
+pub use Rattle.gixp_fetch.specs.declared.options.Options as OptionsType
+pub use Rattle.gixp_fetch.specs.declared.remote_text.RemoteText as RemoteTextType
+pub use Rattle.gixp_fetch.specs.declared.shallow.ShallowError as ShallowErrorType
+pub use Rattle.gixp_fetch.specs.declared.shallow.file.ShallowFile as ShallowFileType
+pub use Rattle.gixp_fetch.specs.declared.shallow.memory.ShallowMemory as ShallowMemoryType
+pub use Rattle.gixp_negotiators.specs.declared.algorithm.Algorithm as AlgorithmType
+pub use Rattle.gixp_negotiators.specs.declared.algorithm.AnyNegotiator as AnyNegotiatorType
+pub use Rattle.gixp_negotiators.specs.declared.consecutive.Consecutive as ConsecutiveType
+pub use Rattle.gixp_negotiators.specs.declared.noop.Noop as NoopType
+pub use Rattle.gixp_negotiators.specs.declared.skipping.Skipping as SkippingType

@@ -2,8 +2,8 @@
 pub use gixp_capabilities::{Capabilities, Capability, CapabilityIter, client};
 pub use gixp_hash::{Kind, ObjectId, decode};
 pub use gixp_packetline::{
-    ExtendedBufRead, Frame, LineReader, MessageKind, PacketError, PacketLine, Protocol, laws, read,
-    split_packet_line,
+    ExtendedBufRead, Frame, LineReader, MessageKind, PacketError, PacketLine, Protocol,
+    ServerMessage, laws, read, split_packet_line,
 };
 pub use gixp_progress::Discard;
 pub use gixp_sidebands::{BandText, Interrupt, InterruptFlag, NeverInterrupt, WithSidebands};

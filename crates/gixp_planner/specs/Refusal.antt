@@ -46,10 +46,10 @@ device_refusal OutOfMemory = refusal (codes "file") (codes "Memory")
 device_refusal _ = refusal (codes "file") (codes "Io")
 
 -- a flush is refused exactly where it failed, by its kind
-abbrev pub Answers : Result (Unit {0}) IoError → Result (Unit {0}) PlanError → Type 0
-Answers (Ok x) r = r ≡ Ok tt
-Answers (Err e) (Ok x) = ⊥
-Answers (Err e) (Err refused) = refusal_of refused ≡ device_refusal (error_kind e)
+abbrev pub AnswersWrite : Result (Unit {0}) IoError → Result (Unit {0}) PlanError → Type 0
+AnswersWrite (Ok x) r = r ≡ Ok tt
+AnswersWrite (Err e) (Ok x) = ⊥
+AnswersWrite (Err e) (Err refused) = refusal_of refused ≡ device_refusal (error_kind e)
 
 abbrev pub spec_name : SpecError → List ℕ
 spec_name NegativeWithDestination = codes "NegativeWithDestination"

@@ -1,6 +1,6 @@
 //! Why a plan isn't made.
 ghost use Rattle.std.specs.Prelude.{◌≡◌, IfErr};
-ghost use Rattle.gixp_planner.specs.Refusal.{refusal, refusal_of, IsPlanMemory, FileIsUnread, IsUnwritten, device_refusal, Answers};
+ghost use Rattle.gixp_planner.specs.Refusal.{refusal, refusal_of, IsPlanMemory, FileIsUnread, IsUnwritten, device_refusal, AnswersWrite};
 
 use std::io;
 use std::io::ErrorKind;
@@ -45,7 +45,7 @@ impl PlanError {
 
 // What a flush answered: it is refused exactly where that failed, by its kind.
 pub(crate) fn answered(answer: io::Result<()>) -> Result<(), PlanError>
-    ensures answer { Answers answer result }
+    ensures answer { AnswersWrite answer result }
     ensures unwritten { IfErr result IsUnwritten }
 {
     match answer {
