@@ -80,7 +80,7 @@ fn fetch_told(
         &mut ReadToEnd,
         &mut family,
         &mut store,
-        &Shallow::undo(),
+        Shallow::undo(),
     )
 }
 

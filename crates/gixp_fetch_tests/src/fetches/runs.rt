@@ -104,23 +104,22 @@ fn map<T: Transport, P: NestedProgress>(
     handshake::obtain(alloc, hands, &table, agent, specs, progress, transport)
 }
 
+// Alternates that can be opened.
+fn opened(alternates: &mut [MemoryRefs]) -> Result<&mut [MemoryRefs], AllocError> {
+    Ok(alternates)
+}
+
 // A whole fetch over a ref map.
-fn fetch_by<
-    'a,
-    T: Transport,
-    P: NestedProgress,
-    S: ShallowStore,
-    C: ConsumePack<P, Error = CopyError>,
->(
+fn fetch_by<T: Transport, P: NestedProgress, S: ShallowStore, C: ConsumePack<P, Error = CopyError>>(
     alloc: Global,
-    transport: &'a mut T,
-    hands: &'a mut Handshake,
-    map: &'a RefMap,
+    transport: &mut T,
+    hands: &mut Handshake,
+    map: &RefMap,
     repository: Repository,
     consumer: &mut C,
     progress: &mut P,
-    store: &'a mut S,
-    shallow: &'a Shallow,
+    store: &mut S,
+    shallow: Shallow,
 ) -> Result<Option<Outcome>, Error<AllocError, CopyError>>
 where
     P::SubProgress: Drop,
@@ -132,15 +131,16 @@ where
         mut recorder,
     } = repository;
     let mut graph = Graph::new(alloc, objects);
-    let context: NegotiateContext<'_, NoObjects, MemoryRefs, Recorder, MemoryObjects, AllocError> =
-        NegotiateContext {
-            objects: &NoObjects,
-            refs: &mut refs,
-            alternates: Ok(&mut []),
-            negotiator: &mut recorder,
-            graph: &mut graph,
-        };
-    let mut negotiation = Negotiation::new(context, map, shallow, Tags::None);
+    let existing = NoObjects;
+    let mut alternates = Vec::new(alloc);
+    let context = NegotiateContext {
+        objects: &existing,
+        refs: &mut refs,
+        alternates: opened(&mut alternates),
+        negotiator: &mut recorder,
+        graph: &mut graph,
+    };
+    let mut negotiation = Negotiation::new(context, map, &shallow, Tags::None);
     fetch(
         alloc,
         &mut negotiation,
@@ -155,7 +155,7 @@ where
         },
         Options {
             shallow_file: store,
-            shallow,
+            shallow: &shallow,
             tags: Tags::None,
             reject_shallow_remote: false,
         },
@@ -182,7 +182,7 @@ fn run_shaken<
     consumer: &mut C,
     progress: &mut P,
     store: &mut S,
-    shallow: &Shallow,
+    shallow: Shallow,
 ) -> Result<String, AllocError>
 where
     P::SubProgress: Drop,
@@ -214,7 +214,7 @@ pub(crate) fn run<
     consumer: &mut C,
     progress: &mut P,
     store: &mut S,
-    shallow: &Shallow,
+    shallow: Shallow,
 ) -> Result<String, AllocError>
 where
     P::SubProgress: Drop,

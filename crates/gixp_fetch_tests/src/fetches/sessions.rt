@@ -37,7 +37,7 @@ fn fetch_by<T: Transport, C: ConsumePack<Discard, Error = CopyError>>(
         consumer,
         &mut Discard,
         &mut store,
-        &depth(),
+        depth(),
     )?;
     let ids = store.ids().len();
     let locked = store.is_locked();
@@ -234,7 +234,7 @@ fn fetch_into(alloc: Global, store: &mut ShallowMemory) -> Result<(String, usize
         &mut ReadToEnd,
         &mut Discard,
         store,
-        &depth(),
+        depth(),
     )?;
     Ok((text, transport.sent().len()))
 }
@@ -310,7 +310,7 @@ fn fetch_told(alloc: Global, told: &mut Told) -> Result<String, AllocError> {
         &mut ReadToEnd,
         told,
         &mut store,
-        &depth(),
+        depth(),
     )
 }
 

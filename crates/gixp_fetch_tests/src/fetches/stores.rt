@@ -49,7 +49,7 @@ fn fetch_into(rt: &HostRuntime, path: &str, answer: &[u8]) -> Result<String, All
         &mut ReadToEnd,
         &mut Discard,
         &mut store,
-        &depth,
+        depth,
     )
 }
 
