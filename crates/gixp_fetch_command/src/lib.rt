@@ -1,0 +1,275 @@
+//! The program `gixp_fetch_pack`: it fetches from a server that speaks over two files or the standard streams.
+#![tactic(auto)]
+
+mod ends;
+mod failure;
+mod receive;
+mod repository;
+mod session;
+mod shown;
+mod usage;
+mod windows;
+
+use crate::ends::{Source, Target};
+use crate::failure::Failure;
+use crate::receive::PackReceiver;
+use crate::repository::{Repository, write_boundary};
+use crate::session::{Asked, Session, Sink, connect};
+use crate::shown::Shown;
+use crate::usage::{USAGE, VERSION, print_refusal};
+use gix_protocol::fetch::negotiate::HaveList;
+use gix_protocol::fetch::{Outcome, RefMap, ShallowMemory};
+use gix_protocol::transport::{Connection, ObjectId, Transport};
+use gixp_fetch_parts::{
+    Haves, OptionError, Options, Output, PackFile, PackPlace, Server, Task, Wish, fetch_report,
+    listing,
+};
+use gixp_pack::PackSummary;
+use std::alloc::Global;
+use std::fs::{File, OpenOptions};
+use std::io::{BufWriter, Input, Printer, StdinLock, Write};
+use std::process::ExitCode;
+use std::{env, fs, io};
+
+// The words of the command line.
+fn read_words(rt: &HostRuntime) -> Result<Vec<String>, Failure> {
+    let words = match env::args(rt) {
+        Ok(words) => words,
+        Err(e) => return Err(Failure::Io(e.kind())),
+    };
+    let mut found = Vec::new(rt.alloc());
+    for word in words.skip(1) {
+        found.push(word)?;
+    }
+    Ok(found)
+}
+
+// What the server hears: lines are gathered, since each is written in three pieces.
+type Hears<'a> = BufWriter<Target<File, Printer<'a, HostRuntime>>>;
+
+// What the server says.
+type Says = Source<File, StdinLock<'static>>;
+
+// Opens what the server hears.
+fn open_target<'a>(rt: &'a HostRuntime, path: &str) -> Result<Hears<'a>, Failure> {
+    let alloc = rt.alloc();
+    let target = if path == "-" {
+        Target::Standard(io::writer(rt))
+    } else {
+        match OpenOptions::new().write(true).open(rt, path) {
+            Ok(file) => Target::File(file),
+            Err(e) => return Err(Failure::of_file(alloc, path, e.kind())),
+        }
+    };
+    match BufWriter::new(alloc, target) {
+        Ok(writer) => Ok(writer),
+        Err(_) => Err(Failure::Memory),
+    }
+}
+
+// Opens what the server says.
+fn open_source(rt: &HostRuntime, path: &str) -> Result<Says, Failure> {
+    if path == "-" {
+        return Ok(Source::Standard(rt.reader()));
+    }
+    match File::open(rt, path) {
+        Ok(file) => Ok(Source::File(file)),
+        Err(e) => Err(Failure::of_file(rt.alloc(), path, e.kind())),
+    }
+}
+
+// The transport over the two ends of the server. Its input is opened first: it may wait for that before it opens its output.
+fn open_transport<'a>(
+    rt: &'a HostRuntime,
+    server: &Server<'_>,
+) -> Result<Connection<Says, Hears<'a>>, Failure> {
+    let to = open_target(rt, server.to)?;
+    let from = open_source(rt, server.from)?;
+    Ok(connect(rt.alloc(), from, to, server)?)
+}
+
+// Writes a text where the report goes.
+fn tell(rt: &HostRuntime, output: &Output<'_>, text: &[u8]) -> Result<(), Failure> {
+    if let Some(path) = output.report {
+        return match fs::write(rt, path, text) {
+            Ok(()) => Ok(()),
+            Err(e) => Err(Failure::of_file(rt.alloc(), path, e.kind())),
+        };
+    }
+    if output.is_quiet {
+        return Ok(());
+    }
+    let mut writer = io::writer(rt);
+    match writer.write_all(text) {
+        Ok(()) => Ok(()),
+        Err(e) => Err(Failure::Io(e.kind())),
+    }
+}
+
+// What shows the server's progress.
+fn shown_of<'a>(rt: &'a HostRuntime, output: &Output<'_>) -> Shown<'a> {
+    Shown {
+        rt,
+        shows_progress: output.shows_progress,
+    }
+}
+
+// Lists the refs of the server.
+fn list(rt: &HostRuntime, options: &Options<'_>) -> Result<(), Failure> {
+    let alloc = rt.alloc();
+    let transport = open_transport(rt, &options.server)?;
+    let mut shown = shown_of(rt, &options.output);
+    let mut session = Session::open(alloc, transport, options.server.agent, &mut shown)?;
+    let refs = session.refs(&mut shown)?;
+    session.end(false);
+    tell(rt, &options.output, &listing(alloc, &refs)?)
+}
+
+// Fetches what is mapped into a sink, by the negotiator that was chosen.
+fn negotiate<T: Transport, P: PackPlace>(
+    alloc: Global,
+    session: &mut Session<'_, T>,
+    repository: &mut Repository,
+    asked: Asked<'_>,
+    sink: &mut Sink<P>,
+    shown: &mut Shown<'_>,
+) -> Result<Option<Outcome>, Failure> {
+    match asked.wish.haves {
+        Haves::By(algorithm) => {
+            let mut negotiator = algorithm.negotiator(alloc);
+            session.fetch(repository, &mut negotiator, asked, sink, shown)
+        }
+        Haves::InOrder => {
+            let ids = Vec::from_slice(alloc, &repository.commits)?;
+            let mut negotiator = HaveList::new(ids);
+            session.fetch(repository, &mut negotiator, asked, sink, shown)
+        }
+    }
+}
+
+// Fetches what is mapped, and keeps the boundary and then the pack.
+fn take_pack<T: Transport>(
+    rt: &HostRuntime,
+    session: &mut Session<'_, T>,
+    repository: &mut Repository,
+    asked: Asked<'_>,
+    options: &Options<'_>,
+    shown: &mut Shown<'_>,
+) -> Result<Option<PackSummary>, Failure> {
+    let alloc = rt.alloc();
+    if asked.map.is_empty() {
+        session.end(false);
+        return Ok(None);
+    }
+    let place = PackFile::new(rt, alloc, asked.wish.pack)?;
+    let mut sink = Sink {
+        boundary: ShallowMemory::new(Vec::from_slice(alloc, &repository.boundary)?),
+        pack: PackReceiver::new(alloc, place),
+    };
+    let result = negotiate(alloc, session, repository, asked, &mut sink, shown);
+    if let Ok(outcome) = &result {
+        session.end(outcome.is_some());
+    }
+    match settle(
+        rt,
+        options.files.shallow,
+        &repository.boundary,
+        &sink.boundary,
+        result,
+    ) {
+        Ok(()) => match sink.pack.keep() {
+            Ok(pack) => Ok(pack),
+            Err(e) => Err(Failure::of_file(alloc, asked.wish.pack, e.kind())),
+        },
+        Err(e) => {
+            sink.pack.give_up();
+            Err(e)
+        }
+    }
+}
+
+// Keeps the boundary of a fetch that succeeded.
+fn settle(
+    rt: &HostRuntime,
+    path: Option<&str>,
+    old: &[ObjectId],
+    boundary: &ShallowMemory,
+    outcome: Result<Option<Outcome>, Failure>,
+) -> Result<(), Failure> {
+    match outcome {
+        Ok(_) => write_boundary(rt, path, old, boundary),
+        Err(e) => Err(e),
+    }
+}
+
+// Fetches.
+fn fetch(rt: &HostRuntime, options: &Options<'_>, wish: &Wish<'_>) -> Result<(), Failure> {
+    let alloc = rt.alloc();
+    let mut repository = Repository::read(rt, &options.files)?;
+    let transport = open_transport(rt, &options.server)?;
+    let mut shown = shown_of(rt, &options.output);
+    let mut session = Session::open(alloc, transport, options.server.agent, &mut shown)?;
+    let map = session.map(wish, &mut shown)?;
+    if map.is_missing_required_mapping() {
+        session.end(false);
+        return Err(missing(alloc, wish));
+    }
+    let asked = Asked { map: &map, wish };
+    let pack = take_pack(
+        rt,
+        &mut session,
+        &mut repository,
+        asked,
+        options,
+        &mut shown,
+    )?;
+    tell(rt, &options.output, &fetch_report(alloc, &map, pack)?)
+}
+
+// Which ref isn't there.
+fn missing(alloc: Global, wish: &Wish<'_>) -> Failure {
+    match wish.specs.first() {
+        Some(spec) => Failure::of_missing(alloc, spec.as_bstr().as_bytes()),
+        None => Failure::of_missing(alloc, b""),
+    }
+}
+
+// Does what the options ask for.
+fn obey(rt: &HostRuntime, options: &Options<'_>) -> Result<(), Failure> {
+    match &options.task {
+        Task::Help => tell(rt, &options.output, USAGE.as_bytes()),
+        Task::Version => tell(rt, &options.output, VERSION.as_bytes()),
+        Task::List => list(rt, options),
+        Task::Fetch(wish) => fetch(rt, options, wish),
+    }
+}
+
+// The status of what was done.
+fn status(rt: &HostRuntime, done: Result<(), Failure>) -> ExitCode {
+    match done {
+        Ok(()) => ExitCode::SUCCESS,
+        Err(e) => {
+            let _ = eprintln!(rt; "gixp_fetch_pack: {e}");
+            ExitCode::FAILURE
+        }
+    }
+}
+
+/// Does what the words of the command line ask for.
+///
+/// The status is 0, 1 where something was refused, which a sentence on standard error says, or 2 where the words are none of
+/// the usage.
+pub fn run(rt: &HostRuntime) -> ExitCode {
+    let words = match read_words(rt) {
+        Ok(words) => words,
+        Err(e) => return status(rt, Err(e)),
+    };
+    match Options::read(rt.alloc(), &words) {
+        Ok(options) => status(rt, obey(rt, &options)),
+        Err(OptionError::Memory) => status(rt, Err(Failure::Memory)),
+        Err(e) => {
+            print_refusal(rt, e);
+            ExitCode::from(2)
+        }
+    }
+}

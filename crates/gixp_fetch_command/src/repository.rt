@@ -1,0 +1,143 @@
+//! The repository that fetches, by the texts of the command line.
+use crate::failure::Failure;
+use gix_protocol::fetch::negotiate::{StoredObjects, StoredRefs, TextError};
+use gix_protocol::fetch::{ShallowMemory, shallow_ids, shallow_text};
+use gix_protocol::transport::ObjectId;
+use gixp_fetch_parts::Files;
+use std::alloc::{AllocError, Global};
+use std::fs;
+use std::io::ErrorKind;
+
+/// What is known of the repository.
+#[derive(Drop)]
+pub(crate) struct Repository {
+    pub(crate) objects: StoredObjects,
+    /// The commits, in the order of their text.
+    pub(crate) commits: Vec<ObjectId>,
+    pub(crate) refs: StoredRefs,
+    pub(crate) boundary: Vec<ObjectId>,
+}
+
+// The text in a file, or none where no file is named.
+fn text_in(rt: &HostRuntime, path: Option<&str>) -> Result<Vec<u8>, Failure> {
+    let Some(path) = path else {
+        return Ok(Vec::new(rt.alloc()));
+    };
+    match fs::read(rt, path) {
+        Ok(text) => Ok(text),
+        Err(e) => Err(Failure::of_file(rt.alloc(), path, e.kind())),
+    }
+}
+
+// A boundary in a file, where no file is none.
+fn boundary_in(rt: &HostRuntime, path: Option<&str>) -> Result<Vec<ObjectId>, Failure> {
+    let alloc = rt.alloc();
+    let Some(path) = path else {
+        return Ok(Vec::new(alloc));
+    };
+    let text = match fs::read(rt, path) {
+        Ok(text) => text,
+        Err(e) => match e.kind() {
+            ErrorKind::NotFound => Vec::new(alloc),
+            kind => return Err(Failure::of_file(alloc, path, kind)),
+        },
+    };
+    match shallow_ids(alloc, &text) {
+        Ok(ids) => Ok(ids),
+        Err(_) => Err(Failure::of_file(alloc, path, ErrorKind::InvalidData)),
+    }
+}
+
+// What was refused in a text.
+fn refused(alloc: Global, path: Option<&str>, e: TextError) -> Failure {
+    match e {
+        TextError::Line(line) => Failure::of_line(alloc, path.unwrap_or(""), line),
+        TextError::Memory => Failure::Memory,
+    }
+}
+
+// The commit of a line `TIME ID PARENT..`.
+fn commit_id(line: &[u8]) -> Option<ObjectId> {
+    let id = line.split(|b| *b == b' ').nth(1)?;
+    match ObjectId::from_hex(id) {
+        Ok(id) => Some(id),
+        Err(_) => None,
+    }
+}
+
+// The commits of a text, in its order.
+fn commit_ids(alloc: Global, text: &[u8]) -> Result<Vec<ObjectId>, AllocError> {
+    let mut ids = Vec::new(alloc);
+    for line in text.split(|b| *b == b'\n') {
+        if let Some(id) = commit_id(line) {
+            ids.push(id)?;
+        }
+    }
+    Ok(ids)
+}
+
+// The objects of both texts, and the commits in the order of theirs.
+fn objects_in(
+    rt: &HostRuntime,
+    files: &Files<'_>,
+) -> Result<(StoredObjects, Vec<ObjectId>), Failure> {
+    let alloc = rt.alloc();
+    let mut objects = StoredObjects::new(alloc);
+    let text = text_in(rt, files.commits)?;
+    match objects.read_commits(alloc, &text) {
+        Ok(()) => {}
+        Err(e) => return Err(refused(alloc, files.commits, e)),
+    }
+    let commits = commit_ids(alloc, &text)?;
+    let text = text_in(rt, files.objects)?;
+    match objects.read_kinds(alloc, &text) {
+        Ok(()) => Ok((objects, commits)),
+        Err(e) => Err(refused(alloc, files.objects, e)),
+    }
+}
+
+// The refs of their text.
+fn refs_in(rt: &HostRuntime, path: Option<&str>) -> Result<StoredRefs, Failure> {
+    let alloc = rt.alloc();
+    let mut refs = StoredRefs::new(alloc);
+    let text = text_in(rt, path)?;
+    match refs.read_refs(alloc, &text) {
+        Ok(()) => Ok(refs),
+        Err(e) => Err(refused(alloc, path, e)),
+    }
+}
+
+impl Repository {
+    /// Reads the texts.
+    pub(crate) fn read(rt: &HostRuntime, files: &Files<'_>) -> Result<Repository, Failure> {
+        let (objects, commits) = objects_in(rt, files)?;
+        Ok(Repository {
+            objects,
+            commits,
+            refs: refs_in(rt, files.refs)?,
+            boundary: boundary_in(rt, files.shallow)?,
+        })
+    }
+}
+
+/// Writes the new boundary beside the file of the old one, where it isn't the same.
+pub(crate) fn write_boundary(
+    rt: &HostRuntime,
+    path: Option<&str>,
+    old: &[ObjectId],
+    store: &ShallowMemory,
+) -> Result<(), Failure> {
+    let Some(path) = path else {
+        return Ok(());
+    };
+    let alloc = rt.alloc();
+    if store.ids() == old {
+        return Ok(());
+    }
+    let text = shallow_text(alloc, store.ids())?;
+    let path = format!(in alloc; "{path}.new")?;
+    match fs::write(rt, path.as_str(), text.as_slice()) {
+        Ok(()) => Ok(()),
+        Err(e) => Err(Failure::of_file(alloc, path.as_str(), e.kind())),
+    }
+}

@@ -1,0 +1,285 @@
+//! A session with a server: the handshake, the refs or a ref map, and the fetch.
+ghost use Rattle.std.specs.Prelude.{◌<◌};
+
+use crate::failure::{Failure, Step};
+use crate::receive::PackReceiver;
+use crate::repository::Repository;
+use crate::windows::{MOST_HAVES, Windowed};
+use bstr::BString;
+use gix_protocol::command::{CommandTable, Feature};
+use gix_protocol::fetch::negotiate::{
+    Graph, Negotiate, NegotiateContext, Negotiation, Negotiator, NoAlternates, Shared, StoredRefs,
+};
+use gix_protocol::fetch::refmap::init;
+use gix_protocol::fetch::{self, Context, Options, Outcome, RefMap, ShallowMemory};
+use gix_protocol::handshake::{Ref, handshake, obtain};
+use gix_protocol::refspec::parse::{Operation, parse};
+use gix_protocol::transport::{
+    Connection, NestedProgress, NeverInterrupt, Opening, Progress, Protocol, Service, Transport,
+};
+use gix_protocol::{Handshake, LsRefsCommand, agent, indicate_end_of_interaction};
+use gixp_fetch_parts::{PackPlace, Server, Wish};
+use std::alloc::{AllocError, Global};
+use std::io::{Read, Write};
+
+/// A server after the handshake.
+#[derive(Drop)]
+pub(crate) struct Session<'a, T> {
+    alloc: Global,
+    transport: T,
+    shaken: Handshake,
+    agent: &'a str,
+}
+
+/// Where what comes of a fetch goes.
+#[derive(Drop)]
+pub(crate) struct Sink<P: PackPlace> {
+    pub(crate) boundary: ShallowMemory,
+    pub(crate) pack: PackReceiver<P>,
+}
+
+/// What is asked for.
+#[derive(Clone, Copy)]
+pub(crate) struct Asked<'a> {
+    pub(crate) map: &'a RefMap,
+    pub(crate) wish: &'a Wish<'a>,
+}
+
+// What the server is told first, where it is to be told a path.
+fn opening_of(alloc: Global, server: &Server<'_>) -> Result<Option<Opening>, AllocError> {
+    let Some(path) = server.path else {
+        return Ok(None);
+    };
+    let host = match server.host {
+        Some(host) => Some(BString::from_slice(alloc, host.as_bytes())?),
+        None => None,
+    };
+    Ok(Some(Opening {
+        path: BString::from_slice(alloc, path.as_bytes())?,
+        host,
+    }))
+}
+
+/// The transport over the two ends of a server.
+pub(crate) fn connect<R: Read + Drop, W: Write + Drop>(
+    alloc: Global,
+    from: R,
+    to: W,
+    server: &Server<'_>,
+) -> Result<Connection<R, W>, AllocError> {
+    let opening = opening_of(alloc, server)?;
+    let url = BString::from_slice(alloc, server.path.unwrap_or("").as_bytes())?;
+    Connection::new(
+        alloc,
+        from,
+        to,
+        url,
+        server.version,
+        Vec::new(alloc),
+        opening,
+    )
+}
+
+// The refspecs, and that of the tags.
+fn specs_of(alloc: Global, wish: &Wish<'_>) -> Result<init::Context, Failure> {
+    let mut fetch_refspecs = Vec::new(alloc);
+    for text in &wish.specs {
+        let spec = match parse(text.as_bstr(), Operation::Fetch) {
+            Ok(spec) => spec,
+            Err(e) => {
+                let why = format!(in alloc; "{e}")?;
+                return Err(Failure::of_text(alloc, Step::Refspec, why.as_str()));
+            }
+        };
+        fetch_refspecs.push(spec.to_owned(alloc)?)?;
+    }
+    let mut extra_refspecs = Vec::new(alloc);
+    if let Some(spec) = wish.tags.to_refspec() {
+        extra_refspecs.push(spec.to_owned(alloc)?)?;
+    }
+    Ok(init::Context {
+        fetch_refspecs,
+        extra_refspecs,
+    })
+}
+
+// The feature that names a client.
+fn named(alloc: Global, name: &str) -> Result<Feature, AllocError> {
+    Ok(("agent", Some(agent(alloc, name)?)))
+}
+
+// The fetch of what a negotiation asks for.
+fn fetch_over<N: Negotiate, T: Transport, P: PackPlace, S: NestedProgress>(
+    alloc: Global,
+    negotiation: &mut N,
+    agent: &str,
+    handshake: &mut Handshake,
+    transport: &mut T,
+    wish: &Wish<'_>,
+    boundary: &mut ShallowMemory,
+    pack: &mut PackReceiver<P>,
+    shown: &mut S,
+) -> Result<Option<Outcome>, Failure>
+where
+    S::SubProgress: Drop,
+{
+    let name = named(alloc, agent)?;
+    let context = Context {
+        handshake,
+        transport,
+        table: &CommandTable::git(),
+    };
+    let options = Options {
+        shallow_file: boundary,
+        shallow: &wish.shallow,
+        tags: wish.tags,
+        reject_shallow_remote: wish.rejects_shallow,
+    };
+    let result = fetch::fetch(
+        alloc,
+        negotiation,
+        pack,
+        shown,
+        &mut NeverInterrupt,
+        name,
+        context,
+        options,
+    );
+    match result {
+        Ok(outcome) => Ok(outcome),
+        Err(e) => Err(Failure::of_step(alloc, Step::Fetch, &e)),
+    }
+}
+
+impl<'a, T: Transport> Session<'a, T> {
+    /// Shakes hands.
+    pub(crate) fn open<P: Progress>(
+        alloc: Global,
+        mut transport: T,
+        agent: &'a str,
+        shown: &mut P,
+    ) -> Result<Session<'a, T>, Failure>
+    where
+        T: Drop,
+    {
+        let result = handshake(
+            alloc,
+            &mut transport,
+            Service::UploadPack,
+            |_| Ok(None),
+            Vec::new(alloc),
+            shown,
+        );
+        match result {
+            Ok(shaken) => Ok(Session {
+                alloc,
+                transport,
+                shaken,
+                agent,
+            }),
+            Err(e) => Err(Failure::of_step(alloc, Step::Handshake, &e)),
+        }
+    }
+
+    // The feature that names this client.
+    fn name(&self) -> Result<Feature, AllocError> {
+        named(self.alloc, self.agent)
+    }
+
+    /// All refs of the server.
+    pub(crate) fn refs<P: Progress>(&mut self, shown: &mut P) -> Result<Vec<Ref>, Failure> {
+        if let Some(refs) = self.shaken.take_refs() {
+            return Ok(refs);
+        }
+        let alloc = self.alloc;
+        let table = CommandTable::git();
+        let name = self.name()?;
+        let command = LsRefsCommand::new(alloc, &table, None, &self.shaken.capabilities, name)?;
+        match command.invoke_blocking(alloc, &mut self.transport, shown) {
+            Ok(refs) => Ok(refs),
+            Err(e) => Err(Failure::of_step(alloc, Step::Listing, &e)),
+        }
+    }
+
+    /// What the refspecs map of the refs of the server.
+    pub(crate) fn map<P: Progress>(
+        &mut self,
+        wish: &Wish<'_>,
+        shown: &mut P,
+    ) -> Result<RefMap, Failure> {
+        let alloc = self.alloc;
+        let specs = specs_of(alloc, wish)?;
+        let name = self.name()?;
+        let result = obtain(
+            alloc,
+            &mut self.shaken,
+            &CommandTable::git(),
+            name,
+            specs,
+            shown,
+            &mut self.transport,
+        );
+        match result {
+            Ok(map) => Ok(map),
+            Err(e) => Err(Failure::of_step(alloc, Step::Listing, &e)),
+        }
+    }
+
+    // How many haves a request may have.
+    fn most_haves(&self) -> usize
+        ensures { 0 < result }
+    {
+        match self.shaken.server_protocol_version {
+            Protocol::V2 => usize::MAX,
+            Protocol::V1 => MOST_HAVES,
+            Protocol::V0 => MOST_HAVES,
+        }
+    }
+
+    /// Fetches what is mapped.
+    pub(crate) fn fetch<N: Negotiator, P: PackPlace, S: NestedProgress>(
+        &mut self,
+        repository: &mut Repository,
+        negotiator: &mut N,
+        asked: Asked<'_>,
+        sink: &mut Sink<P>,
+        shown: &mut S,
+    ) -> Result<Option<Outcome>, Failure>
+    where
+        S::SubProgress: Drop,
+    {
+        let mut graph = Graph::new(self.alloc, Shared::new(&repository.objects));
+        let shared = Shared::new(&repository.objects);
+        let alternates: Result<&mut [StoredRefs], NoAlternates> = Ok(&mut []);
+        let context = NegotiateContext {
+            objects: &shared,
+            refs: &mut repository.refs,
+            alternates,
+            negotiator,
+            graph: &mut graph,
+        };
+        let wish = asked.wish;
+        let negotiation = Negotiation::new(context, asked.map, &wish.shallow, wish.tags);
+        let mut windowed = Windowed::new(negotiation, self.most_haves());
+        fetch_over(
+            self.alloc,
+            &mut windowed,
+            self.agent,
+            &mut self.shaken,
+            &mut self.transport,
+            wish,
+            &mut sink.boundary,
+            &mut sink.pack,
+            shown,
+        )
+    }
+
+    /// Says that nothing more is asked for, unless a pack came under version 0 or 1, where the server ends by itself. A server
+    /// that is gone already has nothing more to say.
+    pub(crate) fn end(&mut self, has_pack: bool) {
+        if has_pack && self.shaken.server_protocol_version != Protocol::V2 {
+            return;
+        }
+        let _ = indicate_end_of_interaction(&mut self.transport);
+    }
+}

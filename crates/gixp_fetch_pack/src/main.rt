@@ -1,0 +1,10 @@
+//! `gixp_fetch_pack [OPTION..] FROM TO PACK SPEC..` fetches from a server that speaks over two files, as the two ends of
+//! `git upload-pack`, and `gixp_fetch_pack --list [OPTION..] FROM TO` lists its refs. `--help` tells the options.
+#![tactic(auto)]
+
+use gixp_fetch_command::run;
+use std::process::ExitCode;
+
+fn main(rt: HostRuntime) -> ExitCode {
+    run(&rt)
+}

@@ -1,0 +1,39 @@
+-- A pack that is copied into a writer and checked (gitprotocol-pack, "Packfile Data"; gitformat-pack).
+use Rattle.std.specs.Prelude.{◌≡◌, ℕ, List, Option, IfSome, Result, Ok, Err}
+use Rattle.std.specs.Io.KnownBytes.{Appends}
+use Rattle.gixp_sidebands.specs.Bands.{Side, IsFirstOf, side_content, side_reading, Passes}
+use Rattle.gixp_pack.specs.Pack.{pack_of}
+use Rattle.gixp_pack.specs.declared.check.PackSummary.{PackSummary}
+use Rattle.gixp_fetch_parts.specs.declared.copy.StreamError.{StreamError}
+use Rattle.gixp_fetch_parts.specs.declared.copy.StreamError.TheVariants.{Read, Write, Pack, Memory}
+
+-- these bytes of content came next, and the rest is still to come
+pub record CameNext (start : Side) (read : List ℕ) (end : Side) : Type 0 where
+  pub content : Passes start end read
+  pub held : (side_reading end).held ≡ (side_reading start).held
+
+-- these bytes of content came next, and a writer got them all
+pub record CopiedNext (old : Option (List ℕ)) (start : Side) (read : List ℕ) (new : Option (List ℕ)) (end : Side) : Type 0 where
+  pub came : CameNext start read end
+  pub written : Appends old new read
+
+-- that was all content up to the stop
+pub record CopiedAll (old : Option (List ℕ)) (start : Side) (read : List ℕ) (new : Option (List ℕ)) (end : Side) : Type 0 where
+  pub copied : CopiedNext old start read new end
+  pub all : IfSome start.reading.to_come (λ p. IsFirstOf start p → side_content start p ≡ read)
+
+-- all content was written, and is a whole pack; or it is none, for this reason; or a read, a write or an allocation failed after some
+abbrev pub ChecksPack : Option (List ℕ) → Side → Result PackSummary StreamError → Option (List ℕ) → Side → Type 0
+ChecksPack old start (Ok summary) new end = (read : List ℕ) × CopiedAll old start read new end × (pack_of read ≡ Ok summary)
+ChecksPack old start (Err (Pack e)) new end = (read : List ℕ) × CopiedAll old start read new end × (pack_of read ≡ Err e)
+ChecksPack old start (Err (Read kind)) new end = (read : List ℕ) × CameNext start read end
+ChecksPack old start (Err (Write kind)) new end = (read : List ℕ) × CameNext start read end
+ChecksPack old start (Err Memory) new end = (read : List ℕ) × CameNext start read end
+
+-- in any case, some content was read
+pub copies_pack_reads : (old new : Option (List ℕ)) (start end : Side) (r : Result PackSummary StreamError) → ChecksPack old start r new end → (read : List ℕ) × CameNext start read end
+copies_pack_reads old new start end (Ok summary) h = (h.0, h.1.copied.came)
+copies_pack_reads old new start end (Err (Pack e)) h = (h.0, h.1.copied.came)
+copies_pack_reads old new start end (Err (Read kind)) h = h
+copies_pack_reads old new start end (Err (Write kind)) h = h
+copies_pack_reads old new start end (Err Memory) h = h

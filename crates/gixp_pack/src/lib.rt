@@ -1,0 +1,6 @@
+//! Whether the bytes of a stream are those of a whole pack, as they come (gitformat-pack).
+#![tactic(auto)]
+
+mod check;
+
+pub use check::{PackCheck, PackError, PackSummary};

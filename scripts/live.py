@@ -1,0 +1,493 @@
+#!/usr/bin/env python3
+"""Clones and fetches real repositories by the program gixp_fetch_pack, beside git.
+
+Usage: live.py [--program PATH] [--keep FOLDER] [--only WORD]
+
+PATH is the program, else what `rt run` left in crates/gixp_fetch_pack/out. The remote helper beside its crate is tried with it.
+Repositories are made on the spot: empty ones, one commit, 2,000 commits with merges, equal and backward dates, annotated and
+nested tags, symbolic and hidden refs, shallow ones. Each action is done twice, by git over file:// and by git over gixp::, and
+must leave the same refs and the same boundary, and a repository that `git fsck --strict` finds whole. Then come servers that
+die, that send errors or nonsense, and one that freezes: an error, and nothing left behind.
+
+Prints a line for each that failed, and `N passed, M failed`. Ends with 1 where one failed. git is needed.
+"""
+import argparse
+import os
+import pathlib
+import random
+import re
+import shutil
+import socket
+import subprocess
+import sys
+import tempfile
+import time
+
+TOP = pathlib.Path(__file__).resolve().parent.parent
+CRATE = TOP / "crates" / "gixp_fetch_pack"
+VERSIONS = ("2", "1", "0")
+REAL_SPEC = "+refs/heads/*:refs/remotes/origin/*"
+TIMEOUT = 60
+
+
+class Tester:
+    def __init__(self, room, program, only):
+        self.room, self.program, self.only = room, program, only
+        self.passed, self.failed, self.made = 0, 0, 0
+        tools = room / "tools"
+        tools.mkdir()
+        shutil.copy(CRATE / "git-remote-gixp", tools / "git-remote-gixp")
+        (room / "home").mkdir()
+        self.environment = {
+            **{name: value for name, value in os.environ.items() if not name.startswith("GIT_")},
+            "PATH": f"{tools}:{os.environ['PATH']}", "HOME": str(room / "home"), "GIT_CONFIG_NOSYSTEM": "1", "TMPDIR": str(room),
+            "GIXP_FETCH_PACK": str(program), "GIT_TERMINAL_PROMPT": "0", "LC_ALL": "C",
+            "GIT_AUTHOR_NAME": "x", "GIT_AUTHOR_EMAIL": "a@b", "GIT_COMMITTER_NAME": "x", "GIT_COMMITTER_EMAIL": "a@b",
+        }
+        self.git("config", "--global", "init.defaultBranch", "main")
+        self.git("config", "--global", "advice.detachedHead", "false")
+        self.git("config", "--global", "gc.auto", "0")
+
+    def run(self, *words, given=None, more=None, at=None):
+        try:
+            ran = subprocess.run([str(word) for word in words], input=given, capture_output=True, env={**self.environment, **(more or {})}, cwd=at or self.room, timeout=TIMEOUT)
+            return ran.returncode, ran.stdout.decode("latin1"), ran.stderr.decode("latin1")
+        except subprocess.TimeoutExpired as late:
+            return -1, "", f"no end after {late.timeout} s"
+
+    def git(self, *words, at=None, given=None, more=None):
+        status, out, err = self.run("git", *words, given=given, at=at, more=more)
+        if status:
+            raise RuntimeError(f"git {' '.join(str(word) for word in words)}: {err}")
+        return out
+
+    def folder(self, name):
+        self.made += 1
+        return self.room / f"{self.made:03d}-{name}"
+
+    def check(self, name, holds, told=""):
+        if holds:
+            self.passed += 1
+        else:
+            self.failed += 1
+            print(f"FAILED {name}: {str(told).strip()[:600]}")
+
+    def case(self, name, action, *words):
+        if self.only and self.only not in name:
+            return
+        try:
+            action(name, *words)
+        except (RuntimeError, OSError, subprocess.SubprocessError) as e:
+            self.check(name, False, e)
+
+
+# Repositories
+
+
+def commits(count, first=1, branch="main", parent=None, time=1_700_000_000, step=60, merges=False, seed=1):
+    """Text for `git fast-import` with so many commits, and marks from FIRST on."""
+    rng, text, heads = random.Random(seed), [], [parent] if parent else []
+    for number in range(first, first + count):
+        time += rng.choice([step, 0, -30]) if merges else step
+        text.append(f"commit refs/heads/{branch}\nmark :{number}\ncommitter x <a@b> {time} +0000\ndata 2\nc\n")
+        if heads:
+            text.append(f"from {heads[-1]}\n")
+            if merges and len(heads) > 2 and rng.random() < 0.1:
+                text.append(f"merge {rng.choice(heads[-20:-1])}\n")
+        content = f"{seed} {number}\n"
+        text.append(f"M 100644 inline f{number % 7}\ndata {len(content)}\n{content}\n")
+        heads.append(f":{number}")
+    return "".join(text).encode()
+
+
+def make(t, name, count, merges=False, tags=False, bare=True):
+    folder = t.folder(name)
+    t.git("init", "-q", *(["--bare"] if bare else []), folder)
+    if count:
+        t.git("fast-import", "--quiet", "--date-format=raw", given=commits(count, merges=merges), at=folder)
+    if tags:
+        t.git("tag", "light", "main~3", at=folder)
+        t.git("tag", "-a", "-m", "t", "v1", "main~5", at=folder)
+        t.git("tag", "-a", "-m", "n", "nested", "v1", at=folder)
+        t.git("branch", "side", "main~7", at=folder)
+        t.git("symbolic-ref", "refs/heads/alias", "refs/heads/side", at=folder)
+    return folder
+
+
+def grow(t, repository, count, branch="main", seed=2, back=0):
+    """So many commits more on a branch, after it was set back."""
+    parent = t.git("rev-parse", f"refs/heads/{branch}~{back}", at=repository).strip()
+    t.git("fast-import", "--quiet", "--force", "--date-format=raw", given=commits(count, branch=branch, parent=parent, time=1_800_000_000, seed=seed), at=repository)
+
+
+def state(t, repository):
+    """Refs with HEAD, and the boundary."""
+    git_dir = t.git("rev-parse", "--absolute-git-dir", at=repository).strip()
+    shallow = pathlib.Path(git_dir) / "shallow"
+    refs = t.run("git", "show-ref", "-d", at=repository)[1]
+    head = t.run("git", "symbolic-ref", "-q", "HEAD", at=repository)[1]
+    return refs, head, sorted(set(shallow.read_text().split())) if shallow.exists() else ""
+
+
+def is_clean(t, repository):
+    """Whether it is whole, and nothing of the helper is left."""
+    status, out, err = t.run("git", "fsck", "--strict", "--connectivity-only", at=repository)
+    git_dir = pathlib.Path(t.git("rev-parse", "--absolute-git-dir", at=repository).strip())
+    left = [*git_dir.glob("objects/pack/*.keep"), *git_dir.glob("*.lock"), *t.room.glob("gixp.*")]
+    return status == 0 and not left and "missing" not in out + err, f"{err}{left}"
+
+
+# By git and by the program
+
+
+def clone_both(t, server, *words, version="2", urls=None):
+    by_git, by_us = t.folder("git"), t.folder("us")
+    plain, ours = urls or (f"file://{server}", f"gixp::{server}")
+    first = t.run("git", "-c", f"protocol.version={version}", "clone", "-q", *words, plain, by_git)
+    second = t.run("git", "clone", "-q", *words, ours, by_us, more={"GIXP_VERSION": version})
+    return by_git, by_us, first, second
+
+
+def same(t, name, by_git, by_us, first, second):
+    if (first[0] == 0) != (second[0] == 0):
+        return t.check(name, False, f"git {first[0]} {first[2]}, ours {second[0]} {second[2]}")
+    if first[0]:
+        return t.check(name, True)
+    clean, told = is_clean(t, by_us)
+    equal = state(t, by_git) == state(t, by_us)
+    return t.check(name, clean and equal, told if not clean else f"{state(t, by_git)}\n{state(t, by_us)}")
+
+
+def clones(name, t, server, version, *words):
+    same(t, name, *clone_both(t, server, *words, version=version))
+
+
+def fetches(name, t, prepare, words, version="2", change=None, cloned=(), urls=None):
+    """A clone, a change of the server, and a fetch."""
+    server = prepare()
+    by_git, by_us, first, second = clone_both(t, server, *cloned, version=version)
+    if first[0] or second[0]:
+        return t.check(name, False, first[2] + second[2])
+    if change:
+        change(server)
+    first = t.run("git", "-c", f"protocol.version={version}", "fetch", "-q", *words, at=by_git)
+    second = t.run("git", "fetch", "-q", *words, at=by_us, more={"GIXP_VERSION": version})
+    return same(t, name, by_git, by_us, first, second)
+
+
+def lists(name, t, server, version):
+    status, ours, err = t.run("git", "ls-remote", f"gixp::{server}", more={"GIXP_VERSION": version})
+    theirs = t.git("-c", f"protocol.version={version}", "ls-remote", f"file://{server}")
+    t.check(name, status == 0 and sorted(ours.splitlines()) == sorted(theirs.splitlines()), err + ours[:300])
+
+
+# The program alone
+
+
+def serve(t, room, command):
+    for end in ("from", "to"):
+        os.mkfifo(room / end)
+    return subprocess.Popen(["sh", "-c", f'exec < "$0/to" > "$0/from"; {command}', str(room)], env={**t.environment, "GIT_PROTOCOL": "version=2"}, stderr=subprocess.DEVNULL)
+
+
+def pack(t, command, *words, specs=(REAL_SPEC,), limit=None, timeout=20):
+    """Runs the program against a server, and gives its status, what it said, and the folder."""
+    room = t.folder("pack")
+    room.mkdir()
+    server = serve(t, room, command)
+    try:
+        ran = t.run("timeout", timeout, t.program, *words, "--", room / "from", room / "to", room / "pack", *specs)
+    finally:
+        server.kill()
+        server.wait()
+    return (*ran, room)
+
+
+def reports(name, t, server):
+    command = f'git upload-pack "{server}"'
+    status, out, err, room = pack(t, command)
+    head = t.git("rev-parse", "main", at=server).strip()
+    whole = (room / "pack").exists() and not (room / "pack.lock").exists()
+    lines = out.splitlines()
+    t.check(f"{name}: a pack", status == 0 and whole, err)
+    t.check(f"{name}: a mapping", f"map {head} refs/heads/main refs/remotes/origin/main" in lines, out)
+    size = (room / "pack").stat().st_size if whole else 0
+    t.check(f"{name}: its size", any(line.startswith(f"pack {size} ") for line in lines), out)
+    status, out, err, room = pack(t, command, specs=["refs/heads/nowhere"])
+    t.check(f"{name}: no such ref", status == 1 and "couldn't find remote ref refs/heads/nowhere" in err and not (room / "pack").exists(), err)
+    status, out, err, room = pack(t, command, specs=["a:b:c"])
+    t.check(f"{name}: no refspec", status == 1 and not (room / "pack").exists(), err)
+    room = t.folder("locked")
+    room.mkdir()
+    (room / "pack.lock").write_text("")
+    server = serve(t, room, command)
+    status, out, err = t.run("timeout", 20, t.program, room / "from", room / "to", room / "pack", REAL_SPEC)
+    server.kill(), server.wait()
+    t.check(f"{name}: a lock that is held", status == 1 and (room / "pack.lock").exists() and not (room / "pack").exists(), err)
+
+
+def words(name, t):
+    for given, wanted in (
+        (["--help"], 0), (["-V"], 0), ([], 2), (["a", "b"], 2), (["a", "b", "c"], 2), (["--nothing", "a", "b", "c", "d"], 2),
+        (["--depth"], 2), (["--depth", "0", "--shallow", "s", "a", "b", "c", "d"], 2), (["--depth", "x", "a", "b", "c", "d"], 2),
+        (["--depth", "1", "a", "b", "c", "d"], 2), (["--version", "3", "a", "b", "c", "d"], 2), (["--tags", "some", "a", "b", "c", "d"], 2),
+        (["--depth", "1", "--since", "5", "--shallow", "s", "a", "b", "c", "d"], 2), (["--list", "a"], 2), (["--list", "a", "b", "c"], 2),
+        (["/nowhere/a", "/nowhere/b", "c", "d"], 1), (["--refs", "/nowhere/r", "a", "b", "c", "d"], 1),
+    ):
+        status, out, err = t.run(t.program, *given)
+        told = bool(out) if wanted == 0 else len(err.splitlines()) == 1
+        t.check(f"{name}: {' '.join(given)}", status == wanted and told, f"{status} {err}")
+
+
+def texts(name, t, server):
+    """Texts of the repository that aren't readable, by the number of their line."""
+    room = t.folder("texts")
+    room.mkdir()
+    id = t.git("rev-parse", "main", at=server).strip()
+    for option, text in (
+        ("--commits", f"1 {id}\n2 {id}\n1 {id[:-1]}\n"), ("--commits", f"1 {id}\n2 {id}\nx {id}\n"), ("--commits", f"1 {id}\n2 {id}\n1 {id} x\n"),
+        ("--refs", f"{id} refs/heads/a\n{id} refs/heads/b\n{id}\n"), ("--objects", f"{id} commit\n{id} tree\n{id} stone\n"), ("--objects", f"{id} commit\n{id} tag\nx missing\n"),
+    ):
+        (room / "text").write_text(text)
+        status, out, err = t.run(t.program, option, room / "text", room / "from", room / "to", room / "pack", REAL_SPEC)
+        t.check(f"{name}: {option} {text.splitlines()[2][-8:]}", status == 1 and "line 3" in err, err)
+
+
+def dies(name, t, server, conversation):
+    """A server that dies at each of 20 places of what it has to say."""
+    whole = len(conversation)
+    places = sorted({whole * n // 20 for n in range(20)} | {whole - 1, whole - 4, whole - 21})
+    for place in places:
+        said = t.folder("said")
+        said.write_bytes(conversation[:place])
+        status, out, err, room = pack(t, f'cat "{said}"; exec > /dev/null; cat > /dev/null')
+        left = [path.name for path in room.iterdir() if path.name not in ("from", "to")]
+        t.check(f"{name} at {place} of {whole}", status == 1 and len(err.splitlines()) == 1 and not left, f"{status} {err} {left}")
+
+
+def spoiled(name, t, server, conversation):
+    """A pack with one byte changed."""
+    start = conversation.index(b"PACK")
+    for place in (start, start + 7, start + 13, len(conversation) - 10):
+        bad = bytearray(conversation)
+        bad[place] ^= 0x40
+        said = t.folder("said")
+        said.write_bytes(bytes(bad))
+        status, out, err, room = pack(t, f'cat "{said}"; exec > /dev/null; cat > /dev/null')
+        left = [path.name for path in room.iterdir() if path.name not in ("from", "to")]
+        t.check(f"{name} at {place - start}", status == 1 and not left, f"{status} {err} {left}")
+
+
+def frame(text):
+    return f"{len(text) + 4:04x}".encode() + text
+
+
+def refuses(name, t, server):
+    """Servers that say an error, or nonsense."""
+    greeting = frame(b"version 2\n") + frame(b"ls-refs=unborn\n") + frame(b"fetch=shallow\n") + frame(b"object-format=sha1\n") + b"0000"
+    id = t.git("rev-parse", "main", at=server).strip().encode()
+    refs = frame(id + b" refs/heads/main\n") + b"0000"
+    errors = (frame(b"ERR access denied\n"), greeting + frame(b"ERR access denied\n"), greeting + refs + frame(b"ERR access denied\n"))
+    for number, said in enumerate(errors):
+        path = t.folder("said")
+        path.write_bytes(said)
+        status, out, err, room = pack(t, f'cat "{path}"; exec > /dev/null; cat > /dev/null')
+        t.check(f"{name}: an error after {number} answers", status == 1 and "access denied" in err and not (room / "pack").exists(), err)
+    nonsense = (b"", b"0", b"zzzz", b"<html>", b"\x00" * 100, b"fffe" + b"x" * 50, greeting + b"0000", greeting + b"000", greeting + frame(b"x\n") + b"0000",
+                greeting + refs + frame(b"packfile\n") + frame(b"\x01PACK") + b"0000", greeting + refs + frame(b"packfile\n") + frame(b"\x03no more disk\n") + b"0000")
+    for number, said in enumerate(nonsense):
+        path = t.folder("said")
+        path.write_bytes(said)
+        status, out, err, room = pack(t, f'cat "{path}"; exec > /dev/null; cat > /dev/null')
+        left = [found.name for found in room.iterdir() if found.name not in ("from", "to")]
+        t.check(f"{name}: nonsense {number}", (status == 1 or (status == 0 and said == greeting + b"0000")) and not left, f"{status} {err} {left}")
+
+
+def frozen(name, t, server):
+    """A server that says nothing: the helper's time ends it."""
+    tools = t.folder("frozen")
+    tools.mkdir()
+    (tools / "git-upload-pack").write_text("#!/bin/sh\nsleep 30\n")
+    (tools / "ssh").write_text("#!/bin/sh\nexec sleep 30\n")
+    for path in tools.iterdir():
+        path.chmod(0o755)
+    at = time.time()
+    status, out, err = t.run("git", "clone", "-q", "gixp::ssh://nowhere/x", t.folder("us"), more={"GIXP_TIMEOUT": "1", "GIT_SSH_COMMAND": str(tools / "ssh")})
+    t.check(name, status != 0 and time.time() - at < 10, f"{status} {err}")
+    status, out, err = t.run("git", "clone", "-q", "gixp::/nowhere/at/all", t.folder("us"))
+    t.check(f"{name}: no repository", status != 0 and not list(t.room.glob("gixp.*")), err)
+
+
+def over_ssh(name, t, server):
+    """A program in place of ssh that runs the command here, where the path is quoted."""
+    tools = t.folder("ssh")
+    tools.mkdir()
+    (tools / "ssh").write_text('#!/bin/sh\nfor last; do :; done\nunset GIT_DIR\nexec sh -c "$last"\n')
+    (tools / "ssh").chmod(0o755)
+    spaced = server.parent / "it's a server"
+    spaced.symlink_to(server)
+    for url in (f"ssh://host{server}", f"host:{server}", f"ssh://host:22{server}", f"host:{spaced}"):
+        by_us = t.folder("us")
+        status, out, err = t.run("git", "clone", "-q", f"gixp::{url}", by_us, more={"GIT_SSH_COMMAND": str(tools / "ssh")})
+        t.check(f"{name}: {url}", status == 0 and is_clean(t, by_us)[0], err)
+    spaced.unlink()
+
+
+def over_daemon(name, t, server):
+    with socket.socket() as found:
+        found.bind(("127.0.0.1", 0))
+        port = found.getsockname()[1]
+    daemon = subprocess.Popen(["git", "daemon", f"--port={port}", "--listen=127.0.0.1", "--export-all", f"--base-path={server.parent}", "--reuseaddr", str(server.parent)],
+                              env=t.environment, stdout=subprocess.DEVNULL, stderr=subprocess.DEVNULL)
+    try:
+        for _ in range(100):
+            with socket.socket() as tried:
+                if tried.connect_ex(("127.0.0.1", port)) == 0:
+                    break
+            time.sleep(0.05)
+        for version in VERSIONS:
+            url = f"git://127.0.0.1:{port}/{server.name}"
+            by_git, by_us, first, second = clone_both(t, server, version=version, urls=(url, f"gixp::{url}"))
+            same(t, f"{name}: clone, version {version}", by_git, by_us, first, second)
+            if version == "2":
+                grow(t, server, 3, seed=90)
+                first, second = t.run("git", "fetch", "-q", at=by_git), t.run("git", "fetch", "-q", at=by_us)
+                same(t, f"{name}: fetch", by_git, by_us, first, second)
+    finally:
+        daemon.terminate()
+        daemon.wait()
+
+
+# What is tried
+
+
+def recorded(t, server):
+    """All that a server says in a clone by the program."""
+    said = t.folder("conversation")
+    status, out, err, room = pack(t, f'git upload-pack "{server}" | tee "{said}"')
+    if status:
+        raise RuntimeError(err)
+    return said.read_bytes()
+
+
+def try_clones(t):
+    empty, one = make(t, "empty", 0), make(t, "one", 1)
+    large = make(t, "large", 2000, merges=True, tags=True)
+    hidden = make(t, "hidden", 20, tags=True)
+    t.git("config", "transfer.hideRefs", "refs/heads/side", at=hidden)
+    small_shallow = t.folder("shallow")
+    t.git("clone", "-q", "--bare", "--depth", "5", f"file://{large}", small_shallow)
+    for version in VERSIONS:
+        for kind, server in (("an empty repository", empty), ("one commit", one), ("2,000 commits", large), ("hidden refs", hidden), ("a shallow repository", small_shallow)):
+            t.case(f"clone of {kind}, version {version}", clones, t, server, version)
+            t.case(f"ls-remote of {kind}, version {version}", lists, t, server, version)
+        for option in (["--depth", "1"], ["--depth", "3", "--no-single-branch"], ["--shallow-since=1700000900"], ["--shallow-exclude=v1"], ["--bare"], ["--mirror"], ["--no-tags"],
+                       ["--single-branch", "--branch", "side"], ["--branch", "v1"]):
+            t.case(f"clone {' '.join(option)}, version {version}", clones, t, large, version, *option)
+    t.case("clone --reject-shallow of a shallow repository", clones, t, small_shallow, "2", "--reject-shallow")
+
+
+def try_fetches(t):
+    def small():
+        return make(t, "server", 30, tags=True)
+
+    def after(*changes):
+        def change(server):
+            for one in changes:
+                one(server)
+        return change
+
+    def grown(count, **more):
+        return lambda server: grow(t, server, count, **more)
+
+    def git(*given):
+        return lambda server: t.git(*given, at=server)
+
+    for version in VERSIONS:
+        for name, words, change in (
+            ("nothing new", [], None), ("1 new commit", [], grown(1)), ("100 new commits", [], grown(100)), ("a rewritten branch", [], grown(5, back=6)),
+            ("a deleted branch", ["--prune"], git("branch", "-D", "side")), ("a new branch", [], git("branch", "fresh", "main~2")),
+            ("tags that follow", [], after(grown(3), git("tag", "-a", "-m", "x", "new", "main~1"))),
+            ("all tags", ["--tags"], after(grown(3), git("tag", "-a", "-m", "x", "new", "main~1"), git("tag", "other", "side~1"))),
+            ("no tags", ["--no-tags"], after(grown(3), git("tag", "-a", "-m", "x", "new", "main~1"))),
+        ):
+            t.case(f"fetch of {name}, version {version}", fetches, t, small, words, version, change)
+        for name, cloned, words in (
+            ("--depth 3", ["--depth", "1"], ["--depth", "3"]), ("--deepen 2", ["--depth", "2"], ["--deepen", "2"]), ("--unshallow", ["--depth", "2"], ["--unshallow"]),
+            ("--shallow-since", ["--depth", "1"], ["--shallow-since=1700000900"]), ("--shallow-exclude", ["--depth", "1"], ["--shallow-exclude=light"]),
+            ("--depth 2 of a whole clone", [], ["--depth", "2"]), ("a new commit into a shallow clone", ["--depth", "2"], []),
+        ):
+            t.case(f"fetch {name}, version {version}", fetches, t, small, words, version, grown(2), cloned)
+    t.case("fetch of 2,000 new commits", fetches, t, small, [], "2", grown(2000))
+    for spec in ("refs/heads/main:refs/x/main", "+refs/heads/*:refs/x/*", "main:x", "+refs/heads/s*:refs/x/s*", "HEAD:refs/x/head", "refs/tags/v1:refs/x/v1", "side", "refs/heads/*:refs/x/*"):
+        t.case(f"fetch origin {spec}", fetches, t, small, ["origin", spec], "2", grown(2))
+    t.case("fetch of refspecs with one that is left out", fetches, t, small, ["origin", "+refs/heads/*:refs/x/*", "^refs/heads/side"], "2", grown(2))
+    t.case("fetch of a ref that isn't there", fetches, t, small, ["origin", "nowhere"], "2")
+    t.case("fetch of a fast-forward alone", fetches, t, small, ["origin", "main:refs/remotes/origin/main"], "2", grown(3, back=4))
+
+
+def has_tip_alone(name, t):
+    """A client that has the tip of a branch, but not what it leads to."""
+    server = make(t, "server", 30)
+    by_git, by_us, first, second = clone_both(t, server)
+    grow(t, server, 5)
+    for client in (by_git, by_us):
+        tip = t.run("git", "cat-file", "commit", "main", at=server)[1]
+        t.git("hash-object", "-t", "commit", "-w", "--stdin", given=tip.encode("latin1"), at=client)
+    first, second = t.run("git", "fetch", "-q", at=by_git), t.run("git", "fetch", "-q", at=by_us)
+    same(t, name, by_git, by_us, first, second)
+
+
+def many_haves(name, t, version):
+    """Thousands of commits that the server doesn't know, and then thousands that it knows."""
+    server = make(t, "server", 6000)
+    by_git, by_us, first, second = clone_both(t, server)
+    for client in (by_git, by_us):
+        t.git("fast-import", "--quiet", "--date-format=raw", given=commits(6000, branch="mine", parent="refs/remotes/origin/main^0", time=1_900_000_000, seed=5), at=client)
+        t.git("update-ref", "-d", "refs/remotes/origin/main", at=client)
+        t.git("update-ref", "-d", "refs/remotes/origin/HEAD", at=client)
+    grow(t, server, 1, back=5)
+    first = t.run("git", "-c", f"protocol.version={version}", "fetch", "-q", at=by_git)
+    for negotiator in ("consecutive", "skipping", "list"):
+        copy = t.folder("copy")
+        shutil.copytree(by_us, copy)
+        second = t.run("git", "fetch", "-q", at=copy, more={"GIXP_VERSION": version, "GIXP_NEGOTIATOR": negotiator})
+        t.check(f"{name}, {negotiator}", second[0] == 0 and is_clean(t, copy)[0] and state(t, copy)[0] == state(t, by_git)[0], second[2])
+
+
+def main():
+    parser = argparse.ArgumentParser(description=__doc__.splitlines()[0])
+    parser.add_argument("--program", type=pathlib.Path, default=CRATE / "out" / "gixp_fetch_pack")
+    parser.add_argument("--keep", type=pathlib.Path, help="a folder for all that is made, which stays")
+    parser.add_argument("--only", help="only what has this word in its name")
+    given = parser.parse_args()
+    program = given.program.resolve()
+    if not os.access(program, os.X_OK):
+        sys.exit(f"no program {program}: `rt run` in crates/gixp_fetch_pack builds it")
+    with tempfile.TemporaryDirectory() as temporary:
+        room = (given.keep or pathlib.Path(temporary) / "room").resolve()
+        room.mkdir(parents=True)
+        t = Tester(room, program, given.only)
+        began = time.time()
+        try_clones(t)
+        try_fetches(t)
+        t.case("fetch by a client that has a tip alone", has_tip_alone, t)
+        for version in ("0", "2"):
+            t.case(f"6,000 haves in vain and 6,000 in common, version {version}", many_haves, t, version)
+        t.case("over git daemon", over_daemon, t, make(t, "served", 40, tags=True))
+        t.case("over ssh", over_ssh, t, make(t, "served", 10))
+        t.case("a server that freezes", frozen, t, None)
+        t.case("words", words, t)
+        server = make(t, "server", 30, tags=True)
+        t.case("texts", texts, t, server)
+        t.case("reports", reports, t, server)
+        t.case("errors", refuses, t, server)
+        conversation = recorded(t, server)
+        t.case("a server that dies", dies, t, server, conversation)
+        t.case("a pack with a byte changed", spoiled, t, server, conversation)
+        print(f"{t.passed} passed, {t.failed} failed")
+        print(f"{time.time() - began:.0f} s", file=sys.stderr)
+        sys.exit(1 if t.failed else 0)
+
+
+main()
