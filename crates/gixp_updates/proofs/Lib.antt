@@ -1,0 +1,5 @@
+mod LookLemmas
+mod AskLemmas
+mod SearchLemmas
+mod ModeLemmas
+mod NoteLemmas

@@ -1,0 +1,19 @@
+-- What the loop keeps, and what is left of it.
+use Rattle.std.proofs.Common.{◌≡◌, ◌+◌, ◌≤◌}
+use Rattle.gixp_graph.specs.Object.{commit_at}
+use Rattle.gixp_updates.specs.Search.{search_of, unseen, waiting_len, IsSearch, HoldsWaiting, LooksUp, HasAskedFor}
+use Rattle.gixp_updates.proofs.refs.ancestor.is_ancestor.Given as goal
+
+abbrev pub invariant-loop-newest : goal.invariant-loop-newest
+invariant-loop-newest g l = record {
+  search : IsSearch (commit_at l.fn.graph.graph.objects) l.fn.new l.fn.old (search_of l.walk);
+  holds : HoldsWaiting l.graph.graph (search_of l.walk);
+  graph : LooksUp l.fn.graph.graph l.graph.graph;
+  asked : HasAskedFor l.fn.graph.graph (search_of l.walk) l.fn.graph.asked l.graph.asked;
+  refusals : l.graph.refusals ≡ l.fn.graph.refusals;
+  failures : l.fn.graph.failures ≤ l.graph.failures;
+}
+
+-- the commits that weren't looked for, and those that wait
+abbrev pub decreases-loop-newest : goal.decreases-loop-newest
+decreases-loop-newest g l = unseen l.fn.graph.graph.objects (search_of l.walk) + waiting_len l.walk.heap

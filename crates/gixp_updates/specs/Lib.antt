@@ -1,0 +1,11 @@
+pub mod Ancestors
+pub mod LocalSide
+pub mod LookUps
+pub mod Modes
+pub mod Search
+pub use Rattle.gixp_graph.specs.Asked
+pub use Rattle.gixp_graph.specs.GraphData
+pub use Rattle.gixp_graph.specs.Object
+pub use Rattle.gixp_graph.specs.Refusals
+pub mod Unmatched
+pub mod UpdateError

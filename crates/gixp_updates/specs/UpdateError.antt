@@ -1,0 +1,32 @@
+-- Why it isn't known what becomes of the local refs.
+use Rattle.std.specs.Prelude.{◌≡◌, ◌≢◌, ℕ, ◌≤◌, Option, IsSome, Result, Ok, Err}
+use Rattle.gixp_graph.specs.declared.objects.ObjectError.{ObjectError}
+use Rattle.gixp_graph.specs.declared.objects.ObjectError.TheVariants.{Io, Corrupt, Memory as no_memory}
+use Rattle.gixp_graph.specs.Object.{HasRisen}
+use Rattle.gixp_graph.specs.GraphData.{GraphValue}
+use Rattle.gixp_graph.specs.Refusals.{TellsRefusal, writing}
+use Rattle.gixp_updates.specs.LookUps.{LooksUp}
+use Rattle.gixp_updates.specs.declared.refs.error.Error.{Error}
+use Rattle.gixp_updates.specs.declared.refs.error.Error.TheVariants.{FindObject, TooManyCommits, Memory}
+
+-- the error of objects that were refused
+abbrev pub from_object : ObjectError → Error
+from_object (Io kind) = FindObject (Io kind)
+from_object Corrupt = FindObject Corrupt
+from_object no_memory = Memory
+
+-- the objects told this error, and a failure was counted; they were refused nothing, and the caller set a limit; or they were refused nothing and an allocation failed, or they told that
+abbrev pub TellsError : Option ℕ → Error → GraphValue → GraphValue → Type 0
+TellsError limit (FindObject e) old new = (e ≢ no_memory) × (new.refusals ≡ writing old.refusals e) × HasRisen old.failures new.failures
+TellsError limit TooManyCommits old new = IsSome limit × (new.refusals ≡ old.refusals)
+TellsError limit Memory old new = TellsRefusal no_memory old.refusals new.refusals
+
+abbrev pub TellsIfRefused : {T : Type 0} → Option ℕ → Result T Error → GraphValue → GraphValue → Type 0
+TellsIfRefused limit (Ok x) old new = new.refusals ≡ old.refusals
+TellsIfRefused limit (Err e) old new = TellsError limit e old new
+
+-- commits were looked up; where one couldn't be, the error tells why
+pub record Consults {T : Type 0} (limit : Option ℕ) (r : Result T Error) (old new : GraphValue) : Type 0 where
+  pub looks : LooksUp old.graph new.graph
+  pub failures : old.failures ≤ new.failures
+  pub tells : TellsIfRefused limit r old new

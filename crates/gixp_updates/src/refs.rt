@@ -1,0 +1,11 @@
+//! The local refs after a fetch: which are written, and which refspecs matched nothing.
+pub mod ancestor;
+mod edit;
+mod error;
+mod heap;
+mod mode;
+pub mod unmatched;
+pub mod update;
+mod walk;
+
+pub use edit::{Edit, Update};

@@ -1,0 +1,70 @@
+//! Whether a commit is an ancestor of another.
+ghost use Rattle.std.specs.Prelude.{◌≡◌, ◌≤◌, ◌↔◌, ℕ, Some, None, IfOk, IfErr, OnOk, OnErr, Err, IsTrue, IsSome};
+ghost use Rattle.std.specs.FinMap as finite;
+ghost use Rattle.gixp_hash.specs.declared.object_id.ObjectId.{ObjectId};
+ghost use Rattle.gixp_graph.specs.Asked.{AsksEach};
+ghost use Rattle.gixp_graph.specs.Object.{commit_at};
+ghost use Rattle.gixp_updates.specs.Ancestors.{IsAncestor, IsReached, ReachesMore, IsBeyond};
+ghost use Rattle.gixp_updates.specs.LookUps.{LooksUp};
+ghost use Rattle.gixp_updates.specs.UpdateError.{TellsError};
+ghost use Rattle.gixp_updates.specs.declared.refs.error.Error.TheVariants.{TooManyCommits};
+
+use crate::refs::error::Error;
+use crate::refs::walk::{Walk, parents_of};
+use gixp_graph::{Graph, Objects};
+use gixp_hash::ObjectId;
+use std::alloc::Global;
+
+// Whether more ids were looked for than the caller allows.
+fn is_beyond(seen: usize, most_commits: Option<usize>) -> bool
+    ensures { IsTrue result ↔ IsBeyond seen most_commits }
+{
+    match most_commits {
+        Some(most) => seen > most,
+        None => false,
+    }
+}
+
+/// Whether the commit `old` is `new` or one of its ancestors (git-merge-base, `--is-ancestor`): of a ref that moves from
+/// one to the other, whether that is a fast-forward. It is false where either isn't there, or is no commit.
+///
+/// The newest commits are taken first, until `old` is found or none is left; each is looked up once, and one that the
+/// graph holds isn't read again. Commits that name each other as parents do no harm. The graph holds what was found, with
+/// no marks; no mark changes.
+///
+/// # Errors
+///
+/// `FindObject` where a commit can't be read, `Memory` where an allocation failed, and `TooManyCommits` where more than
+/// `most_commits` ids (those of parents that aren't there counted) had been looked for by then; with none there is no
+/// such limit. The graph holds what was found so far, and a later call may succeed.
+pub fn is_ancestor<O: Objects>(
+    alloc: Global,
+    graph: &mut Graph<O>,
+    old: &ObjectId,
+    new: &ObjectId,
+    most_commits: Option<usize>,
+) -> Result<bool, Error>
+    ensures ancestor { IfOk result (λ found. IsTrue found ↔ IsAncestor (commit_at graph.old.graph.objects) new.now old.now) }
+    ensures graph { LooksUp graph.old.graph graph.new.graph }
+
+    // No commit is read twice, and none but those that aren't held, of the ids that are come to.
+    ensures asked { AsksEach (λ id. (finite.get graph.old.graph.held id ≡ None) × IsReached (commit_at graph.old.graph.objects) new.now id) graph.old.asked graph.new.asked }
+    ensures limited { result ≡ Err TooManyCommits → (most : ℕ) × (most_commits ≡ Some most) × ReachesMore (commit_at graph.old.graph.objects) new.now most }
+    ensures unrefused { OnOk result (graph.new.refusals ≡ graph.old.refusals) }
+    ensures failed { IfErr result (λ e. TellsError most_commits e graph.old graph.new) }
+    ensures failures { graph.old.failures ≤ graph.new.failures }
+{
+    let mut walk = Walk::new(alloc);
+    walk.look(graph, new)?;
+    while let Some(newest) = walk.pop() {
+        if newest.id == *old {
+            return Ok(true);
+        }
+        if is_beyond(walk.seen(), most_commits) {
+            return Err(Error::TooManyCommits);
+        }
+        let parents = parents_of(alloc, graph, &newest.id)?;
+        walk.look_each(graph, parents.as_slice())?;
+    }
+    Ok(false)
+}

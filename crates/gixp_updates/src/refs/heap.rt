@@ -1,0 +1,55 @@
+//! Commits whose parents are still to be looked at.
+ghost use Rattle.std.specs.Prelude.{◌≡◌, ◌+◌, ◌||◌, IfSome, IfNone, OnOk, OnSome, false};
+ghost use Rattle.std.specs.Ordering.{eq_by_cmp};
+ghost use Rattle.gixp_hash.specs.ObjectId.{id_cmp};
+ghost use Rattle.gixp_hash.specs.declared.object_id.ObjectId.{ObjectId};
+ghost use Rattle.gixp_updates.specs.Search.{waits_in, waiting_len};
+
+use gixp_hash::ObjectId;
+use std::alloc::{AllocError, Global};
+use std::collections::BinaryHeap;
+
+/// A commit that waits. The newer one is the greater.
+#[derive(Clone, Copy, PartialEq, Eq, PartialOrd, Ord)]
+pub(crate) struct Pending {
+    pub time: i64,
+    pub id: ObjectId,
+}
+
+/// Commits that wait. The newest is taken first, so that a walk for one that isn't far doesn't go far.
+#[derive(Drop)]
+pub(crate) struct Heap {
+    waiting: BinaryHeap<Pending>,
+}
+
+impl Heap {
+    /// None waits.
+    pub fn new(alloc: Global) -> Heap
+        ensures len { waiting_len result ≡ 0 }
+        ensures none { (q : ObjectId) → waits_in result q ≡ false }
+    {
+        Heap {
+            waiting: BinaryHeap::new(alloc),
+        }
+    }
+
+    /// Adds a commit.
+    pub fn push(&mut self, time: i64, id: ObjectId) -> Result<(), AllocError>
+        ensures len { OnOk result (waiting_len self.new ≡ waiting_len self.old + 1) }
+        ensures waits { OnOk result ((q : ObjectId) → waits_in self.new q ≡ (eq_by_cmp id_cmp q id || waits_in self.old q)) }
+    {
+        match self.waiting.push(Pending { time, id }) {
+            Ok(()) => Ok(()),
+            Err(_) => Err(AllocError),
+        }
+    }
+
+    /// Takes the newest commit.
+    pub fn pop(&mut self) -> Option<Pending>
+        ensures len { OnSome result (waiting_len self.old ≡ waiting_len self.new + 1) }
+        ensures taken { IfSome result (λ newest. (q : ObjectId) → waits_in self.old q ≡ (eq_by_cmp id_cmp q newest.id || waits_in self.new q)) }
+        ensures none { IfNone result ((q : ObjectId) → waits_in self.old q ≡ false) }
+    {
+        self.waiting.pop()
+    }
+}
