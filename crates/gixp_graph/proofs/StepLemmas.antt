@@ -129,7 +129,7 @@ marking_insert g ids cutoff held w id h new due = record {
 pub found_if_new : (g : GraphData) (held : Commits) → OnlyMarks g held → (id : ObjectId) (h : HeldCommit) → new_in (graph_of g.objects held) id ≡ Some h → commit_in g id ≡ Some (as_read h)
 found_if_new g held only id h new = ap (option_map as_read) (found_from_new g id h (new_before g held only id h new)).0
 
--- who waits behind a push
+-- who waits after a push
 pub waits_pushed : (x : Waiting) (old new : List Waiting) → IsPermutation (x ∷ old) new → (q : ObjectId) → waits new q ≡ (eq_by_cmp id_cmp q x.id || waits old q)
 waits_pushed x old new p q = sym (list_any-IsPermutation (λ (y : Waiting). eq_by_cmp id_cmp q y.id) (x ∷ old) new p)
 

@@ -17,6 +17,7 @@ use bitflags::Flags as _;
 use gixp_hash::ObjectId;
 use std::alloc::{AllocError, Global};
 use std::collections::BTreeMap;
+use std::collections::btree_map::Entry;
 use std::marker::Model;
 
 /// A commit, or the name of one that wasn't looked up.
@@ -41,23 +42,23 @@ fn number_of(
     ensures named { IfOk result (λ n. number_at numbers.new.entries id.now ≡ Some n) }
     ensures grown { (nodes.new.items ≡ nodes.old.items) ⊎ (nodes.new.items ≡ nodes.old.items ++ blank id.now ∷ []) }
 {
-    if let Some(&number) = numbers.get(id) {
-        return Ok(number);
-    }
-    let number = nodes.len();
-    nodes.push(Node {
-        id: *id,
-        flags: Flags(0),
-        is_found: false,
-        time: 0,
-        first: 0,
-        end: 0,
-    })?;
-    match numbers.insert(*id, number) {
-        Ok(_) => Ok(number),
-        Err(_) => {
-            nodes.pop();
-            Err(AllocError)
+    let Ok(place) = numbers.entry(*id) else {
+        return Err(AllocError);
+    };
+    match place {
+        Entry::Occupied(taken) => Ok(*taken.get()),
+        Entry::Vacant(free) => {
+            let number = nodes.len();
+            nodes.push(Node {
+                id: *id,
+                flags: Flags(0),
+                is_found: false,
+                time: 0,
+                first: 0,
+                end: 0,
+            })?;
+            free.insert(number);
+            Ok(number)
         }
     }
 }
@@ -94,6 +95,8 @@ pub(crate) struct Commits {
     parents: Vec<usize>,
     // The number that was looked up last: its commit is often asked for next.
     last: usize,
+    // The number of the last parent of the commit that was held last: it is often looked up next.
+    parent: usize,
 }
 
 impl Model for Commits {
@@ -120,6 +123,7 @@ impl Commits {
             numbers: BTreeMap::new(alloc),
             parents: Vec::new(alloc),
             last: 0,
+            parent: 0,
         }
     }
 
@@ -140,6 +144,9 @@ impl Commits {
     {
         if self.names(self.last, id) {
             return Some(self.last);
+        }
+        if self.names(self.parent, id) {
+            return Some(self.parent);
         }
         self.numbers.get(id).copied()
     }
@@ -210,6 +217,7 @@ impl Commits {
         for id in parents {
             let parent = number_of(&mut self.nodes, &mut self.numbers, id)?;
             self.parents.push(parent)?;
+            self.parent = parent;
         }
         let end = self.parents.len();
         self.nodes[number] = Node {

@@ -9,6 +9,7 @@ pub mod objects;
 mod queue;
 pub mod refs;
 mod same;
+pub mod shared;
 mod visited;
 mod walk;
 
@@ -17,3 +18,4 @@ pub use graph::Graph;
 pub use negotiator::{Negotiator, NegotiatorError};
 pub use objects::{CommitData, ObjectError, ObjectKind, Objects};
 pub use refs::{RefStore, RefStoreError};
+pub use shared::{Find, Shared};

@@ -77,7 +77,7 @@ pub trait RefStore {
     fn find(&self, name: BStr<'_>) -> Option<ObjectId>
         ensures { result ≡ map.get (refs self.now) (bstr_bytes name.entry) };
 
-    /// The ids of the objects that the refs lead to behind all tags, in the order of their listing.
+    /// The ids of the objects that the refs lead to after all tags, in the order of their listing.
     ///
     /// # Errors
     ///

@@ -1,1 +1,2 @@
 pub mod StoredLemmas
+pub mod TextLemmas

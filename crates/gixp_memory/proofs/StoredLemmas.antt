@@ -1,21 +1,29 @@
 -- What is stored, by its id or its name.
-use Rattle.std.proofs.Common.{◌≡◌, ◌∙◌, ℕ, Bool, true, false, cond, List, [], ◌∷◌, map, Option, Some, None, refl, ap}
+use Rattle.std.proofs.Common.{◌≡◌, ◌∙◌, ℕ, Bool, true, false, cond, List, [], ◌∷◌, map, Option, Some, None, refl, ap, sym, subst, ◌⊎◌, inl, inr, ⊎_elim}
 use Rattle.std.specs.Prelude.{option_map, option_and_then, is_some}
-use Rattle.std.specs.Ordering.{nat_cmp, eq_by_cmp}
+use Rattle.std.specs.Ordering.{nat_cmp, eq_by_cmp, match_ordering}
+use Rattle.std.specs.declared.cmp.Ordering.{Ordering}
+use Rattle.std.specs.declared.cmp.Ordering.TheVariants.{Less, Equal, Greater}
 use Rattle.std.specs.Cmp.Lexicographic.{slice_cmp, nat_list_cmp_total}
 use Rattle.std.specs.Map.{lookup}
-use Rattle.std.specs.BTreeMap.{is_at}
+use Rattle.std.specs.BTreeMap.{is_at, insert_entry}
+use Rattle.std.specs.Map.{values_of}
 use Rattle.std.specs.FinMap as finite
-use Rattle.std.specs.FinMap.{find, get-from_entries}
+use Rattle.std.specs.FinMap.{find, get-from_entries, get-insert, same_map}
+use Rattle.std.proofs.lemmas.Map.Lookups.{exact_bytes}
 use Rattle.std.specs.declared.vec.Vec.{Vec}
 use Rattle.std.specs.declared.alloc.Global.{Global}
 use Rattle.gixp_hash.specs.declared.object_id.ObjectId.{ObjectId}
 use Rattle.gixp_hash.specs.ObjectId.{id_cmp}
 use Rattle.gixp_graph.specs.declared.objects.ObjectKind.{ObjectKind}
 use Rattle.gixp_graph.specs.Object.{Object, Commit, kind_at, commit_at, commit_of}
-use Rattle.gixp_graph.specs.GraphLaws.{ids_total}
+use Rattle.gixp_graph.specs.GraphLaws.{ids_total, ids_exact, same_from}
+use Rattle.gixp_graph.proofs.MarkLemmas.{same_id, true_or_false}
 use Rattle.gixp_memory.specs.declared.objects.StoredObject.{StoredObject}
-use Rattle.gixp_memory.specs.Memory.{object_of, objects_of, refs_of}
+use Rattle.gixp_memory.specs.declared.stored_refs.StoredRef.{StoredRef}
+use Rattle.gixp_memory.specs.Memory.{object_of, objects_of, refs_of, name_cmp}
+use Rattle.gixp_memory.specs.RefEntries.{named_ref}
+use Rattle.gixp_memory.specs.Repository.{PeeledRef, with_ref, ref_named, peeled_ids}
 
 -- what is stored under an id
 abbrev pub stored_at : List (ObjectId × StoredObject) → ObjectId → Option StoredObject
@@ -83,3 +91,65 @@ find_named (e ∷ es) q = ap (cond (eq_by_cmp (slice_cmp nat_cmp) q e.0.items) (
 -- the id that a name holds
 pub named : (es : List NamedId) (q : List ℕ) → finite.get (refs_of es) q ≡ lookup (is_at (λ (k : Vec ℕ Global). slice_cmp nat_cmp q k.items)) es
 named es q = get-from_entries nat_list_cmp_total (map (λ (e : NamedId). (e.0.items, e.1)) es) q ∙ find_named es q
+
+-- ---- what is filled
+
+-- two ids are compared alike from both sides
+same_sides : (q id : ObjectId) (b : Bool) → eq_by_cmp id_cmp q id ≡ b → is_at (id_cmp id) q ≡ b
+same_sides q id true e = subst (λ k. eq_by_cmp id_cmp id k ≡ true) (sym (same_from q id e)) (same_id id)
+same_sides q id false e = ⊎_elim
+    (λ t. absurd (let two : eq_by_cmp id_cmp q id ≡ true = subst (λ k. eq_by_cmp id_cmp q k ≡ true) (sym (same_from id q t)) (same_id q) in let clash : true ≡ false = sym two ∙ e in cc))
+    (λ f. f) (true_or_false (eq_by_cmp id_cmp id q))
+
+-- what is stored under an id is put among the objects
+pub objects_put : (es fs : List (ObjectId × StoredObject)) (id : ObjectId) (s : StoredObject) → ((q : ObjectId) → stored_at fs q ≡ cond (is_at (id_cmp id) q) (Some s) (stored_at es q))
+    → objects_of fs ≡ finite.insert (objects_of es) id (object_of s)
+objects_put es fs id s h = same_map ids_total ids_exact _ _ (λ q. get_stored fs q ∙ ap (option_map object_of) (h q) ∙ at q (true_or_false (eq_by_cmp id_cmp q id)))
+  where
+    here : (q : ObjectId) (b : Bool) → is_at (id_cmp id) q ≡ b → eq_by_cmp id_cmp q id ≡ b → option_map object_of (cond (is_at (id_cmp id) q) (Some s) (stored_at es q)) ≡ finite.get (finite.insert (objects_of es) id (object_of s)) q
+    here q true e f = ap (λ b. option_map object_of (cond b (Some s) (stored_at es q))) e ∙ sym (get-insert ids_total (objects_of es) id (object_of s) q ∙ ap (λ b. cond b (Some (object_of s)) (finite.get (objects_of es) q)) f)
+    here q false e f = ap (λ b. option_map object_of (cond b (Some s) (stored_at es q))) e ∙ sym (get_stored es q) ∙ sym (get-insert ids_total (objects_of es) id (object_of s) q ∙ ap (λ b. cond b (Some (object_of s)) (finite.get (objects_of es) q)) f)
+
+    at : (q : ObjectId) → (eq_by_cmp id_cmp q id ≡ true) ⊎ (eq_by_cmp id_cmp q id ≡ false) → option_map object_of (cond (is_at (id_cmp id) q) (Some s) (stored_at es q)) ≡ finite.get (finite.insert (objects_of es) id (object_of s)) q
+    at q (inl t) = here q true (same_sides q id true t) t
+    at q (inr f) = here q false (same_sides q id false f) f
+
+-- ---- refs that are filled
+
+abbrev StoredName : Type 0
+StoredName = Vec ℕ Global × StoredRef
+
+-- a ref is put among those that are stored
+pub refs_put : (es : List StoredName) (name : Vec ℕ Global) (s : StoredRef) → map named_ref (insert_entry name_cmp es name s) ≡ with_ref (map named_ref es) (named_ref (name, s))
+refs_put [] name s = refl
+refs_put (e ∷ es) name s = at (slice_cmp nat_cmp name.items e.0.items) refl (refs_put es name s)
+  where
+    at : (o : Ordering) → slice_cmp nat_cmp name.items e.0.items ≡ o → map named_ref (insert_entry name_cmp es name s) ≡ with_ref (map named_ref es) (named_ref (name, s))
+        → map named_ref (match_ordering o ((name, s) ∷ e ∷ es) ((e.0, s) ∷ es) (e ∷ insert_entry name_cmp es name s))
+        ≡ match_ordering o (named_ref (name, s) ∷ named_ref e ∷ map named_ref es) (named_ref (name, s) ∷ map named_ref es) (named_ref e ∷ with_ref (map named_ref es) (named_ref (name, s)))
+    at Less h r = refl
+    at Equal h r = ap (λ n. record { name = n; id = s.id; peeled = s.peeled } ∷ map named_ref es) (sym (exact_bytes name.items e.0.items h))
+    at Greater h r = ap (λ rs. named_ref e ∷ rs) r
+
+-- what is found among the refs is what is stored under the name
+find_held : (es : List StoredName) (q : List ℕ) → find (slice_cmp nat_cmp) q (map (λ (r : PeeledRef). (r.name, r.id)) (map named_ref es)) ≡ option_map (λ (s : StoredRef). s.id) (lookup (is_at (λ (k : Vec ℕ Global). slice_cmp nat_cmp q k.items)) es)
+find_held [] q = refl
+find_held (e ∷ es) q = at (eq_by_cmp (slice_cmp nat_cmp) q e.0.items) (find_held es q)
+  where
+    at : (b : Bool) → find (slice_cmp nat_cmp) q (map (λ (r : PeeledRef). (r.name, r.id)) (map named_ref es)) ≡ option_map (λ (s : StoredRef). s.id) (lookup (is_at (λ (k : Vec ℕ Global). slice_cmp nat_cmp q k.items)) es)
+        → cond b (Some e.1.id) (find (slice_cmp nat_cmp) q (map (λ (r : PeeledRef). (r.name, r.id)) (map named_ref es))) ≡ option_map (λ (s : StoredRef). s.id) (cond b (Some e.1) (lookup (is_at (λ (k : Vec ℕ Global). slice_cmp nat_cmp q k.items)) es))
+    at true h = refl
+    at false h = h
+
+-- the id that a name holds
+pub held_stored : (es : List StoredName) (q : List ℕ) → ref_named (map named_ref es) q ≡ option_map (λ (s : StoredRef). s.id) (lookup (is_at (λ (k : Vec ℕ Global). slice_cmp nat_cmp q k.items)) es)
+held_stored es q = get-from_entries nat_list_cmp_total (map (λ (r : PeeledRef). (r.name, r.id)) (map named_ref es)) q ∙ find_held es q
+
+-- the id of what is stored
+abbrev pub id_stored : Option StoredRef → Option ObjectId
+id_stored o = option_map (λ (s : StoredRef). s.id) o
+
+-- what the refs lead to
+pub peeled_stored : (es : List StoredName) → map (λ (s : StoredRef). s.peeled) (values_of es) ≡ peeled_ids (map named_ref es)
+peeled_stored [] = refl
+peeled_stored (e ∷ es) = ap (λ ids. e.1.peeled ∷ ids) (peeled_stored es)

@@ -1,1 +1,4 @@
 pub mod Memory
+pub mod RefEntries
+pub mod Repository
+pub mod Text

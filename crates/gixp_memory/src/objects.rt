@@ -135,7 +135,10 @@ impl Objects for MemoryObjects {
 }
 
 // A commit once more.
-fn copied(alloc: Global, commit: &Option<CommitData>) -> Result<Option<CommitData>, ObjectError>
+pub(crate) fn copied(
+    alloc: Global,
+    commit: &Option<CommitData>,
+) -> Result<Option<CommitData>, ObjectError>
     ensures found { IfOk result (λ copy. option_map commit_of copy ≡ option_map commit_of commit.now) }
     ensures failed { IfErr result (λ e. e ≡ Memory) }
 {

@@ -2,7 +2,6 @@
 use Rattle.std.proofs.Common.{◌≡◌, ◌<◌, ◌∙◌, length, arith, ap, sym}
 use Rattle.std.proofs.lemmas.Bool.Decides.{Decides-eqb}
 use Rattle.std.proofs.lemmas.Slice.Eq.{slice_eq-Decides}
-use Rattle.gixp_hash.specs.declared.object_id.ObjectId.{ObjectId}
 use Rattle.gixp_graph.specs.Node.{ids_of}
 use Rattle.gixp_graph.proofs.NodeLemmas.{length_ids}
 use Rattle.gixp_graph.proofs.commits.Commits.names.Goals as goal

@@ -1,0 +1,231 @@
+//! The objects of a repository, filled from lists or from texts.
+ghost use Rattle.std.specs.Prelude.{◌≡◌, Some, None, IfOk, OnOk, OnErr, option_map, true, false};
+ghost use Rattle.std.specs.FinMap as finite;
+ghost use Rattle.gixp_graph.specs.Object.{commit_of};
+ghost use Rattle.gixp_memory.specs.Text.{FillsByText, line_words};
+ghost use Rattle.gixp_memory.specs.Repository.{with_commit, with_kind, commit_line, kind_line, commit_of_words, kind_of_words};
+ghost use Rattle.gixp_memory.specs.Repository.{entry_value};
+
+use crate::objects::{StoredObject, copied};
+use crate::texts::{TextError, line_words, named_id, named_ids, named_kind, seconds, text_lines};
+use gixp_graph::{CommitData, Find, ObjectError, ObjectKind};
+use gixp_hash::ObjectId;
+use std::alloc::{AllocError, Global};
+use std::collections::BTreeMap;
+use std::marker::Model;
+
+/// The objects of a repository in memory: by their ids, each with its kind, commits with their time and parents.
+///
+/// They are read by a shared reference, so that `Shared` makes objects of them for a graph and for `NegotiateContext`
+/// alike. An id that was added needs no parent that is there: a look-up finds none, as in a shallow repository. Parents
+/// may even lead back to a commit, as git's can't: a walk visits each commit once.
+#[derive(Drop)]
+pub struct StoredObjects {
+    objects: BTreeMap<ObjectId, StoredObject>,
+}
+
+impl Model for StoredObjects {
+    ghost use Rattle.gixp_graph.specs.Object.{Objects, coded_object};
+    ghost use Rattle.gixp_hash.specs.ObjectId.{coded_id};
+    ghost use Rattle.std.specs.FinMap as map;
+
+    ghost Value = { Objects };
+
+    ghost coded = { map.code coded_id coded_object };
+
+    ghost use Rattle.gixp_memory.specs.Memory.{objects_of};
+
+    ghost view = { λ a. objects_of a.objects.entries };
+}
+
+impl StoredObjects {
+    /// No objects.
+    pub fn new(alloc: Global) -> StoredObjects
+        ensures { result ≡ finite.empty }
+    {
+        StoredObjects {
+            objects: BTreeMap::new(alloc),
+        }
+    }
+
+    // Adds an object.
+    fn put(
+        &mut self,
+        id: ObjectId,
+        kind: ObjectKind,
+        commit: Option<CommitData>,
+    ) -> Result<(), AllocError>
+        ensures ok { OnOk result (self.new ≡ finite.insert self.old id (record { kind = Some kind; commit = option_map commit_of commit })) }
+        ensures err { OnErr result (self.new ≡ self.old) }
+    {
+        let object = StoredObject {
+            kind: Some(kind),
+            commit,
+            is_corrupt: false,
+        };
+        match self.objects.insert(id, object) {
+            Ok(_) => Ok(()),
+            Err(_) => Err(AllocError),
+        }
+    }
+
+    /// Adds an object of a kind. Where one of that id is there, it stays as it is.
+    ///
+    /// # Errors
+    ///
+    /// An allocation failure; nothing is added then.
+    pub fn add(&mut self, id: ObjectId, kind: ObjectKind) -> Result<(), AllocError>
+        ensures ok { OnOk result (self.new ≡ with_kind self.old id kind) }
+        ensures err { OnErr result (self.new ≡ self.old) }
+    {
+        if self.has_object(&id) {
+            return Ok(());
+        }
+        self.put(id, kind, None)
+    }
+
+    /// Adds a commit. What was there of that id goes.
+    ///
+    /// # Errors
+    ///
+    /// An allocation failure; nothing is added then.
+    pub fn add_commit(&mut self, id: ObjectId, commit: CommitData) -> Result<(), AllocError>
+        ensures ok { OnOk result (self.new ≡ with_commit self.old id (commit_of commit)) }
+        ensures err { OnErr result (self.new ≡ self.old) }
+    {
+        self.put(id, ObjectKind::Commit, Some(commit))
+    }
+
+    // Adds the commit of a line. Returns whether it is one.
+    fn add_commit_line(&mut self, alloc: Global, line: &[u8]) -> Result<bool, AllocError>
+        ensures read { IfOk result (λ is_read. is_read ≡ true → commit_line self.old line.now ≡ Some self.new) }
+        ensures unread { IfOk result (λ is_read. is_read ≡ false → (commit_line self.old line.now ≡ None) × (self.new ≡ self.old)) }
+        ensures err { OnErr result (self.new ≡ self.old) }
+    {
+        let Some((id, commit)) = commit_in(alloc, line)? else {
+            return Ok(false);
+        };
+        self.add_commit(id, commit)?;
+        Ok(true)
+    }
+
+    // Adds the object of a line. Returns whether it is one.
+    fn add_kind_line(&mut self, alloc: Global, line: &[u8]) -> Result<bool, AllocError>
+        ensures read { IfOk result (λ is_read. is_read ≡ true → kind_line self.old line.now ≡ Some self.new) }
+        ensures unread { IfOk result (λ is_read. is_read ≡ false → (kind_line self.old line.now ≡ None) × (self.new ≡ self.old)) }
+        ensures err { OnErr result (self.new ≡ self.old) }
+    {
+        let Some((id, kind)) = kind_in(alloc, line)? else {
+            return Ok(false);
+        };
+        self.add(id, kind)?;
+        Ok(true)
+    }
+
+    /// Adds the commits of a text as `git rev-list --timestamp --parents` writes it: on each line the seconds since the
+    /// epoch of the committer's clock, the id and the ids of the parents, between single blanks. Where an id stands on
+    /// two lines, the later one counts.
+    ///
+    /// # Errors
+    ///
+    /// The number of the first line that isn't of this form, or an allocation failure. The commits of the lines before
+    /// are added.
+    pub fn read_commits(&mut self, alloc: Global, text: &[u8]) -> Result<(), TextError>
+        ensures { FillsByText commit_line self.old text.now self.new result }
+    {
+        let Ok(lines) = text_lines(alloc, text) else {
+            return Err(TextError::Memory);
+        };
+        let mut number = 0;
+        for line in &lines {
+            match self.add_commit_line(alloc, line.as_bytes()) {
+                Ok(true) => number += 1,
+                Ok(false) => return Err(TextError::Line(number + 1)),
+                Err(_) => return Err(TextError::Memory),
+            }
+        }
+        Ok(())
+    }
+
+    /// Adds the objects of a text of lines of an id, a blank and a kind, as `git cat-file --batch-check` writes it with
+    /// the format `%(objectname) %(objecttype)`. An object that is there stays as it is, so commits may be read before
+    /// or after it.
+    ///
+    /// # Errors
+    ///
+    /// The number of the first line that isn't of this form, or an allocation failure. The objects of the lines before
+    /// are added.
+    pub fn read_kinds(&mut self, alloc: Global, text: &[u8]) -> Result<(), TextError>
+        ensures { FillsByText kind_line self.old text.now self.new result }
+    {
+        let Ok(lines) = text_lines(alloc, text) else {
+            return Err(TextError::Memory);
+        };
+        let mut number = 0;
+        for line in &lines {
+            match self.add_kind_line(alloc, line.as_bytes()) {
+                Ok(true) => number += 1,
+                Ok(false) => return Err(TextError::Line(number + 1)),
+                Err(_) => return Err(TextError::Memory),
+            }
+        }
+        Ok(())
+    }
+}
+
+// The commit of a line, with its id.
+fn commit_in(alloc: Global, line: &[u8]) -> Result<Option<(ObjectId, CommitData)>, AllocError>
+    ensures { IfOk result (λ found. option_map entry_value found ≡ commit_of_words (line_words line.now)) }
+{
+    let Ok(words) = line_words(alloc, line) else {
+        return Err(AllocError);
+    };
+    let [time, id, parents @ ..] = words.as_slice() else {
+        return Ok(None);
+    };
+    let (Some(time), Some(id)) = (seconds(time.as_bytes()), named_id(id.as_bytes())) else {
+        return Ok(None);
+    };
+    let Some(parents) = named_ids(alloc, parents)? else {
+        return Ok(None);
+    };
+    Ok(Some((id, CommitData { time, parents })))
+}
+
+// The object of a line: its id and its kind.
+fn kind_in(alloc: Global, line: &[u8]) -> Result<Option<(ObjectId, ObjectKind)>, AllocError>
+    ensures { IfOk result (λ found. found ≡ kind_of_words (line_words line.now)) }
+{
+    let Ok(words) = line_words(alloc, line) else {
+        return Err(AllocError);
+    };
+    let [id, kind] = words.as_slice() else {
+        return Ok(None);
+    };
+    let (Some(id), Some(kind)) = (named_id(id.as_bytes()), named_kind(kind.as_bytes())) else {
+        return Ok(None);
+    };
+    Ok(Some((id, kind)))
+}
+
+impl Find for StoredObjects {
+    ghost contents = { λ s. s };
+
+    fn has_object(&self, id: &ObjectId) -> bool {
+        self.objects.contains_key(id)
+    }
+
+    fn find_kind(&self, id: &ObjectId) -> Option<ObjectKind> {
+        match self.objects.get(id) {
+            Some(object) => object.kind,
+            None => None,
+        }
+    }
+
+    fn find_commit(&self, alloc: Global, id: &ObjectId) -> Result<Option<CommitData>, ObjectError> {
+        match self.objects.get(id) {
+            Some(object) => copied(alloc, &object.commit),
+            None => Ok(None),
+        }
+    }
+}

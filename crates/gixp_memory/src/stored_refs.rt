@@ -1,0 +1,179 @@
+//! The refs of a repository, filled from lists or from texts.
+ghost use Rattle.std.specs.Prelude.{◌≡◌, [], Some, None, IfOk, OnOk, OnErr, map, true, false};
+ghost use Rattle.std.specs.BTreeMap.{values};
+ghost use Rattle.gixp_hash.specs.declared.object_id.ObjectId.{ObjectId};
+ghost use Rattle.gixp_memory.specs.Text.{FillsByText};
+ghost use Rattle.gixp_memory.specs.Repository.{ref_line, ref_by, ref_named, peeled_name, with_ref};
+ghost use Rattle.gixp_memory.specs.declared.stored_refs.StoredRef.{StoredRef};
+ghost use Rattle.std.specs.Option.{option_copied};
+
+use crate::texts::{TextError, line_words, named_id, text_lines};
+use bstr::BStr;
+use gixp_graph::{RefStore, RefStoreError};
+use gixp_hash::ObjectId;
+use std::alloc::{AllocError, Global};
+use std::collections::BTreeMap;
+use std::marker::Model;
+
+/// What a ref holds and leads to.
+#[derive(Clone, Copy, Drop)]
+pub(crate) struct StoredRef {
+    pub id: ObjectId,
+    pub peeled: ObjectId,
+}
+
+/// The refs of a repository in memory, in the order of their names: each with its id, and with that of the object,
+/// which is no tag, that it leads to.
+#[derive(Drop)]
+pub struct StoredRefs {
+    names: BTreeMap<Vec<u8>, StoredRef>,
+}
+
+impl Model for StoredRefs {
+    ghost use Rattle.std.specs.Prelude.{List, map};
+    ghost use Rattle.gixp_memory.specs.Repository.{PeeledRef, coded_refs};
+
+    ghost Value = { List PeeledRef };
+
+    ghost coded = { coded_refs };
+
+    ghost use Rattle.gixp_memory.specs.RefEntries.{named_ref};
+
+    ghost view = { λ a. map named_ref a.names.entries };
+}
+
+impl StoredRefs {
+    /// No refs.
+    pub fn new(alloc: Global) -> StoredRefs
+        ensures { result ≡ [] }
+    {
+        StoredRefs {
+            names: BTreeMap::new(alloc),
+        }
+    }
+
+    /// Adds a ref that holds an id and leads to an object that is no tag. One of the same name goes.
+    ///
+    /// # Errors
+    ///
+    /// An allocation failure; nothing is added then.
+    pub fn add(&mut self, name: Vec<u8>, id: ObjectId, peeled: ObjectId) -> Result<(), AllocError>
+        ensures ok { OnOk result (self.new ≡ with_ref self.old (record { name = name.items; id = id; peeled = peeled })) }
+        ensures err { OnErr result (self.new ≡ self.old) }
+    {
+        self.names.insert(name, StoredRef { id, peeled })?;
+        Ok(())
+    }
+
+    // The id that the ref of a name holds.
+    fn held(&self, name: &[u8]) -> Option<ObjectId>
+        ensures { result ≡ ref_named self.now name.now }
+    {
+        match self.names.get(name) {
+            Some(stored) => Some(stored.id),
+            None => None,
+        }
+    }
+
+    // Adds a ref of a name, or what one leads to. Returns whether there is one.
+    fn add_by(&mut self, alloc: Global, id: ObjectId, name: &[u8]) -> Result<bool, AllocError>
+        ensures read { IfOk result (λ is_read. is_read ≡ true → ref_by self.old id name.now (peeled_name name.now) ≡ Some self.new) }
+        ensures unread { IfOk result (λ is_read. is_read ≡ false → (ref_by self.old id name.now (peeled_name name.now) ≡ None) × (self.new ≡ self.old)) }
+        ensures err { OnErr result (self.new ≡ self.old) }
+    {
+        let Some(base) = peeled_name(name) else {
+            let name = Vec::from_slice(alloc, name)?;
+            self.add(name, id, id)?;
+            return Ok(true);
+        };
+        let Some(held) = self.held(base) else {
+            return Ok(false);
+        };
+        let base = Vec::from_slice(alloc, base)?;
+        self.add(base, held, id)?;
+        Ok(true)
+    }
+
+    // Adds the ref of a line. Returns whether it is one.
+    fn add_ref_line(&mut self, alloc: Global, line: &[u8]) -> Result<bool, AllocError>
+        ensures read { IfOk result (λ is_read. is_read ≡ true → ref_line self.old line.now ≡ Some self.new) }
+        ensures unread { IfOk result (λ is_read. is_read ≡ false → (ref_line self.old line.now ≡ None) × (self.new ≡ self.old)) }
+        ensures err { OnErr result (self.new ≡ self.old) }
+    {
+        let Ok(words) = line_words(alloc, line) else {
+            return Err(AllocError);
+        };
+        let [id, name] = words.as_slice() else {
+            return Ok(false);
+        };
+        let Some(id) = named_id(id.as_bytes()) else {
+            return Ok(false);
+        };
+        self.add_by(alloc, id, name.as_bytes())
+    }
+
+    /// Adds the refs of a text as `git show-ref -d` writes it: on each line an id, a blank and the full name of a ref;
+    /// after that of a tag a line of the id that it leads to, and of its name and `^{}`. Names aren't checked
+    /// (git-check-ref-format). Where a name stands on two lines, the later one counts.
+    ///
+    /// # Errors
+    ///
+    /// The number of the first line that isn't of this form, or whose `^{}` follows no ref's name, or an allocation
+    /// failure. The refs of the lines before are added.
+    pub fn read_refs(&mut self, alloc: Global, text: &[u8]) -> Result<(), TextError>
+        ensures { FillsByText ref_line self.old text.now self.new result }
+    {
+        let Ok(lines) = text_lines(alloc, text) else {
+            return Err(TextError::Memory);
+        };
+        let mut number = 0;
+        for line in &lines {
+            match self.add_ref_line(alloc, line.as_bytes()) {
+                Ok(true) => number += 1,
+                Ok(false) => return Err(TextError::Line(number + 1)),
+                Err(_) => return Err(TextError::Memory),
+            }
+        }
+        Ok(())
+    }
+}
+
+// The name in front of `^{}`.
+fn peeled_name(name: &[u8]) -> Option<&[u8]>
+    ensures { option_copied result ≡ peeled_name name.now }
+{
+    name.strip_suffix(b"^{}")
+}
+
+// What the refs lead to.
+fn targets(alloc: Global, names: &BTreeMap<Vec<u8>, StoredRef>) -> Result<Vec<ObjectId>, AllocError>
+    ensures { IfOk result (λ ids. ids.items ≡ map (λ (r : StoredRef). r.peeled) (values names.now)) }
+{
+    names.values().map(|stored| stored.peeled).collect(alloc)
+}
+
+impl RefStore for StoredRefs {
+    ghost use Rattle.gixp_memory.specs.Repository.{refs_held, peeled_ids};
+
+    ghost refs = { λ s. refs_held s };
+
+    ghost targets = { λ s. peeled_ids s };
+
+    ghost failures = { λ _. 0 };
+
+    fn find(&self, name: BStr<'_>) -> Option<ObjectId> {
+        self.held(name.as_bytes())
+    }
+
+    fn peeled(&mut self, alloc: Global) -> Result<Vec<ObjectId>, RefStoreError> {
+        let Ok(ids) = targets(alloc, &self.names) else {
+            return Err(RefStoreError::Memory);
+        };
+        Ok(ids)
+    }
+}
+
+/// The error of repositories that lend no objects, and so can't fail to be opened: no call returns it
+/// (gitrepository-layout, `objects/info/alternates`). For `NegotiateContext`, as `Ok::<_, NoAlternates>(&mut [])`.
+#[derive(Clone, Copy, Debug, PartialEq, Eq)]
+pub struct NoAlternates;

@@ -1,0 +1,169 @@
+//! Lines, words, ids and numbers of the texts that git writes of a repository.
+ghost use Rattle.std.specs.Prelude.{◌≡◌, ◌<◌, ◌^◌, IfOk, IfSome, map, option_map};
+ghost use Rattle.std.specs.Io.BufRead.{strip_last};
+ghost use Rattle.bstr.specs.BStr.{bstr_bytes};
+ghost use Rattle.gixp_memory.specs.Text.{text_pieces, text_lines, line_words};
+ghost use Rattle.gixp_memory.specs.Repository.{named_id, named_ids, named_kind, one_digit_more, digits_more, seconds};
+
+use bstr::BStr;
+use gixp_graph::ObjectKind;
+use gixp_hash::ObjectId;
+use std::alloc::{AllocError, AllocFailed, Global};
+use thiserror::Error;
+
+/// Why a text isn't read to its end. What the lines before added stays.
+#[derive(Clone, Copy, Debug, PartialEq, Eq, Drop, Error)]
+pub enum TextError {
+    /// The line of this number, from 1 on, isn't of the text's form.
+    #[error("line {0} can't be read")]
+    Line(usize),
+    /// An allocation failed.
+    #[error("Memory")]
+    Memory,
+}
+
+impl From<AllocError> for TextError {
+    ghost use Rattle.gixp_memory.specs.declared.texts.TextError.TheVariants.{Memory};
+
+    ghost from_gives = { λ _ e. e ≡ Memory };
+
+    fn from(_error: AllocError) -> TextError {
+        TextError::Memory
+    }
+}
+
+impl<T: Drop> From<AllocFailed<T>> for TextError {
+    ghost use Rattle.gixp_memory.specs.declared.texts.TextError.TheVariants.{Memory};
+
+    ghost from_gives = { λ _ e. e ≡ Memory };
+
+    fn from(_error: AllocFailed<T>) -> TextError {
+        TextError::Memory
+    }
+}
+
+// The text without one ending LF.
+fn without_line_end(text: &[u8]) -> &[u8]
+    ensures { result.now ≡ strip_last 10 text.now }
+{
+    match text {
+        [front @ .., b'\n'] => front,
+        _ => text,
+    }
+}
+
+// The pieces between LFs.
+fn text_pieces(alloc: Global, text: &[u8]) -> Result<Vec<BStr<'_>>, AllocError>
+    ensures { IfOk result (λ found. map bstr_bytes found.items ≡ text_pieces text.now) }
+{
+    text.split(|byte| *byte == b'\n')
+        .map(BStr::new)
+        .collect(alloc)
+}
+
+// The lines of a text.
+pub(crate) fn text_lines(alloc: Global, text: &[u8]) -> Result<Vec<BStr<'_>>, AllocError>
+    ensures { IfOk result (λ found. map bstr_bytes found.items ≡ text_lines text.now) }
+{
+    if text.is_empty() {
+        return Ok(Vec::new(alloc));
+    }
+    text_pieces(alloc, without_line_end(text))
+}
+
+// The words of a line.
+pub(crate) fn line_words(alloc: Global, line: &[u8]) -> Result<Vec<BStr<'_>>, AllocError>
+    ensures { IfOk result (λ found. map bstr_bytes found.items ≡ line_words line.now) }
+{
+    line.split(|byte| *byte == b' ')
+        .map(BStr::new)
+        .collect(alloc)
+}
+
+// The id that a word is.
+pub(crate) fn named_id(word: &[u8]) -> Option<ObjectId>
+    ensures { result ≡ named_id word.now }
+{
+    match ObjectId::from_hex(word) {
+        Ok(id) => Some(id),
+        Err(_) => None,
+    }
+}
+
+// The ids that all of some words are.
+pub(crate) fn named_ids(
+    alloc: Global,
+    words: &[BStr<'_>],
+) -> Result<Option<Vec<ObjectId>>, AllocError>
+    ensures { IfOk result (λ found. option_map (λ ids. ids.items) found ≡ named_ids (map bstr_bytes words.now)) }
+{
+    let mut ids = Vec::new(alloc);
+    for word in words {
+        let Some(id) = named_id(word.as_bytes()) else {
+            return Ok(None);
+        };
+        match ids.push(id) {
+            Ok(()) => {}
+            Err(_) => return Err(AllocError),
+        }
+    }
+    Ok(Some(ids))
+}
+
+// The kind that a word names.
+pub(crate) fn named_kind(word: &[u8]) -> Option<ObjectKind>
+    ensures { result ≡ named_kind word.now }
+{
+    if word == b"commit".as_slice() {
+        Some(ObjectKind::Commit)
+    } else if word == b"tree".as_slice() {
+        Some(ObjectKind::Tree)
+    } else if word == b"blob".as_slice() {
+        Some(ObjectKind::Blob)
+    } else if word == b"tag".as_slice() {
+        Some(ObjectKind::Tag)
+    } else {
+        None
+    }
+}
+
+// A number below 2^63 with one digit more.
+fn one_digit_more(number: u64, digit: u8) -> Option<u64>
+    ensures value { result ≡ one_digit_more number digit }
+    ensures fits { IfSome result (λ n. n < 2 ^ 63) }
+{
+    if !digit.is_ascii_digit() {
+        return None;
+    }
+    let tens = number.checked_mul(10)?;
+    let more = tens.checked_add(u64::from(digit - b'0'))?;
+    if more < 1 << 63 { Some(more) } else { None }
+}
+
+// The number that some digits write, one at least.
+fn digits(word: &[u8]) -> Option<u64>
+    ensures value { result ≡ digits_more 0 word.now }
+    ensures fits { IfSome result (λ n. n < 2 ^ 63) }
+{
+    let mut number: u64 = 0;
+    'digits: for digit in word {
+        match one_digit_more(number, *digit) {
+            Some(more) => number = more,
+            None => return None,
+        }
+    }
+    Some(number)
+}
+
+// The seconds that a word writes.
+pub(crate) fn seconds(word: &[u8]) -> Option<i64>
+    ensures { result ≡ seconds word.now }
+{
+    if word.is_empty() {
+        return None;
+    }
+    match digits(word) {
+        Some(number) => Some(number as i64),
+        None => None,
+    }
+}
