@@ -5,3 +5,4 @@ pub mod OweLemmas
 pub mod SeeLemmas
 pub mod SpreadLemmas
 pub mod StepLemmas
+pub mod PassingLemmas

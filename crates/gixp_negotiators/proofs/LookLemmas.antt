@@ -86,3 +86,7 @@ there_at g id marks (Some h) e f m = ap is_some (f id h e)
 
 pub marked_there : (g : GraphData) (id : ObjectId) (marks : ℕ) → IsFaithful g → has_mark marks g.held id ≡ true → IsSome (commit_at g.objects id)
 marked_there g id marks f m = there_at g id marks (finite.get g.held id) refl f m
+
+-- none and some
+pub none_some : (g : GraphData) (id : ObjectId) → commit_at g.objects id ≡ None → IsSome (commit_at g.objects id) → ⊥
+none_some g id e s = true≢false (sym s ∙ ap is_some e)

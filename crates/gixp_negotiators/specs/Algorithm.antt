@@ -1,5 +1,6 @@
 -- git's negotiators by their names (git-config, `fetch.negotiationAlgorithm`).
-use Rattle.std.specs.Prelude.{◌≡◌, ◌⊎◌, ℕ, List, Option, None, map, codes}
+use Rattle.std.specs.Prelude.{◌≡◌, ◌⊎◌, ℕ, List, [], Option, None, map, codes}
+use Rattle.std.specs.BinaryHeap.{heap_items}
 use Rattle.std.specs.Char.{to_ascii_lowercase}
 use Rattle.gixp_hash.specs.declared.object_id.ObjectId.{ObjectId}
 use Rattle.gixp_graph.specs.GraphData.{GraphData}
@@ -7,6 +8,8 @@ use Rattle.gixp_negotiators.specs.declared.algorithm.Algorithm.{Algorithm}
 use Rattle.gixp_negotiators.specs.declared.algorithm.Algorithm.TheVariants as kind
 use Rattle.gixp_negotiators.specs.declared.algorithm.AnyNegotiator.{AnyNegotiator}
 use Rattle.gixp_negotiators.specs.declared.algorithm.AnyNegotiator.TheVariants as any
+use Rattle.gixp_negotiators.specs.declared.consecutive.Consecutive.{Consecutive}
+use Rattle.gixp_negotiators.specs.declared.skipping.Skipping.{Skipping}
 use Rattle.gixp_negotiators.specs.Calls.{KnowsInTurn, AddsInTurn, LearnsInTurn, OffersInTurn, KnowsSkipping, AddsSkipping, LearnsSkipping, OffersSkipping}
 
 -- a text is a word, but for the case of its letters
@@ -18,6 +21,27 @@ abbrev pub IsNameOf : Algorithm → List ℕ → Type 0
 IsNameOf kind.Noop text = IsWord text (codes "noop")
 IsNameOf kind.Consecutive text = IsWord text (codes "consecutive") ⊎ IsWord text (codes "default")
 IsNameOf kind.Skipping text = IsWord text (codes "skipping")
+
+-- ---- a negotiator that knows no commit yet: none waits
+
+abbrev pub IsNewInTurn : Consecutive → Type 0
+IsNewInTurn n = (heap_items n.queue.waiting ≡ []) × (n.uncommon ≡ 0)
+
+-- nor is one passed over
+abbrev pub IsNewSkipping : Skipping → Type 0
+IsNewSkipping n = (heap_items n.queue.waiting ≡ []) × (n.skips.entries ≡ []) × (n.unread.keys ≡ []) × (n.uncommon ≡ 0)
+
+-- it is of the kind that an algorithm names
+abbrev pub IsNewOf : Algorithm → AnyNegotiator → Type 0
+IsNewOf kind.Noop (any.Noop n) = Unit {0}
+IsNewOf kind.Noop (any.Consecutive n) = ⊥
+IsNewOf kind.Noop (any.Skipping n) = ⊥
+IsNewOf kind.Consecutive (any.Noop n) = ⊥
+IsNewOf kind.Consecutive (any.Consecutive n) = IsNewInTurn n
+IsNewOf kind.Consecutive (any.Skipping n) = ⊥
+IsNewOf kind.Skipping (any.Noop n) = ⊥
+IsNewOf kind.Skipping (any.Consecutive n) = ⊥
+IsNewOf kind.Skipping (any.Skipping n) = IsNewSkipping n
 
 -- ---- what a negotiator's calls do, by its kind
 

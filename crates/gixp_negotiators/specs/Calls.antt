@@ -1,13 +1,14 @@
 -- What the calls of git's negotiators do (git-config, `fetch.negotiationAlgorithm`).
-use Rattle.std.specs.Prelude.{◌≡◌, Option, IsSome, true, false}
+use Rattle.std.specs.Prelude.{◌≡◌, ◌∷◌, Option, true}
 use Rattle.std.specs.BinaryHeap.{heap_items}
 use Rattle.gixp_hash.specs.declared.object_id.ObjectId.{ObjectId}
-use Rattle.gixp_graph.specs.Object.{commit_at}
 use Rattle.gixp_graph.specs.GraphData.{GraphData}
 use Rattle.gixp_negotiators.specs.declared.consecutive.Consecutive.{Consecutive}
+use Rattle.gixp_negotiators.specs.declared.queue.Waiting.{Waiting}
 use Rattle.gixp_negotiators.specs.declared.skipping.Skipping.{Skipping}
 use Rattle.gixp_negotiators.specs.Marks.{Grows, Offers, SettlesNone, IsMarkedIfThere, IsListedIfNew, has_mark}
-use Rattle.gixp_negotiators.specs.Spread.{is_there, was_seen, HasCommonParents, StaysSpread, Spreads, AllRead, FindsCommon}
+use Rattle.gixp_negotiators.specs.Spread.{is_there, was_seen, WhereNew, HasCommonParents, StaysSpread, Spreads, AllRead, FindsCommon}
+use Rattle.gixp_negotiators.specs.Passing.{Distances}
 use Rattle.gixp_negotiators.specs.Waiting.{Fits, KeepsTimed, Picks, QueuesNew, PicksDated}
 
 -- ---- `consecutive`
@@ -16,12 +17,16 @@ use Rattle.gixp_negotiators.specs.Waiting.{Fits, KeepsTimed, Picks, QueuesNew, P
 abbrev pub Steps : Consecutive → GraphData → Consecutive → GraphData → Type 0
 Steps n g m h = KeepsTimed n.uncommon (heap_items n.queue.waiting) g m.uncommon (heap_items m.queue.waiting) h
 
+-- the same where one that waited was taken
+abbrev pub StepsTaking : Waiting → Consecutive → GraphData → Consecutive → GraphData → Type 0
+StepsTaking first n g m h = KeepsTimed n.uncommon (first ∷ heap_items n.queue.waiting) g m.uncommon (heap_items m.queue.waiting) h
+
 -- what `known_common` does: the commit waits, and is listed as a ref of the server; its parents are common, unless it is so itself
 pub record KnowsInTurn (n : Consecutive) (g : GraphData) (id : ObjectId) (m : Consecutive) (h : GraphData) : Type 0 where
   pub grows : Grows g h
   pub seen : IsMarkedIfThere 8 g h id
   pub listed : IsListedIfNew g h id
-  pub parents : IsSome (commit_at g.objects id) → has_mark 8 g.held id ≡ false → has_mark 2 g.held id ≡ false → HasCommonParents is_there g h id
+  pub parents : WhereNew g id (HasCommonParents is_there g h id)
   pub spreads : StaysSpread is_there g h
   pub steps : Steps n g m h
 
@@ -54,6 +59,10 @@ pub record OffersInTurn (n : Consecutive) (g : GraphData) (have : Option ObjectI
 abbrev pub FitsSkipping : Skipping → GraphData → Type 0
 FitsSkipping n g = Fits n.uncommon (heap_items n.queue.waiting) g
 
+-- they fit, where one that waited was taken
+abbrev pub FitsTaking : Waiting → Skipping → GraphData → Type 0
+FitsTaking first n g = Fits n.uncommon (first ∷ heap_items n.queue.waiting) g
+
 -- what comes to wait wasn't seen before, and is dated
 abbrev pub QueuesDated : Skipping → GraphData → Skipping → Type 0
 QueuesDated n g m = QueuesNew (heap_items n.queue.waiting) g (heap_items m.queue.waiting)
@@ -83,10 +92,12 @@ pub record LearnsSkipping (n : Skipping) (g : GraphData) (id : ObjectId) (m : Sk
   pub spreads : AllRead n.unread g h → Spreads was_seen g h
   pub fits : FitsSkipping n g → FitsSkipping m h
 
--- what `next_have` does: it offers the newest of those that waited, and what comes to wait wasn't seen before
+-- what `next_have` does: it offers the newest of those that waited, at the distances that are handed on, and what comes to wait wasn't
+-- seen before
 pub record OffersSkipping (n : Skipping) (g : GraphData) (have : Option ObjectId) (m : Skipping) (h : GraphData) : Type 0 where
   pub grows : Grows g h
   pub offers : Offers g have h
+  pub distances : Distances n.skips.entries g have m.skips.entries h
   pub picks : PicksDated n.uncommon (heap_items n.queue.waiting) g have (heap_items m.queue.waiting) h
   pub queues : QueuesDated n g m
   pub fits : FitsSkipping n g → FitsSkipping m h

@@ -7,6 +7,7 @@ pub mod Calls
 pub mod Distance
 pub mod MarkLaws
 pub mod Marks
+pub mod Passing
 pub mod Spread
 pub mod SpreadLaws
 pub mod Waiting

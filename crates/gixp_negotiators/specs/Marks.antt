@@ -71,13 +71,21 @@ pub record Claims (mark : ℕ) (g h : GraphData) (id : ObjectId) (flags : Flags)
   pub had : (marks : ℕ) → has_all marks flags.0 ≡ true → has_mark marks h.held id ≡ true
   pub seen : has_all 8 flags.0 ≡ true → has_mark 8 g.held id ≡ true
 
+-- a commit that was seen has a mark
+abbrev pub IsMarkedIfSeen : ℕ → GraphData → ObjectId → Type 0
+IsMarkedIfSeen mark g id = has_mark 8 g.held id ≡ true → has_mark mark g.held id ≡ true
+
+-- a commit that is there and wasn't seen has these marks now
+abbrev pub IsMarkedIfNew : ℕ → GraphData → GraphData → ObjectId → Type 0
+IsMarkedIfNew marks g h id = IsSome (commit_at g.objects id) → has_mark 8 g.held id ≡ false → has_mark marks h.held id ≡ true
+
 -- a commit that is there has a mark
 abbrev pub IsMarkedIfThere : ℕ → GraphData → GraphData → ObjectId → Type 0
 IsMarkedIfThere marks g h id = IsSome (commit_at g.objects id) → has_mark marks h.held id ≡ true
 
 -- a commit that wasn't seen is listed as a ref of the server
 abbrev pub IsListedIfNew : GraphData → GraphData → ObjectId → Type 0
-IsListedIfNew g h id = IsSome (commit_at g.objects id) → has_mark 8 g.held id ≡ false → has_mark 4 h.held id ≡ true
+IsListedIfNew g h id = IsMarkedIfNew 4 g h id
 
 -- a commit is offered: it is there, wasn't common, and was never offered before; it is held, and won't be offered again; its parents
 -- that are there were seen

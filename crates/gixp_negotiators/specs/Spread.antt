@@ -1,5 +1,5 @@
 -- How what is common spreads from a commit to its ancestors (gitprotocol-pack, "Packfile Negotiation").
-use Rattle.std.specs.Prelude.{◌≡◌, ◌⊎◌, ◌||◌, Option, Some, None, Bool, true, false, List, [], ◌∷◌, ◌++◌, All, Contains, is_some}
+use Rattle.std.specs.Prelude.{◌≡◌, ◌⊎◌, ◌||◌, Option, Some, None, Bool, true, false, List, [], ◌∷◌, ◌++◌, All, Contains, IsSome, is_some}
 use Rattle.std.specs.BTreeSet.{BTreeSet, contains}
 use Rattle.gixp_hash.specs.declared.object_id.ObjectId.{ObjectId}
 use Rattle.gixp_hash.specs.ObjectId.{id_cmp}
@@ -22,6 +22,18 @@ BecomesCommon kind g h id = kind g id ≡ true → has_mark 2 h.held id ≡ true
 -- so are the parents of a commit
 abbrev pub HasCommonParents : (GraphData → ObjectId → Bool) → GraphData → GraphData → ObjectId → Type 0
 HasCommonParents kind g h id = All (BecomesCommon kind g h) (parents_in h.held id)
+
+-- this holds where a commit was seen and wasn't common
+abbrev pub WhereOpen : GraphData → ObjectId → Type 0 → Type 0
+WhereOpen g id Holds = has_mark 8 g.held id ≡ true → has_mark 2 g.held id ≡ false → Holds
+
+-- this holds where a commit is there, and was neither seen nor common
+abbrev pub WhereNew : GraphData → ObjectId → Type 0 → Type 0
+WhereNew g id Holds = IsSome (commit_at g.objects id) → has_mark 8 g.held id ≡ false → has_mark 2 g.held id ≡ false → Holds
+
+-- a commit that is there was seen, or is common
+abbrev pub IsKnown : GraphData → ObjectId → Type 0
+IsKnown g id = IsSome (commit_at g.objects id) → (has_mark 8 g.held id || has_mark 2 g.held id) ≡ true
 
 -- the parents of each commit that was seen and became common are common
 abbrev pub Spreads : (GraphData → ObjectId → Bool) → GraphData → GraphData → Type 0
@@ -50,6 +62,14 @@ SpreadsAllFrom kind id g h = (f : GraphData) → Grows f g → SpreadsBut kind (
 -- a commit wasn't common, and is
 abbrev pub IsNewlyCommon : GraphData → GraphData → ObjectId → Type 0
 IsNewlyCommon g h id = (has_mark 2 g.held id ≡ false) × (has_mark 2 h.held id ≡ true)
+
+-- each of these commits is common
+abbrev pub AllCommonAmong : GraphData → List ObjectId → Type 0
+AllCommonAmong g ids = All (λ id. has_mark 2 g.held id ≡ true) ids
+
+-- where those that are due became common since some graph, so did those that are due then
+abbrev pub StaysNewly : List ObjectId → GraphData → List ObjectId → GraphData → Type 0
+StaysNewly before g due h = (f : GraphData) → Grows f g → All (IsNewlyCommon f g) before → All (IsNewlyCommon f h) due
 
 -- each commit that became common was read before
 abbrev pub AllRead : BTreeSet ObjectId → GraphData → GraphData → Type 0

@@ -69,10 +69,14 @@ pub record IsNewest (ws : List Waiting) (first : Waiting) : Type 0 where
 abbrev pub IsNewestAt : GraphData → ObjectId → List Waiting → Type 0
 IsNewestAt g id xs = (time : ℤ) → time_at g.objects id ≡ Some time → NoneNewer time g xs
 
+-- where each waits under its own time, it is the newest
+abbrev pub IsNewestTimed : List Waiting → GraphData → ObjectId → List Waiting → Type 0
+IsNewestTimed ws g id xs = AllTimed g.objects ws → IsNewestAt g id xs
+
 -- which commit is offered: the newest; none only where nothing waits that isn't common
 abbrev pub Picks : ℕ → List Waiting → GraphData → Option ObjectId → List Waiting → GraphData → Type 0
 Picks u ws g None xs h = Fits u ws g → AllCommon h
-Picks u ws g (Some id) xs h = AllTimed g.objects ws → IsNewestAt g id xs
+Picks u ws g (Some id) xs h = IsNewestTimed ws g id xs
 
 -- ---- commits that became common and whose parents are to be so
 

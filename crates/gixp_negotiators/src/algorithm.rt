@@ -1,6 +1,6 @@
 //! A negotiator by its name.
 ghost use Rattle.std.specs.Prelude.{IfSome, IfNone};
-ghost use Rattle.gixp_negotiators.specs.Algorithm.{IsNameOf};
+ghost use Rattle.gixp_negotiators.specs.Algorithm.{IsNameOf, IsNewOf};
 
 use crate::consecutive::Consecutive;
 use crate::noop::Noop;
@@ -44,7 +44,9 @@ impl Algorithm {
     }
 
     /// A negotiator of this kind that knows no commit yet. It is for one negotiation, over a graph of its own.
-    pub fn negotiator(self, alloc: Global) -> AnyNegotiator {
+    pub fn negotiator(self, alloc: Global) -> AnyNegotiator
+        ensures { IsNewOf self result }
+    {
         match self {
             Algorithm::Noop => AnyNegotiator::Noop(Noop),
             Algorithm::Consecutive => AnyNegotiator::Consecutive(Consecutive::new(alloc)),

@@ -1,13 +1,16 @@
 //! Offers each commit that isn't known to be common, the newest first.
-ghost use Rattle.std.specs.Prelude.{◌≡◌, ◌≤◌, ◌+◌, ◌⊎◌, ◌∷◌, [], IfOk, IfErr, IfSome, IfNone, IsSome, OnOk, OnSome, IsTrue, All, Some, ◌||◌, length, bit_and, true, false};
+ghost use Rattle.std.specs.Prelude.{◌≡◌, ◌≤◌, ◌+◌, ◌⊎◌, ◌∷◌, [], ◌||◌, length, bit_and, true, false};
+ghost use Rattle.std.specs.Prelude.{IfOk, IfErr, IfSome, IfNone, IsSome, OnOk, OnSome, IsTrue, All, Some};
 ghost use Rattle.std.specs.BinaryHeap.{heap_len, heap_items};
 ghost use Rattle.std.specs.List.Sorted.{IsPermutation};
 ghost use Rattle.gixp_graph.specs.Object.{commit_at};
 ghost use Rattle.gixp_graph.specs.GraphData.{parents_in};
 ghost use Rattle.gixp_graph.specs.Negotiation.{IsRefusal};
-ghost use Rattle.gixp_negotiators.specs.Marks.{Grows, SeesNone, SeesOnly, SettlesNone, SettlesOnly, IsOffered, IsMarkedIfThere, IsListedIfNew, has_mark, has_all, left};
-ghost use Rattle.gixp_negotiators.specs.Spread.{is_there, SeesCommon, SeesAmong, FindsCommon, HasCommonParents, KeepsSpread, SpreadsFrom, SpreadsAllFrom, StaysSpread};
-ghost use Rattle.gixp_negotiators.specs.Waiting.{Fits, KeepsTimed, AllCommon, AllTimed, NoneNewer, IsNewest, IsNewestAt, Picks};
+ghost use Rattle.gixp_negotiators.specs.Marks.{Grows, SeesNone, SeesOnly, SettlesNone, SettlesOnly, IsOffered, IsMarkedIfThere, IsMarkedIfNew, IsListedIfNew, has_mark, has_all, left};
+ghost use Rattle.gixp_negotiators.specs.Spread.{is_there, IsKnown, WhereOpen, WhereNew, AllCommonAmong, SeesCommon, SeesAmong, FindsCommon, HasCommonParents};
+ghost use Rattle.gixp_negotiators.specs.Spread.{KeepsSpread, SpreadsFrom, SpreadsAllFrom, StaysSpread};
+ghost use Rattle.gixp_negotiators.specs.Waiting.{Fits, AllCommon, IsNewest, IsNewestTimed};
+ghost use Rattle.gixp_negotiators.specs.Calls.{Steps, StepsTaking};
 
 use crate::marks::{claim, either_has, has, look};
 use crate::queue::{Queue, Waiting};
@@ -52,14 +55,14 @@ impl Consecutive {
         marks: Flags,
     ) -> Result<(), NegotiatorError>
         requires { (marks.0 ≡ 8) ⊎ ((marks.0 ≡ 10) ⊎ (marks.0 ≡ 12)) }
-        ensures keeps { OnOk result (KeepsTimed self.old.uncommon (heap_items self.old.queue.waiting) graph.old.graph self.new.uncommon (heap_items self.new.queue.waiting) graph.new.graph) }
+        ensures keeps { OnOk result (Steps self.old graph.old.graph self.new graph.new.graph) }
         ensures room { OnOk result (left 8 graph.new.graph + heap_len self.new.queue.waiting ≤ left 8 graph.old.graph + heap_len self.old.queue.waiting) }
         ensures common { left 2 graph.new.graph ≤ left 2 graph.old.graph }
         ensures waits { OnOk result (IsMarkedIfThere 8 graph.old.graph graph.new.graph id.now) }
         ensures spreads { OnOk result (StaysSpread is_there graph.old.graph graph.new.graph) }
         ensures settles { bit_and marks.0 2 ≡ 0 → SettlesNone graph.old.graph graph.new.graph }
         ensures settles_only { SettlesOnly id.now graph.old.graph graph.new.graph }
-        ensures marked { OnOk result (IsSome (commit_at graph.old.graph.objects id.now) → has_mark 8 graph.old.graph.held id.now ≡ false → has_mark marks.0 graph.new.graph.held id.now ≡ true) }
+        ensures marked { OnOk result (IsMarkedIfNew marks.0 graph.old.graph graph.new.graph id.now) }
         ensures sees_only { SeesOnly id.now graph.old.graph graph.new.graph }
         ensures finds { OnOk result (bit_and marks.0 2 ≡ 2 → SeesCommon graph.old.graph graph.new.graph) }
         ensures grows { Grows graph.old.graph graph.new.graph }
@@ -113,7 +116,7 @@ impl Consecutive {
         graph: &mut Graph<O>,
         id: &ObjectId,
     ) -> Result<bool, NegotiatorError>
-        ensures keeps { OnOk result (KeepsTimed self.old.uncommon (heap_items self.old.queue.waiting) graph.old.graph self.new.uncommon (heap_items self.new.queue.waiting) graph.new.graph) }
+        ensures keeps { OnOk result (Steps self.old graph.old.graph self.new graph.new.graph) }
         ensures less { IfOk result (λ done. IsTrue done → left 2 graph.new.graph + 1 ≤ left 2 graph.old.graph) }
         ensures common { left 2 graph.new.graph ≤ left 2 graph.old.graph }
         ensures marked { OnOk result (IsMarkedIfThere 2 graph.old.graph graph.new.graph id.now) }
@@ -141,14 +144,14 @@ impl Consecutive {
         id: &ObjectId,
         due: &mut Vec<ObjectId>,
     ) -> Result<(), NegotiatorError>
-        ensures keeps { OnOk result (KeepsTimed self.old.uncommon (heap_items self.old.queue.waiting) graph.old.graph self.new.uncommon (heap_items self.new.queue.waiting) graph.new.graph) }
+        ensures keeps { OnOk result (Steps self.old graph.old.graph self.new graph.new.graph) }
         ensures less { OnOk result (left 2 graph.new.graph + length due.new.items ≤ left 2 graph.old.graph + length due.old.items) }
         ensures seen { left 8 graph.new.graph ≤ left 8 graph.old.graph }
         ensures queue { self.new.queue ≡ self.old.queue }
         ensures spreads { OnOk result (KeepsSpread is_there due.old.items graph.old.graph due.new.items graph.new.graph) }
         ensures marked { OnOk result (IsMarkedIfThere 2 graph.old.graph graph.new.graph id.now) }
         ensures sees { SeesNone graph.old.graph graph.new.graph }
-        ensures common { OnOk result (All (λ q. has_mark 2 graph.old.graph.held q ≡ true) due.old.items → All (λ q. has_mark 2 graph.new.graph.held q ≡ true) due.new.items) }
+        ensures common { OnOk result (AllCommonAmong graph.old.graph due.old.items → AllCommonAmong graph.new.graph due.new.items) }
         ensures grows { Grows graph.old.graph graph.new.graph }
         ensures failures { graph.old.failures ≤ graph.new.failures }
         ensures failed { IfErr result (IsRefusal 0 0 graph.old.failures graph.new.failures) }
@@ -184,14 +187,14 @@ impl Consecutive {
         ids: &[ObjectId],
         due: &mut Vec<ObjectId>,
     ) -> Result<(), NegotiatorError>
-        ensures keeps { OnOk result (KeepsTimed self.old.uncommon (heap_items self.old.queue.waiting) graph.old.graph self.new.uncommon (heap_items self.new.queue.waiting) graph.new.graph) }
+        ensures keeps { OnOk result (Steps self.old graph.old.graph self.new graph.new.graph) }
         ensures less { OnOk result (left 2 graph.new.graph + length due.new.items ≤ left 2 graph.old.graph + length due.old.items) }
         ensures seen { left 8 graph.new.graph ≤ left 8 graph.old.graph }
         ensures queue { self.new.queue ≡ self.old.queue }
         ensures spreads { OnOk result (KeepsSpread is_there due.old.items graph.old.graph due.new.items graph.new.graph) }
         ensures marked { OnOk result (All (IsMarkedIfThere 2 graph.old.graph graph.new.graph) ids.now) }
         ensures sees { SeesNone graph.old.graph graph.new.graph }
-        ensures common { OnOk result (All (λ q. has_mark 2 graph.old.graph.held q ≡ true) due.old.items → All (λ q. has_mark 2 graph.new.graph.held q ≡ true) due.new.items) }
+        ensures common { OnOk result (AllCommonAmong graph.old.graph due.old.items → AllCommonAmong graph.new.graph due.new.items) }
         ensures grows { Grows graph.old.graph graph.new.graph }
         ensures failures { graph.old.failures ≤ graph.new.failures }
         ensures failed { IfErr result (IsRefusal 0 0 graph.old.failures graph.new.failures) }
@@ -209,13 +212,13 @@ impl Consecutive {
         id: &ObjectId,
         due: &mut Vec<ObjectId>,
     ) -> Result<(), NegotiatorError>
-        ensures keeps { OnOk result (KeepsTimed self.old.uncommon (heap_items self.old.queue.waiting) graph.old.graph self.new.uncommon (heap_items self.new.queue.waiting) graph.new.graph) }
+        ensures keeps { OnOk result (Steps self.old graph.old.graph self.new graph.new.graph) }
         ensures less { OnOk result (left 2 graph.new.graph + length due.new.items ≤ left 2 graph.old.graph + length due.old.items) }
         ensures room { OnOk result (left 8 graph.new.graph + heap_len self.new.queue.waiting ≤ left 8 graph.old.graph + heap_len self.old.queue.waiting) }
         ensures spreads { OnOk result (SpreadsFrom is_there id.now due.old.items graph.old.graph due.new.items graph.new.graph) }
         ensures ancestors { OnOk result (has_mark 8 graph.old.graph.held id.now ≡ true → HasCommonParents is_there graph.old.graph graph.new.graph id.now) }
-        ensures finds { OnOk result ((IsSome (commit_at graph.old.graph.objects id.now) → (has_mark 8 graph.old.graph.held id.now || has_mark 2 graph.old.graph.held id.now) ≡ true) → SeesCommon graph.old.graph graph.new.graph) }
-        ensures common { OnOk result (All (λ q. has_mark 2 graph.old.graph.held q ≡ true) due.old.items → All (λ q. has_mark 2 graph.new.graph.held q ≡ true) due.new.items) }
+        ensures finds { OnOk result (IsKnown graph.old.graph id.now → SeesCommon graph.old.graph graph.new.graph) }
+        ensures common { OnOk result (AllCommonAmong graph.old.graph due.old.items → AllCommonAmong graph.new.graph due.new.items) }
         ensures grows { Grows graph.old.graph graph.new.graph }
         ensures failures { graph.old.failures ≤ graph.new.failures }
         ensures failed { IfErr result (IsRefusal 0 0 graph.old.failures graph.new.failures) }
@@ -238,11 +241,11 @@ impl Consecutive {
         graph: &mut Graph<O>,
         id: &ObjectId,
     ) -> Result<(), NegotiatorError>
-        ensures keeps { OnOk result (KeepsTimed self.old.uncommon (heap_items self.old.queue.waiting) graph.old.graph self.new.uncommon (heap_items self.new.queue.waiting) graph.new.graph) }
+        ensures keeps { OnOk result (Steps self.old graph.old.graph self.new graph.new.graph) }
         ensures room { OnOk result (left 8 graph.new.graph + heap_len self.new.queue.waiting ≤ left 8 graph.old.graph + heap_len self.old.queue.waiting) }
         ensures spreads { OnOk result (SpreadsAllFrom is_there id.now graph.old.graph graph.new.graph) }
         ensures ancestors { OnOk result (has_mark 8 graph.old.graph.held id.now ≡ true → HasCommonParents is_there graph.old.graph graph.new.graph id.now) }
-        ensures finds { OnOk result ((IsSome (commit_at graph.old.graph.objects id.now) → (has_mark 8 graph.old.graph.held id.now || has_mark 2 graph.old.graph.held id.now) ≡ true) → SeesCommon graph.old.graph graph.new.graph) }
+        ensures finds { OnOk result (IsKnown graph.old.graph id.now → SeesCommon graph.old.graph graph.new.graph) }
         ensures grows { Grows graph.old.graph graph.new.graph }
         ensures failures { graph.old.failures ≤ graph.new.failures }
         ensures failed { IfErr result (IsRefusal 0 0 graph.old.failures graph.new.failures) }
@@ -261,11 +264,11 @@ impl Consecutive {
         graph: &mut Graph<O>,
         id: &ObjectId,
     ) -> Result<(), NegotiatorError>
-        ensures keeps { OnOk result (KeepsTimed self.old.uncommon (heap_items self.old.queue.waiting) graph.old.graph self.new.uncommon (heap_items self.new.queue.waiting) graph.new.graph) }
+        ensures keeps { OnOk result (Steps self.old graph.old.graph self.new graph.new.graph) }
         ensures room { OnOk result (left 8 graph.new.graph + heap_len self.new.queue.waiting ≤ left 8 graph.old.graph + heap_len self.old.queue.waiting) }
         ensures spreads { OnOk result (StaysSpread is_there graph.old.graph graph.new.graph) }
-        ensures ancestors { OnOk result (has_mark 8 graph.old.graph.held id.now ≡ true → has_mark 2 graph.old.graph.held id.now ≡ false → HasCommonParents is_there graph.old.graph graph.new.graph id.now) }
-        ensures finds { OnOk result ((IsSome (commit_at graph.old.graph.objects id.now) → (has_mark 8 graph.old.graph.held id.now || has_mark 2 graph.old.graph.held id.now) ≡ true) → SeesCommon graph.old.graph graph.new.graph) }
+        ensures ancestors { OnOk result (WhereOpen graph.old.graph id.now (HasCommonParents is_there graph.old.graph graph.new.graph id.now)) }
+        ensures finds { OnOk result (IsKnown graph.old.graph id.now → SeesCommon graph.old.graph graph.new.graph) }
         ensures grows { Grows graph.old.graph graph.new.graph }
         ensures failures { graph.old.failures ≤ graph.new.failures }
         ensures failed { IfErr result (IsRefusal 0 0 graph.old.failures graph.new.failures) }
@@ -286,7 +289,7 @@ impl Consecutive {
         graph: &mut Graph<O>,
         id: &ObjectId,
     ) -> Result<(), NegotiatorError>
-        ensures keeps { OnOk result (KeepsTimed self.old.uncommon (heap_items self.old.queue.waiting) graph.old.graph self.new.uncommon (heap_items self.new.queue.waiting) graph.new.graph) }
+        ensures keeps { OnOk result (Steps self.old graph.old.graph self.new graph.new.graph) }
         ensures spreads { OnOk result (StaysSpread is_there graph.old.graph graph.new.graph) }
         ensures grows { Grows graph.old.graph graph.new.graph }
         ensures common { OnOk result (IsMarkedIfThere 2 graph.old.graph graph.new.graph id.now) }
@@ -307,7 +310,7 @@ impl Consecutive {
         parent: &ObjectId,
         is_common: bool,
     ) -> Result<(), NegotiatorError>
-        ensures keeps { OnOk result (KeepsTimed self.old.uncommon (heap_items self.old.queue.waiting) graph.old.graph self.new.uncommon (heap_items self.new.queue.waiting) graph.new.graph) }
+        ensures keeps { OnOk result (Steps self.old graph.old.graph self.new graph.new.graph) }
         ensures room { OnOk result (left 8 graph.new.graph + heap_len self.new.queue.waiting ≤ left 8 graph.old.graph + heap_len self.old.queue.waiting) }
         ensures waits { OnOk result (IsMarkedIfThere 8 graph.old.graph graph.new.graph parent.now) }
         ensures spreads { OnOk result (StaysSpread is_there graph.old.graph graph.new.graph) }
@@ -333,7 +336,7 @@ impl Consecutive {
         parents: &[ObjectId],
         is_common: bool,
     ) -> Result<(), NegotiatorError>
-        ensures keeps { OnOk result (KeepsTimed self.old.uncommon (heap_items self.old.queue.waiting) graph.old.graph self.new.uncommon (heap_items self.new.queue.waiting) graph.new.graph) }
+        ensures keeps { OnOk result (Steps self.old graph.old.graph self.new graph.new.graph) }
         ensures room { OnOk result (left 8 graph.new.graph + heap_len self.new.queue.waiting ≤ left 8 graph.old.graph + heap_len self.old.queue.waiting) }
         ensures waits { OnOk result (All (IsMarkedIfThere 8 graph.old.graph graph.new.graph) parents.now) }
         ensures spreads { OnOk result (StaysSpread is_there graph.old.graph graph.new.graph) }
@@ -366,7 +369,7 @@ impl Consecutive {
         graph: &mut Graph<O>,
         first: &Waiting,
     ) -> Result<bool, NegotiatorError>
-        ensures keeps { OnOk result (KeepsTimed self.old.uncommon (first.now ∷ heap_items self.old.queue.waiting) graph.old.graph self.new.uncommon (heap_items self.new.queue.waiting) graph.new.graph) }
+        ensures keeps { OnOk result (StepsTaking first.now self.old graph.old.graph self.new graph.new.graph) }
         ensures offered { IfOk result (λ offered. IsTrue offered → IsOffered graph.old.graph graph.new.graph first.now.id) }
         ensures room { OnOk result (left 8 graph.new.graph + heap_len self.new.queue.waiting ≤ left 8 graph.old.graph + heap_len self.old.queue.waiting) }
         ensures spreads { OnOk result (StaysSpread is_there graph.old.graph graph.new.graph) }
@@ -408,9 +411,9 @@ impl Consecutive {
         graph: &mut Graph<O>,
     ) -> Result<Option<ObjectId>, NegotiatorError>
         ensures offered { IfOk result (λ have. IfSome have (IsOffered graph.old.graph graph.new.graph)) }
-        ensures newest { IfOk result (λ have. IfSome have (λ id. AllTimed graph.old.graph.objects (heap_items self.old.queue.waiting) → IsNewestAt graph.old.graph id (heap_items self.new.queue.waiting))) }
+        ensures newest { IfOk result (λ have. IfSome have (λ id. IsNewestTimed (heap_items self.old.queue.waiting) graph.old.graph id (heap_items self.new.queue.waiting))) }
         ensures none { IfOk result (λ have. IfNone have (Fits self.old.uncommon (heap_items self.old.queue.waiting) graph.old.graph → AllCommon graph.new.graph)) }
-        ensures keeps { OnOk result (KeepsTimed self.old.uncommon (heap_items self.old.queue.waiting) graph.old.graph self.new.uncommon (heap_items self.new.queue.waiting) graph.new.graph) }
+        ensures keeps { OnOk result (Steps self.old graph.old.graph self.new graph.new.graph) }
         ensures spreads { OnOk result (StaysSpread is_there graph.old.graph graph.new.graph) }
         ensures finds { IfOk result (λ have. FindsCommon graph.old.graph have graph.new.graph) }
         ensures grows { Grows graph.old.graph graph.new.graph }
@@ -431,10 +434,10 @@ impl Consecutive {
         graph: &mut Graph<O>,
         id: &ObjectId,
     ) -> Result<(), NegotiatorError>
-        ensures keeps { OnOk result (KeepsTimed self.old.uncommon (heap_items self.old.queue.waiting) graph.old.graph self.new.uncommon (heap_items self.new.queue.waiting) graph.new.graph) }
+        ensures keeps { OnOk result (Steps self.old graph.old.graph self.new graph.new.graph) }
         ensures waits { OnOk result (IsMarkedIfThere 8 graph.old.graph graph.new.graph id.now) }
         ensures spreads { OnOk result (StaysSpread is_there graph.old.graph graph.new.graph) }
-        ensures ancestors { OnOk result (IsSome (commit_at graph.old.graph.objects id.now) → has_mark 8 graph.old.graph.held id.now ≡ false → has_mark 2 graph.old.graph.held id.now ≡ false → HasCommonParents is_there graph.old.graph graph.new.graph id.now) }
+        ensures ancestors { OnOk result (WhereNew graph.old.graph id.now (HasCommonParents is_there graph.old.graph graph.new.graph id.now)) }
         ensures listed { OnOk result (IsListedIfNew graph.old.graph graph.new.graph id.now) }
         ensures grows { Grows graph.old.graph graph.new.graph }
         ensures failures { graph.old.failures ≤ graph.new.failures }

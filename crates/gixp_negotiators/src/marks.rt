@@ -3,7 +3,7 @@ ghost use Rattle.std.specs.Prelude.{◌≡◌, ◌≤◌, ◌==◌, ◌⊎◌, I
 ghost use Rattle.std.specs.FinMap as finite;
 ghost use Rattle.gixp_graph.specs.Object.{commit_at, time_at};
 ghost use Rattle.gixp_graph.specs.Negotiation.{IsRefusal};
-ghost use Rattle.gixp_negotiators.specs.Marks.{Grows, Claims, IsFoundWith, IsMarkedIfThere, SeesNone, SeesOnly, SettlesNone, SettlesOnly, has_mark, has_all, left};
+ghost use Rattle.gixp_negotiators.specs.Marks.{Grows, Claims, IsFoundWith, IsMarkedIfThere, IsMarkedIfSeen, AddsNone, SeesNone, SeesOnly, SettlesNone, SettlesOnly, has_mark, has_all, left};
 
 use gixp_graph::{Flags, Graph, NegotiatorError, Objects};
 use gixp_hash::ObjectId;
@@ -36,6 +36,7 @@ pub(crate) fn look<O: Objects>(
     ensures absent { IfOk result (λ found. IfNone found (has_mark 8 graph.new.graph.held id.now ≡ false)) }
     ensures sees { SeesNone graph.old.graph graph.new.graph }
     ensures settles { SettlesNone graph.old.graph graph.new.graph }
+    ensures takes { AddsNone 16 graph.old.graph graph.new.graph }
     ensures grows { Grows graph.old.graph graph.new.graph }
     ensures seen { left 8 graph.new.graph ≤ left 8 graph.old.graph }
     ensures common { left 2 graph.new.graph ≤ left 2 graph.old.graph }
@@ -79,8 +80,9 @@ pub(crate) fn claim<O: Objects>(
     ensures none { IfOk result (λ found. IfNone found (IsMarkedIfThere mark.0 graph.old.graph graph.new.graph id.now)) }
 
     // Where it isn't claimed, it wasn't seen, or had the mark.
-    ensures absent { IfOk result (λ found. IfNone found (SeesNone graph.old.graph graph.new.graph × (has_mark 8 graph.new.graph.held id.now ≡ true → has_mark mark.0 graph.new.graph.held id.now ≡ true))) }
+    ensures absent { IfOk result (λ found. IfNone found (SeesNone graph.old.graph graph.new.graph × IsMarkedIfSeen mark.0 graph.new.graph id.now)) }
     ensures kept { IfOk result (λ found. IfNone found (SettlesNone graph.old.graph graph.new.graph)) }
+    ensures spent { mark.0 ≡ 16 → IfOk result (λ found. IfNone found (IsSome (commit_at graph.old.graph.objects id.now) → has_mark 16 graph.old.graph.held id.now ≡ true)) }
     ensures sees { bit_and marks.0 8 ≡ 0 → SeesNone graph.old.graph graph.new.graph }
     ensures sees_only { SeesOnly id.now graph.old.graph graph.new.graph }
     ensures settles { bit_and marks.0 2 ≡ 0 → SettlesNone graph.old.graph graph.new.graph }

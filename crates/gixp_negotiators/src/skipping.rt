@@ -1,5 +1,6 @@
 //! Offers commits at growing distances, the newest first.
-ghost use Rattle.std.specs.Prelude.{◌≡◌, ℕ, pos, List, ◌≤◌, ◌<◌, ◌+◌, ◌-◌, ◌⊎◌, ◌∷◌, [], IfOk, IfErr, IfSome, IfNone, IsSome, OnOk, OnSome, IsTrue, All, length, bit_and, true, false};
+ghost use Rattle.std.specs.Prelude.{◌≡◌, ℕ, pos, List, ◌≤◌, ◌<◌, ◌+◌, ◌-◌, ◌⊎◌, ◌∷◌, [], length, bit_and, true, false};
+ghost use Rattle.std.specs.Prelude.{IfOk, IfErr, IfSome, IfNone, IsSome, OnOk, OnSome, IsTrue, All};
 ghost use Rattle.std.specs.BinaryHeap.{heap_len, heap_items};
 ghost use Rattle.std.specs.List.Sorted.{IsPermutation};
 ghost use Rattle.gixp_graph.specs.Object.{commit_at};
@@ -7,10 +8,12 @@ ghost use Rattle.gixp_graph.specs.GraphData.{GraphData, parents_in};
 ghost use Rattle.gixp_negotiators.specs.declared.queue.Waiting.{Waiting};
 ghost use Rattle.gixp_graph.specs.Negotiation.{IsMemory, IsRefusal};
 ghost use Rattle.gixp_negotiators.specs.Marks.{Grows, SettlesNone, IsOffered, IsMarkedIfThere, IsListedIfNew, has_all, has_mark, left};
-ghost use Rattle.gixp_negotiators.specs.Spread.{was_seen, BecomesCommon, KeepsSpread, SpreadsFrom, IsNewlyCommon, AllRead, Spreads};
-ghost use Rattle.gixp_negotiators.specs.Waiting.{Fits, FitsOwing, AllCommon, IsNewest, IsNewestIn, QueuesNew};
+ghost use Rattle.gixp_negotiators.specs.Spread.{was_seen, BecomesCommon, KeepsSpread, SpreadsFrom, StaysNewly, AllRead, Spreads};
+ghost use Rattle.gixp_negotiators.specs.Waiting.{FitsOwing, AllCommon, IsNewest, IsNewestIn, QueuesNew};
+ghost use Rattle.gixp_negotiators.specs.Calls.{FitsSkipping, FitsTaking};
 ghost use Rattle.gixp_negotiators.specs.declared.skipping.Legacy.TheVariants.{Common, Skips};
 ghost use Rattle.gixp_negotiators.specs.Distance.{distance_after, skip_of};
+ghost use Rattle.gixp_negotiators.specs.Passing.{skip_in, HandsOne, Hands, AllTaken, Takes, Distances};
 
 use crate::marks::{add, claim, has, is_marked};
 use crate::queue::{Queue, Waiting};
@@ -60,6 +63,8 @@ impl Skipping {
     /// Knows no commit yet.
     pub fn new(alloc: Global) -> Skipping
         ensures queue { heap_items result.queue.waiting ≡ [] }
+        ensures skips { result.skips.entries ≡ [] }
+        ensures unread { result.unread.keys ≡ [] }
         ensures uncommon { result.uncommon ≡ 0 }
     {
         Skipping {
@@ -79,12 +84,13 @@ impl Skipping {
         marks: Flags,
     ) -> Result<(), NegotiatorError>
         requires { (marks.0 ≡ 8) ⊎ (marks.0 ≡ 12) }
-        ensures fits { OnOk result (Fits self.old.uncommon (heap_items self.old.queue.waiting) graph.old.graph → Fits self.new.uncommon (heap_items self.new.queue.waiting) graph.new.graph) }
+        ensures fits { OnOk result (FitsSkipping self.old graph.old.graph → FitsSkipping self.new graph.new.graph) }
         ensures room { OnOk result (left 8 graph.new.graph + heap_len self.new.queue.waiting ≤ left 8 graph.old.graph + heap_len self.old.queue.waiting) }
         ensures waits { OnOk result (IsMarkedIfThere 8 graph.old.graph graph.new.graph id.now) }
         ensures listed { OnOk result (bit_and marks.0 4 ≡ 4 → IsListedIfNew graph.old.graph graph.new.graph id.now) }
         ensures settles { SettlesNone graph.old.graph graph.new.graph }
         ensures queues { OnOk result (QueuesNew (heap_items self.old.queue.waiting) graph.old.graph (heap_items self.new.queue.waiting)) }
+        ensures skips { OnOk result (self.new.skips ≡ self.old.skips) }
         ensures grows { Grows graph.old.graph graph.new.graph }
         ensures failures { graph.old.failures ≤ graph.new.failures }
         ensures failed { IfErr result (IsRefusal 0 0 graph.old.failures graph.new.failures) }
@@ -104,6 +110,7 @@ impl Skipping {
     // One more waits.
     fn admit(&mut self) -> Result<(), NegotiatorError>
         ensures queue { self.new.queue ≡ self.old.queue }
+        ensures skips { self.new.skips ≡ self.old.skips }
         ensures counted { OnOk result (self.new.uncommon ≡ self.old.uncommon + 1) }
         ensures failed { IfErr result IsMemory }
     {
@@ -117,6 +124,7 @@ impl Skipping {
     // The time under which a commit waits.
     fn time_of(&mut self, is_read: bool, time: i64, id: &ObjectId) -> Result<i64, NegotiatorError>
         ensures queue { self.new.queue ≡ self.old.queue }
+        ensures skips { self.new.skips ≡ self.old.skips }
         ensures uncommon { self.new.uncommon ≡ self.old.uncommon }
         ensures read { is_read ≡ true → IfOk result (λ due. due ≡ time) }
         ensures unread { is_read ≡ false → IfOk result (λ due. due ≡ pos 0) }
@@ -157,7 +165,7 @@ impl Skipping {
         ensures less { OnOk result (left 2 graph.new.graph + length due.new.items ≤ left 2 graph.old.graph + length due.old.items) }
         ensures seen { left 8 graph.new.graph ≤ left 8 graph.old.graph }
         ensures spreads { OnOk result (SpreadsFrom was_seen id.now due.old.items graph.old.graph due.new.items graph.new.graph) }
-        ensures newly { OnOk result ((f : GraphData) → Grows f graph.old.graph → All (IsNewlyCommon f graph.old.graph) due.old.items → All (IsNewlyCommon f graph.new.graph) due.new.items) }
+        ensures newly { OnOk result (StaysNewly due.old.items graph.old.graph due.new.items graph.new.graph) }
         ensures grows { Grows graph.old.graph graph.new.graph }
         ensures failures { graph.old.failures ≤ graph.new.failures }
         ensures failed { IfErr result (IsRefusal 0 0 graph.old.failures graph.new.failures) }
@@ -170,6 +178,7 @@ impl Skipping {
     // One that is now common isn't counted, where it waits.
     fn discount(&mut self, is_taken: bool)
         ensures queue { self.new.queue ≡ self.old.queue }
+        ensures skips { self.new.skips ≡ self.old.skips }
         ensures unread { self.new.unread ≡ self.old.unread }
         ensures taken { is_taken ≡ true → self.new.uncommon ≡ self.old.uncommon }
         ensures waits { self.old.uncommon ≤ self.new.uncommon + 1 }
@@ -185,10 +194,11 @@ impl Skipping {
         graph: &mut Graph<O>,
         id: &ObjectId,
     ) -> Result<(), NegotiatorError>
-        ensures fits { OnOk result (Fits self.old.uncommon (heap_items self.old.queue.waiting) graph.old.graph → Fits self.new.uncommon (heap_items self.new.queue.waiting) graph.new.graph) }
+        ensures fits { OnOk result (FitsSkipping self.old graph.old.graph → FitsSkipping self.new graph.new.graph) }
         ensures common { OnOk result (has_mark 8 graph.old.graph.held id.now ≡ true → has_mark 2 graph.new.graph.held id.now ≡ true) }
         ensures seen { left 8 graph.new.graph ≤ left 8 graph.old.graph }
         ensures queue { self.new.queue ≡ self.old.queue }
+        ensures skips { self.new.skips ≡ self.old.skips }
         ensures spreads { OnOk result (AllRead self.old.unread graph.old.graph graph.new.graph → Spreads was_seen graph.old.graph graph.new.graph) }
         ensures grows { Grows graph.old.graph graph.new.graph }
         ensures failures { graph.old.failures ≤ graph.new.failures }
@@ -207,7 +217,9 @@ impl Skipping {
     }
 
     // What is left to pass over of a commit.
-    fn skip_of(&self, id: &ObjectId) -> Skip {
+    fn skip_of(&self, id: &ObjectId) -> Skip
+        ensures { result ≡ skip_in self.now.skips.entries id.now }
+    {
         match self.skips.get(id) {
             Some(&skip) => skip,
             None => Skip { whole: 0, left: 0 },
@@ -218,6 +230,7 @@ impl Skipping {
     fn raise(&mut self, id: &ObjectId, skip: Skip) -> Result<(), NegotiatorError>
         ensures queue { self.new.queue ≡ self.old.queue }
         ensures uncommon { self.new.uncommon ≡ self.old.uncommon }
+        ensures hands { OnOk result (HandsOne (Skips skip) id.now self.old.skips.entries self.new.skips.entries) }
         ensures failed { IfErr result IsMemory }
     {
         if self.skip_of(id).whole >= skip.whole {
@@ -236,9 +249,10 @@ impl Skipping {
         id: &ObjectId,
         legacy: Legacy,
     ) -> Result<(), NegotiatorError>
-        ensures fits { OnOk result (Fits self.old.uncommon (heap_items self.old.queue.waiting) graph.old.graph → Fits self.new.uncommon (heap_items self.new.queue.waiting) graph.new.graph) }
+        ensures fits { OnOk result (FitsSkipping self.old graph.old.graph → FitsSkipping self.new graph.new.graph) }
         ensures seen { left 8 graph.new.graph ≤ left 8 graph.old.graph }
         ensures queue { self.new.queue ≡ self.old.queue }
+        ensures hands { OnOk result (HandsOne legacy id.now self.old.skips.entries self.new.skips.entries) }
         ensures grows { Grows graph.old.graph graph.new.graph }
         ensures failures { graph.old.failures ≤ graph.new.failures }
         ensures failed { IfErr result (IsRefusal 0 0 graph.old.failures graph.new.failures) }
@@ -262,9 +276,11 @@ impl Skipping {
         parent: &ObjectId,
         legacy: Legacy,
     ) -> Result<bool, NegotiatorError>
-        ensures fits { OnOk result (Fits self.old.uncommon (heap_items self.old.queue.waiting) graph.old.graph → Fits self.new.uncommon (heap_items self.new.queue.waiting) graph.new.graph) }
+        ensures fits { OnOk result (FitsSkipping self.old graph.old.graph → FitsSkipping self.new graph.new.graph) }
         ensures room { OnOk result (left 8 graph.new.graph + heap_len self.new.queue.waiting ≤ left 8 graph.old.graph + heap_len self.old.queue.waiting) }
         ensures waits { OnOk result (IsMarkedIfThere 8 graph.old.graph graph.new.graph parent.now) }
+        ensures taken { IfOk result (λ waits. waits ≡ false → has_mark 16 graph.new.graph.held parent.now ≡ true) }
+        ensures hands { OnOk result (Hands legacy (parent.now ∷ []) graph.new.graph self.old.skips.entries self.new.skips.entries) }
         ensures queues { OnOk result (QueuesNew (heap_items self.old.queue.waiting) graph.old.graph (heap_items self.new.queue.waiting)) }
         ensures grows { Grows graph.old.graph graph.new.graph }
         ensures failures { graph.old.failures ≤ graph.new.failures }
@@ -285,9 +301,11 @@ impl Skipping {
         parents: &[ObjectId],
         legacy: Legacy,
     ) -> Result<bool, NegotiatorError>
-        ensures fits { OnOk result (Fits self.old.uncommon (heap_items self.old.queue.waiting) graph.old.graph → Fits self.new.uncommon (heap_items self.new.queue.waiting) graph.new.graph) }
+        ensures fits { OnOk result (FitsSkipping self.old graph.old.graph → FitsSkipping self.new graph.new.graph) }
         ensures room { OnOk result (left 8 graph.new.graph + heap_len self.new.queue.waiting ≤ left 8 graph.old.graph + heap_len self.old.queue.waiting) }
         ensures waits { OnOk result (All (IsMarkedIfThere 8 graph.old.graph graph.new.graph) parents.now) }
+        ensures taken { IfOk result (λ any. any ≡ false → AllTaken graph.new.graph parents.now) }
+        ensures hands { OnOk result (Hands legacy parents.now graph.new.graph self.old.skips.entries self.new.skips.entries) }
         ensures queues { OnOk result (QueuesNew (heap_items self.old.queue.waiting) graph.old.graph (heap_items self.new.queue.waiting)) }
         ensures grows { Grows graph.old.graph graph.new.graph }
         ensures failures { graph.old.failures ≤ graph.new.failures }
@@ -296,7 +314,7 @@ impl Skipping {
         let mut any = false;
         for parent in parents {
             let waits = self.follow(graph, parent, legacy)?;
-            any = any || waits;
+            any |= waits;
         }
         Ok(any)
     }
@@ -307,8 +325,9 @@ impl Skipping {
         graph: &mut Graph<O>,
         first: &Waiting,
     ) -> Result<bool, NegotiatorError>
-        ensures fits { OnOk result (Fits self.old.uncommon (first.now ∷ heap_items self.old.queue.waiting) graph.old.graph → Fits self.new.uncommon (heap_items self.new.queue.waiting) graph.new.graph) }
+        ensures fits { OnOk result (FitsTaking first.now self.old graph.old.graph → FitsSkipping self.new graph.new.graph) }
         ensures offered { IfOk result (λ offered. IsTrue offered → IsOffered graph.old.graph graph.new.graph first.now.id) }
+        ensures takes { IfOk result (λ offered. Takes self.old.skips.entries graph.old.graph first.now.id offered self.new.skips.entries graph.new.graph) }
         ensures room { OnOk result (left 8 graph.new.graph + heap_len self.new.queue.waiting ≤ left 8 graph.old.graph + heap_len self.old.queue.waiting) }
         ensures queues { OnOk result (QueuesNew (heap_items self.old.queue.waiting) graph.old.graph (heap_items self.new.queue.waiting)) }
         ensures grows { Grows graph.old.graph graph.new.graph }
@@ -334,6 +353,7 @@ impl Skipping {
         ensures newest { IfSome result (IsNewest (heap_items self.new.queue.waiting)) }
         ensures none { IfNone result ((self.old.uncommon ≡ 0) ⊎ (heap_items self.old.queue.waiting ≡ [])) }
         ensures stays { IfNone result (heap_items self.new.queue.waiting ≡ heap_items self.old.queue.waiting) }
+        ensures skips { self.new.skips ≡ self.old.skips }
         ensures uncommon { self.new.uncommon ≡ self.old.uncommon }
     {
         if self.uncommon == 0 {
@@ -349,8 +369,9 @@ impl Skipping {
     ) -> Result<Option<ObjectId>, NegotiatorError>
         ensures offered { IfOk result (λ have. IfSome have (IsOffered graph.old.graph graph.new.graph)) }
         ensures newest { IfOk result (λ have. IfSome have (λ id. IsNewestIn (heap_items self.old.queue.waiting) graph.old.graph id (heap_items self.new.queue.waiting))) }
-        ensures none { IfOk result (λ have. IfNone have (Fits self.old.uncommon (heap_items self.old.queue.waiting) graph.old.graph → AllCommon graph.new.graph)) }
-        ensures fits { OnOk result (Fits self.old.uncommon (heap_items self.old.queue.waiting) graph.old.graph → Fits self.new.uncommon (heap_items self.new.queue.waiting) graph.new.graph) }
+        ensures distances { IfOk result (λ have. Distances self.old.skips.entries graph.old.graph have self.new.skips.entries graph.new.graph) }
+        ensures none { IfOk result (λ have. IfNone have (FitsSkipping self.old graph.old.graph → AllCommon graph.new.graph)) }
+        ensures fits { OnOk result (FitsSkipping self.old graph.old.graph → FitsSkipping self.new graph.new.graph) }
         ensures queues { OnOk result (QueuesNew (heap_items self.old.queue.waiting) graph.old.graph (heap_items self.new.queue.waiting)) }
         ensures grows { Grows graph.old.graph graph.new.graph }
         ensures failures { graph.old.failures ≤ graph.new.failures }
@@ -376,7 +397,7 @@ fn reach<O: Objects>(
     ensures less { OnOk result (left 2 graph.new.graph + length due.new.items ≤ left 2 graph.old.graph + length due.old.items) }
     ensures seen { left 8 graph.new.graph ≤ left 8 graph.old.graph }
     ensures spreads { OnOk result (KeepsSpread was_seen due.old.items graph.old.graph due.new.items graph.new.graph) }
-    ensures newly { OnOk result ((f : GraphData) → Grows f graph.old.graph → All (IsNewlyCommon f graph.old.graph) due.old.items → All (IsNewlyCommon f graph.new.graph) due.new.items) }
+    ensures newly { OnOk result (StaysNewly due.old.items graph.old.graph due.new.items graph.new.graph) }
     ensures grows { Grows graph.old.graph graph.new.graph }
     ensures failures { graph.old.failures ≤ graph.new.failures }
     ensures failed { IfErr result (IsRefusal 0 0 graph.old.failures graph.new.failures) }
@@ -415,7 +436,7 @@ fn reach_all<O: Objects>(
     ensures less { OnOk result (left 2 graph.new.graph + length due.new.items ≤ left 2 graph.old.graph + length due.old.items) }
     ensures seen { left 8 graph.new.graph ≤ left 8 graph.old.graph }
     ensures spreads { OnOk result (KeepsSpread was_seen due.old.items graph.old.graph due.new.items graph.new.graph) }
-    ensures newly { OnOk result ((f : GraphData) → Grows f graph.old.graph → All (IsNewlyCommon f graph.old.graph) due.old.items → All (IsNewlyCommon f graph.new.graph) due.new.items) }
+    ensures newly { OnOk result (StaysNewly due.old.items graph.old.graph due.new.items graph.new.graph) }
     ensures common { OnOk result (All (BecomesCommon was_seen graph.old.graph graph.new.graph) ids.now) }
     ensures grows { Grows graph.old.graph graph.new.graph }
     ensures failures { graph.old.failures ≤ graph.new.failures }

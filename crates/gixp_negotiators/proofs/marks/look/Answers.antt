@@ -30,3 +30,6 @@ returns-in-Ok-clause-timed g c = timed_looked c.args.graph.now.graph c.args.id.n
 
 pub returns-in-Ok-clause-settles : goal.returns-in-Ok-clause-settles
 returns-in-Ok-clause-settles g c = none_looked 2 refl c.args.graph.now.graph c.lookup.new.self.graph c.args.id.now c.in-Ok.ensures.ok
+
+pub returns-in-Ok-clause-takes : goal.returns-in-Ok-clause-takes
+returns-in-Ok-clause-takes g c = none_looked 16 refl c.args.graph.now.graph c.lookup.new.self.graph c.args.id.now c.in-Ok.ensures.ok

@@ -16,6 +16,7 @@ loop-next-init g c = record {
   unread = refl;
   seen = c.reach.ensures.seen;
   queue = refl;
+  skips = refl;
   grows = c.reach.ensures.grows;
   failures = c.reach.ensures.failures;
 }
@@ -32,6 +33,7 @@ loop-next-preserved g c = record {
   unread = c.discount.ensures.unread ∙ c.loop-next.invariant.unread;
   seen = omega (arith, c.loop-next.invariant.seen, c.spread.ensures.seen);
   queue = c.discount.ensures.queue ∙ c.loop-next.invariant.queue;
+  skips = c.discount.ensures.skips ∙ c.loop-next.invariant.skips;
   grows = grows_on _ _ _ c.loop-next.invariant.grows c.spread.ensures.grows;
   failures = omega (arith, c.loop-next.invariant.failures, c.spread.ensures.failures);
 }

@@ -16,6 +16,7 @@ invariant-loop-next g l = record {
   unread : l.self.unread ≡ l.fn.self.unread;
   seen : left 8 l.graph.graph ≤ left 8 l.fn.graph.graph;
   queue : l.self.queue ≡ l.fn.self.queue;
+  skips : l.self.skips ≡ l.fn.self.skips;
   grows : Grows l.fn.graph.graph l.graph.graph;
   failures : l.fn.graph.failures ≤ l.graph.failures;
 }

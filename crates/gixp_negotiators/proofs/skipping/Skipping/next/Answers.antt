@@ -1,5 +1,7 @@
 -- The next is found.
-use Rattle.std.proofs.Common.{⊎_elim, arith, refl, subst}
+use Rattle.std.proofs.Common.{⊎_elim, arith, refl, subst, sym, ap}
+use Rattle.gixp_negotiators.specs.Passing.{Skipped, TakesUnoffered}
+use Rattle.gixp_negotiators.proofs.PassingLemmas.{taken_popped}
 use Rattle.std.specs.BinaryHeap.{heap_items}
 use Rattle.gixp_negotiators.specs.Waiting.{Fits}
 use Rattle.gixp_negotiators.proofs.GrowLemmas.{grows_none, grows_on}
@@ -8,12 +10,13 @@ use Rattle.gixp_negotiators.proofs.FitLemmas.{queues_same, queues_on, queues_tak
 use Rattle.gixp_negotiators.proofs.skipping.Skipping.next.Goals as goal
 
 pub loop-first-init : goal.loop-first-init
-loop-first-init g c = record { fits = λ f. f; queues = queues_same _ _ _ refl; grows = grows_none _; failures = omega arith }
+loop-first-init g c = record { fits = λ f. f; queues = queues_same _ _ _ refl; passes = TakesUnoffered.none; grows = grows_none _; failures = omega arith }
 
 pub loop-first-preserved : goal.loop-first-preserved
 loop-first-preserved g c = record {
   fits = λ f. (rw c.pop.ensures.uncommon at c.in_ok-take.ensures.fits) (fits_popped _ _ _ _ c.in-Some.first c.in-Some.ensures.taken (c.loop-first.invariant.fits f));
   queues = queues_on _ _ _ _ _ c.loop-first.invariant.grows c.loop-first.invariant.queues (queues_on _ _ _ _ _ (grows_none _) (queues_taken _ _ _ c.in-Some.first c.in-Some.ensures.taken) c.in_ok-take.ensures.queues);
+  passes = TakesUnoffered.one c.loop-first.invariant.passes (taken_popped _ _ _ _ _ _ _ (ap (λ m. m.entries) c.pop.ensures.skips) c.if-branch.false c.in_ok-take.ensures.takes);
   grows = grows_on _ _ _ c.loop-first.invariant.grows c.take.ensures.grows;
   failures = omega (arith, c.loop-first.invariant.failures, c.take.ensures.failures);
 }
@@ -41,3 +44,9 @@ returns-then-branch-clause-queues g c = queues_on _ _ _ _ _ c.loop-first.invaria
 
 pub returns-clause-queues : goal.returns-clause-queues
 returns-clause-queues g c = rw (rw c.in_default.is at c.pop.ensures.stays) c.loop-first.invariant.queues
+
+pub returns-then-branch-clause-distances : goal.returns-then-branch-clause-distances
+returns-then-branch-clause-distances g c = (c.loop-first.self.skips.entries, c.loop-first.graph.graph, c.loop-first.invariant.passes, taken_popped _ _ _ _ _ _ _ (ap (λ m. m.entries) c.pop.ensures.skips) c.if-branch.true c.in_ok-take.ensures.takes)
+
+pub returns-clause-distances : goal.returns-clause-distances
+returns-clause-distances g c = subst (λ (s : Skipped). TakesUnoffered c.args.self.now.skips.entries c.args.graph.now.graph s c.loop-first.graph.graph) (sym (ap (λ m. m.entries) c.pop.ensures.skips)) c.loop-first.invariant.passes

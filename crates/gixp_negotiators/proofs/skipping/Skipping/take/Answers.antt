@@ -1,4 +1,7 @@
 -- A commit is taken.
+use Rattle.gixp_negotiators.proofs.PassingLemmas.{takes_none, takes_some}
+use Rattle.gixp_negotiators.specs.Passing.{Skipped, Hands}
+use Rattle.std.proofs.Common.{ap, subst}
 use Rattle.std.proofs.Common.{◌≡◌, ◌∙◌, ◌+◌, ◌≤◌, sym, refl, false, arith}
 use Rattle.gixp_negotiators.specs.Marks.{Claims, has_all}
 use Rattle.gixp_negotiators.specs.Waiting.{open_one}
@@ -26,3 +29,14 @@ returns-clause-offered g c t =
 
 pub returns-clause-queues : goal.returns-clause-queues
 returns-clause-queues g c = queues_on _ _ _ _ _ c.claim.ensures.grows (queues_same _ _ _ refl) (rw c.discount.ensures.queue at c.in_ok-any.ensures.queues)
+
+pub returns-in_default-clause-takes : goal.returns-in_default-clause-takes
+returns-in_default-clause-takes g c = takes_none c.args.self.now.skips.entries c.args.graph.now.graph c.claim.new.graph.graph c.args.first.now.id (rw c.in_default.is at (c.in_ok-flags.ensures.spent refl))
+
+pub returns-clause-takes : goal.returns-clause-takes
+returns-clause-takes g c =
+    let k : Claims 16 c.args.graph.now.graph c.claim.new.graph.graph c.args.first.now.id c.in-Some.flags = rw c.in-Some.is at c.in_ok-flags.ensures.claimed in
+    takes_some c.args.self.now.skips.entries c.follow_all.new.self.skips.entries c.args.graph.now.graph c.claim.new.graph.graph c.follow_all.new.graph.graph c.args.first.now.id c.in-Some.flags c.legacy_of.result c.deref.result.now c.skip_of-skip.result c.has-is_common.result c.is_offered.result
+    k c.follow_all.ensures.grows (c.deref.ensures.value ∙ c.in_ok-parents.ensures.parents) c.skip_of-skip.ensures
+    (subst (λ (s : Skipped). Hands c.legacy_of.result c.deref.result.now c.follow_all.new.graph.graph s c.follow_all.new.self.skips.entries) (ap (λ m. m.entries) c.discount.ensures.skips) c.in_ok-any.ensures.hands)
+    c.has-is_common.ensures c.legacy_of.ensures.passes c.legacy_of.ensures.grows c.is_offered.ensures.reached c.in_ok-any.any c.is_offered.ensures.passed c.in_ok-any.ensures.taken

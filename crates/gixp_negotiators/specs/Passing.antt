@@ -1,0 +1,69 @@
+-- How many commits are passed over along a line (git-config, `fetch.negotiationAlgorithm`, "skipping").
+use Rattle.std.specs.Prelude.{◌≡◌, ◌⊎◌, ◌<◌, ◌-◌, All, nat_lt, if◌then◌else◌, List, Bool, true, false, Option, Some, None, IsSome, unwrap_or}
+use Rattle.std.specs.List.{list_any}
+use Rattle.std.specs.Map.{lookup}
+use Rattle.std.specs.BTreeMap.{is_at}
+use Rattle.std.specs.Ordering.{eq_by_cmp}
+use Rattle.gixp_hash.specs.declared.object_id.ObjectId.{ObjectId}
+use Rattle.gixp_hash.specs.ObjectId.{id_cmp}
+use Rattle.gixp_graph.specs.Object.{commit_at}
+use Rattle.gixp_graph.specs.GraphData.{GraphData, parents_in}
+use Rattle.gixp_negotiators.specs.declared.skipping.Skip.{Skip}
+use Rattle.gixp_negotiators.specs.declared.skipping.Legacy.{Legacy}
+use Rattle.gixp_negotiators.specs.declared.skipping.Legacy.TheVariants.{Common, Skips}
+use Rattle.gixp_negotiators.specs.Distance.{distance_after, skip_of}
+use Rattle.gixp_negotiators.specs.Marks.{has_mark}
+
+-- distances of commits
+abbrev pub Skipped : Type 0
+Skipped = List (ObjectId × Skip)
+
+-- the distance of a commit and what is left of it: none of one of which nothing is known
+abbrev pub skip_in : Skipped → ObjectId → Skip
+skip_in skips id = unwrap_or (lookup (is_at (id_cmp id)) skips) (skip_of 0 0)
+
+-- the longer of two distances
+abbrev pub longer : Skip → Skip → Skip
+longer s t = if nat_lt s.whole t.whole then t else s
+
+-- what a commit hands on to its parents: one fewer to pass over; or, where none is left, the next distance
+abbrev pub handed_on : Skip → Skip
+handed_on s = if nat_lt 0 s.left then skip_of s.whole (s.left - 1) else skip_of (distance_after s.whole) (distance_after s.whole)
+
+-- whether a commit is one of some
+abbrev pub is_among : List ObjectId → ObjectId → Bool
+is_among ids q = list_any (λ p. eq_by_cmp id_cmp q p) ids
+
+-- a commit is handed a distance, where there is one, and keeps its own where that is longer; no other commit's is changed
+abbrev pub HandsOne : Legacy → ObjectId → Skipped → Skipped → Type 0
+HandsOne Common id old new = new ≡ old
+HandsOne (Skips s) id old new = (skip_in new id ≡ longer (skip_in old id) s) × ((q : ObjectId) → eq_by_cmp id_cmp q id ≡ false → skip_in new q ≡ skip_in old q)
+
+-- so are those of some commits that weren't taken
+pub record Hands (legacy : Legacy) (ids : List ObjectId) (h : GraphData) (old new : Skipped) : Type 0 where
+  pub handed : (s : Skip) (q : ObjectId) → legacy ≡ Skips s → is_among ids q ≡ true → has_mark 16 h.held q ≡ false → skip_in new q ≡ longer (skip_in old q) s
+  pub others : (q : ObjectId) → is_among ids q ≡ false → skip_in new q ≡ skip_in old q
+
+-- all of some commits were taken
+abbrev pub AllTaken : GraphData → List ObjectId → Type 0
+AllTaken h ids = All (λ p. has_mark 16 h.held p ≡ true) ids
+
+-- a commit is taken from those that wait: where it is neither common nor a ref of the server, its parents that weren't taken are handed
+-- what it hands on; no other commit's distance is changed; it is offered only where none is left to pass over, or as the last of a line,
+-- whose parents were all taken; and it isn't only where some are left, or it is common
+pub record Takes (old : Skipped) (g : GraphData) (id : ObjectId) (is_offered : Bool) (new : Skipped) (h : GraphData) : Type 0 where
+  pub hands : IsSome (commit_at g.objects id) → has_mark 16 g.held id ≡ false → has_mark 2 h.held id ≡ false → has_mark 4 h.held id ≡ false
+      → (p : ObjectId) → is_among (parents_in h.held id) p ≡ true → has_mark 16 h.held p ≡ false → skip_in new p ≡ longer (skip_in old p) (handed_on (skip_in old id))
+  pub others : (q : ObjectId) → is_among (parents_in h.held id) q ≡ false → skip_in new q ≡ skip_in old q
+  pub reached : is_offered ≡ true → ((skip_in old id).left ≡ 0) ⊎ AllTaken h (parents_in h.held id)
+  pub passed : IsSome (commit_at g.objects id) → has_mark 16 g.held id ≡ false → is_offered ≡ false → has_mark 2 h.held id ≡ false → 0 < (skip_in old id).left
+
+-- some commits are taken one after another, and none of them is offered
+pub data TakesUnoffered (old : Skipped) (g : GraphData) : Skipped → GraphData → Type 0 where
+  none : TakesUnoffered old g old g
+  one : {k new : Skipped} {i h : GraphData} {id : ObjectId} → TakesUnoffered old g k i → Takes k i id false new h → TakesUnoffered old g new h
+
+-- a commit is offered, after some that aren't; or none is
+abbrev pub Distances : Skipped → GraphData → Option ObjectId → Skipped → GraphData → Type 0
+Distances old g None new h = TakesUnoffered old g new h
+Distances old g (Some id) new h = (k : Skipped) × (i : GraphData) × TakesUnoffered old g k i × Takes k i id true new h
