@@ -117,7 +117,7 @@ module _ {R : Type 0} where
           let shut : record (read_by old w rd) { ended = false } ≡ read_by old w rd = ap (λ (b : Bool). record (read_by old w rd) { ended = b }) (sym going) in
           subst (F new) (sym at.0) (subst P (shut ∙ sym at.1) filled)
 
-  -- the same, behind a read that was spent
+  -- the same, after a read that was spent
   pub fills_noted : (rem : R → Option (List ℕ)) (old spent new : Packets R) (w : Shown) (rd : R) (got : Result ℕ ErrorKind) (r : Result (Unit {0}) Error) → spent ≡ record old { reads_left = old.reads_left - 1 } → 0 < old.reads_left
       → head_of old.window.pending ≡ Partial → old.ended ≡ false → Receives (rem spent.reader) (rem rd) spent.window.pending w.pending got → NotesRead (record spent { window = w; reader = rd }) new got r → Fills rem old new r
   fills_noted rem old spent new w rd got r e some front going read h =

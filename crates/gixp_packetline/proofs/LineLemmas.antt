@@ -26,7 +26,7 @@ stop_or true kind k p q e h =
     rw (e1, e2) refl
 stop_or false kind k p q e h = cc
 
--- no line stands before the stop that comes next
+-- no line comes before the stop that comes next
 pub stops_here : (v : Protocol) (list : List Piece) (end : Refusal) (kind : MessageKind) (q : Pieces) → next_from v list end ≡ stops kind q
     → lines_from v list end ≡ no_lines (stop kind q)
 stops_here v [] end kind q h = cc

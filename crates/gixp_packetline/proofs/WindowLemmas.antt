@@ -45,7 +45,7 @@ copied_front xs before a n fits moved =
     let z : 0 + n ≡ n = omega arith in
     ap (take n) same ∙ ap (λ k. take k (paste xs 0 (drop a xs) n)) (sym z) ∙ take-paste xs 0 (drop a xs) n none fits
 
--- what a read put behind the pending bytes
+-- what a read put after the pending bytes
 pub received : (old new : Option (List ℕ)) (xs before after pending : List ℕ) (a b n : ℕ) → a ≤ b → b ≤ length xs → length after ≡ 65520
     → take (b - a) before ≡ slice_range xs a b → take (b - a) after ≡ take (b - a) before → pending ≡ slice_range xs a b
     → (b - a + n ≤ length after) → Consumes old new (take n (drop (b - a) after)) → (n ≡ 0 → b - a < length after → IsAtEnd new) → length pending < 65520

@@ -16,7 +16,7 @@ message_text Delimiter = codes "0001"
 message_text ResponseEnd = codes "0002"
 message_text Text = []
 
--- a payload behind the digits that count it and themselves
+-- a payload after the digits that count it and themselves
 abbrev pub payload_text : List ℕ → List ℕ
 payload_text p = digits_of (4 + length p) ++ p
 
@@ -25,7 +25,7 @@ abbrev pub frame_text : Frame → List ℕ
 frame_text (payload p) = payload_text p
 frame_text (special kind) = message_text kind
 
--- the texts of some frames, one behind another
+-- the texts of some frames, one after another
 abbrev pub texts_of : List Frame → List ℕ
 texts_of frames = flat_map frame_text frames
 

@@ -46,7 +46,7 @@ pub data Frame : Type 0 where
   payload : List ℕ → Frame
   special : MessageKind → Frame
 
--- what stands behind the whole frames: less than a frame, or what no frame begins with
+-- what comes after the whole frames: less than a frame, or what no frame begins with
 pub data End : Type 0 where
   ended : End
   bad : PacketError → End

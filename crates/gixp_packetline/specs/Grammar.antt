@@ -1,4 +1,4 @@
--- Frames of a list of bytes, as a grammar: which texts are frames, and what stands behind them.
+-- Frames of a list of bytes, as a grammar: which texts are frames, and what comes after them.
 use Rattle.std.specs.Prelude.{◌≡◌, ℕ, ◌+◌, ◌<◌, ◌≤◌, ◌⊎◌, List, [], ◌∷◌, ◌++◌, length, take, Some, None}
 use Rattle.gixp_packetline.specs.declared.packet.PacketError.{PacketError}
 use Rattle.gixp_packetline.specs.declared.packet.PacketError.TheVariants.{HexDecode, DataLengthLimitExceeded, DataIsEmpty, InvalidLineLength}
@@ -24,7 +24,7 @@ IsRefused digits InvalidLineLength = Counts digits 3
 IsRefused digits DataIsEmpty = Counts digits 4
 IsRefused digits DataLengthLimitExceeded = (n : ℕ) × Counts digits n × (65520 < n)
 
--- what stands behind the whole frames: four bytes that are refused, or less than a frame
+-- what comes after the whole frames: four bytes that are refused, or less than a frame
 abbrev pub IsEnd : List ℕ → End → Type 0
 IsEnd rest (bad e) = (digits more : List ℕ) × (rest ≡ digits ++ more) × IsRefused digits e
 IsEnd rest ended = (length rest < 4) ⊎ ((n : ℕ) × Counts (take 4 rest) n × (4 < n) × (n ≤ 65520) × (length rest < n))

@@ -73,7 +73,7 @@ items_from version band (mark kind ∷ ps) end =
 abbrev pub items_of : Protocol → Banding → Pieces → Items
 items_of version band ps = items_from version band ps.list ps.end
 
--- the lines among the items before the first stop, the stop with the items behind it, or else the refusal
+-- the lines among the items before the first stop, the stop with the items after it, or else the refusal
 pub data ItemsEnd : Type 0 where
   at_stop : MessageKind → Items → ItemsEnd
   at_refusal : Refusal → ItemsEnd

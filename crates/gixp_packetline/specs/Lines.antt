@@ -16,11 +16,11 @@ next_from version [] end = refuses end
 next_from version (line text ∷ ps) end = gives text (record { list = ps; end = end })
 next_from version (mark kind ∷ ps) end = if is_stop version kind then stops kind (record { list = ps; end = end }) else refuses unexpected_frame
 
--- what comes next in these pieces, and what is behind it
+-- what comes next in these pieces, and what is after it
 abbrev pub next_of : Protocol → Pieces → Next
 next_of version ps = next_from version ps.list ps.end
 
--- what ends the lines: a stop, with the pieces behind it, or a refusal
+-- what ends the lines: a stop, with the pieces after it, or a refusal
 pub data Ending : Type 0 where
   stop : MessageKind → Pieces → Ending
   refusal : Refusal → Ending
@@ -30,7 +30,7 @@ pub record Lines : Type 0 where
   pub lines : List (List ℕ)
   pub ending : Ending
 
--- no line stands before this end
+-- no line comes before this end
 abbrev pub no_lines : Ending → Lines
 no_lines ending = record { lines = []; ending = ending }
 

@@ -16,7 +16,7 @@ abbrev pub frame_size : Frame → ℕ
 frame_size (payload text) = 4 + length text
 frame_size (special kind) = 4
 
--- the first of the frames, and the bytes behind it, which are the others; or why there is none
+-- the first of the frames, and the bytes after it, which are the others; or why there is none
 abbrev pub SplitsPacketLine : List ℕ → Result (Option (PacketLine × Bor (List ℕ))) PacketError → Type 0
 SplitsPacketLine bytes (Ok (Some found)) = (frames_of bytes ≡ with_frame (frame_of found.0) (frames_of found.1.now)) × (length found.1.now < length bytes) × (found.1.now ≡ drop (frame_size (frame_of found.0)) bytes)
 SplitsPacketLine bytes (Ok None) = frames_of bytes ≡ no_frames ended

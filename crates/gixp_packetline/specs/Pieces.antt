@@ -66,7 +66,7 @@ pieces_of fs = pieces_from fs.list fs.end
 abbrev pub stream_pieces : List ℕ → Pieces
 stream_pieces bytes = pieces_of (frames_of bytes)
 
--- the pieces of a data frame, and of those behind it
+-- the pieces of a data frame, and of those after it
 abbrev pub pieces_of_line : List ℕ → Pieces → Pieces
 pieces_of_line text rest = if is_error text then no_pieces (server (error_message text)) else with_piece (line text) rest
 

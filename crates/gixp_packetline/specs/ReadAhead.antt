@@ -5,7 +5,7 @@ use Rattle.std.specs.Io.KnownBytes.{prepend_known}
 use Rattle.gixp_packetline.specs.Pieces.{unexpected_frame, line, Pieces, with_piece, stream_pieces}
 use Rattle.gixp_packetline.specs.Reading.{Reading}
 
--- the pieces of these bytes, where they are known, behind the line that was peeked at
+-- the pieces of these bytes, where they are known, after the line that was peeked at
 abbrev pub pieces_behind : Bool → List ℕ → Option (List ℕ) → Option Pieces
 pieces_behind true text known = option_map (with_piece (line text)) (option_map stream_pieces known)
 pieces_behind false text known = option_map stream_pieces known

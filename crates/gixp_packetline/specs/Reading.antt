@@ -37,7 +37,7 @@ pub record Reading : Type 0 where
   -- what it holds beside the lines
   pub held : TransportState
 
--- behind the stop, if it is at one, under the stops of this version
+-- after the stop, if it is at one, under the stops of this version
 abbrev pub reset_to : Protocol → Reading → Reading
 reset_to version r = record r { stopped = None; version = version }
 
@@ -223,6 +223,11 @@ abbrev pub PlainText : {X : Type 0} → Bool → Reading → Reading → Result 
 PlainText plain old new (Ok x) = ⊤
 PlainText plain old new (Err Memory) = plain ≡ true → IsPlain new memory ⊎ ShowsLine old new
 PlainText plain old new (Err e) = plain ≡ true → IsPlain new (refusal_of e)
+
+-- this holds, but where the call was interrupted
+abbrev pub UnlessInterrupted : {X : Type 0} → Result X Error → Type 0 → Type 0
+UnlessInterrupted (Err Interrupted) P = ⊤
+UnlessInterrupted _ P = P
 
 -- a call that takes what comes next: true at a line, false at a stop
 abbrev pub Reads : Reading → Reading → Result Bool Error → Type 0

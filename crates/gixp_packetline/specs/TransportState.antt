@@ -18,7 +18,7 @@ pub record Greeting : Type 0 where
 
 -- what no call that reads changes
 pub record TransportState : Type 0 where
-  -- whether the answers of all requests stand one behind another
+  -- whether the answers of all requests stand one after another
   pub persists : Bool
   -- the bytes written, where they are known: of all requests where it persists, else of the one that isn't finished
   pub written : Option (List ℕ)

@@ -1,5 +1,5 @@
 //! A reader of lines over any reader of bytes.
-ghost use Rattle.std.specs.Prelude.{IfOk, true};
+ghost use Rattle.std.specs.Prelude.{IfOk, true, ⊤};
 ghost use Rattle.gixp_packetline.specs.Reading.{IsFresh};
 
 use crate::packets::Packets;
@@ -39,6 +39,12 @@ impl<'a, R: Read> ExtendedBufRead for LineReader<'a, R> {
     ghost reading = { line_reader_reading R.remaining };
 
     ghost is_plain = { true };
+
+    ghost goes_on = { λ a b. ⊤ };
+
+    ghost stays = { λ r. tt };
+
+    ghost joins = { λ a b c g h. tt };
 
     fn next_line(&mut self) -> Result<bool, Error> {
         self.packets.next_line()

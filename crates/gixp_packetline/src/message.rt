@@ -12,7 +12,7 @@ pub trait ServerMessage {
     /// The bytes of the message, where there is one.
     ghost message: { Self → Option (List ℕ) };
 
-    /// What the server said of it: the line behind `ERR ` without one ending LF, and none where the
+    /// What the server said of it: the line after `ERR ` without one ending LF, and none where the
     /// error isn't the server's.
     fn server_message(&self) -> Option<BStr<'_>>
         ensures { option_map bstr_bytes result ≡ message self.now };

@@ -57,7 +57,7 @@ pub enum PacketError {
     InvalidLineLength,
 }
 
-/// What stands at the front of some bytes.
+/// What is at the front of some bytes.
 #[derive(Clone, Copy)]
 pub(crate) enum Head {
     /// Less than a whole frame.
@@ -89,7 +89,7 @@ fn size_of_digits(digits: &[u8]) -> Option<usize>
     }
 }
 
-// What stands at the front of the bytes.
+// What is at the front of the bytes.
 pub(crate) fn read_head(bytes: &[u8]) -> Head
     ensures { result ≡ head_of bytes.now }
 {

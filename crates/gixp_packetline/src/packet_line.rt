@@ -14,7 +14,7 @@ pub enum PacketLine<'a> {
     Special(MessageKind),
 }
 
-/// The packet line at the front of some bytes, and the bytes behind it; none where they are less
+/// The packet line at the front of some bytes, and the bytes after it; none where they are less
 /// than a whole one (gitprotocol-common, "pkt-line Format"). It allocates nothing.
 ///
 /// # Errors

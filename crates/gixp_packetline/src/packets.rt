@@ -1,8 +1,8 @@
 //! Packets over a reader, through one buffer.
-ghost use Rattle.std.specs.Prelude.{◌≡◌, ◌≤◌, ◌<◌, ◌+◌, ◌-◌, ◌↔◌, false, length, take, Some, None, Ok, Err, [], IfOk, IsTrue, true, ◌⊎◌};
+ghost use Rattle.std.specs.Prelude.{◌≡◌, ◌≤◌, ◌<◌, ◌+◌, ◌-◌, ◌↔◌, false, length, take, Some, None, Ok, Err, [], IfOk, IsTrue, true, ◌⊎◌, ⊤};
 ghost use Rattle.gixp_packetline.specs.declared.packet.Head.TheVariants.{Partial};
 ghost use Rattle.gixp_packetline.specs.Frames.{head_of};
-ghost use Rattle.gixp_packetline.specs.Reading.{IsFresh, Rose, Reads, Peeks, PlainIf, refusal_of, is_end};
+ghost use Rattle.gixp_packetline.specs.Reading.{IsFresh, Rose, Reads, Peeks, PlainIf, UnlessInterrupted, refusal_of, is_end};
 ghost use Rattle.gixp_packetline.specs.Pieces.{is_error, error_message, server};
 ghost use Rattle.gixp_packetline.specs.Items.{is_stop};
 ghost use Rattle.std.specs.declared.io.ErrorKind.TheVariants.{Other};
@@ -31,7 +31,7 @@ pub enum Place {
     Refused,
 }
 
-/// Reads packets into one buffer, and lends their lines from it: the reader behind [`LineReader`] and the transports
+/// Reads packets into one buffer, and lends their lines from it: the reader in [`LineReader`] and the transports
 /// (gitprotocol-common, "pkt-line Format").
 ///
 /// [`LineReader`]: crate::LineReader
@@ -198,7 +198,7 @@ impl<R: Read> Packets<R> {
         self.note_read(received)
     }
 
-    // What stands at the front, of which as much as that takes is read.
+    // What is at the front, of which as much as that takes is read.
     fn settle(&mut self) -> Result<Head, Error>
         ensures { Settles R.remaining self.old self.new result }
     {
@@ -253,9 +253,16 @@ impl<R: Read> ExtendedBufRead for Packets<R> {
 
     ghost is_plain = { true };
 
+    ghost goes_on = { λ a b. ⊤ };
+
+    ghost stays = { λ r. tt };
+
+    ghost joins = { λ a b c g h. tt };
+
     fn next_line(&mut self) -> Result<bool, Error>
         ensures reads { Reads (packets_reading R.remaining self.old) (packets_reading R.remaining self.new) result }
         ensures plain { PlainIf true (packets_reading R.remaining self.new) result }
+        ensures goes_on { UnlessInterrupted result ⊤ }
         ensures spends { Spends self.old self.new result }
     {
         match self.place {
@@ -272,6 +279,7 @@ impl<R: Read> ExtendedBufRead for Packets<R> {
     fn peek_line(&mut self) -> Result<bool, Error>
         ensures peeks { Peeks (packets_reading R.remaining self.old) (packets_reading R.remaining self.new) result }
         ensures plain { PlainIf true (packets_reading R.remaining self.new) result }
+        ensures goes_on { UnlessInterrupted result ⊤ }
         ensures spends { Spends self.old self.new result }
     {
         match self.place {

@@ -1,6 +1,6 @@
 //! Readers of lines.
 ghost use Rattle.std.specs.Prelude.{◌≡◌, Bool, string_bytes};
-ghost use Rattle.gixp_packetline.specs.Reading.{Reading, Reads, Peeks, ReadsLent, PeeksLent, ReadsText, PlainIf, PlainText, reset_to};
+ghost use Rattle.gixp_packetline.specs.Reading.{Reading, Reads, Peeks, ReadsLent, PeeksLent, ReadsText, PlainIf, PlainText, UnlessInterrupted, reset_to};
 
 use crate::packet::PacketError;
 use crate::protocol::{MessageKind, Protocol};
@@ -80,6 +80,9 @@ pub trait ExtendedBufRead {
     // Whether it knows no bands, asks no interrupt, and allocates for a server's error alone.
     ghost is_plain: { Bool };
 
+    // What calls leave beside the lines, where no interrupt ended one of them.
+    ghost goes_on: { Self → Self → Type 0 };
+
     /// Takes the next line, which `line` then lends, and returns true; at a stop false.
     ///
     /// # Errors
@@ -87,7 +90,8 @@ pub trait ExtendedBufRead {
     /// Those of [`Error`] but `NotUtf8`, with what it says of each.
     fn next_line(&mut self) -> Result<bool, Error>
         ensures reads { Reads (reading self.old) (reading self.new) result }
-        ensures plain { PlainIf is_plain (reading self.new) result };
+        ensures plain { PlainIf is_plain (reading self.new) result }
+        ensures goes_on { UnlessInterrupted result (goes_on self.old self.new) };
 
     /// Makes `line` lend the next line, which is still to come, and returns true; at a stop false.
     ///
@@ -96,19 +100,21 @@ pub trait ExtendedBufRead {
     /// As `next_line`.
     fn peek_line(&mut self) -> Result<bool, Error>
         ensures peeks { Peeks (reading self.old) (reading self.new) result }
-        ensures plain { PlainIf is_plain (reading self.new) result };
+        ensures plain { PlainIf is_plain (reading self.new) result }
+        ensures goes_on { UnlessInterrupted result (goes_on self.old self.new) };
 
     /// The line that the last call took or peeked at, its LF included.
     fn line(&self) -> &[u8]
         ensures { result.now ≡ (reading self.now).line };
 
-    /// The stop that the reader is at, or none before the first one and behind `reset`.
+    /// The stop that the reader is at, or none before the first one and after `reset`.
     fn stopped_at(&self) -> Option<MessageKind>
         ensures { result ≡ (reading self.now).stopped };
 
-    /// Goes on behind the stop, if the reader is at one, under the stops of this version.
+    /// Goes on after the stop, if the reader is at one, under the stops of this version.
     fn reset(&mut self, version: Protocol)
-        ensures { reading self.new ≡ reset_to version (reading self.old) };
+        ensures reading { reading self.new ≡ reset_to version (reading self.old) }
+        ensures goes_on { goes_on self.old self.new };
 
     /// Lends the next line, which is still to come; at a stop none.
     ///
@@ -151,6 +157,7 @@ pub trait ExtendedBufRead {
     fn readline_str(&mut self, text: &mut String) -> Result<usize, Error>
         ensures text { ReadsText (reading self.old) (reading self.new) (string_bytes text.old) (string_bytes text.new) result }
         ensures plain { PlainText is_plain (reading self.old) (reading self.new) result }
+        ensures goes_on { UnlessInterrupted result (goes_on self.old self.new) }
     {
         if !self.peek_line()? {
             return Ok(0);
@@ -166,4 +173,10 @@ pub trait ExtendedBufRead {
         let _ = self.next_line();
         Ok(len)
     }
+
+    // No call at all leaves it as it is.
+    ghost stays: { (r : Self) → goes_on r r };
+
+    // Calls after calls.
+    ghost joins: { (a b c : Self) → goes_on a b → goes_on b c → goes_on a c };
 }

@@ -40,7 +40,7 @@ fn kind_of(e: io::Error) -> ErrorKind
     e.kind()
 }
 
-// One read, behind what the buffer holds.
+// One read, after what the buffer holds.
 fn read_behind<R: Read>(
     reader: &mut R,
     buffer: &mut Vec<u8>,
@@ -152,7 +152,7 @@ impl Window {
         self.start += amount;
     }
 
-    // One read of all that is free, behind what is pending. What was lent is gone. What is pending
+    // One read of all that is free, after what is pending. What was lent is gone. What is pending
     // moves only where something stands in front of it.
     pub(crate) fn receive<R: Read>(&mut self, reader: &mut R) -> Result<usize, ErrorKind>
         requires { length self.old.pending < 65520 }

@@ -47,7 +47,7 @@ stop_is v [] end kind q h = cc
 stop_is v (line t ∷ ps) end kind q h = cc
 stop_is v (mark k ∷ ps) end kind q h = let all = mark_stops (is_stop v k) k kind ps end q unexpected_frame h in (all.0, all.1)
 
--- one more piece behind those that were taken
+-- one more piece after those that were taken
 snoc_is : (taken : List Piece) (x : Piece) (q : Pieces) → front (taken ++ x ∷ []) q ≡ front taken (with_piece x q)
 snoc_is taken x q = rw append_assoc refl
 
@@ -102,7 +102,7 @@ pub going-stop : (found k : Pieces → Found) (v : Protocol) (taken : List Piece
 going-stop found k v taken old mid new kind h r t =
     took_piece found k taken old mid new (mark kind) h (known_stop mid.version mid.to_come new.to_come kind t.next) t.failures t.held
 
--- behind the stop
+-- after the stop
 pub going-reset : (found k : Pieces → Found) (v : Protocol) (taken : List Piece) (old mid new : Reading) → Going found k taken old mid → new ≡ reset_to v mid
     → Going found k taken old new × IsRunning v new
 going-reset found k v taken old mid new h e =
@@ -170,7 +170,7 @@ going-refused plain found k taken old new r e h at w l is = inl (record {
   error = is;
 })
 
--- memory ran out behind what was taken
+-- memory ran out after what was taken
 pub going-memory : (plain : Bool) (found k : Pieces → Found) (taken : List Piece) (old new : Reading) → Going found k taken old new → new.stopped ≡ None → AnswerFails found plain old new Memory
 going-memory plain found k taken old new h at =
     inr (inr (inr (record { taken = taken; read = record { took = h.took; failures = h.failures }; stopped = at; error = refl })))

@@ -10,7 +10,7 @@ use Rattle.gixp_response.specs.Answer.{AnswerValue, Found, whole, refused, front
 use Rattle.gixp_response.specs.Beginnings.{AnswerItem, line_item, stopped, Expected, ends, said_in, unless_ends, beginnings_from, v1_answer}
 use Rattle.gixp_response.specs.BeginningGrammar.{items_behind, AreStops, IsShortest}
 
--- the same behind items that were read before
+-- the same after items that were read before
 record Shortest (v : Protocol) (a : Expected) (before : List AnswerItem) (p : Pieces) (value : AnswerValue) (rest : Pieces) : Type 0 where
   taken : List Piece
   pack : Bool
@@ -43,7 +43,7 @@ here v a before p value rest pack e h =
       shortest = λ shorter next more k. absurd (not_empty shorter next more k);
     }
 
--- it ends behind one more piece
+-- it ends after one more piece
 further : (v : Protocol) (a : Expected) (before : List AnswerItem) (x : Piece) (p : Pieces) (value : AnswerValue) (rest : Pieces) → ends a before (next_of v (with_piece x p)) ≡ None
     → Shortest v a (items_behind (x ∷ []) before) p value rest → ((ps : List Piece) → items_behind (x ∷ ps) before ≡ items_behind ps (items_behind (x ∷ []) before))
     → ((ps : List Piece) → AreStops v ps → AreStops v (x ∷ ps))

@@ -162,14 +162,14 @@ mark_at_end : (b : Bool) (kind : MessageKind) (p : Pieces) → cond b (stops kin
 mark_at_end true kind p h = cc
 mark_at_end false kind p h = cc
 
--- the end of the pieces, not right behind a stop
+-- the end of the pieces, not right after a stop
 at_end_is : (v : Protocol) (a : Expected) (before : List AnswerItem) (list : List Piece) (end : Refusal) → ends a before (refuses (io UnexpectedEof)) ≡ Some false
     → next_from v list end ≡ refuses (io UnexpectedEof) → beginnings_from v a list end before ≡ whole (said_in before false) (no_pieces (io UnexpectedEof))
 at_end_is v a before [] end e h = let s : end ≡ io UnexpectedEof = cc in rw (s, e) refl
 at_end_is v a before (line t ∷ ps) end e h = cc
 at_end_is v a before (mark kind ∷ ps) end e h = absurd (mark_at_end (is_stop v kind) kind (record { list = ps; end = end }) h)
 
--- behind pieces of which the stream's end comes next nothing stands
+-- after pieces of which the stream's end comes next nothing stands
 nothing_left : (v : Protocol) (list : List Piece) (end : Refusal) → next_from v list end ≡ refuses (io UnexpectedEof) → record { list = list; end = end } ≡ no_pieces (io UnexpectedEof)
 nothing_left v [] end h = let s : end ≡ io UnexpectedEof = cc in rw s refl
 nothing_left v (line t ∷ ps) end h = cc
@@ -236,7 +236,7 @@ end_answers v earlier a before old mid new h e l (inr (inr t)) =
       failures = subst (λ n. Rose n new.failures) h.going.failures t.failures;
     })
 
--- the stream's end, not right behind a stop
+-- the stream's end, not right after a stop
 pub amid-end : (v : Protocol) (earlier : IsEarlier v) (a : Expected) (answer : AnswerValue) (came_ready behind_stop : Bool) (old mid new : Reading) (r : ReadError) → Amid v a answer came_ready behind_stop old mid
     → Fails mid new (refusal_of r) → true ≡ (is_at_end (refusal_of r) && not behind_stop) → Answered (v1_answer v a) v old new answer
 amid-end v earlier a answer came_ready behind_stop old mid new r h f t =
@@ -391,7 +391,7 @@ said_more before (updated x) = refl
 said_more before other = refl
 said_more before stopped = refl
 
--- the answer goes on behind it
+-- the answer goes on after it
 pub amid-said : (v : Protocol) (a : Expected) (answer more : AnswerValue) (came_ready behind_stop ready : Bool) (s : Said) (old mid new : Reading) (h : Amid v a answer came_ready behind_stop old mid)
     → Taken v a s h.before old new → more ≡ said_with answer (item_said (Some s)) → ready ≡ (is_ready (item_said (Some s)) || came_ready)
     → false ≡ ((is_nak (item_said (Some s)) && a.negotiates) && not (a.expects_pack && ready)) → Amid v a more ready false old new

@@ -7,3 +7,4 @@ mod SectionGrammarLemmas
 mod BeginningGrammarLemmas
 mod RefusedBeginningLemmas
 mod RefusedSectionLemmas
+mod InterruptLemmas

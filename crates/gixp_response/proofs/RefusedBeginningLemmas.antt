@@ -10,7 +10,7 @@ use Rattle.gixp_response.specs.Answer.{Found, refused, front}
 use Rattle.gixp_response.specs.Beginnings.{AnswerItem, line_item, stopped, Expected, ends, unless_ends, beginnings_from, v1_answer}
 use Rattle.gixp_response.specs.BeginningGrammar.{items_behind, AreStops, BeginningIsRefused}
 
--- the same behind items that were read before
+-- the same after items that were read before
 record Refusing (v : Protocol) (a : Expected) (before : List AnswerItem) (p : Pieces) (e : AnswerRefusal) : Type 0 where
   taken : List Piece
   rest : Pieces
@@ -42,7 +42,7 @@ refused_here v a before p e refusal n none h = record {
     no_shorter [] more k = subst (λ m. ends a before (next_of v (front m p)) ≡ None) k none
     no_shorter (x ∷ xs) more k = cc
 
--- it is refused behind one more piece
+-- it is refused after one more piece
 refused_further : (v : Protocol) (a : Expected) (before : List AnswerItem) (x : Piece) (p : Pieces) (e : AnswerRefusal) → ends a before (next_of v (with_piece x p)) ≡ None
     → Refusing v a (items_behind (x ∷ []) before) p e → ((ps : List Piece) → items_behind (x ∷ ps) before ≡ items_behind ps (items_behind (x ∷ []) before))
     → ((ps : List Piece) → AreStops v ps → AreStops v (x ∷ ps))
@@ -132,7 +132,7 @@ mark_passed : (a : Expected) (before : List AnswerItem) (kind : MessageKind) (p 
 mark_passed a before kind p x longer other all true i n h = rw n h
 mark_passed a before kind p x longer other all false i n h = cc
 
--- behind pieces none of whose beginnings ends an answer
+-- after pieces none of whose beginnings ends an answer
 read_behind : (v : Protocol) (a : Expected) (taken : List Piece) (rest : Pieces) (before : List AnswerItem) (refusal : Refusal) → AreStops v taken → next_of v rest ≡ refuses refusal
     → ((shorter more : List Piece) → taken ≡ shorter ++ more → ends a (items_behind shorter before) (next_of v (front more rest)) ≡ None)
     → beginnings_from v a (taken ++ rest.list) rest.end before ≡ refused (from_reader refusal)

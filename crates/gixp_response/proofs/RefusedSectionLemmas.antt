@@ -1,4 +1,4 @@
--- A version 2 answer is refused exactly where, behind some sections, a header or an item is refused.
+-- A version 2 answer is refused exactly where, after some sections, a header or an item is refused.
 use Rattle.std.proofs.Common.{◌≡◌, ℕ, List, [], ◌∷◌, ◌++◌, map, Option, Some, None, Result, Ok, Err, refl, sym, ap, ◌∙◌, inl, inr}
 use Rattle.std.specs.Prelude.{◌⊎◌}
 use Rattle.gixp_packetline.specs.declared.protocol.MessageKind.{MessageKind}
@@ -31,7 +31,7 @@ item_read section [] end e h = ap refused (sym h)
 item_read section (line text ∷ ps) end e h = rw h refl
 item_read section (mark kind ∷ ps) end e h = stop_read kind section ps end e h
 
--- behind items
+-- after items
 cut_items : (section : Section) (ts : List (List ℕ)) (vs : List AnswerValue) (more : List Piece) (end : Refusal) (e : AnswerRefusal) → AreItems section ts vs → ItemRefused section more end e
     → sections_from (map line ts ++ more) end (Some section) ≡ refused e
 cut_items section [] [] more end e h k = item_read section more end e k
@@ -46,7 +46,7 @@ cut_read ps end e h =
     let head : read_header h.begun.header ≡ Ok (Of h.begun.kind) = h.is_section.0 in
     rw h.pieces (rw head (cut_items h.begun.kind h.begun.lines h.begun.items h.more end e h.is_section.1 h.cut))
 
--- behind sections
+-- after sections
 pub refused_read : (ps : List Piece) (end : Refusal) (ss : List SectionText) (e : AnswerRefusal) → AreRefused ps end ss e → sections_from ps end None ≡ refused e
 refused_read ps end [] e (inl h) = header_read ps end e h
 refused_read ps end [] e (inr h) = cut_read ps end e h
@@ -123,7 +123,7 @@ item_refused section t ps end e (Ok item) h k f = inside_more section t ps end i
 item_refused section t ps end e (Err r) h k f =
     record { lines = []; items = []; are = tt; cut = inl (line t ∷ ps, refl, h ∙ ap Err (sym (same_refusal r e k))) }
 
--- by the stop behind a section
+-- by the stop after a section
 stop_refused : (section : Section) (kind : MessageKind) (ps : List Piece) (end : Refusal) (e : AnswerRefusal)
     → closed kind (record { list = ps; end = end }) (sections_from ps end None) ≡ refused e
     → (sections_from ps end None ≡ refused e → AtRefused None ps end e)
@@ -145,6 +145,6 @@ refused_at (Some section) (line t ∷ ps) end e h = item_refused section t ps en
 refused_at None (mark kind ∷ ps) end e h = ([], inl (same_refusal _ e h))
 refused_at (Some section) (mark kind ∷ ps) end e h = stop_refused section kind ps end e h (λ k. refused_at None ps end e k)
 
--- a refused answer is one of some sections and a refusal behind them
+-- a refused answer is one of some sections and a refusal after them
 pub refused_found : (ps : List Piece) (end : Refusal) (e : AnswerRefusal) → sections_from ps end None ≡ refused e → (ss : List SectionText) × AreRefused ps end ss e
 refused_found ps end e h = refused_at None ps end e h

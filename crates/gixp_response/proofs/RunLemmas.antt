@@ -15,7 +15,7 @@ ahead_running r p h = ap (λ s. lines_from_stop s r.version p) h
 ahead_stopped : (r : Reading) (p : Pieces) (kind : MessageKind) → r.stopped ≡ Some kind → lines_ahead r p ≡ no_lines (stop kind p)
 ahead_stopped r p kind h = ap (λ s. lines_from_stop s r.version p) h
 
--- what is known of known pieces and those behind them
+-- what is known of known pieces and those after them
 abbrev pub Known : Option Pieces → Option Pieces → (Pieces → Pieces → Type 0) → Type 0
 Known old new P = IfSome old (λ p. (q : Pieces) × (new ≡ Some q) × P p q)
 
@@ -62,7 +62,7 @@ so_far-line old mid new texts h k = let text = new.line in record {
   held = k.held ∙ h.held;
 }
 
--- lines before an ending behind which nothing stands
+-- lines before an ending after which nothing stands
 before_none : (texts : List (List ℕ)) (ending : Ending) → before texts (no_lines ending) ≡ lines_to texts ending
 before_none texts ending = rw append-nil refl
 

@@ -73,7 +73,7 @@ At (Some kind) ps v rest = Inside kind ps v rest
 whole_value : (v w : AnswerValue) (p q : Pieces) → whole v p ≡ whole w q → (v ≡ w) × (p ≡ q)
 whole_value v w p q h = (cc, cc)
 
--- what is found behind an item
+-- what is found after an item
 front_found : (item : AnswerValue) (f : Found) (v : AnswerValue) (q : Pieces) → in_front item f ≡ whole v q → (w : AnswerValue) × (f ≡ whole w q) × (v ≡ both w.pack item w)
 front_found item (whole w p) v q h = let e = whole_value (both w.pack item w) v p q h in (w, ap (whole w) e.1, sym e.0)
 front_found item (refused e) v q h = cc
@@ -130,7 +130,7 @@ item_found kind t ps end v q (Ok item) e h f =
     (inside_line kind t ps q.list item v x.0 e x.2 i.0, i.1)
 item_found kind t ps end v q (Err r) e h f = cc
 
--- by the stop behind a section
+-- by the stop after a section
 stop_found : (kind : Section) (k : MessageKind) (ps : List Piece) (end : Refusal) (v : AnswerValue) (q : Pieces)
     → closed k (record { list = ps; end = end }) (sections_from ps end None) ≡ whole v q
     → (sections_from ps end None ≡ whole v q → Sections ps v q.list × (q.end ≡ end))

@@ -97,7 +97,7 @@ flushed_is Delimiter rest later f = cc
 flushed_is ResponseEnd rest later f = cc
 flushed_is Text rest later f = cc
 
--- behind a section that a delimiter ends a header is due
+-- after a section that a delimiter ends a header is due
 pub within-delimiter : (had : AnswerValue) (s : Section) (old mid new last : Reading) → Within had (Some s) old mid → AtStop mid new → is_flush new.stopped ≡ false → last ≡ reset_to V2 new
     → Within had None old last
 within-delimiter had s old mid new last h a f e =

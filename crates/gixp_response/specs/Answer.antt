@@ -13,7 +13,7 @@ pub record AnswerValue : Type 0 where
   pub acknowledgements : List Acknowledgement
   pub shallow_updates : List ShallowUpdate
   pub wanted_refs : List WantedValue
-  -- whether a pack begins behind it
+  -- whether a pack begins after it
   pub pack : Bool
 
 -- an answer that says no more than whether a pack comes
@@ -43,7 +43,7 @@ abbrev pub update_items : Option (Vec ShallowUpdate Global) → List ShallowUpda
 update_items None = []
 update_items (Some updates) = updates.items
 
--- what is found in some pieces: a whole answer with the pieces behind it, or a refusal
+-- what is found in some pieces: a whole answer with the pieces after it, or a refusal
 pub data Found : Type 0 where
   whole : AnswerValue → Pieces → Found
   refused : AnswerRefusal → Found

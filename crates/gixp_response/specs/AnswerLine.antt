@@ -31,7 +31,7 @@ abbrev pub common_id : Acknowledgement → Option ObjectId
 common_id (Common id) = Some id
 common_id _ = None
 
--- what stands behind a beginning
+-- what comes after a beginning
 abbrev pub behind : List ℕ → List ℕ → Option (List ℕ)
 behind word text = if is_text (take (length word) text) word then Some (drop (length word) text) else None
 

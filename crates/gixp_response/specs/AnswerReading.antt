@@ -43,7 +43,7 @@ last_stop [] = None
 last_stop (p ∷ []) = stop_of p
 last_stop (p ∷ q ∷ ps) = last_stop (q ∷ ps)
 
--- the stop behind the pieces of an answer: none in front of a pack
+-- the stop after the pieces of an answer: none in front of a pack
 abbrev pub stop_behind : Bool → List Piece → Option MessageKind
 stop_behind true taken = None
 stop_behind false taken = last_stop taken
@@ -53,12 +53,12 @@ abbrev pub EndsBare : Protocol → Option MessageKind → Type 0
 EndsBare V2 at = at ≡ Some Flush
 EndsBare _ at = (at ≡ None) ⊎ (at ≡ Some Flush)
 
--- the stop that the reader is at behind an answer: none in front of a pack
+-- the stop that the reader is at after an answer: none in front of a pack
 abbrev pub EndsAt : Protocol → Bool → Option MessageKind → Type 0
 EndsAt under true at = at ≡ None
 EndsAt under false at = EndsBare under at
 
--- the answer in the pieces to come was read, and what stands behind it is still to come; where those aren't known, it is that of the pieces taken and of what may stand behind them
+-- the answer in the pieces to come was read, and what comes after it is still to come; where those aren't known, it is that of the pieces taken and of what may come after them
 pub record ReadsAnswer (found : Pieces → Found) (under : Protocol) (old new : Reading) (value : AnswerValue) : Type 0 where
   pub taken : List Piece
   pub took : Took taken old new
@@ -71,7 +71,7 @@ pub record ReadsAnswer (found : Pieces → Found) (under : Protocol) (old new : 
   pub version : new.version ≡ under
   pub failures : new.failures ≡ old.failures
 
--- a read failed as at the stream's end behind some pieces, which are then the answer
+-- a read failed as at the stream's end after some pieces, which are then the answer
 pub record AnswerBrokeOff (found : Pieces → Found) (under : Protocol) (old new : Reading) (value : AnswerValue) : Type 0 where
   pub taken : List Piece
   pub now : Reading
@@ -90,7 +90,7 @@ pub record Passed (old now : Reading) (taken : List Piece) : Type 0 where
   pub took : Took taken old now
   pub failures : now.failures ≡ old.failures
 
--- whatever stands behind these pieces, the last of them is refused, and the reader is at it if it is a stop
+-- whatever comes after these pieces, the last of them is refused, and the reader is at it if it is a stop
 pub record LastRefused (found : Pieces → Found) (taken : List Piece) (refusal : AnswerRefusal) (now : Reading) : Type 0 where
   pub of_line : is_of_line refusal ≡ true
   pub always : (q : Pieces) → found (front taken q) ≡ refused refusal

@@ -8,13 +8,13 @@ use Rattle.gixp_response.specs.ResponseError.{AnswerRefusal, from_reader}
 use Rattle.gixp_response.specs.Answer.{AnswerValue, front}
 use Rattle.gixp_response.specs.Beginnings.{AnswerItem, line_item, stopped, Expected, ends, said_in}
 
--- the items of a beginning behind those before it, the last one first
+-- the items of a beginning after those before it, the last one first
 abbrev pub items_behind : List Piece → List AnswerItem → List AnswerItem
 items_behind [] before = before
 items_behind (line text ∷ ps) before = items_behind ps (line_item text ∷ before)
 items_behind (mark kind ∷ ps) before = items_behind ps (stopped ∷ before)
 
--- whether an answer ends behind these pieces, in front of those, and then whether a pack follows it
+-- whether an answer ends after these pieces, in front of those, and then whether a pack follows it
 abbrev pub ends_behind : Protocol → Expected → List Piece → Pieces → Option Bool
 ends_behind version a taken rest = ends a (items_behind taken []) (next_of version rest)
 
@@ -34,7 +34,7 @@ pub record IsShortest (version : Protocol) (a : Expected) (p : Pieces) (value : 
   pub said : value ≡ said_in (items_behind taken []) pack
   pub shortest : (shorter : List Piece) (next : Piece) (more : List Piece) → taken ≡ shorter ++ next ∷ more → ends_behind version a shorter (front (next ∷ more) rest) ≡ None
 
--- no beginning ends an answer, and what stands behind the longest one is refused
+-- no beginning ends an answer, and what comes after the longest one is refused
 pub record BeginningIsRefused (version : Protocol) (a : Expected) (p : Pieces) (e : AnswerRefusal) : Type 0 where
   pub taken : List Piece
   pub rest : Pieces

@@ -87,13 +87,13 @@ expected expects_pack negotiates = record { expects_pack = expects_pack; negotia
 abbrev pub ends_by_nak : Expected → List AnswerItem → Bool
 ends_by_nak a before = (last_is is_nak before && a.negotiates) && not (a.expects_pack && list_any is_ready before)
 
--- the next item is another line, which begins the pack, or the stream ends and not behind a stop
+-- the next item is another line, which begins the pack, or the stream ends and not after a stop
 abbrev pub ends_before : List AnswerItem → Next → Option Bool
 ends_before before (gives text rest) = if is_other (line_item text) then Some true else None
 ends_before before (refuses e) = if is_at_end e && not (last_is is_stopped before) then Some false else None
 ends_before before (stops kind rest) = None
 
--- whether an answer ends behind a beginning, and then whether a pack follows it
+-- whether an answer ends after a beginning, and then whether a pack follows it
 abbrev pub ends : Expected → List AnswerItem → Next → Option Bool
 ends a before next =
     if ends_by_nak a before then Some false
@@ -131,7 +131,7 @@ updates_in (_ ∷ before) = updates_in before
 abbrev pub said_in : List AnswerItem → Bool → AnswerValue
 said_in before pack = record { acknowledgements = acknowledgements_in before; shallow_updates = updates_in before; wanted_refs = []; pack = pack }
 
--- one more item behind those of an answer
+-- one more item after those of an answer
 abbrev pub said_with : AnswerValue → AnswerItem → AnswerValue
 said_with had (acknowledged a) = record had { acknowledgements = with_acknowledgement had.acknowledgements a }
 said_with had (updated u) = record had { shallow_updates = had.shallow_updates ++ u ∷ [] }
@@ -142,7 +142,7 @@ abbrev pub unless_ends : Option Bool → List AnswerItem → Pieces → Found �
 unless_ends (Some pack) before rest longer = whole (said_in before pack) rest
 unless_ends None before rest longer = longer
 
--- the answer by the shortest beginning that is this one or longer, and what is to come behind this one
+-- the answer by the shortest beginning that is this one or longer, and what is to come after this one
 abbrev pub beginnings_from : Protocol → Expected → List Piece → Refusal → List AnswerItem → Found
 beginnings_from version a [] end before =
     unless_ends (ends a before (refuses end)) before (no_pieces end) (refused (from_reader end))

@@ -19,7 +19,7 @@ StandsFor errors e r = errors.is_no_memory (errors.refusal e) ≡ false → erro
 
 -- Read says what a call took between two readings, and that nothing else happened
 module _ {E R T : Type 0} (errors : Errors E R) (Read : Reading → Reading → T → Type 0) where
-  -- behind that, the reader met an I/O error, which it counts, an interrupt or an allocation failure
+  -- after that, the reader met an I/O error, which it counts, an interrupt or an allocation failure
   pub record ReaderFailed (plain : Bool) (old new : Reading) (e : E) : Type 0 where
     pub taken : T
     pub now : Reading

@@ -29,7 +29,7 @@ AreItems kind (t ∷ ts) (v ∷ vs) = (read_item kind t ≡ Ok v) × AreItems ki
 abbrev pub IsSection : SectionText → Type 0
 IsSection s = (read_header s.header ≡ Ok (Of s.kind)) × AreItems s.kind s.lines s.items
 
--- lines, a stop, and what stands behind them
+-- lines, a stop, and what comes after them
 abbrev pub lines_to_stop : List (List ℕ) → MessageKind → List Piece → List Piece
 lines_to_stop texts stop rest = map line texts ++ mark stop ∷ rest
 
@@ -42,7 +42,7 @@ pub data Last : Type 0 where
   pack_behind : List ℕ → Last
   flushed : SectionText → Last
 
--- the pieces are these sections, each with a delimiter behind it, and then this end
+-- the pieces are these sections, each with a delimiter after it, and then this end
 abbrev pub AreSections : List Piece → List SectionText → Last → List Piece → Type 0
 AreSections ps [] (pack_behind header) rest = (read_header header ≡ Ok Packfile) × (ps ≡ line header ∷ rest)
 AreSections ps [] (flushed s) rest = IsSection s × (ps ≡ section_text s Flush rest)
@@ -81,7 +81,7 @@ pub record IsCut (ps : List Piece) (end : Refusal) (e : AnswerRefusal) : Type 0 
   pub pieces : ps ≡ line begun.header ∷ (map line begun.lines ++ more)
   pub cut : ItemRefused begun.kind more end e
 
--- the pieces are these sections, each with a delimiter behind it, and then a header or an item that is refused
+-- the pieces are these sections, each with a delimiter after it, and then a header or an item that is refused
 abbrev pub AreRefused : List Piece → Refusal → List SectionText → AnswerRefusal → Type 0
 AreRefused ps end [] e = HeaderRefused ps end e ⊎ IsCut ps end e
 AreRefused ps end (s ∷ ss) e = IsSection s × (more : List Piece) × (ps ≡ section_text s Delimiter more) × AreRefused more end ss e

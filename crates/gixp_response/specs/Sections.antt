@@ -47,7 +47,7 @@ read_header text = as_text text (or_refused (unknown_header text) (header_of (tr
 abbrev pub read_item : Section → List ℕ → Result AnswerValue AnswerRefusal
 read_item section text = as_text text (or_refused (unknown_line text) (item_of section text))
 
--- behind a header: its section, or the pack
+-- after a header: its section, or the pack
 abbrev pub opened : Result Header AnswerRefusal → Pieces → (Option Section → Found) → Found
 opened (Ok (Of section)) rest later = later (Some section)
 opened (Ok Packfile) rest later = whole (no_more true) rest
@@ -58,7 +58,7 @@ abbrev pub added : Result AnswerValue AnswerRefusal → Found → Found
 added (Ok item) later = in_front item later
 added (Err e) later = refused e
 
--- behind a section: a flush ends the answer, a delimiter goes on to a header
+-- after a section: a flush ends the answer, a delimiter goes on to a header
 abbrev pub closed : MessageKind → Pieces → Found → Found
 closed Flush rest later = whole (no_more false) rest
 closed Delimiter rest later = later

@@ -33,19 +33,19 @@ pub fn shortest_are_answers()
     ensures { (version : Protocol) (a : Expected) (p : Pieces) (value : AnswerValue) (rest : Pieces) → IsShortest version a p value rest → v1_answer version a p ≡ whole value rest }
 {}
 
-/// A version 2 answer that is refused is some sections and behind them a header or an item that is
+/// A version 2 answer that is refused is some sections and after them a header or an item that is
 /// refused, or the end of the stream.
 pub fn refused_sections_are_cut()
     ensures { (p : Pieces) (e : AnswerRefusal) → v2_answer p ≡ refused e → (ss : List SectionText) × AreRefused p.list p.end ss e }
 {}
 
-/// Sections with such a refusal behind them are refused so, however they are read.
+/// Sections with such a refusal after them are refused so, however they are read.
 pub fn cut_sections_are_refused()
     ensures { (ps : List Piece) (end : Refusal) (ss : List SectionText) (e : AnswerRefusal) → AreRefused ps end ss e → v2_answer (record { list = ps; end = end }) ≡ refused e }
 {}
 
 /// Where an answer under versions 0 and 1 is refused, no beginning ends one, and the refusal is that of
-/// the reader behind all of it.
+/// the reader after all of it.
 pub fn refused_answers_have_no_end()
     ensures { (version : Protocol) (a : Expected) (p : Pieces) (e : AnswerRefusal) → v1_answer version a p ≡ refused e → BeginningIsRefused version a p e }
 {}

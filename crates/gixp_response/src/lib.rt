@@ -1,4 +1,4 @@
-//! What a server answers in git's fetch protocol: from lines to what stands before a pack.
+//! What a server answers in git's fetch protocol: from lines to what comes before a pack.
 #![tactic(auto)]
 
 pub mod fetch;

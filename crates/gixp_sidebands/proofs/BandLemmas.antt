@@ -94,7 +94,7 @@ behind_next : (a b : Option Pieces) (v : Protocol) (text : List ℕ)
 behind_next None b v text n = tt
 behind_next (Some p) b v text n = ap (option_map unband) n.1 ∙ ap Some (sym (behind_gives v p.list p.end text n.0 n.2))
 
--- behind a packet that was begun
+-- after a packet that was begun
 pub skipping-behind : (name : GName) (r now : Reading) → TakesLine r now → Skipping (banded_reading true name r) name now
 skipping-behind name r now t = record {
   to_come = behind_next r.to_come now.to_come r.version now.line t.next;

@@ -49,7 +49,7 @@ content_line k text rest e = ap (λ x. content_from (unband_line x text rest).li
 messages_skip : (k : Band) (text : List ℕ) (rest : List Message) → k ≡ Content → messages_line k text rest ≡ rest
 messages_skip k text rest e = ap (λ x. messages_line x text rest) e
 
--- content at the front is that line's and what is behind it
+-- content at the front is that line's and what is after it
 content_front : (list : List Piece) (end : Refusal) (text : List ℕ) → front_line list ≡ text → band_of text ≡ Content
     → (rest : List ℕ) × (content_from (unband_from list end).list ≡ drop 1 text ++ rest)
 content_front [] end text f k = absurd (let e : Empty ≡ Content = ap band_of f ∙ k in cc)
@@ -367,7 +367,7 @@ broken_passes old new x n h = unopened_passes old new (lost_of old old.reading.t
         let f = known_below new.reading.to_come (no_pieces x) h.to_come in
         (f.0, f.1, sym (append-nil (side_content old p)) ∙ ap (λ y. side_content old p ++ y) (sym (refused_empty new.reading.stopped x f.0 h.stopped f.2)))
 
--- a refusal of the stream stands behind all content
+-- a refusal of the stream comes after all content
 ends_at : (old new : Side) (x : Refusal) → old.place ≡ None → Refuses (side_reading old) (side_reading new) x → IfSome old.reading.to_come (λ p. side_content old p ≡ [])
 ends_at old new x o r = rw o (by (rw o at r))
   where

@@ -47,7 +47,7 @@ at_stop : (s : Option MessageKind) (p : Pieces) → IsSome s → messages_left s
 at_stop None p h = absurd (let x = h in cc)
 at_stop (Some kind) p h = refl
 
--- what is known of a value behind an option that is known
+-- what is known of a value after an option that is known
 known_at : (o : Option Pieces) (q : Pieces) (P : Pieces → Type 0) → o ≡ Some q → IfSome o P → P q
 known_at None q P e h = absurd (let x = e in cc)
 known_at (Some p) q P e h = let same : p ≡ q = cc in subst P same h

@@ -43,7 +43,7 @@ IsPassed Content = ⊥
 IsPassed (Unknown band) = ⊥
 IsPassed _ = Unit {0}
 
--- what a line adds in front of the content behind it
+-- what a line adds in front of the content after it
 abbrev pub unband_line : Band → List ℕ → Pieces → Pieces
 unband_line Content text rest = with_piece (line (drop 1 text)) rest
 unband_line (Unknown band) text rest = no_pieces (bad_band band)
@@ -62,7 +62,7 @@ abbrev pub unband_behind_from : List Piece → Refusal → Pieces
 unband_behind_from [] end = no_pieces end
 unband_behind_from (p ∷ ps) end = unband_from ps end
 
--- the content behind the first piece
+-- the content after the first piece
 abbrev pub unband_behind : Pieces → Pieces
 unband_behind ps = unband_behind_from ps.list ps.end
 
@@ -83,7 +83,7 @@ pub record Message : Type 0 where
 abbrev pub message_in : Bool → List ℕ → Message
 message_in is_error text = record { is_error = is_error; text = strip_last 10 (drop 1 text) }
 
--- what a line tells in front of the messages behind it
+-- what a line tells in front of the messages after it
 abbrev pub messages_line : Band → List ℕ → List Message → List Message
 messages_line (Text is_error) text rest = message_in is_error text ∷ rest
 messages_line (Unknown band) text rest = []
@@ -192,7 +192,7 @@ side_content s p = content_left s.place s.reading.stopped p
 abbrev pub IsFirstOf : Side → Pieces → Type 0
 IsFirstOf s p = IsFirst s.place s.reading p
 
--- these bytes of content came next, and what is left to come is the end of it behind them
+-- these bytes of content came next, and what is left to come is the end of it after them
 abbrev pub Passes : Side → Side → List ℕ → Type 0
 Passes old new bytes = IfSome old.reading.to_come (λ p. IsFirstOf old p → (q : Pieces) × (new.reading.to_come ≡ Some q) × IsFirstOf new q × (side_content old p ≡ bytes ++ side_content new q))
 
@@ -270,7 +270,7 @@ abbrev pub ReadsContent : Side → Side → Result ℕ io_error → List ℕ →
 ReadsContent old new (Ok n) buf = (ReadsBytes old new (take n buf) × (n ≡ 0 → length buf ≡ 0)) ⊎ ((n ≡ 0) × EndsContent old new)
 ReadsContent old new (Err e) buf = RefusesContent old new e
 
--- these lists, one behind another
+-- these lists, one after another
 abbrev pub joined : List (List ℕ) → List ℕ
 joined [] = []
 joined (xs ∷ xss) = xs ++ joined xss

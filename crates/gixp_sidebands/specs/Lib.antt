@@ -5,4 +5,5 @@ pub use Rattle.gixp_packetline.specs.Pieces
 pub use Rattle.gixp_packetline.specs.Reading
 pub mod Bands
 pub mod Telling
+pub mod SaidToGoOn
 pub mod Sidebands

@@ -8,6 +8,7 @@ use Rattle.gixp_sidebands.specs.declared.sidebands.WithSidebands.{WithSidebands}
 use Rattle.gixp_packetline.specs.Reading.{Reading, PeeksLent, ReadsLent, refusal_of}
 use Rattle.gixp_sidebands.specs.Bands.{Side, FillsLent, side_reading}
 use Rattle.gixp_sidebands.specs.Telling.{Listener, Told, refusal_in}
+use Rattle.gixp_sidebands.specs.SaidToGoOn.{SaidToGoOn}
 
 module _ {T P I : Type 0} {b : _} where
   -- where it stands, over what its transport means
@@ -21,12 +22,16 @@ module _ {T P I : Type 0} {b : _} where
   abbrev pub listener : WithSidebands T P I b → Listener P I
   listener s = record { progress = s.progress; interrupt = s.interrupt.now }
 
+  -- whenever its interrupt was asked, that said to go on, and it is the same one
+  abbrev pub sidebands_goes_on : (I → Bool → I → Type 0) → WithSidebands T P I b → WithSidebands T P I b → Type 0
+  sidebands_goes_on says old new = SaidToGoOn says (listener old).interrupt (listener new).interrupt × (new.interrupt.ghost_name ≡ old.interrupt.ghost_name)
+
   -- the reader below, as it is now
   abbrev pub transport_of : WithSidebands T P I b → T
   transport_of s = s.front.at.now
 
   module _ (reading : T → Reading) (hears spares : P → Bool → List ℕ → P → Type 0) (says : I → Bool → I → Type 0) (plain : Bool) where
-    -- a call that lends the content at hand: the reader that stands behind it, and what was told on the way
+    -- a call that lends the content at hand: the reader that comes after it, and what was told on the way
     pub record Lends (old : WithSidebands T P I b) (result : Result (Bor (List ℕ)) io_error) (new : WithSidebands T P I b) : Type 0 where
       pub fills : FillsLent (side reading old) (side reading new) result
       pub told : Told hears spares says plain (side reading new).fault (side reading old).reading (side reading new).reading (listener old) (listener new)

@@ -1,4 +1,4 @@
--- To whom bands 2 and 3 are told, and who is asked behind each of their packets (gitprotocol-pack, "Packfile Data").
+-- To whom bands 2 and 3 are told, and who is asked after each of their packets (gitprotocol-pack, "Packfile Data").
 use Rattle.std.specs.Prelude.{◌≡◌, ℕ, ◌⊎◌, Bool, true, false, List, [], ◌∷◌, ◌++◌, Option, Some, None, IfSome, Result, Ok, Err}
 use Rattle.gixp_packetline.specs.declared.read.Error.{Error}
 use Rattle.gixp_packetline.specs.declared.read.Error.TheVariants.{Interrupted, Memory}
@@ -30,7 +30,7 @@ module _ {P I : Type 0} (hears spares : P → Bool → List ℕ → P → Type 0
   abbrev pub TellsThen : Message → Bool → Listener P I → Listener P I → Type 0
   TellsThen m answer a b = TellsText m.is_error m.text a.progress b.progress × says a.interrupt answer b.interrupt
 
-  -- these messages are told in a row, and behind each the interrupt says to go on
+  -- these messages are told in a row, and after each the interrupt says to go on
   abbrev pub Tells : List Message → Listener P I → Listener P I → Type 0
   Tells [] a b = b ≡ a
   Tells (m ∷ ms) a c = (b : Listener P I) × TellsThen m false a b × Tells ms b c
@@ -42,7 +42,7 @@ module _ {P I : Type 0} (hears spares : P → Bool → List ℕ → P → Type 0
     pub messages : messages_left old.stopped p ≡ told ++ messages_left new.stopped q
     pub tells : Tells told a b
 
-  -- and one more, behind which the interrupt said to stop
+  -- and one more, after which the interrupt said to stop
   pub record ToldUntil (old new : Reading) (a c : Listener P I) (p q : Pieces) : Type 0 where
     pub to_come : new.to_come ≡ Some q
     pub told : List Message

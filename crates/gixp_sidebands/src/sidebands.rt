@@ -6,7 +6,7 @@ ghost use Rattle.std.specs.Io.KnownBytes.{ReadConsumes};
 ghost use Rattle.std.specs.Io.BufRead.{DropsConsumable, FillKeeps, Rests};
 ghost use types.Logic.{sem};
 ghost use mir.Syntax.{named};
-ghost use Rattle.gixp_packetline.specs.Reading.{Reading, Reads, Peeks, ReadsLent, PeeksLent, ReadsText, PlainIf, PlainText, TakesLine, refusal_of, reset_to};
+ghost use Rattle.gixp_packetline.specs.Reading.{Reading, Reads, Peeks, ReadsLent, PeeksLent, ReadsText, PlainIf, PlainText, TakesLine, UnlessInterrupted, refusal_of, reset_to};
 ghost use Rattle.gixp_sidebands.specs.Bands.{FillsContent, ShowsFirst, ReadsContent, ReadsBytes, KeepsMessages, is_begun, place_after, shown, message_in, io_kind};
 ghost use Rattle.gixp_sidebands.specs.Telling.{Told, TellsPacket, refusal_in};
 
@@ -51,22 +51,22 @@ pub trait BandText {
 ///
 /// `Read` and `BufRead` end at the stop and only there. A packet of content is taken from the
 /// transport once a byte of it was returned; then its rest goes with the reader, whether that is
-/// dropped or gives the transport back, and a call for lines goes on behind it.
+/// dropped or gives the transport back, and a call for lines goes on after it.
 ///
 /// Beside the refusals of the transport there are `BadBand`, at a packet of no band, which is never
 /// taken, so that every reader over this transport returns the same; `Interrupted`, where the
 /// interrupt said so, after which the text isn't told again; and `Memory`, where the listener had
 /// none, after which the same text is told again.
-pub struct WithSidebands<'a, T: ExtendedBufRead, P, I> {
+pub struct WithSidebands<'a, 'i, T: ExtendedBufRead, P, I> {
     front: Front<'a, T>,
     progress: P,
-    interrupt: &'a mut I,
+    interrupt: &'i mut I,
     // The refusal of the latest call of `Read` or `BufRead`.
     fault: Option<Error>,
 }
 
-impl<'a, T: ExtendedBufRead, P: Drop, I> WithSidebands<'a, T, P, I> {
-    ghost use Rattle.gixp_sidebands.specs.Sidebands.{side, transport_of};
+impl<'a, 'i, T: ExtendedBufRead, P: Drop, I> WithSidebands<'a, 'i, T, P, I> {
+    ghost use Rattle.gixp_sidebands.specs.Sidebands.{side, listener, transport_of};
 
     /// Gives the transport back. A packet that was begun is taken.
     pub fn into_transport(self) -> &'a mut T
@@ -82,9 +82,26 @@ impl<'a, T: ExtendedBufRead, P: Drop, I> WithSidebands<'a, T, P, I> {
         } = self;
         front.into_inner()
     }
+
+    /// Gives back what it was lent: the transport, as `into_transport` does, and the interrupt.
+    pub fn into_parts(self) -> (&'a mut T, &'i mut I)
+        ensures same { result.0.ghost_name ≡ (side T.reading self.entry).name }
+        ensures begun { is_begun (side T.reading self.entry).place ≡ true → TakesLine (side T.reading self.entry).reading (T.reading result.0.now) }
+        ensures fresh { is_begun (side T.reading self.entry).place ≡ false → result.0.now ≡ transport_of self.entry }
+        ensures same_interrupt { result.1.ghost_name ≡ self.entry.interrupt.ghost_name }
+        ensures interrupt { result.1.now ≡ (listener self.entry).interrupt }
+    {
+        let WithSidebands {
+            front,
+            progress: _progress,
+            interrupt,
+            fault: _fault,
+        } = self;
+        (front.into_inner(), interrupt)
+    }
 }
 
-impl<T: ExtendedBufRead, P: Drop, I> Drop for WithSidebands<'_, T, P, I> {
+impl<T: ExtendedBufRead, P: Drop, I> Drop for WithSidebands<'_, '_, T, P, I> {
     // A packet that was begun is taken.
     fn drop(self) {
         let WithSidebands {
@@ -97,11 +114,11 @@ impl<T: ExtendedBufRead, P: Drop, I> Drop for WithSidebands<'_, T, P, I> {
     }
 }
 
-impl<'a, T: ExtendedBufRead, P: BandText + Drop, I: Interrupt> WithSidebands<'a, T, P, I> {
-    ghost use Rattle.gixp_sidebands.specs.Sidebands.{side, sidebands_reading, listener, transport_of};
+impl<'a, 'i, T: ExtendedBufRead, P: BandText + Drop, I: Interrupt> WithSidebands<'a, 'i, T, P, I> {
+    ghost use Rattle.gixp_sidebands.specs.Sidebands.{side, sidebands_reading, sidebands_goes_on, listener, transport_of};
 
     /// Reads what is to come of a banded stream. It allocates nothing, and reads nothing yet.
-    pub fn new(transport: &'a mut T, progress: P, interrupt: &'a mut I) -> Self
+    pub fn new(transport: &'a mut T, progress: P, interrupt: &'i mut I) -> Self
         ensures side { side T.reading result ≡ record { place = None; name = transport.entry.ghost_name; reading = T.reading transport.old; fault = None } }
         ensures transport { transport_of result ≡ transport.old }
         ensures listener { listener result ≡ record { progress = progress; interrupt = interrupt.old } }
@@ -204,7 +221,7 @@ impl<'a, T: ExtendedBufRead, P: BandText + Drop, I: Interrupt> WithSidebands<'a,
         Ok(())
     }
 
-    // Tells what stands before the next content, which is then peeked at.
+    // Tells what comes before the next content, which is then peeked at.
     fn settle(&mut self) -> Result<bool, Error>
         ensures peeks { Peeks (sidebands_reading T.reading self.old) (sidebands_reading T.reading self.new) result }
         ensures told { Told P.hears P.spares I.says T.is_plain (refusal_in result) (T.reading self.old.front.at.now) (T.reading self.new.front.at.now)
@@ -214,6 +231,7 @@ impl<'a, T: ExtendedBufRead, P: BandText + Drop, I: Interrupt> WithSidebands<'a,
         ensures first { ShowsFirst (side T.reading self.old).reading (side T.reading self.new).reading result }
         ensures fault { self.new.fault ≡ self.old.fault }
         ensures place { self.new.front.place ≡ place_after result }
+        ensures goes_on { UnlessInterrupted result (sidebands_goes_on I.says self.old self.new) }
     {
         self.front.leave();
         'packets: loop {
@@ -233,13 +251,21 @@ impl<'a, T: ExtendedBufRead, P: BandText + Drop, I: Interrupt> WithSidebands<'a,
     }
 }
 
-impl<'a, T: ExtendedBufRead, P: BandText + Drop, I: Interrupt> ExtendedBufRead
-    for WithSidebands<'a, T, P, I> {
-    ghost use Rattle.gixp_sidebands.specs.Sidebands.{side, sidebands_reading, listener, PeeksAndTells, ReadsAndTells};
+impl<'a, 'i, T: ExtendedBufRead, P: BandText + Drop, I: Interrupt> ExtendedBufRead
+    for WithSidebands<'a, 'i, T, P, I> {
+    ghost use Rattle.std.proofs.Common.{refl, ◌∙◌};
+    ghost use Rattle.gixp_sidebands.specs.SaidToGoOn.{goes_on-joins};
+    ghost use Rattle.gixp_sidebands.specs.Sidebands.{side, sidebands_reading, sidebands_goes_on, listener, PeeksAndTells, ReadsAndTells};
 
     ghost reading = { sidebands_reading T.reading };
 
     ghost is_plain = { false };
+
+    ghost goes_on = { sidebands_goes_on I.says };
+
+    ghost stays = { λ r. (([], refl), refl) };
+
+    ghost joins = { λ a b c g h. (goes_on-joins I.says _ _ _ g.0 h.0, h.1 ∙ g.1) };
 
     fn next_line(&mut self) -> Result<bool, Error>
         ensures reads { Reads (sidebands_reading T.reading self.old) (sidebands_reading T.reading self.new) result }
@@ -248,6 +274,7 @@ impl<'a, T: ExtendedBufRead, P: BandText + Drop, I: Interrupt> ExtendedBufRead
             (listener self.old) (listener self.new) }
         ensures fault { (side T.reading self.new).fault ≡ (side T.reading self.old).fault }
         ensures interrupt { self.new.interrupt.ghost_name ≡ self.old.interrupt.ghost_name }
+        ensures goes_on { UnlessInterrupted result (sidebands_goes_on I.says self.old self.new) }
     {
         if !self.settle()? {
             return Ok(false);
@@ -265,6 +292,7 @@ impl<'a, T: ExtendedBufRead, P: BandText + Drop, I: Interrupt> ExtendedBufRead
         ensures place { (side T.reading self.new).place ≡ place_after result }
         ensures fault { (side T.reading self.new).fault ≡ (side T.reading self.old).fault }
         ensures interrupt { self.new.interrupt.ghost_name ≡ self.old.interrupt.ghost_name }
+        ensures goes_on { UnlessInterrupted result (sidebands_goes_on I.says self.old self.new) }
     {
         self.settle()
     }
@@ -310,6 +338,7 @@ impl<'a, T: ExtendedBufRead, P: BandText + Drop, I: Interrupt> ExtendedBufRead
             (listener self.old) (listener self.new) }
         ensures fault { (side T.reading self.new).fault ≡ (side T.reading self.old).fault }
         ensures interrupt { self.new.interrupt.ghost_name ≡ self.old.interrupt.ghost_name }
+        ensures goes_on { UnlessInterrupted result (sidebands_goes_on I.says self.old self.new) }
     {
         if !self.peek_line()? {
             return Ok(0);
@@ -332,12 +361,14 @@ impl<'a, T: ExtendedBufRead, P: BandText + Drop, I: Interrupt> ExtendedBufRead
         ensures fault { (side T.reading self.new).fault ≡ (side T.reading self.old).fault }
         ensures place { (side T.reading self.new).place ≡ (side T.reading self.old).place }
         ensures interrupt { self.new.interrupt.ghost_name ≡ self.old.interrupt.ghost_name }
+        ensures goes_on { sidebands_goes_on I.says self.old self.new }
     {
         self.front.reset(version);
     }
 }
 
-impl<'a, T: ExtendedBufRead, P: BandText + Drop, I: Interrupt> Read for WithSidebands<'a, T, P, I> {
+impl<'a, 'i, T: ExtendedBufRead, P: BandText + Drop, I: Interrupt> Read
+    for WithSidebands<'a, 'i, T, P, I> {
     ghost use Rattle.gixp_sidebands.specs.Sidebands.{side, listener};
 
     fn read(&mut self, buf: &mut [u8]) -> io::Result<usize>
@@ -357,15 +388,15 @@ impl<'a, T: ExtendedBufRead, P: BandText + Drop, I: Interrupt> Read for WithSide
     }
 }
 
-impl<'a, T: ExtendedBufRead, P: BandText + Drop, I: Interrupt> BufRead
-    for WithSidebands<'a, T, P, I> {
+impl<'a, 'i, T: ExtendedBufRead, P: BandText + Drop, I: Interrupt> BufRead
+    for WithSidebands<'a, 'i, T, P, I> {
     ghost use Rattle.gixp_sidebands.specs.Sidebands.{side, listener, LendsFrom};
     ghost use Rattle.gixp_sidebands.specs.contracts.sidebands.WithSidebands.{the_row};
 
     fn fill_buf(&mut self) -> io::Result<&[u8]>
         ensures front { IfSome None (λ (xs : List ℕ). IfOk result (λ s. StartsWith xs s.now)) }
         ensures end { IfSome None (λ (xs : List ℕ). IfOk result (λ s. length s.now ≡ 0 → xs ≡ [])) }
-        ensures* after_borrow { sem 𝓛 (Rests (the_row (record { mir = named 1; lft = [] }) T.row P.row I.row T.ExtendedBufRead) self.entry (λ new.
+        ensures* after_borrow { sem 𝓛 (Rests (the_row (record { mir = named 1; lft = [] }) (record { mir = named 2; lft = [] }) T.row P.row I.row T.ExtendedBufRead) self.entry (λ new.
             FillKeeps None None None result)) }
         ensures shown { LendsFrom T.reading P.hears P.spares I.says T.is_plain self.old result }
     {

@@ -106,7 +106,7 @@ refused-then xs None b P h k = tt
 refused-then xs (Some p) None P h k = absurd (let e = h.1 in cc)
 refused-then xs (Some p) (Some q) P h k = k
 
--- what stands behind an error, from before lines were taken
+-- what comes after an error, from before lines were taken
 stands-then : (xs ys : List (List ℕ)) (old mid new : Reading) (e : Error) → LinesTaken xs old.to_come mid.to_come → Stands ys mid new e → Stands (xs ++ ys) old new e
 stands-then xs ys old mid new (Io kind) h k = by (is_end kind) k
   where
@@ -120,7 +120,7 @@ stands-then xs ys old mid new (UnsupportedProtocolVersion t) h k = (k.0, k.1, ta
 stands-then xs ys old mid new MissingDelimitingNullByte h k = (k.0, k.1, taken-then xs ys old.to_come mid.to_come new.to_come h k.2)
 stands-then xs ys old mid new Memory h k = taken-then xs ys old.to_come mid.to_come new.to_come h k
 
--- behind such steps
+-- after such steps
 pub advertises-then : (said then : Pieces → Result Advertised ClientRefusal) (takes more : Protocol → List (List ℕ) → Type 0) (texts : List (List ℕ)) (old mid new : Reading)
     (r : Result SetServiceResponse Error) → ((v : Protocol) (ts : List (List ℕ)) → more v ts → takes v (texts ++ ts)) → Steps said then texts old mid
     → Advertises then more mid new r → Advertises said takes old new r
@@ -338,7 +338,7 @@ gathers-line old mid new texts h k = record {
   held = k.held ∙ h.held;
 }
 
--- behind these lines the rest is read as they and the others
+-- after these lines the rest is read as they and the others
 abbrev said_behind : List (List ℕ) → Pieces → Result Advertised ClientRefusal
 said_behind texts p = let l = lines_of V2 p in by_lines (texts ++ l.lines) l.ending
 
@@ -406,7 +406,7 @@ shows-steps said old new k = record { turns = at old.to_come new.to_come k.next;
     at None b h = tt
     at (Some p) b h = (p, h.1, refl)
 
--- behind a line that was taken, where what was said turns on it
+-- after a line that was taken, where what was said turns on it
 pub takes-steps : (said then : Pieces → Result Advertised ClientRefusal) (old new : Reading) → TakesLine old new
     → ((p q : Pieces) → next_of old.version p ≡ gives new.line q → said p ≡ then q) → Steps said then (new.line ∷ []) old new
 takes-steps said then old new k f = record { turns = at old.to_come new.to_come k.next; lines = one-taken old.to_come new.to_come old.version new.line k.next; failures = k.failures; left = let a = k.left in omega arith; held = k.held }
@@ -581,7 +581,7 @@ module _ {R : Type 0} where
     held = refl;
   }
 
--- behind a line that names a version, which was peeked at and taken, and the version
+-- after a line that names a version, which was peeked at and taken, and the version
 pub named-steps : (then : Pieces → Result Advertised ClientRefusal) (named : Named) (v : Protocol) (old mid new : Reading) (text : List ℕ) → old.version ≡ V0 → old.peeked ≡ true
     → old.line ≡ text → version_named text ≡ named → ((p q : Pieces) → by_version named p q ≡ then q) → TakesLine old mid → new ≡ reset_to v mid → Steps advertisement then (text ∷ []) old new
 named-steps then named v old mid new text version peeked is names turns k reset =
@@ -597,7 +597,7 @@ named-steps then named v old mid new text version peeked is names turns k reset 
       held = taken.held;
     })
 
--- the lines that were taken, behind the first one
+-- the lines that were taken, after the first one
 pub first-none : (v : Protocol) (texts : List (List ℕ)) → TakesNone V0 v texts → TakesFirst v texts
 first-none v texts h = subst (λ w. TakesFirst w texts) (sym h.0) h.1
 

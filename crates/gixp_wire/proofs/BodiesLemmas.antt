@@ -1,4 +1,4 @@
--- What a transport over memory reads behind the body that it took.
+-- What a transport over memory reads after the body that it took.
 use Rattle.std.proofs.Common.{◌≡◌, ℕ, false, List, [], ◌∷◌, ◌++◌, length, map, reverse, Some, Vec, refl, sym, ap, subst, arith}
 use Rattle.std.proofs.lemmas.List.{reverse-append}
 use Rattle.std.specs.declared.alloc.Global.{Global}

@@ -1,4 +1,4 @@
--- Writes one behind another.
+-- Writes one after another.
 use Rattle.std.proofs.Common.{◌≡◌, ℕ, true, List, [], ◌∷◌, ◌++◌, Option, Some, None, IfSome, refl, sym, ap, subst, ◌∙◌, append_assoc, append-nil, Ok, Err, Result, map, ◌&&◌}
 use Rattle.std.specs.List.{list_all}
 use Rattle.std.proofs.lemmas.List.{map-append}
@@ -61,7 +61,7 @@ unfinished_behind old mid new xs h k =
     let b = subst (λ m. Unfinished m new) h.rest k in
     record { alone = b.alone; rest = b.rest }
 
--- several writes that are refused behind others
+-- several writes that are refused after others
 refused_behind : (old mid new : Reading) (xs ys zs : List ℕ) (e : Error) → Wrote old mid xs → WritesAll mid new ys (Err e) → WritesAll old new zs (Err e)
 refused_behind old mid new xs ys zs (Io kind) h k = broke_then old mid new xs kind h k
 refused_behind old mid new xs ys zs Memory h k = unfinished_behind old mid new xs h k
@@ -71,7 +71,7 @@ refused_behind old mid new xs ys zs AuthenticationUnsupported h k = k
 refused_behind old mid new xs ys zs (UnsupportedProtocolVersion line) h k = k
 refused_behind old mid new xs ys zs MissingDelimitingNullByte h k = k
 
--- several writes behind others
+-- several writes after others
 pub writes_behind : (old mid new : Reading) (xs ys : List ℕ) (r : Result (Unit {0}) Error) → Wrote old mid xs → WritesAll mid new ys r → WritesAll old new (xs ++ ys) r
 writes_behind old mid new xs ys (Ok t) h k = wrote_more old mid new xs ys h k
 writes_behind old mid new xs ys (Err e) h k = refused_behind old mid new xs ys (xs ++ ys) e h k

@@ -25,7 +25,7 @@ pub record Advertised : Type 0 where
   pub capabilities : List CapabilityValue
   -- whether its refs are the lines that come next
   pub has_refs : Bool
-  -- the pieces behind it
+  -- the pieces after it
   pub rest : Pieces
   -- the stop that the reader is at
   pub stopped : Option MessageKind
@@ -52,7 +52,7 @@ version_named text =
 abbrev pub empty_advertisement : Protocol → MessageKind → Pieces → Advertised
 empty_advertisement version kind rest = record { version = version; capabilities = []; has_refs = true; rest = rest; stopped = Some kind }
 
--- the first ref line is still to come, cut before its NUL; the capabilities stand behind that
+-- the first ref line is still to come, cut before its NUL; the capabilities come after that
 abbrev pub ref_line : Protocol → List ℕ → Pieces → Option (List CapabilityValue × ℕ) → Result Advertised ClientRefusal
 ref_line version text rest None = Err no_null_byte
 ref_line version text rest (Some found) =
@@ -75,7 +75,7 @@ by_lines texts (refusal e) = Err (client_from e)
 abbrev pub from_capability_lines : Pieces → Result Advertised ClientRefusal
 from_capability_lines p = let l = lines_of V2 p in by_lines l.lines l.ending
 
--- what stands behind a first line that names a version; one that names none is the first ref line of version 0
+-- what comes after a first line that names a version; one that names none is the first ref line of version 0
 abbrev pub by_version : Named → Pieces → Pieces → Result Advertised ClientRefusal
 by_version one all rest = from_ref_line V1 rest
 by_version two all rest = from_capability_lines rest
@@ -99,7 +99,7 @@ pub record Answers (a : Advertised) (new : Reading) (found : SetServiceResponse)
   pub rest : new.to_come ≡ Some a.rest
   pub stopped : new.stopped ≡ a.stopped
 
--- capability lines, and a stop behind them
+-- capability lines, and a stop after them
 pub record SaysLines (new : Reading) (found : SetServiceResponse) : Type 0 where
   pub texts : List (List ℕ)
   pub capabilities : found.capabilities ≡ capabilities_of_lines texts
@@ -112,7 +112,7 @@ pub record SaysNothing (new : Reading) (found : SetServiceResponse) : Type 0 whe
   pub has_refs : found.has_refs ≡ true
   pub stopped : IsSome new.stopped
 
--- a first ref line with a NUL, of which what stands before it is peeked at
+-- a first ref line with a NUL, of which what comes before it is peeked at
 pub record SaysRefs (new : Reading) (found : SetServiceResponse) : Type 0 where
   pub text : List ℕ
   pub place : ℕ
@@ -153,7 +153,7 @@ IsOfSaid _ = ⊥
 abbrev pub IsCaused : Reading → Reading → Error → Type 0
 IsCaused old new e = (IsOfSaid e × (new.failures ≡ old.failures)) ⊎ IsFromDevice old new e
 
--- pieces behind these lines
+-- pieces after these lines
 abbrev pub behind_lines : List (List ℕ) → Pieces → Pieces
 behind_lines [] p = p
 behind_lines (text ∷ texts) p = with_piece (line text) (behind_lines texts p)
@@ -176,16 +176,16 @@ TakesFirst V0 texts = texts ≡ []
 TakesFirst V1 texts = (first : List ℕ) × (version_named first ≡ one) × (texts ≡ first ∷ [])
 TakesFirst V2 texts = (first : List ℕ) × (more : List (List ℕ)) × (version_named first ≡ two) × (texts ≡ first ∷ more)
 
--- this refusal stands next, and nothing behind it
+-- this refusal stands next, and nothing after it
 abbrev pub StandsRefused : Reading → Reading → Refusal → Type 0
 StandsRefused old new e = (new.refused ≡ Some e) × IfSome old.to_come (λ p. new.to_come ≡ Some (no_pieces e))
 
--- behind a failed read no line is peeked at, and one as at the end of the stream stands
+-- after a failed read no line is peeked at, and one as at the end of the stream stands
 abbrev pub StandsIo : Bool → List (List ℕ) → Reading → Reading → ErrorKind → Type 0
 StandsIo true texts old new kind = StandsRefused old new (io kind)
 StandsIo false texts old new kind = (new.peeked ≡ false) × LinesTaken texts old.to_come new.to_come
 
--- what stands behind an error: a refusal of the stream, or what is left behind the lines that were taken. The line that names another version, and a first ref line without a NUL, are still to come
+-- what comes after an error: a refusal of the stream, or what is left behind the lines that were taken. The line that names another version, and a first ref line without a NUL, are still to come
 abbrev pub Stands : List (List ℕ) → Reading → Reading → Error → Type 0
 Stands texts old new (Io kind) = StandsIo (is_end kind) texts old new kind
 Stands texts old new (Read e) = StandsRefused old new (refusal_of e)

@@ -1,4 +1,4 @@
--- What a transport over a reader and a writer means: the answers stand one behind another.
+-- What a transport over a reader and a writer means: the answers stand one after another.
 use Rattle.std.specs.Prelude.{◌≡◌, ℕ, ◌-◌, ◌*◌, ◌^◌, true, false, List, [], Option, None}
 use Rattle.std.specs.Option.{option_map}
 use Rattle.bstr.specs.Owned.{bstring_bytes}

@@ -32,7 +32,7 @@ host_text (Some host) = codes "host=" ++ host ++ 0 ∷ []
 abbrev pub parameter_text : Parameter → List ℕ
 parameter_text p = feature_line p.0 p.1 ++ 0 ∷ []
 
--- parameters stand behind one more NUL
+-- parameters come after one more NUL
 abbrev pub parameters_text : List Parameter → List ℕ
 parameters_text [] = []
 parameters_text (p ∷ ps) = 0 ∷ flat_map parameter_text (p ∷ ps)

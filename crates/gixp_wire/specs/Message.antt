@@ -77,7 +77,7 @@ lined_frames front lines more behind = map value_frame (lined_values front lines
 abbrev pub lined_fit : List Message → List BString → List BString → List Message → Bool
 lined_fit front lines more behind = list_all value_fits (lined_values front lines more behind)
 
--- a feature as a line: its name, and its value behind an equals sign
+-- a feature as a line: its name, and its value after an equals sign
 abbrev pub feature_line : List ℕ → Option (List ℕ) → List ℕ
 feature_line name None = name
 feature_line name (Some value) = name ++ codes "=" ++ value
@@ -90,7 +90,7 @@ feature_lines features = map (λ (f : Bor (List ℕ) × Option (String Global)).
 abbrev pub command_lines : List ℕ → List (List ℕ) → List (List ℕ)
 command_lines command features = (codes "command=" ++ command) ∷ features
 
--- the arguments stand behind a delimiter, if there are any
+-- the arguments come after a delimiter, if there are any
 abbrev pub argument_values : List (List ℕ) → List MessageValue
 argument_values [] = []
 argument_values (a ∷ more) = delimiter ∷ map text (a ∷ more)

@@ -9,7 +9,7 @@ pub data ProgressCall : Type 0 where
   set_name : List ℕ → ProgressCall
   fail : List ℕ → ProgressCall
 
--- these calls, one behind another, and nothing else
+-- these calls, one after another, and nothing else
 abbrev pub ToldCalls : {P : Type 0} → (P → ProgressCall → P → Type 0) → P → List ProgressCall → P → Type 0
 ToldCalls told old [] new = new ≡ old
 ToldCalls {P} told old (c ∷ cs) new = (now : P) × told old c now × ToldCalls told now cs new

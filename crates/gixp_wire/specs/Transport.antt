@@ -110,7 +110,7 @@ TakesBody old new (Err _) = ⊥
 abbrev pub entered : Reading → Reading
 entered r = record r { held = record r.held { sent = r.held.sent ++ unwrap_or r.held.written [] ∷ []; written = Some [] } }
 
--- the answer stands behind what was read
+-- the answer comes after what was read
 pub record GoesOn (old new : Reading) : Type 0 where
   pub whole : old.held.broken ≡ None
   pub written : Keeps old.held.written new.held.written
@@ -129,7 +129,7 @@ EndsBy _ old new (Err _) = ⊥
 abbrev pub Ends : Reading → Reading → Result (Unit {0}) Error → Type 0
 Ends old new r = EndsBy old.held.persists old new r
 
--- a whole request of these bytes was written: its answer stands behind what was read, or is the next one
+-- a whole request of these bytes was written: its answer comes after what was read, or is the next one
 abbrev pub SentBy : Bool → Reading → Reading → List ℕ → Type 0
 SentBy true old new bytes = (mid : Reading) × Wrote old mid bytes × GoesOn mid new
 SentBy false old new bytes = TakesAnswer (entered (with_written old (Some bytes))) new × ByAnswer old new None

@@ -79,7 +79,7 @@ pub(crate) fn advertisement<R: Read>(
     }
 }
 
-// What stands behind the line that was peeked at, or from it on.
+// What comes after the line that was peeked at, or from it on.
 fn by_first_line<R: Read>(
     packets: &mut Packets<R>,
     alloc: Global,

@@ -1,5 +1,5 @@
 //! A transport over memory.
-ghost use Rattle.std.specs.Prelude.{◌≡◌, IfOk, Ok, map, true, vec_items};
+ghost use Rattle.std.specs.Prelude.{◌≡◌, IfOk, Ok, map, true, vec_items, ⊤};
 ghost use Rattle.std.specs.Option.{option_map};
 ghost use Rattle.bstr.specs.Owned.{bstring_bytes};
 ghost use Rattle.gixp_wire.specs.Transport.{TakesBody};
@@ -30,7 +30,7 @@ pub enum Body {
 /// body of its own, and what was left of the one before is dropped. It doesn't persist.
 ///
 /// Before the first handshake it reads as empty, and so does a body that is missing. Its stops are
-/// those of version 2 until a `handshake` or `reset`. A body is freed at a stop behind which it has
+/// those of version 2 until a `handshake` or `reset`. A body is freed at a stop after which it has
 /// no more.
 #[derive(Drop)]
 pub struct Bodies {
@@ -127,6 +127,12 @@ impl ExtendedBufRead for Bodies {
     ghost reading = { bodies_reading };
 
     ghost is_plain = { true };
+
+    ghost goes_on = { λ a b. ⊤ };
+
+    ghost stays = { λ r. tt };
+
+    ghost joins = { λ a b c g h. tt };
 
     fn next_line(&mut self) -> Result<bool, read::Error> {
         let read = self.packets.next_line();

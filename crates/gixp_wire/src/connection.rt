@@ -1,5 +1,5 @@
 //! A transport over a reader and a writer.
-ghost use Rattle.std.specs.Prelude.{◌≡◌, ◌≤◌, Err, IfOk, true, length};
+ghost use Rattle.std.specs.Prelude.{◌≡◌, ◌≤◌, Err, IfOk, true, length, ⊤};
 ghost use Rattle.std.specs.IoError.{error_kind};
 ghost use Rattle.bstr.specs.Owned.{bstring_bytes};
 ghost use Rattle.gixp_packetline.specs.FrameText.{payload_text};
@@ -23,7 +23,7 @@ use std::io;
 use std::io::{ErrorKind, Read, Write};
 
 /// A transport over a reader and a writer, as a socket or the two ends of a program (gitprotocol-pack,
-/// "Transports"). It persists: requests go out one behind another, and so come their answers.
+/// "Transports"). It persists: requests go out one after another, and so come their answers.
 ///
 /// A line is written in three pieces, and the writer is flushed at the end of each request: a
 /// buffered writer saves calls of the system. After a failed write nothing is said of what went
@@ -82,7 +82,7 @@ impl<R: Read, W: Write> Connection<R, W> {
     ghost use Rattle.gixp_wire.specs.Connection.{connection_reading, connection_reader, connection_writer};
 
     /// Takes it apart: the reader, the writer, and the bytes that were read of the reader and not taken,
-    /// which stand before those that it gives next. A line that was peeked at counts as taken.
+    /// which come before those that it gives next. A line that was peeked at counts as taken.
     pub fn into_parts(self) -> (R, W, Vec<u8>)
         ensures reader { result.0 ≡ connection_reader self }
         ensures writer { result.1 ≡ connection_writer self }
@@ -139,7 +139,7 @@ impl<R: Read, W: Write> Connection<R, W> {
         }
     }
 
-    // Flushes the writer, and goes on behind the stop.
+    // Flushes the writer, and goes on after the stop.
     fn go_on(&mut self) -> Result<(), Error>
         ensures { EndsBy true (connection_reading R.remaining W.contents self.old) (connection_reading R.remaining W.contents self.new) result }
     {
@@ -193,6 +193,12 @@ impl<R: Read, W: Write> ExtendedBufRead for Connection<R, W> {
     ghost reading = { connection_reading R.remaining W.contents };
 
     ghost is_plain = { true };
+
+    ghost goes_on = { λ a b. ⊤ };
+
+    ghost stays = { λ r. tt };
+
+    ghost joins = { λ a b c g h. tt };
 
     fn next_line(&mut self) -> Result<bool, read::Error> {
         self.packets.next_line()

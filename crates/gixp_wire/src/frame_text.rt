@@ -8,7 +8,7 @@ use crate::message::MAX_LINE;
 use gixp_packetline::{MessageKind, digits};
 use std::alloc::AllocError;
 
-/// The four digits in front of a line of this many bytes and the LF behind it.
+/// The four digits in front of a line of this many bytes and the LF after it.
 pub(crate) fn line_digits(len: usize) -> [u8; 4]
     requires { len ≤ MAX_LINE }
     ensures { result ≡ digits_of (len + 5) }
@@ -36,7 +36,7 @@ pub(crate) fn of_message(kind: MessageKind) -> &'static [u8]
     }
 }
 
-// The digits, the line and an LF behind the rest.
+// The digits, the line and an LF after the rest.
 fn push_line(out: &mut Vec<u8>, line: &[u8]) -> Result<(), AllocError>
     requires { length line.now ≤ MAX_LINE }
     ensures front { StartsWith out.new.items out.old.items }

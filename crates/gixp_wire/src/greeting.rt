@@ -117,7 +117,7 @@ fn push_parameters(
     Ok(())
 }
 
-// Appends the version that is asked for and the caller's parameters, behind one more NUL if there
+// Appends the version that is asked for and the caller's parameters, after one more NUL if there
 // is any.
 fn push_extra(
     out: &mut Vec<u8>,

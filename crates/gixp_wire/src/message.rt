@@ -22,7 +22,7 @@ pub type Feature = (&'static str, Option<String>);
 /// Framing").
 #[derive(Clone, Copy, Debug)]
 pub enum Message<'a> {
-    /// A line of text without its LF, which is written behind it.
+    /// A line of text without its LF, which is written after it.
     Line(&'a [u8]),
     /// The end of a request, or of a part of it under versions 0 and 1.
     Flush,

@@ -21,7 +21,7 @@ use std::alloc::Global;
 /// "Packfile Transfer"; gitprotocol-v2, "Command Request").
 ///
 /// A request is begun, written and ended; its answer is then read from the transport itself. Over
-/// a connection that persists, the answers stand one behind another, and after a failed write
+/// a connection that persists, the answers stand one after another, and after a failed write
 /// nothing is said of what went out: every later request returns the same `Io`. Else each request
 /// has an answer of its own.
 pub trait Transport: ExtendedBufRead {
@@ -60,7 +60,7 @@ pub trait Transport: ExtendedBufRead {
     /// `UnsupportedProtocolVersion` and `MissingDelimitingNullByte` the line that it is about is still
     /// to come. A refusal of the reader stands, and the stream's end: every later read returns it.
     /// After `Memory`, and `Io` of a read that failed, only lines that were taken are gone: none, the
-    /// line that names version 1, or the line that names version 2 and capability lines behind it.
+    /// line that names version 1, or the line that names version 2 and capability lines after it.
     fn handshake(
         &mut self,
         alloc: Global,
@@ -78,7 +78,7 @@ pub trait Transport: ExtendedBufRead {
     fn begin_request(&mut self) -> Result<(), Error>
         ensures begins { Begins (Self.reading self.old) (Self.reading self.new) result };
 
-    /// Writes a line of text, of at most 65,515 bytes, and an LF behind it, as one frame.
+    /// Writes a line of text, of at most 65,515 bytes, and an LF after it, as one frame.
     ///
     /// # Errors
     ///
@@ -95,7 +95,7 @@ pub trait Transport: ExtendedBufRead {
     fn write_message(&mut self, kind: MessageKind) -> Result<(), Error>
         ensures writes { Writes (Self.reading self.old) (Self.reading self.new) (message_text kind) result };
 
-    /// Ends a request: what was written goes out, and the reader goes on behind its stop, to the
+    /// Ends a request: what was written goes out, and the reader goes on after its stop, to the
     /// answer.
     ///
     /// # Errors
@@ -123,7 +123,7 @@ pub trait Transport: ExtendedBufRead {
         }
     }
 
-    /// Writes the messages of a request that is begun, one behind another. Their lines fit.
+    /// Writes the messages of a request that is begun, one after another. Their lines fit.
     ///
     /// # Errors
     ///
@@ -141,7 +141,7 @@ pub trait Transport: ExtendedBufRead {
         Ok(())
     }
 
-    /// Writes lines of a request that is begun, one behind another, each with an LF behind it as one
+    /// Writes lines of a request that is begun, one after another, each with an LF after it as one
     /// packet line (gitprotocol-common, "pkt-line Format"). They fit.
     ///
     /// # Errors
@@ -204,7 +204,7 @@ pub trait Transport: ExtendedBufRead {
         self.request_with_lines(messages, &[], &[], &[])
     }
 
-    /// Sends a command of version 2: its name, the features as `name` or `name=value`, then behind
+    /// Sends a command of version 2: its name, the features as `name` or `name=value`, then after
     /// a delimiter the arguments, if there are any (gitprotocol-v2, "Command Request").
     ///
     /// # Errors

@@ -6,9 +6,9 @@ ghost use Rattle.gixp_sidebands.specs.Bands.{band_of};
 /// What a line is to a reader of bands.
 #[derive(Clone, Copy, Drop)]
 pub(crate) enum Band {
-    /// Nothing, or band 1 with nothing behind it.
+    /// Nothing, or band 1 with nothing after it.
     Empty,
-    /// Band 1 with bytes behind it.
+    /// Band 1 with bytes after it.
     Content,
     /// Band 2, or band 3, which holds the text of an error.
     Text(bool),

@@ -88,7 +88,7 @@ impl<'a, T: ExtendedBufRead> Front<'a, T> {
         self.at.stopped_at()
     }
 
-    /// Goes on behind the stop.
+    /// Goes on after the stop.
     pub(crate) fn reset(&mut self, version: Protocol)
         ensures same { self.new.at.ghost_name ≡ self.old.at.ghost_name }
         ensures reset { T.reading self.new.at.now ≡ reset_to version (T.reading self.old.at.now) }

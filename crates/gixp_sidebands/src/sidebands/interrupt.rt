@@ -8,7 +8,7 @@ pub trait Interrupt {
     // What a call may answer, and what it leaves.
     ghost says: { Self → Bool → Self → Type 0 };
 
-    /// Whether to stop. It is asked behind each packet of bands 2 and 3.
+    /// Whether to stop. It is asked after each packet of bands 2 and 3.
     fn is_interrupted(&mut self) -> bool
         ensures { says self.old result self.new };
 }

@@ -4,6 +4,7 @@ ghost use Rattle.std.specs.List.{list_any};
 ghost use Rattle.gixp_response.specs.AnswerLine.{wanted_value};
 ghost use Rattle.gixp_response.specs.Answer.{no_more, update_items};
 ghost use Rattle.gixp_response.specs.Beginnings.{expected};
+ghost use Rattle.gixp_response.specs.ResponseError.{UnlessAnswerInterrupted};
 ghost use Rattle.gixp_response.specs.AnswerReading.{answer_of, Answered, AnswerFails};
 ghost use Rattle.gixp_capabilities.specs.Capabilities.{is_text};
 ghost use Rattle.gixp_response.specs.Features.{feature_name, feature_names, has_name, missing_feature, Misses};
@@ -53,19 +54,19 @@ impl Clone for Response {
 
 impl Response {
     /// Reads the answer to a request, under the stops of this version, from which the reader goes on
-    /// behind a stop that it is at.
+    /// after a stop that it is at.
     ///
     /// Under version 2 an answer is a list of sections; those of one header are joined. It ends in the
-    /// header `packfile`, behind which the pack begins, or in a section that a flush ends. Under
+    /// header `packfile`, after which the pack begins, or in a section that a flush ends. Under
     /// versions 0 and 1 it is the shortest beginning of what is to come that ends
     ///
     /// - in a `NAK`, where the client wants to negotiate, unless it expects a pack and a `ready` came;
     /// - in two flushes;
     /// - in front of a line that is neither an acknowledgement nor a shallow update, which begins the
     ///   pack and is still to come;
-    /// - at the stream's end, but not right behind a flush.
+    /// - at the stream's end, but not right after a flush.
     ///
-    /// What stands behind the answer is still to come.
+    /// What comes after the answer is still to come.
     ///
     /// # Errors
     ///
@@ -84,6 +85,7 @@ impl Response {
             (AnswerFails (answer_of version (expected client_expects_pack wants_to_negotiate)) R.is_plain (R.reading reader.old) (R.reading reader.new)) }
         ensures held { (R.reading reader.new).held ≡ (R.reading reader.old).held }
         ensures version { (R.reading reader.new).version ≡ version }
+        ensures goes_on { UnlessAnswerInterrupted result (R.goes_on reader.old reader.new) }
     {
         match version {
             Protocol::V2 => read_sections(alloc, reader),
@@ -124,7 +126,7 @@ impl Response {
         }
     }
 
-    /// Whether a pack begins behind the answer.
+    /// Whether a pack begins after the answer.
     pub fn has_pack(&self) -> bool
         ensures { result ≡ self.now.pack }
     {
@@ -153,7 +155,7 @@ impl Response {
         &self.wanted_refs
     }
 
-    /// Adds the updates, if any, behind those of the answer: under version 1 a server sends those of a
+    /// Adds the updates, if any, after those of the answer: under version 1 a server sends those of a
     /// shallow repository with its refs.
     ///
     /// # Errors

@@ -4,6 +4,7 @@ ghost use Rattle.gixp_packetline.specs.Reading.{refusal_of};
 ghost use Rattle.gixp_packetline.specs.declared.protocol.Protocol.TheVariants.{V0, V1};
 ghost use Rattle.gixp_response.specs.Beginnings.{expected, is_at_end, is_ready, is_nak, line_item, item_said, said_with, acknowledged, AreCommon, v1_answer};
 ghost use Rattle.gixp_response.specs.declared.fetch.response.line.Acknowledgement.TheVariants.{Common};
+ghost use Rattle.gixp_response.specs.ResponseError.{UnlessAnswerInterrupted};
 ghost use Rattle.gixp_response.specs.AnswerReading.{Answered, AnswerFails};
 
 use crate::fetch::response::answer::Response;
@@ -55,6 +56,7 @@ pub(crate) fn read_beginning<R: ExtendedBufRead>(
         (AnswerFails (v1_answer version (expected expects_pack negotiates)) R.is_plain (R.reading reader.old) (R.reading reader.new)) }
     ensures held { (R.reading reader.new).held ≡ (R.reading reader.old).held }
     ensures version { (R.reading reader.new).version ≡ version }
+    ensures goes_on { UnlessAnswerInterrupted result (R.goes_on reader.old reader.new) }
 {
     reader.reset(version);
     let mut answer = Response::empty(alloc);
@@ -93,7 +95,7 @@ pub(crate) fn read_beginning<R: ExtendedBufRead>(
     }
 }
 
-// Whether a refusal is that of the stream's end, and not right behind a stop.
+// Whether a refusal is that of the stream's end, and not right after a stop.
 fn ends_answer(e: &read::Error, behind_stop: bool) -> bool
     ensures { result ≡ (is_at_end (refusal_of e.now) && not behind_stop) }
 {

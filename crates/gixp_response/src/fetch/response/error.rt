@@ -49,7 +49,7 @@ impl fmt::Debug for RequiredFeature {
 
 /// Why an answer, or a line of one, isn't there. Nothing of the answer is given beside one.
 ///
-/// What stands behind each of a reader's errors is what `read::Error` says of it. After an error of
+/// What is left after each of a reader's errors is what `read::Error` says of it. After an error of
 /// a line, that line and those before it are taken. A line that an error carries stands in it as it
 /// was handed in, its LF included.
 #[derive(Debug, Drop, DeriveError)]

@@ -128,7 +128,7 @@ fn unknown_line(alloc: Global, line: &str) -> Error
     }
 }
 
-// What stands behind a beginning.
+// What comes after a beginning.
 fn behind<'a>(text: &'a [u8], word: &[u8]) -> Option<&'a [u8]>
     ensures { option_copied result ≡ behind word.now text.now }
 {

@@ -12,13 +12,13 @@ returns-in-Unnamed g c =
 pub returns-in-One : goal.returns-in-One
 returns-in-One g c =
     let names : version_named c.args.packets.now.window.lent ≡ one = ap version_named (sym c.line.ensures) ∙ sym c.in-One.ensures in
-    advertises-then _ _ TakesFirst (TakesNone V1) (c.args.packets.now.window.lent ∷ []) _ _ _ _ (first-one _ names) (named-steps (from_ref_line V1) one V1 _ _ _ _ c.requires.version c.requires.peeked refl names (λ p q. refl) c.take_peeked.ensures c.reset.ensures)
+    advertises-then _ _ TakesFirst (TakesNone V1) (c.args.packets.now.window.lent ∷ []) _ _ _ _ (first-one _ names) (named-steps (from_ref_line V1) one V1 _ _ _ _ c.requires.version c.requires.peeked refl names (λ p q. refl) c.take_peeked.ensures c.reset.ensures.reading)
     c.ref_line.ensures
 
 pub returns-in-Two : goal.returns-in-Two
 returns-in-Two g c =
     let names : version_named c.args.packets.now.window.lent ≡ two = ap version_named (sym c.line.ensures) ∙ sym c.in-Two.ensures in
-    advertises-then _ _ TakesFirst TakesAny (c.args.packets.now.window.lent ∷ []) _ _ _ _ (first-two _ names) (named-steps from_capability_lines two V2 _ _ _ _ c.requires.version c.requires.peeked refl names (λ p q. refl) c.take_peeked-in-Two.ensures c.reset-in-Two.ensures)
+    advertises-then _ _ TakesFirst TakesAny (c.args.packets.now.window.lent ∷ []) _ _ _ _ (first-two _ names) (named-steps from_capability_lines two V2 _ _ _ _ c.requires.version c.requires.peeked refl names (λ p q. refl) c.take_peeked-in-Two.ensures c.reset-in-Two.ensures.reading)
     c.capability_lines.ensures
 
 pub returns-in-Another : goal.returns-in-Another

@@ -1,7 +1,8 @@
-use Rattle.std.proofs.Common.{◌≡◌, ap, sym, subst, ◌∙◌, refl, Some, None}
+use Rattle.std.proofs.Common.{◌≡◌, ap, sym, subst, ◌∙◌, refl, Some, None, [], ◌∷◌}
 use Rattle.std.proofs.lemmas.Result.{err_from_is_err_and}
 use Rattle.gixp_sidebands.specs.declared.sidebands.band.Band.TheVariants.{Text}
 use Rattle.gixp_sidebands.specs.Bands.{band_of, IsPassed}
+use Rattle.gixp_sidebands.specs.SaidToGoOn.{goes_on-joins}
 use Rattle.gixp_sidebands.proofs.BandLemmas.{skipping-init, seen_by, fails_above, shows_content, skips_line}
 use Rattle.gixp_sidebands.proofs.ContentLemmas.{shows_first}
 use Rattle.gixp_sidebands.proofs.TellLemmas.{told-init, told-fails, told-tell, told-text, told-known}
@@ -19,6 +20,7 @@ packets-init g c =
       interrupt = refl;
       fault = refl;
       place = c.leave.ensures.place;
+      goes_on = (([], refl), refl);
     }
 
 pub returns-in_err-peek-clause-peeks : goal.returns-in_err-peek-clause-peeks
@@ -60,6 +62,7 @@ packets-preserved g c =
       interrupt = c.in_ok-tell-in-Text.ensures.interrupt ∙ c.packets.invariant.interrupt;
       fault = c.in_ok-tell-in-Text.ensures.fault ∙ c.packets.invariant.fault;
       place = c.in_ok-tell-in-Text.ensures.place;
+      goes_on = (goes_on-joins g.I.Interrupt.says _ _ _ c.packets.invariant.goes_on.0 (_ ∷ [], (t.1.1, refl)), c.in_ok-tell-in-Text.ensures.interrupt ∙ c.packets.invariant.goes_on.1);
     }
 
 pub returns-in-Content-clause-first : goal.returns-in-Content-clause-first

@@ -1,6 +1,6 @@
 use Rattle.std.proofs.Common.{◌≡◌, None}
 use Rattle.gixp_sidebands.specs.Telling.{Told}
-use Rattle.gixp_sidebands.specs.Sidebands.{sidebands_reading, listener}
+use Rattle.gixp_sidebands.specs.Sidebands.{sidebands_reading, sidebands_goes_on, listener}
 use Rattle.gixp_sidebands.proofs.BandLemmas.{Skipping}
 use Rattle.gixp_sidebands.proofs.sidebands.WithSidebands.settle.Given as goal
 
@@ -14,6 +14,7 @@ invariant-packets g l =
       interrupt : l.self.interrupt.ghost_name ≡ l.fn.self.interrupt.ghost_name;
       fault : l.self.fault ≡ l.fn.self.fault;
       place : l.self.front.place ≡ None;
+      goes_on : sidebands_goes_on g.I.Interrupt.says l.fn.self l.self;
     }
 
 abbrev pub decreases-packets : goal.decreases-packets

@@ -1,12 +1,14 @@
-use Rattle.std.proofs.Common.{sym, ap, ◌∙◌}
+use Rattle.std.proofs.Common.{sym, ap, ◌∙◌, Bool}
 use Rattle.std.proofs.lemmas.Result.{err_from_is_err_and}
+use Rattle.gixp_response.specs.declared.fetch.response.answer.Response.{Response}
 use Rattle.gixp_response.specs.Beginnings.{line_item}
 use Rattle.gixp_response.proofs.BeginningLemmas.{amid-start, amid-stop, amid-stops, amid-end, amid-fails, amid-pack, amid-line, amid-said, amid-nak, amid-memory}
 use Rattle.gixp_response.proofs.CommonLemmas.{none_common}
+use Rattle.gixp_response.proofs.InterruptLemmas.{peeked_goes, reader_refused}
 use Rattle.gixp_response.proofs.fetch.response.beginnings.read_beginning.Goals as goal
 
 pub loop-answer-init : goal.loop-answer-init
-loop-answer-init g c = (rw c.empty-answer.ensures (amid-start _ _ _ _ c.reset.ensures), rw c.empty-answer.ensures (none_common _ c.new-commons.ensures.empty))
+loop-answer-init g c = (rw c.empty-answer.ensures (amid-start _ _ _ _ c.reset.ensures.reading), rw c.empty-answer.ensures (none_common _ c.new-commons.ensures.empty), c.reset.ensures.goes_on)
 
 pub returns-then-behind_stop-clause-answers : goal.returns-then-behind_stop-clause-answers
 returns-then-behind_stop-clause-answers g c =
@@ -18,7 +20,8 @@ pub loop-answer-preserved-in-Ok-false : goal.loop-answer-preserved-in-Ok-false
 loop-answer-preserved-in-Ok-false g c =
     let k = rw c.in-Ok-false.field-0-test at c.in-Ok-false.ensures.peeks in
     let h = rw c.if-behind_stop.false at c.loop-answer.invariant.0 in
-    (amid-stop _ _ _ _ _ _ _ _ h k c.reset-in-Ok-false.ensures, c.loop-answer.invariant.1)
+    let went = g.met.R.ExtendedBufRead.joins _ _ _ c.loop-answer.invariant.2 c.in-Ok-false.ensures.goes_on in
+    (amid-stop _ _ _ _ _ _ _ _ h k c.reset-in-Ok-false.ensures.reading, c.loop-answer.invariant.1, g.met.R.ExtendedBufRead.joins _ _ _ went c.reset-in-Ok-false.ensures.goes_on)
 
 pub returns-then-ends_answer-clause-answers : goal.returns-then-ends_answer-clause-answers
 returns-then-ends_answer-clause-answers g c = amid-end _ c.requires _ _ _ _ _ _ _ c.in-Err.e c.loop-answer.invariant.0 c.in-Err.ensures.peeks c.if-ends_answer.ensures
@@ -48,4 +51,10 @@ pub loop-answer-preserved : goal.loop-answer-preserved
 loop-answer-preserved g c =
     let k = rw c.in-Ok-true.field-0-test at c.in-Ok-true.ensures.peeks in
     let t = amid-line _ _ _ _ _ c.in-Some.said _ _ _ _ _ c.loop-answer.invariant.0 k (c.in-Some.ensures ∙ ap line_item c.line.ensures) c.next_line.ensures.reads in
-    (amid-said _ _ _ _ _ _ _ c.in-Some.said _ _ _ c.loop-answer.invariant.0 t c.in_ok-keep.ensures.ok c.ready_by-came_ready.ensures c.if-ends_by_nak.ensures, c.in_ok-keep.ensures.common)
+    let shown = g.met.R.ExtendedBufRead.joins _ _ _ c.loop-answer.invariant.2 c.in-Ok-true.ensures.goes_on in
+    let went = g.met.R.ExtendedBufRead.joins _ _ _ shown (peeked_goes _ _ _ _ k.peeked c.next_line.ensures.reads c.next_line.ensures.goes_on) in
+    (amid-said _ _ _ _ _ _ _ c.in-Some.said _ _ _ c.loop-answer.invariant.0 t c.in_ok-keep.ensures.ok c.ready_by-came_ready.ensures c.if-ends_by_nak.ensures, c.in_ok-keep.ensures.common, went)
+
+pub returns-in-Err-clause-goes_on : goal.returns-in-Err-clause-goes_on
+returns-in-Err-clause-goes_on g c =
+    reader_refused Bool Response _ _ c.in-Err.e _ c.from.ensures (λ k. g.met.R.ExtendedBufRead.joins _ _ _ c.loop-answer.invariant.2 k) c.in-Err.ensures.goes_on

@@ -7,6 +7,7 @@ abbrev pub invariant-loop-answer : goal.invariant-loop-answer
 invariant-loop-answer g l =
     Amid l.version (expected l.expects_pack l.negotiates) l.answer l.came_ready l.behind_stop (g.R.ExtendedBufRead.reading l.fn.reader) (g.R.ExtendedBufRead.reading l.reader)
     × AreCommon l.answer.acknowledgements l.commons
+    × g.R.ExtendedBufRead.goes_on l.fn.reader l.reader
 
 abbrev stops_left : Bool → ℕ
 stops_left true = 0
