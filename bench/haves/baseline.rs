@@ -1,8 +1,11 @@
-//! The same haves over the same history in plain Rust: ordered maps and std's `BinaryHeap`.
+//! The same haves over the same history in plain Rust: std's `HashMap` of commits and `BinaryHeap`.
+#[path = "../history/history.rs"]
+mod history;
+
+use history::{arguments, make_id, CommitData, History, ObjectId};
 use std::cmp::Reverse;
-use std::collections::btree_map::Entry;
-use std::collections::{BTreeMap, BinaryHeap};
-use std::env;
+use std::collections::hash_map::Entry;
+use std::collections::{BinaryHeap, HashMap};
 use std::time::Instant;
 
 const COMMON: u8 = 2;
@@ -10,62 +13,14 @@ const COMMON_REF: u8 = 4;
 const SEEN: u8 = 8;
 const POPPED: u8 = 16;
 
-#[derive(Clone, Copy, PartialEq, Eq, PartialOrd, Ord)]
-struct ObjectId {
-    bytes: [u8; 20],
-}
-
-struct CommitData {
-    time: i64,
-    parents: Vec<ObjectId>,
-}
-
-fn mix(number: u64) -> u64 {
-    let a = number.wrapping_mul(0x9E37_79B9_7F4A_7C15);
-    let b = (a ^ (a >> 30)).wrapping_mul(0xBF58_476D_1CE4_E5B9);
-    b ^ (b >> 27)
-}
-
-fn make_id(number: u64) -> ObjectId {
-    let mut bytes = [0; 20];
-    bytes[..8].copy_from_slice(&mix(number).to_be_bytes());
-    bytes[8..16].copy_from_slice(&mix(number ^ 0x5555_5555).to_be_bytes());
-    bytes[16..].copy_from_slice(&number.to_be_bytes()[4..]);
-    ObjectId { bytes }
-}
-
-struct Objects {
-    commits: BTreeMap<ObjectId, CommitData>,
-    looked_up: Vec<ObjectId>,
-}
-
-impl Objects {
-    fn add(&mut self, number: u64) {
-        let mut parents = Vec::new();
-        if 0 < number {
-            parents.push(make_id(number - 1));
-            if number % 10 == 0 {
-                parents.push(make_id(number - 1 - mix(number) % number.min(1000)));
-            }
-        }
-        self.commits.insert(make_id(number), CommitData { time: number as i64, parents });
-    }
-
-    fn commit(&mut self, id: &ObjectId) -> Option<CommitData> {
-        self.looked_up.push(*id);
-        let commit = self.commits.get(id)?;
-        Some(CommitData { time: commit.time, parents: commit.parents.clone() })
-    }
-}
-
 struct Held {
     commit: CommitData,
     flags: u8,
 }
 
 struct Consecutive {
-    objects: Objects,
-    held: BTreeMap<ObjectId, Held>,
+    objects: History,
+    held: HashMap<ObjectId, Held>,
     queue: BinaryHeap<(i64, Reverse<u64>, ObjectId)>,
     came: u64,
     uncommon: usize,
@@ -138,26 +93,15 @@ impl Consecutive {
 }
 
 fn main() {
-    let mut walks = false;
-    let mut commits: u64 = 1_000_000;
-    for argument in env::args() {
-        if argument == "walk" {
-            walks = true;
-        } else if let Ok(number) = argument.parse() {
-            commits = number;
-        }
-    }
-    let mut objects = Objects { commits: BTreeMap::new(), looked_up: Vec::new() };
-    for number in 0..commits {
-        objects.add(number);
-    }
+    let (walks, commits) = arguments("walk");
+    let objects = History::new(commits);
     if !walks {
         println!("made {commits}");
         return;
     }
     let tip = make_id(commits - 1);
     let start = Instant::now();
-    let mut negotiator = Consecutive { objects, held: BTreeMap::new(), queue: BinaryHeap::new(), came: 0, uncommon: 0 };
+    let mut negotiator = Consecutive { objects, held: HashMap::new(), queue: BinaryHeap::new(), came: 0, uncommon: 0 };
     negotiator.push(tip, 0);
     let mut haves = 0;
     while negotiator.next_have().is_some() {

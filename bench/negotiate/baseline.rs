@@ -1,55 +1,12 @@
-//! The same decision and marks over the same history in plain Rust: ordered maps, a heap and a set.
-use std::collections::btree_map::Entry;
-use std::collections::{BTreeMap, BTreeSet, BinaryHeap};
-use std::env;
+//! The same decision and marks over the same history in plain Rust: std's `HashMap` and `HashSet`, and a heap. The refs are an
+//! ordered map, as `MemoryRefs` has them.
+#[path = "../history/history.rs"]
+mod history;
+
+use history::{arguments, make_id, CommitData, History, ObjectId};
+use std::collections::hash_map::Entry;
+use std::collections::{BTreeMap, BinaryHeap, HashMap, HashSet};
 use std::time::Instant;
-
-#[derive(Clone, Copy, PartialEq, Eq, PartialOrd, Ord)]
-struct ObjectId {
-    bytes: [u8; 20],
-}
-
-struct CommitData {
-    time: i64,
-    parents: Vec<ObjectId>,
-}
-
-fn mix(number: u64) -> u64 {
-    let a = number.wrapping_mul(0x9E37_79B9_7F4A_7C15);
-    let b = (a ^ (a >> 30)).wrapping_mul(0xBF58_476D_1CE4_E5B9);
-    b ^ (b >> 27)
-}
-
-fn make_id(number: u64) -> ObjectId {
-    let mut bytes = [0; 20];
-    bytes[..8].copy_from_slice(&mix(number).to_be_bytes());
-    bytes[8..16].copy_from_slice(&mix(number ^ 0x5555_5555).to_be_bytes());
-    bytes[16..].copy_from_slice(&number.to_be_bytes()[4..]);
-    ObjectId { bytes }
-}
-
-struct History {
-    rows: Vec<(ObjectId, CommitData)>,
-}
-
-impl History {
-    fn add(&mut self, number: u64) {
-        let mut parents = Vec::new();
-        if 0 < number {
-            parents.push(make_id(number - 1));
-            if number % 10 == 0 {
-                parents.push(make_id(number - 1 - mix(number) % number.min(1000)));
-            }
-        }
-        self.rows.push((make_id(number), CommitData { time: number as i64, parents }));
-    }
-
-    fn commit(&self, id: &ObjectId) -> Option<CommitData> {
-        let number = u32::from_be_bytes(id.bytes[16..].try_into().unwrap()) as usize;
-        let (found, commit) = self.rows.get(number)?;
-        (found == id).then(|| CommitData { time: commit.time, parents: commit.parents.clone() })
-    }
-}
 
 struct Held {
     commit: CommitData,
@@ -58,7 +15,7 @@ struct Held {
 
 struct Graph {
     history: History,
-    commits: BTreeMap<ObjectId, Held>,
+    commits: HashMap<ObjectId, Held>,
 }
 
 impl Graph {
@@ -141,7 +98,7 @@ fn decide(graph: &mut Graph, refs: &BTreeMap<Vec<u8>, ObjectId>, targets: &[Obje
         return None;
     }
     let ids = targets.to_vec();
-    let mut seen = BTreeSet::new();
+    let mut seen = HashSet::new();
     let mut found = Vec::new();
     for &id in &ids {
         if graph.look_up(id).is_some() && seen.insert(id) {
@@ -163,19 +120,8 @@ fn decide(graph: &mut Graph, refs: &BTreeMap<Vec<u8>, ObjectId>, targets: &[Obje
 }
 
 fn main() {
-    let mut decides = false;
-    let mut commits: u64 = 1_000_000;
-    for argument in env::args() {
-        if argument == "decide" {
-            decides = true;
-        } else if let Ok(number) = argument.parse() {
-            commits = number;
-        }
-    }
-    let mut history = History { rows: Vec::new() };
-    for number in 0..commits {
-        history.add(number);
-    }
+    let (decides, commits) = arguments("decide");
+    let history = History::new(commits);
     let (mut refs, mut targets, mut mappings) = (BTreeMap::new(), Vec::new(), Vec::new());
     for number in 0..commits / 10 {
         let id = make_id(number * 10 + 9);
@@ -189,7 +135,7 @@ fn main() {
         println!("made {} {}", targets.len(), mappings.len());
         return;
     }
-    let mut graph = Graph { history, commits: BTreeMap::new() };
+    let mut graph = Graph { history, commits: HashMap::new() };
     let start = Instant::now();
     let decided = decide(&mut graph, &refs, &targets, &mappings).expect("something is negotiated");
     let time = start.elapsed();
