@@ -270,8 +270,7 @@ def read_pack(r, interrupt, pack):
         try:
             given = banded.fill()
         except Refused as e:
-            kind = e.rest[0] if e.name == "Io" else "Other" if e.name == "Interrupted" else "InvalidData"
-            raise Refused("ConsumePack(Read(%s))" % kind)
+            raise Refused("ConsumePack(Read(%s))" % read_debug(e))
         if not given:
             return
         pack.append(given)

@@ -32,6 +32,7 @@ pub use Rattle.gixp_wire.specs.Greeting
 pub use Rattle.gixp_wire.specs.Handshake
 pub use Rattle.gixp_sidebands.specs.Bands
 pub use Rattle.gixp_sidebands.specs.Telling
+pub use Rattle.gixp_sidebands.specs.SaidToGoOn
 pub use Rattle.gixp_sidebands.specs.Sidebands
 pub use Rattle.gixp_refs.specs.Ref
 pub use Rattle.gixp_refs.specs.RefLine
@@ -145,10 +146,17 @@ pub use Rattle.gixp_fetch.specs.Again
 pub use Rattle.gixp_fetch.specs.Mapped
 pub use Rattle.gixp_fetch.specs.Headline
 pub use Rattle.gixp_negotiators.specs.Algorithm as NegotiatorAlgorithm
+pub use Rattle.gixp_negotiators.specs.AlgorithmLaws as NegotiatorAlgorithmLaws
+pub use Rattle.gixp_negotiators.specs.Calls as NegotiatorCalls
 pub use Rattle.gixp_negotiators.specs.Distance as NegotiatorDistance
 pub use Rattle.gixp_negotiators.specs.Marks as NegotiatorMarks
 pub use Rattle.gixp_negotiators.specs.MarkLaws as NegotiatorMarkLaws
+pub use Rattle.gixp_negotiators.specs.Passing as NegotiatorPassing
+pub use Rattle.gixp_negotiators.specs.Spread as NegotiatorSpread
+pub use Rattle.gixp_negotiators.specs.SpreadLaws as NegotiatorSpreadLaws
 pub use Rattle.gixp_negotiators.specs.Waiting as NegotiatorWaiting
+pub use Rattle.gixp_memory.specs.Text as RepositoryText
+pub use Rattle.gixp_memory.specs.Repository
 pub use Rattle.gixp_packetline.specs.ServerMessage
 pub use Rattle.gixp_packetline.specs.ReadAhead
 pub use Rattle.gixp_capabilities.specs.ClientMessage
@@ -267,3 +275,20 @@ pub use Rattle.gixp_negotiators.specs.declared.algorithm.AnyNegotiator as AnyNeg
 pub use Rattle.gixp_negotiators.specs.declared.consecutive.Consecutive as ConsecutiveType
 pub use Rattle.gixp_negotiators.specs.declared.noop.Noop as NoopType
 pub use Rattle.gixp_negotiators.specs.declared.skipping.Skipping as SkippingType
+pub use Rattle.gixp_graph.specs.declared.shared.Shared as SharedType
+pub use Rattle.gixp_memory.specs.declared.texts.TextError as TextErrorType
+pub use Rattle.gixp_memory.specs.declared.stored_objects.StoredObjects as StoredObjectsType
+pub use Rattle.gixp_memory.specs.declared.stored_refs.StoredRefs as StoredRefsType
+pub use Rattle.gixp_memory.specs.declared.stored_refs.NoAlternates as NoAlternatesType
+pub use Rattle.gixp_updates.specs.Ancestors
+pub use Rattle.gixp_updates.specs.LocalSide
+pub use Rattle.gixp_updates.specs.LookUps
+pub use Rattle.gixp_updates.specs.Modes
+pub use Rattle.gixp_updates.specs.Unmatched
+pub use Rattle.gixp_updates.specs.UpdateError
+pub use Rattle.gixp_updates.specs.declared.refs.edit.Edit as EditType
+pub use Rattle.gixp_updates.specs.declared.refs.edit.Update as UpdateType
+pub use Rattle.gixp_updates.specs.declared.refs.error.Error as UpdateErrorType
+pub use Rattle.gixp_updates.specs.declared.refs.unmatched.UnmatchedSpec as UnmatchedSpecType
+pub use Rattle.gixp_updates.specs.declared.refs.update.Mode as ModeType
+pub use Rattle.gixp_updates.specs.declared.refs.update.Options as UpdateOptionsType

@@ -17,3 +17,4 @@ pub use gixp_refmap::fetch::Tags;
 pub use gixp_refmap::{RefMap, refmap};
 pub use gixp_requests::fetch::{Arguments, arguments};
 pub use gixp_response::fetch::{Response, response};
+pub use gixp_updates::refs;

@@ -11,12 +11,12 @@ use Rattle.std.proofs.lemmas.List.Sums.{fails_before_first}
 use Rattle.gixp_capabilities.specs.Cut.{cut}
 use Rattle.gixp_capabilities.specs.Capabilities.{CapabilityValue, capability_of, capabilities_of_words, has_bytes}
 
--- the parts behind the first one
+-- the parts after the first one
 abbrev pub parts_behind : ℕ → Option (List ℕ) → List (List ℕ)
 parts_behind b None = []
 parts_behind b (Some rest) = slice_split (λ x. x == b) rest
 
--- the first part is what stands before the first separator
+-- the first part is what comes before the first separator
 parts_by : (b : ℕ) (text : List ℕ) → (position_or_len (λ x. x == b) text < length text) ⊎ (length text ≤ position_or_len (λ x. x == b) text) → slice_split (λ x. x == b) text ≡ (cut b text).0 ∷ parts_behind b (cut b text).1
 parts_by b text (inl lt) =
     let p : ℕ → Bool = λ x. x == b in
@@ -69,7 +69,7 @@ pub word_none : (now all : List CapabilityValue) (text word : List ℕ) (rest : 
 word_none now all text [] rest e n h = ap (λ (ws : List CapabilityValue). now ++ ws) (sym (words_of_cut text [] rest e)) ∙ h
 word_none now all text (x ∷ xs) rest e n h = absurd (omega (arith, eqb-true (length (x ∷ xs)) 0 n))
 
--- what is behind a place is shorter
+-- what is after a place is shorter
 behind_shorter : (b : ℕ) (text : List ℕ) → (position_or_len (λ x. x == b) text < length text) ⊎ (length text ≤ position_or_len (λ x. x == b) text) → (rest : List ℕ) → (cut b text).1 ≡ Some rest → length rest < length text
 behind_shorter b text (inl lt) rest e =
     let some : nat_lt (position_or_len (λ x. x == b) text) (length text) ≡ true = lt-ltb _ _ lt in

@@ -1,4 +1,4 @@
--- What stands before and behind the first place of a byte.
+-- What comes before and after the first place of a byte.
 use Rattle.std.proofs.Common.{◌≡◌, ℕ, ◌+◌, ◌-◌, ◌<◌, ◌==◌, Bool, true, false, nat_lt, List, length, take, drop, refl, ap, ◌∙◌, arith, Option, Some, None, take_all, length-drop}
 use Rattle.std.specs.Prelude.{position}
 use Rattle.std.specs.List.{position_or_len}

@@ -12,7 +12,7 @@ pub record CapabilityValue : Type 0 where
   pub name : List ℕ
   pub value : Option (List ℕ)
 
--- a text is a name and, behind its first `=`, a value
+-- a text is a name and, after its first `=`, a value
 unfoldable pub capability_of : List ℕ → CapabilityValue
 capability_of text = let parts = cut 61 text in record { name = parts.0; value = parts.1 }
 
@@ -28,12 +28,12 @@ has_bytes (x ∷ xs) = true
 unfoldable pub capabilities_of_words : List ℕ → List CapabilityValue
 capabilities_of_words text = map capability_of (filter has_bytes (words_of text))
 
--- those behind a NUL at this place, and the place
+-- those after a NUL at this place, and the place
 abbrev pub capabilities_behind : List ℕ → Option ℕ → Option (List CapabilityValue × ℕ)
 capabilities_behind line None = None
 capabilities_behind line (Some place) = Some (capabilities_of_words (strip_last 10 (drop (place + 1) line)), place)
 
--- those of a first ref line, which stand behind its first NUL, and the place of that; none where there is no NUL
+-- those of a first ref line, which come after its first NUL, and the place of that; none where there is no NUL
 abbrev pub capabilities_of_line : List ℕ → Option (List CapabilityValue × ℕ)
 capabilities_of_line line = capabilities_behind line (position (λ b. b == 0) line)
 

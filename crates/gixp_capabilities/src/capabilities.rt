@@ -57,7 +57,7 @@ impl Capabilities {
         }
     }
 
-    /// The capabilities of a first ref line, which stand behind its first NUL, with blanks between
+    /// The capabilities of a first ref line, which come after its first NUL, with blanks between
     /// them, and the place of that NUL (gitprotocol-pack, "Reference Discovery").
     ///
     /// One LF at the line's end is no part of them.
@@ -178,14 +178,14 @@ pub struct Capability<'a> {
 }
 
 impl<'a> Capability<'a> {
-    /// The name: what stands before the first `=`.
+    /// The name: what comes before the first `=`.
     pub fn name(&self) -> BStr<'a>
         ensures { bstr_bytes result ≡ (capability_value self.now).name }
     {
         self.name
     }
 
-    /// The value: what stands behind the first `=`, if there is one.
+    /// The value: what comes after the first `=`, if there is one.
     pub fn value(&self) -> Option<BStr<'a>>
         ensures { option_map bstr_bytes result ≡ (capability_value self.now).value }
     {

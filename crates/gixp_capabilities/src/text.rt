@@ -5,7 +5,7 @@ ghost use Rattle.gixp_capabilities.specs.Cut.{cut};
 
 use bstr::ByteSlice;
 
-/// What stands before the first such byte, and what stands behind it; all of the text where there is none.
+/// What comes before the first such byte, and what comes after it; all of the text where there is none.
 #[inline(always)]
 pub fn cut(text: &[u8], byte: u8) -> (&[u8], Option<&[u8]>)
     ensures { cut byte text.now ≡ (result.0.now, option_copied result.1) }

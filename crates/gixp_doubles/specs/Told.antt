@@ -13,7 +13,7 @@ call_of (call.Set n) = set n
 call_of (call.SetName name) = set_name (string_bytes name)
 call_of (call.Fail message) = fail (string_bytes message)
 
--- a call stands behind the others, or is known to be missing
+-- a call comes after the others, or is known to be missing
 abbrev pub WritesDown : Told → ProgressCall → Told → Type 0
 WritesDown old told new =
     ((map call_of new.calls.items ≡ map call_of old.calls.items ++ told ∷ []) × (new.is_short ≡ old.is_short) × (new.children ≡ old.children))

@@ -5,8 +5,6 @@ use Rattle.std.specs.Prelude.{IfSome}
 use Rattle.std.specs.Io.KnownBytes.{Appends}
 use Rattle.gixp_packetline.specs.Pieces.{Pieces, Refusal}
 use Rattle.std.specs.declared.io.Error.{Error as io_error}
-use Rattle.std.specs.declared.io.ErrorKind.{ErrorKind}
-use Rattle.std.specs.IoError.{error_kind}
 use Rattle.gixp_packetline.specs.Reading.{Reading, AtStop, Fails}
 use Rattle.gixp_sidebands.specs.Bands.{Side, IsFirstOf, side_content, side_reading, shown, content_bound, Passes, ShowsContent, EndsContent, RefusesContent, ReadsBytes}
 use Rattle.gixp_fetch.specs.Receive.{ReadsOn}
@@ -104,16 +102,17 @@ copied_all old w start now end read h t = (
         let same : u.0 ≡ r = cc in
         u.3 ∙ (ap (λ z. read ++ side_content now z) same ∙ (ap (λ z. read ++ z) y ∙ append-nil read))
 
--- a read was refused
-pub copied_refused : (old w : Option (List ℕ)) (start now end : Side) (read : List ℕ) (e : io_error) (kind : ErrorKind) → kind ≡ error_kind e → Copied old start read w now → RefusesContent now end e
-    → (read' : List ℕ) × (lost : List ℕ) × Appends old w read' × ReadsOn start end (read' ++ lost) × ((side_reading end).held ≡ (side_reading start).held) × ReadRefused old start read' w end kind
-copied_refused old w start now end read e kind g h t = (
+-- a read was refused, and its refusal taken out of the reader
+pub copied_refused : (old w : Option (List ℕ)) (start now failed end : Side) (read : List ℕ) (e : io_error) (refusal : Refusal) → Copied old start read w now → RefusesContent now failed e
+    → IfSome failed.fault (λ r. refusal ≡ r) → end ≡ record failed { fault = None }
+    → (read' : List ℕ) × (lost : List ℕ) × Appends old w read' × ReadsOn start end (read' ++ lost) × ((side_reading end).held ≡ (side_reading start).held) × ReadRefused old start read' w end refusal
+copied_refused old w start now failed end read e refusal h t is taken = (
   read,
   t.lost,
   h.written,
-  record { content = passes_more start now end read t.lost h.reads.content t.rest },
-  fails_held (side_reading now) (side_reading end) t.refusal t.fails ∙ h.held,
-  record { now = now; copied = h; error = e; refused = t; gives = g },
+  subst (λ s. ReadsOn start s (read ++ t.lost)) (sym taken) (record { content = passes_more start now failed read t.lost h.reads.content t.rest }),
+  ap (λ s. (side_reading s).held) taken ∙ (fails_held (side_reading now) (side_reading failed) t.refusal t.fails ∙ h.held),
+  record { now = now; copied = h; failed = failed; error = e; refused = t; gives = subst (λ o. IfSome o (λ r. refusal ≡ r)) t.fault is; taken = taken },
 )
 
 -- the writer failed

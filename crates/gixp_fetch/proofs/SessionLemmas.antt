@@ -29,7 +29,8 @@ use Rattle.gixp_fetch.specs.View.{view}
 use Rattle.gixp_fetch.specs.Sent.{request_of, requests_of, WroteRequests}
 use Rattle.gixp_fetch.specs.Receive.{fresh_side, Consumed, GivesBack, Finishes}
 use Rattle.gixp_fetch.specs.Received.{PackFails, Received, ReceiveFails}
-use Rattle.gixp_fetch.specs.Session.{DeliverFails, StoreCalls, at_lock, at_pack, at_boundary}
+use Rattle.gixp_fetch.specs.Store.{StoreCalls}
+use Rattle.gixp_fetch.specs.Session.{DeliverFails, at_lock, at_pack, at_boundary}
 use Rattle.gixp_fetch.specs.Fetch.{World, Parties, Begun, Negotiated, FetchFails, unopened, unready, unpacked, untold, undelivered}
 use Rattle.gixp_fetch.specs.Fetched.{FetchCall, features, Fetches}
 use Rattle.gixp_packetline.specs.TransportState.{TransportState as held_data}
@@ -214,7 +215,7 @@ module _ {N I A S C P X : Type 0} (parties : Parties N I A S C P X) where
     back = r.back;
   }
 
-  -- the consumer refused it, or what stands behind it was refused
+  -- the consumer refused it, or what comes after it was refused
   refuses_pack : (c : C) (from : Reading) (d : C) (new : Reading) (q : P) (name : GName) (p : P) (error : PackFailure X) (end : Side) → from.stopped ≡ None → PackFails parties.consumes c (fresh_side name from) p error d end q
       → GivesBack end new → RefusesPack parties c from error d new q
   refuses_pack c from d new q name p (Consumer x) end s f b = (end, taken c from d name p (Err x) end q s f, b)

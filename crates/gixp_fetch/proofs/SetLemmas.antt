@@ -283,7 +283,7 @@ updates_has keys (becomes_whole id ∷ us) h q =
     let cut = removed_has ids_total ids_exact keys id q h in
     (λ a. stays_by q (Contains gone q) (Contains keys q × (q ≢ id)) cut.0 us (more.0 a), λ a. more.1 (stays_by q (Contains keys q × (q ≢ id)) (Contains gone q) cut.1 us a))
 
--- the boundary behind the updates is that set
+-- the boundary after the updates is that set
 pub boundary_is : (ids : List ObjectId) (us : List ShallowUpdate) → IsBoundary ids us (boundary ids us)
 boundary_is ids us =
     let first = set_of ids in

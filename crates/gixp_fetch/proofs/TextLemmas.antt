@@ -20,7 +20,7 @@ cut text = position_or_len (λ b. b == 10) text
 in_front : (x : ℕ) (rest : List ℕ) (n m : ℕ) → m ≡ suc n → in_first x (take n rest ∷ lines (drop (suc n) rest)) ≡ take m (x ∷ rest) ∷ lines (drop (suc m) (x ∷ rest))
 in_front x rest n m e = rw e refl
 
--- the first line, and the lines behind it
+-- the first line, and the lines after it
 pub first_of_lines : (text : List ℕ) → 0 < length text → lines text ≡ take (cut text) text ∷ lines (drop (suc (cut text)) text)
 first_of_lines [] h = absurd (omega arith)
 first_of_lines (x ∷ []) h = at (x == 10)
@@ -70,7 +70,7 @@ are_ids [] (id ∷ ids) h = absurd h
 are_ids (l ∷ ls) [] h = absurd h
 are_ids (l ∷ ls) (id ∷ ids) h = All-cons (λ l. IsSome (id_of l)) l ls (subst IsSome (sym h.0) refl) (are_ids ls ids h.1)
 
--- a line that is no id behind lines that are
+-- a line that is no id after lines that are
 pub unread : (text : List ℕ) (before : List (List ℕ)) (ids : List ObjectId) (rest line behind : List ℕ) (e : ShallowError) → lines text ≡ before ++ lines rest → AllZip IsIdOf before ids
     → lines rest ≡ line ∷ lines behind → IsNoId line e → IdTextFails text e
 unread text before ids rest line behind (Decode found) s a c n = (before, line, lines behind, s ∙ ap (λ ls. before ++ ls) c, are_ids before ids a, n.0, n.1)

@@ -1,9 +1,9 @@
 -- What consumers do that copy a pack, or pass over it (gitprotocol-pack, "Packfile Data").
 use Rattle.std.specs.Prelude.{◌≡◌, ℕ, Bool, true, List, ◌++◌, Option, None, IfSome, Result, Ok, Err}
 use Rattle.std.specs.Io.KnownBytes.{Appends}
-use Rattle.std.specs.IoError.{error_kind}
 use Rattle.std.specs.declared.io.Error.{Error as io_error}
-use Rattle.std.specs.declared.io.ErrorKind.{ErrorKind}
+use Rattle.gixp_packetline.specs.Pieces.{Refusal}
+use Rattle.gixp_packetline.specs.Reading.{refusal_of}
 use Rattle.gixp_sidebands.specs.Bands.{Side, IsFirstOf, side_content, side_reading, ShowsContent, RefusesContent}
 use Rattle.gixp_fetch.specs.declared.consume.copy.CopyError.{CopyError}
 use Rattle.gixp_fetch.specs.declared.consume.copy.CopyError.TheVariants.{Read, Write}
@@ -16,15 +16,17 @@ pub record Copied (old : Option (List ℕ)) (start : Side) (read : List ℕ) (ne
   pub held : (side_reading end).held ≡ (side_reading start).held
   pub written : Appends old new read
 
--- a read of content was refused behind what was copied, and this is its kind
-pub record ReadRefused (old : Option (List ℕ)) (start : Side) (read : List ℕ) (new : Option (List ℕ)) (end : Side) (kind : ErrorKind) : Type 0 where
+-- a read of content was refused after what was copied, and the refusal was taken out of the reader
+pub record ReadRefused (old : Option (List ℕ)) (start : Side) (read : List ℕ) (new : Option (List ℕ)) (end : Side) (refusal : Refusal) : Type 0 where
   pub now : Side
   pub copied : Copied old start read new now
+  pub failed : Side
   pub error : io_error
-  pub refused : RefusesContent now end error
-  pub gives : kind ≡ error_kind error
+  pub refused : RefusesContent now failed error
+  pub gives : refusal ≡ refused.refusal
+  pub taken : end ≡ record failed { fault = None }
 
--- bytes were at hand for the writer behind what was copied
+-- bytes were at hand for the writer after what was copied
 pub record WriteRefused (old : Option (List ℕ)) (start end : Side) : Type 0 where
   pub now : Side
   pub mid : Option (List ℕ)
@@ -32,27 +34,32 @@ pub record WriteRefused (old : Option (List ℕ)) (start end : Side) : Type 0 wh
   pub copied : Copied old start read mid now
   pub shows : ShowsContent now end
 
--- all content up to the stop was copied; or a read was refused behind some, of which the writer got all but what the failed read lost; or the writer failed behind some, with more at hand for it
-abbrev pub Copies : Option (List ℕ) → Side → Result Bool CopyError → Option (List ℕ) → Side → Type 0
-Copies old start (Ok finished) new end = (finished ≡ true) × (read : List ℕ) × Copied old start read new end × IfSome start.reading.to_come (λ p. IsFirstOf start p → side_content start p ≡ read)
-Copies old start (Err (Read kind)) new end = (read : List ℕ) × (lost : List ℕ) × Appends old new read × ReadsOn start end (read ++ lost) × ((side_reading end).held ≡ (side_reading start).held)
-    × ReadRefused old start read new end kind
+-- all content up to the stop was copied; or a read was refused after some, of which the writer got all but what the failed read lost; or the writer failed after some, with more at hand for it
+abbrev pub Copies : Option (List ℕ) → Side → Result (Unit {0}) CopyError → Option (List ℕ) → Side → Type 0
+Copies old start (Ok done) new end = (read : List ℕ) × Copied old start read new end × IfSome start.reading.to_come (λ p. IsFirstOf start p → side_content start p ≡ read)
+Copies old start (Err (Read e)) new end = (read : List ℕ) × (lost : List ℕ) × Appends old new read × ReadsOn start end (read ++ lost) × ((side_reading end).held ≡ (side_reading start).held)
+    × ReadRefused old start read new end (refusal_of e)
 Copies old start (Err (Write kind)) new end = (read : List ℕ) × ReadsOn start end read × ((side_reading end).held ≡ (side_reading start).held) × WriteRefused old start end
+
+-- a consumer that copies a pack returns true, since nothing but the rest of the stream is left
+abbrev pub CopiesPack : Option (List ℕ) → Side → Result Bool CopyError → Option (List ℕ) → Side → Type 0
+CopiesPack old start (Ok finished) new end = (finished ≡ true) × Copies old start (Ok tt) new end
+CopiesPack old start (Err e) new end = Copies old start (Err e) new end
 
 -- the same where nothing is written, so that no write fails
 abbrev pub PassesOver : Side → Result Bool CopyError → Side → Type 0
 PassesOver start (Err (Write kind)) end = ⊥
-PassesOver start (Err (Read kind)) end = Copies None start (Err (Read kind)) None end
-PassesOver start (Ok finished) end = Copies None start (Ok finished) None end
+PassesOver start (Err (Read e)) end = CopiesPack None start (Err (Read e)) None end
+PassesOver start (Ok finished) end = CopiesPack None start (Ok finished) None end
 
 -- what is left is an end of what was
-pub copies_owes : (old new : Option (List ℕ)) (start end : Side) (r : Result Bool CopyError) → Copies old start r new end
+pub copies_owes : (old new : Option (List ℕ)) (start end : Side) (r : Result Bool CopyError) → CopiesPack old start r new end
     → (read : List ℕ) × ReadsOn start end read × ((side_reading end).held ≡ (side_reading start).held)
-copies_owes old new start end (Ok finished) h = (h.1, h.2.reads, h.2.held)
-copies_owes old new start end (Err (Read kind)) h = (h.0 ++ h.1, h.3, h.4)
+copies_owes old new start end (Ok finished) h = (h.1.0, h.1.1.reads, h.1.1.held)
+copies_owes old new start end (Err (Read e)) h = (h.0 ++ h.1, h.3, h.4)
 copies_owes old new start end (Err (Write kind)) h = (h.0, h.1, h.2)
 
 pub passes_over_owes : (start end : Side) (r : Result Bool CopyError) → PassesOver start r end → (read : List ℕ) × ReadsOn start end read × ((side_reading end).held ≡ (side_reading start).held)
 passes_over_owes start end (Ok finished) h = copies_owes None None start end (Ok finished) h
-passes_over_owes start end (Err (Read kind)) h = copies_owes None None start end (Err (Read kind)) h
+passes_over_owes start end (Err (Read e)) h = copies_owes None None start end (Err (Read e)) h
 passes_over_owes start end (Err (Write kind)) h = absurd h

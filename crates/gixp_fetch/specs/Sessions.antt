@@ -162,7 +162,7 @@ module _ {N I A S C P X : Type 0} (parties : Parties N I A S C P X) where
 
   -- ---- a session that came to a pack
 
-  -- its rounds one behind another, each with its request, which is the stated function of what was asked for, and its answer; and then the lock, the pack and the boundary
+  -- its rounds one after another, each with its request, which is the stated function of what was asked for, and its answer; and then the lock, the pack and the boundary
   pub record Conversation (call : FetchCall) (old : World N I S C) (action : ActionValue) (rounds : List Round) (answer : AnswerValue) (last : World N I S C) (progress : P) : Type 0 where
     pub banded : Bool
     pub ids : List ObjectId
@@ -201,7 +201,7 @@ module _ {N I A S C P X : Type 0} (parties : Parties N I A S C P X) where
     pub negotiate : last.negotiate ≡ at.negotiate
     pub reading : last.reading ≡ at.reading
 
-  -- a pack came, and the rest was refused for this reason: an allocation failed, the lock wasn't had, the pack or what stands behind it was refused, or the boundary wasn't written
+  -- a pack came, and the rest was refused for this reason: an allocation failed, the lock wasn't had, the pack or what comes after it was refused, or the boundary wasn't written
   pub data Unpacks (ids : List ObjectId) (updates : List ShallowUpdate) (reject : Bool) (c : C) (read : S) (locked : Bool) (from : Reading) (e : Error A X) (last : World N I S C) (progress : P) : Type 0 where
     lacks_memory : e ≡ Memory → last.reading ≡ from → Unlent c read locked last → Unpacks ids updates reject c read locked from e last progress
     lacks_lock : HoldFails parties.store_calls updates reject read locked e last.store last.locked → last.reading ≡ from → last.consumer ≡ c → Unpacks ids updates reject c read locked from e last progress
@@ -251,7 +251,7 @@ module _ {N I A S C P X : Type 0} (parties : Parties N I A S C P X) where
     told_last (at_round f u) = told_of (manner_of call banded) f
     told_last (behind_pack t r p n h u) = t.round ∷ []
 
-  -- its rounds one behind another, each with its request and its answer, and why there is no pack or the rest was refused
+  -- its rounds one after another, each with its request and its answer, and why there is no pack or the rest was refused
   pub record BrokenOff (call : FetchCall) (old : World N I S C) (e : Error A X) (last : World N I S C) (progress : P) : Type 0 where
     pub banded : Bool
     pub ids : List ObjectId

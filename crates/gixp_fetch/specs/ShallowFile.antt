@@ -17,7 +17,7 @@ pub record HoldsLock {F : Type 0} (had : Bool) (old new : ShallowFile F) : Type 
   pub kept : IsKept old new
   pub failures : new.failures ≡ old.failures
 
--- whether the lock file is still there behind a boundary that was written: it took the place of the file, unless no id is left
+-- whether the lock file is still there after a boundary that was written: it took the place of the file, unless no id is left
 abbrev pub is_left : List ObjectId → Bool
 is_left [] = true
 is_left (id ∷ ids) = false

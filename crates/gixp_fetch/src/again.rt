@@ -9,7 +9,7 @@ use gixp_negotiate::negotiate::negotiation::Negotiation;
 pub trait NamesCommons: Negotiate {
     /// Where ids are kept, the commits that the last answer named as common join them, and the haves of
     /// a round begin with all of these.
-    ghost renames: { Renames Self.goes };
+    ghost renames: { Renames Self.calls.goes };
 }
 
 impl<'a, O: Objects, R: RefStore, N: Negotiator, G: Objects, E: Drop> NamesCommons

@@ -15,7 +15,7 @@ pub trait NegotiatesMap: Negotiate {
     ghost knows: { Self → Knowledge };
 
     /// The first step decides what the mappings call for, and the second asks for their lines.
-    ghost follows: { FollowsMap Self.marks Self.adds map_of knows };
+    ghost follows: { FollowsMap Self.calls.marks Self.calls.adds map_of knows };
 }
 
 impl<'a, O: Objects, R: RefStore, N: Negotiator, G: Objects, E: Drop> NegotiatesMap

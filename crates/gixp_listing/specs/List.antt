@@ -13,7 +13,7 @@ use Rattle.gixp_refs.specs.declared.handshake.refs.parse.Error.{Error}
 use Rattle.gixp_listing.specs.declared.list.ListError.{ListError}
 use Rattle.gixp_listing.specs.declared.list.ListError.TheVariants.{Parse, Io}
 
--- texts one behind the other
+-- texts one after the other
 abbrev pub joined : List (List ℕ) → List ℕ
 joined texts = flat_map (λ (text : List ℕ). text) texts
 
@@ -35,12 +35,12 @@ abbrev pub Prints : Option (List ℕ) → Option (List ℕ) → Result (List Ref
 Prints old new (Ok values) = Appends old new (flat_map ref_line values)
 Prints old new (Err e) = ⊥
 
--- what stands behind the stop that lines end at
+-- what comes after the stop that lines end at
 abbrev pub behind_stop : Ending → Option Pieces
 behind_stop (stop kind rest) = Some rest
 behind_stop (refusal e) = None
 
--- the reader is at the stop behind the lines to come, and what stands behind that is still to come
+-- the reader is at the stop after the lines to come, and what comes after that is still to come
 pub record StopsBehind (old new : Reading) : Type 0 where
   pub stopped : IsSome new.stopped
   pub rest : IfSome old.to_come (λ p. (q : Pieces) × (new.to_come ≡ Some q) × (behind_stop (lines_ahead old p).ending ≡ Some q))

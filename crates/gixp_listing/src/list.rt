@@ -115,7 +115,7 @@ pub fn list_lines<R: ExtendedBufRead, W: Write>(
 /// (gitprotocol-v2, "ls-refs"). What follows the stop is ignored.
 ///
 /// All refs are read before the first byte is written. Their lines are then written in one piece, and
-/// the writer is flushed. The reader may be read behind the stop, by less than the 65,520 bytes of the buffer, and
+/// the writer is flushed. The reader may be read after the stop, by less than the 65,520 bytes of the buffer, and
 /// those bytes are gone.
 ///
 /// # Errors

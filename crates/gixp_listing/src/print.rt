@@ -8,7 +8,7 @@ use gixp_hash::ObjectId;
 use gixp_refs::handshake::Ref;
 use std::alloc::AllocError;
 
-// The pieces, one behind the other.
+// The pieces, one after the other.
 #[inline(always)]
 fn append(text: &mut Vec<u8>, pieces: &[&[u8]]) -> Result<(), AllocError>
     ensures { OnOk result (text.new.items ≡ text.old.items ++ flat_map (λ piece. piece.now) pieces.now) }

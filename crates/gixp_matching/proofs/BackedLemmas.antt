@@ -14,7 +14,7 @@ abbrev pub Backed : (Mapped → Type 0) → List Mapped → List Mapped → Type
 Backed G known [] = Unit {0}
 Backed G known (m ∷ ms) = (G m ⊎ (has_same known m ≡ true)) × Backed G (m ∷ known) ms
 
--- two filters, one behind the other
+-- two filters, one after the other
 filter_twice : {A : Type 0} (p q r : A → Bool) → ((x : A) → r x ≡ (q x && p x)) → (xs : List A) → filter p (filter q xs) ≡ filter r xs
 filter_twice p q r h [] = refl
 filter_twice p q r h (x ∷ xs) = elim (cases_Bool (q x)) [
@@ -58,7 +58,7 @@ filter_all (x ∷ xs) = ap (λ ys. x ∷ ys) (filter_all xs)
 pub firsts_are_good : (G : Mapped → Type 0) (ms : List Mapped) → Backed G [] ms → AllByRecursion G (firsts ms)
 firsts_are_good G ms h = subst (AllByRecursion G) (filter_all (firsts ms)) (new_are_good G [] ms h)
 
--- backed ones, and behind them others that are backed by whatever came before
+-- backed ones, and after them others that are backed by whatever came before
 pub backed_append : (G : Mapped → Type 0) (known xs ys : List Mapped) → Backed G known xs → ((k : List Mapped) → Backed G k ys) → Backed G known (xs ++ ys)
 backed_append G known [] ys h t = t known
 backed_append G known (m ∷ xs) ys h t = (h.0, backed_append G (m ∷ known) xs ys h.1 t)

@@ -10,7 +10,7 @@ use Rattle.gixp_matching.specs.Mappings.{Mapped, is_same, firsts}
 use Rattle.gixp_matching.specs.Firsts.{is_fresh, first_flags, flagged}
 use Rattle.gixp_matching.proofs.ListLemmas.{kept_same}
 
--- a filter behind a filter
+-- a filter after a filter
 filter_both : (p q : Mapped → Bool) (ms : List Mapped) → filter p (filter q ms) ≡ filter (λ m. q m && p m) ms
 filter_both p q [] = refl
 filter_both p q (m ∷ ms) = elim (cases_Bool (q m)) [
@@ -69,7 +69,7 @@ pub or_none : (b : Bool) → (b || false) ≡ b
 or_none true = refl
 or_none false = refl
 
--- behind i mappings: their flags, and a table that has them
+-- after i mappings: their flags, and a table that has them
 pub record IsFlagged (ms : List Mapped) (i : ℕ) (flags : List Bool) (has : Mapped → Bool) : Type 0 where
   pub flags_are : flags ++ first_flags (take i ms) (drop i ms) ≡ first_flags [] ms
   pub has_them : (m : Mapped) → has m ≡ list_any (λ e. is_same e m) (take i ms)
@@ -95,7 +95,7 @@ flagged_more h xs i x b flags new has then e l kept fresh marked step =
           ∙ sym (ap (list_any (λ e. is_same e m)) front ∙ list_any-append (λ e. is_same e m) (take i (map h xs)) (h x ∷ []) ∙ ap (λ r. list_any (λ e. is_same e m) (take i (map h xs)) || r) (or_none (is_same (h x) m)));
     }
 
--- behind the last
+-- after the last
 pub flagged_all : {A : Type 0} (h : A → Mapped) (xs : List A) (i : ℕ) (flags : List Bool) (has : Mapped → Bool) → i ≡ length xs → IsFlagged (map h xs) i flags has → flags ≡ first_flags [] (map h xs)
 flagged_all h xs i flags has e kept =
     let same : i ≡ length (map h xs) = rw length-map e in

@@ -19,7 +19,7 @@ use Rattle.gixp_matching.specs.Mappings.{Source, FullName, ObjectId, Mapped, sou
 use Rattle.gixp_matching.specs.MatchGroup.{key_bytes, key_source, is_marked}
 use Rattle.gixp_matching.proofs.ListLemmas.{any_same}
 
--- two orders behind one another say equal where both do
+-- two orders after one another say equal where both do
 is_eq-then : (a b : Ordering) → is_eq (ordering_then a b) ≡ (is_eq a && is_eq b)
 is_eq-then Less b = refl
 is_eq-then Equal b = refl

@@ -54,7 +54,7 @@ pub kept_same : {A : Type 0} (p q : A → Bool) → ((x : A) → p x ≡ q x) �
 kept_same p q h [] = refl
 kept_same p q h (x ∷ xs) = ap (λ b. cond b (x ∷ filter p xs) (filter p xs)) (h x) ∙ ap (λ r. cond (q x) (x ∷ r) r) (kept_same p q h xs)
 
--- two functions, one behind the other
+-- two functions, one after the other
 pub map_of_map : {A B C : Type 0} (f : B → C) (h : A → B) (xs : List A) → map f (map h xs) ≡ map (λ x. f (h x)) xs
 map_of_map f h [] = refl
 map_of_map f h (x ∷ xs) = ap (λ r. f (h x) ∷ r) (map_of_map f h xs)
@@ -87,7 +87,7 @@ pub gathered_more : {A B C : Type 0} (h : A → B) (f : B → List C) (now new :
 gathered_more h f now new xs i x e l kept step =
     made_more f now new (take i (map h xs)) (h (get_or xs i x)) kept (step ∙ ap (λ y. now ++ f (h y)) e) ∙ ap (flat_map f) (sym (take-map_more h xs i x l))
 
--- a step of a loop that appends what it makes of each element behind what was there
+-- a step of a loop that appends what it makes of each element after what was there
 pub gathered_behind : {A B C : Type 0} (h : A → B) (f : B → List C) (old now new : List C) (xs : List A) (i : ℕ) (d : A) → i < length xs
     → now ≡ old ++ flat_map f (take i (map h xs)) → new ≡ now ++ f (h (get_or xs i d)) → new ≡ old ++ flat_map f (take (i + 1) (map h xs))
 gathered_behind h f old now new xs i d l kept step =

@@ -26,7 +26,7 @@ some_where : (b : Bool) → is_some (where_true b) ≡ b
 some_where true = refl
 some_where false = refl
 
--- one more behind the first of two
+-- one more after the first of two
 or_between : (a b c : Bool) → ((a || c) || b) ≡ ((a || b) || c)
 or_between true b c = refl
 or_between false true true = refl
@@ -91,7 +91,7 @@ kept_some p xs kept b is same = ap not (is ∙ ap (λ l. length l == 0) same) �
     | inr f ↦ ap (λ l. not (length l == 0)) (cond-false _ _ _ f) ∙ at p xs ∙ sym (ap (λ b. b || list_any p xs) f)
   ]
 
--- behind the last refspec, once the names are sorted
+-- after the last refspec, once the names are sorted
 pub prepared_all : (rows sorted : List Row) (needles : List Needle) (specs : List RefSpecRef) (i : ℕ) (name : List ℕ) → i ≡ length specs → IsPermutation rows sorted
     → is_any rows needles name ≡ list_any (excludes name) (take i (map value_of specs)) → is_any sorted needles name ≡ is_excluded (map value_of specs) name
 unfolding is_excluded

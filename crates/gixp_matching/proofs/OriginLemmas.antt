@@ -42,7 +42,7 @@ knows_more : (x : Mapped) (known ms : List Mapped) → Knows known ms → Knows 
 knows_more x known [] h = tt
 knows_more x known (m ∷ ms) h = (or_right _ _ h.0, knows_more x known ms h.1)
 
--- one name of one refspec, and what comes behind it
+-- one name of one refspec, and what comes after it
 one_backed : (G : Mapped → Type 0) (known ys : List Mapped) (s : ℕ × Spec) (name : List ℕ) (i : ℕ) (b : Bool) (middle : Option (List ℕ))
     → ((m : List ℕ) → b ≡ false → middle ≡ Some m → G (mapped (Some i) (FullName name) (local_of s.1 m) s.0) ⊎ (has_same known (mapped (Some i) (FullName name) (local_of s.1 m) s.0) ≡ true))
     → ((now : List Mapped) → ((ms : List Mapped) → Knows known ms → Knows now ms) → ((j : ℕ) → Knows now (made s name j b middle)) → Backed G now ys)
@@ -58,12 +58,12 @@ knows_made : (known : List Mapped) (s : ℕ × Spec) (name : List ℕ) (i : ℕ)
     → Knows known (made s name i b middle) → has_same known (mapped (Some i) (FullName name) (local_of s.1 m) s.0) ≡ true
 knows_made known s name i b middle m e f h = let k = rw (e, f) at h in k.0
 
--- the element behind those that are done
+-- the element after those that are done
 at_seam : (done rest : List Spec) (s : Spec) → slice_get (done ++ s ∷ rest) (length done) ≡ Some s
 at_seam [] rest s = refl
 at_seam (d ∷ done) rest s = at_seam done rest s
 
--- the first that passes, behind others that don't
+-- the first that passes, after others that don't
 first_at_seam : (p : List ℕ → Bool) (k : ℕ) (done rest : List (List ℕ)) (x : List ℕ) → list_any p done ≡ false → p x ≡ true → position_from p k (done ++ x ∷ rest) ≡ Some (k + length done)
 first_at_seam p k [] rest x none here = rw here (ap (λ n. Some n) (omega arith))
 first_at_seam p k (d ∷ done) rest x none here = elim (cases_Bool (p d)) [
@@ -84,7 +84,7 @@ is_there o m e = ap is_some e
 named : (other name : List ℕ) → (is_name other name || false) ≡ true → name ≡ other
 named other name h = (bytes_eq-Decides name other).0 (elim (or_cases (is_name other name) false h) [ inl t ↦ t | inr f ↦ absurd (false≢true f) ])
 
--- one refspec and the names behind those that are done
+-- one refspec and the names after those that are done
 row_backed : (specs : List Spec) (names : List (List ℕ)) (j : ℕ) (s : Spec) → slice_get specs j ≡ Some s
     → (known : List Mapped) (done rest : List (List ℕ)) (i : ℕ) → i ≡ length done → names ≡ done ++ rest
     → ((name : List ℕ) → list_any (is_name name) done ≡ true → (at : ℕ) → Knows known (pair specs (j, s) (at, name)))
@@ -118,7 +118,7 @@ row_backed specs names j s l known done (name ∷ rest) i e split inv =
           subst P (named other name here) (knows at))
     ]))
 
--- the refspec behind those that are done
+-- the refspec after those that are done
 here : (specs done part : List Spec) (s : Spec) (k : ℕ) → k ≡ length done → specs ≡ done ++ s ∷ part → slice_get specs k ≡ Some s
 here specs done part s k e split = ap (λ l. slice_get l k) split ∙ ap (slice_get (done ++ s ∷ part)) e ∙ at_seam done part s
 

@@ -139,7 +139,7 @@ places_are texts rows set up has all table =
 
 -- ---- the refs at the places
 
--- none at a place behind the last
+-- none at a place after the last
 pub no_ref : {X : Type 0} (h : X → List ℕ) (xs : List X) (k : ℕ) → length xs ≤ k → ref_at (map h xs) k ≡ []
 no_ref h xs k l =
     let none : slice_get (map h xs) k ≡ None = slice_get-map h xs k ∙ ap (option_map h) (slice_get_past xs k l) in

@@ -47,7 +47,7 @@ module _ {X : Type 0} where
     | inr f ↦ rw f (filter_twice p q xs)
   ]
 
-  -- up to a partition point all pass, and behind it none
+  -- up to a partition point all pass, and after it none
   front_passes : (p : X → Bool) (xs : List X) (i : ℕ) → i ≤ length xs → IsPartitionPoint (λ y. p y ≡ true) (λ y. p y ≡ false) xs i → All (λ y. p y ≡ true) (take i xs)
   front_passes p xs i l h = λ k d m.
       let within : k < i = subst (λ n. k < n) (length-take-le i xs l) m in
@@ -124,7 +124,7 @@ pub parted_until : (name : List ℕ) (rows : List Row) → AreByName rows → Is
 parted_until name rows up = λ i j d le l t.
     until_from (get_or rows i d).name.now (get_or rows j d).name.now name (sorted_far row_lt (ranks_by nat_list_cmp_total (λ row. row.name.now)) rows up i j d le l) t
 
--- what stands behind the rows before a name is in order too
+-- what comes after the rows before a name is in order too
 pub rest_in_order : (name : List ℕ) (rows : List Row) (i : ℕ) → AreByName rows → i ≤ length rows
     → IsPartitionPoint (λ (row : Row). is_below row.name.now name ≡ true) (λ row. is_below row.name.now name ≡ false) rows i → AreByName (drop i rows)
 rest_in_order name rows i up l h =

@@ -40,7 +40,7 @@ all_weaker : (p q : List ℕ → Bool) → ((x : List ℕ) → p x ≡ true → 
 all_weaker p q h [] t = refl
 all_weaker p q h (x ∷ xs) t = let both = and_parts (p x) (list_all p xs) t in and_from _ _ (h x both.0) (all_weaker p q h xs both.1)
 
--- a name that is below all stays so behind an insertion
+-- a name that is below all stays so after an insertion
 insert_all : (x new : List ℕ) (names : List (List ℕ)) → is_below x new ≡ true → list_all (is_below x) names ≡ true → list_all (is_below x) (insert_name new names) ≡ true
 insert_all x new [] h all = and_from _ _ h refl
 insert_all x new (first ∷ rest) h all =

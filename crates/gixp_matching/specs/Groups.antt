@@ -16,7 +16,7 @@ use Rattle.gixp_matching.specs.Validation.{has_local, of_local}
 abbrev pub Grouped : Type 0
 Grouped = BTreeMap (Bor (List ℕ)) (Vec (Bor Mapping) Global)
 
--- the mappings behind references
+-- the mappings after references
 abbrev pub mapped_behind : List (Bor Mapping) → List Mapped
 mapped_behind group = map (λ mapping. mapped_of mapping.now) group
 

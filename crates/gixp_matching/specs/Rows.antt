@@ -9,10 +9,13 @@ use Rattle.std.specs.Option.{option_map}
 use Rattle.std.specs.Str.{bytes_eq}
 use Rattle.gixp_refspec.specs.declared.needle.Needle.{Needle}
 use Rattle.gixp_matching.specs.declared.match_group.negatives.Prepared.{Prepared}
+use Rattle.gixp_matching.specs.declared.match_group.pairs.Numbered.{Numbered}
 use Rattle.gixp_matching.specs.declared.match_group.rows.Row.{Row}
 use Rattle.gixp_matching.specs.Mappings.{is_excluded}
 use Rattle.gixp_matching.specs.MatchGroup.{values}
-use Rattle.gixp_refspec.specs.Needle.{middle_with}
+use Rattle.gixp_refspec.specs.Needle.{IsNeedle, middle_with}
+use Rattle.gixp_refspec.specs.RefSpec.{value_of}
+use Rattle.gixp_refspec.specs.Spec.{Spec}
 
 -- the place and the name of a ref
 abbrev pub shown : Row → ℕ × List ℕ
@@ -38,6 +41,14 @@ meant names texts = filter (λ ref. list_any (λ text. bytes_eq ref.1 text) text
 pub record IsRowTable (names : List (List ℕ)) (rows : List Row) : Type 0 where
   pub in_order : AreByName rows
   pub has_all : (name : List ℕ) → map shown (filter (is_row_of name) rows) ≡ named names name
+
+-- a refspec and its place
+abbrev pub numbered_value : Numbered → ℕ × Spec
+numbered_value n = (n.index, value_of n.spec.now)
+
+-- its source was looked at
+abbrev pub IsLookedAt : Numbered → Type 0
+IsLookedAt n = IsNeedle n.spec.now.source.now n.needle
 
 -- some ref has this place
 abbrev pub has_place : ℕ → List (ℕ × List ℕ) → Bool

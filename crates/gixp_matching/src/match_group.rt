@@ -17,7 +17,7 @@ pub mod validate;
 
 use crate::match_group::distinct::firsts;
 use crate::match_group::negatives::prepare;
-use crate::match_group::pairs::{push_ids, push_pairs};
+use crate::match_group::pairs::{Matching, push_ids};
 use crate::match_group::validate::Fix;
 use crate::match_group::validate::conflicts::conflicts_of;
 use crate::match_group::validate::fixes::take_out_partial;
@@ -128,7 +128,12 @@ fn mappings_of<'s>(
     let mut found = Vec::new(alloc);
     push_ids(alloc, specs, &mut found)?;
     let prepared = prepare(alloc, specs)?;
-    push_pairs(alloc, &prepared, items, &mut found)?;
+    let matching = Matching {
+        alloc,
+        prepared: &prepared,
+        items,
+    };
+    matching.push_pairs(&mut found)?;
     firsts(alloc, found)
 }
 

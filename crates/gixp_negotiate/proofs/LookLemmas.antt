@@ -221,7 +221,7 @@ calls_some call fails ids i d n g told told_graph x m h less run refused = recor
   fails = refused;
 }
 
--- what was refused behind the mappings, by the graph in front of all looks
+-- what was refused after the mappings, by the graph in front of all looks
 pub stops_behind : {N R A : Type 0} (calls : Telling N) (listings : Listings R) (Negotiates : Type 0) (n : N) (g g1 : GraphData) (q q1 : Written ObjectError) (refs : R) (lent : Lent R A) (ids tips : List ObjectId) (cutoff : Option ℤ) (e : Error A) (new : Step N R A)
     → g1 ≡ look_each ids g → cutoff ≡ cutoff_of g.objects ids → q1 ≡ q → Negotiates
     → StopsAfterLookups calls listings ids tips cutoff (record { negotiator = n; graph = g1; refusals = q1; refs = refs; lent = lent }) e new

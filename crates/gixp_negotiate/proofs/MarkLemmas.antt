@@ -1,4 +1,4 @@
--- Marks behind calls that leave them alone.
+-- Marks after calls that leave them alone.
 use Rattle.std.proofs.Common.{◌≡◌, ◌∙◌, ◌⊎◌, inl, inr, ◌↔◌, Bool, false, List, [], ◌∷◌, sym, ap, subst, true≢false}
 use Rattle.std.specs.Prelude.{IsTrue}
 use Rattle.gixp_hash.specs.declared.object_id.ObjectId.{ObjectId}
@@ -13,7 +13,7 @@ run_leaves : {N : Type 0} (call : Call N) → LeavesMarks call → (ids : List O
 run_leaves call law [] n g m h r q = ap (λ x. is_marked x.held q) r.1
 run_leaves call law (id ∷ ids) n g m h r q = run_leaves call law ids r.0 r.1 m h r.3 q ∙ law n g id r.0 r.1 r.2 q
 
--- the marks behind both runs are those of the walk
+-- the marks after both runs are those of the walk
 pub marks_complete : {N : Type 0} (knows adds : Call N) (n : N) (g : GraphData) (ids tips : List ObjectId) (m : N) (h : GraphData) → LeavesMarks knows → LeavesMarks adds → Marks knows adds n g ids tips m h → MarksComplete g ids tips h
 marks_complete knows adds n g ids tips m h k a marks id =
     subst (λ (b : Bool). IsTrue b ↔ (IsTrue (is_marked g.held id) ⊎ IsComplete (commit_at g.objects) tips (cutoff_of g.objects ids) id))

@@ -1,4 +1,4 @@
--- Stores that are listed one behind the other.
+-- Stores that are listed one after the other.
 use Rattle.std.proofs.Common.{◌≡◌, ◌⊎◌, ℕ, ◌+◌, ◌<◌, zero, suc, List, [], ◌∷◌, length, get_or, set, drop, ◌++◌, append_assoc, refl, sym, ap, ◌∙◌, subst, arith, ◌||◌, if◌then◌else◌}
 use Rattle.std.proofs.Math.Numerals.{add-one}
 use Rattle.std.proofs.Math.Seq.{drop-cons}
@@ -36,7 +36,7 @@ module _ {R : Type 0} (listings : Listings R) (d b : R) where
   up_to (suc k) (a ∷ old) [] e f h l = absurd f
   up_to (suc k) (a ∷ old) (x ∷ mid) e f h l = (f.0, up_to k old mid e f.1 (omega arith) l)
 
--- what is behind a store isn't touched with it
+-- what is after a store isn't touched with it
 drop_set : {R : Type 0} (xs : List R) (i : ℕ) (b : R) → drop (suc i) (set xs i b) ≡ drop (suc i) xs
 drop_set [] i b = refl
 drop_set (x ∷ xs) zero b = refl

@@ -15,7 +15,7 @@ LeavesMarks {N} call = (n : N) (g : GraphData) (id : ObjectId) (m : N) (h : Grap
 abbrev pub MarksComplete : GraphData → List ObjectId → List ObjectId → GraphData → Type 0
 MarksComplete g ids tips h = (id : ObjectId) → IsTrue (is_marked h.held id) ↔ (IsTrue (is_marked g.held id) ⊎ IsComplete (commit_at g.objects) tips (cutoff_of g.objects ids) id)
 
--- from a graph without marks on, the marks behind a negotiator that leaves them alone are the complete commits
+-- from a graph without marks on, the marks after a negotiator that leaves them alone are the complete commits
 abbrev pub CompleteMarksAreExact : {N : Type 0} → Call N → Call N → Type 0
 CompleteMarksAreExact {N} knows adds =
     (n : N) (g : GraphData) (ids tips : List ObjectId) (m : N) (h : GraphData) → LeavesMarks knows → LeavesMarks adds → HasNoMarks g.held → Marks knows adds n g ids tips m h

@@ -9,7 +9,7 @@ use Rattle.gixp_graph.specs.declared.negotiator.NegotiatorError.{NegotiatorError
 abbrev pub RefusedCall : Type 0 → Type 1
 RefusedCall N = N → GraphData → ObjectId → NegotiatorError → N → GraphData → Type 0
 
--- the first of these calls were made, and the next was refused with this error; what the negotiator and the graph are behind that one is its own, and nothing was done since
+-- the first of these calls were made, and the next was refused with this error; what the negotiator and the graph are after that one is its own, and nothing was done since
 pub record CallsSome {N : Type 0} (call : Call N) (refuses : RefusedCall N) (ids : List ObjectId) (n : N) (g : GraphData) (x : NegotiatorError) (m : N) (h : GraphData) : Type 0 where
   pub made : List ObjectId
   pub refused : ObjectId

@@ -44,7 +44,7 @@ abbrev pub object_error : NegotiatorError → ObjectError
 object_error (Lookup x) = x
 object_error no_memory = Memory
 
--- how far the walk and the calls behind it came, over ids and tips that were looked up, and why; the lists are what the objects' refused calls told before and behind it
+-- how far the walk and the calls after it came, over ids and tips that were looked up, and why; the lists are what the objects' refused calls told before and after it
 pub data StopsTelling {N : Type 0} (calls : Telling N) (n : N) (g : GraphData) (refusals : Written ObjectError) (ids tips : List ObjectId) (cutoff : Option ℤ) (x : NegotiatorError) (m : N) (h : GraphData) (refusals' : Written ObjectError) : Type 0 where
   at_looks : TellsRefusal (object_error x) refusals refusals' → m ≡ n → LooksAtSome tips g h → StopsTelling calls n g refusals ids tips cutoff x m h refusals'
   at_walk : TellsRefusal (object_error x) refusals refusals' → m ≡ n → WalksSome (look_each tips g) tips cutoff h → StopsTelling calls n g refusals ids tips cutoff x m h refusals'
@@ -66,7 +66,7 @@ pub record Step (N R A : Type 0) : Type 0 where
   pub refs : R
   pub lent : Lent R A
 
--- how far the whole came, and why it was refused: some of the mappings' commits were looked up; or all of them, something is to be negotiated, and the refs weren't listed; or those of the lending repositories, behind them; or it came so far from there
+-- how far the whole came, and why it was refused: some of the mappings' commits were looked up; or all of them, something is to be negotiated, and the refs weren't listed; or those of the lending repositories, after them; or it came so far from there
 pub data Stops {N R A : Type 0} (calls : Telling N) (listings : Listings R) (Negotiates : Type 0) (ids tips : List ObjectId) (old : Step N R A) (e : Error A) (new : Step N R A) : Type 0 where
   at_mappings : (x : ObjectError) → e ≡ from_object x → TellsRefusal x old.refusals new.refusals → new.negotiator ≡ old.negotiator → LooksAtSome ids old.graph new.graph → new.refs ≡ old.refs → new.lent ≡ old.lent → Stops calls listings Negotiates ids tips old e new
   at_refs : Negotiates → RefusesToList listings old.refs new.refs e → new.negotiator ≡ old.negotiator → new.graph ≡ look_each ids old.graph → new.lent ≡ old.lent → Stops calls listings Negotiates ids tips old e new

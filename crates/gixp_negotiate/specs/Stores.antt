@@ -27,7 +27,7 @@ module _ {R : Type 0} (listings : Listings R) where
   ListsFront (suc k) (a ∷ old) (b ∷ new) = HasListed a b × ListsFront k old new
   ListsFront (suc k) _ _ = ⊥
 
-  -- the one behind the first was refused, or what it listed couldn't be kept; those behind it are as they were
+  -- the one after the first was refused, or what it listed couldn't be kept; those after it are as they were
   abbrev pub ListsUpTo : {A : Type 0} → ℕ → List R → List R → Error A → Type 0
   ListsUpTo zero (a ∷ old) (b ∷ new) e = (RefusesToList a b e ⊎ (HasListed a b × (e ≡ Memory))) × (new ≡ old)
   ListsUpTo (suc k) (a ∷ old) (b ∷ new) e = HasListed a b × ListsUpTo k old new e

@@ -3,7 +3,7 @@ ghost use Rattle.std.specs.Prelude.{◌≡◌, map, string_bytes};
 ghost use Rattle.std.specs.Option.{option_copied, option_map};
 ghost use Rattle.gixp_plan_command.specs.Words.{file_of, session_of};
 
-// The file of `refs FILE` behind the program's name, or none for other words.
+// The file of `refs FILE` after the program's name, or none for other words.
 pub(crate) fn file_of(words: &[String]) -> Option<&str>
     ensures { option_copied result ≡ file_of (map (λ word. string_bytes word) words.now) }
 {
@@ -13,7 +13,7 @@ pub(crate) fn file_of(words: &[String]) -> Option<&str>
     }
 }
 
-// The folder and the refspecs of `plan DIR SPEC..` behind the program's name, of which there is one at least, or none for
+// The folder and the refspecs of `plan DIR SPEC..` after the program's name, of which there is one at least, or none for
 // other words.
 pub(crate) fn session_of(words: &[String]) -> Option<(&str, &[String])>
     ensures { option_map (λ s. (s.0.now, map string_bytes s.1.now)) result ≡ session_of (map (λ word. string_bytes word) words.now) }

@@ -1,4 +1,4 @@
--- Answers behind which no failure is counted: each is the one that is found in the pieces to come.
+-- Answers after which no failure is counted: each is the one that is found in the pieces to come.
 use Rattle.std.proofs.Common.{◌≡◌, ℕ, Bool, true, false, List, Some, inl, inr, refl, sym, ap, ◌∙◌, arith}
 use Rattle.std.specs.Option.{option_map}
 use Rattle.gixp_packetline.specs.declared.protocol.Protocol.{Protocol}
@@ -11,7 +11,7 @@ use Rattle.gixp_response.specs.AnswerReading.{Answered}
 use Rattle.gixp_fetch.specs.View.{view}
 use Rattle.gixp_planner.proofs.MappedLemmas.{if-known}
 
--- behind a failure the count isn't 0
+-- after a failure the count isn't 0
 never-none : (old new : ℕ) → Rose old new → new ≡ 0 → ⊥
 never-none old new r e = omega arith
 
@@ -30,7 +30,7 @@ module _ (found : Pieces → Found) (under : Protocol) where
       let other = found-in b d p y f w r in
       same-value x y one.0 other.0 (sym one.1 ∙ other.1)
 
-  -- what is counted behind an answer was counted before it, or the answer was cut short
+  -- what is counted after an answer was counted before it, or the answer was cut short
   none-before : (old new : Reading) (x : AnswerValue) → Answered found under old new x → new.failures ≡ 0 → old.failures ≡ 0
   none-before old new x (inl r) z = sym r.failures ∙ z
   none-before old new x (inr b) z = absurd (never-none old.failures new.failures b.failures z)
@@ -62,7 +62,7 @@ view-version false r = refl
 view-version true r = refl
 
 module _ (found : Pieces → Found) (under : Protocol) (banded : Bool) (old new : Reading) (x : AnswerValue) where
-  -- a reader behind an answer knows the stops of its version
+  -- a reader after an answer knows the stops of its version
   pub answered-version : Answered found under old (view banded new) x → new.version ≡ under
   answered-version (inl r) = sym (view-version banded new) ∙ r.version
   answered-version (inr b) = sym (view-version banded new) ∙ b.version

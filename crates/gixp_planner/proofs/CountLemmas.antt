@@ -1,4 +1,4 @@
--- The count of failures behind a pack that was taken is the one in front of it.
+-- The count of failures after a pack that was taken is the one in front of it.
 use Rattle.std.proofs.Common.{◌≡◌, Bool, true, false, refl, ap, ◌∙◌}
 use Rattle.std.specs.Prelude.{Result, Ok}
 use Rattle.gixp_packetline.specs.Reading.{Reading}

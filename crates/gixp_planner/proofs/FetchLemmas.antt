@@ -14,12 +14,12 @@ use Rattle.gixp_requests.specs.Arguments.{ArgumentsValue, is_v2, asks_nothing}
 use Rattle.gixp_refmap.specs.declared.fetch.Tags.TheVariants as tags
 use Rattle.gixp_handshake.specs.declared.handshake.read.Handshake.{Handshake}
 use Rattle.gixp_negotiate.specs.declared.negotiate.Round.{Round}
-use Rattle.gixp_negotiate.specs.Negotiate.{ActionValue, no_change as nothing_changes, skip, negotiate, Window, first_window}
+use Rattle.gixp_negotiate.specs.Negotiate.{ActionValue, no_change as nothing_changes, skip, negotiate, Window, NegotiationCalls, first_window}
 use Rattle.gixp_negotiate.specs.Wants.{asks_for, asking_all, AddsWants}
 use Rattle.gixp_fetch.specs.declared.options.Outcome.{Outcome}
 use Rattle.gixp_fetch.specs.FetchShallow.{no_change, shallow_asks}
 use Rattle.gixp_fetch.specs.FetchRounds.{At, Manner, Packed}
-use Rattle.gixp_fetch.specs.Session.{NegotiationCalls, MakesReady, Idle, OpensFetch}
+use Rattle.gixp_fetch.specs.Session.{MakesReady, Idle, OpensFetch}
 use Rattle.gixp_fetch.specs.Prepare.{features_of, Prepared}
 use Rattle.gixp_fetch.specs.Fetch.{World, Parties}
 use Rattle.gixp_fetch.specs.Fetched.{CarriesOut}
@@ -214,7 +214,7 @@ module _ {N I A S C P X : Type 0} (parties : Parties N I A S C P X) (basis : N �
     came (Some out) (inl f) = (f.first.negotiate, f.over, rounded out f f.fetched.fetched)
     came None (inl f) = (f.first.negotiate, f.over, rested f f.fetched.fetched)
 
-  -- what it asked for behind the requests up to its ref map
+  -- what it asked for after the requests up to its ref map
   pub asked-behind : (v : Protocol) (caps : List CapabilityValue) (n : N) (old new : Reading) → old.held.persists ≡ false → (o : Option Outcome) → Came v caps n old new o → AsksBehind (came_to o) old.held.sent new.held.sent
   asked-behind v caps n old new alone (Some out) r =
       let s = asks-behind (manner_of v (bands v caps)) _ r.rounds r.updates r.reply r.end alone r.packed in (s.0, s.1, ap (λ (h : TransportState). h.sent) r.held ∙ s.2)

@@ -6,6 +6,7 @@ pub mod SeenLemmas
 pub mod StepLemmas
 pub mod MappedLemmas
 pub mod RefusedLemmas
+pub mod UnmappedLemmas
 pub mod WantLemmas
 pub mod AnswerLemmas
 pub mod CountLemmas

@@ -106,7 +106,7 @@ answers-alike a b c d h s t = record {
   alone = ap (λ (x : TransportState). x.persists) s.held ∙ h.alone;
 }
 
--- the lines up to a stop, and what is behind it
+-- the lines up to a stop, and what is after it
 record SameLines (ts us : List (List ℕ)) (k l : MessageKind) (p q : Pieces) : Type 0 where
   texts : ts ≡ us
   kind : k ≡ l
@@ -117,7 +117,7 @@ same-lines l texts others kind other p q e f =
     let ends : stop kind p ≡ stop other q = ap (λ (x : Lines). x.ending) (sym e ∙ f) in
     record { texts = ap (λ (x : Lines). x.lines) (sym e ∙ f); kind = cc ends; rest = cc ends }
 
-same-ahead : (a b : Reading) (p : Pieces) → a.stopped ≡ b.stopped → a.version ≡ b.version → lines_ahead a p ≡ lines_ahead b p
+pub same-ahead : (a b : Reading) (p : Pieces) → a.stopped ≡ b.stopped → a.version ≡ b.version → lines_ahead a p ≡ lines_ahead b p
 same-ahead a b p e f = ap (λ s. lines_from_stop s a.version p) e ∙ ap (λ v. lines_from_stop b.stopped v p) f
 
 -- what reading lines up to a stop says of any reader
@@ -239,14 +239,14 @@ greeted : (plain : Bool) (old new : Reading) (h : Handshake) → old.held.persis
 greeted plain old new h p g = greeted-by plain old new h g.turns g.shakes.opened g.shakes.mid p g.unanswered g.shakes.opens g.shakes.goes_on
 
 -- the refs that came first, as values
-abbrev values_of : Option (Vec Ref Global) → Option (List RefValue)
+abbrev pub values_of : Option (Vec Ref Global) → Option (List RefValue)
 values_of refs = option_map (λ (v : Vec Ref Global). map ref_value v.items) refs
 
 pub record SameGreeting (c d : Reading) (h k : Handshake) : Type 0 where
-  alike : AreAlike c d
+  pub alike : AreAlike c d
   pub version : h.server_protocol_version ≡ k.server_protocol_version
   pub capabilities : h.capabilities ≡ k.capabilities
-  refs : values_of h.refs ≡ values_of k.refs
+  pub refs : values_of h.refs ≡ values_of k.refs
 
 record SameRefs (c d : Reading) (h k : Handshake) : Type 0 where
   alike : AreAlike c d
@@ -271,7 +271,7 @@ first-refs-alike true plain a b c d x y h k s e l r =
       refs = ap values_of l.2 ∙ ap Some values ∙ sym (ap values_of r.2);
     }
 
-greetings-alike : (plain : Bool) (a b c d : Reading) (h k : Handshake) → HoldAlike a b → GreetsWithoutAccount plain a c (Ok h) → GreetsWithoutAccount plain b d (Ok k) → SameGreeting c d h k
+pub greetings-alike : (plain : Bool) (a b c d : Reading) (h k : Handshake) → HoldAlike a b → GreetsWithoutAccount plain a c (Ok h) → GreetsWithoutAccount plain b d (Ok k) → SameGreeting c d h k
 greetings-alike plain a b c d h k s l r =
     let x = greeted plain a c h s.alone l in
     let y = greeted plain b d k (ap (λ (z : TransportState). z.persists) (sym s.held) ∙ s.alone) r in
@@ -321,10 +321,10 @@ obtained : (context : Context) (h : Handshake) (plain : Bool) (old new : Reading
 obtained context h plain old new made o = obtained-by h.capabilities context plain old new made h.refs o.prepared o.prepares o.obtains
 
 -- the specs of a context are those of the words
-abbrev all_specs : Context → List Spec
+abbrev pub all_specs : Context → List Spec
 all_specs context = joined_specs context.fetch_refspecs.items context.extra_refspecs.items
 
-same-specs : (words : List (List ℕ)) (x y : Context) → IsContext words x → IsContext words y → all_specs x ≡ all_specs y
+pub same-specs : (words : List (List ℕ)) (x y : Context) → IsContext words x → IsContext words y → all_specs x ≡ all_specs y
 same-specs words x y l r =
     ap (λ s. s ++ map owned_value_of x.extra_refspecs.items) (same-ok (specs_of words) _ _ l.specs r.specs)
     ∙ ap (λ (s : List RefSpec). map owned_value_of y.fetch_refspecs.items ++ map owned_value_of s) (l.extra ∙ sym r.extra)
@@ -334,7 +334,7 @@ pub record SameMap (c d : Reading) (m n : RefMap) : Type 0 where
   pub shown : map_shown m ≡ map_shown n
   pub mappings : LookAlike m.mappings.items n.mappings.items
 
--- behind the same request the next answer
+-- after the same request the next answer
 pub sent-alike : (a b c d : Reading) (text other : List ℕ) → HoldAlike a b → text ≡ other → SentBy a.held.persists a c text → SentBy b.held.persists b d other → AreAlike c d
 sent-alike a b c d text other s e l r =
     let p : b.held.persists ≡ false = ap (λ (z : TransportState). z.persists) (sym s.held) ∙ s.alone in
@@ -391,7 +391,7 @@ maps-alike None None caps others x y a b c d m n v e f s l r =
 
 -- ---- both steps
 
-abbrev state : Option (List ℕ) → List (List ℕ) → List Answer → List ℕ → List Protocol → Option (List ℕ × List ℕ) → TransportState
+abbrev pub state : Option (List ℕ) → List (List ℕ) → List Answer → List ℕ → List Protocol → Option (List ℕ × List ℕ) → TransportState
 state written sent answers url accepted identity = record {
   persists = false;
   written = written;
@@ -405,7 +405,7 @@ state written sent answers url accepted identity = record {
   names = [];
 }
 
-new-held : (bodies : List Body) (b : Bodies) → IsNewBodies bodies [] [] b → bodies_held b ≡ state (Some []) [] (map answer_of bodies) [] [] None
+pub new-held : (bodies : List Body) (b : Bodies) → IsNewBodies bodies [] [] b → bodies_held b ≡ state (Some []) [] (map answer_of bodies) [] [] None
 new-held bodies b h =
     let was = bodies_held b in
     ap (λ w. state w was.sent was.answers was.url was.accepted was.identity) h.written
@@ -442,7 +442,7 @@ mappings-follow bodies specs sent others m n l r =
     let both = both-alike bodies specs sent others m n l r in
     (sym l.by_then ∙ ap (λ (z : TransportState). z.sent) both.alike.held ∙ r.by_then, both.shown)
 
--- ---- the requests of a fetch stand behind those before it
+-- ---- the requests of a fetch come after those before it
 
 pub record Extends (old new : Reading) : Type 0 where
   pub later : List (List ℕ)
@@ -569,7 +569,7 @@ step-before failures ran ended e {why} h k f =
     ap (λ (r : PlanRefusal). r.step) alike
 
 module _ {A X : Type 0} (Receives : RefMap → Handshake → Reading → Reading → Result (Option Outcome) (FetchError A X) → Type 0) (bodies : List Body) (specs : List (List ℕ)) (old new : Option (List ℕ)) where
-  -- a fetch writes behind what was sent
+  -- a fetch writes after what was sent
   abbrev pub ReceivesBehind : Type 0
   ReceivesBehind = (m : RefMap) (h : Handshake) (from to : Reading) (r : Result (Option Outcome) (FetchError A X)) → from.held.persists ≡ false → Receives m h from to r → Extends from to
 

@@ -12,7 +12,7 @@ use Rattle.gixp_planner.specs.Refusal.{IsUnwritten}
 use Rattle.gixp_planner.specs.Written.{WritesPart, WritesBeginning, WritesPlan}
 use Rattle.gixp_planner.specs.Text.{joined, frame_shown, request_shown, requests_behind, id_shown, name_shown, mapping_shown}
 
--- of what is to stand behind a text some does, and the rest is left
+-- of what is to come after a text some does, and the rest is left
 pub record Partly (old now left all : List ℕ) : Type 0 where
   pub split : now ++ left ≡ old ++ all
 
@@ -22,7 +22,7 @@ partly-more old now new left rest all x h e k = record { split = ap (λ l. l ++ 
 pub partly-all : (old now left all : List ℕ) → Partly old now left all → left ≡ [] → now ≡ old ++ all
 partly-all old now left all h e = sym (append-nil now) ∙ ap (λ l. now ++ l) (sym e) ∙ h.split
 
--- a text behind another
+-- a text after another
 pub both-shown : (old mid new x y : List ℕ) → mid ≡ old ++ x → new ≡ mid ++ y → new ≡ old ++ (x ++ y)
 both-shown old mid new x y h k = k ∙ ap (λ l. l ++ y) h ∙ append_assoc old x y
 

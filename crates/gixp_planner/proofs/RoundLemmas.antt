@@ -39,7 +39,7 @@ record AsksAlike {N I : Type 0} (haves : N → List ObjectId) (t u : Turn N I) :
 -- ---- the rounds of one fetch
 
 module _ {N I A : Type 0} (m : Manner N I A) where
-  -- at least one request stands behind those before
+  -- at least one request comes after those before
   pub asks-behind : (x : At N I) (rs : List Round) (us : List ShallowUpdate) (a : AnswerValue) (end : At N I) → x.reading.held.persists ≡ false → Packed m x rs us a end
       → (first : List ℕ) × (later : List (List ℕ)) × (end.reading.held.sent ≡ x.reading.held.sent ++ first ∷ later)
   asks-behind x rs us a end alone p = by_turns p.turns (ap (λ (z : At N I). z.reading.held.sent) p.stands ∙ (last_written m x p.before p.turns p.last p.run p.lasts).enters alone)
@@ -105,7 +105,7 @@ module _ {N I A : Type 0} (m : Manner N I A) (haves : N → List ObjectId)
   differ : (v w : AnswerValue) → v ≡ w → v.pack ≡ true → w.pack ≡ false → ⊥
   differ v w e p q = true≢false (sym p ∙ ap (λ (z : AnswerValue). z.pack) e ∙ q)
 
-  -- the first pack comes behind the same round of both
+  -- the first pack comes after the same round of both
   rounds-alike : (ts us : List (Turn N I)) (x y b c : At N I) (t u : Turn N I) → AtAlike haves x y → Rounds m x ts b → Turns m b t → t.reply.pack ≡ true → t.after.reading.failures ≡ 0 → Rounds m y us c → Turns m c u
       → u.reply.pack ≡ true → u.after.reading.failures ≡ 0 → AtAlike haves t.after u.after
   rounds-alike [] [] x y b c t u s r h p z q k o w = (turns-alike x y t u s (subst (λ a. Turns m a t) r h) (subst (λ a. Turns m a u) q k) z w).1

@@ -13,7 +13,7 @@ use Rattle.gixp_planner.specs.Session.{FetchesMapped}
 use Rattle.gixp_planner.specs.PlannedText.{IsCourse, PlannedText}
 use Rattle.gixp_planner.specs.Mapped.{IsMapped}
 
--- behind the requests up to its ref map a session sent those of a fetch, or none where nothing came
+-- after the requests up to its ref map a session sent those of a fetch, or none where nothing came
 abbrev pub AsksBehind : Result Bool PlanRefusal → List (List ℕ) → List (List ℕ) → Type 0
 AsksBehind (Ok true) mapping sent = (first : List ℕ) × (later : List (List ℕ)) × (sent ≡ mapping ++ first ∷ later)
 AsksBehind (Ok false) mapping sent = sent ≡ mapping

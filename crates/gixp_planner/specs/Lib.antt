@@ -7,4 +7,5 @@ pub mod Text
 pub mod Session
 pub mod PlannedText
 pub mod Mapped
+pub mod Unmapped
 pub mod Follows

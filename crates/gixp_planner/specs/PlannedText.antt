@@ -17,7 +17,7 @@ use Rattle.gixp_planner.specs.Specs.{IsContext, RefusesSpecs}
 use Rattle.gixp_planner.specs.Text.{Course, course_shown}
 use Rattle.gixp_planner.specs.Session.{Runs, end_counted}
 
--- the text of a session is written, and its refusal is the error; or a write failed behind a beginning of it
+-- the text of a session is written, and its refusal is the error; or a write failed after a beginning of it
 abbrev pub Shows : Option (List ℕ) → Option (List ℕ) → Course → Result (Unit {0}) PlanError → Type 0
 Shows old new course (Ok x) = Appends old new (course_shown course) × IsOk course.ended
 Shows old new course (Err e) = (Appends old new (course_shown course) × (course.ended ≡ Err (refusal_of e))) ⊎ (WritesBeginning old new (course_shown course) × IsUnwritten e)

@@ -84,7 +84,7 @@ end_of (Ok (Some outcome)) = Ok true
 end_of (Ok None) = Ok false
 end_of (Err e) = Err (refusal (codes "fetch") (fetch_name e))
 
--- how a session ended, by how often its transport failed: behind a failure an answer may have been cut short, so it didn't come to its end
+-- how a session ended, by how often its transport failed: after a failure an answer may have been cut short, so it didn't come to its end
 abbrev pub end_counted : ℕ → Result Bool PlanRefusal → Result Bool PlanRefusal
 end_counted failures (Ok pack) = if failures == 0 then Ok pack else Err (refusal (codes "fetch") (codes "Io"))
 end_counted failures (Err e) = Err e

@@ -18,7 +18,7 @@ use Rattle.gixp_refmap.specs.Mapping.{source_id, source_name}
 use Rattle.gixp_planner.specs.declared.error.PlanError.{PlanError}
 use Rattle.gixp_planner.specs.Refusal.{PlanRefusal, refusal_of}
 
--- texts one behind the other
+-- texts one after the other
 abbrev pub joined : List (List ℕ) → List ℕ
 joined texts = flat_map (λ (text : List ℕ). text) texts
 
@@ -34,7 +34,7 @@ frame_shown f = joined (codes "> " ∷ frame_content f ∷ codes "\n" ∷ [])
 abbrev pub request_shown : ℕ → List Frame → List ℕ
 request_shown k frames = joined (codes "request " ∷ decimal k ∷ codes "\n" ∷ []) ++ flat_map frame_shown frames
 
--- requests behind so many others, each as its bytes
+-- requests after so many others, each as its bytes
 abbrev pub requests_behind : ℕ → List (List ℕ) → List ℕ
 requests_behind k [] = []
 requests_behind k (r ∷ rs) = request_shown (k + 1) (frames_of r).list ++ requests_behind (k + 1) rs

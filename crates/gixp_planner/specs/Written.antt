@@ -14,7 +14,7 @@ pub record WritesPart (old new : Option (List ℕ)) (left text : List ℕ) : Typ
 abbrev pub WritesBeginning : Option (List ℕ) → Option (List ℕ) → List ℕ → Type 0
 WritesBeginning old new text = (left : List ℕ) × WritesPart old new left text
 
--- this text was written; or a write failed behind a beginning of it
+-- this text was written; or a write failed after a beginning of it
 abbrev pub WritesPlan : Option (List ℕ) → Option (List ℕ) → List ℕ → Result (Unit {0}) PlanError → Type 0
 WritesPlan old new text (Ok x) = Appends old new text
 WritesPlan old new text (Err e) = WritesBeginning old new text × IsUnwritten e

@@ -1,9 +1,11 @@
 //! Laws of the definitions that contracts cite. The functions do nothing: a caller that cites a law calls one.
 ghost use Rattle.std.specs.Prelude.{◌≡◌, ℕ, true, false, [], List, IfOk, IsOk};
+ghost use Rattle.gixp_fetch.specs.Fetch.{parties_of};
 ghost use Rattle.gixp_wire.specs.declared.bodies.Body.{Body};
 ghost use Rattle.gixp_hash.specs.declared.object_id.ObjectId.{ObjectId};
 ghost use Rattle.gixp_graph.specs.GraphData.{GraphValue};
 ghost use Rattle.gixp_planner.specs.Mapped.{MappingsFollow};
+ghost use Rattle.gixp_planner.specs.Unmapped.{RefusedMapsFollow};
 ghost use Rattle.gixp_planner.specs.Follows.{Follow};
 
 use gix_protocol::fetch::negotiate::{HaveList, Negotiate, Negotiation, NoRefs, Objects};
@@ -16,6 +18,12 @@ use std::alloc::AllocError;
 /// Sessions whose fetch was refused too: [`plan`](crate::plan) says of each that it came to a ref map, and writes its lines.
 pub fn mappings_follow_bodies()
     ensures { MappingsFollow }
+{}
+
+/// Where the ref map is refused, why is a function of the bodies and the refspecs, but for memory and for reads that failed:
+/// two sessions over the same are refused by one name, whatever their objects, graphs and negotiators.
+pub fn refused_maps_follow_bodies()
+    ensures { RefusedMapsFollow }
 {}
 
 /// With a [`HaveList`], what a client sends and how its session ends are a function of the bodies, the refspecs, the objects
@@ -31,13 +39,7 @@ pub fn texts_follow_bodies<'a, O: Objects + 'a, G: Objects + 'a>()
     ensures { (bodies : List Body) (specs : List (List ℕ)) (haves : List ObjectId) (objects others : O) (graph another : GraphValue)
         → O.contents objects ≡ O.contents others → graph.graph.objects ≡ another.graph.objects
         → Follow
-        (record {
-          negotiation_calls = record { count = ⟦<Negotiation<'a, O, NoRefs, HaveList, G, AllocError> as Negotiate>⟧.count; marks = ⟦<Negotiation<'a, O, NoRefs, HaveList, G, AllocError> as Negotiate>⟧.marks; adds = ⟦<Negotiation<'a, O, NoRefs, HaveList, G, AllocError> as Negotiate>⟧.adds; goes = ⟦<Negotiation<'a, O, NoRefs, HaveList, G, AllocError> as Negotiate>⟧.goes; marking_fails = ⟦<Negotiation<'a, O, NoRefs, HaveList, G, AllocError> as Negotiate>⟧.marking_fails; adding_fails = ⟦<Negotiation<'a, O, NoRefs, HaveList, G, AllocError> as Negotiate>⟧.adding_fails; round_fails = ⟦<Negotiation<'a, O, NoRefs, HaveList, G, AllocError> as Negotiate>⟧.round_fails };
-          store_calls = record { failures = ⟦<ShallowMemory as ShallowStore>⟧.failures; locks = ⟦<ShallowMemory as ShallowStore>⟧.locks; reads = ⟦<ShallowMemory as ShallowStore>⟧.reads; writes = ⟦<ShallowMemory as ShallowStore>⟧.writes; releases = ⟦<ShallowMemory as ShallowStore>⟧.releases };
-          says = ⟦<NeverInterrupt as Interrupt>⟧.says;
-          consumes = ⟦<ReadToEnd as ConsumePack<Discard>>⟧.consumes;
-          plain = true;
-        })
+        (parties_of ⟦<Negotiation<'a, O, NoRefs, HaveList, G, AllocError> as Negotiate>⟧.calls ⟦<ShallowMemory as ShallowStore>⟧.calls ⟦<NeverInterrupt as Interrupt>⟧.says ⟦<ReadToEnd as ConsumePack<Discard>>⟧.consumes true)
         (λ m n. (n.objects.now ≡ objects) × (n.graph.now ≡ graph) × (n.negotiator.now ≡ haves) × (n.ref_map.now ≡ m) × (n.shallow.now ≡ Shallow.NoChange) × (n.tags ≡ Tags.None) × IfOk n.alternates (λ a. a.now ≡ []) × IsOk n.alternates)
         (λ m n. (n.objects.now ≡ others) × (n.graph.now ≡ another) × (n.negotiator.now ≡ haves) × (n.ref_map.now ≡ m) × (n.shallow.now ≡ Shallow.NoChange) × (n.tags ≡ Tags.None) × IfOk n.alternates (λ a. a.now ≡ []) × IsOk n.alternates)
         (λ s. (s.ids.items ≡ []) × (s.locked ≡ false))

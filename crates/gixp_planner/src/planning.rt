@@ -1,6 +1,7 @@
 //! A plan over recorded answers.
 ghost use Rattle.std.specs.Prelude.{◌≡◌, [], true, false, map, Ok, IfOk, IsOk};
 ghost use Rattle.bstr.specs.Owned.{bstring_bytes};
+ghost use Rattle.gixp_fetch.specs.Fetch.{parties_of};
 ghost use Rattle.gixp_planner.specs.Session.{FetchesMapped, end_counted};
 ghost use Rattle.gixp_planner.specs.Text.{ended_of};
 ghost use Rattle.gixp_planner.specs.PlannedText.{PlannedText, IsOutcome};
@@ -31,7 +32,7 @@ fn outcome(written: Result<(), PlanError>, ended: Result<bool, PlanError>) -> Re
     }
 }
 
-// How a session ended by its steps: behind a failure that its transport counted it didn't come to its end.
+// How a session ended by its steps: after a failure that its transport counted it didn't come to its end.
 fn counted(failures: u64, ended: Result<bool, PlanError>) -> Result<bool, PlanError>
     ensures { ended_of result ≡ end_counted failures (ended_of ended) }
 {
@@ -50,7 +51,7 @@ fn counted(failures: u64, ended: Result<bool, PlanError>) -> Result<bool, PlanEr
 /// Writes what a client would send to a server whose answers were recorded, and what it would map.
 ///
 /// The bodies answer one handshake for `git-upload-pack`, an `ls-refs` command under version 2, and the requests of a
-/// fetch, one behind another; one that is missing is empty. The objects, the graph and the negotiator decide what is asked
+/// fetch, one after another; one that is missing is empty. The objects, the graph and the negotiator decide what is asked
 /// for: no refs are there, no tags are added, and the shallow boundary is empty and stays. A pack is read to its end and
 /// dropped. What the graph and the negotiator are afterwards is left open.
 ///
@@ -58,7 +59,7 @@ fn counted(failures: u64, ended: Result<bool, PlanError>) -> Result<bool, PlanEr
 /// payload without an ending LF, or its four digits where it has none. Then, where the refs were mapped, a line
 /// `map ID NAME LOCAL` for each mapping, with `unborn` for an id that isn't there and `-` for a name that isn't, and a line
 /// `fix LOCAL REFSPEC` for each that was taken out. Then `pack`, or `nothing` where there was nothing to ask for. All is
-/// written behind the session, in one piece where the writer takes it so, and the writer is flushed.
+/// written after the session, in one piece where the writer takes it so, and the writer is flushed.
 ///
 /// Of a plan that isn't refused, or whose fetch is, the requests up to the ref map, the mappings and those taken out are a
 /// function of the bodies and the refspecs alone ([`mappings_follow_bodies`](crate::laws::mappings_follow_bodies)). With a
@@ -71,7 +72,7 @@ fn counted(failures: u64, ended: Result<bool, PlanError>) -> Result<bool, PlanEr
 /// `handshake`, `refs` and `fetch` with the outermost variant of that step's error: the requests and mappings so far are
 /// written. `fetch Io` where the fetch came to its end, but the transport has counted a failure: a read that failed may have
 /// cut an answer short, so all is written but for whether a pack came. `file Io` where a write or the flush failed, and
-/// `file Memory` where an allocation for what is written did, or a write for want of memory: a beginning of the text is
+/// `file Memory` where an allocation for what is written did, or a write failed by an allocation failure: a beginning of the text is
 /// written.
 pub fn plan<'a, O: Objects, G: Objects, N: Negotiator, W: Write>(
     alloc: Global,
@@ -84,13 +85,7 @@ pub fn plan<'a, O: Objects, G: Objects, N: Negotiator, W: Write>(
 ) -> Result<(), PlanError>
     ensures text { PlannedText
         (λ m h old new r. FetchesMapped
-        (record {
-          negotiation_calls = record { count = ⟦<Negotiation<'a, O, NoRefs, N, G, AllocError> as Negotiate>⟧.count; marks = ⟦<Negotiation<'a, O, NoRefs, N, G, AllocError> as Negotiate>⟧.marks; adds = ⟦<Negotiation<'a, O, NoRefs, N, G, AllocError> as Negotiate>⟧.adds; goes = ⟦<Negotiation<'a, O, NoRefs, N, G, AllocError> as Negotiate>⟧.goes; marking_fails = ⟦<Negotiation<'a, O, NoRefs, N, G, AllocError> as Negotiate>⟧.marking_fails; adding_fails = ⟦<Negotiation<'a, O, NoRefs, N, G, AllocError> as Negotiate>⟧.adding_fails; round_fails = ⟦<Negotiation<'a, O, NoRefs, N, G, AllocError> as Negotiate>⟧.round_fails };
-          store_calls = record { failures = ⟦<ShallowMemory as ShallowStore>⟧.failures; locks = ⟦<ShallowMemory as ShallowStore>⟧.locks; reads = ⟦<ShallowMemory as ShallowStore>⟧.reads; writes = ⟦<ShallowMemory as ShallowStore>⟧.writes; releases = ⟦<ShallowMemory as ShallowStore>⟧.releases };
-          says = ⟦<NeverInterrupt as Interrupt>⟧.says;
-          consumes = ⟦<ReadToEnd as ConsumePack<Discard>>⟧.consumes;
-          plain = true;
-        })
+        (parties_of ⟦<Negotiation<'a, O, NoRefs, N, G, AllocError> as Negotiate>⟧.calls ⟦<ShallowMemory as ShallowStore>⟧.calls ⟦<NeverInterrupt as Interrupt>⟧.says ⟦<ReadToEnd as ConsumePack<Discard>>⟧.consumes true)
         (λ n. (n.objects.now ≡ objects.now) × (n.graph.now ≡ graph.old) × (n.negotiator.now ≡ negotiator.old) × (n.ref_map.now ≡ m) × (n.shallow.now ≡ Shallow.NoChange) × (n.tags ≡ Tags.None) × IfOk n.alternates (λ a. a.now ≡ []) × IsOk n.alternates)
         (λ s. (s.ids.items ≡ []) × (s.locked ≡ false)) h old new r)
         bodies.items (map bstring_bytes specs.now) (W.contents writer.old) (W.contents writer.new) result }

@@ -19,7 +19,7 @@ use gixp_packetline::{MessageKind, PacketLine, split_packet_line};
 use std::alloc::{AllocError, Global};
 use std::io::{ErrorKind, Write};
 
-// Appends the pieces, one behind the other.
+// Appends the pieces, one after the other.
 #[inline(always)]
 fn append(text: &mut Vec<u8>, pieces: &[&[u8]]) -> Result<(), AllocError>
     ensures { OnOk result (text.new.items ≡ text.old.items ++ flat_map (λ piece. piece.now) pieces.now) }
@@ -69,7 +69,7 @@ fn append_packet_lines(text: &mut Vec<u8>, request: &[u8]) -> Result<(), AllocEr
     }
 }
 
-// A request behind its number.
+// A request after its number.
 fn append_request(
     alloc: Global,
     text: &mut Vec<u8>,

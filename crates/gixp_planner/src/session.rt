@@ -1,5 +1,6 @@
 //! A session over recorded answers.
 ghost use Rattle.std.specs.Prelude.{◌≡◌, [], true, false, Some, None, Ok, IfOk, IsOk};
+ghost use Rattle.gixp_fetch.specs.Fetch.{parties_of};
 ghost use Rattle.gixp_requests.specs.Feature.{feature_value};
 ghost use Rattle.gixp_handshake.specs.Taken.{without_refs};
 ghost use Rattle.gixp_planner.specs.Session.{planner_agent, GreetsWithoutAccount, MapsRefs, Carries, FetchesMapped, Runs, end_of};
@@ -92,13 +93,7 @@ fn fetch_over<N: Negotiate, T: Transport>(
     requires agent { feature_value agent ≡ planner_agent }
     requires stays { shallow.now ≡ Shallow.NoChange }
     ensures { Carries
-        (record {
-          negotiation_calls = record { count = N.count; marks = N.marks; adds = N.adds; goes = N.goes; marking_fails = N.marking_fails; adding_fails = N.adding_fails; round_fails = N.round_fails };
-          store_calls = record { failures = ⟦<ShallowMemory as ShallowStore>⟧.failures; locks = ⟦<ShallowMemory as ShallowStore>⟧.locks; reads = ⟦<ShallowMemory as ShallowStore>⟧.reads; writes = ⟦<ShallowMemory as ShallowStore>⟧.writes; releases = ⟦<ShallowMemory as ShallowStore>⟧.releases };
-          says = ⟦<NeverInterrupt as Interrupt>⟧.says;
-          consumes = ⟦<ReadToEnd as ConsumePack<Discard>>⟧.consumes;
-          plain = T.is_plain;
-        })
+        (parties_of N.calls ⟦<ShallowMemory as ShallowStore>⟧.calls ⟦<NeverInterrupt as Interrupt>⟧.says ⟦<ReadToEnd as ConsumePack<Discard>>⟧.consumes T.is_plain)
         handshake.old
         (record { negotiate = negotiation.old; reading = T.reading transport.old; interrupt = never.old; store = boundary.old; locked = false; consumer = reader.old })
         result
@@ -138,13 +133,7 @@ fn fetch_mapped<'a, O: Objects, G: Objects, N: Negotiator, T: Transport>(
     transport: &mut T,
 ) -> Result<Option<Outcome>, fetch::Error<AllocError, CopyError>>
     ensures { FetchesMapped
-        (record {
-          negotiation_calls = record { count = ⟦<Negotiation<'a, O, NoRefs, N, G, AllocError> as Negotiate>⟧.count; marks = ⟦<Negotiation<'a, O, NoRefs, N, G, AllocError> as Negotiate>⟧.marks; adds = ⟦<Negotiation<'a, O, NoRefs, N, G, AllocError> as Negotiate>⟧.adds; goes = ⟦<Negotiation<'a, O, NoRefs, N, G, AllocError> as Negotiate>⟧.goes; marking_fails = ⟦<Negotiation<'a, O, NoRefs, N, G, AllocError> as Negotiate>⟧.marking_fails; adding_fails = ⟦<Negotiation<'a, O, NoRefs, N, G, AllocError> as Negotiate>⟧.adding_fails; round_fails = ⟦<Negotiation<'a, O, NoRefs, N, G, AllocError> as Negotiate>⟧.round_fails };
-          store_calls = record { failures = ⟦<ShallowMemory as ShallowStore>⟧.failures; locks = ⟦<ShallowMemory as ShallowStore>⟧.locks; reads = ⟦<ShallowMemory as ShallowStore>⟧.reads; writes = ⟦<ShallowMemory as ShallowStore>⟧.writes; releases = ⟦<ShallowMemory as ShallowStore>⟧.releases };
-          says = ⟦<NeverInterrupt as Interrupt>⟧.says;
-          consumes = ⟦<ReadToEnd as ConsumePack<Discard>>⟧.consumes;
-          plain = T.is_plain;
-        })
+        (parties_of ⟦<Negotiation<'a, O, NoRefs, N, G, AllocError> as Negotiate>⟧.calls ⟦<ShallowMemory as ShallowStore>⟧.calls ⟦<NeverInterrupt as Interrupt>⟧.says ⟦<ReadToEnd as ConsumePack<Discard>>⟧.consumes T.is_plain)
         (λ n. (n.objects.now ≡ objects.now) × (n.graph.now ≡ graph.old) × (n.negotiator.now ≡ negotiator.old) × (n.ref_map.now ≡ map.now) × (n.shallow.now ≡ Shallow.NoChange) × (n.tags ≡ Tags.None) × IfOk n.alternates (λ a. a.now ≡ []) × IsOk n.alternates)
         (λ s. (s.ids.items ≡ []) × (s.locked ≡ false)) handshake.old (T.reading transport.old) (T.reading transport.new) result }
 {
@@ -213,13 +202,7 @@ pub(crate) fn run<'a, O: Objects, G: Objects, N: Negotiator, T: Transport>(
 ) -> Course
     ensures { Runs
         (λ m h old new r. FetchesMapped
-        (record {
-          negotiation_calls = record { count = ⟦<Negotiation<'a, O, NoRefs, N, G, AllocError> as Negotiate>⟧.count; marks = ⟦<Negotiation<'a, O, NoRefs, N, G, AllocError> as Negotiate>⟧.marks; adds = ⟦<Negotiation<'a, O, NoRefs, N, G, AllocError> as Negotiate>⟧.adds; goes = ⟦<Negotiation<'a, O, NoRefs, N, G, AllocError> as Negotiate>⟧.goes; marking_fails = ⟦<Negotiation<'a, O, NoRefs, N, G, AllocError> as Negotiate>⟧.marking_fails; adding_fails = ⟦<Negotiation<'a, O, NoRefs, N, G, AllocError> as Negotiate>⟧.adding_fails; round_fails = ⟦<Negotiation<'a, O, NoRefs, N, G, AllocError> as Negotiate>⟧.round_fails };
-          store_calls = record { failures = ⟦<ShallowMemory as ShallowStore>⟧.failures; locks = ⟦<ShallowMemory as ShallowStore>⟧.locks; reads = ⟦<ShallowMemory as ShallowStore>⟧.reads; writes = ⟦<ShallowMemory as ShallowStore>⟧.writes; releases = ⟦<ShallowMemory as ShallowStore>⟧.releases };
-          says = ⟦<NeverInterrupt as Interrupt>⟧.says;
-          consumes = ⟦<ReadToEnd as ConsumePack<Discard>>⟧.consumes;
-          plain = T.is_plain;
-        })
+        (parties_of ⟦<Negotiation<'a, O, NoRefs, N, G, AllocError> as Negotiate>⟧.calls ⟦<ShallowMemory as ShallowStore>⟧.calls ⟦<NeverInterrupt as Interrupt>⟧.says ⟦<ReadToEnd as ConsumePack<Discard>>⟧.consumes T.is_plain)
         (λ n. (n.objects.now ≡ objects.now) × (n.graph.now ≡ graph.old) × (n.negotiator.now ≡ negotiator.old) × (n.ref_map.now ≡ m) × (n.shallow.now ≡ Shallow.NoChange) × (n.tags ≡ Tags.None) × IfOk n.alternates (λ a. a.now ≡ []) × IsOk n.alternates)
         (λ s. (s.ids.items ≡ []) × (s.locked ≡ false)) h old new r)
         context T.is_plain (T.reading transport.old) (T.reading transport.new) result.mapped (ended_of result.ended) }

@@ -197,7 +197,7 @@ fn plans_over_a_folder(rt: HostRuntime) -> Result<(), Fail> {
     Ok(())
 }
 
-// A flush that fails behind a whole text is told of.
+// A flush that fails after a whole text is told of.
 #[test]
 fn tells_of_a_flush_that_fails(rt: HostRuntime) -> Result<(), Fail> {
     let folder = session_folder(&rt, "flush")?;
@@ -210,7 +210,7 @@ fn tells_of_a_flush_that_fails(rt: HostRuntime) -> Result<(), Fail> {
     Ok(())
 }
 
-// Whether a plan whose write of this number fails by this kind is refused so, behind a beginning of the text.
+// Whether a plan whose write of this number fails by this kind is refused so, after a beginning of the text.
 fn breaks_off(
     rt: &HostRuntime,
     folder: &str,

@@ -4,7 +4,7 @@ use Rattle.std.specs.Prelude.{◌^◌}
 use Rattle.gixp_progress.specs.Numbers.{number_after}
 use Rattle.gixp_progress.specs.Laws.{NumberByPlaces}
 
--- the digits behind others
+-- the digits after others
 after_append : (front back : List ℕ) (n : ℕ) → number_after n (front ++ back) ≡ number_after (number_after n front) back
 after_append [] back n = refl
 after_append (d ∷ front) back n = after_append front back (n * 10 + (d - 48))

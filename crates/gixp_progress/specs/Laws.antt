@@ -14,7 +14,7 @@ is_found [] [] = true
 is_found [] (b ∷ rest) = false
 is_found (d ∷ run) rest = true
 
--- the first run of digits of a text, as long as it goes: no digit stands before it, and none at the front of what stands behind it
+-- the first run of digits of a text, as long as it goes: no digit comes before it, and none at the front of what comes after it
 pub record IsFirstRun (text before run rest : List ℕ) : Type 0 where
   pub parts : text ≡ before ++ (run ++ rest)
   pub without : list_all is_other before ≡ true

@@ -31,6 +31,6 @@ abbrev pub for_action : List ℕ → List ℕ → Option LineValue
 for_action [] rest = None
 for_action (b ∷ action) rest = with_numbers (b ∷ action) (dealt rest)
 
--- a progress line: what stands before the first colon is the action, and behind it are the numbers
+-- a progress line: what comes before the first colon is the action, and after it are the numbers
 abbrev pub progress_line : List ℕ → Option LineValue
 progress_line line = for_action (before_first is_colon line) (after_first is_colon line)

@@ -13,14 +13,14 @@ is_other b = not (is_digit b)
 abbrev pub from_digit : List ℕ → List ℕ
 from_digit text = drop (position_or_len is_digit text) text
 
--- the first run of digits, as long as it goes, and what stands behind it
+-- the first run of digits, as long as it goes, and what comes after it
 abbrev pub first_run : List ℕ → List ℕ
 first_run text = before_first is_other (from_digit text)
 
 abbrev pub behind_run : List ℕ → List ℕ
 behind_run text = drop (position_or_len is_other (from_digit text)) (from_digit text)
 
--- the number that digits write behind those of another
+-- the number that digits write after those of another
 abbrev pub number_after : ℕ → List ℕ → ℕ
 number_after n [] = n
 number_after n (d ∷ ds) = number_after (n * 10 + (d - 48)) ds
@@ -50,7 +50,7 @@ small (Some n) = if nat_lt n 4294967296 then Some n else None
 abbrev pub is_percentage : List ℕ → Bool
 is_percentage rest = starts_with nat_eq rest (codes "%")
 
--- the next run is the step, and the one behind it the maximum
+-- the next run is the step, and the one after it the maximum
 abbrev pub dealt_behind : Option ℕ → List ℕ → Numbers
 dealt_behind percent text = record { percent = percent; step = number_in (first_run text); max = number_in (first_run (behind_run text)) }
 
@@ -61,6 +61,6 @@ dealt_by (Some n) text =
     if is_percentage (behind_run text) then dealt_behind (small (number_in (first_run text))) (behind_run text)
     else dealt_behind None text
 
--- the numbers of what stands behind the colon
+-- the numbers of what comes after the colon
 abbrev pub dealt : List ℕ → Numbers
 dealt text = dealt_by (fit_number (first_run text)) text

@@ -5,7 +5,7 @@ use Rattle.std.specs.Str.Lossy.{utf8_lossy}
 use Rattle.gixp_wire.specs.Progress.{ProgressCall, init, set, set_name, fail}
 use Rattle.gixp_progress.specs.Line.{LineValue, is_colon, progress_line}
 
--- the name behind a text: the one that is shown, up to its first colon, and the text
+-- the name after a text: the one that is shown, up to its first colon, and the text
 abbrev pub name_for : Option (List ℕ) → List ℕ → List ℕ
 name_for None text = utf8_lossy text
 name_for (Some shown) text = before_first is_colon shown ++ codes ": " ++ utf8_lossy text

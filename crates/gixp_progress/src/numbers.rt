@@ -70,7 +70,7 @@ fn first_run(text: &[u8]) -> &[u8]
     &rest[..other_at(rest)]
 }
 
-// What stands behind the first run of digits.
+// What comes after the first run of digits.
 fn behind_run(text: &[u8]) -> &[u8]
     ensures { result.now ≡ behind_run text.now }
 {
@@ -135,7 +135,7 @@ fn is_percentage(rest: &[u8]) -> bool
     rest.starts_with(b"%")
 }
 
-// The next run is the step, and the one behind it the maximum.
+// The next run is the step, and the one after it the maximum.
 fn dealt_behind(percent: Option<u32>, text: &[u8]) -> Numbers
     ensures { result ≡ dealt_behind percent text.now }
 {
@@ -146,7 +146,7 @@ fn dealt_behind(percent: Option<u32>, text: &[u8]) -> Numbers
     }
 }
 
-// The numbers of what stands behind the colon of a progress line.
+// The numbers of what comes after the colon of a progress line.
 pub(crate) fn dealt(text: &[u8]) -> Numbers
     ensures { result ≡ dealt text.now }
 {

@@ -36,14 +36,14 @@ fn colon_at(line: &[u8]) -> usize
     colon_in(line).unwrap_or(line.len())
 }
 
-// What stands before the first colon.
+// What comes before the first colon.
 fn action_in(line: &[u8]) -> &[u8]
     ensures { result.now ≡ before_first is_colon line.now }
 {
     &line[..colon_at(line)]
 }
 
-// What stands behind the first colon.
+// What comes after the first colon.
 fn behind_colon(line: &[u8]) -> &[u8]
     ensures { result.now ≡ after_first is_colon line.now }
 {
@@ -78,9 +78,9 @@ fn with_numbers(action: &[u8], numbers: Numbers) -> Option<RemoteProgress<'_>>
 }
 
 impl<'a> RemoteProgress<'a> {
-    /// Reads a line: what stands before its first colon is the action, and the longest runs of decimal digits behind
+    /// Reads a line: what comes before its first colon is the action, and the longest runs of decimal digits after
     /// the colon are the numbers. The first run is the percentage where a `%` follows it, and none where it exceeds 32
-    /// bits; the next is the step, and the one behind it the maximum. A run that exceeds 64 bits is no number. It
+    /// bits; the next is the step, and the one after it the maximum. A run that exceeds 64 bits is no number. It
     /// allocates nothing.
     ///
     /// `None` for a line without an action or without a number.

@@ -21,7 +21,7 @@ fn front(shown: &str) -> &str
     }
 }
 
-// The name behind a text, where one is shown.
+// The name after a text, where one is shown.
 fn joined_name(alloc: Global, shown: &str, text: &[u8]) -> Result<String, AllocError>
     ensures { IfOk result (λ name. string_bytes name ≡ before_first is_colon shown.now ++ codes ": " ++ utf8_lossy text.now) }
 {
@@ -32,7 +32,7 @@ fn joined_name(alloc: Global, shown: &str, text: &[u8]) -> Result<String, AllocE
     Ok(name)
 }
 
-// The name behind a text.
+// The name after a text.
 fn name_for<P: Progress>(alloc: Global, progress: &P, text: &[u8]) -> Result<String, AllocError>
     ensures { IfOk result (λ name. string_bytes name ≡ name_for (P.name_of progress.now) text.now) }
 {

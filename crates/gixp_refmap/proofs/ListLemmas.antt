@@ -16,7 +16,7 @@ pub mapped_one : {A B : Type 0} (g : A → B) (now new : List B) (xs : List A) (
 mapped_one g now new xs i x e l kept step =
     step ∙ ap (λ y. now ++ g y ∷ []) e ∙ ap (λ z. z ++ g (get_or xs i x) ∷ []) kept ∙ sym (map-append g (take i xs) (get_or xs i x ∷ [])) ∙ ap (map g) (sym (take_more xs i x l))
 
--- two functions behind one another
+-- two functions after one another
 pub map_of_map : {A B C : Type 0} (g : B → C) (h : A → B) (xs : List A) → map g (map h xs) ≡ map (λ x. g (h x)) xs
 map_of_map g h [] = refl
 map_of_map g h (x ∷ xs) = ap (λ ys. g (h x) ∷ ys) (map_of_map g h xs)

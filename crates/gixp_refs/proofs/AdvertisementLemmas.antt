@@ -34,7 +34,7 @@ front_ref xs v (Err e) = refl
 abbrev Behind : Type 0
 Behind = Option NamedRef → Result (List RefValue) RefsRefusal
 
--- what stands in front of the lines behind, once one was taken in
+-- what comes before the other lines, once one was taken in
 abbrev Goes : SoFarValue → Result (List RefValue) RefsRefusal → Behind → SoFarValue → Type 0
 Goes s all k now = in_front s.refs all ≡ in_front now.refs (k now.open_line)
 
@@ -210,11 +210,11 @@ v1-stop t old mid new s refs updates h k is same =
       held = all.held;
     }
 
--- memory ran out behind the stop
+-- memory ran out after the stop
 pub v1-memory : (t : List Symref) (plain : Bool) (old mid new : Reading) (s : SoFarValue) (e : Error) → V1Known t old mid s → AtStop mid new → e ≡ Memory → V1Fails t plain old new e
 v1-memory t plain old mid new s e h k is = inr (record { texts = h.texts; now = mid; read = h.read; at = k; error = is })
 
--- what is given behind the stop
+-- what is given after the stop
 pub v1-finish : {A : Type 0} (r : Result A Error) (refs_of : A → List Ref) (updates_of : A → List ShallowUpdate) (t : List Symref) (plain : Bool) (old mid new : Reading) (s : SoFarValue) → V1Known t old mid s → AtStop mid new
     → MatchResult r (λ found. (map ref_value (refs_of found) ≡ s.refs ++ closed t s.open_line) × (updates_of found ≡ s.updates)) (λ e. e ≡ Memory)
     → MatchResult r (λ found. ReadsV1 t old new (refs_of found) (updates_of found)) (V1Fails t plain old new)

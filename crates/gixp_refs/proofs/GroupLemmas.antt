@@ -126,7 +126,7 @@ groups_found t texts values h =
 
 -- ---- and groups are read
 
--- behind a ref line that is open, one that stands alone
+-- after a ref line that is open, one that stands alone
 pub first_alone : (m : NamedRef) (object name : List ℕ) (ls : List V1Line) (gs : List Group) → (names m.object m.name ∷ names object name ∷ ls) ≡ lines_in gs
     → (others : List Group) × (gs ≡ alone m ∷ others) × ((names object name ∷ ls) ≡ lines_in others)
 first_alone m object name ls [] h = cc

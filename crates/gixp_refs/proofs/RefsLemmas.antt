@@ -132,7 +132,7 @@ refs-pushed old mid new refs more r (Ok v) h k is a e =
     })
 refs-pushed old mid new refs more r (Err x) h k is a e = absurd a
 
--- memory ran out behind a line
+-- memory ran out after a line
 pub refs-memory : (plain : Bool) (old mid new : Reading) (vs : List RefValue) → RefsSoFar old mid vs → TakesLine mid new → RefsFail plain old new Memory
 refs-memory plain old mid new vs h k =
     inr (inr (inr (record { taken = h.texts ++ new.line ∷ []; read = so_far-line old mid new h.texts h.read k; stopped = k.stopped; error = refl })))

@@ -8,7 +8,7 @@ use Rattle.gixp_refs.specs.RefAdvertisement.{Symref, V1Line, nothing, peels, nam
 use Rattle.gixp_refs.specs.RefGroups.{Group, alone, with_peeled, lines_in, is_grouped, AreLines, AreGroupRefs, open_in, NextRefused, AreRefusedBehind}
 use Rattle.gixp_refs.proofs.GroupLemmas.{open_lines, open_groups, first_alone, no_peels_first, first_peeled, first_ref, open_at_end}
 
--- the same behind a ref line that may be open
+-- the same after a ref line that may be open
 record Refused (t : List Symref) (last : Option NamedRef) (texts : List (List ℕ)) (end : Option RefsRefusal) (e : RefsRefusal) : Type 0 where
   taken : List (List ℕ)
   more : List (List ℕ)
@@ -21,7 +21,7 @@ record Refused (t : List Symref) (last : Option NamedRef) (texts : List (List �
   refs : AreGroupRefs t found values
   next : NextRefused t (open_in found) more end e
 
--- one more group in front doesn't change which ref line is open, where another one is behind it
+-- one more group in front doesn't change which ref line is open, where another one is after it
 open_front : (g : Group) (l : V1Line) (ls : List V1Line) (gs : List Group) → (l ∷ ls) ≡ lines_in gs → open_in (g ∷ gs) ≡ open_in gs
 open_front g l ls [] h = cc
 open_front (alone n) l ls (k ∷ gs) h = refl
@@ -38,7 +38,7 @@ refused_here t None texts end e h =
 refused_here t (Some m) texts end e h =
     record { taken = []; more = texts; split = refl; lines = []; read = tt; found = alone m ∷ []; grouped = refl; values = single t m ∷ []; refs = (refl, tt); next = h }
 
--- behind a line that stands in no group
+-- after a line that stands in no group
 refused_apart : (t : List Symref) (last : Option NamedRef) (text : List ℕ) (texts : List (List ℕ)) (end : Option RefsRefusal) (e : RefsRefusal) (l : V1Line) → v1_line text ≡ Ok l → is_grouped l ≡ false
     → Refused t last texts end e → Refused t last (text ∷ texts) end e
 refused_apart t last text texts end e l h k x = record {
@@ -54,7 +54,7 @@ refused_apart t last text texts end e l h k x = record {
   next = x.next;
 }
 
--- behind a ref line
+-- after a ref line
 refused_names : (t : List Symref) (last : Option NamedRef) (text : List ℕ) (texts : List (List ℕ)) (end : Option RefsRefusal) (e : RefsRefusal) (n : NamedRef) → v1_line text ≡ Ok (names n.object n.name)
     → Refused t (Some n) texts end e → Refused t last (text ∷ texts) end e
 refused_names t None text texts end e n h x = record {
@@ -82,7 +82,7 @@ refused_names t (Some m) text texts end e n h x = record {
   next = subst (λ o. NextRefused t o x.more end e) (sym (open_front (alone m) (names n.object n.name) (filter is_grouped x.lines) x.found x.grouped)) x.next;
 }
 
--- behind a peeled line
+-- after a peeled line
 refused_peels : (t : List Symref) (last : Option NamedRef) (text : List ℕ) (texts : List (List ℕ)) (end : Option RefsRefusal) (e : RefsRefusal) (left base : List ℕ) (v : RefValue)
     → v1_line text ≡ Ok (peels left base) → pair t last left base ≡ Ok v → Refused t None texts end e → Refused t last (text ∷ texts) end e
 refused_peels t None text texts end e left base v h p x = cc
@@ -103,7 +103,7 @@ front_err : (xs : List RefValue) (r : Result (List RefValue) RefsRefusal) (e : R
 front_err xs (Ok vs) e h = cc
 front_err xs (Err x) e h = h
 
--- the refusal is the peeled line's, or comes behind it
+-- the refusal is the peeled line's, or comes after it
 refused_pair : (t : List Symref) (last : Option NamedRef) (text : List ℕ) (texts : List (List ℕ)) (end : Option RefsRefusal) (e : RefsRefusal) (left base : List ℕ) (p : Result RefValue RefsRefusal)
     → v1_line text ≡ Ok (peels left base) → pair t last left base ≡ p → with_ref p (groups texts end t None) ≡ Err e
     → (groups texts end t None ≡ Err e → Refused t None texts end e) → Refused t last (text ∷ texts) end e
@@ -134,7 +134,7 @@ refused_from : (t : List Symref) (last : Option NamedRef) (texts : List (List �
 refused_from t last [] end e h = refused_here t last [] end e (refused_end t last end e h)
 refused_from t last (text ∷ texts) end e h = refused_step t last text texts end e (v1_line text) refl h (λ now k. refused_from t now texts end e k)
 
--- a refused advertisement has groups, and behind them a refusal
+-- a refused advertisement has groups, and after them a refusal
 pub refusal_found : (t : List Symref) (texts : List (List ℕ)) (end : Option RefsRefusal) (e : RefsRefusal) → groups texts end t None ≡ Err e → AreRefusedBehind t texts end e
 refusal_found t texts end e h =
     let x = refused_from t None texts end e h in
@@ -195,7 +195,7 @@ read_from t last (text ∷ texts) more (l ∷ ls) gs values end e h g r n =
     let one : v1_line text ≡ Ok l = h.0 in
     rw one (line_read t last l ls gs values more end e (λ now. groups (texts ++ more) end t now) g r n (λ now others vs k s m. read_from t now texts more ls others vs end e h.1 k s m))
 
--- groups with a refusal behind them are refused so
+-- groups with a refusal after them are refused so
 pub refusal_read : (t : List Symref) (texts : List (List ℕ)) (end : Option RefsRefusal) (e : RefsRefusal) → AreRefusedBehind t texts end e → groups texts end t None ≡ Err e
 refusal_read t texts end e h =
     ap (λ x. groups x end t None) h.split ∙ read_from t None h.taken h.more h.are_groups.lines h.groups h.values end e h.are_groups.read h.are_groups.grouped h.refs h.next

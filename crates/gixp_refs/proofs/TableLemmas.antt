@@ -229,7 +229,7 @@ list_is view (Err e) x h = absurd h
 pub taken_off : {A : Type 0} (view : A → Symref) (old now : List A) (x : A) → old ≡ now ++ x ∷ [] → map view old ≡ map view now ++ view x ∷ []
 taken_off view old now x h = ap (map view) h ∙ map-append view now (x ∷ [])
 
--- those behind the ones that are left are in the map
+-- those after the ones that are left are in the map
 abbrev pub MakesTable : List Symref → List Symref → List Entry → Type 0
 MakesTable all left entries = (done : List Symref) × (all ≡ left ++ done) × TellAlike done (symref_values entries)
 

@@ -36,7 +36,7 @@ ends_with_last xs some =
     sym (take-append-drop n xs) ∙ ap (λ t. take n xs ++ t) (at_drop_more (λ t. t) xs n 0 (omega arith)
     ∙ ap (λ t. slice_index_or xs n 0 ∷ t) (drop_of_length-le xs (omega arith)))
 
--- a byte of ASCII behind the blank is no white space
+-- a byte of ASCII after the blank is no white space
 is_no_white_space : (b : ℕ) → 32 < b → b < 128 → is_whitespace b ≡ false
 is_no_white_space b high low =
     let not_at : (k : ℕ) → (b ≡ k → ⊥) → nat_eq b k ≡ false = λ k ne. ne_eqb b k ne in
@@ -57,7 +57,7 @@ is_no_white_space b high low =
       not_at 12288 (λ e. absurd (omega arith)),
     ) refl
 
--- an LF behind such a byte is all the white space at the end
+-- an LF after such a byte is all the white space at the end
 pub trims_one : (line : List ℕ) → 1 ≤ length line → slice_index_or line (length line - 1) 0 ≡ 10
     → let text = take (length line - 1) line in 1 ≤ length text → 32 < slice_index_or text (length text - 1) 0 → slice_index_or text (length text - 1) 0 < 128
     → text ≡ trim_end_by is_whitespace line

@@ -35,7 +35,7 @@ unpacked_target (Symbolic name target None object) = Some object
 unpacked_target (Symbolic name target (Some tag) object) = Some tag
 unpacked_target (Unborn name target) = None
 
--- the object behind a tag
+-- the object after a tag
 abbrev pub unpacked_peeled : Ref → Option ObjectId
 unpacked_peeled (Peeled name tag object) = Some object
 unpacked_peeled (Symbolic name target (Some tag) object) = Some object

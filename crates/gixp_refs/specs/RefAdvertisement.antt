@@ -79,7 +79,7 @@ line_by_parts text (left, Some (x ∷ xs)) = line_by_path left (x ∷ xs)
 abbrev pub v1_line : List ℕ → Result V1Line RefsRefusal
 v1_line line = let text = trim_end_by is_whitespace line in line_by_parts text (cut 32 text)
 
--- a ref line behind which a peeled one may stand
+-- a ref line after which a peeled one may stand
 pub record NamedRef : Type 0 where
   pub object : List ℕ
   pub name : List ℕ
@@ -109,7 +109,7 @@ not_preceded = invariant (codes "Expecting peeled refs to be preceded by direct 
 abbrev pub other_base : RefsRefusal
 other_base = invariant (codes "Expecting peeled refs to have the same base path as the previous, unpeeled one")
 
--- the ref of a ref line whose name is no symref's, with a peeled line of its name behind it
+-- the ref of a ref line whose name is no symref's, with a peeled line of its name after it
 abbrev pub pair_by : Option Symref → NamedRef → List ℕ → List ℕ → Result RefValue RefsRefusal
 pair_by (Some s) n left base = Err not_preceded
 pair_by None n left base = if is_text n.name base then and_then (id_value left) (λ object. Ok (peeled n.name n.object object)) else Err other_base
@@ -128,7 +128,7 @@ abbrev pub in_front : {A : Type 0} → List A → Result (List A) RefsRefusal �
 in_front xs (Ok ys) = Ok (xs ++ ys)
 in_front xs (Err e) = Err e
 
--- one line, behind a ref line that is open or none, and the groups behind it
+-- one line, after a ref line that is open or none, and the groups after it
 abbrev pub group_with : List Symref → Option NamedRef → Result V1Line RefsRefusal → (Option NamedRef → Result (List RefValue) RefsRefusal) → Result (List RefValue) RefsRefusal
 group_with t last (Err e) rest = Err e
 group_with t last (Ok nothing) rest = rest last

@@ -4,7 +4,7 @@ use Rattle.gixp_refs.specs.Ref.{RefValue}
 use Rattle.gixp_refs.specs.RefLine.{RefsRefusal}
 use Rattle.gixp_refs.specs.RefAdvertisement.{Symref, V1Line, peels, names, v1_line, NamedRef, single, pair}
 
--- a ref line alone, or with its peeled line behind it
+-- a ref line alone, or with its peeled line after it
 pub data Group : Type 0 where
   alone : NamedRef → Group
   with_peeled : NamedRef → (left base : List ℕ) → Group
@@ -13,7 +13,7 @@ abbrev pub group_lines : Group → List V1Line
 group_lines (alone n) = names n.object n.name ∷ []
 group_lines (with_peeled n left base) = names n.object n.name ∷ peels left base ∷ []
 
--- the lines of groups, one group behind the other
+-- the lines of groups, one group after the other
 abbrev pub lines_in : List Group → List V1Line
 lines_in [] = []
 lines_in (g ∷ gs) = group_lines g ++ lines_in gs
@@ -31,7 +31,7 @@ AreLines [] (l ∷ ls) = ⊥
 AreLines (t ∷ ts) [] = ⊥
 AreLines (t ∷ ts) (l ∷ ls) = (v1_line t ≡ Ok l) × AreLines ts ls
 
--- the texts are the lines of these groups, and lines that stand in none
+-- the texts are the lines of these groups, and lines that are in none
 pub record AreRefGroups (texts : List (List ℕ)) (gs : List Group) : Type 0 where
   pub lines : List V1Line
   pub read : AreLines texts lines
@@ -49,7 +49,7 @@ AreGroupRefs t [] (v ∷ vs) = ⊥
 AreGroupRefs t (g ∷ gs) [] = ⊥
 AreGroupRefs t (g ∷ gs) (v ∷ vs) = (group_ref t g ≡ Ok v) × AreGroupRefs t gs vs
 
--- the ref line behind which a peeled one may stand: that of the last group, where it is alone
+-- the ref line after which a peeled one may stand: that of the last group, where it is alone
 abbrev pub open_in : List Group → Option NamedRef
 open_in [] = None
 open_in (alone n ∷ []) = Some n
@@ -62,7 +62,7 @@ NextRefused t last [] end e = end ≡ Some e
 NextRefused t last (text ∷ texts) end e =
     (v1_line text ≡ Err e) ⊎ ((left base : List ℕ) × (v1_line text ≡ Ok (peels left base)) × (pair t last left base ≡ Err e))
 
--- the lines of some groups, each of which stands for a ref, and behind them the first refusal
+-- the lines of some groups, each of which stands for a ref, and after them the first refusal
 pub record AreRefusedBehind (t : List Symref) (texts : List (List ℕ)) (end : Option RefsRefusal) (e : RefsRefusal) : Type 0 where
   pub taken : List (List ℕ)
   pub more : List (List ℕ)

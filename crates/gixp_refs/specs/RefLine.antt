@@ -47,7 +47,7 @@ read_id text None = Err (bad_id (if length text == 40 then InvalidDigit else Inv
 abbrev pub id_value : List ℕ → Result (List ℕ) RefsRefusal
 id_value text = read_id text (id_of text)
 
--- one step behind another
+-- one step after another
 abbrev pub and_then : {A B : Type 0} → Result A RefsRefusal → (A → Result B RefsRefusal) → Result B RefsRefusal
 and_then (Ok x) f = f x
 and_then (Err e) f = Err e
@@ -70,7 +70,7 @@ attribute_of line (name, None) had = Err (malformed_v2 line)
 attribute_of line (name, Some []) had = Err (malformed_v2 line)
 attribute_of line (name, Some (x ∷ xs)) had = named_attribute line name (x ∷ xs) had
 
--- a piece is a name and, behind its first colon, a value
+-- a piece is a name and, after its first colon, a value
 abbrev pub with_attribute : List ℕ → List ℕ → AttributeValues → Result AttributeValues RefsRefusal
 with_attribute line piece had = attribute_of line (cut 58 piece) had
 

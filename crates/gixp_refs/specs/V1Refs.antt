@@ -53,7 +53,7 @@ pub record LastV1LineRefused (t : List Symref) (texts : List (List ℕ)) (refusa
   pub refs : (values : List RefValue) × (groups before None t None ≡ Ok values)
   pub line : groups texts None t None ≡ Err refusal
 
--- an allocation failed behind the stop, for the ref of the last line
+-- an allocation failed after the stop, for the ref of the last line
 pub record NoMemoryAtStop (old new : Reading) (e : Error) : Type 0 where
   pub texts : List (List ℕ)
   pub now : Reading

@@ -32,7 +32,7 @@ pub enum Ref {
         target: BString,
         /// The tag object that the other ref names, if it is one.
         tag: Option<ObjectId>,
-        /// The object that the other ref names, behind its tag.
+        /// The object that the other ref names, after its tag.
         object: ObjectId,
     },
     /// A ref that names another one which isn't there yet, as `HEAD` of a new repository does.
@@ -58,7 +58,7 @@ impl Ref {
         }
     }
 
-    /// The name, the object that the ref names, and the object behind it where that one is a tag.
+    /// The name, the object that the ref names, and the object after it where that one is a tag.
     ///
     /// An unborn ref has neither object.
     pub fn unpack(&self) -> (BStr<'_>, Option<&ObjectId>, Option<&ObjectId>)

@@ -6,7 +6,7 @@ ghost use Rattle.gixp_refs.specs.RefAdvertisement.{Symref, groups};
 ghost use Rattle.gixp_refs.specs.RefGroups.{Group, AreRefGroups, AreGroupRefs, AreRefusedBehind};
 
 /// The refs of an advertisement under versions 0 and 1 are those of groups: ref lines alone, or with
-/// their peeled lines, and between them lines that stand in none.
+/// their peeled lines, and between them lines that are in none.
 pub fn advertised_refs_are_of_groups()
     ensures { (t : List Symref) (texts : List (List ℕ)) (values : List RefValue) → groups texts None t None ≡ Ok values → (gs : List Group) × AreRefGroups texts gs × AreGroupRefs t gs values }
 {}
@@ -22,7 +22,7 @@ pub fn refused_advertisements_are_cut()
     ensures { (t : List Symref) (texts : List (List ℕ)) (end : Option RefsRefusal) (e : RefsRefusal) → groups texts end t None ≡ Err e → AreRefusedBehind t texts end e }
 {}
 
-/// Groups with such a refusal behind them are refused so, however they were read.
+/// Groups with such a refusal after them are refused so, however they were read.
 pub fn cut_advertisements_are_refused()
     ensures { (t : List Symref) (texts : List (List ℕ)) (end : Option RefsRefusal) (e : RefsRefusal) → AreRefusedBehind t texts end e → groups texts end t None ≡ Err e }
 {}

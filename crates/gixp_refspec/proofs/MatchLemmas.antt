@@ -26,7 +26,7 @@ no_front name front middle back h = false_from_other _ _ (h (middle ++ back))
 pub no_middle : (name front rest middle back : List ℕ) → name ≡ front ++ rest → ((r : List ℕ) → rest ≢ middle ++ r) → false ≡ bytes_eq name (front ++ (middle ++ back))
 no_middle name front rest middle back e h = false_from_other _ _ (λ d. h back (same_rest front _ _ (sym e ∙ d)))
 
--- behind front and middle the rest decides
+-- after front and middle the rest decides
 pub with_back : (name front rest middle last back : List ℕ) (r : Bool) → name ≡ front ++ rest → rest ≡ middle ++ last → r ≡ bytes_eq last back → r ≡ bytes_eq name (front ++ (middle ++ back))
 with_back name front rest middle last back r e d h =
     let all : name ≡ front ++ (middle ++ last) = e ∙ ap (λ x. front ++ x) d in

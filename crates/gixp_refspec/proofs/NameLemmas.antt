@@ -28,7 +28,7 @@ starts-from_occurs_at text bytes h =
     let e = front_from_reads 0 bytes text fits (λ j l. let k : 0 + j ≡ j = omega arith in rw k at (h.reads j l)) in
     (starts_is Decides-eqb bytes text (starts_with nat_eq bytes text) refl).1 _ e
 
--- a place is one later behind one more byte
+-- a place is one later after one more byte
 occurs_later : (text : List ℕ) (b : ℕ) (bytes : List ℕ) (k : ℕ) → OccursAt bytes text k → OccursAt (b ∷ bytes) text (suc k)
 occurs_later text b bytes k h = record {
   fits = omega (arith, h.fits);

@@ -61,6 +61,6 @@ pub matched_is_covered : (s : Spec) (name : List ℕ) → is_negative s.sign ≡
 unfolding prefixes_of middle_of
 matched_is_covered s name positive h = ap (λ l. is_covered l name) (cond-false _ [] (prefixes_by (kind_of s.source) s.source) positive) ∙ covered_by (kind_of s.source) s.source name h
 
--- prefixes behind others cover what they cover
+-- prefixes after others cover what they cover
 pub covered_behind : (old more : List (List ℕ)) (name : List ℕ) → is_covered more name ≡ true → is_covered (old ++ more) name ≡ true
 covered_behind old more name h = list_any-append (λ prefix. starts_with nat_eq name prefix) old more ∙ or_right _ _ h

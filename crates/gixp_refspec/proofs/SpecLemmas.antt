@@ -29,7 +29,7 @@ before_first-cons b zs h =
     let e : position_or_len is_colon (b ∷ zs) ≡ suc (position_or_len is_colon zs) = rw h (omega arith) in
     ap (λ n. take n (b ∷ zs)) e
 
--- what stands behind the first colon, without a first byte that is none
+-- what comes after the first colon, without a first byte that is none
 after_first-cons : (b : ℕ) (zs : List ℕ) → is_colon b ≡ false → after_first is_colon (b ∷ zs) ≡ after_first is_colon zs
 after_first-cons b zs h =
     let e : position_or_len is_colon (b ∷ zs) + 1 ≡ suc (position_or_len is_colon zs + 1) = rw h (omega arith) in
@@ -42,21 +42,21 @@ before_first_at (b ∷ bs) ys h =
     let both = or_parts (is_colon b) (list_any is_colon bs) h in
     before_first-cons b (bs ++ 58 ∷ ys) both.0 ∙ ap (λ r. b ∷ r) (before_first_at bs ys both.1)
 
--- behind a colon that is the first
+-- after a colon that is the first
 after_first_at : (xs ys : List ℕ) → list_any is_colon xs ≡ false → after_first is_colon (xs ++ 58 ∷ ys) ≡ ys
 after_first_at [] ys h = refl
 after_first_at (b ∷ bs) ys h =
     let both = or_parts (is_colon b) (list_any is_colon bs) h in
     after_first-cons b (bs ++ 58 ∷ ys) both.0 ∙ after_first_at bs ys both.1
 
--- without a colon all stands before it
+-- without a colon all comes before it
 before_first_none : (xs : List ℕ) → list_any is_colon xs ≡ false → before_first is_colon (xs ++ []) ≡ xs
 before_first_none [] h = refl
 before_first_none (b ∷ bs) h =
     let both = or_parts (is_colon b) (list_any is_colon bs) h in
     before_first-cons b (bs ++ []) both.0 ∙ ap (λ r. b ∷ r) (before_first_none bs both.1)
 
--- without a colon nothing stands behind it
+-- without a colon nothing comes after it
 after_first_none : (xs : List ℕ) → list_any is_colon xs ≡ false → after_first is_colon (xs ++ []) ≡ []
 after_first_none [] h = refl
 after_first_none (b ∷ bs) h =

@@ -9,11 +9,11 @@ use Rattle.gixp_refspec.specs.Spec.{Spec, stars, is_id, is_full, is_negative}
 abbrev pub is_star : ℕ → Bool
 is_star b = b == 42
 
--- what stands before and after the asterisk of a pattern
+-- what comes before and after the asterisk of a pattern
 abbrev pub before_star : List ℕ → List ℕ
 before_star text = before_first is_star text
 
--- what stands behind the asterisk
+-- what comes after the asterisk
 abbrev pub after_star : List ℕ → List ℕ
 after_star text = after_first is_star text
 

@@ -57,15 +57,15 @@ abbrev pub non_empty : List ℕ → Option (List ℕ)
 non_empty [] = None
 non_empty (b ∷ bytes) = Some (b ∷ bytes)
 
--- the source of a positive refspec: what stands before the first colon
+-- the source of a positive refspec: what comes before the first colon
 abbrev pub source_in : List ℕ → List ℕ
 source_in body = or_head (before_first is_colon body)
 
--- its destination: what stands behind the first colon
+-- its destination: what comes after the first colon
 abbrev pub destination_in : List ℕ → Option (List ℕ)
 destination_in body = non_empty (after_first is_colon body)
 
--- a positive refspec: source, and behind the first colon the destination
+-- a positive refspec: source, and after the first colon the destination
 abbrev pub positive : Sign → List ℕ → Spec
 positive sign body = spec sign (source_in body) (destination_in body)
 

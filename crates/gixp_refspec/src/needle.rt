@@ -14,9 +14,9 @@ pub enum Needle<'a> {
     Id,
     /// A text with an asterisk, which stands for any bytes.
     Pattern {
-        /// What stands before the asterisk.
+        /// What comes before the asterisk.
         before: &'a [u8],
-        /// What stands after it.
+        /// What comes after it.
         after: &'a [u8],
     },
     /// `HEAD` or a name from `refs/` on, which matches itself.
@@ -25,7 +25,7 @@ pub enum Needle<'a> {
     Short(&'a [u8]),
 }
 
-/// What stands around a short name in each of the names that it stands for (git-rev-parse, "Specifying
+/// What comes before and after a short name in each of the names that it stands for (git-rev-parse, "Specifying
 /// revisions").
 pub const RULES: [(&[u8], &[u8]); 6] = [
     (b"", b""),
@@ -71,14 +71,14 @@ impl<'a> Needle<'a> {
     }
 }
 
-/// What stands before the asterisk.
+/// What comes before the asterisk.
 pub fn before_star(text: &[u8]) -> &[u8]
     ensures { result.now ≡ before_star text.now }
 {
     &text[..star_at(text)]
 }
 
-/// What stands after the asterisk.
+/// What comes after the asterisk.
 pub fn after_star(text: &[u8]) -> &[u8]
     ensures { result.now ≡ after_star text.now }
 {
@@ -105,7 +105,7 @@ fn star_at(text: &[u8]) -> usize
     star_in(text).unwrap_or(text.len())
 }
 
-/// What stands between front and back.
+/// What comes between front and back.
 fn between<'a>(front: &[u8], back: &[u8], name: &'a [u8]) -> Option<&'a [u8]>
     ensures { option_copied result ≡ between front.now back.now name.now }
 {

@@ -57,14 +57,14 @@ fn colon_at(body: &[u8]) -> usize
     colon_in(body).unwrap_or(body.len())
 }
 
-/// What stands before the first colon.
+/// What comes before the first colon.
 fn before_colon(body: &[u8]) -> &[u8]
     ensures { result.now ≡ before_first is_colon body.now }
 {
     &body[..colon_at(body)]
 }
 
-/// What stands after the first colon.
+/// What comes after the first colon.
 fn after_colon(body: &[u8]) -> &[u8]
     ensures { result.now ≡ after_first is_colon body.now }
 {
@@ -165,7 +165,7 @@ struct Parts<'a> {
     destination: Option<&'a [u8]>,
 }
 
-/// The text behind its first byte.
+/// The text after its first byte.
 fn behind_sign(text: &[u8]) -> &[u8]
     requires { 1 ≤ length text.now }
     ensures { result.now ≡ drop 1 text.now }
@@ -203,7 +203,7 @@ fn parts_of(text: &[u8]) -> Parts<'_>
 /// Reads a refspec (git-fetch, "<refspec>"). It allocates nothing: the value borrows the text.
 ///
 /// A text that begins with `^` is negative, and the rest is its source. Any other text is an optional `+`, a source,
-/// and behind the first colon a destination; an empty source is `HEAD`, and an empty destination is none. A pattern
+/// and after the first colon a destination; an empty source is `HEAD`, and an empty destination is none. A pattern
 /// without a destination is accepted, and maps without a local name.
 ///
 /// # Errors

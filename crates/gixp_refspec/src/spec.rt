@@ -11,7 +11,7 @@ use bstr::{BStr, BString};
 use gixp_hash::ObjectId;
 use std::alloc::{AllocError, Global};
 
-/// What stands before the source of a refspec.
+/// What comes before the source of a refspec.
 #[derive(Clone, Copy, PartialEq, Eq, Debug)]
 pub enum Sign {
     /// No sign: fetch, and update a local ref by a fast-forward alone.
@@ -66,7 +66,7 @@ pub fn id_in(text: &[u8]) -> Option<ObjectId>
 /// A refspec that borrows its text. Two are equal where their signs, sources and destinations are.
 #[derive(Clone, Copy, Debug, PartialEq, Eq)]
 pub struct RefSpecRef<'a> {
-    /// What stands before the source; the crate above matches by it.
+    /// What comes before the source; the crate above matches by it.
     pub sign: Sign,
     /// The source, which the crate above compares with names.
     pub source: &'a [u8],
@@ -118,7 +118,7 @@ impl<'a> RefSpecRef<'a> {
     }
 
     /// Appends the prefixes to ask a server for (gitprotocol-v2, `ref-prefix`): of an exact name the name, of a
-    /// short name the six names that it stands for, of a pattern what stands before its asterisk, of an object id
+    /// short name the six names that it stands for, of a pattern what comes before its asterisk, of an object id
     /// and of a negative refspec none. Each name that the refspec matches begins with one of them.
     ///
     /// # Errors
@@ -142,7 +142,7 @@ impl<'a> RefSpecRef<'a> {
         }
     }
 
-    /// The text of the refspec, which reads as the same value: the sign, the source, and behind a colon the
+    /// The text of the refspec, which reads as the same value: the sign, the source, and after a colon the
     /// destination, where there is one.
     ///
     /// # Errors
@@ -155,7 +155,7 @@ impl<'a> RefSpecRef<'a> {
         self.written(alloc)
     }
 
-    /// Sign, source, and behind a colon the destination.
+    /// Sign, source, and after a colon the destination.
     fn written(&self, alloc: Global) -> Result<BString, AllocError>
         ensures { IfOk result (λ t. bstring_bytes t ≡ text_of (value_of self.now)) }
     {
@@ -217,7 +217,7 @@ impl RefSpec {
         }
     }
 
-    /// The text of the refspec, which reads as the same value: the sign, the source, and behind a colon the
+    /// The text of the refspec, which reads as the same value: the sign, the source, and after a colon the
     /// destination, where there is one.
     ///
     /// # Errors

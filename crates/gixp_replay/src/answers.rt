@@ -1,7 +1,7 @@
 //! An answer to a fetch.
 //!
 //! `version`, `pack` (whether one is expected), `negotiates` (whether the client wants to), `bands` (whether the answer
-//! comes in them), `over` and `lines`, how many lines are taken behind an answer in bands. What stands in the reader
+//! comes in them), `over` and `lines`, how many lines are taken after an answer in bands. What is left in the reader
 //! follows.
 use crate::handshakes::{connection, one_body};
 use crate::lines::{report_rest, take_line};

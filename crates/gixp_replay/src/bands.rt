@@ -77,7 +77,7 @@ fn read<R: Read>(reader: &mut R, size: usize, report: &mut Report) {
 
 fn make_call<T: ExtendedBufRead, I: Interrupt>(
     alloc: Global,
-    reader: &mut WithSidebands<'_, T, Notes<'_>, I>,
+    reader: &mut WithSidebands<'_, '_, T, Notes<'_>, I>,
     call: Call,
     report: &mut Report,
 ) -> Result<(), AllocError> {
@@ -97,7 +97,7 @@ fn make_call<T: ExtendedBufRead, I: Interrupt>(
 // A word's call, as often as it says.
 fn call_word<T: ExtendedBufRead, I: Interrupt>(
     alloc: Global,
-    reader: &mut WithSidebands<'_, T, Notes<'_>, I>,
+    reader: &mut WithSidebands<'_, '_, T, Notes<'_>, I>,
     word: &[u8],
     report: &mut Report,
 ) -> Result<(), AllocError> {
@@ -114,7 +114,7 @@ fn call_word<T: ExtendedBufRead, I: Interrupt>(
 
 fn call_each<T: ExtendedBufRead, I: Interrupt>(
     alloc: Global,
-    reader: &mut WithSidebands<'_, T, Notes<'_>, I>,
+    reader: &mut WithSidebands<'_, '_, T, Notes<'_>, I>,
     words: &[u8],
     report: &mut Report,
 ) -> Result<(), AllocError> {

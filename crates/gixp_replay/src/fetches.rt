@@ -84,17 +84,14 @@ impl ScriptedStore {
 }
 
 impl ShallowStore for ScriptedStore {
-    ghost failures = { λ call s e t. IsStoreRefusal s.failures t.failures e };
-
-    ghost count = { λ s. s.failures };
-
-    ghost locks = { λ s t. Unit {0} };
-
-    ghost reads = { λ s ids t. Unit {0} };
-
-    ghost writes = { λ s ids t. Unit {0} };
-
-    ghost releases = { λ s t. Unit {0} };
+    ghost calls = { record {
+      failures = λ call s e t. IsStoreRefusal s.failures t.failures e;
+      count = λ s. s.failures;
+      locks = λ s t. Unit {0};
+      reads = λ s ids t. Unit {0};
+      writes = λ s ids t. Unit {0};
+      releases = λ s t. Unit {0};
+    } };
 
     fn lock(&mut self) -> Result<(), ShallowError> {
         if self.refuses() {

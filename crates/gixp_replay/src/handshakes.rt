@@ -1,7 +1,7 @@
-//! A handshake, and the refs of versions 0 and 1 behind it.
+//! A handshake, and the refs of versions 0 and 1 after it.
 //!
 //! `over` says whether the bytes are a body in memory or come over a connection, `version` which version the client of a
-//! connection asks for. What stands in the transport follows, and over a connection the bytes that were written.
+//! connection asks for. What is left in the transport follows, and over a connection the bytes that were written.
 use crate::lines::report_rest;
 use crate::refs::report_list;
 use crate::report::Report;
@@ -152,7 +152,7 @@ fn report_over_connection(
     Ok(())
 }
 
-/// A handshake, the refs, and what stands behind them.
+/// A handshake, the refs, and what comes after them.
 pub(crate) fn report_handshake(
     alloc: Global,
     row: &Row<'_>,

@@ -14,7 +14,7 @@
 //!     alternate-fails ERROR      one of which the refs can't be listed
 //!     no-alternates              the alternates can't be opened
 //!     extra SPEC                 an added refspec
-//!     mapping LOCAL PLACE SOURCE a mapping: its local name, the place of its refspec behind `explicit-` or `extra-`, and its
+//!     mapping LOCAL PLACE SOURCE a mapping: its local name, the place of its refspec after `explicit-` or `extra-`, and its
 //!                                source: `id ID`, `direct NAME ID`, `peeled NAME TAG ID`, `symbolic NAME TAG ID` or
 //!                                `unborn NAME`
 //!     haves FROM COUNT           so many haves, from this id on

@@ -1,6 +1,6 @@
 //! Calls of a line reader.
 //!
-//! The first line of the bytes has the calls, words with blanks between them, and behind each how often where it is more
+//! The first line of the bytes has the calls, words with blanks between them, and after each how often where it is more
 //! than once (`readline*5`): the name of a function, or `reset-0`, `reset-1` and `reset-2`. The stream stands after it. A
 //! call whose read failed is made again. `version` is that of the reader.
 use crate::report::Report;
@@ -110,7 +110,7 @@ fn peek_plain<R: ExtendedBufRead>(reader: &mut R, report: &mut Report) -> bool {
     }
 }
 
-// The next line behind a text that has one letter.
+// The next line after a text that has one letter.
 fn take_text<R: ExtendedBufRead>(
     alloc: Global,
     reader: &mut R,
@@ -188,7 +188,7 @@ fn call_word<R: ExtendedBufRead>(
     Ok(told)
 }
 
-/// What stands in a reader: its stop, two lines, and three more behind a reset.
+/// What is left in a reader: its stop, two lines, and three more after a reset.
 pub(crate) fn report_rest<R: ExtendedBufRead>(
     reader: &mut R,
     version: Protocol,

@@ -4,7 +4,7 @@
 //! else the list is prepared first: `prepare` with the prefixes of the refspecs, `prepare-all` without, `prepare-twice`
 //! twice with them. `without=unborn` and `without=ref-prefix` are tables of commands that don't know these,
 //! `without=agent` is a client that names itself by a feature that the server doesn't have. `letters` is how many letters
-//! stand behind the client's name. The bytes are a line of refspecs, a line of those that go with the fetch alone, a line of bodies as `bodies_of` reads
+//! come after the client's name. The bytes are a line of refspecs, a line of those that go with the fetch alone, a line of bodies as `bodies_of` reads
 //! them, and the bytes of the server.
 use crate::lines::report_rest;
 use crate::map_values::{init_error, report_map};
@@ -151,7 +151,7 @@ fn prepare<T: Transport>(
     prepare_and_fetch(alloc, shaken, client, context, progress, transport, report)
 }
 
-// The ref map behind a handshake.
+// The ref map after a handshake.
 fn report_mapped<T: Transport>(
     alloc: Global,
     shaken: &mut Handshake,
@@ -196,7 +196,7 @@ fn report_mapped<T: Transport>(
     Ok(())
 }
 
-// A handshake, and the ref map behind it.
+// A handshake, and the ref map after it.
 fn report_over<T: Transport>(
     alloc: Global,
     transport: &mut T,

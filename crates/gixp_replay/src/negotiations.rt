@@ -234,9 +234,8 @@ fn run_over<N: Negotiate<AlternatesError = Closed>, T: Transport>(
             return Ok(());
         }
     }
-    let is_stateless = asked.is_stateless(
-        !transport.connection_persists_across_multiple_requests(),
-    );
+    let persists = transport.connection_persists_across_multiple_requests();
+    let is_stateless = asked.is_stateless(!persists);
     let mut state = State::new(alloc, is_stateless);
     run_rounds(
         report,
@@ -249,7 +248,7 @@ fn run_over<N: Negotiate<AlternatesError = Closed>, T: Transport>(
     Ok(())
 }
 
-// The same, and the requests behind it.
+// The same, and the requests after it.
 fn negotiate<N: Negotiate<AlternatesError = Closed>>(
     alloc: Global,
     row: &Row<'_>,
@@ -390,7 +389,7 @@ fn run_graph<G: Objects>(
     negotiate(alloc, row, &mut negotiation, &history.answers, report)
 }
 
-// The same. What the graph holds stands behind it.
+// The same. What the graph holds comes after it.
 fn run_history(
     alloc: Global,
     row: &Row<'_>,

@@ -1,8 +1,8 @@
 //! What a client says first over a connection.
 //!
 //! `version` is what it asks for, `service` which program, `host` whether it names one, `letters` how many letters stand
-//! behind the path. The bytes are the path, a NUL, the host, a NUL, and parameters,
-//! each with a NUL behind it. The server's answer is a flush packet.
+//! after the path. The bytes are the path, a NUL, the host, a NUL, and parameters,
+//! each with a NUL after it. The server's answer is a flush packet.
 use crate::handshakes::{connection, report_response};
 use crate::report::Report;
 use crate::rows::{NO_YES, Row, Setting, cut_at_byte};
@@ -33,7 +33,7 @@ fn parameter_of(alloc: Global, word: &[u8]) -> Result<(String, Option<String>), 
     }
 }
 
-/// Names with such bytes between them, each with its value behind an equals sign if it has one.
+/// Names with such bytes between them, each with its value after an equals sign if it has one.
 pub(crate) fn parameters_of(
     alloc: Global,
     text: &[u8],
@@ -49,7 +49,7 @@ pub(crate) fn parameters_of(
     Ok(parameters)
 }
 
-// An opening for a path with so many letters behind it, and for a host.
+// An opening for a path with so many letters after it, and for a host.
 fn opening_of(
     alloc: Global,
     path: &[u8],

@@ -206,7 +206,7 @@ impl Counts {
         }
     }
 
-    // Counts an error behind which the next read goes on. Whether it is one.
+    // Counts an error after which the next read goes on. Whether it is one.
     fn count(&mut self, fault: Option<&read::Error>) -> bool {
         match fault {
             Some(read::Error::Interrupted) => {
@@ -228,9 +228,9 @@ impl Counts {
     }
 }
 
-// The error behind which each read fails, and what the next read says.
+// The error after which each read fails, and what the next read says.
 fn report_last_error<T: ExtendedBufRead, I: Interrupt>(
-    reader: &mut WithSidebands<'_, T, Notes<'_>, I>,
+    reader: &mut WithSidebands<'_, '_, T, Notes<'_>, I>,
     report: &mut Report,
 ) {
     report_fault(reader.fault(), report);
@@ -244,7 +244,7 @@ fn report_last_error<T: ExtendedBufRead, I: Interrupt>(
 
 // One read of a kind and size that follow from a number, 0 for a large one.
 fn read_mixed<T: ExtendedBufRead, I: Interrupt>(
-    reader: &mut WithSidebands<'_, T, Notes<'_>, I>,
+    reader: &mut WithSidebands<'_, '_, T, Notes<'_>, I>,
     random: u64,
     left: usize,
     room: &mut Vec<u8>,
@@ -260,7 +260,7 @@ fn read_mixed<T: ExtendedBufRead, I: Interrupt>(
 // Takes content up to a limit, in ways that follow from a number.
 fn drain<T: ExtendedBufRead, I: Interrupt>(
     alloc: Global,
-    reader: &mut WithSidebands<'_, T, Notes<'_>, I>,
+    reader: &mut WithSidebands<'_, '_, T, Notes<'_>, I>,
     limit: u64,
     seed: u64,
     content: &mut Vec<u8>,
@@ -312,7 +312,7 @@ pub(crate) struct Settings {
     pub(crate) memory: u64,
 }
 
-/// The content of a pack that stands before a reader, and its texts. How many reads failed.
+/// The content of a pack that comes before a reader, and its texts. How many reads failed.
 pub(crate) fn read_pack<T: ExtendedBufRead>(
     alloc: Global,
     reader: &mut T,

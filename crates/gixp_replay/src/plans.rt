@@ -2,7 +2,7 @@
 //!
 //! `refspecs` is the number of these, `room` how many bytes the writer takes before it fails, 0 for one that doesn't,
 //! `denied` the number of the body in whose place the server wants an account, from 1 on. The first line of the bytes has
-//! the lengths of the haves, of each refspec and of each body, which follow one behind another.
+//! the lengths of the haves, of each refspec and of each body, which follow one after another.
 use crate::report::Report;
 use crate::rows::{Row, Setting, cut_at, cut_at_byte, number};
 use bstr::BString;

@@ -21,7 +21,7 @@ pub(crate) fn report_list(report: &mut Report, refs: &[Ref]) {
     }
 }
 
-// What an error says of the calls behind it.
+// What an error says of the calls after it.
 enum Outlook {
     // A read failed: the call is made again.
     Again,

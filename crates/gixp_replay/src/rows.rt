@@ -433,7 +433,7 @@ fn push(bytes: &mut Vec<u8>, byte: u8) -> Result<(), RowError> {
     }
 }
 
-// Makes the last byte stand so many times, of a number with a `;` after it. What stands after that.
+// Repeats the last byte so many times, by a number with a `;` after it. What comes after that.
 fn repeat_last<'a>(text: &'a [u8], bytes: &mut Vec<u8>) -> Result<&'a [u8], RowError> {
     let (digits, rest) = cut_at_byte(text, b';');
     let (Some(times), Some(byte)) = (number(digits), bytes.last()) else {

@@ -1,7 +1,7 @@
 //! What a whole fetch is asked to do: lines of a word and a text, up to an empty line.
 //!
 //! `bodies` has the lengths of the bodies. `refspec` is one, `have` the id of a have, `more-haves` how many others come
-//! behind these, `boundary` an id of the shallow boundary. `depth`, `deepen` and `since` are a depth from the refs, one
+//! after these, `boundary` an id of the shallow boundary. `depth`, `deepen` and `since` are a depth from the refs, one
 //! from the boundary, and a time; `exclude` is a ref that is left out, also with a time. `tags all` asks for all tags,
 //! `tags included` for those that come with others. `reject-shallow` refuses shallow servers. `without` is a table that
 //! lacks `sideband-all`, `ref-in-want` or `both`, or that of `recorded` requests. `no-pack` passes over the pack.
@@ -106,7 +106,7 @@ pub(crate) struct Script<'a> {
     pub(crate) shallow: Shallow,
     /// The refs that are left out.
     pub(crate) excluded: Vec<PartialName>,
-    /// The time behind which commits are asked for.
+    /// The time after which commits are asked for.
     pub(crate) cutoff: Option<i64>,
     /// Which tags come.
     pub(crate) tags: Tags,
@@ -293,7 +293,7 @@ impl<'a> Script<'a> {
         Ok(())
     }
 
-    /// What these lines ask for, and what stands behind the empty line.
+    /// What these lines ask for, and what comes after the empty line.
     pub(crate) fn read(
         alloc: Global,
         payload: &'a [u8],

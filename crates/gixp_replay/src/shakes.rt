@@ -104,7 +104,7 @@ impl<'a> Helper<'a> {
     }
 }
 
-// The body of a word, and the bytes behind it.
+// The body of a word, and the bytes after it.
 fn body_of<'a>(
     alloc: Global,
     word: &[u8],

@@ -1,4 +1,4 @@
--- The texts of features, each behind a blank or joined by blanks.
+-- The texts of features, each after a blank or joined by blanks.
 use Rattle.std.proofs.Common.{◌≡◌, ℕ, ◌+◌, Bool, true, false, List, [], ◌∷◌, ◌++◌, length, map, refl, sym, ap, ◌∙◌, append_assoc, arith}
 use Rattle.std.specs.Prelude.{◌==◌, filter}
 use Rattle.std.proofs.lemmas.Bool.Decides.{nat_tests}
@@ -11,7 +11,7 @@ pub spaced-append : (xs ys : List (List ℕ)) → spaced (xs ++ ys) ≡ spaced x
 spaced-append [] ys = refl
 spaced-append (x ∷ xs) ys = ap (λ z. 32 ∷ x ++ z) (spaced-append xs ys) ∙ ap (λ z. 32 ∷ z) (sym (append_assoc x (spaced xs) (spaced ys)))
 
--- the features that are on, each behind a blank
+-- the features that are on, each after a blank
 abbrev pub spaced_on : Bool → Bool → List FeatureValue → List ℕ
 spaced_on include_tag deepen_relative features = spaced (texts_on include_tag deepen_relative features)
 
@@ -22,7 +22,7 @@ spaced_on-append i d xs ys =
     ∙ ap spaced (map-append feature_text (filter (is_on i d) xs) (filter (is_on i d) ys))
     ∙ spaced-append (texts_on i d xs) (texts_on i d ys)
 
--- joined by blanks behind a blank is each behind a blank, where there is any
+-- joined by blanks after a blank is each after a blank, where there is any
 pub spaced_joined : (x : List ℕ) (xs : List (List ℕ)) → spaced (x ∷ xs) ≡ behind_blank (x ∷ xs)
 spaced_joined x [] = ap (λ z. 32 ∷ z) (append-nil x)
 spaced_joined x (y ∷ ys) = ap (λ z. 32 ∷ x ++ z) (spaced_joined y ys)
@@ -34,7 +34,7 @@ blank_alone (x ∷ xs) text n len h e =
     let more : n ≡ length (x ++ spaced xs) + 1 = len ∙ ap length e ∙ omega arith in
     grind (arith, nat_tests)
 
--- else each text stands behind its blank
+-- else each text comes after its blank
 pub blanks_joined : (xs : List (List ℕ)) (text : List ℕ) (n : ℕ) → n ≡ length text → false ≡ (n == 0) → text ≡ spaced xs → text ≡ behind_blank xs
 blanks_joined [] text n len h e =
     let none : n ≡ 0 = len ∙ ap length e in

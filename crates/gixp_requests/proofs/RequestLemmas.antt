@@ -69,12 +69,12 @@ sent_features-append xs ys = ap (map feature_text) (filter-append has_value xs y
 pub texts-append : (xs ys : List (List ℕ)) → map text (xs ++ ys) ≡ map text xs ++ map text ys
 texts-append xs ys = map-append text xs ys
 
--- three parts, each appended behind the one before
+-- three parts, each appended after the one before
 pub three_parts : {A : Type 0} (a b c d x y z : List A) → b ≡ a ++ x → c ≡ b ++ y → d ≡ c ++ z → d ≡ a ++ (x ++ (y ++ z))
 three_parts a b c d x y z e1 e2 e3 =
     e3 ∙ ap (λ t. t ++ z) (e2 ∙ ap (λ t. t ++ y) e1) ∙ append_assoc (a ++ x) y z ∙ append_assoc a x (y ++ z)
 
--- a delimiter stands before arguments that are there
+-- a delimiter comes before arguments that are there
 pub some_arguments : (arguments : List (List ℕ)) → 0 < length arguments → delimiter ∷ map text arguments ≡ argument_values arguments
 some_arguments [] h = absurd (omega arith)
 some_arguments (a ∷ more) h = refl

@@ -65,7 +65,7 @@ is_on include_tag deepen_relative f =
     else if bytes_eq f.name (codes "deepen-relative") then deepen_relative
     else true
 
--- each text behind a blank
+-- each text after a blank
 abbrev pub spaced : List (List ℕ) → List ℕ
 spaced [] = []
 spaced (text ∷ texts) = 32 ∷ text ++ spaced texts
@@ -82,7 +82,7 @@ first_features a = texts_on a.include_tag a.deepen_relative a.features ++ a.adde
 abbrev pub behind_blank : List (List ℕ) → List ℕ
 behind_blank texts = 32 ∷ join_with_byte 32 texts
 
--- under versions 0 and 1 a blank and the features, joined by blanks, stand behind the first want
+-- under versions 0 and 1 a blank and the features, joined by blanks, come after the first want
 abbrev pub behind_want : ArgumentsValue → List ℕ
 behind_want a = if is_v2 a.version || a.wanted then [] else behind_blank (first_features a)
 

@@ -102,6 +102,6 @@ abbrev pub initial_arguments : TableValue → Command → List FeatureValue → 
 initial_arguments table LsRefs features = table.ls_refs_arguments
 initial_arguments table Fetch features = lines_with features table.fetch_arguments
 
--- `git/` stands before a name that doesn't begin with it
+-- `git/` comes before a name that doesn't begin with it
 abbrev pub agent_of : List ℕ → List ℕ
 agent_of name = if starts_with nat_eq name (codes "git/") then name else codes "git/" ++ name

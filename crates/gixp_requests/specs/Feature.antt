@@ -20,7 +20,7 @@ feature_value f = record { name = f.0.now; value = option_map string_bytes f.1 }
 abbrev pub feature_values : List (Bor (List ℕ) × Option (String Global)) → List FeatureValue
 feature_values = map feature_value
 
--- the name, and behind a sign of equality the value
+-- the name, and after a sign of equality the value
 abbrev pub feature_text : FeatureValue → List ℕ
 feature_text f = feature_line f.name f.value
 

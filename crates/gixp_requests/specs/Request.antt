@@ -31,7 +31,7 @@ exchanged lines (Some i) = swap lines 0 i
 abbrev pub want_first : List (List ℕ) → List (List ℕ)
 want_first lines = exchanged lines (position is_want lines)
 
--- a flush stands behind the lines, if there are any
+-- a flush comes after the lines, if there are any
 abbrev pub flush_behind : List (List ℕ) → List MessageValue
 flush_behind [] = []
 flush_behind (line ∷ lines) = flush ∷ []
@@ -40,7 +40,7 @@ flush_behind (line ∷ lines) = flush ∷ []
 abbrev pub done_value : Bool → MessageValue
 done_value done = if done then text done_line else flush
 
--- the lines, a flush behind any, the haves, and `done` or a flush
+-- the lines, a flush after any, the haves, and `done` or a flush
 abbrev pub upload_values : List (List ℕ) → List (List ℕ) → Bool → List MessageValue
 upload_values lines haves done = map text (want_first lines) ++ (flush_behind lines ++ (map text haves ++ done_value done ∷ []))
 
@@ -58,6 +58,6 @@ request a done = map value_frame (request_values a done)
 abbrev pub request_fits : ArgumentsValue → Bool → Bool
 request_fits a done = list_all value_fits (request_values a done)
 
--- what is left to ask for behind a request: no have, and the lines where they are to be said again
+-- what is left to ask for after a request: no have, and the lines where they are to be said again
 abbrev pub sent_off : Bool → ArgumentsValue → ArgumentsValue
 sent_off persists a = record a { lines = (if is_v2 a.version then a.lines else if persists then [] else a.lines); haves = [] }

@@ -13,7 +13,7 @@ fn is_same_command(one: &Command, other: &Command) -> bool
     one == other
 }
 
-/// `ls-refs` stands before `fetch`.
+/// `ls-refs` comes before `fetch`.
 fn order_of_commands(first: &Command, second: &Command) -> Ordering
     ensures { result ≡ nat_cmp (command_place first.now) (command_place second.now) }
 {

@@ -5,7 +5,7 @@ ghost use Rattle.gixp_requests.specs.Command.{agent_of};
 
 use std::alloc::{AllocError, Global};
 
-/// The name of a client as servers know it: `git/` stands before a name that doesn't begin with it
+/// The name of a client as servers know it: `git/` comes before a name that doesn't begin with it
 /// (gitprotocol-capabilities, "agent").
 ///
 /// # Errors

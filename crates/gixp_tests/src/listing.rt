@@ -11,7 +11,7 @@ mod answers;
 mod reads;
 mod recorded;
 
-// What was written, and the name of a refusal behind it.
+// What was written, and the name of a refusal after it.
 fn listed(alloc: Global, mut from: Device<'_>, mut to: Paper) -> Result<Vec<u8>, Fail> {
     match list_refs(alloc, &mut from, &mut to) {
         Ok(()) => {}

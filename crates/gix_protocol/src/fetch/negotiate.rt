@@ -2,9 +2,10 @@
 pub use gixp_fetch::again::NamesCommons;
 pub use gixp_fetch::mapped::NegotiatesMap;
 pub use gixp_graph::{
-    CommitData, Flags, Graph, Negotiator, NegotiatorError, ObjectError, ObjectKind, Objects,
-    RefStore, RefStoreError,
+    CommitData, Find, Flags, Graph, Negotiator, NegotiatorError, ObjectError, ObjectKind, Objects,
+    RefStore, RefStoreError, Shared,
 };
+pub use gixp_memory::{NoAlternates, StoredObjects, StoredRefs, TextError};
 pub use gixp_negotiate::negotiate::ignore::{IgnoreMapping, make_refmapping_ignore_predicate};
 pub use gixp_negotiate::negotiate::mark::mark_complete_and_common_ref;
 pub use gixp_negotiate::negotiate::negotiation::{NegotiateContext, Negotiation, PaysForHaves};

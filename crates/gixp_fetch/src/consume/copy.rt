@@ -1,34 +1,53 @@
 //! Consumers that are at hand.
-ghost use Rattle.gixp_fetch.specs.Consume.{Copies, copies_owes, PassesOver, passes_over_owes};
+ghost use Rattle.std.specs.Prelude.{◌≡◌, None, IfSome};
+ghost use Rattle.gixp_packetline.specs.Reading.{refusal_of};
+ghost use Rattle.gixp_sidebands.specs.Sidebands.{side};
+ghost use Rattle.gixp_fetch.specs.Consume.{Copies, CopiesPack, copies_owes, PassesOver, passes_over_owes};
 
 use crate::consume::ConsumePack;
 use crate::remote_text::WithSidebands;
 use bstr::BStr;
-use gixp_packetline::{ExtendedBufRead, ServerMessage};
+use gixp_packetline::{ExtendedBufRead, ServerMessage, read};
 use gixp_sidebands::Interrupt;
 use gixp_wire::Progress;
-use std::io::{BufRead, ErrorKind, Write};
+use std::io::{self, BufRead, ErrorKind, Write};
 use thiserror::Error as DeriveError;
 
 /// Why a pack wasn't copied.
 #[derive(Debug, Drop, DeriveError)]
 pub enum CopyError {
-    /// The reader of bands refused, with this kind.
+    /// Reading from the sideband failed. `server_message` has the server's words, where it is those.
     #[error("Read")]
-    Read(ErrorKind),
+    Read(read::Error),
     /// The writer failed with this kind. Nothing is said of what it wrote.
     #[error("Write")]
     Write(ErrorKind),
 }
 
-/// It keeps a kind alone, and so no message.
 impl ServerMessage for CopyError {
-    ghost use Rattle.std.specs.Prelude.{None};
+    ghost use Rattle.gixp_fetch.specs.FetchMessage.{copy_message};
 
-    ghost message = { λ _. None };
+    ghost message = { copy_message };
 
     fn server_message(&self) -> Option<BStr<'_>> {
-        None
+        match self {
+            CopyError::Read(e) => e.server_message(),
+            CopyError::Write(_) => None,
+        }
+    }
+}
+
+/// Takes the error of a read that failed out of the reader.
+fn read_error<T: ExtendedBufRead, Q: Progress + Drop, I: Interrupt>(
+    reader: &mut WithSidebands<'_, T, Q, I>,
+    shown: &io::Error,
+) -> read::Error
+    ensures taken { IfSome (side T.reading reader.old).fault (λ refusal. refusal_of result ≡ refusal) }
+    ensures side { side T.reading reader.new ≡ record (side T.reading reader.old) { fault = None } }
+{
+    match reader.take_fault() {
+        Some(e) => e,
+        None => read::Error::Io(shown.kind()),
     }
 }
 
@@ -40,21 +59,24 @@ pub struct CopyPack<W> {
     pub writer: W,
 }
 
-impl<W: Write, P> ConsumePack<P> for CopyPack<W> {
-    type Error = CopyError;
-
-    ghost consumes = { λ c s p r d t q. Copies (W.contents c.writer) s r (W.contents d.writer) t };
-
-    fn consume_pack<T: ExtendedBufRead, Q: Progress + Drop, I: Interrupt>(
+impl<W: Write> CopyPack<W> {
+    /// Copies the pack, up to its stop (gitprotocol-pack, "Packfile Data").
+    ///
+    /// # Errors
+    ///
+    /// A read or a write failed. The writer has what was read before, of the piece at a failed write it
+    /// may have some.
+    pub fn copy<T: ExtendedBufRead, Q: Progress + Drop, I: Interrupt>(
         &mut self,
         reader: &mut WithSidebands<'_, T, Q, I>,
-        _progress: &mut P,
-    ) -> Result<bool, CopyError> {
+    ) -> Result<(), CopyError>
+        ensures { Copies (W.contents self.old.writer) (side T.reading reader.old) result (W.contents self.new.writer) (side T.reading reader.new) }
+    {
         'pieces: loop {
             match reader.fill() {
                 Ok(true) => {}
-                Ok(false) => return Ok(true),
-                Err(e) => return Err(CopyError::Read(e.kind())),
+                Ok(false) => return Ok(()),
+                Err(e) => return Err(CopyError::Read(read_error(reader, &e))),
             }
             let piece = reader.buffer();
             let count = piece.len();
@@ -64,6 +86,21 @@ impl<W: Write, P> ConsumePack<P> for CopyPack<W> {
             }
             reader.consume(count);
         }
+    }
+}
+
+impl<W: Write, P> ConsumePack<P> for CopyPack<W> {
+    type Error = CopyError;
+
+    ghost consumes = { λ c s p r d t q. CopiesPack (W.contents c.writer) s r (W.contents d.writer) t };
+
+    fn consume_pack<T: ExtendedBufRead, Q: Progress + Drop, I: Interrupt>(
+        &mut self,
+        reader: &mut WithSidebands<'_, T, Q, I>,
+        _progress: &mut P,
+    ) -> Result<bool, CopyError> {
+        self.copy(reader)?;
+        Ok(true)
     }
 
     ghost owes = { λ c s p r d t q h. copies_owes (W.contents c.writer) (W.contents d.writer) s t r h };
@@ -87,7 +124,7 @@ impl<P> ConsumePack<P> for ReadToEnd {
             match reader.fill() {
                 Ok(true) => {}
                 Ok(false) => return Ok(true),
-                Err(e) => return Err(CopyError::Read(e.kind())),
+                Err(e) => return Err(CopyError::Read(read_error(reader, &e))),
             }
             let count = reader.buffer().len();
             reader.consume(count);

@@ -16,7 +16,7 @@ use std::rt::Files;
 ///
 /// The lock is a file beside it, of its name and `.lock`, which is made only where there is none. The
 /// new boundary is written into the lock file, which then takes the place of the file; where no id is
-/// left the file is removed. So another program sees the boundary before a write or the one behind it,
+/// left the file is removed. So another program sees the boundary before a write or the one after it,
 /// if the system renames files whole.
 ///
 /// What a file holds no contract can say: neither that it has the text that was written, nor that the
@@ -220,17 +220,14 @@ impl<'a, F: Files> ShallowStore for ShallowFile<'a, F> {
     ghost use Rattle.gixp_hash.specs.ObjectId.{id_cmp};
     ghost use Rattle.gixp_fetch.specs.ShallowFile.{IsKept, HoldsLock, RefusesInFile, is_left_of};
 
-    ghost failures = { λ call s e t. RefusesInFile call s e t };
-
-    ghost count = { λ s. s.failures };
-
-    ghost locks = { λ s t. HoldsLock true s t };
-
-    ghost reads = { λ s ids t. IsStrictlySortedBy id_cmp ids × HoldsLock s.held s t };
-
-    ghost writes = { λ s ids t. HoldsLock (is_left_of s.held ids) s t };
-
-    ghost releases = { λ s t. HoldsLock false s t };
+    ghost calls = { record {
+      failures = λ call s e t. RefusesInFile call s e t;
+      count = λ s. s.failures;
+      locks = λ s t. HoldsLock true s t;
+      reads = λ s ids t. IsStrictlySortedBy id_cmp ids × HoldsLock s.held s t;
+      writes = λ s ids t. HoldsLock (is_left_of s.held ids) s t;
+      releases = λ s t. HoldsLock false s t;
+    } };
 
     fn lock(&mut self) -> Result<(), ShallowError> {
         self.take_lock()

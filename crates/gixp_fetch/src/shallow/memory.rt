@@ -53,17 +53,14 @@ impl ShallowMemory {
 }
 
 impl ShallowStore for ShallowMemory {
-    ghost failures = { λ call s e t. RefusesInMemory call s e t };
-
-    ghost count = { λ s. s.failures };
-
-    ghost locks = { λ s t. (s.locked ≡ false) × (t.locked ≡ true) × (t.ids.items ≡ s.ids.items) };
-
-    ghost reads = { λ s ids t. (ids ≡ s.ids.items) × (t ≡ s) };
-
-    ghost writes = { λ s ids t. (t.ids.items ≡ ids) × (t.locked ≡ s.locked) };
-
-    ghost releases = { λ s t. (t.locked ≡ false) × (t.ids.items ≡ s.ids.items) };
+    ghost calls = { record {
+      failures = λ call s e t. RefusesInMemory call s e t;
+      count = λ s. s.failures;
+      locks = λ s t. (s.locked ≡ false) × (t.locked ≡ true) × (t.ids.items ≡ s.ids.items);
+      reads = λ s ids t. (ids ≡ s.ids.items) × (t ≡ s);
+      writes = λ s ids t. (t.ids.items ≡ ids) × (t.locked ≡ s.locked);
+      releases = λ s t. (t.locked ≡ false) × (t.ids.items ≡ s.ids.items);
+    } };
 
     fn lock(&mut self) -> Result<(), ShallowError> {
         if self.locked {

@@ -5,12 +5,12 @@ ghost use Rattle.gixp_fetch.specs.Receive.{ReadsOn};
 
 use gixp_fetch::WithSidebands;
 use gixp_fetch::consume::{ConsumePack, CopyError};
-use gixp_packetline::ExtendedBufRead;
+use gixp_packetline::{ExtendedBufRead, read};
 use gixp_sidebands::Interrupt;
 use gixp_wire::Progress;
 use std::io::{ErrorKind, Read};
 
-/// What a consumer says behind its byte.
+/// What a consumer says after its byte.
 #[derive(Clone, Copy)]
 pub(crate) enum Says {
     ReadOn,
@@ -38,7 +38,7 @@ impl<P> ConsumePack<P> for Taste {
     ) -> Result<bool, CopyError> {
         match reader.read(&mut self.byte) {
             Ok(_) => {}
-            Err(e) => return Err(CopyError::Read(e.kind())),
+            Err(e) => return Err(CopyError::Read(read::Error::Io(e.kind()))),
         }
         match self.says {
             Says::ReadOn => Ok(true),

@@ -38,7 +38,7 @@ fn texts_of_layers(alloc: Global) -> Result<String, AllocError> {
         description: "no depth",
     };
     push_text(alloc, &mut text, error)?;
-    let error = CopyError::Read(ErrorKind::Other);
+    let error = CopyError::Read(read::Error::Io(ErrorKind::Other));
     push_text(alloc, &mut text, FetchError::ConsumePack(error))?;
     let error = read::Error::NotUtf8;
     push_text(alloc, &mut text, FetchError::ReadRemainingBytes(error))?;
@@ -88,7 +88,11 @@ fn texts_below(alloc: Global) -> Result<String, AllocError> {
     let line = BString::from(Vec::new(alloc));
     push_text(alloc, &mut text, ShallowError::Decode { line })?;
     push_text(alloc, &mut text, ShallowError::Memory)?;
-    push_text(alloc, &mut text, CopyError::Read(ErrorKind::Other))?;
+    push_text(
+        alloc,
+        &mut text,
+        CopyError::Read(read::Error::Io(ErrorKind::Other)),
+    )?;
     push_text(alloc, &mut text, CopyError::Write(ErrorKind::Other))?;
     Ok(text)
 }
@@ -124,7 +128,7 @@ fn says_which_may_pass(rt: HostRuntime) {
         [true, true, false, true, false]
     );
     assert_eq!(rt; which_may_pass(ErrorKind::Other), [false; 5]);
-    let error = CopyError::Read(ErrorKind::TimedOut);
+    let error = CopyError::Read(read::Error::Io(ErrorKind::TimedOut));
     assert!(rt; !may_pass(FetchError::ConsumePack(error)));
 }
 

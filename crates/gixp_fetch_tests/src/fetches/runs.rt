@@ -47,7 +47,7 @@ fn agent(alloc: Global) -> Result<Feature, AllocError> {
     Ok(("agent", Some(version)))
 }
 
-/// These answers one behind another.
+/// These answers one after another.
 pub(crate) fn joined(alloc: Global, answers: &[&[u8]]) -> Result<Vec<u8>, AllocError> {
     let mut stream = Vec::new(alloc);
     for answer in answers {
@@ -168,7 +168,7 @@ fn rounds(alloc: Global, outcome: &Outcome) -> Result<String, AllocError> {
     format!(in alloc; "{} rounds", copy.negotiate.rounds.len())
 }
 
-// A whole fetch behind a handshake, as a text.
+// A whole fetch after a handshake, as a text.
 fn run_shaken<
     T: Transport,
     P: NestedProgress,

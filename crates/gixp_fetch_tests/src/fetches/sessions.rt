@@ -22,7 +22,7 @@ fn depth() -> Shallow {
     Shallow::DepthAtRemote(NonZeroU32::MIN)
 }
 
-// What became of a fetch of depth 1, with the boundary behind it.
+// What became of a fetch of depth 1, with the boundary after it.
 fn fetch_by<T: Transport, C: ConsumePack<Discard, Error = CopyError>>(
     alloc: Global,
     transport: &mut T,
@@ -239,7 +239,7 @@ fn fetch_into(alloc: Global, store: &mut ShallowMemory) -> Result<(String, usize
     Ok((text, transport.sent().len()))
 }
 
-// The same where the store is locked, and whether it is locked behind that.
+// The same where the store is locked, and whether it is locked after that.
 fn fetch_into_locked(alloc: Global) -> Result<(String, usize, bool), Fail> {
     let mut store = ShallowMemory::new(Vec::new(alloc));
     store.lock()?;

@@ -65,7 +65,7 @@ fn keeps_a_boundary_in_a_file(rt: HostRuntime) -> Result<(), Fail> {
     Ok(())
 }
 
-// What became of such a fetch, and whether there is a lock behind it.
+// What became of such a fetch, and whether there is a lock after it.
 fn fetch_and_look(rt: &HostRuntime, path: &str, lock: &str) -> Result<String, AllocError> {
     let text = fetch_into(rt, path, GOES)?;
     let is_locked = fs::read(rt, lock).is_ok();

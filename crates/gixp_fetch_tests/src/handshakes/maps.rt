@@ -169,7 +169,7 @@ fn new_names(alloc: Global, count: u8, first: u8) -> Result<Vec<BString>, AllocE
     Ok(names)
 }
 
-// The prefixes that there is room for behind the first, but for two.
+// The prefixes that there is room for after the first, but for two.
 const FULL: u8 = 7;
 
 // How many of three new prefixes an extension keeps that finds room for two, and whether an allocation failed in it.

@@ -1,4 +1,4 @@
-//! What a call finds behind one that was refused.
+//! What a call finds after one that was refused.
 use crate::negotiations::repository::{chain, had_memory, id, ref_map};
 use gixp_doubles::Recorder;
 use gixp_graph::{Flags, Graph, NegotiatorError, ObjectError, Objects, RefStoreError};

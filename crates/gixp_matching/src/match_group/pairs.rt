@@ -5,8 +5,7 @@ ghost use Rattle.std.specs.List.{flat_map};
 ghost use Rattle.gixp_refspec.specs.RefSpec.{value_of};
 ghost use Rattle.gixp_matching.specs.Mappings.{id_mapping, pair, pairs_of, id_mappings, pairs};
 ghost use Rattle.gixp_matching.specs.MatchGroup.{mapped_of, mapped_in, values, names};
-ghost use Rattle.gixp_refspec.specs.Needle.{IsNeedle};
-ghost use Rattle.gixp_matching.specs.Rows.{shown, ref_at, IsPrepared, IsRowTable};
+ghost use Rattle.gixp_matching.specs.Rows.{shown, ref_at, numbered_value, IsLookedAt, IsPrepared, IsRowTable};
 
 use crate::match_group::local::local_of;
 use crate::match_group::negatives::{Prepared, is_excluded};
@@ -78,155 +77,25 @@ pub(crate) fn push_ids(
     Ok(())
 }
 
-/// The mapping of a refspec and a ref, where the one matches the other.
-#[tactic(auto, unfolding(crate::specs::Mappings::pair))]
-fn pair(
-    alloc: Global,
-    prepared: &Prepared<'_>,
+/// A refspec at its place in a group.
+#[derive(Clone, Copy)]
+struct Numbered<'m, 's> {
     index: usize,
-    spec: &RefSpecRef<'_>,
-    needle: &Needle<'_>,
-    item_index: usize,
-    name: &[u8],
-) -> Result<Option<Mapping>, AllocError>
-    requires needle { IsNeedle spec.now.source.now needle.now }
-    requires prepared { IsPrepared prepared.now }
-    ensures { IfOk result (λ found. option_to_list (option_map mapped_of found) ≡ pair (values prepared.now.specs.now) (index, value_of spec.now) (item_index, name.now)) }
-{
-    if is_negative(spec.sign) {
-        return Ok(None);
-    }
-    let Some(middle) = needle.middle(name) else {
-        return Ok(None);
-    };
-    if is_excluded(prepared, name) {
-        return Ok(None);
-    }
-    let rhs = local_of(alloc, middle, spec.destination)?;
-    let lhs = BString::from_slice(alloc, name)?;
-    Ok(Some(Mapping {
-        item_index: Some(item_index),
-        lhs: SourceRef::FullName(lhs),
-        rhs,
-        spec_index: index,
-    }))
+    spec: &'m RefSpecRef<'s>,
+    needle: Needle<'s>,
 }
 
-/// Appends the mappings of a refspec, which is compared with each ref.
-fn push_pairs_of(
-    alloc: Global,
-    prepared: &Prepared<'_>,
-    index: usize,
-    spec: &RefSpecRef<'_>,
-    items: &[Item<'_>],
-    out: &mut Vec<Mapping>,
-) -> Result<(), AllocError>
-    requires { IsPrepared prepared.now }
-    ensures { OnOk result (mapped_in out.new ≡ mapped_in out.old ++ pairs_of (values prepared.now.specs.now) (names items.now) (index, value_of spec.now)) }
-{
-    let needle = Needle::new(spec.source);
-    'items: for (item_index, item) in items.iter().enumerate() {
-        let name = item.full_ref_name.as_bytes();
-        let found = pair(alloc, prepared, index, spec, &needle, item_index, name)?;
-        push_found(out, found)?;
-    }
-    Ok(())
-}
-
-/// Appends the mappings of a refspec and some refs.
-fn push_rows(
-    alloc: Global,
-    prepared: &Prepared<'_>,
-    index: usize,
-    spec: &RefSpecRef<'_>,
-    rows: &[Row<'_>],
-    out: &mut Vec<Mapping>,
-) -> Result<(), AllocError>
-    requires { IsPrepared prepared.now }
-    ensures { OnOk result (mapped_in out.new ≡ mapped_in out.old ++ flat_map (pair (values prepared.now.specs.now) (index, value_of spec.now)) (map shown rows.now)) }
-{
-    let needle = Needle::new(spec.source);
-    'rows: for row in rows {
-        let found = pair(alloc, prepared, index, spec, &needle, row.place, row.name)?;
-        push_found(out, found)?;
-    }
-    Ok(())
-}
-
-/// Appends the mapping of a refspec and the ref at a place.
-fn push_at(
-    alloc: Global,
-    prepared: &Prepared<'_>,
-    index: usize,
-    spec: &RefSpecRef<'_>,
-    needle: &Needle<'_>,
-    items: &[Item<'_>],
-    place: usize,
-    out: &mut Vec<Mapping>,
-) -> Result<(), AllocError>
-    requires needle { IsNeedle spec.now.source.now needle.now }
-    requires prepared { IsPrepared prepared.now }
-    ensures { OnOk result (mapped_in out.new ≡ mapped_in out.old ++ flat_map (pair (values prepared.now.specs.now) (index, value_of spec.now)) (ref_at (names items.now) place)) }
-{
-    match items.get(place) {
-        None => Ok(()),
-        Some(item) => {
-            let name = item.full_ref_name.as_bytes();
-            let found = pair(alloc, prepared, index, spec, needle, place, name)?;
-            push_found(out, found)
+impl<'m, 's> Numbered<'m, 's> {
+    /// The refspec, whose source is looked at.
+    fn new(index: usize, spec: &'m RefSpecRef<'s>) -> Numbered<'m, 's>
+        ensures value { numbered_value result ≡ (index, value_of spec.now) }
+        ensures needle { IsLookedAt result }
+    {
+        Numbered {
+            index,
+            spec,
+            needle: Needle::new(spec.source),
         }
-    }
-}
-
-/// Appends the mappings of a refspec and the refs at some places.
-fn push_places(
-    alloc: Global,
-    prepared: &Prepared<'_>,
-    index: usize,
-    spec: &RefSpecRef<'_>,
-    items: &[Item<'_>],
-    places: &[usize],
-    out: &mut Vec<Mapping>,
-) -> Result<(), AllocError>
-    requires { IsPrepared prepared.now }
-    ensures { OnOk result (mapped_in out.new ≡ mapped_in out.old ++ flat_map (λ place. flat_map (pair (values prepared.now.specs.now) (index, value_of spec.now)) (ref_at (names items.now) place)) places.now) }
-{
-    let needle = Needle::new(spec.source);
-    'places: for place in places {
-        push_at(alloc, prepared, index, spec, &needle, items, *place, out)?;
-    }
-    Ok(())
-}
-
-/// Appends the mappings of a refspec. The refs of an exact name, and those that a short name stands for, are looked
-/// up; only a pattern is compared with each ref.
-fn push_looked_up(
-    alloc: Global,
-    prepared: &Prepared<'_>,
-    table: &[Row<'_>],
-    index: usize,
-    spec: &RefSpecRef<'_>,
-    items: &[Item<'_>],
-    out: &mut Vec<Mapping>,
-) -> Result<(), AllocError>
-    requires prepared { IsPrepared prepared.now }
-    requires table { IsRowTable (names items.now) table.now }
-    ensures { OnOk result (mapped_in out.new ≡ mapped_in out.old ++ pairs_of (values prepared.now.specs.now) (names items.now) (index, value_of spec.now)) }
-{
-    if is_negative(spec.sign) {
-        return Ok(());
-    }
-    match Needle::new(spec.source) {
-        Needle::Id => Ok(()),
-        Needle::Exact(name) => {
-            let run = rows_named(table, name);
-            push_rows(alloc, prepared, index, spec, run, out)
-        }
-        Needle::Short(name) => {
-            let places = places_meant(alloc, table, name)?;
-            push_places(alloc, prepared, index, spec, items, &places, out)
-        }
-        Needle::Pattern { .. } => push_pairs_of(alloc, prepared, index, spec, items, out),
     }
 }
 
@@ -237,70 +106,197 @@ fn are_compared(specs: &[RefSpecRef<'_>]) -> bool {
         .all(|spec| is_negative(spec.sign) || stars(spec.source) > 0)
 }
 
-/// Appends the mappings of a refspec, which is compared with each ref unless it is negative.
-fn push_compared(
-    alloc: Global,
-    prepared: &Prepared<'_>,
-    index: usize,
-    spec: &RefSpecRef<'_>,
-    items: &[Item<'_>],
-    out: &mut Vec<Mapping>,
-) -> Result<(), AllocError>
-    requires { IsPrepared prepared.now }
-    ensures { OnOk result (mapped_in out.new ≡ mapped_in out.old ++ pairs_of (values prepared.now.specs.now) (names items.now) (index, value_of spec.now)) }
-{
-    if is_negative(spec.sign) {
-        return Ok(());
-    }
-    push_pairs_of(alloc, prepared, index, spec, items, out)
+/// A group of refspecs, and the refs that it is matched with.
+#[derive(Clone, Copy)]
+pub(crate) struct Matching<'m, 's, 'a> {
+    pub(crate) alloc: Global,
+    pub(crate) prepared: &'m Prepared<'s>,
+    pub(crate) items: &'m [Item<'a>],
 }
 
-/// Appends the mappings of each refspec and each ref, with no table of the refs.
-fn push_all_compared(
-    alloc: Global,
-    prepared: &Prepared<'_>,
-    items: &[Item<'_>],
-    out: &mut Vec<Mapping>,
-) -> Result<(), AllocError>
-    requires { IsPrepared prepared.now }
-    ensures { OnOk result (mapped_in out.new ≡ mapped_in out.old ++ pairs (values prepared.now.specs.now) (names items.now)) }
-{
-    'specs: for (index, spec) in prepared.specs.iter().enumerate() {
-        push_compared(alloc, prepared, index, spec, items, out)?;
+impl Matching<'_, '_, '_> {
+    /// The mapping of a refspec and a ref, where the one matches the other.
+    #[tactic(auto, unfolding(crate::specs::Mappings::pair))]
+    fn pair(
+        &self,
+        numbered: &Numbered<'_, '_>,
+        row: &Row<'_>,
+    ) -> Result<Option<Mapping>, AllocError>
+        requires needle { IsLookedAt numbered.now }
+        requires prepared { IsPrepared self.now.prepared.now }
+        ensures { IfOk result (λ found. option_to_list (option_map mapped_of found) ≡ pair (values self.now.prepared.now.specs.now) (numbered_value numbered.now) (shown row.now)) }
+    {
+        let spec = numbered.spec;
+        if is_negative(spec.sign) {
+            return Ok(None);
+        }
+        let Some(middle) = numbered.needle.middle(row.name) else {
+            return Ok(None);
+        };
+        if is_excluded(self.prepared, row.name) {
+            return Ok(None);
+        }
+        let rhs = local_of(self.alloc, middle, spec.destination)?;
+        let lhs = BString::from_slice(self.alloc, row.name)?;
+        Ok(Some(Mapping {
+            item_index: Some(row.place),
+            lhs: SourceRef::FullName(lhs),
+            rhs,
+            spec_index: numbered.index,
+        }))
     }
-    Ok(())
-}
 
-/// Appends the mappings of each refspec and each ref, with a table of the refs.
-fn push_all_looked_up(
-    alloc: Global,
-    prepared: &Prepared<'_>,
-    items: &[Item<'_>],
-    out: &mut Vec<Mapping>,
-) -> Result<(), AllocError>
-    requires { IsPrepared prepared.now }
-    ensures { OnOk result (mapped_in out.new ≡ mapped_in out.old ++ pairs (values prepared.now.specs.now) (names items.now)) }
-{
-    let table = table_of(alloc, items)?;
-    'specs: for (index, spec) in prepared.specs.iter().enumerate() {
-        push_looked_up(alloc, prepared, &table, index, spec, items, out)?;
+    /// Appends the mapping of a refspec and a ref, where the one matches the other.
+    fn push_pair(
+        &self,
+        numbered: &Numbered<'_, '_>,
+        row: &Row<'_>,
+        out: &mut Vec<Mapping>,
+    ) -> Result<(), AllocError>
+        requires needle { IsLookedAt numbered.now }
+        requires prepared { IsPrepared self.now.prepared.now }
+        ensures { OnOk result (mapped_in out.new ≡ mapped_in out.old ++ pair (values self.now.prepared.now.specs.now) (numbered_value numbered.now) (shown row.now)) }
+    {
+        let found = self.pair(numbered, row)?;
+        push_found(out, found)
     }
-    Ok(())
-}
 
-/// Appends the mappings of each refspec and each ref. A table of the refs is made only where some name is looked up.
-pub(crate) fn push_pairs(
-    alloc: Global,
-    prepared: &Prepared<'_>,
-    items: &[Item<'_>],
-    out: &mut Vec<Mapping>,
-) -> Result<(), AllocError>
-    requires { IsPrepared prepared.now }
-    ensures { OnOk result (mapped_in out.new ≡ mapped_in out.old ++ pairs (values prepared.now.specs.now) (names items.now)) }
-{
-    if are_compared(prepared.specs) {
-        push_all_compared(alloc, prepared, items, out)
-    } else {
-        push_all_looked_up(alloc, prepared, items, out)
+    /// Appends the mappings of a refspec, which is compared with each ref unless it is negative.
+    fn push_compared(
+        &self,
+        numbered: &Numbered<'_, '_>,
+        out: &mut Vec<Mapping>,
+    ) -> Result<(), AllocError>
+        requires needle { IsLookedAt numbered.now }
+        requires prepared { IsPrepared self.now.prepared.now }
+        ensures { OnOk result (mapped_in out.new ≡ mapped_in out.old ++ pairs_of (values self.now.prepared.now.specs.now) (names self.now.items.now) (numbered_value numbered.now)) }
+    {
+        if is_negative(numbered.spec.sign) {
+            return Ok(());
+        }
+        'items: for (place, item) in self.items.iter().enumerate() {
+            let name = item.full_ref_name.as_bytes();
+            self.push_pair(numbered, &Row { name, place }, out)?;
+        }
+        Ok(())
+    }
+
+    /// Appends the mappings of a refspec and some refs.
+    fn push_rows(
+        &self,
+        numbered: &Numbered<'_, '_>,
+        rows: &[Row<'_>],
+        out: &mut Vec<Mapping>,
+    ) -> Result<(), AllocError>
+        requires needle { IsLookedAt numbered.now }
+        requires prepared { IsPrepared self.now.prepared.now }
+        ensures { OnOk result (mapped_in out.new ≡ mapped_in out.old ++ flat_map (pair (values self.now.prepared.now.specs.now) (numbered_value numbered.now)) (map shown rows.now)) }
+    {
+        'rows: for row in rows {
+            self.push_pair(numbered, row, out)?;
+        }
+        Ok(())
+    }
+
+    /// Appends the mapping of a refspec and the ref at a place.
+    fn push_at(
+        &self,
+        numbered: &Numbered<'_, '_>,
+        place: usize,
+        out: &mut Vec<Mapping>,
+    ) -> Result<(), AllocError>
+        requires needle { IsLookedAt numbered.now }
+        requires prepared { IsPrepared self.now.prepared.now }
+        ensures { OnOk result (mapped_in out.new ≡ mapped_in out.old ++ flat_map (pair (values self.now.prepared.now.specs.now) (numbered_value numbered.now)) (ref_at (names self.now.items.now) place)) }
+    {
+        match self.items.get(place) {
+            None => Ok(()),
+            Some(item) => {
+                let name = item.full_ref_name.as_bytes();
+                self.push_pair(numbered, &Row { name, place }, out)
+            }
+        }
+    }
+
+    /// Appends the mappings of a refspec and the refs at some places.
+    fn push_places(
+        &self,
+        numbered: &Numbered<'_, '_>,
+        places: &[usize],
+        out: &mut Vec<Mapping>,
+    ) -> Result<(), AllocError>
+        requires needle { IsLookedAt numbered.now }
+        requires prepared { IsPrepared self.now.prepared.now }
+        ensures { OnOk result (mapped_in out.new ≡ mapped_in out.old ++ flat_map (λ place. flat_map (pair (values self.now.prepared.now.specs.now) (numbered_value numbered.now)) (ref_at (names self.now.items.now) place)) places.now) }
+    {
+        'places: for place in places {
+            self.push_at(numbered, *place, out)?;
+        }
+        Ok(())
+    }
+
+    /// Appends the mappings of a refspec. The refs of an exact name, and those that a short name stands for, are looked
+    /// up; only a pattern is compared with each ref.
+    fn push_looked_up(
+        &self,
+        numbered: &Numbered<'_, '_>,
+        table: &[Row<'_>],
+        out: &mut Vec<Mapping>,
+    ) -> Result<(), AllocError>
+        requires needle { IsLookedAt numbered.now }
+        requires prepared { IsPrepared self.now.prepared.now }
+        requires table { IsRowTable (names self.now.items.now) table.now }
+        ensures { OnOk result (mapped_in out.new ≡ mapped_in out.old ++ pairs_of (values self.now.prepared.now.specs.now) (names self.now.items.now) (numbered_value numbered.now)) }
+    {
+        if is_negative(numbered.spec.sign) {
+            return Ok(());
+        }
+        match numbered.needle {
+            Needle::Id => Ok(()),
+            Needle::Exact(name) => {
+                let run = rows_named(table, name);
+                self.push_rows(numbered, run, out)
+            }
+            Needle::Short(name) => {
+                let places = places_meant(self.alloc, table, name)?;
+                self.push_places(numbered, &places, out)
+            }
+            Needle::Pattern { .. } => self.push_compared(numbered, out),
+        }
+    }
+
+    /// Appends the mappings of each refspec and each ref, with no table of the refs.
+    fn push_all_compared(&self, out: &mut Vec<Mapping>) -> Result<(), AllocError>
+        requires { IsPrepared self.now.prepared.now }
+        ensures { OnOk result (mapped_in out.new ≡ mapped_in out.old ++ pairs (values self.now.prepared.now.specs.now) (names self.now.items.now)) }
+    {
+        'specs: for (index, spec) in self.prepared.specs.iter().enumerate() {
+            self.push_compared(&Numbered::new(index, spec), out)?;
+        }
+        Ok(())
+    }
+
+    /// Appends the mappings of each refspec and each ref, with a table of the refs.
+    fn push_all_looked_up(&self, out: &mut Vec<Mapping>) -> Result<(), AllocError>
+        requires { IsPrepared self.now.prepared.now }
+        ensures { OnOk result (mapped_in out.new ≡ mapped_in out.old ++ pairs (values self.now.prepared.now.specs.now) (names self.now.items.now)) }
+    {
+        let table = table_of(self.alloc, self.items)?;
+        'specs: for (index, spec) in self.prepared.specs.iter().enumerate() {
+            self.push_looked_up(&Numbered::new(index, spec), &table, out)?;
+        }
+        Ok(())
+    }
+
+    /// Appends the mappings of each refspec and each ref. A table of the refs is made only where some name is looked up.
+    pub(crate) fn push_pairs(&self, out: &mut Vec<Mapping>) -> Result<(), AllocError>
+        requires { IsPrepared self.now.prepared.now }
+        ensures { OnOk result (mapped_in out.new ≡ mapped_in out.old ++ pairs (values self.now.prepared.now.specs.now) (names self.now.items.now)) }
+    {
+        if are_compared(self.prepared.specs) {
+            self.push_all_compared(out)
+        } else {
+            self.push_all_looked_up(out)
+        }
     }
 }

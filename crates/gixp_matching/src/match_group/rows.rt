@@ -61,14 +61,14 @@ pub(crate) fn table_of<'a>(alloc: Global, items: &[Item<'a>]) -> Result<Vec<Row<
     Ok(rows)
 }
 
-/// Whether the ref stands before the name.
+/// Whether the ref comes before the name.
 fn is_before(row: &Row<'_>, name: &[u8]) -> bool
     ensures { result ≡ is_below row.now.name.now name.now }
 {
     row.name.cmp(name).is_lt()
 }
 
-/// Whether the ref stands before the name or has it.
+/// Whether the ref comes before the name or has it.
 fn is_until(row: &Row<'_>, name: &[u8]) -> bool
     ensures { result ≡ not (is_below name.now row.now.name.now) }
 {

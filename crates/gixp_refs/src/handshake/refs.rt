@@ -22,7 +22,7 @@ pub use symrefs::from_capabilities;
 ///
 /// That of the line that came next, which is then taken, or that of the reader, with what
 /// [`parse::Error`] says of it. Behind a line that was refused, or whose allocation failed, the
-/// next call goes on with the line behind it.
+/// next call goes on with the line after it.
 #[inline(always)]
 pub fn next_v2_ref<R: ExtendedBufRead>(
     alloc: Global,
@@ -51,7 +51,7 @@ pub fn next_v2_ref<R: ExtendedBufRead>(
 ///
 /// # Errors
 ///
-/// The first refusal, of a line or of the reader behind the lines, with what [`parse::Error`] says
+/// The first refusal, of a line or of the reader after the lines, with what [`parse::Error`] says
 /// of it. Beside one no ref is given.
 pub fn from_v2_refs<R: ExtendedBufRead>(
     alloc: Global,

@@ -122,7 +122,7 @@ impl Arguments {
 
     /// Asks for an object, by the line `want <id>`.
     ///
-    /// Under versions 0 and 1 the first such line also has the features, behind a blank each:
+    /// Under versions 0 and 1 the first such line also has the features, after a blank each:
     /// those that were handed in, but `include-tag` and `deepen-relative` only where they were
     /// turned on, and those that were added.
     ///
@@ -215,7 +215,7 @@ impl Arguments {
     /// Lets the depth count from the boundary that is there already.
     ///
     /// Under version 2 this is the line `deepen-relative`, once for each call; under versions 0 and
-    /// 1 a feature of the first want, behind which it has no effect.
+    /// 1 a feature of the first want, after which it has no effect.
     ///
     /// # Errors
     ///
@@ -246,7 +246,7 @@ impl Arguments {
     /// Lets the server send tags that lead to what it sends.
     ///
     /// Under version 2 this is the line `include-tag`, once for each call; under versions 0 and 1 a
-    /// feature of the first want, behind which it has no effect.
+    /// feature of the first want, after which it has no effect.
     ///
     /// # Errors
     ///

@@ -14,7 +14,7 @@ const A: &[u8] = b"0123456789012345678901234567890123456789";
 
 const B: &[u8] = b"bbbbbbbbbbbbbbbbbbbbbbbbbbbbbbbbbbbbbbbb";
 
-// What is sent for a want of B and a have of A, behind `done`.
+// What is sent for a want of B and a have of A, after `done`.
 const REQUEST: &[u8] = b"0033want bbbbbbbbbbbbbbbbbbbbbbbbbbbbbbbbbbbbbbbb \n\
     00000032have 0123456789012345678901234567890123456789\n0009done\n";
 

@@ -26,7 +26,7 @@ fn three(alloc: Global, time_of_b: i64) -> Result<BTreeMap<ObjectId, CommitData>
     Ok(commits)
 }
 
-/// Which of the three are complete behind a walk from A, and whether C is held.
+/// Which of the three are complete after a walk from A, and whether C is held.
 fn marked(alloc: Global, time_of_b: i64, cutoff: i64) -> Result<[bool; 4], ObjectError> {
     let mut graph = Graph::new(alloc, never_failing(three(alloc, time_of_b)?));
     graph.mark_complete(&[id(1)], Some(cutoff))?;
@@ -56,7 +56,7 @@ fn chain(alloc: Global, time: i64) -> Result<BTreeMap<ObjectId, CommitData>, All
     Ok(commits)
 }
 
-/// How many commits of that chain are complete, and how many are held, behind a walk from its tip.
+/// How many commits of that chain are complete, and how many are held, after a walk from its tip.
 fn counted(alloc: Global, cutoff: i64) -> Result<(u16, u16), ObjectError> {
     let mut graph = Graph::new(alloc, never_failing(chain(alloc, 50)?));
     graph.mark_complete(&[id(0)], Some(cutoff))?;
@@ -144,7 +144,7 @@ fn as_the_slow_program(rt: HostRuntime) -> Result<(), Fail> {
 }
 
 /// What a walk from A and from a commit that isn't there returns whose look of this number fails, and which of the
-/// three are complete behind it.
+/// three are complete after it.
 fn marked_by(
     alloc: Global,
     looks: u64,

@@ -34,7 +34,7 @@ fn size_read<R: Read>(reader: &mut R) -> Result<usize, ErrorKind> {
     reader.read(&mut room).map_err(|e| e.kind())
 }
 
-// Whether there is an interrupt, and what two reads give behind that question.
+// Whether there is an interrupt, and what two reads give after that question.
 fn two_reads<T: ExtendedBufRead>(
     lines: &mut T,
     flag: &Cell<bool>,
@@ -80,7 +80,7 @@ fn read_some<R: BufRead>(reader: &mut R, size: usize, peeks: bool) -> io::Result
     Ok(())
 }
 
-// Whether this is the line that stands in a transport which was given back behind so many bytes.
+// Whether this is the line that stands in a transport which was given back after so many bytes.
 fn leaves<T: ExtendedBufRead>(
     lines: &mut T,
     texts: &mut String,

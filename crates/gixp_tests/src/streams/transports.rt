@@ -145,7 +145,7 @@ fn three_bodies(alloc: Global) -> Result<Bodies, AllocError> {
     bodies(alloc, &answers, Vec::new(alloc))
 }
 
-// What a request of one message returns, and so many calls for lines behind it.
+// What a request of one message returns, and so many calls for lines after it.
 fn asked(
     alloc: Global,
     memory: &mut Bodies,

@@ -11,7 +11,7 @@ use std::collections::BTreeMap;
 /// Mappings by their local names, in byte order of the names.
 pub(crate) type Groups<'a> = BTreeMap<&'a [u8], Vec<&'a Mapping>>;
 
-/// Puts a mapping behind the others of its local name, where it has one.
+/// Puts a mapping after the others of its local name, where it has one.
 fn push<'a>(alloc: Global, groups: &mut Groups<'a>, mapping: &'a Mapping) -> Result<(), AllocError>
     ensures names { OnOk result ((name : List ℕ) → is_some (at_name groups.new name) ≡ (is_some (at_name groups.old name) || has_local name (mapped_of mapping.now))) }
     ensures groups { OnOk result ((name : List ℕ) → group_at groups.new name ≡ group_at groups.old name ++ of_local name (mapped_of mapping.now ∷ [])) }

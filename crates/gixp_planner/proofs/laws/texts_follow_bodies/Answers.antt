@@ -21,4 +21,4 @@ returns g c = λ bodies specs haves objects others graph another e f.
       l.2,
       r.2,
     ))
-    (λ c s p finished d t q takes. takes.2.failures) bodies specs
+    (λ c s p finished d t q takes. takes.1.1.failures) bodies specs

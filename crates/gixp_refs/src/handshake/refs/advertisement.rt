@@ -20,7 +20,7 @@ use std::alloc::Global;
 /// # Errors
 ///
 /// The refusal of [`from_capabilities`], before a line is read; else the first refusal, of a line or
-/// of the reader behind the lines, with what [`parse::Error`] says of it. Beside one no ref is given.
+/// of the reader after the lines, with what [`parse::Error`] says of it. Beside one no ref is given.
 pub fn from_v1_refs_received_as_part_of_handshake_and_capabilities<R: ExtendedBufRead>(
     alloc: Global,
     in_refs: &mut R,

@@ -91,7 +91,7 @@ fn read_attribute<'a>(
     }
 }
 
-// The attributes behind a name.
+// The attributes after a name.
 fn read_attributes<'a>(
     alloc: Global,
     line: &[u8],

@@ -19,9 +19,9 @@ pub enum Invariant {
     UnbornTag,
     /// The target of a version 2 ref line without an id is `(null)`.
     UnbornNullTarget,
-    /// A peeled version 1 line stands behind no ref line, or behind that of a symbolic ref.
+    /// A peeled version 1 line comes after no ref line, or after that of a symbolic ref.
     PeeledAlone,
-    /// A peeled version 1 line stands behind the ref line of another path.
+    /// A peeled version 1 line comes after the ref line of another path.
     PeeledElsewhere,
 }
 
@@ -59,7 +59,7 @@ impl fmt::Debug for Invariant {
 
 /// Why an answer has no refs. Nothing of the answer is given beside one.
 ///
-/// What stands behind each of a reader's errors is what `read::Error` says of it. After an error
+/// What is left after each of a reader's errors is what `read::Error` says of it. After an error
 /// of a line, that line and those before it are taken. A line that an error carries stands in it
 /// without the white space at its end.
 #[derive(Debug, Drop, DeriveError)]

@@ -100,7 +100,7 @@ pub(crate) fn read_line(alloc: Global, line: &[u8]) -> Result<Line<'_>, Error>
     }
 }
 
-// A ref line behind which a peeled one may stand.
+// A ref line after which a peeled one may stand.
 #[derive(Drop)]
 pub(crate) struct RefLine {
     object: ObjectId,
@@ -129,7 +129,7 @@ fn make_single(targets: &Targets, line: RefLine) -> Result<Ref, Error>
     })
 }
 
-// The ref of a ref line and the peeled line behind it.
+// The ref of a ref line and the peeled line after it.
 fn make_pair(targets: &Targets, line: RefLine, left: &[u8], base: &[u8]) -> Result<Ref, Error>
     ensures { AnswersRefs ref_value (pair (symref_values targets.now.entries) (Some (named_value line)) left.now base.now) result }
 {

@@ -83,7 +83,7 @@ fn command_messages<'a>(
     Ok(messages)
 }
 
-// The messages behind its haves: `done`, where it is asked for, and the flush packet.
+// The messages after its haves: `done`, where it is asked for, and the flush packet.
 fn command_end(done: bool) -> &'static [Message<'static>]
     ensures { map message_value result.now ≡ map text (done_lines done) ++ flush ∷ [] }
 {

@@ -90,7 +90,7 @@ fn push_if_on(
     Ok(())
 }
 
-// Appends the features that are on, each behind a blank.
+// Appends the features that are on, each after a blank.
 fn push_on(
     line: &mut Vec<u8>,
     features: &[Feature],
@@ -114,7 +114,7 @@ fn push_spaced(line: &mut Vec<u8>, text: &[u8]) -> Result<(), AllocError>
     Ok(())
 }
 
-// Appends the texts, each behind a blank.
+// Appends the texts, each after a blank.
 fn push_added(line: &mut Vec<u8>, added: &[BString]) -> Result<(), AllocError>
     ensures { OnOk result (line.new.items ≡ line.old.items ++ spaced (map bstring_bytes added.now)) }
 {
@@ -124,7 +124,7 @@ fn push_added(line: &mut Vec<u8>, added: &[BString]) -> Result<(), AllocError>
     Ok(())
 }
 
-// What the features give behind the first want, each behind a blank.
+// What the features give after the first want, each after a blank.
 fn spaced_features(
     alloc: Global,
     features: &[Feature],
@@ -140,7 +140,7 @@ fn spaced_features(
     Ok(text)
 }
 
-// What stands behind the first want: a blank, and the features joined by blanks.
+// What comes after the first want: a blank, and the features joined by blanks.
 pub(crate) fn features_text(
     alloc: Global,
     features: &[Feature],
@@ -157,7 +157,7 @@ pub(crate) fn features_text(
     Ok(text)
 }
 
-// The line of a want, with what stands behind the id.
+// The line of a want, with what comes after the id.
 pub(crate) fn want_line(alloc: Global, id: &ObjectId, behind: &[u8]) -> Result<BString, AllocError>
     ensures { IfOk result (λ line. bstring_bytes line ≡ codes "want " ++ (id_text id.now ++ behind.now)) }
 {

@@ -8,11 +8,11 @@ pieces-init g c = ([], copied_none _ _)
 pub returns-in-Ok-false : goal.returns-in-Ok-false
 returns-in-Ok-false g c =
     let h = copied_all _ _ _ _ _ c.pieces.invariant.0 c.pieces.invariant.1 (rw c.in-Ok-false.field-0-test at c.in-Ok-false.ensures.fills) in
-    (refl, h.0, h.1, h.2)
+    (refl, (h.0, h.1, h.2))
 
 pub pieces-preserved : goal.pieces-preserved
 pieces-preserved g c =
     passed_piece _ _ _ _ _ (rw c.in-Ok-true.field-0-test at c.in-Ok-true.ensures.fills) c.consume.ensures.content c.buffer-count.ensures refl _ _ c.pieces.invariant.1
 
 pub returns-in-Err : goal.returns-in-Err
-returns-in-Err g c = copied_refused _ _ _ _ _ c.pieces.invariant.0 c.in-Err.e _ c.kind.ensures c.pieces.invariant.1 c.in-Err.ensures.fills
+returns-in-Err g c = copied_refused _ _ _ _ _ _ c.pieces.invariant.0 c.in-Err.e _ c.pieces.invariant.1 c.in-Err.ensures.fills c.read_error.ensures.taken c.read_error.ensures.side

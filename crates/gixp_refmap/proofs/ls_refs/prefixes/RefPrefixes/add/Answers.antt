@@ -1,4 +1,4 @@
--- The texts behind an insertion.
+-- The texts after an insertion.
 use Rattle.std.proofs.Common.{refl, ap, map, sym, ◌∙◌}
 use Rattle.bstr.specs.Owned.{bstring_bytes}
 use Rattle.gixp_refmap.specs.Prefixes.{is_among, with_text}

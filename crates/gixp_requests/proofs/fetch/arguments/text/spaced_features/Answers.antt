@@ -1,4 +1,4 @@
--- Both lists, one behind the other.
+-- Both lists, one after the other.
 use Rattle.std.proofs.Common.{◌++◌, map, sym, ap, ◌∙◌}
 use Rattle.bstr.specs.Owned.{bstring_bytes}
 use Rattle.gixp_requests.specs.Feature.{feature_values}
