@@ -13,8 +13,10 @@ place_is : (b : ℕ) (xs : List ℕ) (r : Option ℕ) → IsFirstByte (is_byte b
 place_is b xs None h =
     let p : ℕ → Bool = λ x. x == b in
     let all : position_or_len p xs ≡ length xs =
-    position_or_len_is p xs (length xs) 0 (omega arith) (λ k lt. false_from_ne_true _ (h k (omega arith) lt)) (λ lt. absurd (omega arith)) in
-    let none : nat_lt (length xs) (length xs) ≡ false = false_from_ne_true _ (λ t. let x = ltb-true (length xs) (length xs) t in absurd (omega arith)) in
+    position_or_len_is p xs (length xs) 0 (omega arith) (λ k lt. false_from_ne_true _ (h k (omega arith) lt))
+    (λ lt. absurd (omega arith)) in
+    let none : nat_lt (length xs) (length xs) ≡ false =
+    false_from_ne_true _ (λ t. let x = ltb-true (length xs) (length xs) t in absurd (omega arith)) in
     rw (all, none) refl
 place_is b xs (Some k) h =
     let p : ℕ → Bool = λ x. x == b in
@@ -29,9 +31,11 @@ pub cut_nowhere : (b : ℕ) (text : List ℕ) → IsFirstByte (is_byte b) text N
 cut_nowhere b text h = ap (parts_at text) (place_is b text None h)
 
 -- a byte at its first place, round which the text is split
-pub cut_at_place : (b : ℕ) (text front rest : List ℕ) (i : ℕ) → front ≡ take i text → rest ≡ drop i text → IsFirstByte (is_byte b) text (Some i)
+pub cut_at_place : (b : ℕ) (text front rest : List ℕ) (i : ℕ) → front ≡ take i text → rest ≡ drop i text
+    → IsFirstByte (is_byte b) text (Some i)
     → cut b text ≡ (front, Some (take (length rest - 1) (drop 1 rest)))
 cut_at_place b text front rest i f e p =
-    let all : take (length rest - 1) (drop 1 rest) ≡ drop 1 rest = take_all (length rest - 1) (drop 1 rest) (let l = length-drop 1 rest in omega arith) in
+    let all : take (length rest - 1) (drop 1 rest) ≡ drop 1 rest =
+    take_all (length rest - 1) (drop 1 rest) (let l = length-drop 1 rest in omega arith) in
     let two : drop 1 rest ≡ drop (i + 1) text = rw e (drop-drop 1 i text) in
     ap (parts_at text) (place_is b text (Some i) p) ∙ (rw (f, all, two) refl)

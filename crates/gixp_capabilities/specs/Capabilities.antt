@@ -1,4 +1,5 @@
--- What a server says that it can do: a list of names, some of which have a value (gitprotocol-pack, "Reference Discovery"; gitprotocol-v2, "Capability Advertisement"; gitprotocol-capabilities).
+-- What a server says that it can do: a list of names, some of which have a value (gitprotocol-pack, "Reference Discovery";
+-- gitprotocol-v2, "Capability Advertisement"; gitprotocol-capabilities).
 use Rattle.std.specs.Prelude.{◌≡◌, ℕ, ◌+◌, ◌==◌, Bool, true, false, List, [], ◌∷◌, drop, map, filter, find, position, nat_eq, Option, Some, None, Result, Ok, Err}
 use Rattle.std.specs.List.{list_any, slice_split}
 use Rattle.std.specs.Cmp.Lexicographic.{pointwise}

@@ -22,4 +22,9 @@ abbrev pub updates_value : Vec ShallowUpdate Global → List ShallowUpdate
 updates_value v = v.items
 
 abbrev pub handshake_value : Handshake → HandshakeValue
-handshake_value h = record { version = h.server_protocol_version; refs = option_map refs_value h.refs; updates = option_map updates_value h.v1_shallow_updates; capabilities = h.capabilities }
+handshake_value h = record {
+  version = h.server_protocol_version;
+  refs = option_map refs_value h.refs;
+  updates = option_map updates_value h.v1_shallow_updates;
+  capabilities = h.capabilities;
+}

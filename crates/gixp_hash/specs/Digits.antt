@@ -4,7 +4,8 @@ use Rattle.hex.specs.Hex.{hex_digit_value}
 
 -- the first n are digits with these values
 abbrev pub AreValuesBelow : ℕ → List ℕ → List ℕ → Type 0
-AreValuesBelow n digits values = (k : ℕ) → k < n → (hex_digit_value (slice_index digits k) ≡ Some (slice_index values k)) × (slice_index values k < 16)
+AreValuesBelow n digits values = (k : ℕ) → k < n → (hex_digit_value (slice_index digits k) ≡ Some (slice_index values k))
+    × (slice_index values k < 16)
 
 -- each is a digit with its value
 abbrev pub AreValues : List ℕ → List ℕ → Type 0

@@ -22,13 +22,15 @@ none_in_front : (r : Result (List RefValue) RefsRefusal) → r ≡ in_front [] r
 none_in_front (Ok ws) = refl
 none_in_front (Err e) = refl
 
-one_in_front : (vs : List RefValue) (v : RefValue) (r : Result (List RefValue) RefsRefusal) → in_front vs (with_ref (Ok v) r) ≡ in_front (vs ++ v ∷ []) r
+one_in_front : (vs : List RefValue) (v : RefValue) (r : Result (List RefValue) RefsRefusal)
+    → in_front vs (with_ref (Ok v) r) ≡ in_front (vs ++ v ∷ []) r
 one_in_front vs v (Ok ws) = ap Ok (sym (append_assoc vs (v ∷ []) ws))
 one_in_front vs v (Err e) = refl
 
 -- the lines to come end alike
 abbrev pub EndsAlike : Reading → Reading → Type 0
-EndsAlike old now = IfSome old.to_come (λ p. (q : Pieces) × (now.to_come ≡ Some q) × ((lines_ahead old p).ending ≡ (lines_ahead now q).ending))
+EndsAlike old now =
+    IfSome old.to_come (λ p. (q : Pieces) × (now.to_come ≡ Some q) × ((lines_ahead old p).ending ≡ (lines_ahead now q).ending))
 
 ends_alike-start : (r : Reading) → EndsAlike r r
 ends_alike-start r = at r.to_come
@@ -50,7 +52,8 @@ ends_alike-more old mid new h k = at old.to_come mid.to_come h k
         (b.0, b.1, a.2 ∙ ap (λ x. (lines_ahead mid x).ending) same ∙ b.2)
 
 -- a line that is taken leaves the end of those to come
-ending_behind : (r : Reading) (list : List Piece) (end : Refusal) (text : List ℕ) (q : Pieces) → next_from r.version list end ≡ gives text q → (lines_from r.version list end).ending ≡ (lines_of r.version q).ending
+ending_behind : (r : Reading) (list : List Piece) (end : Refusal) (text : List ℕ) (q : Pieces)
+    → next_from r.version list end ≡ gives text q → (lines_from r.version list end).ending ≡ (lines_of r.version q).ending
 ending_behind r [] end text q h = cc
 ending_behind r (line t ∷ ps) end text q h =
     let p : Pieces = record { list = ps; end = end } in
@@ -79,7 +82,8 @@ ends_alike-taken old new h = at old.to_come h.next
 pub record Printed (old now : Reading) (text : List ℕ) : Type 0 where
   pub values : List RefValue
   pub printed : text ≡ flat_map ref_line values
-  pub ahead : IfSome old.to_come (λ p. (q : Pieces) × (now.to_come ≡ Some q) × (v2_refs (lines_ahead old p) ≡ in_front values (v2_refs (lines_ahead now q))))
+  pub ahead : IfSome old.to_come (λ p. (q : Pieces) × (now.to_come ≡ Some q)
+      × (v2_refs (lines_ahead old p) ≡ in_front values (v2_refs (lines_ahead now q))))
   pub ending : EndsAlike old now
   pub failures : now.failures ≡ old.failures
 
@@ -87,37 +91,49 @@ pub record Printed (old now : Reading) (text : List ℕ) : Type 0 where
 pub printed-start : (r : Reading) → Printed r r []
 printed-start r = record { values = []; printed = refl; ahead = at r.to_come; ending = ends_alike-start r; failures = refl }
   where
-    at : (o : Option Pieces) → IfSome o (λ p. (q : Pieces) × (o ≡ Some q) × (v2_refs (lines_ahead r p) ≡ in_front [] (v2_refs (lines_ahead r q))))
+    at : (o : Option Pieces) → IfSome o (λ p. (q : Pieces) × (o ≡ Some q)
+        × (v2_refs (lines_ahead r p) ≡ in_front [] (v2_refs (lines_ahead r q))))
     at None = tt
     at (Some p) = (p, refl, none_in_front (v2_refs (lines_ahead r p)))
 
 -- then one more
 pub printed-more : (old mid new : Reading) (text more : List ℕ) (v : RefValue) → Printed old mid text
-    → IfSome mid.to_come (λ p. (q : Pieces) × (new.to_come ≡ Some q) × (v2_refs (lines_ahead mid p) ≡ with_ref (Ok v) (v2_refs (lines_ahead new q))))
+    → IfSome mid.to_come (λ p. (q : Pieces) × (new.to_come ≡ Some q)
+    × (v2_refs (lines_ahead mid p) ≡ with_ref (Ok v) (v2_refs (lines_ahead new q))))
     → more ≡ text ++ ref_line v → TakesLine mid new → Printed old new more
 printed-more old mid new text more v h k e t = record {
   values = h.values ++ v ∷ [];
-  printed = e ∙ ap (λ l. l ++ ref_line v) h.printed ∙ sym (flat_map-append ref_line h.values (v ∷ []) ∙ ap (λ l. flat_map ref_line h.values ++ l) (append-nil (ref_line v)));
+  printed = e ∙ ap (λ l. l ++ ref_line v) h.printed
+      ∙ sym (flat_map-append ref_line h.values (v ∷ []) ∙ ap (λ l. flat_map ref_line h.values ++ l) (append-nil (ref_line v)));
   ahead = at old.to_come mid.to_come h.ahead k;
   ending = ends_alike-more old mid new h.ending (ends_alike-taken mid new t);
   failures = t.failures ∙ h.failures;
 }
   where
-    at : (o m : Option Pieces) → IfSome o (λ p. (q : Pieces) × (m ≡ Some q) × (v2_refs (lines_ahead old p) ≡ in_front h.values (v2_refs (lines_ahead mid q))))
-        → IfSome m (λ p. (q : Pieces) × (new.to_come ≡ Some q) × (v2_refs (lines_ahead mid p) ≡ with_ref (Ok v) (v2_refs (lines_ahead new q))))
-        → IfSome o (λ p. (q : Pieces) × (new.to_come ≡ Some q) × (v2_refs (lines_ahead old p) ≡ in_front (h.values ++ v ∷ []) (v2_refs (lines_ahead new q))))
+    at : (o m : Option Pieces) → IfSome o (λ p. (q : Pieces) × (m ≡ Some q)
+        × (v2_refs (lines_ahead old p) ≡ in_front h.values (v2_refs (lines_ahead mid q))))
+        → IfSome m (λ p. (q : Pieces) × (new.to_come ≡ Some q)
+        × (v2_refs (lines_ahead mid p) ≡ with_ref (Ok v) (v2_refs (lines_ahead new q))))
+        → IfSome o (λ p. (q : Pieces) × (new.to_come ≡ Some q)
+        × (v2_refs (lines_ahead old p) ≡ in_front (h.values ++ v ∷ []) (v2_refs (lines_ahead new q))))
     at None m a b = tt
     at (Some p) None a b = absurd (let e = a.1 in cc)
     at (Some p) (Some q) a b =
-        let same : a.0 ≡ q = let e = a.1 in cc in
-        (b.0, b.1, a.2 ∙ ap (λ x. in_front h.values (v2_refs (lines_ahead mid x))) same ∙ ap (in_front h.values) b.2 ∙ one_in_front h.values v (v2_refs (lines_ahead new b.0)))
+        let same : a.0 ≡ q = let e = a.1 in cc in (
+          b.0,
+          b.1,
+          a.2 ∙ ap (λ x. in_front h.values (v2_refs (lines_ahead mid x))) same ∙ ap (in_front h.values) b.2
+              ∙ one_in_front h.values v (v2_refs (lines_ahead new b.0)),
+        )
 
 -- what is still to come decides of all
-printed_rest : (old mid : Reading) (text : List ℕ) (rest : Result (List RefValue) RefsRefusal) (h : Printed old mid text) → IfSome mid.to_come (λ p. v2_refs (lines_ahead mid p) ≡ rest)
+printed_rest : (old mid : Reading) (text : List ℕ) (rest : Result (List RefValue) RefsRefusal) (h : Printed old mid text)
+    → IfSome mid.to_come (λ p. v2_refs (lines_ahead mid p) ≡ rest)
     → IfSome old.to_come (λ p. v2_refs (lines_ahead old p) ≡ in_front h.values rest)
 printed_rest old mid text rest h k = at old.to_come mid.to_come h.ahead k
   where
-    at : (o m : Option Pieces) → IfSome o (λ p. (q : Pieces) × (m ≡ Some q) × (v2_refs (lines_ahead old p) ≡ in_front h.values (v2_refs (lines_ahead mid q))))
+    at : (o m : Option Pieces) → IfSome o (λ p. (q : Pieces) × (m ≡ Some q)
+        × (v2_refs (lines_ahead old p) ≡ in_front h.values (v2_refs (lines_ahead mid q))))
         → IfSome m (λ p. v2_refs (lines_ahead mid p) ≡ rest) → IfSome o (λ p. v2_refs (lines_ahead old p) ≡ in_front h.values rest)
     at None m a b = tt
     at (Some p) None a b = absurd (let e = a.1 in cc)
@@ -127,7 +143,8 @@ printed_rest old mid text rest h k = at old.to_come mid.to_come h.ahead k
 
 -- where the lines to come end at a stop, so did those before
 stops_behind : (old mid new : Reading) → EndsAlike old mid → mid.failures ≡ old.failures → ReadsRefs mid new [] → StopsBehind old new
-stops_behind old mid new h f k = record { stopped = rw k.stopped refl; rest = at old.to_come mid.to_come h k.lines; failures = k.failures ∙ f }
+stops_behind old mid new h f k =
+    record { stopped = rw k.stopped refl; rest = at old.to_come mid.to_come h k.lines; failures = k.failures ∙ f }
   where
     at : (o m : Option Pieces) → IfSome o (λ p. (q : Pieces) × (m ≡ Some q) × ((lines_ahead old p).ending ≡ (lines_ahead mid q).ending))
         → IfSome m (λ p. (q : Pieces) × (new.to_come ≡ Some q) × (lines_ahead mid p ≡ lines_to k.texts (stop k.kind q)))
@@ -145,7 +162,8 @@ printed-all old mid new text h k = record {
   behind = stops_behind old mid new h.ending h.failures k;
 }
   where
-    at : (o : Option Pieces) → IfSome o (λ p. v2_refs (lines_ahead old p) ≡ Ok (h.values ++ [])) → IfSome o (λ p. Prints (Some []) (Some text) (v2_refs (lines_ahead old p)))
+    at : (o : Option Pieces) → IfSome o (λ p. v2_refs (lines_ahead old p) ≡ Ok (h.values ++ []))
+        → IfSome o (λ p. Prints (Some []) (Some text) (v2_refs (lines_ahead old p)))
     at None a = tt
     at (Some p) a = rw (a, append-nil) h.printed
 
@@ -177,7 +195,8 @@ device_rose (bad_band b) now new h d = cc
 device_rose interrupted now new h d = cc
 
 -- a refusal of what is still to come is that of all
-pub printed-refused : (plain : Bool) (old mid new : Reading) (text : List ℕ) (e : Error) → Printed old mid text → RefsFail plain mid new e → RefusesAhead plain old new e
+pub printed-refused : (plain : Bool) (old mid new : Reading) (text : List ℕ) (e : Error) → Printed old mid text
+    → RefsFail plain mid new e → RefusesAhead plain old new e
 printed-refused plain old mid new text e h (inl k) = inl (record {
   why = k.refusal;
   first = printed_rest old mid text (Err k.refusal) h k.first;
@@ -192,9 +211,11 @@ printed-refused plain old mid new text e h (inr (inl k)) = inl (record {
 })
 printed-refused plain old mid new text e h (inr (inr (inl k))) = inr (record {
   outside = λ p. ap is_outside k.error ∙ outside_is k.refusal k.now new k.failed (k.is_plain p);
-  counted = λ d. subst (λ n. Rose n new.failures) (k.read.failures ∙ h.failures) (device_rose k.refusal k.now new k.failed (ap is_device (sym k.error) ∙ d));
+  counted = λ d. subst (λ n. Rose n new.failures) (k.read.failures ∙ h.failures)
+      (device_rose k.refusal k.now new k.failed (ap is_device (sym k.error) ∙ d));
 })
 printed-refused plain old mid new text e h (inr (inr (inr k))) = inr (record {
   outside = λ p. ap (λ x. is_outside (parse_refusal x)) k.error;
-  counted = λ d. let no : is_device (parse_refusal e) ≡ false = ap (λ x. is_device (parse_refusal x)) k.error in absurd (true≢false (sym d ∙ no));
+  counted = λ d. let no : is_device (parse_refusal e) ≡ false = ap (λ x. is_device (parse_refusal x)) k.error in
+      absurd (true≢false (sym d ∙ no));
 })

@@ -21,7 +21,8 @@ joined texts = flat_map (λ (text : List ℕ). text) texts
 abbrev pub symbolic_line : (name target : List ℕ) → Option (List ℕ) → List ℕ → List ℕ
 symbolic_line name target None object = joined (encode_lower object ∷ codes " " ∷ name ∷ codes " symref-target:" ∷ target ∷ codes "\n" ∷ [])
 symbolic_line name target (Some tag) object =
-    joined (encode_lower tag ∷ codes " " ∷ name ∷ codes " symref-target:" ∷ target ∷ codes " peeled:" ∷ encode_lower object ∷ codes "\n" ∷ [])
+    joined (encode_lower tag ∷ codes " " ∷ name ∷ codes " symref-target:" ∷ target ∷ codes " peeled:" ∷ encode_lower object ∷ codes "\n"
+    ∷ [])
 
 -- the line of a ref, its LF included
 abbrev pub ref_line : RefValue → List ℕ

@@ -30,7 +30,8 @@ neither true b = refl
 neither false b = refl
 
 -- what is kept holds of what was kept of one more
-kept_one : (G : Mapped → Type 0) (F : Mapped → Bool) (m : Mapped) (xs : List Mapped) → (F m ≡ true → G m) → AllByRecursion G (filter F xs) → AllByRecursion G (filter F (m ∷ xs))
+kept_one : (G : Mapped → Type 0) (F : Mapped → Bool) (m : Mapped) (xs : List Mapped) → (F m ≡ true → G m)
+    → AllByRecursion G (filter F xs) → AllByRecursion G (filter F (m ∷ xs))
 kept_one G F m xs h t = elim (cases_Bool (F m)) [
   | inl y ↦ rw y (h y, t)
   | inr n ↦ rw n t
@@ -42,12 +43,15 @@ pick A b (inl a) h = a
 pick A b (inr e) h = absurd (false≢true (sym (ap not e) ∙ h))
 
 -- of those that are backed, the first ones that are new are good
-new_are_good : (G : Mapped → Type 0) (known ms : List Mapped) → Backed G known ms → AllByRecursion G (filter (λ m. not (has_same known m)) (firsts ms))
+new_are_good : (G : Mapped → Type 0) (known ms : List Mapped) → Backed G known ms
+    → AllByRecursion G (filter (λ m. not (has_same known m)) (firsts ms))
 new_are_good G known [] h = tt
 new_are_good G known (m ∷ ms) h =
-    kept_one G (λ x. not (has_same known x)) m (filter (λ later. not (is_same m later)) (firsts ms)) (λ y. pick (G m) (has_same known m) h.0 y)
+    kept_one G (λ x. not (has_same known x)) m (filter (λ later. not (is_same m later)) (firsts ms))
+    (λ y. pick (G m) (has_same known m) h.0 y)
     (subst (AllByRecursion G)
-    (sym (filter_twice (λ x. not (has_same known x)) (λ later. not (is_same m later)) (λ x. not (has_same (m ∷ known) x)) (λ x. neither (is_same m x) (has_same known x)) (firsts ms)))
+    (sym (filter_twice (λ x. not (has_same known x)) (λ later. not (is_same m later)) (λ x. not (has_same (m ∷ known) x))
+    (λ x. neither (is_same m x) (has_same known x)) (firsts ms)))
     (new_are_good G (m ∷ known) ms h.1))
 
 filter_all : {A : Type 0} (xs : List A) → filter (λ x. true) xs ≡ xs
@@ -59,7 +63,8 @@ pub firsts_are_good : (G : Mapped → Type 0) (ms : List Mapped) → Backed G []
 firsts_are_good G ms h = subst (AllByRecursion G) (filter_all (firsts ms)) (new_are_good G [] ms h)
 
 -- backed ones, and after them others that are backed by whatever came before
-pub backed_append : (G : Mapped → Type 0) (known xs ys : List Mapped) → Backed G known xs → ((k : List Mapped) → Backed G k ys) → Backed G known (xs ++ ys)
+pub backed_append : (G : Mapped → Type 0) (known xs ys : List Mapped) → Backed G known xs → ((k : List Mapped) → Backed G k ys)
+    → Backed G known (xs ++ ys)
 backed_append G known [] ys h t = t known
 backed_append G known (m ∷ xs) ys h t = (h.0, backed_append G (m ∷ known) xs ys h.1 t)
 

@@ -18,18 +18,21 @@ source_eq-same (FullName a) = (bytes_eq-Decides a a).1 refl
 source_eq-same (ObjectId a) = (bytes_eq-Decides a a).1 refl
 
 -- where none has another source than s, none differs from any of them
-none_differs : (s : Source) (ms all : List Mapped) → list_any (is_other s) ms ≡ false → list_any (is_other s) all ≡ false → list_any (λ m. list_any (is_other m.source) all) ms ≡ false
+none_differs : (s : Source) (ms all : List Mapped) → list_any (is_other s) ms ≡ false → list_any (is_other s) all ≡ false
+    → list_any (λ m. list_any (is_other m.source) all) ms ≡ false
 none_differs s [] all h others = refl
 none_differs s (m ∷ ms) all h others =
     let both = or_parts (is_other s m) (list_any (is_other s) ms) h in
     let same : s ≡ m.source = same_source_is s m.source (not-false _ both.0) in
-    ap (λ b. b || list_any (λ n. list_any (is_other n.source) all) ms) (ap (λ t. list_any (is_other t) all) (sym same) ∙ others) ∙ none_differs s ms all both.1 others
+    ap (λ b. b || list_any (λ n. list_any (is_other n.source) all) ms) (ap (λ t. list_any (is_other t) all) (sym same) ∙ others)
+    ∙ none_differs s ms all both.1 others
 
 -- to compare with the first is enough
 pub differ-first : (m : Mapped) (ms : List Mapped) → list_any (is_other m.source) ms ≡ differ (m ∷ ms)
 differ-first m ms = elim (cases_Bool (list_any (is_other m.source) ms)) [
   | inl t ↦ t ∙ sym (or_left _ _ (or_right (is_other m.source m) _ t))
   | inr f ↦ (
-      let none : list_any (is_other m.source) (m ∷ ms) ≡ false = ap (λ b. not b || list_any (is_other m.source) ms) (source_eq-same m.source) ∙ f in
+      let none : list_any (is_other m.source) (m ∷ ms) ≡ false =
+      ap (λ b. not b || list_any (is_other m.source) ms) (source_eq-same m.source) ∙ f in
       f ∙ sym (none_differs m.source (m ∷ ms) (m ∷ ms) none none))
 ]

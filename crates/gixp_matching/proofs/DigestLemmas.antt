@@ -15,7 +15,8 @@ use Rattle.std.proofs.lemmas.Map.Text.{is_eq-slice_cmp}
 same_number : (a : ℕ) → eq_by_cmp nat_cmp a a ≡ true
 same_number a = search rules
 
-apart_by : {K : Type 0} (eq : K → K → Bool) (f : K → ℕ) → ((x y : K) → eq x y ≡ true → f x ≡ f y) → (k : K) (ks : List K) → AllByRecursion (λ y. eq_by_cmp nat_cmp (f k) y ≡ false) (map f ks)
+apart_by : {K : Type 0} (eq : K → K → Bool) (f : K → ℕ) → ((x y : K) → eq x y ≡ true → f x ≡ f y) → (k : K) (ks : List K)
+    → AllByRecursion (λ y. eq_by_cmp nat_cmp (f k) y ≡ false) (map f ks)
     → AllByRecursion (λ y. eq k y ≡ false) ks
 apart_by eq f alike k [] h = tt
 apart_by eq f alike k (x ∷ xs) h = (at (eq k x) refl, apart_by eq f alike k xs h.1)
@@ -24,13 +25,15 @@ apart_by eq f alike k (x ∷ xs) h = (at (eq k x) refl, apart_by eq f alike k xs
     at true e = absurd (false≢true (sym h.0 ∙ ap (eq_by_cmp nat_cmp (f k)) (sym (alike k x e)) ∙ same_number (f k)))
     at false e = e
 
-apart : {K : Type 0} (eq : K → K → Bool) (f : K → ℕ) → ((x y : K) → eq x y ≡ true → f x ≡ f y) → (ks : List K) → IsDistinct (eq_by_cmp nat_cmp) (map f ks) → IsDistinct eq ks
+apart : {K : Type 0} (eq : K → K → Bool) (f : K → ℕ) → ((x y : K) → eq x y ≡ true → f x ≡ f y) → (ks : List K)
+    → IsDistinct (eq_by_cmp nat_cmp) (map f ks) → IsDistinct eq ks
 unfolding IsDistinct
 apart eq f alike [] h = tt
 apart eq f alike (k ∷ ks) h = (apart_by eq f alike k ks h.0, apart eq f alike ks h.1)
 
 -- keys whose numbers differ
-pub distinct_by : {K : Type 0} (eq : K → K → Bool) (keys : List K) (digests : List ℕ) → AreDigests eq keys digests → IsDistinct (eq_by_cmp nat_cmp) digests → IsDistinct eq keys
+pub distinct_by : {K : Type 0} (eq : K → K → Bool) (keys : List K) (digests : List ℕ) → AreDigests eq keys digests
+    → IsDistinct (eq_by_cmp nat_cmp) digests → IsDistinct eq keys
 distinct_by eq keys digests are h = apart eq are.digest are.alike keys (subst (IsDistinct (eq_by_cmp nat_cmp)) are.each h)
 
 -- ---- the numbers of what is compared
@@ -47,12 +50,14 @@ same_local None (Some b) h = cc
 same_local (Some a) None h = cc
 same_local (Some a) (Some b) h = ap Some ((bytes_eq-Decides a b).0 h)
 
-number_by : (a b : List ℕ) (o : Option (List ℕ)) (s t : Source) → bytes_of s ≡ a → bytes_of t ≡ b → a ≡ b → parts_digest (s, o) ≡ parts_digest (t, o)
+number_by : (a b : List ℕ) (o : Option (List ℕ)) (s t : Source) → bytes_of s ≡ a → bytes_of t ≡ b → a ≡ b
+    → parts_digest (s, o) ≡ parts_digest (t, o)
 number_by a b None s t h k e = ap digest (h ∙ e ∙ sym k)
 number_by a b (Some l) s t h k e = ap (λ (x : List ℕ). parts_digest (FullName x, Some l)) (h ∙ e ∙ sym k)
 
 -- keys of mappings
-pub keys_alike : (keys : List Key) (digests : List ℕ) → digests ≡ map (λ key. parts_digest (key_parts key)) keys → AreDigests (eq_by_cmp by_key) keys digests
+pub keys_alike : (keys : List Key) (digests : List ℕ) → digests ≡ map (λ key. parts_digest (key_parts key)) keys
+    → AreDigests (eq_by_cmp by_key) keys digests
 keys_alike keys digests h = record {
   digest = λ key. parts_digest (key_parts key);
   each = h;
@@ -63,7 +68,8 @@ keys_alike keys digests h = record {
 }
 
 -- local names
-pub names_alike : (names : List KeyBytes) (digests : List ℕ) → digests ≡ map (λ name. digest (key_bytes name)) names → AreDigests (eq_by_cmp by_bytes) names digests
+pub names_alike : (names : List KeyBytes) (digests : List ℕ) → digests ≡ map (λ name. digest (key_bytes name)) names
+    → AreDigests (eq_by_cmp by_bytes) names digests
 names_alike names digests h = record {
   digest = λ name. digest (key_bytes name);
   each = h;

@@ -26,23 +26,28 @@ is_eq-reverse Equal = refl
 is_eq-reverse Greater = refl
 
 -- keys of which each is below the next
-rising_sorted : {K : Type 0} {R : K → K → Ordering} → IsTotalOrder R → (ks : List K) → AllAdjacentBelow (λ x y. R x y ≡ Less) ks (length ks) → IsStrictlySortedBy R ks
+rising_sorted : {K : Type 0} {R : K → K → Ordering} → IsTotalOrder R → (ks : List K)
+    → AllAdjacentBelow (λ x y. R x y ≡ Less) ks (length ks) → IsStrictlySortedBy R ks
 unfolding IsStrictlySortedBy
 rising_sorted o [] h = tt
 rising_sorted o (k ∷ ks) h = sorted_from_all_adjacent o (k ∷ ks) k (λ i l. h i k l)
 
 -- keys that are all different once they are in order
-pub distinct_sorted : {K : Type 0} {R : K → K → Ordering} → IsTotalOrder R → (ks sorted : List K) → IsPermutation ks sorted → AllAdjacentBelow (λ x y. R x y ≡ Less) sorted (length sorted) → IsDistinct (eq_by_cmp R) ks
+pub distinct_sorted : {K : Type 0} {R : K → K → Ordering} → IsTotalOrder R → (ks sorted : List K) → IsPermutation ks sorted
+    → AllAdjacentBelow (λ x y. R x y ≡ Less) sorted (length sorted) → IsDistinct (eq_by_cmp R) ks
 distinct_sorted {K} {R} o ks sorted same rising =
-    IsDistinct-IsPermutation (eq_by_cmp R) (λ x y. ap is_eq (o.antisymm x y) ∙ is_eq-reverse (R y x)) sorted ks (IsPermutation-sym ks sorted same)
+    IsDistinct-IsPermutation (eq_by_cmp R) (λ x y. ap is_eq (o.antisymm x y) ∙ is_eq-reverse (R y x)) sorted ks
+    (IsPermutation-sym ks sorted same)
     (IsDistinct-from_sorted R sorted (rising_sorted o sorted rising))
 
 -- what keys stand for is all different where they are
-all_apart : {K P : Type 0} (e : K → K → Bool) (t : P → P → Bool) (f : K → P) → ((x y : K) → e x y ≡ t (f x) (f y)) → (k : K) (ks : List K) → AllByRecursion (λ y. e k y ≡ false) ks → AllByRecursion (λ y. t (f k) y ≡ false) (map f ks)
+all_apart : {K P : Type 0} (e : K → K → Bool) (t : P → P → Bool) (f : K → P) → ((x y : K) → e x y ≡ t (f x) (f y))
+    → (k : K) (ks : List K) → AllByRecursion (λ y. e k y ≡ false) ks → AllByRecursion (λ y. t (f k) y ≡ false) (map f ks)
 all_apart e t f same k [] h = tt
 all_apart e t f same k (x ∷ xs) h = (sym (same k x) ∙ h.0, all_apart e t f same k xs h.1)
 
-distinct-map : {K P : Type 0} (e : K → K → Bool) (t : P → P → Bool) (f : K → P) → ((x y : K) → e x y ≡ t (f x) (f y)) → (ks : List K) → IsDistinct e ks → IsDistinct t (map f ks)
+distinct-map : {K P : Type 0} (e : K → K → Bool) (t : P → P → Bool) (f : K → P) → ((x y : K) → e x y ≡ t (f x) (f y)) → (ks : List K)
+    → IsDistinct e ks → IsDistinct t (map f ks)
 unfolding IsDistinct
 distinct-map e t f same [] h = tt
 distinct-map e t f same (k ∷ ks) h = (all_apart e t f same k ks h.0, distinct-map e t f same ks h.1)
@@ -52,7 +57,8 @@ abbrev parts_eq : Source × Option (List ℕ) → Source × Option (List ℕ) �
 parts_eq a b = source_eq a.0 b.0 && local_eq a.1 b.1
 
 -- all are kept where none is the same
-all_kept : (m : Mapped) (ms : List Mapped) → AllByRecursion (λ y. parts_eq (parts m) y ≡ false) (map parts ms) → filter (λ later. not (is_same m later)) ms ≡ ms
+all_kept : (m : Mapped) (ms : List Mapped) → AllByRecursion (λ y. parts_eq (parts m) y ≡ false) (map parts ms)
+    → filter (λ later. not (is_same m later)) ms ≡ ms
 all_kept m [] h = refl
 all_kept m (x ∷ xs) h = cond-true _ _ _ (ap not h.0) ∙ ap (λ r. x ∷ r) (all_kept m xs h.1)
 
@@ -62,19 +68,24 @@ no_repeats [] h = refl
 no_repeats (m ∷ ms) h = ap (λ l. m ∷ filter (λ later. not (is_same m later)) l) (no_repeats ms h.1) ∙ ap (λ l. m ∷ l) (all_kept m ms h.0)
 
 -- where the keys of mappings are all different, all are first ones
-pub firsts_are_all : (keys : List Key) (ms : List Mapped) → map key_parts keys ≡ map parts ms → IsDistinct (eq_by_cmp by_key) keys → firsts ms ≡ ms
-firsts_are_all keys ms is h = no_repeats ms (subst (IsDistinct parts_eq) is (distinct-map (eq_by_cmp by_key) parts_eq key_parts is_eq-key keys h))
+pub firsts_are_all : (keys : List Key) (ms : List Mapped) → map key_parts keys ≡ map parts ms → IsDistinct (eq_by_cmp by_key) keys
+    → firsts ms ≡ ms
+firsts_are_all keys ms is h =
+    no_repeats ms (subst (IsDistinct parts_eq) is (distinct-map (eq_by_cmp by_key) parts_eq key_parts is_eq-key keys h))
 
 -- where local names are all different, so are their keys
-pub locals_are_apart : (keys : List KeyBytes) (ms : List Mapped) → map key_bytes keys ≡ locals ms → IsDistinct (eq_by_cmp by_bytes) keys → IsDistinct bytes_eq (locals ms)
+pub locals_are_apart : (keys : List KeyBytes) (ms : List Mapped) → map key_bytes keys ≡ locals ms → IsDistinct (eq_by_cmp by_bytes) keys
+    → IsDistinct bytes_eq (locals ms)
 locals_are_apart keys ms is h =
-    subst (IsDistinct bytes_eq) is (distinct-map (eq_by_cmp by_bytes) bytes_eq key_bytes (λ x y. is_eq-slice_cmp (key_bytes x) (key_bytes y)) keys h)
+    subst (IsDistinct bytes_eq) is (distinct-map (eq_by_cmp by_bytes) bytes_eq key_bytes
+    (λ x y. is_eq-slice_cmp (key_bytes x) (key_bytes y)) keys h)
 
 -- no mapping has a name that differs from all local names
 none_named : (name : List ℕ) (ms : List Mapped) → AllByRecursion (λ y. bytes_eq name y ≡ false) (locals ms) → of_local name ms ≡ []
 none_named name [] h = refl
 none_named name (m ∷ ms) h = at (λ k. none_named name ms k) m.local h where
-  at : (AllByRecursion (λ y. bytes_eq name y ≡ false) (locals ms) → of_local name ms ≡ []) → (o : Option (List ℕ)) → AllByRecursion (λ y. bytes_eq name y ≡ false) (option_to_list o ++ locals ms)
+  at : (AllByRecursion (λ y. bytes_eq name y ≡ false) (locals ms) → of_local name ms ≡ []) → (o : Option (List ℕ))
+      → AllByRecursion (λ y. bytes_eq name y ≡ false) (option_to_list o ++ locals ms)
       → cond (local_eq o (Some name)) (m ∷ of_local name ms) (of_local name ms) ≡ []
   at rest None h = rest h
   at rest (Some other) h = cond-false _ _ _ (bytes_eq-turned other name ∙ h.0) ∙ rest h.1
@@ -84,14 +95,16 @@ one_source : (name : List ℕ) (ms : List Mapped) → IsDistinct bytes_eq (local
 unfolding IsDistinct
 one_source name [] h = refl
 one_source name (m ∷ ms) h = at (λ k. one_source name ms k) m.local h where
-  at : (IsDistinct bytes_eq (locals ms) → differ (of_local name ms) ≡ false) → (o : Option (List ℕ)) → IsDistinct bytes_eq (option_to_list o ++ locals ms)
+  at : (IsDistinct bytes_eq (locals ms) → differ (of_local name ms) ≡ false) → (o : Option (List ℕ))
+      → IsDistinct bytes_eq (option_to_list o ++ locals ms)
       → differ (cond (local_eq o (Some name)) (m ∷ of_local name ms) (of_local name ms)) ≡ false
   at rest None h = rest h
   at rest (Some other) h = elim (cases_Bool (bytes_eq other name)) [
     | inl t ↦ (
         let is : other ≡ name = (bytes_eq-Decides other name).0 t in
         ap differ (cond-true _ _ _ t)
-        ∙ ap (λ l. differ (m ∷ l)) (none_named name ms (subst (λ n. AllByRecursion (λ y. bytes_eq n y ≡ false) (locals ms)) is h.0)) ∙ sym (differ-first m []))
+        ∙ ap (λ l. differ (m ∷ l)) (none_named name ms (subst (λ n. AllByRecursion (λ y. bytes_eq n y ≡ false) (locals ms)) is h.0))
+        ∙ sym (differ-first m []))
     | inr f ↦ ap differ (cond-false _ _ _ f) ∙ rest h.1
   ]
 
@@ -103,4 +116,5 @@ none_made f (x ∷ xs) h = ap (λ l. l ++ flat_map f xs) (h x) ∙ none_made f x
 -- and so no conflicts
 pub no_conflicts : (specs : List Spec) (ms : List Mapped) → IsDistinct bytes_eq (locals ms) → [] ≡ conflicts specs ms
 unfolding conflicts
-no_conflicts specs ms apart = sym (none_made (λ name. conflict_over specs name (of_local name ms)) (local_names ms) (λ name. cond-false _ _ _ (one_source name ms apart)))
+no_conflicts specs ms apart = sym (none_made (λ name. conflict_over specs name (of_local name ms)) (local_names ms)
+    (λ name. cond-false _ _ _ (one_source name ms apart)))

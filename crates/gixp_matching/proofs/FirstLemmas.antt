@@ -31,13 +31,15 @@ none_of false true = refl
 none_of false false = refl
 
 -- fresh to one more
-fresh_more : (earlier : List Mapped) (m later : Mapped) → (not (is_same m later) && is_fresh earlier later) ≡ is_fresh (earlier ++ m ∷ []) later
+fresh_more : (earlier : List Mapped) (m later : Mapped) → (not (is_same m later) && is_fresh earlier later)
+    ≡ is_fresh (earlier ++ m ∷ []) later
 fresh_more earlier m later =
     none_of (is_same m later) (list_any (λ e. is_same e later) earlier)
     ∙ ap not (sym (list_any-append (λ e. is_same e later) earlier (m ∷ [])))
 
 -- the first flag keeps the first element or drops it
-flagged-cons : {A : Type 0} (x : A) (xs : List A) (b : Bool) (flags : List Bool) → flagged (x ∷ xs) (b ∷ flags) ≡ cond b (x ∷ flagged xs flags) (flagged xs flags)
+flagged-cons : {A : Type 0} (x : A) (xs : List A) (b : Bool) (flags : List Bool)
+    → flagged (x ∷ xs) (b ∷ flags) ≡ cond b (x ∷ flagged xs flags) (flagged xs flags)
 flagged-cons x xs true flags = refl
 flagged-cons x xs false flags = refl
 
@@ -47,7 +49,8 @@ flagged-first_flags earlier [] = refl
 flagged-first_flags earlier (m ∷ ms) =
     let others = filter (λ later. not (is_same m later)) (firsts ms) in
     let rest = flagged-first_flags (earlier ++ m ∷ []) ms
-    ∙ kept_same _ _ (λ later. sym (fresh_more earlier m later)) (firsts ms) ∙ sym (filter_both (is_fresh earlier) (λ later. not (is_same m later)) (firsts ms)) in
+    ∙ kept_same _ _ (λ later. sym (fresh_more earlier m later)) (firsts ms)
+    ∙ sym (filter_both (is_fresh earlier) (λ later. not (is_same m later)) (firsts ms)) in
     flagged-cons m ms (is_fresh earlier m) (first_flags (earlier ++ m ∷ []) ms)
     ∙ ap (λ r. cond (is_fresh earlier m) (m ∷ r) r) rest
 
@@ -59,7 +62,8 @@ flagged-map h (x ∷ xs) (true ∷ flags) = ap (λ r. h x ∷ r) (flagged-map h 
 flagged-map h (x ∷ xs) (false ∷ flags) = flagged-map h xs flags
 
 -- what is kept by the flags is the first of equal ones
-pub firsts_from_flags : {A : Type 0} (h : A → Mapped) (xs kept items : List A) (flags : List Bool) → items ≡ xs → flags ≡ first_flags [] (map h items) → kept ≡ flagged xs flags → map h kept ≡ firsts (map h xs)
+pub firsts_from_flags : {A : Type 0} (h : A → Mapped) (xs kept items : List A) (flags : List Bool) → items ≡ xs
+    → flags ≡ first_flags [] (map h items) → kept ≡ flagged xs flags → map h kept ≡ firsts (map h xs)
 firsts_from_flags h xs kept items flags same marks e =
     ap (map h) e ∙ flagged-map h xs flags ∙ ap (flagged (map h xs)) (marks ∙ ap (λ ys. first_flags [] (map h ys)) same)
     ∙ flagged-first_flags [] (map h xs) ∙ filter_all (firsts (map h xs))
@@ -75,14 +79,17 @@ pub record IsFlagged (ms : List Mapped) (i : ℕ) (flags : List Bool) (has : Map
   pub has_them : (m : Mapped) → has m ≡ list_any (λ e. is_same e m) (take i ms)
 
 -- one more
-pub flagged_more : {A : Type 0} (h : A → Mapped) (xs : List A) (i : ℕ) (x : A) (b : Bool) (flags new : List Bool) (has then : Mapped → Bool) → x ≡ get_or xs i x → i < length xs
+pub flagged_more : {A : Type 0} (h : A → Mapped) (xs : List A) (i : ℕ) (x : A) (b : Bool) (flags new : List Bool)
+    (has then : Mapped → Bool) → x ≡ get_or xs i x → i < length xs
     → IsFlagged (map h xs) i flags has → b ≡ not (has (h x)) → ((m : Mapped) → then m ≡ (has m || is_same (h x) m)) → new ≡ flags ++ b ∷ []
     → IsFlagged (map h xs) (i + 1) new then
 flagged_more h xs i x b flags new has then e l kept fresh marked step =
     let within : i < length (map h xs) = rw length-map l in
     let here : get_or (map h xs) i (h x) ≡ h x = get_or-map h xs i x (h x) l ∙ ap h (sym e) in
-    let front : take (i + 1) (map h xs) ≡ take i (map h xs) ++ h x ∷ [] = take_more (map h xs) i (h x) within ∙ ap (λ y. take i (map h xs) ++ y ∷ []) here in
-    let back : drop i (map h xs) ≡ h x ∷ drop (i + 1) (map h xs) = drop_more (map h xs) i (h x) within ∙ ap (λ y. y ∷ drop (i + 1) (map h xs)) here in
+    let front : take (i + 1) (map h xs) ≡ take i (map h xs) ++ h x ∷ [] = take_more (map h xs) i (h x) within
+    ∙ ap (λ y. take i (map h xs) ++ y ∷ []) here in
+    let back : drop i (map h xs) ≡ h x ∷ drop (i + 1) (map h xs) = drop_more (map h xs) i (h x) within
+    ∙ ap (λ y. y ∷ drop (i + 1) (map h xs)) here in
     let flag : b ≡ is_fresh (take i (map h xs)) (h x) = fresh ∙ ap not (kept.has_them (h x)) in
     record {
       flags_are = (
@@ -92,11 +99,13 @@ flagged_more h xs i x b flags new has then e l kept fresh marked step =
           ∙ ap (λ t. flags ++ is_fresh (take i (map h xs)) (h x) ∷ first_flags t (drop (i + 1) (map h xs))) front
           ∙ ap (λ d. flags ++ first_flags (take i (map h xs)) d) (sym back) ∙ kept.flags_are);
       has_them = λ m. marked m ∙ ap (λ r. r || is_same (h x) m) (kept.has_them m)
-          ∙ sym (ap (list_any (λ e. is_same e m)) front ∙ list_any-append (λ e. is_same e m) (take i (map h xs)) (h x ∷ []) ∙ ap (λ r. list_any (λ e. is_same e m) (take i (map h xs)) || r) (or_none (is_same (h x) m)));
+          ∙ sym (ap (list_any (λ e. is_same e m)) front ∙ list_any-append (λ e. is_same e m) (take i (map h xs)) (h x ∷ [])
+          ∙ ap (λ r. list_any (λ e. is_same e m) (take i (map h xs)) || r) (or_none (is_same (h x) m)));
     }
 
 -- after the last
-pub flagged_all : {A : Type 0} (h : A → Mapped) (xs : List A) (i : ℕ) (flags : List Bool) (has : Mapped → Bool) → i ≡ length xs → IsFlagged (map h xs) i flags has → flags ≡ first_flags [] (map h xs)
+pub flagged_all : {A : Type 0} (h : A → Mapped) (xs : List A) (i : ℕ) (flags : List Bool) (has : Mapped → Bool) → i ≡ length xs
+    → IsFlagged (map h xs) i flags has → flags ≡ first_flags [] (map h xs)
 flagged_all h xs i flags has e kept =
     let same : i ≡ length (map h xs) = rw length-map e in
     let none : drop i (map h xs) ≡ [] = ap (λ n. drop n (map h xs)) same ∙ drop-length (map h xs) in

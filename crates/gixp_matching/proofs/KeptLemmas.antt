@@ -21,15 +21,18 @@ others_kept p (m ∷ ms) h =
     ap (λ r. m ∷ r) (others_kept p ms both.1) ∙ sym (cond-true _ _ _ (ap not both.0))
 
 -- no local name of the mappings is partial
-whole_of : {A : Type 0} (h : A → Mapped) (xs : List A) (b : Bool) → b ≡ list_any (λ x. is_partial (h x)) xs → b ≡ false → list_any is_partial (map h xs) ≡ false
+whole_of : {A : Type 0} (h : A → Mapped) (xs : List A) (b : Bool) → b ≡ list_any (λ x. is_partial (h x)) xs → b ≡ false
+    → list_any is_partial (map h xs) ≡ false
 whole_of h xs b is e = any_of_map is_partial h xs ∙ sym is ∙ e
 
 -- then nothing is noted
-pub no_fixes : {A : Type 0} (specs : List Spec) (h : A → Mapped) (xs : List A) (b : Bool) → b ≡ list_any (λ x. is_partial (h x)) xs → b ≡ false → [] ≡ fixes specs (map h xs)
+pub no_fixes : {A : Type 0} (specs : List Spec) (h : A → Mapped) (xs : List A) (b : Bool) → b ≡ list_any (λ x. is_partial (h x)) xs
+    → b ≡ false → [] ≡ fixes specs (map h xs)
 unfolding fixes
 no_fixes specs h xs b is e = ap (map (removed_at specs)) (sym (none_kept is_partial (map h xs) (whole_of h xs b is e)))
 
 -- and all are kept
-pub all_kept : {A : Type 0} (h : A → Mapped) (xs : List A) (b : Bool) → b ≡ list_any (λ x. is_partial (h x)) xs → b ≡ false → map h xs ≡ kept (map h xs)
+pub all_kept : {A : Type 0} (h : A → Mapped) (xs : List A) (b : Bool) → b ≡ list_any (λ x. is_partial (h x)) xs → b ≡ false
+    → map h xs ≡ kept (map h xs)
 unfolding kept
 all_kept h xs b is e = others_kept is_partial (map h xs) (whole_of h xs b is e)

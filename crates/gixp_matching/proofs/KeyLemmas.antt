@@ -37,7 +37,8 @@ is_eq-source (the_id_key a) (the_name_key b) = refl
 is_eq-source (the_id_key a) (the_id_key b) = is_eq-slice_cmp (key_bytes a) (key_bytes b)
 
 -- two keys are equal where their local names are
-is_eq-local : (a b : Option KeyBytes) → is_eq (option_cmp (key_order.ghosts).cmp a b) ≡ local_eq (option_map key_bytes a) (option_map key_bytes b)
+is_eq-local : (a b : Option KeyBytes) → is_eq (option_cmp (key_order.ghosts).cmp a b)
+    ≡ local_eq (option_map key_bytes a) (option_map key_bytes b)
 is_eq-local None None = refl
 is_eq-local None (Some b) = refl
 is_eq-local (Some a) None = refl
@@ -45,7 +46,8 @@ is_eq-local (Some a) (Some b) = is_eq-slice_cmp (key_bytes a) (key_bytes b)
 
 -- equality of bytes, the other way round
 pub bytes_eq-turned : (a b : List ℕ) → bytes_eq a b ≡ bytes_eq b a
-bytes_eq-turned a b = same_from_decides (bytes_eq a b) (bytes_eq b a) (λ h. sym ((bytes_eq-Decides a b).0 h), λ e. (bytes_eq-Decides a b).1 (sym e)) (bytes_eq-Decides b a)
+bytes_eq-turned a b = same_from_decides (bytes_eq a b) (bytes_eq b a)
+    (λ h. sym ((bytes_eq-Decides a b).0 h), λ e. (bytes_eq-Decides a b).1 (sym e)) (bytes_eq-Decides b a)
 
 -- equality of sources, the other way round
 source_eq-turned : (a b : Source) → source_eq a b ≡ source_eq b a
@@ -88,18 +90,22 @@ abbrev pub by_key : Key → Key → Ordering
 by_key a b = ordering_then ((source_order.ghosts).cmp a.0 b.0) (option_cmp (key_order.ghosts).cmp a.1 b.1)
 
 -- what the order says of two keys
-pub is_eq-key : (a b : Key) → is_eq (by_key a b) ≡ (source_eq (key_source a.0) (key_source b.0) && local_eq (option_map key_bytes a.1) (option_map key_bytes b.1))
+pub is_eq-key : (a b : Key) → is_eq (by_key a b)
+    ≡ (source_eq (key_source a.0) (key_source b.0) && local_eq (option_map key_bytes a.1) (option_map key_bytes b.1))
 is_eq-key a b =
     is_eq-then ((source_order.ghosts).cmp a.0 b.0) (option_cmp (key_order.ghosts).cmp a.1 b.1)
     ∙ ap (λ t. t && is_eq (option_cmp (key_order.ghosts).cmp a.1 b.1)) (is_eq-source a.0 b.0)
     ∙ ap (λ t. source_eq (key_source a.0) (key_source b.0) && t) (is_eq-local a.1 b.1)
 
 -- the table has the key of a mapping
-pub key_at : (key : Key) (m : Mapped) → m.source ≡ key_source key.0 → m.local ≡ option_map key_bytes key.1 → (keys : List Key) → list_any (λ other. is_eq (by_key key other)) keys ≡ is_marked keys m
+pub key_at : (key : Key) (m : Mapped) → m.source ≡ key_source key.0 → m.local ≡ option_map key_bytes key.1 → (keys : List Key)
+    → list_any (λ other. is_eq (by_key key other)) keys ≡ is_marked keys m
 key_at key m sources locals keys = any_same _ _ (λ other.
     is_eq-key key other
-    ∙ ap (λ b. b && local_eq (option_map key_bytes key.1) (option_map key_bytes other.1)) (source_eq-turned (key_source key.0) (key_source other.0) ∙ ap (λ s. source_eq (key_source other.0) s) (sym sources))
-    ∙ ap (λ b. source_eq (key_source other.0) m.source && b) (local_eq-turned (option_map key_bytes key.1) (option_map key_bytes other.1) ∙ ap (λ l. local_eq (option_map key_bytes other.1) l) (sym locals))) keys
+    ∙ ap (λ b. b && local_eq (option_map key_bytes key.1) (option_map key_bytes other.1))
+    (source_eq-turned (key_source key.0) (key_source other.0) ∙ ap (λ s. source_eq (key_source other.0) s) (sym sources))
+    ∙ ap (λ b. source_eq (key_source other.0) m.source && b) (local_eq-turned (option_map key_bytes key.1)
+    (option_map key_bytes other.1) ∙ ap (λ l. local_eq (option_map key_bytes other.1) l) (sym locals))) keys
 
 -- one or the other, the other way round
 pub or_turned : (a b : Bool) → (a || b) ≡ (b || a)
@@ -120,10 +126,12 @@ or_again true b c = refl
 or_again false b c = refl
 
 -- a test of a table with one more key
-pub any_inserted : {K : Type 0} (cmp : K → K → Ordering) (p : K → Bool) (key : K) → ((x : K) → cmp key x ≡ Equal → p x ≡ p key) → (keys : List K) → list_any p (insert_key cmp keys key) ≡ (list_any p keys || p key)
+pub any_inserted : {K : Type 0} (cmp : K → K → Ordering) (p : K → Bool) (key : K) → ((x : K) → cmp key x ≡ Equal → p x ≡ p key)
+    → (keys : List K) → list_any p (insert_key cmp keys key) ≡ (list_any p keys || p key)
 any_inserted cmp p key same [] = or_turned (p key) false
 any_inserted {K} cmp p key same (x ∷ xs) = at (cmp key x) refl (any_inserted cmp p key same xs) where
-  at : (r : Ordering) → cmp key x ≡ r → list_any p (insert_key cmp xs key) ≡ (list_any p xs || p key) → list_any p (match_ordering r (key ∷ x ∷ xs) (x ∷ xs) (x ∷ insert_key cmp xs key)) ≡ ((p x || list_any p xs) || p key)
+  at : (r : Ordering) → cmp key x ≡ r → list_any p (insert_key cmp xs key) ≡ (list_any p xs || p key)
+      → list_any p (match_ordering r (key ∷ x ∷ xs) (x ∷ xs) (x ∷ insert_key cmp xs key)) ≡ ((p x || list_any p xs) || p key)
   at Less e more = or_turned (p key) (p x || list_any p xs)
   at Equal e more = or_known (p x || list_any p xs) (p key) (λ h. or_left _ _ (same x e ∙ h))
   at Greater e more = ap (λ b. p x || b) more ∙ sym (or_again (p x) (list_any p xs) (p key))
@@ -138,4 +146,5 @@ marked_more key m old new sources locals put other =
     let parts = and_parts _ _ (sym (is_eq-key key x) ∙ ap is_eq e) in
     ap (λ s. is_key s (option_map key_bytes x.1) other) (sym (same_source_is _ _ parts.0))
     ∙ ap (λ l. is_key (key_source key.0) l other) (sym (same_local_is _ _ parts.1))) old
-    ∙ ap (λ s. is_marked old other || is_key s (option_map key_bytes key.1) other) sources ∙ ap (λ l. is_marked old other || is_key m.source l other) locals
+    ∙ ap (λ s. is_marked old other || is_key s (option_map key_bytes key.1) other) sources
+    ∙ ap (λ l. is_marked old other || is_key m.source l other) locals

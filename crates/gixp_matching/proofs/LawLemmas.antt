@@ -48,12 +48,14 @@ has-insert_name name new (first ∷ rest) = elim (cases_Bool (is_below first new
 ]
 
 -- the same for a local name, where there is one
-has-insert_local : (name : List ℕ) (local : Option (List ℕ)) (names : List (List ℕ)) → has name (insert_local local names) ≡ (has name names || local_eq local (Some name))
+has-insert_local : (name : List ℕ) (local : Option (List ℕ)) (names : List (List ℕ)) → has name (insert_local local names)
+    ≡ (has name names || local_eq local (Some name))
 has-insert_local name None names = sym (or_turned (has name names) false)
 has-insert_local name (Some new) names = has-insert_name name new names
 
 -- the names that were inserted are those of before and the local names
-has-fold : (name : List ℕ) (ms : List Mapped) (names : List (List ℕ)) → has name (fold (λ ns m. insert_local m.local ns) names ms) ≡ (has name names || list_any (has_local name) ms)
+has-fold : (name : List ℕ) (ms : List Mapped) (names : List (List ℕ)) → has name (fold (λ ns m. insert_local m.local ns) names ms)
+    ≡ (has name names || list_any (has_local name) ms)
 has-fold name [] names = sym (or_turned (has name names) false)
 has-fold name (m ∷ ms) names =
     has-fold name ms (insert_local m.local names) ∙ ap (λ b. b || list_any (has_local name) ms) (has-insert_local name m.local names)

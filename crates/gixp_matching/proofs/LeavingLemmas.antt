@@ -29,33 +29,40 @@ abbrev made : (s : ℕ × Spec) (name : List ℕ) (i : ℕ) (b : Bool) (middle :
 made s name i b middle = cond b [] (option_to_list (option_map (λ m. mapped (Some i) (FullName name) (local_of s.1 m) s.0) middle))
 
 -- the place changes nothing but the place
-made_anywhere : (s : ℕ × Spec) (name : List ℕ) (i j : ℕ) (b : Bool) (middle : Option (List ℕ)) → map without_item (made s name i b middle) ≡ map without_item (made s name j b middle)
+made_anywhere : (s : ℕ × Spec) (name : List ℕ) (i j : ℕ) (b : Bool) (middle : Option (List ℕ))
+    → map without_item (made s name i b middle) ≡ map without_item (made s name j b middle)
 made_anywhere s name i j true middle = refl
 made_anywhere s name i j false None = refl
 made_anywhere s name i j false (Some m) = refl
 
 -- nothing is made without a middle
-made_of_none : (s : ℕ × Spec) (name : List ℕ) (i : ℕ) (b : Bool) (middle : Option (List ℕ)) → is_some middle ≡ false → made s name i b middle ≡ []
+made_of_none : (s : ℕ × Spec) (name : List ℕ) (i : ℕ) (b : Bool) (middle : Option (List ℕ)) → is_some middle ≡ false
+    → made s name i b middle ≡ []
 made_of_none s name i true middle h = refl
 made_of_none s name i false None h = refl
 made_of_none s name i false (Some m) h = cc
 
 -- the mapping of a pair, at two places of the ref
-pair_anywhere : (specs : List Spec) (s : ℕ × Spec) (name : List ℕ) (i j : ℕ) → map without_item (pair specs s (i, name)) ≡ map without_item (pair specs s (j, name))
+pair_anywhere : (specs : List Spec) (s : ℕ × Spec) (name : List ℕ) (i j : ℕ) → map without_item (pair specs s (i, name))
+    ≡ map without_item (pair specs s (j, name))
 unfolding pair
 pair_anywhere specs s name i j = made_anywhere s name i j (is_negative s.1.sign || is_excluded specs name) (middle_of s.1.source name)
 
 -- a name that is not covered makes no mapping
-pair_of_none : (specs : List Spec) (s : ℕ × Spec) (prefixes : List (List ℕ)) (name : List ℕ) (i : ℕ) → Misses prefixes s.1 → is_covered prefixes name ≡ false → pair specs s (i, name) ≡ []
+pair_of_none : (specs : List Spec) (s : ℕ × Spec) (prefixes : List (List ℕ)) (name : List ℕ) (i : ℕ) → Misses prefixes s.1
+    → is_covered prefixes name ≡ false → pair specs s (i, name) ≡ []
 unfolding pair
 pair_of_none specs s prefixes name i misses h = elim (cases_Bool (is_negative s.1.sign)) [
   | inl negative ↦ cond-true _ _ _ (or_left _ _ negative)
-  | inr positive ↦ made_of_none s name i (is_negative s.1.sign || is_excluded specs name) (middle_of s.1.source name) (misses name h positive)
+  | inr positive ↦ made_of_none s name i (is_negative s.1.sign || is_excluded specs name) (middle_of s.1.source name)
+      (misses name h positive)
 ]
 
 -- one refspec over fewer names
-pairs_of_fewer : (specs : List Spec) (s : ℕ × Spec) (prefixes : List (List ℕ)) → Misses prefixes s.1 → (names all : List (List ℕ)) (i j : ℕ) → LeavesOut prefixes names all
-    → map without_item (flat_map (pair specs s) (enumerate_from i names)) ≡ map without_item (flat_map (pair specs s) (enumerate_from j all))
+pairs_of_fewer : (specs : List Spec) (s : ℕ × Spec) (prefixes : List (List ℕ)) → Misses prefixes s.1
+    → (names all : List (List ℕ)) (i j : ℕ) → LeavesOut prefixes names all
+    → map without_item (flat_map (pair specs s) (enumerate_from i names))
+    ≡ map without_item (flat_map (pair specs s) (enumerate_from j all))
 pairs_of_fewer specs s prefixes misses names [] i j h = ap (λ ns. map without_item (flat_map (pair specs s) (enumerate_from i ns))) h
 pairs_of_fewer specs s prefixes misses names (name ∷ all) i j (inl h) =
     let rest = flat_map (pair specs s) (enumerate_from (j + 1) all) in
@@ -74,32 +81,39 @@ pairs_of_fewer specs s prefixes misses names (name ∷ all) i j (inr h) =
 misses_from_prefixes : (prefixes : List (List ℕ)) (s : Spec) (part : List Spec) → CoversAll prefixes (s ∷ part) → Misses prefixes s
 misses_from_prefixes prefixes s part has name h positive = elim (cases_Bool (matches s name)) [
   | inl t ↦ (
-      let among = list_any-append (λ prefix. starts_with nat_eq name prefix) (prefixes_of s) (all_prefixes part) ∙ or_left _ _ (matched_is_covered s name positive t) in
+      let among = list_any-append (λ prefix. starts_with nat_eq name prefix) (prefixes_of s) (all_prefixes part)
+      ∙ or_left _ _ (matched_is_covered s name positive t) in
       absurd (false≢true (sym h ∙ has name among)))
   | inr f ↦ f
 ]
 
 -- the prefixes of the rest are among the prefixes
 rest_has : (prefixes : List (List ℕ)) (s : Spec) (part : List Spec) → CoversAll prefixes (s ∷ part) → CoversAll prefixes part
-rest_has prefixes s part has name h = has name (list_any-append (λ prefix. starts_with nat_eq name prefix) (prefixes_of s) (all_prefixes part) ∙ or_right _ _ h)
+rest_has prefixes s part has name h =
+    has name (list_any-append (λ prefix. starts_with nat_eq name prefix) (prefixes_of s) (all_prefixes part) ∙ or_right _ _ h)
 
 -- each refspec over fewer names
-pairs_fewer : (specs : List Spec) (prefixes : List (List ℕ)) (names all : List (List ℕ)) → LeavesOut prefixes names all → (part : List Spec) (k : ℕ) → CoversAll prefixes part
-    → map without_item (flat_map (pairs_of specs names) (enumerate_from k part)) ≡ map without_item (flat_map (pairs_of specs all) (enumerate_from k part))
+pairs_fewer : (specs : List Spec) (prefixes : List (List ℕ)) (names all : List (List ℕ)) → LeavesOut prefixes names all
+    → (part : List Spec) (k : ℕ) → CoversAll prefixes part
+    → map without_item (flat_map (pairs_of specs names) (enumerate_from k part))
+    ≡ map without_item (flat_map (pairs_of specs all) (enumerate_from k part))
 pairs_fewer specs prefixes names all h [] k has = refl
 pairs_fewer specs prefixes names all h (s ∷ part) k has =
     let left = flat_map (pairs_of specs names) (enumerate_from (k + 1) part) in
     let right = flat_map (pairs_of specs all) (enumerate_from (k + 1) part) in
     map-append without_item (pairs_of specs names (k, s)) left
     ∙ ap (λ z. z ++ map without_item left) (pairs_of_fewer specs (k, s) prefixes (misses_from_prefixes prefixes s part has) names all 0 0 h)
-    ∙ ap (λ z. map without_item (pairs_of specs all (k, s)) ++ z) (pairs_fewer specs prefixes names all h part (k + 1) (rest_has prefixes s part has))
+    ∙ ap (λ z. map without_item (pairs_of specs all (k, s)) ++ z)
+    (pairs_fewer specs prefixes names all h part (k + 1) (rest_has prefixes s part has))
     ∙ sym (map-append without_item (pairs_of specs all (k, s)) right)
 
 -- leaving out refs that no prefix covers changes no mapping
-pub keeps_mappings : (specs : List Spec) (names prefixes all : List (List ℕ)) → CoversAll prefixes specs → LeavesOut prefixes names all → map without_item (mappings specs names) ≡ map without_item (mappings specs all)
+pub keeps_mappings : (specs : List Spec) (names prefixes all : List (List ℕ)) → CoversAll prefixes specs → LeavesOut prefixes names all
+    → map without_item (mappings specs names) ≡ map without_item (mappings specs all)
 keeps_mappings specs names prefixes all covers h =
     let ids = id_mappings specs in
     let same = pairs_fewer specs prefixes names all h specs 0 covers in
     sym (firsts-without_item (ids ++ pairs specs names))
-    ∙ ap firsts (map-append without_item ids (pairs specs names) ∙ ap (λ z. map without_item ids ++ z) same ∙ sym (map-append without_item ids (pairs specs all)))
+    ∙ ap firsts (map-append without_item ids (pairs specs names) ∙ ap (λ z. map without_item ids ++ z) same
+    ∙ sym (map-append without_item ids (pairs specs all)))
     ∙ firsts-without_item (ids ++ pairs specs all)

@@ -10,7 +10,8 @@ use Rattle.gixp_packetline.proofs.ListLemmas.{take-map_more}
 
 -- a step of a loop that appends what it makes of each element that passes
 pub filtered_step : {A B C : Type 0} (h : A → B) (p : B → Bool) (g : B → C) (now new : List C) (xs : List A) (i : ℕ) (d : A) → i < length xs
-    → now ≡ map g (filter p (take i (map h xs))) → new ≡ now ++ map g (filter p (h (get_or xs i d) ∷ [])) → new ≡ map g (filter p (take (i + 1) (map h xs)))
+    → now ≡ map g (filter p (take i (map h xs))) → new ≡ now ++ map g (filter p (h (get_or xs i d) ∷ []))
+    → new ≡ map g (filter p (take (i + 1) (map h xs)))
 filtered_step h p g now new xs i d l kept step =
     let front = take i (map h xs) in
     let last = h (get_or xs i d) ∷ [] in
@@ -18,13 +19,16 @@ filtered_step h p g now new xs i d l kept step =
     ∙ ap (map g) (sym (filter-append p front last)) ∙ ap (λ z. map g (filter p z)) (sym (take-map_more h xs i d l))
 
 -- the same, where the element was read as x
-pub filtered_more : {A B C : Type 0} (h : A → B) (p : B → Bool) (g : B → C) (now new : List C) (xs : List A) (i : ℕ) (x : A) → x ≡ get_or xs i x → i < length xs
-    → now ≡ map g (filter p (take i (map h xs))) → new ≡ now ++ map g (filter p (h x ∷ [])) → new ≡ map g (filter p (take (i + 1) (map h xs)))
+pub filtered_more : {A B C : Type 0} (h : A → B) (p : B → Bool) (g : B → C) (now new : List C) (xs : List A) (i : ℕ) (x : A)
+    → x ≡ get_or xs i x → i < length xs
+    → now ≡ map g (filter p (take i (map h xs))) → new ≡ now ++ map g (filter p (h x ∷ []))
+    → new ≡ map g (filter p (take (i + 1) (map h xs)))
 filtered_more h p g now new xs i x e l kept step =
     filtered_step h p g now new xs i x l kept (step ∙ ap (λ y. now ++ map g (filter p (h y ∷ []))) e)
 
 -- a step of a fold
-pub folded_more : {A B C : Type 0} (h : A → B) (f : C → B → C) (a now new : C) (xs : List A) (i : ℕ) (x : A) → x ≡ get_or xs i x → i < length xs
+pub folded_more : {A B C : Type 0} (h : A → B) (f : C → B → C) (a now new : C) (xs : List A) (i : ℕ) (x : A) → x ≡ get_or xs i x
+    → i < length xs
     → now ≡ fold f a (take i (map h xs)) → new ≡ f now (h x) → new ≡ fold f a (take (i + 1) (map h xs))
 folded_more h f a now new xs i x e l kept step =
     let within : i < length (map h xs) = rw length-map l in
@@ -60,11 +64,13 @@ map_of_map f h [] = refl
 map_of_map f h (x ∷ xs) = ap (λ r. f (h x) ∷ r) (map_of_map f h xs)
 
 -- a step of a loop that appends what it makes of each element
-pub mapped_more : {A B C : Type 0} (h : A → B) (g : B → C) (now new : List C) (xs : List A) (i : ℕ) (x : A) → x ≡ get_or xs i x → i < length xs
+pub mapped_more : {A B C : Type 0} (h : A → B) (g : B → C) (now new : List C) (xs : List A) (i : ℕ) (x : A) → x ≡ get_or xs i x
+    → i < length xs
     → now ≡ map g (take i (map h xs)) → new ≡ now ++ g (h x) ∷ [] → new ≡ map g (take (i + 1) (map h xs))
 mapped_more h g now new xs i x e l kept step =
     let front = take i (map h xs) in
-    step ∙ ap (λ y. now ++ g (h y) ∷ []) e ∙ ap (λ z. z ++ g (h (get_or xs i x)) ∷ []) kept ∙ sym (map-append g front (h (get_or xs i x) ∷ []))
+    step ∙ ap (λ y. now ++ g (h y) ∷ []) e ∙ ap (λ z. z ++ g (h (get_or xs i x)) ∷ []) kept
+    ∙ sym (map-append g front (h (get_or xs i x) ∷ []))
     ∙ ap (map g) (sym (take-map_more h xs i x l))
 
 -- lists made of what a function makes
@@ -78,31 +84,37 @@ flat_map-append_one f [] x = append-nil (f x)
 flat_map-append_one f (y ∷ ys) x = ap (λ z. f y ++ z) (flat_map-append_one f ys x) ∙ sym (append_assoc (f y) (flat_map f ys) (f x))
 
 -- a step of a loop over items that were yielded one by one
-pub made_more : {A B : Type 0} (f : A → List B) (now new : List B) (xs : List A) (x : A) → now ≡ flat_map f xs → new ≡ now ++ f x → new ≡ flat_map f (xs ++ x ∷ [])
+pub made_more : {A B : Type 0} (f : A → List B) (now new : List B) (xs : List A) (x : A) → now ≡ flat_map f xs → new ≡ now ++ f x
+    → new ≡ flat_map f (xs ++ x ∷ [])
 made_more f now new xs x kept step = step ∙ ap (λ z. z ++ f x) kept ∙ sym (flat_map-append_one f xs x)
 
 -- a step of a loop that appends what it makes of each element, where the element was read as x
-pub gathered_more : {A B C : Type 0} (h : A → B) (f : B → List C) (now new : List C) (xs : List A) (i : ℕ) (x : A) → x ≡ get_or xs i x → i < length xs
+pub gathered_more : {A B C : Type 0} (h : A → B) (f : B → List C) (now new : List C) (xs : List A) (i : ℕ) (x : A) → x ≡ get_or xs i x
+    → i < length xs
     → now ≡ flat_map f (take i (map h xs)) → new ≡ now ++ f (h x) → new ≡ flat_map f (take (i + 1) (map h xs))
 gathered_more h f now new xs i x e l kept step =
-    made_more f now new (take i (map h xs)) (h (get_or xs i x)) kept (step ∙ ap (λ y. now ++ f (h y)) e) ∙ ap (flat_map f) (sym (take-map_more h xs i x l))
+    made_more f now new (take i (map h xs)) (h (get_or xs i x)) kept (step ∙ ap (λ y. now ++ f (h y)) e)
+    ∙ ap (flat_map f) (sym (take-map_more h xs i x l))
 
 -- a step of a loop that appends what it makes of each element after what was there
 pub gathered_behind : {A B C : Type 0} (h : A → B) (f : B → List C) (old now new : List C) (xs : List A) (i : ℕ) (d : A) → i < length xs
     → now ≡ old ++ flat_map f (take i (map h xs)) → new ≡ now ++ f (h (get_or xs i d)) → new ≡ old ++ flat_map f (take (i + 1) (map h xs))
 gathered_behind h f old now new xs i d l kept step =
     step ∙ ap (λ z. z ++ f (h (get_or xs i d))) kept ∙ append_assoc old (flat_map f (take i (map h xs))) (f (h (get_or xs i d)))
-    ∙ ap (λ z. old ++ z) (sym (flat_map-append_one f (take i (map h xs)) (h (get_or xs i d))) ∙ ap (flat_map f) (sym (take-map_more h xs i d l)))
+    ∙ ap (λ z. old ++ z) (sym (flat_map-append_one f (take i (map h xs)) (h (get_or xs i d)))
+    ∙ ap (flat_map f) (sym (take-map_more h xs i d l)))
 
 -- the same of what stands in a list itself
-pub gathered_here : {B C : Type 0} (f : B → List C) (old now new : List C) (xs : List B) (i : ℕ) (d : B) → i < length xs → now ≡ old ++ flat_map f (take i xs) → new ≡ now ++ f (get_or xs i d)
+pub gathered_here : {B C : Type 0} (f : B → List C) (old now new : List C) (xs : List B) (i : ℕ) (d : B) → i < length xs → now ≡ old
+    ++ flat_map f (take i xs) → new ≡ now ++ f (get_or xs i d)
     → new ≡ old ++ flat_map f (take (i + 1) xs)
 gathered_here f old now new xs i d l kept step =
     step ∙ ap (λ z. z ++ f (get_or xs i d)) kept ∙ append_assoc old (flat_map f (take i xs)) (f (get_or xs i d))
     ∙ ap (λ z. old ++ z) (sym (flat_map-append_one f (take i xs) (get_or xs i d)) ∙ ap (flat_map f) (sym (take_more xs i d l)))
 
 -- a step of a loop that appends what a function makes of each element
-pub numbered_more : {A B : Type 0} (f : A → B) (now new : List B) (xs : List A) (i : ℕ) (d : A) (made : B) → i < length xs → now ≡ take i (map f xs) → made ≡ f (get_or xs i d) → new ≡ now ++ made ∷ []
+pub numbered_more : {A B : Type 0} (f : A → B) (now new : List B) (xs : List A) (i : ℕ) (d : A) (made : B) → i < length xs
+    → now ≡ take i (map f xs) → made ≡ f (get_or xs i d) → new ≡ now ++ made ∷ []
     → new ≡ take (i + 1) (map f xs)
 numbered_more f now new xs i d made l kept is step =
     step ∙ ap (λ y. now ++ y ∷ []) is ∙ ap (λ z. z ++ f (get_or xs i d) ∷ []) kept ∙ sym (take-map_more f xs i d l)

@@ -39,31 +39,39 @@ or_behind true b c = refl
 or_behind false b c = refl
 
 -- what a needle of a negative refspec matches is excluded
-matched_is : (s : Spec) (needle : Needle) (name : List ℕ) → is_negative s.sign ≡ true → IsNeedle s.source needle → is_some (middle_with needle name) ≡ excludes name s
-matched_is s needle name negative made = ap is_some (middle_with-needle s.source name needle made) ∙ ap (λ b. b && is_some (middle_of s.source name)) (sym negative)
+matched_is : (s : Spec) (needle : Needle) (name : List ℕ) → is_negative s.sign ≡ true → IsNeedle s.source needle
+    → is_some (middle_with needle name) ≡ excludes name s
+matched_is s needle name negative made = ap is_some (middle_with-needle s.source name needle made)
+    ∙ ap (λ b. b && is_some (middle_of s.source name)) (sym negative)
 
 -- a positive refspec excludes nothing
-pub none_more : (rows : List Row) (needles : List Needle) (s : Spec) (name : List ℕ) → is_negative s.sign ≡ false → is_any rows needles name ≡ (is_any rows needles name || excludes name s)
+pub none_more : (rows : List Row) (needles : List Needle) (s : Spec) (name : List ℕ) → is_negative s.sign ≡ false
+    → is_any rows needles name ≡ (is_any rows needles name || excludes name s)
 none_more rows needles s name positive =
     sym (ap (λ b. is_any rows needles name || (b && is_some (middle_of s.source name))) positive ∙ or_none (is_any rows needles name))
 
 -- one exact name more
-pub name_more : (rows new : List Row) (needles : List Needle) (row : Row) (needle : Needle) (s : Spec) (name : List ℕ) → is_negative s.sign ≡ true → IsNeedle s.source needle
-    → is_some (middle_with needle name) ≡ bytes_eq name row.name.now → new ≡ rows ++ row ∷ [] → is_any new needles name ≡ (is_any rows needles name || excludes name s)
+pub name_more : (rows new : List Row) (needles : List Needle) (row : Row) (needle : Needle) (s : Spec) (name : List ℕ)
+    → is_negative s.sign ≡ true → IsNeedle s.source needle
+    → is_some (middle_with needle name) ≡ bytes_eq name row.name.now → new ≡ rows ++ row ∷ []
+    → is_any new needles name ≡ (is_any rows needles name || excludes name s)
 name_more rows new needles row needle s name negative made exact put =
     let others = list_any (λ n. is_some (middle_with n name)) needles in
     ap (λ rs. is_any rs needles name) put
-    ∙ ap (λ b. b || others) (list_any-append (is_row_of name) rows (row ∷ []) ∙ ap (λ b. list_any (is_row_of name) rows || b) (or_none (is_row_of name row)))
+    ∙ ap (λ b. b || others) (list_any-append (is_row_of name) rows (row ∷ [])
+    ∙ ap (λ b. list_any (is_row_of name) rows || b) (or_none (is_row_of name row)))
     ∙ or_between (list_any (is_row_of name) rows) others (is_row_of name row)
     ∙ ap (λ b. is_any rows needles name || b) (bytes_eq-turned row.name.now name ∙ sym exact ∙ matched_is s needle name negative made)
 
 -- one needle more
-pub needle_more : (rows : List Row) (needles new : List Needle) (needle : Needle) (s : Spec) (name : List ℕ) → is_negative s.sign ≡ true → IsNeedle s.source needle
+pub needle_more : (rows : List Row) (needles new : List Needle) (needle : Needle) (s : Spec) (name : List ℕ) → is_negative s.sign ≡ true
+    → IsNeedle s.source needle
     → new ≡ needles ++ needle ∷ [] → is_any rows new name ≡ (is_any rows needles name || excludes name s)
 needle_more rows needles new needle s name negative made put =
     let p : Needle → Bool = λ n. is_some (middle_with n name) in
     let first = list_any (is_row_of name) rows in
-    ap (λ ns. first || list_any p ns) put ∙ ap (λ b. first || b) (list_any-append p needles (needle ∷ []) ∙ ap (λ b. list_any p needles || b) (or_none (p needle)))
+    ap (λ ns. first || list_any p ns) put ∙ ap (λ b. first || b) (list_any-append p needles (needle ∷ [])
+    ∙ ap (λ b. list_any p needles || b) (or_none (p needle)))
     ∙ or_behind first (list_any p needles) (p needle) ∙ ap (λ b. is_any rows needles name || b) (matched_is s needle name negative made)
 
 -- the exact name of a needle
@@ -71,8 +79,10 @@ pub exact_is : (name text : List ℕ) → is_some (where_true (bytes_eq name tex
 exact_is name text = some_where (bytes_eq name text)
 
 -- a step of the walk over the refspecs
-pub prepared_more : (rows new : List Row) (needles others : List Needle) (specs : List RefSpecRef) (i : ℕ) (x : RefSpecRef) (name : List ℕ) → x ≡ get_or specs i x → i < length specs
-    → is_any rows needles name ≡ list_any (excludes name) (take i (map value_of specs)) → is_any new others name ≡ (is_any rows needles name || excludes name (value_of x))
+pub prepared_more : (rows new : List Row) (needles others : List Needle) (specs : List RefSpecRef) (i : ℕ) (x : RefSpecRef)
+    (name : List ℕ) → x ≡ get_or specs i x → i < length specs
+    → is_any rows needles name ≡ list_any (excludes name) (take i (map value_of specs))
+    → is_any new others name ≡ (is_any rows needles name || excludes name (value_of x))
     → is_any new others name ≡ list_any (excludes name) (take (i + 1) (map value_of specs))
 prepared_more rows new needles others specs i x name e l kept step =
     let front = take i (map value_of specs) in
@@ -82,18 +92,22 @@ prepared_more rows new needles others specs i x name e l kept step =
     ∙ ap (list_any (excludes name)) (sym (take-map_more value_of specs i x l))
 
 -- something passes exactly where not nothing is kept
-pub kept_some : {X : Type 0} (p : X → Bool) (xs kept : List X) (b : Bool) → b ≡ (length kept == 0) → kept ≡ filter p xs → not b ≡ list_any p xs
+pub kept_some : {X : Type 0} (p : X → Bool) (xs kept : List X) (b : Bool) → b ≡ (length kept == 0) → kept ≡ filter p xs
+    → not b ≡ list_any p xs
 kept_some p xs kept b is same = ap not (is ∙ ap (λ l. length l == 0) same) ∙ at p xs where
   at : {X : Type 0} (p : X → Bool) (xs : List X) → not (length (filter p xs) == 0) ≡ list_any p xs
   at p [] = refl
   at p (x ∷ xs) = elim (cases_Bool (p x)) [
-    | inl t ↦ ap (λ l. not (length l == 0)) (cond-true _ _ _ t) ∙ ap not (ne_eqb (length (x ∷ filter p xs)) 0 (λ e. omega (arith, e))) ∙ sym (or_left _ _ t)
+    | inl t ↦ ap (λ l. not (length l == 0)) (cond-true _ _ _ t) ∙ ap not (ne_eqb (length (x ∷ filter p xs)) 0 (λ e. omega (arith, e)))
+        ∙ sym (or_left _ _ t)
     | inr f ↦ ap (λ l. not (length l == 0)) (cond-false _ _ _ f) ∙ at p xs ∙ sym (ap (λ b. b || list_any p xs) f)
   ]
 
 -- after the last refspec, once the names are sorted
-pub prepared_all : (rows sorted : List Row) (needles : List Needle) (specs : List RefSpecRef) (i : ℕ) (name : List ℕ) → i ≡ length specs → IsPermutation rows sorted
-    → is_any rows needles name ≡ list_any (excludes name) (take i (map value_of specs)) → is_any sorted needles name ≡ is_excluded (map value_of specs) name
+pub prepared_all : (rows sorted : List Row) (needles : List Needle) (specs : List RefSpecRef) (i : ℕ) (name : List ℕ) → i ≡ length specs
+    → IsPermutation rows sorted
+    → is_any rows needles name ≡ list_any (excludes name) (take i (map value_of specs))
+    → is_any sorted needles name ≡ is_excluded (map value_of specs) name
 unfolding is_excluded
 prepared_all rows sorted needles specs i name e moved kept =
     let same : length (map value_of specs) ≤ i = rw length-map (omega (arith, e)) in

@@ -44,17 +44,23 @@ knows_more x known (m ∷ ms) h = (or_right _ _ h.0, knows_more x known ms h.1)
 
 -- one name of one refspec, and what comes after it
 one_backed : (G : Mapped → Type 0) (known ys : List Mapped) (s : ℕ × Spec) (name : List ℕ) (i : ℕ) (b : Bool) (middle : Option (List ℕ))
-    → ((m : List ℕ) → b ≡ false → middle ≡ Some m → G (mapped (Some i) (FullName name) (local_of s.1 m) s.0) ⊎ (has_same known (mapped (Some i) (FullName name) (local_of s.1 m) s.0) ≡ true))
-    → ((now : List Mapped) → ((ms : List Mapped) → Knows known ms → Knows now ms) → ((j : ℕ) → Knows now (made s name j b middle)) → Backed G now ys)
+    → ((m : List ℕ) → b ≡ false → middle ≡ Some m → G (mapped (Some i) (FullName name) (local_of s.1 m) s.0)
+    ⊎ (has_same known (mapped (Some i) (FullName name) (local_of s.1 m) s.0) ≡ true))
+    → ((now : List Mapped) → ((ms : List Mapped) → Knows known ms → Knows now ms) → ((j : ℕ) → Knows now (made s name j b middle))
+    → Backed G now ys)
     → Backed G known (made s name i b middle ++ ys)
 one_backed G known ys s name i true middle h t = t known (λ ms k. k) (λ j. tt)
 one_backed G known ys s name i false None h t = t known (λ ms k. k) (λ j. tt)
 one_backed G known ys s name i false (Some m) h t =
-    let x = mapped (Some i) (FullName name) (local_of s.1 m) s.0 in
-    (h m refl refl, t (x ∷ known) (λ ms k. knows_more x known ms k) (λ j. (or_left _ _ (both _ _ (bytes_same name) (local_same (local_of s.1 m))), tt)))
+    let x = mapped (Some i) (FullName name) (local_of s.1 m) s.0 in (
+      h m refl refl,
+      t (x ∷ known) (λ ms k. knows_more x known ms k)
+          (λ j. (or_left _ _ (both _ _ (bytes_same name) (local_same (local_of s.1 m))), tt)),
+    )
 
 -- what is known of what was made
-knows_made : (known : List Mapped) (s : ℕ × Spec) (name : List ℕ) (i : ℕ) (b : Bool) (middle : Option (List ℕ)) (m : List ℕ) → b ≡ false → middle ≡ Some m
+knows_made : (known : List Mapped) (s : ℕ × Spec) (name : List ℕ) (i : ℕ) (b : Bool) (middle : Option (List ℕ)) (m : List ℕ) → b ≡ false
+    → middle ≡ Some m
     → Knows known (made s name i b middle) → has_same known (mapped (Some i) (FullName name) (local_of s.1 m) s.0) ≡ true
 knows_made known s name i b middle m e f h = let k = rw (e, f) at h in k.0
 
@@ -64,7 +70,8 @@ at_seam [] rest s = refl
 at_seam (d ∷ done) rest s = at_seam done rest s
 
 -- the first that passes, after others that don't
-first_at_seam : (p : List ℕ → Bool) (k : ℕ) (done rest : List (List ℕ)) (x : List ℕ) → list_any p done ≡ false → p x ≡ true → position_from p k (done ++ x ∷ rest) ≡ Some (k + length done)
+first_at_seam : (p : List ℕ → Bool) (k : ℕ) (done rest : List (List ℕ)) (x : List ℕ) → list_any p done ≡ false → p x ≡ true
+    → position_from p k (done ++ x ∷ rest) ≡ Some (k + length done)
 first_at_seam p k [] rest x none here = rw here (ap (λ n. Some n) (omega arith))
 first_at_seam p k (d ∷ done) rest x none here = elim (cases_Bool (p d)) [
   | inl t ↦ absurd (false≢true (sym none ∙ or_left _ _ t))
@@ -82,7 +89,8 @@ is_there o m e = ap is_some e
 
 -- a name that is the only one
 named : (other name : List ℕ) → (is_name other name || false) ≡ true → name ≡ other
-named other name h = (bytes_eq-Decides name other).0 (elim (or_cases (is_name other name) false h) [ inl t ↦ t | inr f ↦ absurd (false≢true f) ])
+named other name h =
+    (bytes_eq-Decides name other).0 (elim (or_cases (is_name other name) false h) [ inl t ↦ t | inr f ↦ absurd (false≢true f) ])
 
 -- one refspec and the names after those that are done
 row_backed : (specs : List Spec) (names : List (List ℕ)) (j : ℕ) (s : Spec) → slice_get specs j ≡ Some s
@@ -102,7 +110,8 @@ row_backed specs names j s l known done (name ∷ rest) i e split inv =
         origin = s;
         at_place = l;
         taken = (
-          ap (position_from (is_name name) 0) split ∙ first_at_seam (is_name name) 0 done rest name new (bytes_same name) ∙ ap (λ n. Some n) (omega arith),
+          ap (position_from (is_name name) 0) split ∙ first_at_seam (is_name name) 0 done rest name new (bytes_same name)
+              ∙ ap (λ n. Some n) (omega arith),
           matched_is_covered s name (not_either _ _ f) (is_there middle m g),
         );
       })
@@ -111,7 +120,8 @@ row_backed specs names j s l known done (name ∷ rest) i e split inv =
     row_backed specs names j s l now (done ++ name ∷ []) rest (i + 1)
     (ap (λ n. n + 1) e ∙ sym (length-append done (name ∷ [])))
     (split ∙ sym (append_assoc done (name ∷ []) rest))
-    (λ other among at. elim (or_cases (list_any (is_name other) done) (is_name other name || false) (sym (list_any-append (is_name other) done (name ∷ [])) ∙ among)) [
+    (λ other among at. elim (or_cases (list_any (is_name other) done) (is_name other name || false)
+    (sym (list_any-append (is_name other) done (name ∷ [])) ∙ among)) [
       | inl before ↦ keeps (pair specs (j, s) (at, other)) (inv other before at)
       | inr here ↦ (
           let P : List ℕ → Type 0 = λ n. Knows now (pair specs (j, s) (at, n)) in
@@ -127,13 +137,17 @@ rows_backed : (specs : List Spec) (names : List (List ℕ)) (done part : List Sp
     → (known : List Mapped) → Backed (HasOrigin specs names) known (flat_map (pairs_of specs names) (enumerate_from k part))
 rows_backed specs names done [] k e split known = tt
 rows_backed specs names done (s ∷ part) k e split known =
-    backed_append (HasOrigin specs names) known (pairs_of specs names (k, s)) (flat_map (pairs_of specs names) (enumerate_from (k + 1) part))
+    backed_append (HasOrigin specs names) known (pairs_of specs names (k, s))
+    (flat_map (pairs_of specs names) (enumerate_from (k + 1) part))
     (row_backed specs names k s (here specs done part s k e split) known [] names 0 refl refl (λ name h. absurd (false≢true h)))
-    (λ now. rows_backed specs names (done ++ s ∷ []) part (k + 1) (ap (λ n. n + 1) e ∙ sym (length-append done (s ∷ []))) (split ∙ sym (append_assoc done (s ∷ []) part)) now)
+    (λ now. rows_backed specs names (done ++ s ∷ []) part (k + 1) (ap (λ n. n + 1) e ∙ sym (length-append done (s ∷ [])))
+    (split ∙ sym (append_assoc done (s ∷ []) part)) now)
 
 -- one id
-id_backed : (specs : List Spec) (names : List (List ℕ)) (known : List Mapped) (s : ℕ × Spec) (b : Bool) (id : Option (List ℕ)) → slice_get specs s.0 ≡ Some s.1 → id_of s.1.source ≡ id
-    → Backed (HasOrigin specs names) known (cond b [] (option_to_list (option_map (λ bytes. mapped None (ObjectId bytes) (local_of s.1 []) s.0) id)))
+id_backed : (specs : List Spec) (names : List (List ℕ)) (known : List Mapped) (s : ℕ × Spec) (b : Bool) (id : Option (List ℕ))
+    → slice_get specs s.0 ≡ Some s.1 → id_of s.1.source ≡ id
+    → Backed (HasOrigin specs names) known (cond b []
+    (option_to_list (option_map (λ bytes. mapped None (ObjectId bytes) (local_of s.1 []) s.0) id)))
 id_backed specs names known s true id l e = tt
 id_backed specs names known s false None l e = tt
 id_backed specs names known s false (Some bytes) l e = (inl (record { origin = s.1; at_place = l; taken = e }), tt)
@@ -146,7 +160,8 @@ ids_backed specs names done [] k e split known = tt
 ids_backed specs names done (s ∷ part) k e split known =
     backed_append (HasOrigin specs names) known (id_mapping (k, s)) (flat_map id_mapping (enumerate_from (k + 1) part))
     (id_backed specs names known (k, s) (is_negative s.sign) (id_of s.source) (here specs done part s k e split) refl)
-    (λ now. ids_backed specs names (done ++ s ∷ []) part (k + 1) (ap (λ n. n + 1) e ∙ sym (length-append done (s ∷ []))) (split ∙ sym (append_assoc done (s ∷ []) part)) now)
+    (λ now. ids_backed specs names (done ++ s ∷ []) part (k + 1) (ap (λ n. n + 1) e ∙ sym (length-append done (s ∷ [])))
+    (split ∙ sym (append_assoc done (s ∷ []) part)) now)
 
 -- each mapping has a refspec and a source
 pub have_origins : (specs : List Spec) (names : List (List ℕ)) → AllByRecursion (HasOrigin specs names) (mappings specs names)

@@ -12,7 +12,8 @@ use Rattle.gixp_matching.specs.Mappings.{FullName, Mapped, mapped, is_excluded, 
 use Rattle.gixp_matching.proofs.NeedleLemmas.{middle_with-needle}
 
 -- what the needle finds is the middle
-found_is : (source name : List ℕ) (needle : Needle) (r found : Option (List ℕ)) → IsNeedle source needle → r ≡ middle_with needle name → r ≡ found → middle_of source name ≡ found
+found_is : (source name : List ℕ) (needle : Needle) (r found : Option (List ℕ)) → IsNeedle source needle → r ≡ middle_with needle name
+    → r ≡ found → middle_of source name ≡ found
 found_is source name needle r found made was is = sym (middle_with-needle source name needle made) ∙ sym was ∙ is
 
 -- what a refspec makes of a name: nothing where b, else a mapping for the middle
@@ -25,21 +26,25 @@ none_made s name i true = refl
 none_made s name i false = refl
 
 -- no mapping where the source doesn't match
-pub pair_unmatched : (specs : List Spec) (s : ℕ × Spec) (name : List ℕ) (i : ℕ) (needle : Needle) (r : Option (Bor (List ℕ))) → IsNeedle s.1.source needle
+pub pair_unmatched : (specs : List Spec) (s : ℕ × Spec) (name : List ℕ) (i : ℕ) (needle : Needle) (r : Option (Bor (List ℕ)))
+    → IsNeedle s.1.source needle
     → option_copied r ≡ middle_with needle name → r ≡ None → [] ≡ pair specs s (i, name)
 unfolding pair
 pair_unmatched specs s name i needle r made_of was is =
     let none = found_is s.1.source name needle (option_copied r) None made_of was (ap option_copied is) in
-    sym (ap (made s name i (is_negative s.1.sign || is_excluded specs name)) none ∙ none_made s name i (is_negative s.1.sign || is_excluded specs name))
+    sym (ap (made s name i (is_negative s.1.sign || is_excluded specs name)) none
+    ∙ none_made s name i (is_negative s.1.sign || is_excluded specs name))
 
 -- the mapping where it does, and no negative refspec matches the ref
-pub pair_matched : (specs : List Spec) (s : ℕ × Spec) (name : List ℕ) (i : ℕ) (needle : Needle) (r : Option (Bor (List ℕ))) (m : Bor (List ℕ)) (local : Option (List ℕ)) (source : List ℕ) → IsNeedle s.1.source needle
+pub pair_matched : (specs : List Spec) (s : ℕ × Spec) (name : List ℕ) (i : ℕ) (needle : Needle) (r : Option (Bor (List ℕ)))
+    (m : Bor (List ℕ)) (local : Option (List ℕ)) (source : List ℕ) → IsNeedle s.1.source needle
     → option_copied r ≡ middle_with needle name → r ≡ Some m → is_negative s.1.sign ≡ false → is_excluded specs name ≡ false
     → local ≡ local_of s.1 m.now → source ≡ name → mapped (Some i) (FullName source) local s.0 ∷ [] ≡ pair specs s (i, name)
 unfolding pair
 pair_matched specs s name i needle r m local source made_of was is positive kept locals names =
     let some = found_is s.1.source name needle (option_copied r) (Some m.now) made_of was (ap option_copied is) in
-    ap (λ l. mapped (Some i) (FullName source) l s.0 ∷ []) locals ∙ ap (λ n. mapped (Some i) (FullName n) (local_of s.1 m.now) s.0 ∷ []) names
+    ap (λ l. mapped (Some i) (FullName source) l s.0 ∷ []) locals
+    ∙ ap (λ n. mapped (Some i) (FullName n) (local_of s.1 m.now) s.0 ∷ []) names
     ∙ sym (ap (made s name i (is_negative s.1.sign || is_excluded specs name)) some
     ∙ ap (λ b. made s name i (b || is_excluded specs name) (Some m.now)) positive ∙ ap (λ b. made s name i b (Some m.now)) kept)
 
@@ -49,16 +54,19 @@ copied_some None = refl
 copied_some (Some x) = refl
 
 -- a negative refspec excludes what its needle matches
-pub excludes_is : (sign : Sign) (source name : List ℕ) (destination : Option (List ℕ)) (needle : Needle) (r : Option (Bor (List ℕ))) (b : Bool) → IsNeedle source needle
+pub excludes_is : (sign : Sign) (source name : List ℕ) (destination : Option (List ℕ)) (needle : Needle) (r : Option (Bor (List ℕ)))
+    (b : Bool) → IsNeedle source needle
     → option_copied r ≡ middle_with needle name → b ≡ is_some r → is_negative sign ≡ true → b ≡ excludes name (spec sign source destination)
 excludes_is sign source name destination needle r b made_of was is negative =
-    is ∙ copied_some r ∙ ap is_some (was ∙ middle_with-needle source name needle made_of) ∙ ap (λ n. n && is_some (middle_of source name)) (sym negative)
+    is ∙ copied_some r ∙ ap is_some (was ∙ middle_with-needle source name needle made_of)
+    ∙ ap (λ n. n && is_some (middle_of source name)) (sym negative)
 
 -- no mapping without a middle
 pub pair_none : (specs : List Spec) (s : ℕ × Spec) (ref : ℕ × List ℕ) → middle_of s.1.source ref.1 ≡ None → [] ≡ pair specs s ref
 unfolding pair
 pair_none specs s ref none =
-    sym (ap (made s ref.1 ref.0 (is_negative s.1.sign || is_excluded specs ref.1)) none ∙ none_made s ref.1 ref.0 (is_negative s.1.sign || is_excluded specs ref.1))
+    sym (ap (made s ref.1 ref.0 (is_negative s.1.sign || is_excluded specs ref.1)) none
+    ∙ none_made s ref.1 ref.0 (is_negative s.1.sign || is_excluded specs ref.1))
 
 -- no mapping of a negative refspec
 pub pair_negative : (specs : List Spec) (s : ℕ × Spec) (ref : ℕ × List ℕ) → is_negative s.1.sign ≡ true → [] ≡ pair specs s ref

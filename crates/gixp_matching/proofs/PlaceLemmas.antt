@@ -40,23 +40,28 @@ turned false true = refl
 turned false false = refl
 
 -- the place of one ref
-pub place_added : (ref : ℕ × List ℕ) (old new : BTreeSet ℕ) → ((place : ℕ) → contains nat_cmp new place ≡ cond (is_eq (nat_cmp ref.0 place)) true (contains nat_cmp old place))
+pub place_added : (ref : ℕ × List ℕ) (old new : BTreeSet ℕ)
+    → ((place : ℕ) → contains nat_cmp new place ≡ cond (is_eq (nat_cmp ref.0 place)) true (contains nat_cmp old place))
     → AddsPlaces (ref ∷ []) old new
 place_added ref old new step place =
-    step place ∙ ap (λ b. cond b true (contains nat_cmp old place)) (unsigned_tied ref.0 place) ∙ turned (ref.0 == place) (contains nat_cmp old place)
+    step place ∙ ap (λ b. cond b true (contains nat_cmp old place)) (unsigned_tied ref.0 place)
+    ∙ turned (ref.0 == place) (contains nat_cmp old place)
 
 or_again : (a b c : Bool) → ((a || b) || c) ≡ (a || (b || c))
 or_again true b c = refl
 or_again false b c = refl
 
 -- those of more refs
-pub places_added : (refs more : List (ℕ × List ℕ)) (old now new : BTreeSet ℕ) → AddsPlaces refs old now → AddsPlaces more now new → AddsPlaces (refs ++ more) old new
+pub places_added : (refs more : List (ℕ × List ℕ)) (old now new : BTreeSet ℕ) → AddsPlaces refs old now → AddsPlaces more now new
+    → AddsPlaces (refs ++ more) old new
 places_added refs more old now new kept step place =
-    step place ∙ ap (λ b. b || has_place place more) (kept place) ∙ or_again (contains nat_cmp old place) (has_place place refs) (has_place place more)
+    step place ∙ ap (λ b. b || has_place place more) (kept place)
+    ∙ or_again (contains nat_cmp old place) (has_place place refs) (has_place place more)
     ∙ ap (λ b. contains nat_cmp old place || b) (sym (list_any-append (λ (r : ℕ × List ℕ). r.0 == place) refs more))
 
 -- an empty set has those of no name
-pub no_places : (all : List (List ℕ)) (set : BTreeSet ℕ) (place : ℕ) → set.keys ≡ [] → contains nat_cmp set place ≡ has_place place (meant all [])
+pub no_places : (all : List (List ℕ)) (set : BTreeSet ℕ) (place : ℕ) → set.keys ≡ []
+    → contains nat_cmp set place ≡ has_place place (meant all [])
 no_places all set place h = rw h (ap (has_place place) (meant_none all))
 
 both_have : (q f a b : Bool) → f ≡ (a || b) → (q || f) ≡ ((q || a) || (q || b))
@@ -73,12 +78,14 @@ second_has true f false b h = refl
 second_has false f a b h = h
 
 -- what is found among those that pass one of two tests
-any_of_either : {X : Type 0} (p a b : X → Bool) (xs : List X) → list_any p (filter (λ x. a x || b x) xs) ≡ (list_any p (filter a xs) || list_any p (filter b xs))
+any_of_either : {X : Type 0} (p a b : X → Bool) (xs : List X) → list_any p (filter (λ x. a x || b x) xs)
+    ≡ (list_any p (filter a xs) || list_any p (filter b xs))
 any_of_either p a b [] = refl
 any_of_either {X} p a b (x ∷ xs) = at (a x) (b x) (any_of_either p a b xs)
   where
     at : (c d : Bool) → list_any p (filter (λ y. a y || b y) xs) ≡ (list_any p (filter a xs) || list_any p (filter b xs))
-        → list_any p (cond (c || d) (x ∷ filter (λ y. a y || b y) xs) (filter (λ y. a y || b y) xs)) ≡ (list_any p (cond c (x ∷ filter a xs) (filter a xs)) || list_any p (cond d (x ∷ filter b xs) (filter b xs)))
+        → list_any p (cond (c || d) (x ∷ filter (λ y. a y || b y) xs) (filter (λ y. a y || b y) xs))
+        ≡ (list_any p (cond c (x ∷ filter a xs) (filter a xs)) || list_any p (cond d (x ∷ filter b xs) (filter b xs)))
     at true true h = both_have (p x) _ _ _ h
     at true false h = first_has (p x) _ _ _ h
     at false true h = second_has (p x) _ _ _ h
@@ -86,7 +93,8 @@ any_of_either {X} p a b (x ∷ xs) = at (a x) (b x) (any_of_either p a b xs)
 
 -- those of one name more
 pub places_more : (all texts : List (List ℕ)) (text : List ℕ) (rows run : List Row) (now new : BTreeSet ℕ) → IsRowTable all rows
-    → ((place : ℕ) → contains nat_cmp now place ≡ has_place place (meant all texts)) → run ≡ filter (is_row_of text) rows → AddsPlaces (map shown run) now new
+    → ((place : ℕ) → contains nat_cmp now place ≡ has_place place (meant all texts)) → run ≡ filter (is_row_of text) rows
+    → AddsPlaces (map shown run) now new
     → (place : ℕ) → contains nat_cmp new place ≡ has_place place (meant all (texts ++ text ∷ []))
 places_more all texts text rows run now new table kept was step place =
     let refs = enumerate_from 0 all in
@@ -95,7 +103,8 @@ places_more all texts text rows run now new table kept was step place =
     let both = kept_same (λ ref. list_any (λ t. bytes_eq ref.1 t) (texts ++ text ∷ [])) (λ ref. before ref || here ref)
     (λ ref. list_any-append (λ t. bytes_eq ref.1 t) texts (text ∷ []) ∙ ap (λ b. before ref || b) (or_none (here ref))) refs in
     let its : map shown run ≡ filter here refs = ap (map shown) was ∙ table.has_all text in
-    step place ∙ ap (λ b. b || has_place place (map shown run)) (kept place) ∙ ap (λ l. has_place place (meant all texts) || has_place place l) its
+    step place ∙ ap (λ b. b || has_place place (map shown run)) (kept place)
+    ∙ ap (λ l. has_place place (meant all texts) || has_place place l) its
     ∙ sym (ap (has_place place) both ∙ any_of_either (λ (ref : ℕ × List ℕ). ref.0 == place) before here refs)
 
 -- ---- in order
@@ -104,22 +113,26 @@ less_from : (j k : ℕ) → j < k → nat_cmp j k ≡ Less
 less_from j k l = sym (nat_cmp_is j k Less l)
 
 -- the places of refs from one on are above those before it
-above : (q : ℕ × List ℕ → Bool) (j k : ℕ) (xs : List (List ℕ)) → j < k → AllByRecursion (λ y. nat_cmp j y ≡ Less) (map (λ ref. ref.0) (filter q (enumerate_from k xs)))
+above : (q : ℕ × List ℕ → Bool) (j k : ℕ) (xs : List (List ℕ)) → j < k
+    → AllByRecursion (λ y. nat_cmp j y ≡ Less) (map (λ ref. ref.0) (filter q (enumerate_from k xs)))
 above q j k [] l = tt
 above q j k (x ∷ xs) l = at (q (k, x)) (above q j (k + 1) xs (omega arith))
   where
     at : (b : Bool) → AllByRecursion (λ y. nat_cmp j y ≡ Less) (map (λ ref. ref.0) (filter q (enumerate_from (k + 1) xs)))
-        → AllByRecursion (λ y. nat_cmp j y ≡ Less) (map (λ ref. ref.0) (cond b ((k, x) ∷ filter q (enumerate_from (k + 1) xs)) (filter q (enumerate_from (k + 1) xs))))
+        → AllByRecursion (λ y. nat_cmp j y ≡ Less)
+        (map (λ ref. ref.0) (cond b ((k, x) ∷ filter q (enumerate_from (k + 1) xs)) (filter q (enumerate_from (k + 1) xs))))
     at true h = (less_from j k l, h)
     at false h = h
 
-rising : (q : ℕ × List ℕ → Bool) (k : ℕ) (xs : List (List ℕ)) → IsStrictlySortedBy nat_cmp (map (λ ref. ref.0) (filter q (enumerate_from k xs)))
+rising : (q : ℕ × List ℕ → Bool) (k : ℕ) (xs : List (List ℕ))
+    → IsStrictlySortedBy nat_cmp (map (λ ref. ref.0) (filter q (enumerate_from k xs)))
 unfolding IsStrictlySortedBy
 rising q k [] = tt
 rising q k (x ∷ xs) = at (q (k, x)) (rising q (k + 1) xs)
   where
     at : (b : Bool) → IsStrictlySortedBy nat_cmp (map (λ ref. ref.0) (filter q (enumerate_from (k + 1) xs)))
-        → IsStrictlySortedBy nat_cmp (map (λ ref. ref.0) (cond b ((k, x) ∷ filter q (enumerate_from (k + 1) xs)) (filter q (enumerate_from (k + 1) xs))))
+        → IsStrictlySortedBy nat_cmp (map (λ ref. ref.0)
+        (cond b ((k, x) ∷ filter q (enumerate_from (k + 1) xs)) (filter q (enumerate_from (k + 1) xs))))
     at true h = (above q k (k + 1) xs (omega arith), h)
     at false h = h
 
@@ -127,14 +140,16 @@ same_place : (p q : ℕ) → is_eq (nat_cmp q p) ≡ (p == q)
 same_place p q = ap is_eq (nat_cmp_total.antisymm q p) ∙ is_eq-reverse (nat_cmp p q) ∙ unsigned_tied p q
 
 -- the numbers of the set are these places in order
-pub places_are : (texts : List (List ℕ)) (rows : List Row) (set : BTreeSet ℕ) → IsOrdered nat_cmp set → HasPlaces texts rows set → ArePlaces texts rows set.keys
+pub places_are : (texts : List (List ℕ)) (rows : List Row) (set : BTreeSet ℕ) → IsOrdered nat_cmp set → HasPlaces texts rows set
+    → ArePlaces texts rows set.keys
 places_are texts rows set up has all table =
     let q : ℕ × List ℕ → Bool = λ ref. list_any (λ text. bytes_eq ref.1 text) texts in
     let refs = meant all texts in
     let t : BTreeSet ℕ = record { keys = map (λ ref. ref.0) refs } in
     btree_set_from_contains nat_cmp_total set t up (rising q 0 all)
     (λ place. has all table place
-    ∙ sym (any_of_map (λ p. is_eq (nat_cmp place p)) (λ (ref : ℕ × List ℕ). ref.0) refs ∙ any_same (λ (ref : ℕ × List ℕ). is_eq (nat_cmp place ref.0)) (λ ref. ref.0 == place) (λ ref. same_place ref.0 place) refs))
+    ∙ sym (any_of_map (λ p. is_eq (nat_cmp place p)) (λ (ref : ℕ × List ℕ). ref.0) refs
+    ∙ any_same (λ (ref : ℕ × List ℕ). is_eq (nat_cmp place ref.0)) (λ ref. ref.0 == place) (λ ref. same_place ref.0 place) refs))
     (λ x y h. ranked x y Equal (sym h))
 
 -- ---- the refs at the places
@@ -146,9 +161,11 @@ no_ref h xs k l =
     rw none refl
 
 -- at any other its name
-pub one_ref : {X : Type 0} (h : X → List ℕ) (xs : List X) (k : ℕ) (x : X) → k < length xs → x ≡ get_or xs k x → ref_at (map h xs) k ≡ (k, h x) ∷ []
+pub one_ref : {X : Type 0} (h : X → List ℕ) (xs : List X) (k : ℕ) (x : X) → k < length xs → x ≡ get_or xs k x
+    → ref_at (map h xs) k ≡ (k, h x) ∷ []
 one_ref h xs k x l e =
-    let one : slice_get (map h xs) k ≡ Some (h x) = slice_get-map h xs k ∙ ap (option_map h) (slice_get-get_or xs k x l ∙ ap Some (sym e)) in
+    let one : slice_get (map h xs) k ≡ Some (h x) = slice_get-map h xs k
+    ∙ ap (option_map h) (slice_get-get_or xs k x l ∙ ap Some (sym e)) in
     rw one refl
 
 at_front : {X : Type 0} (front xs : List X) (x : X) → slice_get (front ++ x ∷ xs) (length front) ≡ Some x
@@ -161,26 +178,37 @@ the_ref all front xs x k h e =
     rw found refl
 
 -- what is made of the refs at the places of refs is what is made of these
-refs_at : {B : Type 0} (f : ℕ × List ℕ → List B) (q : ℕ × List ℕ → Bool) (all front xs : List (List ℕ)) (k : ℕ) → all ≡ front ++ xs → k ≡ length front
-    → flat_map (λ place. flat_map f (ref_at all place)) (map (λ ref. ref.0) (filter q (enumerate_from k xs))) ≡ flat_map f (filter q (enumerate_from k xs))
+refs_at : {B : Type 0} (f : ℕ × List ℕ → List B) (q : ℕ × List ℕ → Bool) (all front xs : List (List ℕ)) (k : ℕ) → all ≡ front ++ xs
+    → k ≡ length front
+    → flat_map (λ place. flat_map f (ref_at all place)) (map (λ ref. ref.0) (filter q (enumerate_from k xs)))
+    ≡ flat_map f (filter q (enumerate_from k xs))
 refs_at f q all front [] k h e = refl
 refs_at {B} f q all front (x ∷ xs) k h e =
-    at (q (k, x)) (refs_at f q all (front ++ x ∷ []) xs (k + 1) (h ∙ sym (append_assoc front (x ∷ []) xs)) (omega (arith, length-append front (x ∷ []), e)))
+    at (q (k, x)) (refs_at f q all (front ++ x ∷ []) xs (k + 1) (h ∙ sym (append_assoc front (x ∷ []) xs))
+    (omega (arith, length-append front (x ∷ []), e)))
   where
-    at : (b : Bool) → flat_map (λ place. flat_map f (ref_at all place)) (map (λ ref. ref.0) (filter q (enumerate_from (k + 1) xs))) ≡ flat_map f (filter q (enumerate_from (k + 1) xs))
-        → flat_map (λ place. flat_map f (ref_at all place)) (map (λ ref. ref.0) (cond b ((k, x) ∷ filter q (enumerate_from (k + 1) xs)) (filter q (enumerate_from (k + 1) xs))))
+    at : (b : Bool) → flat_map (λ place. flat_map f (ref_at all place)) (map (λ ref. ref.0) (filter q (enumerate_from (k + 1) xs)))
+        ≡ flat_map f (filter q (enumerate_from (k + 1) xs))
+        → flat_map (λ place. flat_map f (ref_at all place))
+        (map (λ ref. ref.0) (cond b ((k, x) ∷ filter q (enumerate_from (k + 1) xs)) (filter q (enumerate_from (k + 1) xs))))
         ≡ flat_map f (cond b ((k, x) ∷ filter q (enumerate_from (k + 1) xs)) (filter q (enumerate_from (k + 1) xs)))
     at true more =
-        ap (λ l. flat_map f l ++ flat_map (λ place. flat_map f (ref_at all place)) (map (λ ref. ref.0) (filter q (enumerate_from (k + 1) xs)))) (the_ref all front xs x k h e)
-        ∙ ap (λ l. l ++ flat_map (λ place. flat_map f (ref_at all place)) (map (λ ref. ref.0) (filter q (enumerate_from (k + 1) xs)))) (append-nil (f (k, x)))
+        ap (λ l. flat_map f l ++ flat_map (λ place. flat_map f (ref_at all place))
+        (map (λ ref. ref.0) (filter q (enumerate_from (k + 1) xs)))) (the_ref all front xs x k h e)
+        ∙ ap (λ l. l ++ flat_map (λ place. flat_map f (ref_at all place)) (map (λ ref. ref.0) (filter q (enumerate_from (k + 1) xs))))
+        (append-nil (f (k, x)))
         ∙ ap (λ l. f (k, x) ++ l) more
     at false more = more
 
 -- a short name maps the refs that it stands for
-pub short_mapped : (specs : List Spec) (all : List (List ℕ)) (s : ℕ × Spec) (name : Bor (List ℕ)) (rows : List Row) (places : List ℕ) (now new : List Mapped) → IsNeedle s.1.source (the_short name) → IsRowTable all rows
-    → ArePlaces (candidates name.now) rows places → new ≡ now ++ flat_map (λ place. flat_map (pair specs s) (ref_at all place)) places → new ≡ now ++ pairs_of specs all s
+pub short_mapped : (specs : List Spec) (all : List (List ℕ)) (s : ℕ × Spec) (name : Bor (List ℕ)) (rows : List Row) (places : List ℕ)
+    (now new : List Mapped) → IsNeedle s.1.source (the_short name) → IsRowTable all rows
+    → ArePlaces (candidates name.now) rows places → new ≡ now ++ flat_map (λ place. flat_map (pair specs s) (ref_at all place)) places
+    → new ≡ now ++ pairs_of specs all s
 short_mapped specs all s name rows places now new made table was step =
     step ∙ ap (λ l. now ++ flat_map (λ place. flat_map (pair specs s) (ref_at all place)) l) (was all table)
-    ∙ ap (λ l. now ++ l) (refs_at (pair specs s) (λ ref. list_any (λ text. bytes_eq ref.1 text) (candidates name.now)) all [] all 0 refl refl)
+    ∙ ap (λ l. now ++ l) (refs_at (pair specs s)
+    (λ ref. list_any (λ text. bytes_eq ref.1 text) (candidates name.now)) all [] all 0 refl refl)
     ∙ ap (λ l. now ++ l) (flat_map-filter (pair specs s) (λ ref. list_any (λ text. bytes_eq ref.1 text) (candidates name.now))
-    (λ ref other. sym (pair_none specs s ref (sym (middle_with-needle s.1.source ref.1 (the_short name) made) ∙ ap where_true other))) (enumerate_from 0 all))
+    (λ ref other. sym (pair_none specs s ref (sym (middle_with-needle s.1.source ref.1 (the_short name) made) ∙ ap where_true other)))
+    (enumerate_from 0 all))

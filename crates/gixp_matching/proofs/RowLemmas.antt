@@ -48,17 +48,20 @@ module _ {X : Type 0} where
   ]
 
   -- up to a partition point all pass, and after it none
-  front_passes : (p : X → Bool) (xs : List X) (i : ℕ) → i ≤ length xs → IsPartitionPoint (λ y. p y ≡ true) (λ y. p y ≡ false) xs i → All (λ y. p y ≡ true) (take i xs)
+  front_passes : (p : X → Bool) (xs : List X) (i : ℕ) → i ≤ length xs → IsPartitionPoint (λ y. p y ≡ true) (λ y. p y ≡ false) xs i
+      → All (λ y. p y ≡ true) (take i xs)
   front_passes p xs i l h = λ k d m.
       let within : k < i = subst (λ n. k < n) (length-take-le i xs l) m in
       ap p (get_or-take i xs k d within) ∙ h.0 k d (omega arith) within
 
-  back_fails : (p : X → Bool) (xs : List X) (i : ℕ) → i ≤ length xs → IsPartitionPoint (λ y. p y ≡ true) (λ y. p y ≡ false) xs i → All (λ y. p y ≡ false) (drop i xs)
+  back_fails : (p : X → Bool) (xs : List X) (i : ℕ) → i ≤ length xs → IsPartitionPoint (λ y. p y ≡ true) (λ y. p y ≡ false) xs i
+      → All (λ y. p y ≡ false) (drop i xs)
   back_fails p xs i l h = λ k d m.
       let within : i + k < length xs = omega (arith, length-drop i xs) in
       ap p (get_or-drop i xs k d) ∙ h.1 (i + k) d (omega arith) within
 
-  filter_split : (p : X → Bool) (xs : List X) (i : ℕ) → i ≤ length xs → IsPartitionPoint (λ y. p y ≡ true) (λ y. p y ≡ false) xs i → filter p xs ≡ take i xs
+  filter_split : (p : X → Bool) (xs : List X) (i : ℕ) → i ≤ length xs → IsPartitionPoint (λ y. p y ≡ true) (λ y. p y ≡ false) xs i
+      → filter p xs ≡ take i xs
   filter_split p xs i l h =
       ap (filter p) (sym (take-append-drop i xs)) ∙ filter-append p (take i xs) (drop i xs)
       ∙ ap (λ z. z ++ filter p (drop i xs)) (filter_all p (take i xs) (recursion_from_All _ _ (front_passes p xs i l h)))
@@ -68,15 +71,18 @@ module _ {X : Type 0} where
   all_turned p b [] h = tt
   all_turned p b (x ∷ xs) h = (ap not h.0, all_turned p b xs h.1)
 
-  rest_split : (p : X → Bool) (xs : List X) (i : ℕ) → i ≤ length xs → IsPartitionPoint (λ y. p y ≡ true) (λ y. p y ≡ false) xs i → filter (λ x. not (p x)) xs ≡ drop i xs
+  rest_split : (p : X → Bool) (xs : List X) (i : ℕ) → i ≤ length xs → IsPartitionPoint (λ y. p y ≡ true) (λ y. p y ≡ false) xs i
+      → filter (λ x. not (p x)) xs ≡ drop i xs
   rest_split p xs i l h =
       let q : X → Bool = λ x. not (p x) in
       ap (filter q) (sym (take-append-drop i xs)) ∙ filter-append q (take i xs) (drop i xs)
-      ∙ ap (λ z. z ++ filter q (drop i xs)) (filter_none q (take i xs) (all_turned p true (take i xs) (recursion_from_All _ _ (front_passes p xs i l h))))
+      ∙ ap (λ z. z ++ filter q (drop i xs)) (filter_none q (take i xs)
+      (all_turned p true (take i xs) (recursion_from_All _ _ (front_passes p xs i l h))))
       ∙ filter_all q (drop i xs) (all_turned p false (drop i xs) (recursion_from_All _ _ (back_fails p xs i l h)))
 
   -- what gives nothing may be left out
-  pub flat_map-filter : {B : Type 0} (f : X → List B) (p : X → Bool) → ((x : X) → p x ≡ false → f x ≡ []) → (xs : List X) → flat_map f (filter p xs) ≡ flat_map f xs
+  pub flat_map-filter : {B : Type 0} (f : X → List B) (p : X → Bool) → ((x : X) → p x ≡ false → f x ≡ []) → (xs : List X)
+      → flat_map f (filter p xs) ≡ flat_map f xs
   flat_map-filter f p none [] = refl
   flat_map-filter f p none (x ∷ xs) = elim (cases_Bool (p x)) [
     | inl t ↦ ap (flat_map f) (cond-true _ _ _ t) ∙ ap (λ l. f x ++ l) (flat_map-filter f p none xs)
@@ -118,15 +124,19 @@ row_lt x y = is_lt (slice_cmp nat_cmp x.name.now y.name.now)
 -- rows in order are parted by each name
 pub parted_before : (name : List ℕ) (rows : List Row) → AreByName rows → IsPartitionedBy (λ (row : Row). is_below row.name.now name) rows
 parted_before name rows up = λ i j d le l t.
-    below_from (get_or rows i d).name.now (get_or rows j d).name.now name (sorted_far row_lt (ranks_by nat_list_cmp_total (λ row. row.name.now)) rows up i j d le l) t
+    below_from (get_or rows i d).name.now (get_or rows j d).name.now name
+    (sorted_far row_lt (ranks_by nat_list_cmp_total (λ row. row.name.now)) rows up i j d le l) t
 
-pub parted_until : (name : List ℕ) (rows : List Row) → AreByName rows → IsPartitionedBy (λ (row : Row). not (is_below name row.name.now)) rows
+pub parted_until : (name : List ℕ) (rows : List Row) → AreByName rows
+    → IsPartitionedBy (λ (row : Row). not (is_below name row.name.now)) rows
 parted_until name rows up = λ i j d le l t.
-    until_from (get_or rows i d).name.now (get_or rows j d).name.now name (sorted_far row_lt (ranks_by nat_list_cmp_total (λ row. row.name.now)) rows up i j d le l) t
+    until_from (get_or rows i d).name.now (get_or rows j d).name.now name
+    (sorted_far row_lt (ranks_by nat_list_cmp_total (λ row. row.name.now)) rows up i j d le l) t
 
 -- what comes after the rows before a name is in order too
 pub rest_in_order : (name : List ℕ) (rows : List Row) (i : ℕ) → AreByName rows → i ≤ length rows
-    → IsPartitionPoint (λ (row : Row). is_below row.name.now name ≡ true) (λ row. is_below row.name.now name ≡ false) rows i → AreByName (drop i rows)
+    → IsPartitionPoint (λ (row : Row). is_below row.name.now name ≡ true) (λ row. is_below row.name.now name ≡ false) rows i
+    → AreByName (drop i rows)
 rest_in_order name rows i up l h =
     subst AreByName (rest_split (λ (row : Row). is_below row.name.now name) rows i l h)
     (IsSortedBy-filter row_lt (ranks_by nat_list_cmp_total (λ row. row.name.now)) (λ (row : Row). not (is_below row.name.now name)) rows up)
@@ -134,16 +144,19 @@ rest_in_order name rows i up l h =
 -- between the two points stand the rows of the name
 pub rows_between : (name : List ℕ) (rows : List Row) (i n : ℕ) → i ≤ length rows → n ≤ length (drop i rows)
     → IsPartitionPoint (λ (row : Row). is_below row.name.now name ≡ true) (λ row. is_below row.name.now name ≡ false) rows i
-    → IsPartitionPoint (λ (row : Row). not (is_below name row.name.now) ≡ true) (λ row. not (is_below name row.name.now) ≡ false) (drop i rows) n
+    → IsPartitionPoint (λ (row : Row). not (is_below name row.name.now) ≡ true) (λ row. not (is_below name row.name.now) ≡ false)
+    (drop i rows) n
     → take n (drop i rows) ≡ filter (is_row_of name) rows
 rows_between name rows i n l m h k =
     sym (filter_split (λ (row : Row). not (is_below name row.name.now)) (drop i rows) n m k)
-    ∙ ap (filter (λ (row : Row). not (is_below name row.name.now))) (sym (rest_split (λ (row : Row). is_below row.name.now name) rows i l h))
+    ∙ ap (filter (λ (row : Row). not (is_below name row.name.now)))
+    (sym (rest_split (λ (row : Row). is_below row.name.now name) rows i l h))
     ∙ filter_twice (λ (row : Row). not (is_below name row.name.now)) (λ (row : Row). not (is_below row.name.now name)) rows
     ∙ kept_same _ _ (λ row. equal_or row.name.now name) rows
 
 -- a stable sort by name keeps the order of the rows of each name
-pub named_stays : (old new : List Row) → IsStableBy row_lt old new → (name : List ℕ) → filter (is_row_of name) new ≡ filter (is_row_of name) old
+pub named_stays : (old new : List Row) → IsStableBy row_lt old new → (name : List ℕ)
+    → filter (is_row_of name) new ≡ filter (is_row_of name) old
 named_stays old new stable name =
     let row : Row = record { name = record { ref_ptr = (0, 0); now = name }; place = 0 } in
     let same = λ (x : Row). sym (equal_or name x.name.now ∙ bytes_eq-turned name x.name.now) in
@@ -154,7 +167,8 @@ pub table_is : (names : List (List ℕ)) (rows sorted : List Row) → map shown 
     → ((name : List ℕ) → filter (is_row_of name) sorted ≡ filter (is_row_of name) rows) → IsRowTable names sorted
 table_is names rows sorted listed up same = record {
   in_order = up;
-  has_all = λ name. ap (map shown) (same name) ∙ sym (filter_of_map (λ ref. bytes_eq ref.1 name) shown rows) ∙ ap (filter (λ ref. bytes_eq ref.1 name)) listed;
+  has_all = λ name. ap (map shown) (same name) ∙ sym (filter_of_map (λ ref. bytes_eq ref.1 name) shown rows)
+      ∙ ap (filter (λ ref. bytes_eq ref.1 name)) listed;
 }
 
 -- ---- short names
@@ -174,24 +188,30 @@ on_ok (Ok x) P Q f h = f h
 on_ok (Err e) P Q f h = h
 
 -- a refspec that maps nothing
-pub nothing_mapped : (specs : List Spec) (all : List (List ℕ)) (s : ℕ × Spec) (now : List Mapped) → ((ref : ℕ × List ℕ) → [] ≡ pair specs s ref) → now ≡ now ++ pairs_of specs all s
+pub nothing_mapped : (specs : List Spec) (all : List (List ℕ)) (s : ℕ × Spec) (now : List Mapped)
+    → ((ref : ℕ × List ℕ) → [] ≡ pair specs s ref) → now ≡ now ++ pairs_of specs all s
 nothing_mapped specs all s now none = sym (ap (λ l. now ++ l) (empty (enumerate_from 0 all)) ∙ append-nil now) where
   empty : (refs : List (ℕ × List ℕ)) → flat_map (pair specs s) refs ≡ []
   empty [] = refl
   empty (ref ∷ refs) = ap (λ l. l ++ flat_map (pair specs s) refs) (sym (none ref)) ∙ empty refs
 
 -- an id matches no name
-pub id_mapped : (specs : List Spec) (all : List (List ℕ)) (s : ℕ × Spec) (now : List Mapped) → IsNeedle s.1.source the_id → now ≡ now ++ pairs_of specs all s
-id_mapped specs all s now made = nothing_mapped specs all s now (λ ref. pair_none specs s ref (sym (middle_with-needle s.1.source ref.1 the_id made)))
+pub id_mapped : (specs : List Spec) (all : List (List ℕ)) (s : ℕ × Spec) (now : List Mapped) → IsNeedle s.1.source the_id → now ≡ now
+    ++ pairs_of specs all s
+id_mapped specs all s now made =
+    nothing_mapped specs all s now (λ ref. pair_none specs s ref (sym (middle_with-needle s.1.source ref.1 the_id made)))
 
 -- a negative refspec maps none
-pub negative_mapped : (specs : List Spec) (all : List (List ℕ)) (s : ℕ × Spec) (now : List Mapped) → is_negative s.1.sign ≡ true → now ≡ now ++ pairs_of specs all s
+pub negative_mapped : (specs : List Spec) (all : List (List ℕ)) (s : ℕ × Spec) (now : List Mapped) → is_negative s.1.sign ≡ true
+    → now ≡ now ++ pairs_of specs all s
 negative_mapped specs all s now negative = nothing_mapped specs all s now (λ ref. pair_negative specs s ref negative)
 
 -- an exact name maps the refs of this name
-pub exact_mapped : (specs : List Spec) (all : List (List ℕ)) (s : ℕ × Spec) (name : Bor (List ℕ)) (rows run : List Row) (now new : List Mapped) → IsNeedle s.1.source (the_exact name) → IsRowTable all rows
+pub exact_mapped : (specs : List Spec) (all : List (List ℕ)) (s : ℕ × Spec) (name : Bor (List ℕ)) (rows run : List Row)
+    (now new : List Mapped) → IsNeedle s.1.source (the_exact name) → IsRowTable all rows
     → run ≡ filter (is_row_of name.now) rows → new ≡ now ++ flat_map (pair specs s) (map shown run) → new ≡ now ++ pairs_of specs all s
 exact_mapped specs all s name rows run now new made table was step =
     step ∙ ap (λ l. now ++ flat_map (pair specs s) l) (ap (map shown) was ∙ table.has_all name.now)
     ∙ ap (λ l. now ++ l) (flat_map-filter (pair specs s) (λ ref. bytes_eq ref.1 name.now)
-    (λ ref other. sym (pair_none specs s ref (sym (middle_with-needle s.1.source ref.1 (the_exact name) made) ∙ ap where_true other))) (enumerate_from 0 all))
+    (λ ref other. sym (pair_none specs s ref (sym (middle_with-needle s.1.source ref.1 (the_exact name) made) ∙ ap where_true other)))
+    (enumerate_from 0 all))

@@ -22,7 +22,8 @@ differ_bare ms =
     ∙ any_same _ _ (λ m. any_of_map (λ other. not (source_eq m.source other.source)) without_item ms) ms
 
 -- what reads no place reads the same
-bare_map : {B : Type 0} (f : Mapped → B) → ((m : Mapped) → f (without_item m) ≡ f m) → (ms : List Mapped) → map f (map without_item ms) ≡ map f ms
+bare_map : {B : Type 0} (f : Mapped → B) → ((m : Mapped) → f (without_item m) ≡ f m) → (ms : List Mapped)
+    → map f (map without_item ms) ≡ map f ms
 bare_map f h ms = map_of_map f without_item ms ∙ map_same _ _ h ms
 
 -- a conflict of its parts, where b
@@ -30,9 +31,11 @@ abbrev conflict_made : Bool → List ℕ → List (List ℕ) → List Source →
 conflict_made b name texts sources = cond b (record { destination = name; specs = texts; sources = sources } ∷ []) []
 
 -- the conflict over a local name, without the places
-conflict_over_bare : (specs : List Spec) (name : List ℕ) (ms : List Mapped) → conflict_over specs name (map without_item ms) ≡ conflict_over specs name ms
+conflict_over_bare : (specs : List Spec) (name : List ℕ) (ms : List Mapped) → conflict_over specs name (map without_item ms)
+    ≡ conflict_over specs name ms
 conflict_over_bare specs name ms =
-    ap (λ b. conflict_made b name (map (spec_text specs) (map without_item ms)) (map (λ m. m.source) (map without_item ms))) (differ_bare ms)
+    ap (λ b. conflict_made b name (map (spec_text specs) (map without_item ms)) (map (λ m. m.source) (map without_item ms)))
+    (differ_bare ms)
     ∙ ap (λ t. conflict_made (differ ms) name t (map (λ m. m.source) (map without_item ms))) (bare_map (spec_text specs) (λ m. refl) ms)
     ∙ ap (λ t. conflict_made (differ ms) name (map (spec_text specs) ms) t) (bare_map (λ m. m.source) (λ m. refl) ms)
 
@@ -46,13 +49,15 @@ conflicts_of_bare : (specs : List Spec) (ms : List Mapped) → conflicts specs (
 unfolding conflicts
 conflicts_of_bare specs ms =
     ap (flat_map (λ name. conflict_over specs name (of_local name (map without_item ms)))) (names_of_bare ms)
-    ∙ flat_map_same _ _ (λ name. ap (conflict_over specs name) (filter_of_map (has_local name) without_item ms) ∙ conflict_over_bare specs name (of_local name ms)) (local_names ms)
+    ∙ flat_map_same _ _ (λ name. ap (conflict_over specs name) (filter_of_map (has_local name) without_item ms)
+    ∙ conflict_over_bare specs name (of_local name ms)) (local_names ms)
 
 -- the fixes, without the places
 fixes_of_bare : (specs : List Spec) (ms : List Mapped) → fixes specs (map without_item ms) ≡ fixes specs ms
 unfolding fixes
 fixes_of_bare specs ms =
-    ap (map (removed_at specs)) (filter_of_map is_partial without_item ms) ∙ map_of_map (removed_at specs) without_item (filter is_partial ms) ∙ map_same _ _ (λ m. refl) (filter is_partial ms)
+    ap (map (removed_at specs)) (filter_of_map is_partial without_item ms)
+    ∙ map_of_map (removed_at specs) without_item (filter is_partial ms) ∙ map_same _ _ (λ m. refl) (filter is_partial ms)
 
 -- what is kept, without the places
 kept_of_bare : (ms : List Mapped) → kept (map without_item ms) ≡ map without_item (kept ms)
@@ -70,7 +75,8 @@ same_answers specs ms all same = record {
 
 -- what was answered for fewer names is the answer for all
 pub answers_all : (specs : List Spec) (names : List (List ℕ)) (ms : List Mapped) → ms ≡ mappings specs names → AnswersAll specs names ms
-answers_all specs names ms is = λ prefixes all covers h. same_answers specs ms (mappings specs all) (ap (map without_item) is ∙ keeps_mappings specs names prefixes all covers h)
+answers_all specs names ms is = λ prefixes all covers h. same_answers specs ms (mappings specs all)
+    (ap (map without_item) is ∙ keeps_mappings specs names prefixes all covers h)
 
 -- leaving out refs that no prefix covers changes no answer
 pub keeps_answers : KeepsAnswers

@@ -36,12 +36,14 @@ other_below first new h other =
     ∙ turned (slice_cmp nat_cmp first new) h (λ e. false≢true (sym other ∙ (bytes_eq-Decides first new).1 (exact_bytes first new e)))
 
 -- all pass a weaker test
-all_weaker : (p q : List ℕ → Bool) → ((x : List ℕ) → p x ≡ true → q x ≡ true) → (xs : List (List ℕ)) → list_all p xs ≡ true → list_all q xs ≡ true
+all_weaker : (p q : List ℕ → Bool) → ((x : List ℕ) → p x ≡ true → q x ≡ true) → (xs : List (List ℕ)) → list_all p xs ≡ true
+    → list_all q xs ≡ true
 all_weaker p q h [] t = refl
 all_weaker p q h (x ∷ xs) t = let both = and_parts (p x) (list_all p xs) t in and_from _ _ (h x both.0) (all_weaker p q h xs both.1)
 
 -- a name that is below all stays so after an insertion
-insert_all : (x new : List ℕ) (names : List (List ℕ)) → is_below x new ≡ true → list_all (is_below x) names ≡ true → list_all (is_below x) (insert_name new names) ≡ true
+insert_all : (x new : List ℕ) (names : List (List ℕ)) → is_below x new ≡ true → list_all (is_below x) names ≡ true
+    → list_all (is_below x) (insert_name new names) ≡ true
 insert_all x new [] h all = and_from _ _ h refl
 insert_all x new (first ∷ rest) h all =
     let both = and_parts (is_below x first) (list_all (is_below x) rest) all in
@@ -59,7 +61,8 @@ increasing-insert_name new [] h = refl
 increasing-insert_name new (first ∷ rest) h =
     let both = and_parts (list_all (is_below first) rest) (is_increasing rest) h in
     elim (cases_Bool (is_below first new)) [
-      | inl below ↦ ap is_increasing (cond-true _ _ _ below) ∙ and_from _ _ (insert_all first new rest below both.0) (increasing-insert_name new rest both.1)
+      | inl below ↦ ap is_increasing (cond-true _ _ _ below)
+          ∙ and_from _ _ (insert_all first new rest below both.0) (increasing-insert_name new rest both.1)
       | inr above ↦ elim (cases_Bool (bytes_eq first new)) [
         | inl same ↦ ap is_increasing (cond-false _ _ _ above ∙ cond-true _ _ _ same) ∙ h
         | inr other ↦ (
@@ -70,12 +73,14 @@ increasing-insert_name new (first ∷ rest) h =
     ]
 
 -- the same for a local name, where there is one
-increasing-insert_local : (local : Option (List ℕ)) (names : List (List ℕ)) → is_increasing names ≡ true → is_increasing (insert_local local names) ≡ true
+increasing-insert_local : (local : Option (List ℕ)) (names : List (List ℕ)) → is_increasing names ≡ true
+    → is_increasing (insert_local local names) ≡ true
 increasing-insert_local None names h = h
 increasing-insert_local (Some new) names h = increasing-insert_name new names h
 
 -- so do all insertions
-increasing-fold : (ms : List Mapped) (names : List (List ℕ)) → is_increasing names ≡ true → is_increasing (fold (λ ns m. insert_local m.local ns) names ms) ≡ true
+increasing-fold : (ms : List Mapped) (names : List (List ℕ)) → is_increasing names ≡ true
+    → is_increasing (fold (λ ns m. insert_local m.local ns) names ms) ≡ true
 increasing-fold [] names h = h
 increasing-fold (m ∷ ms) names h = increasing-fold ms (insert_local m.local names) (increasing-insert_local m.local names h)
 

@@ -5,10 +5,12 @@ use Rattle.std.proofs.lemmas.List.{get_or-map, length-map, append-nil, drop_more
 use Rattle.std.proofs.Math.Seq.{drop-length}
 
 -- the next place and element
-enumerate-drop : {A B : Type 0} (h : A → B) (xs : List A) (i : ℕ) (d : A) → i < length xs → enumerate_from i (drop i (map h xs)) ≡ (i, h (get_or xs i d)) ∷ enumerate_from (i + 1) (drop (i + 1) (map h xs))
+enumerate-drop : {A B : Type 0} (h : A → B) (xs : List A) (i : ℕ) (d : A) → i < length xs → enumerate_from i (drop i (map h xs))
+    ≡ (i, h (get_or xs i d)) ∷ enumerate_from (i + 1) (drop (i + 1) (map h xs))
 enumerate-drop h xs i d l =
     let within : i < length (map h xs) = rw length-map l in
-    ap (enumerate_from i) (drop_more (map h xs) i (h d) within) ∙ ap (λ y. (i, y) ∷ enumerate_from (i + 1) (drop (i + 1) (map h xs))) (get_or-map h xs i d (h d) l)
+    ap (enumerate_from i) (drop_more (map h xs) i (h d) within)
+    ∙ ap (λ y. (i, y) ∷ enumerate_from (i + 1) (drop (i + 1) (map h xs))) (get_or-map h xs i d (h d) l)
 
 -- one step: what was made, and what is still to be made, are all together
 pub walked : {A B C : Type 0} (h : A → B) (f : ℕ × B → List C) (all now new : List C) (xs : List A) (i : ℕ) (d : A) → i < length xs
@@ -20,7 +22,8 @@ walked h f all now new xs i d l kept step =
     ∙ ap (λ e. now ++ flat_map f e) (sym (enumerate-drop h xs i d l)) ∙ kept
 
 -- the same, where the element was read as x
-pub walked_at : {A B C : Type 0} (h : A → B) (f : ℕ × B → List C) (all now new : List C) (xs : List A) (i : ℕ) (x : A) → x ≡ get_or xs i x → i < length xs
+pub walked_at : {A B C : Type 0} (h : A → B) (f : ℕ × B → List C) (all now new : List C) (xs : List A) (i : ℕ) (x : A)
+    → x ≡ get_or xs i x → i < length xs
     → now ++ flat_map f (enumerate_from i (drop i (map h xs))) ≡ all → new ≡ now ++ f (i, h x)
     → new ++ flat_map f (enumerate_from (i + 1) (drop (i + 1) (map h xs))) ≡ all
 walked_at h f all now new xs i x e l kept step = walked h f all now new xs i x l kept (step ∙ ap (λ y. now ++ f (i, h y)) e)
@@ -35,13 +38,16 @@ walked_all h f all now xs i e kept =
 
 -- a step of a loop that lists each place and element
 pub listed : {A B : Type 0} (h : A → B) (all now new : List (ℕ × B)) (xs : List A) (i : ℕ) (d : A) → i < length xs
-    → now ++ enumerate_from i (drop i (map h xs)) ≡ all → new ≡ now ++ (i, h (get_or xs i d)) ∷ [] → new ++ enumerate_from (i + 1) (drop (i + 1) (map h xs)) ≡ all
+    → now ++ enumerate_from i (drop i (map h xs)) ≡ all → new ≡ now ++ (i, h (get_or xs i d)) ∷ [] → new
+    ++ enumerate_from (i + 1) (drop (i + 1) (map h xs)) ≡ all
 listed h all now new xs i d l kept step =
     let rest = enumerate_from (i + 1) (drop (i + 1) (map h xs)) in
-    ap (λ z. z ++ rest) step ∙ append_assoc now ((i, h (get_or xs i d)) ∷ []) rest ∙ ap (λ z. now ++ z) (sym (enumerate-drop h xs i d l)) ∙ kept
+    ap (λ z. z ++ rest) step ∙ append_assoc now ((i, h (get_or xs i d)) ∷ []) rest
+    ∙ ap (λ z. now ++ z) (sym (enumerate-drop h xs i d l)) ∙ kept
 
 -- after the last
-pub listed_all : {A B : Type 0} (h : A → B) (all now : List (ℕ × B)) (xs : List A) (i : ℕ) → i ≡ length xs → now ++ enumerate_from i (drop i (map h xs)) ≡ all → now ≡ all
+pub listed_all : {A B : Type 0} (h : A → B) (all now : List (ℕ × B)) (xs : List A) (i : ℕ) → i ≡ length xs → now
+    ++ enumerate_from i (drop i (map h xs)) ≡ all → now ≡ all
 listed_all h all now xs i e kept =
     let same : i ≡ length (map h xs) = rw length-map e in
     let none : drop i (map h xs) ≡ [] = ap (λ n. drop n (map h xs)) same ∙ drop-length (map h xs) in

@@ -34,7 +34,8 @@ CoversAll prefixes specs = (name : List ℕ) → is_covered (all_prefixes specs)
 
 -- the mappings of these names are those of any list from which a server that was asked for such prefixes may have left refs out
 abbrev pub AnswersAll : List Spec → List (List ℕ) → List Mapped → Type 0
-AnswersAll specs names ms = (prefixes all : List (List ℕ)) → CoversAll prefixes specs → LeavesOut prefixes names all → SameAnswers specs ms (mappings specs all)
+AnswersAll specs names ms = (prefixes all : List (List ℕ)) → CoversAll prefixes specs → LeavesOut prefixes names all
+    → SameAnswers specs ms (mappings specs all)
 
 -- filtering by prefix is sound
 abbrev pub KeepsAnswers : Type 0

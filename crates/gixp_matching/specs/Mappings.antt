@@ -64,7 +64,8 @@ is_excluded specs name = list_any (excludes name) specs
 unfoldable pub pair : List Spec → ℕ × Spec → ℕ × List ℕ → List Mapped
 pair specs s name =
     if is_negative s.1.sign || is_excluded specs name.1 then []
-    else option_to_list (option_map (λ middle. mapped (Some name.0) (FullName name.1) (local_of s.1 middle) s.0) (middle_of s.1.source name.1))
+    else option_to_list (option_map (λ middle. mapped (Some name.0) (FullName name.1) (local_of s.1 middle) s.0)
+    (middle_of s.1.source name.1))
 
 -- a refspec and each name
 abbrev pub pairs_of : List Spec → List (List ℕ) → ℕ × Spec → List Mapped

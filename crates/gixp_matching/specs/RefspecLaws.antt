@@ -31,7 +31,8 @@ NamesIncrease = (ms : List Mapped) → is_increasing (local_names ms) ≡ true
 
 -- what a mapping of a refspec takes: the first ref of its name, which begins with a prefix of the refspec, or the id that the refspec names
 abbrev pub IsTakenBy : Spec → List (List ℕ) → Option ℕ → Source → Type 0
-IsTakenBy s names (Some i) (FullName name) = (position_from (λ other. bytes_eq other name) 0 names ≡ Some i) × (is_covered (prefixes_of s) name ≡ true)
+IsTakenBy s names (Some i) (FullName name) = (position_from (λ other. bytes_eq other name) 0 names ≡ Some i)
+    × (is_covered (prefixes_of s) name ≡ true)
 IsTakenBy s names None (ObjectId bytes) = id_of s.source ≡ Some bytes
 IsTakenBy s names _ _ = ⊥
 

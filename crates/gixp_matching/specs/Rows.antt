@@ -60,7 +60,8 @@ AddsPlaces refs old new = (place : ℕ) → contains nat_cmp new place ≡ (cont
 
 -- the set has the places of the refs of a table whose names are among the texts
 abbrev pub HasPlaces : List (List ℕ) → List Row → BTreeSet ℕ → Type 0
-HasPlaces texts rows places = (names : List (List ℕ)) → IsRowTable names rows → (place : ℕ) → contains nat_cmp places place ≡ has_place place (meant names texts)
+HasPlaces texts rows places = (names : List (List ℕ)) → IsRowTable names rows → (place : ℕ)
+    → contains nat_cmp places place ≡ has_place place (meant names texts)
 
 -- these are the places of the refs of a table whose names are among the texts, in their order
 abbrev pub ArePlaces : List (List ℕ) → List Row → List ℕ → Type 0

@@ -21,7 +21,8 @@ sources_in v = map source_of v.items
 
 -- what an issue of the code means
 abbrev pub conflict_of : Issue → Conflict
-conflict_of (the_conflict destination specs sources) = record { destination = bstring_bytes destination; specs = texts specs; sources = sources_in sources }
+conflict_of (the_conflict destination specs sources) =
+    record { destination = bstring_bytes destination; specs = texts specs; sources = sources_in sources }
 
 -- the conflicts of a vector
 abbrev pub conflicts_in : Vec Issue Global → List Conflict
@@ -38,5 +39,6 @@ fixes_in v = map removed_of v.items
 -- conflicts are the refusal; without one the partial mappings are taken out
 abbrev pub Validates : List Spec → List Mapped → Result (Outcome × Vec Fix Global) Error → Type 0
 Validates specs ms (Ok answer) =
-    (conflicts specs ms ≡ []) × (mapped_in answer.0.mappings ≡ kept ms) × (fixes_in answer.1 ≡ fixes specs ms) × (outcome_specs answer.0 ≡ specs)
+    (conflicts specs ms ≡ []) × (mapped_in answer.0.mappings ≡ kept ms) × (fixes_in answer.1 ≡ fixes specs ms)
+    × (outcome_specs answer.0 ≡ specs)
 Validates specs ms (Err e) = (conflicts specs ms ≢ []) × (conflicts_in e.issues ≡ conflicts specs ms)

@@ -37,7 +37,8 @@ abbrev pub bytes_known : Bool → List ℕ → Option (List ℕ) → Option (Lis
 bytes_known ended bytes rest = cond ended (Some bytes) (prepend_known bytes rest)
 
 -- the pieces to come, by what stands at the front of the pending bytes
-pub pieces_front : (bytes more : List ℕ) (h : Head) → head_of bytes ≡ h → (h ≡ Partial → ⊥) → stream_pieces (bytes ++ more) ≡ pieces_by h (bytes ++ more)
+pub pieces_front : (bytes more : List ℕ) (h : Head) → head_of bytes ≡ h → (h ≡ Partial → ⊥)
+    → stream_pieces (bytes ++ more) ≡ pieces_by h (bytes ++ more)
 pieces_front bytes more h e whole =
     let same : head_of (bytes ++ more) ≡ h = head_more bytes more (λ p. whole (sym e ∙ p)) ∙ e in
     stream_pieces-step (bytes ++ more) ∙ ap (λ k. pieces_by k (bytes ++ more)) same
@@ -77,7 +78,8 @@ bad_front : (bytes more : List ℕ) (x : PacketError) → head_of bytes ≡ Bad 
 bad_front bytes more x e = pieces_front bytes more (Bad x) e (λ p. cc)
 
 -- the bytes lose their first n where only pending ones go
-known_lose : (ended : Bool) (bytes : List ℕ) (rest : Option (List ℕ)) → IfSome (bytes_known ended bytes rest) (λ xs. (more : List ℕ) × (xs ≡ bytes ++ more)
+known_lose : (ended : Bool) (bytes : List ℕ) (rest : Option (List ℕ))
+    → IfSome (bytes_known ended bytes rest) (λ xs. (more : List ℕ) × (xs ≡ bytes ++ more)
     × ((after : List ℕ) → bytes_known ended after rest ≡ Some (after ++ more)))
 known_lose true bytes rest = ([], sym (append-nil bytes), λ after. ap Some (sym (append-nil after)))
 known_lose false bytes None = tt
@@ -103,47 +105,71 @@ stays_kept None b h = tt
 stays_kept (Some xs) None h = absurd h
 stays_kept (Some xs) (Some ys) h = rw h refl
 
-line_known : (ended : Bool) (bytes : List ℕ) (rest : Option (List ℕ)) (v : Protocol) (size : ℕ) → head_of bytes ≡ Data size → is_error (drop 4 (take size bytes)) ≡ false
-    → IfSome (bytes_known ended bytes rest) (λ xs. (q : Pieces) × (option_map stream_pieces (bytes_known ended (drop size bytes) rest) ≡ Some q)
+line_known : (ended : Bool) (bytes : List ℕ) (rest : Option (List ℕ)) (v : Protocol) (size : ℕ) → head_of bytes ≡ Data size
+    → is_error (drop 4 (take size bytes)) ≡ false
+    → IfSome (bytes_known ended bytes rest) (λ xs. (q : Pieces)
+    × (option_map stream_pieces (bytes_known ended (drop size bytes) rest) ≡ Some q)
     × (next_of v (stream_pieces xs) ≡ gives (drop 4 (take size bytes)) q))
 line_known ended bytes rest v size e plain = at (bytes_known ended bytes rest) (known_lose ended bytes rest)
   where
-    at : (o : Option (List ℕ)) → IfSome o (λ xs. (more : List ℕ) × (xs ≡ bytes ++ more) × ((after : List ℕ) → bytes_known ended after rest ≡ Some (after ++ more)))
-        → IfSome o (λ xs. (q : Pieces) × (option_map stream_pieces (bytes_known ended (drop size bytes) rest) ≡ Some q) × (next_of v (stream_pieces xs) ≡ gives (drop 4 (take size bytes)) q))
+    at : (o : Option (List ℕ)) → IfSome o (λ xs. (more : List ℕ) × (xs ≡ bytes ++ more)
+        × ((after : List ℕ) → bytes_known ended after rest ≡ Some (after ++ more)))
+        → IfSome o (λ xs. (q : Pieces) × (option_map stream_pieces (bytes_known ended (drop size bytes) rest) ≡ Some q)
+        × (next_of v (stream_pieces xs) ≡ gives (drop 4 (take size bytes)) q))
     at None h = tt
-    at (Some xs) h = (stream_pieces (drop size bytes ++ h.0), ap (option_map stream_pieces) (h.2 (drop size bytes)), rw h.1 (line_front v bytes h.0 size e plain))
+    at (Some xs) h = (
+      stream_pieces (drop size bytes ++ h.0),
+      ap (option_map stream_pieces) (h.2 (drop size bytes)),
+      rw h.1 (line_front v bytes h.0 size e plain),
+    )
 
-stop_known : (ended : Bool) (bytes : List ℕ) (rest : Option (List ℕ)) (v : Protocol) (kind : MessageKind) → head_of bytes ≡ Special kind → is_stop v kind ≡ true
-    → IfSome (bytes_known ended bytes rest) (λ xs. (q : Pieces) × (option_map stream_pieces (bytes_known ended (drop 4 bytes) rest) ≡ Some q)
+stop_known : (ended : Bool) (bytes : List ℕ) (rest : Option (List ℕ)) (v : Protocol) (kind : MessageKind) → head_of bytes ≡ Special kind
+    → is_stop v kind ≡ true
+    → IfSome (bytes_known ended bytes rest) (λ xs. (q : Pieces)
+    × (option_map stream_pieces (bytes_known ended (drop 4 bytes) rest) ≡ Some q)
     × (next_of v (stream_pieces xs) ≡ stops kind q))
 stop_known ended bytes rest v kind e stopping = at (bytes_known ended bytes rest) (known_lose ended bytes rest)
   where
-    at : (o : Option (List ℕ)) → IfSome o (λ xs. (more : List ℕ) × (xs ≡ bytes ++ more) × ((after : List ℕ) → bytes_known ended after rest ≡ Some (after ++ more)))
-        → IfSome o (λ xs. (q : Pieces) × (option_map stream_pieces (bytes_known ended (drop 4 bytes) rest) ≡ Some q) × (next_of v (stream_pieces xs) ≡ stops kind q))
+    at : (o : Option (List ℕ)) → IfSome o (λ xs. (more : List ℕ) × (xs ≡ bytes ++ more)
+        × ((after : List ℕ) → bytes_known ended after rest ≡ Some (after ++ more)))
+        → IfSome o (λ xs. (q : Pieces) × (option_map stream_pieces (bytes_known ended (drop 4 bytes) rest) ≡ Some q)
+        × (next_of v (stream_pieces xs) ≡ stops kind q))
     at None h = tt
-    at (Some xs) h = (stream_pieces (drop 4 bytes ++ h.0), ap (option_map stream_pieces) (h.2 (drop 4 bytes)), rw (h.1, mark_front bytes h.0 kind e, stopping) refl)
+    at (Some xs) h = (
+      stream_pieces (drop 4 bytes ++ h.0),
+      ap (option_map stream_pieces) (h.2 (drop 4 bytes)),
+      rw (h.1, mark_front bytes h.0 kind e, stopping) refl,
+    )
 
 -- a refusal at the front, whatever follows
-refusal_known : (ended : Bool) (bytes : List ℕ) (rest : Option (List ℕ)) (v : Protocol) (x : Refusal) → ((more : List ℕ) → stream_pieces (bytes ++ more) ≡ no_pieces x)
-    → IfSome (bytes_known ended bytes rest) (λ xs. (option_map stream_pieces (bytes_known ended bytes rest) ≡ Some (no_pieces x)) × (next_of v (stream_pieces xs) ≡ refuses x))
+refusal_known : (ended : Bool) (bytes : List ℕ) (rest : Option (List ℕ)) (v : Protocol) (x : Refusal)
+    → ((more : List ℕ) → stream_pieces (bytes ++ more) ≡ no_pieces x)
+    → IfSome (bytes_known ended bytes rest) (λ xs. (option_map stream_pieces (bytes_known ended bytes rest) ≡ Some (no_pieces x))
+    × (next_of v (stream_pieces xs) ≡ refuses x))
 refusal_known ended bytes rest v x f = at (bytes_known ended bytes rest) (known_lose ended bytes rest)
   where
-    at : (o : Option (List ℕ)) → IfSome o (λ xs. (more : List ℕ) × (xs ≡ bytes ++ more) × ((after : List ℕ) → bytes_known ended after rest ≡ Some (after ++ more)))
+    at : (o : Option (List ℕ)) → IfSome o (λ xs. (more : List ℕ) × (xs ≡ bytes ++ more)
+        × ((after : List ℕ) → bytes_known ended after rest ≡ Some (after ++ more)))
         → IfSome o (λ xs. (option_map stream_pieces o ≡ Some (no_pieces x)) × (next_of v (stream_pieces xs) ≡ refuses x))
     at None h = tt
     at (Some xs) h = (rw (h.1, f h.0) refl, rw (h.1, f h.0) refl)
 
-unexpected_known : (ended : Bool) (bytes : List ℕ) (rest : Option (List ℕ)) (v : Protocol) (kind : MessageKind) → head_of bytes ≡ Special kind → is_stop v kind ≡ false
-    → IfSome (bytes_known ended bytes rest) (λ xs. (Some (no_pieces unexpected_frame) ≡ Some (no_pieces unexpected_frame)) × (next_of v (stream_pieces xs) ≡ refuses unexpected_frame))
+unexpected_known : (ended : Bool) (bytes : List ℕ) (rest : Option (List ℕ)) (v : Protocol) (kind : MessageKind)
+    → head_of bytes ≡ Special kind → is_stop v kind ≡ false
+    → IfSome (bytes_known ended bytes rest) (λ xs. (Some (no_pieces unexpected_frame) ≡ Some (no_pieces unexpected_frame))
+    × (next_of v (stream_pieces xs) ≡ refuses unexpected_frame))
 unexpected_known ended bytes rest v kind e going = at (bytes_known ended bytes rest) (known_lose ended bytes rest)
   where
-    at : (o : Option (List ℕ)) → IfSome o (λ xs. (more : List ℕ) × (xs ≡ bytes ++ more) × ((after : List ℕ) → bytes_known ended after rest ≡ Some (after ++ more)))
-        → IfSome o (λ xs. (Some (no_pieces unexpected_frame) ≡ Some (no_pieces unexpected_frame)) × (next_of v (stream_pieces xs) ≡ refuses unexpected_frame))
+    at : (o : Option (List ℕ)) → IfSome o (λ xs. (more : List ℕ) × (xs ≡ bytes ++ more)
+        × ((after : List ℕ) → bytes_known ended after rest ≡ Some (after ++ more)))
+        → IfSome o (λ xs. (Some (no_pieces unexpected_frame) ≡ Some (no_pieces unexpected_frame))
+        × (next_of v (stream_pieces xs) ≡ refuses unexpected_frame))
     at None h = tt
     at (Some xs) h = (refl, rw (h.1, mark_front bytes h.0 kind e, going) refl)
 
 ended_known : (bytes : List ℕ) (rest : Option (List ℕ)) (v : Protocol) → head_of bytes ≡ Partial
-    → IfSome (bytes_known true bytes rest) (λ xs. (option_map stream_pieces (bytes_known true bytes rest) ≡ Some (no_pieces (io UnexpectedEof)))
+    → IfSome (bytes_known true bytes rest) (λ xs.
+    (option_map stream_pieces (bytes_known true bytes rest) ≡ Some (no_pieces (io UnexpectedEof)))
     × (next_of v (stream_pieces xs) ≡ refuses (io UnexpectedEof)))
 ended_known bytes rest v e =
     let step : stream_pieces bytes ≡ no_pieces (io UnexpectedEof) = stream_pieces-step bytes ∙ ap (λ h. pieces_by h bytes) e in
@@ -172,7 +198,8 @@ gives_is v (line t ∷ ps) end text q h =
     let e1 : t ≡ text = cc in
     let e2 : p ≡ q = cc in
     rw (← e1, ← e2) refl
-gives_is v (mark kind ∷ ps) end text q h = absurd (mark_not_gives (is_stop v kind) kind (record { list = ps; end = end }) q unexpected_frame text h)
+gives_is v (mark kind ∷ ps) end text q h =
+    absurd (mark_not_gives (is_stop v kind) kind (record { list = ps; end = end }) q unexpected_frame text h)
 
 put_back : (a b : Option Pieces) (v : Protocol) (text : List ℕ) → IfSome a (λ p. (q : Pieces) × (b ≡ Some q) × (next_of v p ≡ gives text q))
     → IfSome a (λ p. (q : Pieces) × (option_map (with_piece (line text)) b ≡ Some p) × (next_of v p ≡ gives text q))
@@ -180,12 +207,14 @@ put_back None b v text h = tt
 put_back (Some p) b v text h = (h.0, rw h.1 (ap Some (gives_is v p.list p.end text h.0 h.2)), h.2)
 
 put_already : (b : Option Pieces) (v : Protocol) (text : List ℕ)
-    → IfSome (option_map (with_piece (line text)) b) (λ p. (q : Pieces) × (option_map (with_piece (line text)) b ≡ Some p) × (next_of v p ≡ gives text q))
+    → IfSome (option_map (with_piece (line text)) b) (λ p. (q : Pieces) × (option_map (with_piece (line text)) b ≡ Some p)
+    × (next_of v p ≡ gives text q))
 put_already None v text = tt
 put_already (Some q) v text = (q, refl, refl)
 
 module _ {R : Type 0} where
-  to_come-is : (rem : R → Option (List ℕ)) (p : Packets R) → p.place ≡ Open → (packets_reading rem p).to_come ≡ option_map stream_pieces (known rem p)
+  to_come-is : (rem : R → Option (List ℕ)) (p : Packets R) → p.place ≡ Open
+      → (packets_reading rem p).to_come ≡ option_map stream_pieces (known rem p)
   to_come-is rem p a = rw a refl
 
   refused-is : (rem : R → Option (List ℕ)) (p : Packets R) → p.place ≡ Open → (packets_reading rem p).refused ≡ stand p
@@ -195,7 +224,8 @@ module _ {R : Type 0} where
   open_stand p h e = rw (h, e) refl
 
   -- what stood before stands still
-  stood : (old new : Packets R) → (new ≡ old) ⊎ ((head_of old.window.pending ≡ Partial) × (old.ended ≡ false)) → (stand old ≡ stand new) ⊎ (stand old ≡ None)
+  stood : (old new : Packets R) → (new ≡ old) ⊎ ((head_of old.window.pending ≡ Partial) × (old.ended ≡ false)) → (stand old ≡ stand new)
+      ⊎ (stand old ≡ None)
   stood old new (inl e) = inl (sym (ap stand e))
   stood old new (inr h) = inr (open_stand old h.0 h.1)
 
@@ -203,15 +233,18 @@ module _ {R : Type 0} where
   stood_none old new (inl e) n = e ∙ n
   stood_none old new (inr e) n = e
 
-  stood_same : (old new : Packets R) (x : Refusal) → (stand old ≡ stand new) ⊎ (stand old ≡ None) → stand new ≡ Some x → IfSome (stand old) (λ y. y ≡ x)
+  stood_same : (old new : Packets R) (x : Refusal) → (stand old ≡ stand new) ⊎ (stand old ≡ None) → stand new ≡ Some x
+      → IfSome (stand old) (λ y. y ≡ x)
   stood_same old new x (inl e) n = let P : Option Refusal → Type 0 = λ o. IfSome o (λ y. y ≡ x) in subst P (sym (e ∙ n)) refl
   stood_same old new x (inr e) n = let P : Option Refusal → Type 0 = λ o. IfSome o (λ y. y ≡ x) in subst P (sym e) tt
 
   stood_still : (old new : Packets R) → (stand old ≡ stand new) ⊎ (stand old ≡ None) → IfSome (stand old) (λ y. stand new ≡ Some y)
-  stood_still old new (inl e) = let P : Option Refusal → Type 0 = λ o. IfSome o (λ y. stand new ≡ Some y) in subst P (sym e) (if_same (stand new))
+  stood_still old new (inl e) = let P : Option Refusal → Type 0 = λ o. IfSome o (λ y. stand new ≡ Some y) in
+      subst P (sym e) (if_same (stand new))
   stood_still old new (inr e) = let P : Option Refusal → Type 0 = λ o. IfSome o (λ y. stand new ≡ Some y) in subst P (sym e) tt
 
-  data_stand : (p : Packets R) (size : ℕ) → head_of p.window.pending ≡ Data size → is_error (drop 4 (take size p.window.pending)) ≡ false → stand p ≡ None
+  data_stand : (p : Packets R) (size : ℕ) → head_of p.window.pending ≡ Data size → is_error (drop 4 (take size p.window.pending))
+      ≡ false → stand p ≡ None
   data_stand p size h e = rw (h, e) refl
 
   special_stand : (p : Packets R) (kind : MessageKind) → head_of p.window.pending ≡ Special kind → stand p ≡ None
@@ -221,7 +254,9 @@ module _ {R : Type 0} where
   open_left : (p : Packets R) → p.place ≡ Open → lines_left p ≡ bytes_left p
   open_left p op = rw op (omega arith)
 
-  pub takes_line : (rem : R → Option (List ℕ)) (old mid : Packets R) (size : ℕ) → Settled rem old mid (Data size) → old.place ≡ Open → is_error (drop 4 (take size mid.window.pending)) ≡ false → TakesLine (packets_reading rem old) (packets_reading rem (took mid size))
+  pub takes_line : (rem : R → Option (List ℕ)) (old mid : Packets R) (size : ℕ) → Settled rem old mid (Data size) → old.place ≡ Open
+      → is_error (drop 4 (take size mid.window.pending)) ≡ false
+      → TakesLine (packets_reading rem old) (packets_reading rem (took mid size))
   takes_line rem old mid size h op plain =
       let k = h.kept in
       let front : head_of mid.window.pending ≡ Data size = sym h.front in
@@ -230,10 +265,13 @@ module _ {R : Type 0} where
       let text = drop 4 (take size mid.window.pending) in
       let new = took mid size in
       let N : Pieces → Next = gives text in
-      let step = next_kept (known rem old) (known rem mid) (option_map stream_pieces (known rem new)) old.version mid.version N k.version k.bytes
+      let step = next_kept (known rem old) (known rem mid)
+      (option_map stream_pieces (known rem new)) old.version mid.version N k.version k.bytes
       (line_known mid.ended mid.window.pending (rem mid.reader) mid.version size front plain) in
-      let P : Option Pieces → Type 0 = λ o. IfSome o (λ p. (q : Pieces) × (option_map stream_pieces (known rem new) ≡ Some q) × (next_of old.version p ≡ N q)) in
-      let Q : Option Pieces → Type 0 = λ c. IfSome (packets_reading rem old).to_come (λ p. (q : Pieces) × (c ≡ Some q) × (next_of old.version p ≡ N q)) in
+      let P : Option Pieces → Type 0 =
+      λ o. IfSome o (λ p. (q : Pieces) × (option_map stream_pieces (known rem new) ≡ Some q) × (next_of old.version p ≡ N q)) in
+      let Q : Option Pieces → Type 0 =
+      λ c. IfSome (packets_reading rem old).to_come (λ p. (q : Pieces) × (c ≡ Some q) × (next_of old.version p ≡ N q)) in
       record {
         running = ap place_stop op;
         sound = refused-is rem old op ∙ stood_none old mid (stood old mid h.moved) (data_stand mid size front plain);
@@ -247,20 +285,31 @@ module _ {R : Type 0} where
             let a = k.left in
             let b = fits.0 in
             let c = fits.1 in
-            omega (arith, open_left old op, open_left new op2, length-drop size mid.window.pending, length-drop 4 (take size mid.window.pending), length-take-le size mid.window.pending fits.1);
+            omega (
+              arith,
+              open_left old op,
+              open_left new op2,
+              length-drop size mid.window.pending,
+              length-drop 4 (take size mid.window.pending),
+              length-take-le size mid.window.pending fits.1,
+            );
         held = refl;
       }
 
-  pub takes_stop : (rem : R → Option (List ℕ)) (old mid : Packets R) (kind : MessageKind) → Settled rem old mid (Special kind) → old.place ≡ Open → is_stop mid.version kind ≡ true → TakesStop (packets_reading rem old) (packets_reading rem (stopped_by mid kind)) kind
+  pub takes_stop : (rem : R → Option (List ℕ)) (old mid : Packets R) (kind : MessageKind) → Settled rem old mid (Special kind)
+      → old.place ≡ Open → is_stop mid.version kind ≡ true
+      → TakesStop (packets_reading rem old) (packets_reading rem (stopped_by mid kind)) kind
   takes_stop rem old mid kind h op stopping =
       let k = h.kept in
       let front : head_of mid.window.pending ≡ Special kind = sym h.front in
       let fits = front_fits mid.window.pending (Special kind) front in
       let new = stopped_by mid kind in
       let N : Pieces → Next = stops kind in
-      let step = next_kept (known rem old) (known rem mid) (option_map stream_pieces (known rem new)) old.version mid.version N k.version k.bytes
+      let step = next_kept (known rem old) (known rem mid)
+      (option_map stream_pieces (known rem new)) old.version mid.version N k.version k.bytes
       (stop_known mid.ended mid.window.pending (rem mid.reader) mid.version kind front stopping) in
-      let P : Option Pieces → Type 0 = λ o. IfSome o (λ p. (q : Pieces) × (option_map stream_pieces (known rem new) ≡ Some q) × (next_of old.version p ≡ N q)) in
+      let P : Option Pieces → Type 0 =
+      λ o. IfSome o (λ p. (q : Pieces) × (option_map stream_pieces (known rem new) ≡ Some q) × (next_of old.version p ≡ N q)) in
       record {
         running = ap place_stop op;
         sound = refused-is rem old op ∙ stood_none old mid (stood old mid h.moved) (special_stand mid kind front);
@@ -276,14 +325,18 @@ module _ {R : Type 0} where
       }
 
   -- a refusal that stands at the front of what was kept
-  refuses_in : (rem : R → Option (List ℕ)) (old mid : Packets R) (x : Refusal) → Kept rem old mid → mid.failures ≡ old.failures → old.place ≡ Open → IsLasting x → stand mid ≡ Some x → (stand old ≡ stand mid) ⊎ (stand old ≡ None)
-      → IfSome (known rem mid) (λ xs. (option_map stream_pieces (known rem mid) ≡ Some (no_pieces x)) × (next_of old.version (stream_pieces xs) ≡ refuses x))
+  refuses_in : (rem : R → Option (List ℕ)) (old mid : Packets R) (x : Refusal) → Kept rem old mid → mid.failures ≡ old.failures
+      → old.place ≡ Open → IsLasting x → stand mid ≡ Some x → (stand old ≡ stand mid) ⊎ (stand old ≡ None)
+      → IfSome (known rem mid) (λ xs. (option_map stream_pieces (known rem mid) ≡ Some (no_pieces x))
+      × (next_of old.version (stream_pieces xs) ≡ refuses x))
       → Refuses (packets_reading rem old) (packets_reading rem mid) x
   refuses_in rem old mid x k fails op last now was step =
       let op2 : mid.place ≡ Open = k.place ∙ op in
       let kept = refuses_kept (known rem old) (known rem mid) (option_map stream_pieces (known rem mid)) old.version x k.bytes step in
-      let P : Option Pieces → Type 0 = λ o. IfSome o (λ p. (option_map stream_pieces (known rem mid) ≡ Some (no_pieces x)) × (next_of old.version p ≡ refuses x)) in
-      let Q : Option Pieces → Type 0 = λ c. IfSome (packets_reading rem old).to_come (λ p. (c ≡ Some (no_pieces x)) × (next_of old.version p ≡ refuses x)) in
+      let P : Option Pieces → Type 0 =
+      λ o. IfSome o (λ p. (option_map stream_pieces (known rem mid) ≡ Some (no_pieces x)) × (next_of old.version p ≡ refuses x)) in
+      let Q : Option Pieces → Type 0 =
+      λ c. IfSome (packets_reading rem old).to_come (λ p. (c ≡ Some (no_pieces x)) × (next_of old.version p ≡ refuses x)) in
       let S : Option Refusal → Type 0 = λ o. IfSome o (λ y. y ≡ x) in
       record {
         running = ap place_stop op;
@@ -300,18 +353,23 @@ module _ {R : Type 0} where
         held = refl;
       }
 
-  pub refuses_bad : (rem : R → Option (List ℕ)) (old mid : Packets R) (x : PacketError) → Settled rem old mid (Bad x) → old.place ≡ Open → Refuses (packets_reading rem old) (packets_reading rem mid) (decode x)
+  pub refuses_bad : (rem : R → Option (List ℕ)) (old mid : Packets R) (x : PacketError) → Settled rem old mid (Bad x) → old.place ≡ Open
+      → Refuses (packets_reading rem old) (packets_reading rem mid) (decode x)
   refuses_bad rem old mid x h op =
       let front : head_of mid.window.pending ≡ Bad x = sym h.front in
       refuses_in rem old mid (decode x) h.kept h.failures op tt (rw front refl) (stood old mid h.moved)
-      (refusal_known mid.ended mid.window.pending (rem mid.reader) old.version (decode x) (λ more. bad_front mid.window.pending more x front))
+      (refusal_known mid.ended mid.window.pending (rem mid.reader) old.version (decode x)
+      (λ more. bad_front mid.window.pending more x front))
 
-  pub refuses_error : (rem : R → Option (List ℕ)) (old mid : Packets R) (size : ℕ) → Settled rem old mid (Data size) → old.place ≡ Open → is_error (drop 4 (take size mid.window.pending)) ≡ true
+  pub refuses_error : (rem : R → Option (List ℕ)) (old mid : Packets R) (size : ℕ) → Settled rem old mid (Data size) → old.place ≡ Open
+      → is_error (drop 4 (take size mid.window.pending)) ≡ true
       → Refuses (packets_reading rem old) (packets_reading rem mid) (server (error_message (drop 4 (take size mid.window.pending))))
   refuses_error rem old mid size h op wrong =
       let front : head_of mid.window.pending ≡ Data size = sym h.front in
-      refuses_in rem old mid (server (error_message (drop 4 (take size mid.window.pending)))) h.kept h.failures op tt (rw (front, wrong) refl) (stood old mid h.moved)
-      (refusal_known mid.ended mid.window.pending (rem mid.reader) old.version _ (λ more. error_front mid.window.pending more size front wrong))
+      refuses_in rem old mid (server (error_message (drop 4 (take size mid.window.pending)))) h.kept h.failures op tt
+      (rw (front, wrong) refl) (stood old mid h.moved)
+      (refusal_known mid.ended mid.window.pending (rem mid.reader) old.version _
+      (λ more. error_front mid.window.pending more size front wrong))
 
   -- nothing was lost
   stays_in : (rem : R → Option (List ℕ)) (old mid : Packets R) → Kept rem old mid → old.place ≡ Open
@@ -323,7 +381,8 @@ module _ {R : Type 0} where
       let S : Option Refusal → Type 0 = λ o. IfSome o (λ y. stand mid ≡ Some y) in
       let T : Option Refusal → Type 0 = λ c. IfSome (packets_reading rem old).refused (λ y. c ≡ Some y) in
       record {
-        to_come = subst Q (sym (to_come-is rem mid op2)) (subst P (sym (to_come-is rem old op)) (stays_kept (known rem old) (known rem mid) k.bytes));
+        to_come = subst Q (sym (to_come-is rem mid op2))
+            (subst P (sym (to_come-is rem old op)) (stays_kept (known rem old) (known rem mid) k.bytes));
         refused = subst T (sym (refused-is rem mid op2)) (subst S (sym (refused-is rem old op)) (stood_still old mid was));
         stopped = ap place_stop k.place;
         version = k.version;
@@ -334,13 +393,17 @@ module _ {R : Type 0} where
       }
 
   -- memory ran out for the text of an error
-  pub faults_memory : (rem : R → Option (List ℕ)) (old mid : Packets R) (head : Head) → Settled rem old mid head → old.place ≡ Open → Faults (packets_reading rem old) (packets_reading rem mid) memory
-  faults_memory rem old mid head h op = record { running = ap place_stop op; fault = h.failures; stays = stays_in rem old mid h.kept op (stood old mid h.moved) }
+  pub faults_memory : (rem : R → Option (List ℕ)) (old mid : Packets R) (head : Head) → Settled rem old mid head → old.place ≡ Open
+      → Faults (packets_reading rem old) (packets_reading rem mid) memory
+  faults_memory rem old mid head h op =
+      record { running = ap place_stop op; fault = h.failures; stays = stays_in rem old mid h.kept op (stood old mid h.moved) }
 
   -- memory ran out for the text of an error alone
-  pub plain_error : (rem : R → Option (List ℕ)) (old mid : Packets R) (size : ℕ) (e : Error) → Settled rem old mid (Data size) → old.place ≡ Open
+  pub plain_error : (rem : R → Option (List ℕ)) (old mid : Packets R) (size : ℕ) (e : Error) → Settled rem old mid (Data size)
+      → old.place ≡ Open
       → is_error (drop 4 (take size mid.window.pending)) ≡ true
-      → (refusal_of e ≡ server (error_message (drop 4 (take size mid.window.pending)))) ⊎ (e ≡ Memory) → IsPlain (packets_reading rem mid) (refusal_of e)
+      → (refusal_of e ≡ server (error_message (drop 4 (take size mid.window.pending))))
+      ⊎ (e ≡ Memory) → IsPlain (packets_reading rem mid) (refusal_of e)
   plain_error rem old mid size e h op wrong (inl s) = subst (IsPlain (packets_reading rem mid)) (sym s) tt
   plain_error rem old mid size e h op wrong (inr m) =
       let front : head_of mid.window.pending ≡ Data size = sym h.front in
@@ -349,7 +412,8 @@ module _ {R : Type 0} where
       (error_message (drop 4 (take size mid.window.pending)), refused-is rem mid (h.kept.place ∙ op) ∙ now)
 
   -- the read failed as at the end, and so the stream ends
-  breaks_off : (rem : R → Option (List ℕ)) (old mid : Packets R) (e : Error) → SettledBreak old mid e → old.place ≡ Open → BreaksOff (packets_reading rem old) (packets_reading rem mid) (refusal_of e)
+  breaks_off : (rem : R → Option (List ℕ)) (old mid : Packets R) (e : Error) → SettledBreak old mid e → old.place ≡ Open
+      → BreaksOff (packets_reading rem old) (packets_reading rem mid) (refusal_of e)
   breaks_off rem old mid e h op =
       let b = h.breaks in
       let op2 : mid.place ≡ Open = b.place ∙ op in
@@ -374,14 +438,18 @@ module _ {R : Type 0} where
         held = refl;
       }
 
-  pub fails_settling : (rem : R → Option (List ℕ)) (old mid : Packets R) (e : Error) → SettledEnd rem old mid e ⊎ SettledFault rem old mid e ⊎ SettledBreak old mid e → old.place ≡ Open → Fails (packets_reading rem old) (packets_reading rem mid) (refusal_of e)
+  pub fails_settling : (rem : R → Option (List ℕ)) (old mid : Packets R) (e : Error) → SettledEnd rem old mid e
+      ⊎ SettledFault rem old mid e ⊎ SettledBreak old mid e → old.place ≡ Open
+      → Fails (packets_reading rem old) (packets_reading rem mid) (refusal_of e)
   fails_settling rem old mid e (inl h) op =
       let d = h.ends in
       let error : io UnexpectedEof ≡ refusal_of e = ap refusal_of (sym d.error) in
       let now : stand mid ≡ Some (io UnexpectedEof) = rw (d.front, d.ended) refl in
       let was : (stand old ≡ stand mid) ⊎ (stand old ≡ None) = ended_stood old.ended refl in
       let step = ended_known mid.window.pending (rem mid.reader) old.version d.front in
-      let K : Bool → Type 0 = λ b. IfSome (bytes_known b mid.window.pending (rem mid.reader)) (λ xs. (option_map stream_pieces (bytes_known b mid.window.pending (rem mid.reader)) ≡ Some (no_pieces (io UnexpectedEof))) × (next_of old.version (stream_pieces xs) ≡ refuses (io UnexpectedEof))) in
+      let K : Bool → Type 0 = λ b. IfSome (bytes_known b mid.window.pending (rem mid.reader))
+      (λ xs. (option_map stream_pieces (bytes_known b mid.window.pending (rem mid.reader)) ≡ Some (no_pieces (io UnexpectedEof)))
+      × (next_of old.version (stream_pieces xs) ≡ refuses (io UnexpectedEof))) in
       inl (subst (Refuses (packets_reading rem old) (packets_reading rem mid)) error
       (refuses_in rem old mid (io UnexpectedEof) d.kept d.failures op refl now was (subst K (sym d.ended) step)))
     where
@@ -402,16 +470,22 @@ module _ {R : Type 0} where
   abbrev pub refused_frame : Packets R → Packets R
   refused_frame p = record p { place = Refused }
 
-  pub refuses_frame : (rem : R → Option (List ℕ)) (old mid : Packets R) (kind : MessageKind) → Settled rem old mid (Special kind) → old.place ≡ Open → is_stop mid.version kind ≡ false → Refuses (packets_reading rem old) (packets_reading rem (refused_frame mid)) unexpected_frame
+  pub refuses_frame : (rem : R → Option (List ℕ)) (old mid : Packets R) (kind : MessageKind) → Settled rem old mid (Special kind)
+      → old.place ≡ Open → is_stop mid.version kind ≡ false
+      → Refuses (packets_reading rem old) (packets_reading rem (refused_frame mid)) unexpected_frame
   refuses_frame rem old mid kind h op going =
       let k = h.kept in
       let front : head_of mid.window.pending ≡ Special kind = sym h.front in
       let none = stood_none old mid (stood old mid h.moved) (special_stand mid kind front) in
       let new = refused_frame mid in
-      let known_step = unexpected_known mid.ended mid.window.pending (rem mid.reader) old.version kind front (ap (λ v. is_stop v kind) (sym k.version) ∙ going) in
-      let kept = refuses_kept (known rem old) (known rem mid) (Some (no_pieces unexpected_frame)) old.version unexpected_frame k.bytes known_step in
-      let P : Option Pieces → Type 0 = λ o. IfSome o (λ p. (Some (no_pieces unexpected_frame) ≡ Some (no_pieces unexpected_frame)) × (next_of old.version p ≡ refuses unexpected_frame)) in
-      let Q : Option Pieces → Type 0 = λ c. IfSome (packets_reading rem old).to_come (λ p. (c ≡ Some (no_pieces unexpected_frame)) × (next_of old.version p ≡ refuses unexpected_frame)) in
+      let known_step = unexpected_known mid.ended mid.window.pending (rem mid.reader) old.version kind front
+      (ap (λ v. is_stop v kind) (sym k.version) ∙ going) in
+      let kept = refuses_kept (known rem old) (known rem mid)
+      (Some (no_pieces unexpected_frame)) old.version unexpected_frame k.bytes known_step in
+      let P : Option Pieces → Type 0 = λ o. IfSome o (λ p. (Some (no_pieces unexpected_frame) ≡ Some (no_pieces unexpected_frame))
+      × (next_of old.version p ≡ refuses unexpected_frame)) in
+      let Q : Option Pieces → Type 0 = λ c. IfSome (packets_reading rem old).to_come (λ p. (c ≡ Some (no_pieces unexpected_frame))
+      × (next_of old.version p ≡ refuses unexpected_frame)) in
       let is : (packets_reading rem new).to_come ≡ Some (no_pieces unexpected_frame) = refl in
       let S : Option Refusal → Type 0 = λ o. IfSome o (λ y. y ≡ unexpected_frame) in
       record {
@@ -430,16 +504,19 @@ module _ {R : Type 0} where
       }
 
   -- to peek is to take and to put back
-  pub peeks_line : (rem : R → Option (List ℕ)) (old new : Packets R) → TakesLine (packets_reading rem old) (packets_reading rem new) → new.place ≡ Open
+  pub peeks_line : (rem : R → Option (List ℕ)) (old new : Packets R) → TakesLine (packets_reading rem old) (packets_reading rem new)
+      → new.place ≡ Open
       → ShowsLine (packets_reading rem old) (packets_reading rem (peeked_at new))
   peeks_line rem old new h op =
       let ahead : (packets_reading rem new).to_come ≡ option_map stream_pieces (known rem new) = to_come-is rem new op in
-      let Q : Option Pieces → Type 0 = λ c. IfSome (packets_reading rem old).to_come (λ p. (q : Pieces) × (c ≡ Some q) × (next_of old.version p ≡ gives new.window.lent q)) in
+      let Q : Option Pieces → Type 0 = λ c. IfSome (packets_reading rem old).to_come
+      (λ p. (q : Pieces) × (c ≡ Some q) × (next_of old.version p ≡ gives new.window.lent q)) in
       record {
         running = h.running;
         sound = h.sound;
         again = h.again;
-        next = put_back (packets_reading rem old).to_come (option_map stream_pieces (known rem new)) old.version new.window.lent (subst Q ahead h.next);
+        next = put_back (packets_reading rem old).to_come (option_map stream_pieces (known rem new)) old.version new.window.lent
+            (subst Q ahead h.next);
         refused = refl;
         stopped = refl;
         version = h.version;
@@ -451,10 +528,13 @@ module _ {R : Type 0} where
       }
 
   -- to peek again changes nothing
-  pub peeks_again : (rem : R → Option (List ℕ)) (p : Packets R) → p.place ≡ Peeked → ShowsLine (packets_reading rem p) (packets_reading rem p)
+  pub peeks_again : (rem : R → Option (List ℕ)) (p : Packets R) → p.place ≡ Peeked
+      → ShowsLine (packets_reading rem p) (packets_reading rem p)
   peeks_again rem p at =
-      let P : Option Pieces → Type 0 = λ o. IfSome o (λ ps. (q : Pieces) × (o ≡ Some ps) × (next_of p.version ps ≡ gives p.window.lent q)) in
-      let is : (packets_reading rem p).to_come ≡ option_map (with_piece (line p.window.lent)) (option_map stream_pieces (known rem p)) = rw at refl in
+      let P : Option Pieces → Type 0 =
+      λ o. IfSome o (λ ps. (q : Pieces) × (o ≡ Some ps) × (next_of p.version ps ≡ gives p.window.lent q)) in
+      let is : (packets_reading rem p).to_come ≡ option_map (with_piece (line p.window.lent)) (option_map stream_pieces (known rem p)) =
+      rw at refl in
       record {
         running = rw at refl;
         sound = rw at refl;

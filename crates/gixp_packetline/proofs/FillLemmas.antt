@@ -22,11 +22,13 @@ module _ {R : Type 0} where
   abbrev pub read_by : Packets R → Shown → R → Packets R
   read_by old w rd = record old { reads_left = old.reads_left - 1; window = w; reader = rd }
 
-  same_bytes : (rem : R → Option (List ℕ)) (old : Packets R) (w : Shown) (rd : R) → old.ended ≡ false → Keeps (prepend_known old.window.pending (rem old.reader)) (prepend_known w.pending (rem rd))
+  same_bytes : (rem : R → Option (List ℕ)) (old : Packets R) (w : Shown) (rd : R) → old.ended ≡ false
+      → Keeps (prepend_known old.window.pending (rem old.reader)) (prepend_known w.pending (rem rd))
       → Keeps (known rem old) (known rem (record old { reads_left = old.reads_left - 1; window = w; reader = rd; ended = false }))
   same_bytes rem old w rd going keeps = rw going keeps
 
-  failed : (rem : R → Option (List ℕ)) (old : Packets R) (w : Shown) (rd : R) (kind : ErrorKind) (k : ℕ) (b : Bool) → is_end kind ≡ b → 0 < old.reads_left → head_of old.window.pending ≡ Partial → old.ended ≡ false
+  failed : (rem : R → Option (List ℕ)) (old : Packets R) (w : Shown) (rd : R) (kind : ErrorKind) (k : ℕ) (b : Bool) → is_end kind ≡ b
+      → 0 < old.reads_left → head_of old.window.pending ≡ Partial → old.ended ≡ false
       → (w.pending ≡ old.window.pending) × Keeps (rem old.reader) (rem rd) → Rose old.failures k
       → Fills {X = Unit {0}} rem old (record (read_by old w rd) { failures = k; ended = b }) (Err (Io kind))
   failed rem old w rd kind k true e some front going got rose = inr (inr (record {
@@ -55,8 +57,10 @@ module _ {R : Type 0} where
     reads = let l = ap length got.0 in omega arith;
   }))
 
-  came : (rem : R → Option (List ℕ)) (old : Packets R) (w : Shown) (rd : R) (n : ℕ) (got : List ℕ) → 0 < n → 0 < old.reads_left → old.ended ≡ false
-      → w.pending ≡ old.window.pending ++ got → length got ≡ n → Consumes (rem old.reader) (rem rd) got → length w.pending ≤ 65520 → Filled rem old (record (read_by old w rd) { ended = false })
+  came : (rem : R → Option (List ℕ)) (old : Packets R) (w : Shown) (rd : R) (n : ℕ) (got : List ℕ) → 0 < n → 0 < old.reads_left
+      → old.ended ≡ false
+      → w.pending ≡ old.window.pending ++ got → length got ≡ n → Consumes (rem old.reader) (rem rd) got → length w.pending ≤ 65520
+      → Filled rem old (record (read_by old w rd) { ended = false })
   came rem old w rd n got more some going e len takes bound =
       let l : length w.pending ≡ length old.window.pending + length got = ap length e ∙ length-append old.window.pending got in
       record {
@@ -73,7 +77,8 @@ module _ {R : Type 0} where
         reads = omega arith;
       }
 
-  ended : (rem : R → Option (List ℕ)) (old : Packets R) (w : Shown) (rd : R) (got : List ℕ) → 0 < old.reads_left → head_of old.window.pending ≡ Partial → old.ended ≡ false
+  ended : (rem : R → Option (List ℕ)) (old : Packets R) (w : Shown) (rd : R) (got : List ℕ) → 0 < old.reads_left
+      → head_of old.window.pending ≡ Partial → old.ended ≡ false
       → w.pending ≡ old.window.pending ++ got → length got ≡ 0 → Consumes (rem old.reader) (rem rd) got → IsAtEnd (rem rd)
       → Ended rem old (record (read_by old w rd) { ended = true }) (Io UnexpectedEof)
   ended rem old w rd got some front going e none takes at =
@@ -93,7 +98,8 @@ module _ {R : Type 0} where
         reads = omega arith;
       }
 
-  noted : (rem : R → Option (List ℕ)) (old new : Packets R) (w : Shown) (rd : R) (got : Result ℕ ErrorKind) (r : Result (Unit {0}) Error) → 0 < old.reads_left → head_of old.window.pending ≡ Partial → old.ended ≡ false
+  noted : (rem : R → Option (List ℕ)) (old new : Packets R) (w : Shown) (rd : R) (got : Result ℕ ErrorKind)
+      (r : Result (Unit {0}) Error) → 0 < old.reads_left → head_of old.window.pending ≡ Partial → old.ended ≡ false
       → Receives (rem old.reader) (rem rd) old.window.pending w.pending got → NotesRead (read_by old w rd) new got r → Fills rem old new r
   noted rem old new w rd (Err kind) r some front going got h =
       let F : Packets R → Result (Unit {0}) Error → Type 0 = Fills rem old in
@@ -114,19 +120,24 @@ module _ {R : Type 0} where
           let more : 0 < n = omega arith in
           let at = h.1 more in
           let filled = came rem old w rd n got.0 more some going got.1 got.2 got.3 got.5 in
-          let shut : record (read_by old w rd) { ended = false } ≡ read_by old w rd = ap (λ (b : Bool). record (read_by old w rd) { ended = b }) (sym going) in
+          let shut : record (read_by old w rd) { ended = false } ≡ read_by old w rd =
+          ap (λ (b : Bool). record (read_by old w rd) { ended = b }) (sym going) in
           subst (F new) (sym at.0) (subst P (shut ∙ sym at.1) filled)
 
   -- the same, after a read that was spent
-  pub fills_noted : (rem : R → Option (List ℕ)) (old spent new : Packets R) (w : Shown) (rd : R) (got : Result ℕ ErrorKind) (r : Result (Unit {0}) Error) → spent ≡ record old { reads_left = old.reads_left - 1 } → 0 < old.reads_left
-      → head_of old.window.pending ≡ Partial → old.ended ≡ false → Receives (rem spent.reader) (rem rd) spent.window.pending w.pending got → NotesRead (record spent { window = w; reader = rd }) new got r → Fills rem old new r
+  pub fills_noted : (rem : R → Option (List ℕ)) (old spent new : Packets R) (w : Shown) (rd : R) (got : Result ℕ ErrorKind)
+      (r : Result (Unit {0}) Error) → spent ≡ record old { reads_left = old.reads_left - 1 } → 0 < old.reads_left
+      → head_of old.window.pending ≡ Partial → old.ended ≡ false
+      → Receives (rem spent.reader) (rem rd) spent.window.pending w.pending got
+      → NotesRead (record spent { window = w; reader = rd }) new got r → Fills rem old new r
   fills_noted rem old spent new w rd got r e some front going read h =
       let A : Packets R → Type 0 = λ s. Receives (rem s.reader) (rem rd) s.window.pending w.pending got in
       let B : Packets R → Type 0 = λ s. NotesRead (record s { window = w; reader = rd }) new got r in
       noted rem old new w rd got r some front going (subst A e read) (subst B e h)
 
   -- one read is spent, whatever it gave
-  pub counts_noted : (old spent new : Packets R) (w : Shown) (rd : R) (got : Result ℕ ErrorKind) (r : Result (Unit {0}) Error) → spent ≡ record old { reads_left = old.reads_left - 1 }
+  pub counts_noted : (old spent new : Packets R) (w : Shown) (rd : R) (got : Result ℕ ErrorKind) (r : Result (Unit {0}) Error)
+      → spent ≡ record old { reads_left = old.reads_left - 1 }
       → NotesRead (record spent { window = w; reader = rd }) new got r → 0 < old.reads_left → old.reads_left ≡ new.reads_left + 1
   counts_noted old spent new w rd got r e h some =
       let same : new.reads_left ≡ spent.reads_left = kept got h in
@@ -142,7 +153,8 @@ module _ {R : Type 0} where
           by (suc m) q = ap (λ (p : Packets R). p.reads_left) (k.1 (omega arith)).1
 
 -- a line of this size that was taken from the front
-pub line_spent : (size reads before : ℕ) (xs ys lent : List ℕ) → 4 ≤ size → size ≤ length xs → lent ≡ drop 4 (take size xs) → ys ≡ drop size xs → before ≤ reads + length xs → before ≤ reads + length ys + 4 + length lent
+pub line_spent : (size reads before : ℕ) (xs ys lent : List ℕ) → 4 ≤ size → size ≤ length xs → lent ≡ drop 4 (take size xs)
+    → ys ≡ drop size xs → before ≤ reads + length xs → before ≤ reads + length ys + 4 + length lent
 line_spent size reads before xs ys lent four fits e h le =
     let whole = length-take-le size xs fits in
     let part = length-drop 4 (take size xs) in

@@ -43,10 +43,12 @@ keep : (b : Bool) (x a c : Head) → ((a ≡ Partial → ⊥) → c ≡ a) → (
 keep true x a c f h = refl
 keep false x a c f h = f h
 
-last_more : (n m size : ℕ) → n ≤ m → (cond (nat_lt n size) Partial (Data size) ≡ Partial → ⊥) → cond (nat_lt m size) Partial (Data size) ≡ cond (nat_lt n size) Partial (Data size)
+last_more : (n m size : ℕ) → n ≤ m → (cond (nat_lt n size) Partial (Data size) ≡ Partial → ⊥) → cond (nat_lt m size) Partial (Data size)
+    ≡ cond (nat_lt n size) Partial (Data size)
 last_more n m size le h = at (nat_lt n size) (nat_lt m size) refl refl
   where
-    at : (a b : Bool) → nat_lt n size ≡ a → nat_lt m size ≡ b → cond (nat_lt m size) Partial (Data size) ≡ cond (nat_lt n size) Partial (Data size)
+    at : (a b : Bool) → nat_lt n size ≡ a → nat_lt m size ≡ b → cond (nat_lt m size) Partial (Data size)
+        ≡ cond (nat_lt n size) Partial (Data size)
     at true b e f = absurd (h (rw e refl))
     at false true e f = absurd (let x = ltb-false n size e in let y = ltb-true m size f in omega arith)
     at false false e f = rw (e, f) refl
@@ -70,7 +72,8 @@ head_more bytes more h = at (nat_lt (length bytes) 4) refl
     at false e =
         let four : 4 ≤ length bytes = ltb-false (length bytes) 4 e in
         let longer : 4 ≤ length (bytes ++ more) = omega (arith, length-append bytes more) in
-        let e2 : nat_lt (length (bytes ++ more)) 4 ≡ false = false_from_ne_true _ (λ t. let x = ltb-true (length (bytes ++ more)) 4 t in absurd (omega arith)) in
+        let e2 : nat_lt (length (bytes ++ more)) 4 ≡ false =
+        false_from_ne_true _ (λ t. let x = ltb-true (length (bytes ++ more)) 4 t in absurd (omega arith)) in
         let same : take 4 (bytes ++ more) ≡ take 4 bytes = take-append-le 4 bytes more four in
         let whole : frame_head (size_of (take 4 bytes)) (length bytes) ≡ Partial → ⊥ = λ p. h (rw e p) in
         let grows : length bytes ≤ length (bytes ++ more) = omega (arith, length-append bytes more) in
@@ -82,7 +85,8 @@ frames_agree : (h : Head) (bytes : List ℕ) (f g : List ℕ → Frames) → Fit
 frames_agree Partial bytes f g fits same = refl
 frames_agree (Bad e) bytes f g fits same = refl
 frames_agree (Special kind) bytes f g fits same = ap (with_frame (special kind)) (same (drop 4 bytes) (omega (arith, length-drop 4 bytes)))
-frames_agree (Data size) bytes f g fits same = ap (with_frame (payload (drop 4 (take size bytes)))) (same (drop size bytes) (omega (arith, length-drop size bytes)))
+frames_agree (Data size) bytes f g fits same =
+    ap (with_frame (payload (drop 4 (take size bytes)))) (same (drop size bytes) (omega (arith, length-drop size bytes)))
 
 within_enough : (n m : ℕ) (bytes : List ℕ) → length bytes ≤ n → length bytes ≤ m → frames_within n bytes ≡ frames_within m bytes
 unfolding frames_within

@@ -15,7 +15,8 @@ pair_bytes a b ha hb (suc (suc i)) = omega arith
 digits-count : (n : ℕ) → n < 65536 → Counts (digits_of n) n
 digits-count n h = (
   length-encode_with lower_digits (n / 256 ∷ n % 256 ∷ []),
-  ap pair_number (decode_sized-encode_lower (n / 256 ∷ n % 256 ∷ []) 2 refl (pair_bytes _ _ (omega arith) (omega arith))) ∙ ap Some (omega arith),
+  ap pair_number (decode_sized-encode_lower (n / 256 ∷ n % 256 ∷ []) 2 refl (pair_bytes _ _ (omega arith) (omega arith)))
+      ∙ ap Some (omega arith),
 )
 
 is_text : (f : Frame) → IsLawful f → IsFrame (frame_text f) f

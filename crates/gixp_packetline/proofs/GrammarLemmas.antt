@@ -69,7 +69,8 @@ take_two n bytes a b =
     let e : take 4 (take n bytes) ≡ take 4 bytes = take-take 4 n bytes a in
     sym (take-append-drop 4 (take n bytes)) ∙ ap (λ l. l ++ drop 4 (take n bytes)) e
 
-are_by : (bytes : List ℕ) (h : Head) → FrontSays bytes h → FitsFront (length bytes) h → ((rest : List ℕ) → length rest < length bytes → Are rest (frames_of rest))
+are_by : (bytes : List ℕ) (h : Head) → FrontSays bytes h → FitsFront (length bytes) h
+    → ((rest : List ℕ) → length rest < length bytes → Are rest (frames_of rest))
     → Are bytes (frames_by h bytes frames_of)
 are_by bytes Partial (inl s) fits go = inl s.1
 are_by bytes Partial (inr s) fits go = inr (s.1.0, (four_of bytes s.0, s.1.1), s.1.2, s.1.3, s.1.4)
@@ -77,11 +78,15 @@ are_by bytes (Bad e) (inl s) fits go = absurd (let x = s.0 in cc)
 are_by bytes (Bad HexDecode) (inr s) fits go = (take 4 bytes, drop 4 bytes, split_at 4 bytes, (four_of bytes s.0, s.1))
 are_by bytes (Bad InvalidLineLength) (inr s) fits go = (take 4 bytes, drop 4 bytes, split_at 4 bytes, (four_of bytes s.0, s.1))
 are_by bytes (Bad DataIsEmpty) (inr s) fits go = (take 4 bytes, drop 4 bytes, split_at 4 bytes, (four_of bytes s.0, s.1))
-are_by bytes (Bad DataLengthLimitExceeded) (inr s) fits go = (take 4 bytes, drop 4 bytes, split_at 4 bytes, (s.1.0, (four_of bytes s.0, s.1.1), s.1.2))
+are_by bytes (Bad DataLengthLimitExceeded) (inr s) fits go =
+    (take 4 bytes, drop 4 bytes, split_at 4 bytes, (s.1.0, (four_of bytes s.0, s.1.1), s.1.2))
 are_by bytes (Special k) (inl s) fits go = absurd (let x = s.0 in cc)
-are_by bytes (Special Flush) (inr s) fits go = (take 4 bytes, drop 4 bytes, split_at 4 bytes, (four_of bytes s.0, s.1), go (drop 4 bytes) (omega (arith, length-drop 4 bytes)))
-are_by bytes (Special Delimiter) (inr s) fits go = (take 4 bytes, drop 4 bytes, split_at 4 bytes, (four_of bytes s.0, s.1), go (drop 4 bytes) (omega (arith, length-drop 4 bytes)))
-are_by bytes (Special ResponseEnd) (inr s) fits go = (take 4 bytes, drop 4 bytes, split_at 4 bytes, (four_of bytes s.0, s.1), go (drop 4 bytes) (omega (arith, length-drop 4 bytes)))
+are_by bytes (Special Flush) (inr s) fits go =
+    (take 4 bytes, drop 4 bytes, split_at 4 bytes, (four_of bytes s.0, s.1), go (drop 4 bytes) (omega (arith, length-drop 4 bytes)))
+are_by bytes (Special Delimiter) (inr s) fits go =
+    (take 4 bytes, drop 4 bytes, split_at 4 bytes, (four_of bytes s.0, s.1), go (drop 4 bytes) (omega (arith, length-drop 4 bytes)))
+are_by bytes (Special ResponseEnd) (inr s) fits go =
+    (take 4 bytes, drop 4 bytes, split_at 4 bytes, (four_of bytes s.0, s.1), go (drop 4 bytes) (omega (arith, length-drop 4 bytes)))
 are_by bytes (Special Text) (inr s) fits go = absurd s.1
 are_by bytes (Data n) (inl s) fits go = absurd (let x = s.0 in cc)
 are_by bytes (Data n) (inr s) fits go =
@@ -145,7 +150,8 @@ long_head k n a =
     let e5 : nat_lt 65520 k ≡ true = lt-ltb 65520 k a in
     rw (e0, e1, e2, e3, e4, e5) refl
 
-four_head : (digits more : List ℕ) (o : Option ℕ) → length digits ≡ 4 → size_of digits ≡ o → head_of (digits ++ more) ≡ frame_head o (length (digits ++ more))
+four_head : (digits more : List ℕ) (o : Option ℕ) → length digits ≡ 4 → size_of digits ≡ o
+    → head_of (digits ++ more) ≡ frame_head o (length (digits ++ more))
 four_head digits more o four e =
     let n0 : nat_lt (length (digits ++ more)) 4 ≡ false = lt_false _ 4 (omega (arith, length-append digits more)) in
     let t : take 4 (digits ++ more) ≡ digits = take-append-le 4 digits more (omega arith) ∙ take_all 4 digits (omega arith) in
@@ -177,7 +183,8 @@ frame_front text rest (payload p) h =
     let fits : size ≤ length (text ++ rest) = omega (arith, length-append text rest) in
     let count : length (text ++ rest) ≡ length (digits ++ (p ++ rest)) = ap length all in
     let head : head_of (text ++ rest) ≡ Data size =
-    ap head_of all ∙ four_head digits (p ++ rest) (Some size) four h.1.1 ∙ data_head size (length (digits ++ (p ++ rest))) (omega (arith, h.3)) (omega (arith, h.4)) (omega arith) in
+    ap head_of all ∙ four_head digits (p ++ rest) (Some size) four h.1.1
+    ∙ data_head size (length (digits ++ (p ++ rest))) (omega (arith, h.3)) (omega (arith, h.4)) (omega arith) in
     let front : drop 4 (take size (text ++ rest)) ≡ p = ap (drop 4) (take_front text rest size len ∙ whole) ∙ drop_front digits p 4 four in
     by_front (text ++ rest) (Data size) head ∙ (rw (front, drop_front text rest size len) refl)
 frame_front text rest (special Flush) h = special_front text rest Flush 0 h (λ m. refl)
@@ -201,7 +208,8 @@ end_front rest ended (inr h) =
     by_front rest Partial (rw (n0, size) (partial_head h.0 (length rest) h.2 h.3 h.4))
 
 -- no other frames are those of the bytes
-pub only_frames : (fs : List Frame) (bytes : List ℕ) (end : End) → AreFrames bytes fs end → frames_of bytes ≡ record { list = fs; end = end }
+pub only_frames : (fs : List Frame) (bytes : List ℕ) (end : End) → AreFrames bytes fs end
+    → frames_of bytes ≡ record { list = fs; end = end }
 only_frames [] bytes end h = end_front bytes end h
 only_frames (f ∷ fs) bytes end h =
     ap frames_of h.2 ∙ frame_front h.0 h.1 f h.3 ∙ ap (with_frame f) (only_frames fs h.1 end h.4)

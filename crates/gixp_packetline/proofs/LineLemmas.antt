@@ -16,7 +16,8 @@ gives_line v (line t ∷ ps) end text q h =
     let e1 : t ≡ text = cc in
     let e2 : p ≡ q = cc in
     rw (← e1, ← e2) refl
-gives_line v (mark kind ∷ ps) end text q h = absurd (mark_not_gives (is_stop v kind) kind (record { list = ps; end = end }) q unexpected_frame text h)
+gives_line v (mark kind ∷ ps) end text q h =
+    absurd (mark_not_gives (is_stop v kind) kind (record { list = ps; end = end }) q unexpected_frame text h)
 
 stop_or : (b : Bool) (kind k : MessageKind) (p q : Pieces) (e : Refusal) → cond b (stops kind p) (refuses e) ≡ stops k q
     → cond b (no_lines (stop kind p)) (no_lines (refusal e)) ≡ no_lines (stop k q)

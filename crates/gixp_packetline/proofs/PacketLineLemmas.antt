@@ -12,7 +12,8 @@ pub fits_by : (bytes : List ℕ) (h : Head) → h ≡ head_of bytes → FitsFron
 fits_by bytes h e = subst (FitsFront (length bytes)) (sym e) (head_fits bytes)
 
 -- four digits and the payload are the frame
-pub payload_size : (bytes text : List ℕ) (size : ℕ) → 4 < size → size ≤ length bytes → text ≡ drop 4 (take size bytes) → size ≡ 4 + length text
+pub payload_size : (bytes text : List ℕ) (size : ℕ) → 4 < size → size ≤ length bytes → text ≡ drop 4 (take size bytes)
+    → size ≡ 4 + length text
 payload_size bytes text size four fits e =
     let whole = length-take-le size bytes fits in
     let part = length-drop 4 (take size bytes) in

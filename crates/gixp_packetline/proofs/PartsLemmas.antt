@@ -12,8 +12,10 @@ use Rattle.gixp_packetline.specs.ReadAhead.{pieces_behind, StandsAhead}
 -- by the place, and whether the stream is at its end
 ahead_at : (place : Place) (ended : Bool) (text pending : List ℕ) (rest : Option (List ℕ)) (standing : Option Refusal)
     → (place_refusal place standing ≡ Some unexpected_frame → ⊥)
-    → (place_pieces place text (option_map stream_pieces (if ended then Some pending else prepend_known pending rest)) ≡ pieces_behind (is_peeked place) text (prepend_known pending rest))
-    ⊎ (place_pieces place text (option_map stream_pieces (if ended then Some pending else prepend_known pending rest)) ≡ pieces_behind (is_peeked place) text (Some pending))
+    → (place_pieces place text (option_map stream_pieces (if ended then Some pending else prepend_known pending rest))
+    ≡ pieces_behind (is_peeked place) text (prepend_known pending rest))
+    ⊎ (place_pieces place text (option_map stream_pieces (if ended then Some pending else prepend_known pending rest))
+    ≡ pieces_behind (is_peeked place) text (Some pending))
 ahead_at Open true text pending rest standing h = inr refl
 ahead_at Open false text pending rest standing h = inl refl
 ahead_at Peeked true text pending rest standing h = inr refl
@@ -23,5 +25,6 @@ ahead_at (Stopped kind) false text pending rest standing h = inl refl
 ahead_at Refused ended text pending rest standing h = absurd (h refl)
 
 -- what was read and isn't taken is the beginning of what is to come
-pub parts_ahead : {R : Type 0} (remaining : R → Option (List ℕ)) (p : Packets R) → StandsAhead (packets_reading remaining p) (remaining p.reader) p.window.pending
+pub parts_ahead : {R : Type 0} (remaining : R → Option (List ℕ)) (p : Packets R)
+    → StandsAhead (packets_reading remaining p) (remaining p.reader) p.window.pending
 parts_ahead remaining p h = ahead_at p.place p.ended p.window.lent p.window.pending (remaining p.reader) (stand p) h

@@ -8,7 +8,8 @@ use Rattle.gixp_packetline.specs.Reading.{Reading, TakesLine, ShowsLine, Fails, 
 use Rattle.gixp_packetline.specs.declared.read.Error.{Error}
 use Rattle.gixp_packetline.specs.declared.read.Error.TheVariants.{Io, Decode, Server, UnexpectedFrame, NotUtf8, BadBand, Interrupted, Memory}
 
-pub mark_not_gives : (b : Bool) (kind : MessageKind) (p q : Pieces) (e : Refusal) (text : List ℕ) → cond b (stops kind p) (refuses e) ≡ gives text q → ⊥
+pub mark_not_gives : (b : Bool) (kind : MessageKind) (p q : Pieces) (e : Refusal) (text : List ℕ)
+    → cond b (stops kind p) (refuses e) ≡ gives text q → ⊥
 mark_not_gives true kind p q e text h = cc
 mark_not_gives false kind p q e text h = cc
 
@@ -65,7 +66,8 @@ fails-text old new Interrupted text h = (h, refl)
 fails-text old new Memory text h = (inl h, refl)
 
 -- a plain reader that was refused
-pub plain-text : (plain : Bool) (old new : Reading) (e : Error) → (plain ≡ true → IsPlain new (refusal_of e)) → PlainText {X = ℕ} plain old new (Err e)
+pub plain-text : (plain : Bool) (old new : Reading) (e : Error) → (plain ≡ true → IsPlain new (refusal_of e))
+    → PlainText {X = ℕ} plain old new (Err e)
 plain-text plain old new (Io kind) h = h
 plain-text plain old new (Decode x) h = h
 plain-text plain old new (Server m) h = h

@@ -37,7 +37,8 @@ pub range_within : (xs : List ℕ) (a b n : ℕ) → b ≤ length xs → n ≤ l
 range_within xs a b n bl h = let len = length_range xs a b bl in omega arith
 
 -- a copy to the front begins with what was copied
-copied_front : (xs before : List ℕ) (a n : ℕ) → n ≤ length (drop a xs) → before ≡ copy_within xs a (a + n) 0 → take n before ≡ take n (drop a xs)
+copied_front : (xs before : List ℕ) (a n : ℕ) → n ≤ length (drop a xs) → before ≡ copy_within xs a (a + n) 0
+    → take n before ≡ take n (drop a xs)
 copied_front xs before a n fits moved =
     let e : a + n - a ≡ n = omega arith in
     let same : before ≡ paste xs 0 (drop a xs) n = moved ∙ ap (paste xs 0 (drop a xs)) e in
@@ -48,8 +49,10 @@ copied_front xs before a n fits moved =
 -- what a read put after the pending bytes
 pub received : (old new : Option (List ℕ)) (xs before after pending : List ℕ) (a b n : ℕ) → a ≤ b → b ≤ length xs → length after ≡ 65520
     → take (b - a) before ≡ slice_range xs a b → take (b - a) after ≡ take (b - a) before → pending ≡ slice_range xs a b
-    → (b - a + n ≤ length after) → Consumes old new (take n (drop (b - a) after)) → (n ≡ 0 → b - a < length after → IsAtEnd new) → length pending < 65520
-    → (got : List ℕ) × (slice_range after 0 (b - a + n) ≡ pending ++ got) × (length got ≡ n) × Consumes old new got × (n ≡ 0 → IsAtEnd new) × (length (slice_range after 0 (b - a + n)) ≤ 65520)
+    → (b - a + n ≤ length after) → Consumes old new (take n (drop (b - a) after)) → (n ≡ 0 → b - a < length after → IsAtEnd new)
+    → length pending < 65520
+    → (got : List ℕ) × (slice_range after 0 (b - a + n) ≡ pending ++ got) × (length got ≡ n) × Consumes old new got
+    × (n ≡ 0 → IsAtEnd new) × (length (slice_range after 0 (b - a + n)) ≤ 65520)
 received old new xs before after pending a b n ab bl cap moved front is fits takes end room =
     let len : length pending ≡ b - a = ap length is ∙ length_range xs a b bl in
     let got = take n (drop (b - a) after) in
@@ -60,7 +63,8 @@ received old new xs before after pending a b n ab bl cap moved front is fits tak
     (got, whole, count, takes, λ z. end z (omega arith), (let e = ap length whole in let f = length-append pending got in omega arith))
 
 -- a part that was copied to the front stands there
-pub moved_front : (xs before : List ℕ) (a b : ℕ) → a ≤ b → b ≤ length xs → before ≡ copy_within xs a b 0 → take (b - a) before ≡ slice_range xs a b
+pub moved_front : (xs before : List ℕ) (a b : ℕ) → a ≤ b → b ≤ length xs → before ≡ copy_within xs a b 0
+    → take (b - a) before ≡ slice_range xs a b
 moved_front xs before a b ab bl moved =
     let le : b - a ≤ length (drop a xs) = let e = length-drop a xs in omega arith in
     let whole_part : b ≡ a + (b - a) = omega arith in

@@ -1,4 +1,5 @@
--- The items of a stream under a version, plain and banded (gitprotocol-common, "pkt-line Format"; gitprotocol-v2, "Packet-Line Framing"; gitprotocol-pack, "Packfile Data", for the bands).
+-- The items of a stream under a version, plain and banded (gitprotocol-common, "pkt-line Format"; gitprotocol-v2, "Packet-Line
+-- Framing"; gitprotocol-pack, "Packfile Data", for the bands).
 use Rattle.std.specs.Prelude.{ℕ, Bool, true, false, ◌==◌, if◌then◌else◌, List, [], ◌∷◌, Option, Some, None, Result, Ok, Err}
 use Rattle.std.specs.Io.BufRead.{strip_last}
 use Rattle.gixp_packetline.specs.declared.protocol.Protocol.{Protocol}
@@ -84,7 +85,8 @@ pub record FirstLines : Type 0 where
 
 abbrev pub first_lines_from : List Item → Refusal → FirstLines
 first_lines_from [] end = record { lines = []; ending = at_refusal end }
-first_lines_from (line_item text ∷ is) end = let rest = first_lines_from is end in record { lines = text ∷ rest.lines; ending = rest.ending }
+first_lines_from (line_item text ∷ is) end = let rest = first_lines_from is end in
+    record { lines = text ∷ rest.lines; ending = rest.ending }
 first_lines_from (text_item is_error text ∷ is) end = first_lines_from is end
 first_lines_from (stop_item kind ∷ is) end = record { lines = []; ending = at_stop kind (record { list = is; end = end }) }
 

@@ -14,7 +14,8 @@ pub data Next : Type 0 where
 abbrev pub next_from : Protocol → List Piece → Refusal → Next
 next_from version [] end = refuses end
 next_from version (line text ∷ ps) end = gives text (record { list = ps; end = end })
-next_from version (mark kind ∷ ps) end = if is_stop version kind then stops kind (record { list = ps; end = end }) else refuses unexpected_frame
+next_from version (mark kind ∷ ps) end = if is_stop version kind then stops kind (record { list = ps; end = end })
+    else refuses unexpected_frame
 
 -- what comes next in these pieces, and what is after it
 abbrev pub next_of : Protocol → Pieces → Next

@@ -18,6 +18,7 @@ frame_size (special kind) = 4
 
 -- the first of the frames, and the bytes after it, which are the others; or why there is none
 abbrev pub SplitsPacketLine : List ℕ → Result (Option (PacketLine × Bor (List ℕ))) PacketError → Type 0
-SplitsPacketLine bytes (Ok (Some found)) = (frames_of bytes ≡ with_frame (frame_of found.0) (frames_of found.1.now)) × (length found.1.now < length bytes) × (found.1.now ≡ drop (frame_size (frame_of found.0)) bytes)
+SplitsPacketLine bytes (Ok (Some found)) = (frames_of bytes ≡ with_frame (frame_of found.0) (frames_of found.1.now))
+    × (length found.1.now < length bytes) × (found.1.now ≡ drop (frame_size (frame_of found.0)) bytes)
 SplitsPacketLine bytes (Ok None) = frames_of bytes ≡ no_frames ended
 SplitsPacketLine bytes (Err e) = frames_of bytes ≡ no_frames (bad e)

@@ -104,7 +104,8 @@ module _ {R : Type 0} where
   abbrev pub reads_and_bytes : Packets R → ℕ
   reads_and_bytes p = p.reads_left + length p.window.pending
 
-  -- no more reads were spent than bytes came, but for one that gave none: four bytes and the line were taken with a line, and four with a stop
+  -- no more reads were spent than bytes came, but for one that gave none: four bytes and the line were taken with a line, and four with
+  -- a stop
   abbrev pub Spends : Packets R → Packets R → Result Bool Error → Type 0
   Spends old new (Ok true) = reads_and_bytes old ≤ reads_and_bytes new + 4 + length new.window.lent
   Spends old new (Ok false) = reads_and_bytes old ≤ reads_and_bytes new + 4
@@ -112,8 +113,10 @@ module _ {R : Type 0} where
 
   -- what a read gave was noted: bytes change nothing, none are the end, and a failure is counted
   abbrev pub NotesRead : Packets R → Packets R → Result ℕ ErrorKind → Result (Unit {0}) Error → Type 0
-  NotesRead old new (Ok n) r = (n ≡ 0 → (r ≡ Err (Io UnexpectedEof)) × (new ≡ record old { ended = true })) × (0 < n → (r ≡ Ok tt) × (new ≡ old))
-  NotesRead old new (Err kind) r = (r ≡ Err (Io kind)) × Rose old.failures new.failures × (new ≡ record old { failures = new.failures; ended = is_end kind })
+  NotesRead old new (Ok n) r = (n ≡ 0 → (r ≡ Err (Io UnexpectedEof)) × (new ≡ record old { ended = true }))
+      × (0 < n → (r ≡ Ok tt) × (new ≡ old))
+  NotesRead old new (Err kind) r = (r ≡ Err (Io kind)) × Rose old.failures new.failures
+      × (new ≡ record old { failures = new.failures; ended = is_end kind })
 
   -- no byte was lost, and only the window, the reader, the failures and the reads that are left changed, and perhaps that the stream ended
   pub record Kept (remaining : R → Option (List ℕ)) (old new : Packets R) : Type 0 where

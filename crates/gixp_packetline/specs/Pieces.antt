@@ -1,4 +1,5 @@
--- What the frames of a stream mean before a version or a band is chosen: lines, marks and one last refusal (gitprotocol-common, "pkt-line Format"; gitprotocol-pack, "Packfile Negotiation" for `ERR `).
+-- What the frames of a stream mean before a version or a band is chosen: lines, marks and one last refusal (gitprotocol-common,
+-- "pkt-line Format"; gitprotocol-pack, "Packfile Negotiation" for `ERR `).
 use Rattle.std.specs.Prelude.{ℕ, Bool, if◌then◌else◌, List, [], ◌∷◌, drop, take, nat_eq, codes}
 use Rattle.std.specs.List.{starts_with}
 use Rattle.std.specs.Io.BufRead.{strip_last}
@@ -55,7 +56,8 @@ error_message text = strip_last 10 (drop 4 text)
 -- each payload is a line, but an error of the server is a refusal
 abbrev pub pieces_from : List Frame → End → Pieces
 pieces_from [] end = no_pieces (end_refusal end)
-pieces_from (payload text ∷ fs) end = if is_error text then no_pieces (server (error_message text)) else with_piece (line text) (pieces_from fs end)
+pieces_from (payload text ∷ fs) end = if is_error text then no_pieces (server (error_message text))
+    else with_piece (line text) (pieces_from fs end)
 pieces_from (special kind ∷ fs) end = with_piece (mark kind) (pieces_from fs end)
 
 -- the pieces of some frames

@@ -170,7 +170,8 @@ abbrev pub is_end : ErrorKind → Bool
 is_end UnexpectedEof = true
 is_end _ = false
 
--- what may come at any time: a read that failed, an interrupt, and an allocation failure. The first two never come in place of a refusal that stands
+-- what may come at any time: a read that failed, an interrupt, and an allocation failure. The first two never come in place of a
+-- refusal that stands
 abbrev pub IsFault : Reading → Reading → Refusal → Type 0
 IsFault old new (io kind) = (is_end kind ≡ false) × (old.refused ≡ None) × Rose old.failures new.failures
 IsFault old new memory = new.failures ≡ old.failures

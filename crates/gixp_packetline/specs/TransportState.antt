@@ -1,4 +1,5 @@
--- What a transport holds beside the lines to come: what was written, and the answers to later requests (gitprotocol-pack, "Packfile Negotiation"; gitprotocol-v2, "Command Request").
+-- What a transport holds beside the lines to come: what was written, and the answers to later requests (gitprotocol-pack, "Packfile
+-- Negotiation"; gitprotocol-v2, "Command Request").
 use Rattle.std.specs.Prelude.{ℕ, Bool, true, List, [], Option, None}
 use Rattle.std.specs.Borrow.{GName}
 use Rattle.std.specs.declared.io.ErrorKind.{ErrorKind}
@@ -41,4 +42,15 @@ pub record TransportState : Type 0 where
 
 -- of a reader that writes nothing
 abbrev pub nothing_held : TransportState
-nothing_held = record { persists = true; written = None; sent = []; answers = []; broken = None; greeting = None; url = []; accepted = []; identity = None; names = [] }
+nothing_held = record {
+  persists = true;
+  written = None;
+  sent = [];
+  answers = [];
+  broken = None;
+  greeting = None;
+  url = [];
+  accepted = [];
+  identity = None;
+  names = [];
+}

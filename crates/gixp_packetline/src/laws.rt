@@ -15,7 +15,8 @@ pub fn frames_are_grammar()
 
 /// No other frames are, so that it doesn't matter how a list of frames was found.
 pub fn no_other_frames_are()
-    ensures { (bytes : List ℕ) (frames : List Frame) (end : End) → AreFrames bytes frames end → frames_of bytes ≡ record { list = frames; end = end } }
+    ensures { (bytes : List ℕ) (frames : List Frame) (end : End) → AreFrames bytes frames end
+        → frames_of bytes ≡ record { list = frames; end = end } }
 {}
 
 /// The texts of frames read back as these frames, and nothing is left.

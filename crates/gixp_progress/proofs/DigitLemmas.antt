@@ -23,8 +23,10 @@ by_places (d ∷ ds) n =
     let e = d - 48 in
     let grown = by_places ds (n * 10 + e) in
     let alone : number_after (0 * 10 + e) ds ≡ e * p + number_after 0 ds = ap (λ k. number_after k ds) (omega arith) ∙ by_places ds e in
-    let split : (n * 10 + e) * p ≡ n * 10 ^ length (d ∷ ds) + e * p = add-mul (n * 10) e p ∙ ap (λ k. k + e * p) (one_place n p ∙ ap (λ k. n * k) (sym (pow-suc 10 (length ds)))) in
-    sums (n * 10 ^ length (d ∷ ds)) (e * p) (number_after 0 ds) ((n * 10 + e) * p) (number_after (0 * 10 + e) ds) (number_after (n * 10 + e) ds) split alone grown
+    let split : (n * 10 + e) * p ≡ n * 10 ^ length (d ∷ ds) + e * p = add-mul (n * 10) e p
+    ∙ ap (λ k. k + e * p) (one_place n p ∙ ap (λ k. n * k) (sym (pow-suc 10 (length ds)))) in
+    sums (n * 10 ^ length (d ∷ ds)) (e * p) (number_after 0 ds) ((n * 10 + e) * p) (number_after (0 * 10 + e) ds)
+    (number_after (n * 10 + e) ds) split alone grown
 
 pub number_by_places : NumberByPlaces
 number_by_places front back = after_append front back 0 ∙ by_places back (number_after 0 front)

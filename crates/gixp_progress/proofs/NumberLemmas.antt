@@ -24,7 +24,8 @@ still_fits n d m step =
     small_at (nat_lt grown 18446744073709551616) 18446744073709551616 grown m refl (sym step)
 
 -- one digit more
-pub digit_more : (run : List ℕ) (n m i total : ℕ) → i < length run → Some m ≡ with_digit n (get_or run i 0) → total ≡ number_after n (drop i run) → total ≡ number_after m (drop (i + 1) run)
+pub digit_more : (run : List ℕ) (n m i total : ℕ) → i < length run → Some m ≡ with_digit n (get_or run i 0)
+    → total ≡ number_after n (drop i run) → total ≡ number_after m (drop (i + 1) run)
 digit_more run n m i total l step kept =
     let grown = n * 10 + (get_or run i 0 - 48) in
     let same : m ≡ grown = some_at (nat_lt grown 18446744073709551616) grown m (sym step) in
@@ -46,7 +47,8 @@ exceeds : (lim k : ℕ) → lim ≤ k → (if nat_lt k lim then Some k else None
 exceeds lim k h = rw (le-ltb k lim h) refl
 
 -- a number that exceeds 64 bits with one digit more does so with all
-pub too_large : (run : List ℕ) (n i : ℕ) → i < length run → None ≡ with_digit n (get_or run i 0) → number_after 0 run ≡ number_after n (drop i run) → None ≡ fit_number run
+pub too_large : (run : List ℕ) (n i : ℕ) → i < length run → None ≡ with_digit n (get_or run i 0)
+    → number_after 0 run ≡ number_after n (drop i run) → None ≡ fit_number run
 unfolding fit_number
 too_large run n i l step kept =
     let grown = n * 10 + (get_or run i 0 - 48) in
@@ -57,7 +59,8 @@ too_large run n i l step kept =
     rw (kept ∙ split) (sym (exceeds lim (number_after grown (drop (i + 1) run)) all))
 
 -- a number whose digits are all read fits
-pub all_read : (run : List ℕ) (n i : ℕ) → length run ≤ i → n < 18446744073709551616 → number_after 0 run ≡ number_after n (drop i run) → Some n ≡ fit_number run
+pub all_read : (run : List ℕ) (n i : ℕ) → length run ≤ i → n < 18446744073709551616 → number_after 0 run ≡ number_after n (drop i run)
+    → Some n ≡ fit_number run
 unfolding fit_number
 all_read run n i l small kept =
     let value : number_after 0 run ≡ n = kept ∙ ap (number_after n) (drop_all i run l) in

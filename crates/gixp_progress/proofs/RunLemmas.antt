@@ -24,7 +24,8 @@ module _ (p : ℕ → Bool) where
   front_passes [] = refl
   front_passes (x ∷ xs) = by (p x) refl (front_passes xs)
     where
-      by : (b : Bool) → p x ≡ b → list_all p (take (prefix_len p xs) xs) ≡ true → list_all p (take (cond b (1 + prefix_len p xs) 0) (x ∷ xs)) ≡ true
+      by : (b : Bool) → p x ≡ b → list_all p (take (prefix_len p xs) xs) ≡ true
+          → list_all p (take (cond b (1 + prefix_len p xs) 0) (x ∷ xs)) ≡ true
       by true e h = let on : 1 + prefix_len p xs ≡ suc (prefix_len p xs) = omega arith in rw on (rw e h)
       by false e h = refl
 
@@ -32,7 +33,8 @@ module _ (p : ℕ → Bool) where
   back_fails [] = refl
   back_fails (x ∷ xs) = by (p x) refl (back_fails xs)
     where
-      by : (b : Bool) → p x ≡ b → begins_with p (drop (prefix_len p xs) xs) ≡ false → begins_with p (drop (cond b (1 + prefix_len p xs) 0) (x ∷ xs)) ≡ false
+      by : (b : Bool) → p x ≡ b → begins_with p (drop (prefix_len p xs) xs) ≡ false
+          → begins_with p (drop (cond b (1 + prefix_len p xs) 0) (x ∷ xs)) ≡ false
       by true e h = let on : 1 + prefix_len p xs ≡ suc (prefix_len p xs) = omega arith in rw on h
       by false e h = e
 
@@ -54,7 +56,8 @@ drop_front [] ys = refl
 drop_front (x ∷ xs) ys = drop_front xs ys
 
 -- a text that doesn't begin with another byte is empty or begins with a run
-found_at : (text : List ℕ) → begins_with is_other text ≡ false → is_found (take (prefix_len is_digit text) text) (drop (prefix_len is_digit text) text) ≡ true
+found_at : (text : List ℕ) → begins_with is_other text ≡ false
+    → is_found (take (prefix_len is_digit text) text) (drop (prefix_len is_digit text) text) ≡ true
 found_at [] h = refl
 found_at (d ∷ text) h =
     let digit : is_digit d ≡ true = not_false (is_digit d) h in
@@ -76,11 +79,13 @@ run_is_first text =
     let behind = behind_at rest in (
       take (position_or_len is_digit text) text,
       record {
-        parts = sym (take-append-drop (position_or_len is_digit text) text) ∙ ap (λ l. take (position_or_len is_digit text) text ++ l) (sym (take-append-drop n rest));
+        parts = sym (take-append-drop (position_or_len is_digit text) text)
+            ∙ ap (λ l. take (position_or_len is_digit text) text ++ l) (sym (take-append-drop n rest));
         without = front_passes is_other text;
         digits = ap (list_all is_digit) run ∙ front_passes is_digit rest;
         longest = ap (begins_with is_digit) behind ∙ back_fails is_digit rest;
-        found = ap (λ l. is_found l (drop n rest)) run ∙ ap (is_found (take (prefix_len is_digit rest) rest)) behind ∙ found_at rest (back_fails is_other text);
+        found = ap (λ l. is_found l (drop n rest)) run ∙ ap (is_found (take (prefix_len is_digit rest) rest)) behind
+            ∙ found_at rest (back_fails is_other text);
       },
     )
 
@@ -93,9 +98,14 @@ run_begins (d ∷ run) rest a f = ap not (and_parts (is_digit d) (list_all is_di
 pub run_is_only : RunIsOnly
 run_is_only text before run rest h =
     let begins = run_begins run rest h.digits h.found in
-    let at : position_or_len is_digit text ≡ length before = ap (position_or_len is_digit) h.parts ∙ front_is is_other before (run ++ rest) h.without begins in
-    let from : from_digit text ≡ run ++ rest = ap (λ n. drop n text) at ∙ ap (drop (length before)) h.parts ∙ drop_front before (run ++ rest) in
-    let count : position_or_len is_other (run ++ rest) ≡ length run = ap (λ test. prefix_len test (run ++ rest)) same_test ∙ front_is is_digit run rest h.digits h.longest in
-    let here : first_run text ≡ run = ap (λ l. take (position_or_len is_other l) l) from ∙ ap (λ n. take n (run ++ rest)) count ∙ take_front run rest in
-    let there : behind_run text ≡ rest = ap (λ l. drop (position_or_len is_other l) l) from ∙ ap (λ n. drop n (run ++ rest)) count ∙ drop_front run rest in
+    let at : position_or_len is_digit text ≡ length before = ap (position_or_len is_digit) h.parts
+    ∙ front_is is_other before (run ++ rest) h.without begins in
+    let from : from_digit text ≡ run ++ rest = ap (λ n. drop n text) at ∙ ap (drop (length before)) h.parts
+    ∙ drop_front before (run ++ rest) in
+    let count : position_or_len is_other (run ++ rest) ≡ length run = ap (λ test. prefix_len test (run ++ rest)) same_test
+    ∙ front_is is_digit run rest h.digits h.longest in
+    let here : first_run text ≡ run = ap (λ l. take (position_or_len is_other l) l) from ∙ ap (λ n. take n (run ++ rest)) count
+    ∙ take_front run rest in
+    let there : behind_run text ≡ rest = ap (λ l. drop (position_or_len is_other l) l) from ∙ ap (λ n. drop n (run ++ rest)) count
+    ∙ drop_front run rest in
     (sym here, sym there)

@@ -13,4 +13,5 @@ number_cmp = option_cmp nat_cmp
 -- by the action, then by the percentage, the step and the maximum
 abbrev pub progress_line_cmp : LineValue → LineValue → Ordering
 progress_line_cmp a b =
-    ordering_then (slice_cmp nat_cmp a.action b.action) (ordering_then (number_cmp a.percent b.percent) (ordering_then (number_cmp a.step b.step) (number_cmp a.max b.max)))
+    ordering_then (slice_cmp nat_cmp a.action b.action)
+    (ordering_then (number_cmp a.percent b.percent) (ordering_then (number_cmp a.step b.step) (number_cmp a.max b.max)))

@@ -71,7 +71,8 @@ fn show_line<P: Progress>(
     progress: &mut P,
 ) -> Result<(), AllocError>
     ensures ok { OnOk result (ToldCalls P.told progress.old
-        (set_name (name_for (P.name_of progress.old) (bstr_bytes line.entry.action)) ∷ init line.entry.max (codes "objects") ∷ set_calls line.entry.step) progress.new) }
+        (set_name (name_for (P.name_of progress.old) (bstr_bytes line.entry.action)) ∷ init line.entry.max (codes "objects")
+        ∷ set_calls line.entry.step) progress.new) }
     ensures err { OnErr result (progress.new ≡ progress.old) }
 {
     let name = name_for(alloc, progress, line.action.as_bytes())?;

@@ -30,20 +30,23 @@ use Rattle.gixp_refmap.proofs.BackedLemmas.{all_filter}
 use Rattle.gixp_refmap.proofs.FoundLemmas.{ItemIsFirst, Good, found_are_good}
 
 -- refs that were left out are names that were left out
-leaves_names : (prefixes : List (List ℕ)) (refs all : List RefValue) → LeavesOutRefs prefixes refs all → LeavesOut prefixes (value_names refs) (value_names all)
+leaves_names : (prefixes : List (List ℕ)) (refs all : List RefValue) → LeavesOutRefs prefixes refs all
+    → LeavesOut prefixes (value_names refs) (value_names all)
 leaves_names prefixes refs [] h = ap value_names h
 leaves_names prefixes refs (r ∷ all) (inl h) = inl (h.0, leaves_names prefixes refs all h.1)
 leaves_names prefixes refs (r ∷ all) (inr h) = inr (value_names h.0, ap value_names h.1, leaves_names prefixes h.0 all h.2)
 
 -- a ref that isn't covered has no name that is
-other_name : (prefixes : List (List ℕ)) (r : RefValue) (name : List ℕ) → is_covered prefixes (value_name r) ≡ false → is_covered prefixes name ≡ true → has_name name r ≡ false
+other_name : (prefixes : List (List ℕ)) (r : RefValue) (name : List ℕ) → is_covered prefixes (value_name r) ≡ false
+    → is_covered prefixes name ≡ true → has_name name r ≡ false
 other_name prefixes r name out covered = elim (cases_Bool (has_name name r)) [
   | inl t ↦ absurd (false≢true (sym out ∙ ap (is_covered prefixes) ((bytes_eq-Decides (value_name r) name).0 t) ∙ covered))
   | inr f ↦ f
 ]
 
 -- the first ref of a covered name is the first of all
-same_first : (prefixes : List (List ℕ)) (refs all : List RefValue) (name : List ℕ) → LeavesOutRefs prefixes refs all → is_covered prefixes name ≡ true → find (has_name name) refs ≡ find (has_name name) all
+same_first : (prefixes : List (List ℕ)) (refs all : List RefValue) (name : List ℕ) → LeavesOutRefs prefixes refs all
+    → is_covered prefixes name ≡ true → find (has_name name) refs ≡ find (has_name name) all
 same_first prefixes refs [] name h covered = ap (find (has_name name)) h
 same_first prefixes refs (r ∷ all) name (inl h) covered =
     let f = other_name prefixes r name h.0 covered in
@@ -61,7 +64,8 @@ same_remote : (specs : List Spec) (refs all : List RefValue) (s : SourceValue) (
 same_remote specs refs all (FullName name) None j x same a b h = absurd a
 same_remote specs refs all (FullName name) (Some i) None x same a b h = absurd b
 same_remote specs refs all (FullName name) (Some i) (Some j) (the_id id) same a b h = absurd h
-same_remote specs refs all (FullName name) (Some i) (Some j) (the_ref r) same a b h = b.1 ∙ sym b.2 ∙ sym (same name a.3) ∙ a.2 ∙ sym a.1 ∙ h
+same_remote specs refs all (FullName name) (Some i) (Some j) (the_ref r) same a b h = b.1 ∙ sym b.2 ∙ sym (same name a.3) ∙ a.2
+    ∙ sym a.1 ∙ h
 same_remote specs refs all (IdOf bytes) (Some i) j x same a b h = absurd a
 same_remote specs refs all (IdOf bytes) None (Some j) x same a b h = absurd b
 same_remote specs refs all (IdOf bytes) None None (the_id id) same a b h = h
@@ -86,7 +90,8 @@ same_mapping specs refs all count m n x same e a b h =
 -- the same mappings of fewer refs and of all
 same_mappings : (specs : List Spec) (refs all : List RefValue) (count : ℕ)
     → ((name : List ℕ) → is_covered (all_prefixes specs) name ≡ true → find (has_name name) refs ≡ find (has_name name) all)
-    → (ms ns : List Mapped) (xs : List Mapping) → map without_item ms ≡ map without_item ns → AllByRecursion (Good specs refs) ms → AllByRecursion (Good specs all) ns
+    → (ms ns : List Mapped) (xs : List Mapping) → map without_item ms ≡ map without_item ns → AllByRecursion (Good specs refs) ms
+    → AllByRecursion (Good specs all) ns
     → AllZip (IsMapping refs count) ms xs → AllZip (IsMapping all count) ns xs
 same_mappings specs refs all count same [] [] xs e a b h = h
 same_mappings specs refs all count same [] (n ∷ ns) xs e a b h = cc
@@ -98,17 +103,20 @@ same_mappings specs refs all count same (m ∷ ms) (n ∷ ns) (x ∷ xs) e a b h
     (same_mapping specs refs all count m n x same head a.0 b.0 h.0, same_mappings specs refs all count same ms ns xs tail a.1 b.1 h.1)
 
 -- the mappings that stay are good
-pub kept_are_good : MappingsHaveOrigins → (specs : List Spec) (refs : List RefValue) → AllByRecursion (Good specs refs) (kept (found_in specs refs))
+pub kept_are_good : MappingsHaveOrigins → (specs : List Spec) (refs : List RefValue)
+    → AllByRecursion (Good specs refs) (kept (found_in specs refs))
 unfolding kept
 kept_are_good law specs refs = all_filter (Good specs refs) (λ m. not (is_partial m)) (found_in specs refs) (found_are_good law specs refs)
 
 -- an answer for fewer refs is one for all
-pub maps_all : (keeps : KeepsAnswers) (law : MappingsHaveOrigins) (specs : List Spec) (count : ℕ) (refs : List RefValue) (r : Result (Vec Mapping Global × Vec Fix Global) Error)
+pub maps_all : (keeps : KeepsAnswers) (law : MappingsHaveOrigins) (specs : List Spec) (count : ℕ) (refs : List RefValue)
+    (r : Result (Vec Mapping Global × Vec Fix Global) Error)
     → Maps specs count refs r → HoldsOfAll specs refs (λ all. Maps specs count all r)
 maps_all keeps law specs count refs (Ok found) h prefixes all covers out =
     let same = keeps specs (value_names refs) prefixes (value_names all) covers (leaves_names prefixes refs all out) in (
       sym same.same_conflicts ∙ h.0,
-      same_mappings specs refs all count (λ name c. same_first prefixes refs all name out (covers name c)) (kept (found_in specs refs)) (kept (found_in specs all)) found.0.items
+      same_mappings specs refs all count (λ name c. same_first prefixes refs all name out (covers name c)) (kept (found_in specs refs))
+          (kept (found_in specs all)) found.0.items
           same.same_kept (kept_are_good law specs refs) (kept_are_good law specs all) h.1,
       h.2 ∙ same.same_fixes,
     )
@@ -126,22 +134,26 @@ has_item specs refs None (IdOf bytes) h = tt
 has_item specs refs (Some i) (IdOf bytes) h = h
 has_item specs refs None (FullName name) h = h
 
-pub all_have_remotes : (specs : List Spec) (refs : List RefValue) (ms : List Mapped) → AllByRecursion (Good specs refs) ms → AllByRecursion (HasRemote refs) ms
+pub all_have_remotes : (specs : List Spec) (refs : List RefValue) (ms : List Mapped) → AllByRecursion (Good specs refs) ms
+    → AllByRecursion (HasRemote refs) ms
 all_have_remotes specs refs [] h = tt
 all_have_remotes specs refs (m ∷ ms) h = (has_item specs refs m.item m.source h.0.item, all_have_remotes specs refs ms h.1)
 
 -- a refspec of both lists is at its place
-spec_is_there : (explicit extra : List RefSpec) (i : ℕ) → i < length (joined_specs explicit extra) → IsSome (spec_at (spec_place (length explicit) i) explicit extra)
+spec_is_there : (explicit extra : List RefSpec) (i : ℕ) → i < length (joined_specs explicit extra)
+    → IsSome (spec_at (spec_place (length explicit) i) explicit extra)
 spec_is_there explicit extra i l = elim (cases_Bool (nat_lt i (length explicit))) [
   | inl t ↦ rw t (some_within explicit i (grind (arith, nat_tests)))
   | inr f ↦ rw f (some_within extra (i - length explicit) (
       let n : length (joined_specs explicit extra) ≡ length explicit + length extra =
-      length-append (map owned_value_of explicit) (map owned_value_of extra) ∙ ap (λ k. k + length (map owned_value_of extra)) (length-map explicit owned_value_of) ∙ ap (λ k. length explicit + k) (length-map extra owned_value_of) in
+      length-append (map owned_value_of explicit) (map owned_value_of extra) ∙ ap (λ k. k + length (map owned_value_of extra))
+      (length-map explicit owned_value_of) ∙ ap (λ k. length explicit + k) (length-map extra owned_value_of) in
       grind (arith, nat_tests)))
 ]
 
 -- each mapping names a refspec that is there
-pub specs_are_there : (explicit extra : List RefSpec) (refs : List RefValue) (ms : List Mapped) (xs : List Mapping) → AllByRecursion (Good (joined_specs explicit extra) refs) ms
+pub specs_are_there : (explicit extra : List RefSpec) (refs : List RefValue) (ms : List Mapped) (xs : List Mapping)
+    → AllByRecursion (Good (joined_specs explicit extra) refs) ms
     → AllZip (IsMapping refs (length explicit)) ms xs → AllByRecursion (λ x. IsSome (spec_at x.spec_index explicit extra)) xs
 specs_are_there explicit extra refs [] [] a h = tt
 specs_are_there explicit extra refs [] (x ∷ xs) a h = absurd h

@@ -6,7 +6,8 @@ use Rattle.std.proofs.lemmas.Bool.{cases_Bool}
 use Rattle.gixp_matching.specs.Mappings.{Mapped}
 
 -- what is kept holds of what was kept of one more
-kept_one : (G : Mapped → Type 0) (F : Mapped → Bool) (m : Mapped) (xs : List Mapped) → (F m ≡ true → G m) → AllByRecursion G (filter F xs) → AllByRecursion G (filter F (m ∷ xs))
+kept_one : (G : Mapped → Type 0) (F : Mapped → Bool) (m : Mapped) (xs : List Mapped) → (F m ≡ true → G m)
+    → AllByRecursion G (filter F xs) → AllByRecursion G (filter F (m ∷ xs))
 kept_one G F m xs h t = elim (cases_Bool (F m)) [
   | inl y ↦ rw y (h y, t)
   | inr n ↦ rw n t

@@ -10,8 +10,10 @@ same_values f (x ∷ xs) [] h = absurd h
 same_values f (x ∷ xs) (y ∷ ys) h = rw (h.0, same_values f xs ys h.1) refl
 
 -- one clone more
-pub copied_more : {A B : Type 0} (f : A → B) (now new : List B) (xs zs : List A) (i : ℕ) (x : A) (y : B) → zs ≡ xs → x ≡ get_or zs i x → i < length zs
+pub copied_more : {A B : Type 0} (f : A → B) (now new : List B) (xs zs : List A) (i : ℕ) (x : A) (y : B) → zs ≡ xs → x ≡ get_or zs i x
+    → i < length zs
     → now ≡ take i (map f xs) → new ≡ now ++ y ∷ [] → y ≡ f x → new ≡ take (i + 1) (map f xs)
 copied_more f now new xs zs i x y e is l kept step made =
-    let more = appended_more f [] now new zs i x l (kept ∙ ap (λ ys. take i (map f ys)) (sym e)) (step ∙ ap (λ z. now ++ z ∷ []) (made ∙ ap f is)) in
+    let more = appended_more f [] now new zs i x l (kept ∙ ap (λ ys. take i (map f ys)) (sym e))
+    (step ∙ ap (λ z. now ++ z ∷ []) (made ∙ ap f is)) in
     more ∙ ap (λ ys. take (i + 1) (map f ys)) e

@@ -54,16 +54,20 @@ found_at p (r ∷ refs) k i e = elim (cases_Bool (p (value_name r))) [
 ]
 
 -- what a prefix of one refspec covers is covered by those of all
-covered_by_all : (specs : List Spec) (j : ℕ) (s : Spec) (name : List ℕ) → slice_get specs j ≡ Some s → is_covered (prefixes_of s) name ≡ true → is_covered (all_prefixes specs) name ≡ true
+covered_by_all : (specs : List Spec) (j : ℕ) (s : Spec) (name : List ℕ) → slice_get specs j ≡ Some s
+    → is_covered (prefixes_of s) name ≡ true → is_covered (all_prefixes specs) name ≡ true
 covered_by_all [] j s name e h = cc
 covered_by_all (first ∷ specs) zero s name e h =
     let same : first ≡ s = cc in
-    list_any-append (λ prefix. starts_with nat_eq name prefix) (prefixes_of first) (all_prefixes specs) ∙ or_left _ _ (ap (λ x. is_covered (prefixes_of x) name) same ∙ h)
+    list_any-append (λ prefix. starts_with nat_eq name prefix) (prefixes_of first) (all_prefixes specs)
+    ∙ or_left _ _ (ap (λ x. is_covered (prefixes_of x) name) same ∙ h)
 covered_by_all (first ∷ specs) (suc j) s name e h =
-    list_any-append (λ prefix. starts_with nat_eq name prefix) (prefixes_of first) (all_prefixes specs) ∙ or_right _ _ (covered_by_all specs j s name e h)
+    list_any-append (λ prefix. starts_with nat_eq name prefix) (prefixes_of first) (all_prefixes specs)
+    ∙ or_right _ _ (covered_by_all specs j s name e h)
 
 -- what is taken of names is taken of refs
-taken_of_refs : (specs : List Spec) (refs : List RefValue) (j : ℕ) (s : Spec) (item : Option ℕ) (source : Source) → slice_get specs j ≡ Some s → IsTakenBy s (value_names refs) item source → ItemIsFirst specs refs item source
+taken_of_refs : (specs : List Spec) (refs : List RefValue) (j : ℕ) (s : Spec) (item : Option ℕ) (source : Source)
+    → slice_get specs j ≡ Some s → IsTakenBy s (value_names refs) item source → ItemIsFirst specs refs item source
 taken_of_refs specs refs j s (Some i) (FullName name) e h =
     let found = found_at (λ other. bytes_eq other name) refs 0 i h.0 in
     let there : i ≡ found.at = found.place ∙ omega arith in
@@ -73,13 +77,18 @@ taken_of_refs specs refs j s None (FullName name) e h = absurd h
 taken_of_refs specs refs j s None (ObjectId bytes) e h = tt
 
 -- the same of each mapping
-good_of_origins : (specs : List Spec) (refs : List RefValue) (ms : List Mapped) → AllByRecursion (HasOrigin specs (value_names refs)) ms → AllByRecursion (Good specs refs) ms
+good_of_origins : (specs : List Spec) (refs : List RefValue) (ms : List Mapped) → AllByRecursion (HasOrigin specs (value_names refs)) ms
+    → AllByRecursion (Good specs refs) ms
 good_of_origins specs refs [] h = tt
 good_of_origins specs refs (m ∷ ms) h = (
-  record { place = slice_get_within specs m.spec h.0.origin h.0.at_place; item = taken_of_refs specs refs m.spec h.0.origin m.item m.source h.0.at_place h.0.taken },
+  record {
+    place = slice_get_within specs m.spec h.0.origin h.0.at_place;
+    item = taken_of_refs specs refs m.spec h.0.origin m.item m.source h.0.at_place h.0.taken;
+  },
   good_of_origins specs refs ms h.1,
 )
 
 -- each mapping is of one of the refspecs, and takes an id or the first ref of its name
-pub found_are_good : MappingsHaveOrigins → (specs : List Spec) (refs : List RefValue) → AllByRecursion (Good specs refs) (found_in specs refs)
+pub found_are_good : MappingsHaveOrigins → (specs : List Spec) (refs : List RefValue)
+    → AllByRecursion (Good specs refs) (found_in specs refs)
 found_are_good law specs refs = good_of_origins specs refs (found_in specs refs) (law specs (value_names refs))

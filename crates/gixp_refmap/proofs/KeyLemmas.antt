@@ -18,18 +18,21 @@ turned a b =
     one_answer (bytes_eq a b) (bytes_eq b a) d (λ t. sym (e.0 t), λ h. e.1 (sym h))
 
 -- a key is among others where its text is among theirs
-pub among_keys : (eq : BString → BString → Bool) → ((a b : BString) → eq a b ≡ bytes_eq (bstring_bytes a) (bstring_bytes b)) → (keys : List BString) (key : BString)
+pub among_keys : (eq : BString → BString → Bool) → ((a b : BString) → eq a b ≡ bytes_eq (bstring_bytes a) (bstring_bytes b))
+    → (keys : List BString) (key : BString)
     → list_any (eq key) keys ≡ is_among (map bstring_bytes keys) (bstring_bytes key)
 among_keys eq same [] key = refl
 among_keys eq same (k ∷ ks) key = rw (same key k, turned (bstring_bytes key) (bstring_bytes k), among_keys eq same ks key) refl
 
 -- a key after others, unless it is there
 kept_or_behind : (b : Bool) (keys : List BString) (key : BString)
-    → map bstring_bytes (if b then keys else keys ++ key ∷ []) ≡ (if b then map bstring_bytes keys else map bstring_bytes keys ++ bstring_bytes key ∷ [])
+    → map bstring_bytes (if b then keys else keys ++ key ∷ [])
+    ≡ (if b then map bstring_bytes keys else map bstring_bytes keys ++ bstring_bytes key ∷ [])
 kept_or_behind true keys key = refl
 kept_or_behind false keys key = map-append bstring_bytes keys (key ∷ [])
 
 -- the texts after an insertion
-pub inserted_text : (eq : BString → BString → Bool) → ((a b : BString) → eq a b ≡ bytes_eq (bstring_bytes a) (bstring_bytes b)) → (keys : List BString) (key : BString)
+pub inserted_text : (eq : BString → BString → Bool) → ((a b : BString) → eq a b ≡ bytes_eq (bstring_bytes a) (bstring_bytes b))
+    → (keys : List BString) (key : BString)
     → map bstring_bytes (insert_key eq keys key) ≡ with_text (map bstring_bytes keys) (bstring_bytes key)
 inserted_text eq same keys key = kept_or_behind (list_any (eq key) keys) keys key ∙ rw (among_keys eq same keys key) refl

@@ -4,17 +4,21 @@ use Rattle.std.proofs.lemmas.List.{map-append, take_more}
 use Rattle.gixp_packetline.proofs.ListLemmas.{take-map_more}
 
 -- a step of a loop that appends what it makes of each element
-pub mapped_more : {A B C : Type 0} (h : A → B) (g : B → C) (now new : List C) (xs : List A) (i : ℕ) (x : A) → x ≡ get_or xs i x → i < length xs
+pub mapped_more : {A B C : Type 0} (h : A → B) (g : B → C) (now new : List C) (xs : List A) (i : ℕ) (x : A) → x ≡ get_or xs i x
+    → i < length xs
     → now ≡ map g (take i (map h xs)) → new ≡ now ++ g (h x) ∷ [] → new ≡ map g (take (i + 1) (map h xs))
 mapped_more h g now new xs i x e l kept step =
     let front = take i (map h xs) in
-    step ∙ ap (λ y. now ++ g (h y) ∷ []) e ∙ ap (λ z. z ++ g (h (get_or xs i x)) ∷ []) kept ∙ sym (map-append g front (h (get_or xs i x) ∷ []))
+    step ∙ ap (λ y. now ++ g (h y) ∷ []) e ∙ ap (λ z. z ++ g (h (get_or xs i x)) ∷ []) kept
+    ∙ sym (map-append g front (h (get_or xs i x) ∷ []))
     ∙ ap (map g) (sym (take-map_more h xs i x l))
 
 -- the same of one function
-pub mapped_one : {A B : Type 0} (g : A → B) (now new : List B) (xs : List A) (i : ℕ) (x : A) → x ≡ get_or xs i x → i < length xs → now ≡ map g (take i xs) → new ≡ now ++ g x ∷ [] → new ≡ map g (take (i + 1) xs)
+pub mapped_one : {A B : Type 0} (g : A → B) (now new : List B) (xs : List A) (i : ℕ) (x : A) → x ≡ get_or xs i x → i < length xs
+    → now ≡ map g (take i xs) → new ≡ now ++ g x ∷ [] → new ≡ map g (take (i + 1) xs)
 mapped_one g now new xs i x e l kept step =
-    step ∙ ap (λ y. now ++ g y ∷ []) e ∙ ap (λ z. z ++ g (get_or xs i x) ∷ []) kept ∙ sym (map-append g (take i xs) (get_or xs i x ∷ [])) ∙ ap (map g) (sym (take_more xs i x l))
+    step ∙ ap (λ y. now ++ g y ∷ []) e ∙ ap (λ z. z ++ g (get_or xs i x) ∷ []) kept
+    ∙ sym (map-append g (take i xs) (get_or xs i x ∷ [])) ∙ ap (map g) (sym (take_more xs i x l))
 
 -- two functions after one another
 pub map_of_map : {A B C : Type 0} (g : B → C) (h : A → B) (xs : List A) → map g (map h xs) ≡ map (λ x. g (h x)) xs

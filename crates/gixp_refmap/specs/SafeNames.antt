@@ -22,4 +22,5 @@ pointed_to ms = map (λ (m : Bor Mapping). m.now) ms
 
 -- the mappings with such a name, and the others, in order
 abbrev pub PartsByName : List Mapping → Vec (Bor Mapping) Global → Vec (Bor Mapping) Global → Type 0
-PartsByName ms safe others = (pointed_to safe.items ≡ filter (is_of_safety true) ms) × (pointed_to others.items ≡ filter (is_of_safety false) ms)
+PartsByName ms safe others = (pointed_to safe.items ≡ filter (is_of_safety true) ms)
+    × (pointed_to others.items ≡ filter (is_of_safety false) ms)

@@ -17,7 +17,8 @@ pub memory_answers : {A B : Type 0} (view : A → B) (o : Result B RefsRefusal) 
 memory_answers view (Ok x) e h = h
 memory_answers view (Err r) e h = subst (λ k. IsParseRefusal k r) (sym h) (λ n. cc)
 
-pub refusal_answers : {A B : Type 0} (view : A → B) (o : Result B RefsRefusal) (r : RefsRefusal) (e : Error) → o ≡ Err r → IsParseRefusal e r → AnswersRefs view o (Err e)
+pub refusal_answers : {A B : Type 0} (view : A → B) (o : Result B RefsRefusal) (r : RefsRefusal) (e : Error) → o ≡ Err r
+    → IsParseRefusal e r → AnswersRefs view o (Err e)
 refusal_answers view o r e h k = subst (λ x. AnswersRefs view x (Err e)) (sym h) k
 
 pub and_then_err : {A B C D : Type 0} (view : A → B) (view2 : C → D) (o : Result B RefsRefusal) (f : B → Result D RefsRefusal) (e : Error)
@@ -25,36 +26,44 @@ pub and_then_err : {A B C D : Type 0} (view : A → B) (view2 : C → D) (o : Re
 and_then_err view view2 (Ok x) f e h = memory_answers view2 (f x) e h
 and_then_err view view2 (Err r) f e h = h
 
-pub and_then_ok : {A B C D : Type 0} (view : A → B) (view2 : C → D) (o : Result B RefsRefusal) (f : B → Result D RefsRefusal) (x : A) (r : Result C Error)
+pub and_then_ok : {A B C D : Type 0} (view : A → B) (view2 : C → D) (o : Result B RefsRefusal) (f : B → Result D RefsRefusal) (x : A)
+    (r : Result C Error)
     → AnswersRefs view o (Ok x) → AnswersRefs view2 (f (view x)) r → AnswersRefs view2 (and_then o f) r
 and_then_ok view view2 (Ok y) f x r h k = subst (λ v. AnswersRefs view2 (f v) r) h k
 and_then_ok view view2 (Err y) f x r h k = absurd h
 
-pub attribute_is : (line name value : List ℕ) (had : AttributeValues) → (length value ≡ 0 → ⊥) → attribute_of line (name, Some value) had ≡ named_attribute line name value had
+pub attribute_is : (line name value : List ℕ) (had : AttributeValues) → (length value ≡ 0 → ⊥)
+    → attribute_of line (name, Some value) had ≡ named_attribute line name value had
 attribute_is line name [] had h = absurd (h refl)
 attribute_is line name (x ∷ xs) had h = refl
 
 pub unknown_is : (line piece name value : List ℕ) (had : AttributeValues) → cut 58 piece ≡ (name, Some value) → (length value ≡ 0 → ⊥)
-    → is_text name (codes "peeled") ≡ false → is_text name (codes "symref-target") ≡ false → with_attribute line piece had ≡ Err (unknown_attribute name line)
+    → is_text name (codes "peeled") ≡ false → is_text name (codes "symref-target") ≡ false
+    → with_attribute line piece had ≡ Err (unknown_attribute name line)
 unknown_is line piece name value had c some p s =
     ap (λ (x : List ℕ × Option (List ℕ)). attribute_of line x had) c ∙ attribute_is line name value had some ∙ (rw (p, s) refl)
 
 pub attributes-err : (line rest third : List ℕ) (fourth : Option (List ℕ)) (e : Error) → cut 32 rest ≡ (third, fourth)
-    → AnswersRefs attribute_values (with_attribute line third no_attributes) (Err e) → AnswersRefs attribute_values (attributes_of line (Some rest)) (Err e)
+    → AnswersRefs attribute_values (with_attribute line third no_attributes) (Err e)
+    → AnswersRefs attribute_values (attributes_of line (Some rest)) (Err e)
 attributes-err line rest third fourth e c h =
     let P : (List ℕ × Option (List ℕ)) → Type 0 = λ x. AnswersRefs attribute_values (attributes_in line x) (Err e) in
     subst P (sym c) (at fourth)
   where
     at : (o : Option (List ℕ)) → AnswersRefs attribute_values (attributes_in line (third, o)) (Err e)
     at None = h
-    at (Some fourth) = and_then_err attribute_values attribute_values (with_attribute line third no_attributes) (with_attribute line fourth) e h
+    at (Some fourth) = and_then_err attribute_values attribute_values (with_attribute line third no_attributes)
+        (with_attribute line fourth) e h
 
-pub attributes-two : (line rest third fourth : List ℕ) (first : Attributes) (r : Result Attributes Error) → cut 32 rest ≡ (third, Some fourth)
-    → AnswersRefs attribute_values (with_attribute line third no_attributes) (Ok first) → AnswersRefs attribute_values (with_attribute line fourth (attribute_values first)) r
+pub attributes-two : (line rest third fourth : List ℕ) (first : Attributes) (r : Result Attributes Error)
+    → cut 32 rest ≡ (third, Some fourth)
+    → AnswersRefs attribute_values (with_attribute line third no_attributes) (Ok first)
+    → AnswersRefs attribute_values (with_attribute line fourth (attribute_values first)) r
     → AnswersRefs attribute_values (attributes_of line (Some rest)) r
 attributes-two line rest third fourth first r c h k =
     let P : (List ℕ × Option (List ℕ)) → Type 0 = λ x. AnswersRefs attribute_values (attributes_in line x) r in
-    subst P (sym c) (and_then_ok attribute_values attribute_values (with_attribute line third no_attributes) (with_attribute line fourth) first r h k)
+    subst P (sym c) (and_then_ok attribute_values attribute_values (with_attribute line third no_attributes)
+    (with_attribute line fourth) first r h k)
 
 pub line-then : (trimmed first rest : List ℕ) (object : Option ObjectId) (r : Result Ref Error) → cut 32 trimmed ≡ (first, Some rest)
     → AnswersRefs object_of (first_piece first) (Ok object) → AnswersRefs ref_value (named trimmed (object_of object) (cut 32 rest)) r
@@ -68,7 +77,8 @@ named_some : (line name : List ℕ) (object behind : Option (List ℕ)) → (len
 named_some line [] object behind h = absurd (h refl)
 named_some line (x ∷ xs) object behind h = refl
 
-named_none : (line name : List ℕ) (object behind : Option (List ℕ)) → length name ≡ 0 → named line object (name, behind) ≡ Err (malformed_v2 line)
+named_none : (line name : List ℕ) (object behind : Option (List ℕ)) → length name ≡ 0
+    → named line object (name, behind) ≡ Err (malformed_v2 line)
 named_none line [] object behind h = refl
 named_none line (x ∷ xs) object behind h = absurd (omega arith)
 
@@ -78,17 +88,22 @@ named-empty line rest name object behind e c z h =
     refusal_answers ref_value (named line object (cut 32 rest)) (malformed_v2 line) e
     (ap (λ (x : List ℕ × Option (List ℕ)). named line object x) c ∙ named_none line name object behind z) h
 
-pub named-err : (line rest name : List ℕ) (object behind : Option (List ℕ)) (e : Error) → cut 32 rest ≡ (name, behind) → (length name ≡ 0 → ⊥)
+pub named-err : (line rest name : List ℕ) (object behind : Option (List ℕ)) (e : Error) → cut 32 rest ≡ (name, behind)
+    → (length name ≡ 0 → ⊥)
     → AnswersRefs attribute_values (attributes_of line behind) (Err e) → AnswersRefs ref_value (named line object (cut 32 rest)) (Err e)
 named-err line rest name object behind e c z h =
     let same = ap (λ (x : List ℕ × Option (List ℕ)). named line object x) c ∙ named_some line name object behind z in
-    subst (λ x. AnswersRefs ref_value x (Err e)) (sym same) (and_then_err attribute_values ref_value (attributes_of line behind) (value_of object name) e h)
+    subst (λ x. AnswersRefs ref_value x (Err e)) (sym same)
+    (and_then_err attribute_values ref_value (attributes_of line behind) (value_of object name) e h)
 
-pub named-then : (line rest name : List ℕ) (object behind : Option (List ℕ)) (had : Attributes) (r : Result Ref Error) → cut 32 rest ≡ (name, behind) → (length name ≡ 0 → ⊥)
-    → AnswersRefs attribute_values (attributes_of line behind) (Ok had) → AnswersRefs ref_value (value_of object name (attribute_values had)) r → AnswersRefs ref_value (named line object (cut 32 rest)) r
+pub named-then : (line rest name : List ℕ) (object behind : Option (List ℕ)) (had : Attributes) (r : Result Ref Error)
+    → cut 32 rest ≡ (name, behind) → (length name ≡ 0 → ⊥)
+    → AnswersRefs attribute_values (attributes_of line behind) (Ok had) → AnswersRefs ref_value
+    (value_of object name (attribute_values had)) r → AnswersRefs ref_value (named line object (cut 32 rest)) r
 named-then line rest name object behind had r c z h k =
     let same = ap (λ (x : List ℕ × Option (List ℕ)). named line object x) c ∙ named_some line name object behind z in
-    subst (λ x. AnswersRefs ref_value x r) (sym same) (and_then_ok attribute_values ref_value (attributes_of line behind) (value_of object name) had r h k)
+    subst (λ x. AnswersRefs ref_value x r) (sym same)
+    (and_then_ok attribute_values ref_value (attributes_of line behind) (value_of object name) had r h k)
 
 pub not_empty : (n : ℕ) → false ≡ nat_eq n 0 → n ≡ 0 → ⊥
 not_empty n f z = let t = eq-eqb n 0 z in cc

@@ -35,7 +35,8 @@ record Grouped (t : List Symref) (last : Option NamedRef) (texts : List (List �
   refs : AreGroupRefs t found values
 
 -- at the end
-grouped_end : (t : List Symref) (last : Option NamedRef) (values : List RefValue) → group_end (closed t last) None ≡ Ok values → Grouped t last [] values
+grouped_end : (t : List Symref) (last : Option NamedRef) (values : List RefValue) → group_end (closed t last) None ≡ Ok values
+    → Grouped t last [] values
 grouped_end t None [] h = record { lines = []; read = tt; found = []; grouped = refl; refs = tt }
 grouped_end t None (v ∷ vs) h = cc
 grouped_end t (Some n) [] h = cc
@@ -49,7 +50,8 @@ grouped_end t (Some n) (v ∷ vs) h =
     at (w ∷ ws) first others = cc
 
 -- a line that stands in no group
-grouped_apart : (t : List Symref) (last : Option NamedRef) (text : List ℕ) (texts : List (List ℕ)) (values : List RefValue) (l : V1Line) → v1_line text ≡ Ok l → is_grouped l ≡ false
+grouped_apart : (t : List Symref) (last : Option NamedRef) (text : List ℕ) (texts : List (List ℕ)) (values : List RefValue) (l : V1Line)
+    → v1_line text ≡ Ok l → is_grouped l ≡ false
     → Grouped t last texts values → Grouped t last (text ∷ texts) values
 grouped_apart t last text texts values l h k g = record {
   lines = l ∷ g.lines;
@@ -60,12 +62,14 @@ grouped_apart t last text texts values l h k g = record {
 }
 
 -- these refs in front of what is found
-front_ok : (xs values : List RefValue) (r : Result (List RefValue) RefsRefusal) → in_front xs r ≡ Ok values → (vs : List RefValue) × (r ≡ Ok vs) × (values ≡ xs ++ vs)
+front_ok : (xs values : List RefValue) (r : Result (List RefValue) RefsRefusal) → in_front xs r ≡ Ok values → (vs : List RefValue)
+    × (r ≡ Ok vs) × (values ≡ xs ++ vs)
 front_ok xs values (Ok vs) h = (vs, refl, same_ok values (xs ++ vs) (in_front xs (Ok vs)) h refl)
 front_ok xs values (Err e) h = cc
 
 -- a ref line, before which another one may be open
-grouped_names : (t : List Symref) (last : Option NamedRef) (text : List ℕ) (texts : List (List ℕ)) (values vs : List RefValue) (n : NamedRef) → v1_line text ≡ Ok (names n.object n.name)
+grouped_names : (t : List Symref) (last : Option NamedRef) (text : List ℕ) (texts : List (List ℕ)) (values vs : List RefValue)
+    (n : NamedRef) → v1_line text ≡ Ok (names n.object n.name)
     → values ≡ closed t last ++ vs → Grouped t (Some n) texts vs → Grouped t last (text ∷ texts) values
 grouped_names t None text texts values vs n h e g =
     record { lines = names n.object n.name ∷ g.lines; read = (h, g.read); found = g.found; grouped = g.grouped; refs = rw e g.refs }
@@ -85,7 +89,8 @@ ref_ok values (Ok v) (Ok vs) h = (v, vs, refl, refl, same_ok values (v ∷ vs) (
 ref_ok values (Ok v) (Err e) h = cc
 ref_ok values (Err e) r h = cc
 
-grouped_peels : (t : List Symref) (last : Option NamedRef) (text : List ℕ) (texts : List (List ℕ)) (values vs : List RefValue) (left base : List ℕ) (v : RefValue) → v1_line text ≡ Ok (peels left base)
+grouped_peels : (t : List Symref) (last : Option NamedRef) (text : List ℕ) (texts : List (List ℕ)) (values vs : List RefValue)
+    (left base : List ℕ) (v : RefValue) → v1_line text ≡ Ok (peels left base)
     → pair t last left base ≡ Ok v → values ≡ v ∷ vs → Grouped t None texts vs → Grouped t last (text ∷ texts) values
 grouped_peels t None text texts values vs left base v h p e g = cc
 grouped_peels t (Some m) text texts values vs left base v h p e g =
@@ -98,13 +103,15 @@ grouped_peels t (Some m) text texts values vs left base v h p e g =
     }
 
 -- by what a line is
-grouped_step : (t : List Symref) (last : Option NamedRef) (text : List ℕ) (texts : List (List ℕ)) (values : List RefValue) (r : Result V1Line RefsRefusal) → v1_line text ≡ r
+grouped_step : (t : List Symref) (last : Option NamedRef) (text : List ℕ) (texts : List (List ℕ)) (values : List RefValue)
+    (r : Result V1Line RefsRefusal) → v1_line text ≡ r
     → group_with t last r (λ now. groups texts None t now) ≡ Ok values
     → ((now : Option NamedRef) (vs : List RefValue) → groups texts None t now ≡ Ok vs → Grouped t now texts vs)
     → Grouped t last (text ∷ texts) values
 grouped_step t last text texts values (Err e) h k f = cc
 grouped_step t last text texts values (Ok nothing) h k f = grouped_apart t last text texts values nothing h refl (f last values k)
-grouped_step t last text texts values (Ok (shallows id)) h k f = grouped_apart t last text texts values (shallows id) h refl (f last values k)
+grouped_step t last text texts values (Ok (shallows id)) h k f =
+    grouped_apart t last text texts values (shallows id) h refl (f last values k)
 grouped_step t last text texts values (Ok (names object name)) h k f =
     let n : NamedRef = record { object = object; name = name } in
     let x = front_ok (closed t last) values (groups texts None t (Some n)) k in
@@ -113,9 +120,11 @@ grouped_step t last text texts values (Ok (peels left base)) h k f =
     let x = ref_ok values (pair t last left base) (groups texts None t None) k in
     grouped_peels t last text texts values x.1 left base x.0 h x.2 x.4 (f None x.1 x.3)
 
-grouped_from : (t : List Symref) (last : Option NamedRef) (texts : List (List ℕ)) (values : List RefValue) → groups texts None t last ≡ Ok values → Grouped t last texts values
+grouped_from : (t : List Symref) (last : Option NamedRef) (texts : List (List ℕ)) (values : List RefValue)
+    → groups texts None t last ≡ Ok values → Grouped t last texts values
 grouped_from t last [] values h = grouped_end t last values h
-grouped_from t last (text ∷ texts) values h = grouped_step t last text texts values (v1_line text) refl h (λ now vs k. grouped_from t now texts vs k)
+grouped_from t last (text ∷ texts) values h =
+    grouped_step t last text texts values (v1_line text) refl h (λ now vs k. grouped_from t now texts vs k)
 
 -- the refs of an advertisement are those of groups of its lines
 pub groups_found : (t : List Symref) (texts : List (List ℕ)) (values : List RefValue) → groups texts None t None ≡ Ok values
@@ -127,7 +136,8 @@ groups_found t texts values h =
 -- ---- and groups are read
 
 -- after a ref line that is open, one that stands alone
-pub first_alone : (m : NamedRef) (object name : List ℕ) (ls : List V1Line) (gs : List Group) → (names m.object m.name ∷ names object name ∷ ls) ≡ lines_in gs
+pub first_alone : (m : NamedRef) (object name : List ℕ) (ls : List V1Line) (gs : List Group)
+    → (names m.object m.name ∷ names object name ∷ ls) ≡ lines_in gs
     → (others : List Group) × (gs ≡ alone m ∷ others) × ((names object name ∷ ls) ≡ lines_in others)
 first_alone m object name ls [] h = cc
 first_alone m object name ls (alone n ∷ gs) h =
@@ -143,7 +153,8 @@ no_peels_first left base ls [] h = cc
 no_peels_first left base ls (alone n ∷ gs) h = cc
 no_peels_first left base ls (with_peeled n l b ∷ gs) h = cc
 
-pub first_peeled : (m : NamedRef) (left base : List ℕ) (ls : List V1Line) (gs : List Group) → (names m.object m.name ∷ peels left base ∷ ls) ≡ lines_in gs
+pub first_peeled : (m : NamedRef) (left base : List ℕ) (ls : List V1Line) (gs : List Group)
+    → (names m.object m.name ∷ peels left base ∷ ls) ≡ lines_in gs
     → (others : List Group) × (gs ≡ with_peeled m left base ∷ others) × (ls ≡ lines_in others)
 first_peeled m left base ls [] h = cc
 first_peeled m left base ls (alone n ∷ gs) h = absurd (no_peels_first left base ls gs cc)
@@ -152,8 +163,12 @@ first_peeled m left base ls (with_peeled n l b ∷ gs) h =
     let x : m.name ≡ n.name = cc in
     let y : l ≡ left = cc in
     let z : b ≡ base = cc in
-    let rest : ls ≡ lines_in gs = cc in
-    (gs, ap (λ k. with_peeled k l b ∷ gs) (sym (same_named m n o x)) ∙ ap (λ k. with_peeled m k b ∷ gs) y ∙ ap (λ k. with_peeled m left k ∷ gs) z, rest)
+    let rest : ls ≡ lines_in gs = cc in (
+      gs,
+      ap (λ k. with_peeled k l b ∷ gs) (sym (same_named m n o x)) ∙ ap (λ k. with_peeled m k b ∷ gs) y
+          ∙ ap (λ k. with_peeled m left k ∷ gs) z,
+      rest,
+    )
 
 -- the first of their refs
 pub first_ref : (t : List Symref) (g : Group) (gs : List Group) (values : List RefValue) → AreGroupRefs t (g ∷ gs) values
@@ -175,7 +190,8 @@ open_at_end (Some m) (alone n ∷ alone k ∷ gs) h = cc
 open_at_end (Some m) (alone n ∷ with_peeled k left base ∷ gs) h = cc
 open_at_end (Some m) (with_peeled n left base ∷ gs) h = cc
 
-open_refs : (t : List Symref) (last : Option NamedRef) (values : List RefValue) → AreGroupRefs t (open_groups last) values → group_end (closed t last) None ≡ Ok values
+open_refs : (t : List Symref) (last : Option NamedRef) (values : List RefValue) → AreGroupRefs t (open_groups last) values
+    → group_end (closed t last) None ≡ Ok values
 open_refs t None [] h = refl
 open_refs t None (v ∷ vs) h = absurd h
 open_refs t (Some m) [] h = absurd h
@@ -186,9 +202,11 @@ as_ok : (xs ys : List RefValue) → xs ≡ ys → group_end xs None ≡ group_en
 as_ok xs ys h = ap (λ l. group_end l None) h
 
 -- by the line that comes next
-read_line : (t : List Symref) (last : Option NamedRef) (l : V1Line) (ls : List V1Line) (gs : List Group) (values : List RefValue) (rest : Option NamedRef → Result (List RefValue) RefsRefusal)
+read_line : (t : List Symref) (last : Option NamedRef) (l : V1Line) (ls : List V1Line) (gs : List Group) (values : List RefValue)
+    (rest : Option NamedRef → Result (List RefValue) RefsRefusal)
     → open_lines last ++ filter is_grouped (l ∷ ls) ≡ lines_in gs → AreGroupRefs t gs values
-    → ((now : Option NamedRef) (others : List Group) (vs : List RefValue) → open_lines now ++ filter is_grouped ls ≡ lines_in others → AreGroupRefs t others vs → rest now ≡ Ok vs)
+    → ((now : Option NamedRef) (others : List Group) (vs : List RefValue) → open_lines now ++ filter is_grouped ls ≡ lines_in others
+    → AreGroupRefs t others vs → rest now ≡ Ok vs)
     → group_with t last (Ok l) rest ≡ Ok values
 read_line t last nothing ls gs values rest g r f = f last gs values g r
 read_line t last (shallows id) ls gs values rest g r f = f last gs values g r
@@ -197,7 +215,8 @@ read_line t (Some m) (names object name) ls gs values rest g r f =
     let x = first_alone m object name (filter is_grouped ls) gs g in
     let y = first_ref t (alone m) x.0 values (subst (λ k. AreGroupRefs t k values) x.1 r) in
     let same : single t m ≡ y.0 = let e = y.3 in cc in
-    rw (f (Some (record { object = object; name = name })) x.0 y.1 x.2 y.4) (as_ok (single t m ∷ y.1) values (ap (λ v. v ∷ y.1) same ∙ sym y.2))
+    rw (f (Some (record { object = object; name = name })) x.0 y.1 x.2 y.4)
+    (as_ok (single t m ∷ y.1) values (ap (λ v. v ∷ y.1) same ∙ sym y.2))
 read_line t None (peels left base) ls gs values rest g r f = absurd (no_peels_first left base (filter is_grouped ls) gs g)
 read_line t (Some m) (peels left base) ls gs values rest g r f =
     let x = first_peeled m left base (filter is_grouped ls) gs g in
@@ -205,15 +224,18 @@ read_line t (Some m) (peels left base) ls gs values rest g r f =
     let one : pair t (Some m) left base ≡ Ok y.0 = y.3 in
     rw one (rw (f None x.0 y.1 x.2 y.4) (as_ok (y.0 ∷ y.1) values (sym y.2)))
 
-read_from : (t : List Symref) (last : Option NamedRef) (texts : List (List ℕ)) (ls : List V1Line) (gs : List Group) (values : List RefValue) → AreLines texts ls
+read_from : (t : List Symref) (last : Option NamedRef) (texts : List (List ℕ)) (ls : List V1Line) (gs : List Group)
+    (values : List RefValue) → AreLines texts ls
     → open_lines last ++ filter is_grouped ls ≡ lines_in gs → AreGroupRefs t gs values → groups texts None t last ≡ Ok values
 read_from t last [] [] gs values h g r = open_refs t last values (subst (λ k. AreGroupRefs t k values) (open_at_end last gs g) r)
 read_from t last [] (l ∷ ls) gs values h g r = absurd h
 read_from t last (text ∷ texts) [] gs values h g r = absurd h
 read_from t last (text ∷ texts) (l ∷ ls) gs values h g r =
     let one : v1_line text ≡ Ok l = h.0 in
-    rw one (read_line t last l ls gs values (λ now. groups texts None t now) g r (λ now others vs k s. read_from t now texts ls others vs h.1 k s))
+    rw one (read_line t last l ls gs values (λ now. groups texts None t now) g r
+    (λ now others vs k s. read_from t now texts ls others vs h.1 k s))
 
 -- groups of lines are read as their refs
-pub groups_read : (t : List Symref) (texts : List (List ℕ)) (found : List Group) (values : List RefValue) → AreRefGroups texts found → AreGroupRefs t found values → groups texts None t None ≡ Ok values
+pub groups_read : (t : List Symref) (texts : List (List ℕ)) (found : List Group) (values : List RefValue) → AreRefGroups texts found
+    → AreGroupRefs t found values → groups texts None t None ≡ Ok values
 groups_read t texts found values h r = read_from t None texts h.lines found values h.read h.grouped r

@@ -18,7 +18,8 @@ abbrev behind : List RefValue → Result (List RefValue) RefsRefusal → Result 
 behind vs (Ok ws) = Ok (vs ++ ws)
 behind vs (Err e) = Err e
 
-with_ref-behind : (v : RefValue) (vs : List RefValue) (r : Result (List RefValue) RefsRefusal) → with_ref (Ok v) (behind vs r) ≡ behind (v ∷ vs) r
+with_ref-behind : (v : RefValue) (vs : List RefValue) (r : Result (List RefValue) RefsRefusal)
+    → with_ref (Ok v) (behind vs r) ≡ behind (v ∷ vs) r
 with_ref-behind v vs (Ok ws) = refl
 with_ref-behind v vs (Err e) = refl
 
@@ -27,7 +28,8 @@ none_behind (Ok ws) = refl
 none_behind (Err e) = refl
 
 -- lines that stand for values go first
-refs_behind : (ts rest : List (List ℕ)) (vs : List RefValue) (ending : Ending) → AreRefs ts vs → refs_from (ts ++ rest) ending ≡ behind vs (refs_from rest ending)
+refs_behind : (ts rest : List (List ℕ)) (vs : List RefValue) (ending : Ending) → AreRefs ts vs
+    → refs_from (ts ++ rest) ending ≡ behind vs (refs_from rest ending)
 refs_behind [] rest [] ending h = none_behind (refs_from rest ending)
 refs_behind [] rest (v ∷ vs) ending h = absurd h
 refs_behind (t ∷ ts) rest [] ending h = absurd h
@@ -35,18 +37,21 @@ refs_behind (t ∷ ts) rest (v ∷ vs) ending h =
     let one : v2_line t ≡ Ok v = h.0 in
     rw (one, refs_behind ts rest vs ending h.1) (with_ref-behind v vs (refs_from rest ending))
 
-AreRefs-push : (ts : List (List ℕ)) (vs : List RefValue) (t : List ℕ) (v : RefValue) → AreRefs ts vs → v2_line t ≡ Ok v → AreRefs (ts ++ t ∷ []) (vs ++ v ∷ [])
+AreRefs-push : (ts : List (List ℕ)) (vs : List RefValue) (t : List ℕ) (v : RefValue) → AreRefs ts vs → v2_line t ≡ Ok v
+    → AreRefs (ts ++ t ∷ []) (vs ++ v ∷ [])
 AreRefs-push [] [] t v h e = (e, tt)
 AreRefs-push [] (w ∷ vs) t v h e = absurd h
 AreRefs-push (s ∷ ts) [] t v h e = absurd h
 AreRefs-push (s ∷ ts) (w ∷ vs) t v h e = (h.0, AreRefs-push ts vs t v h.1 e)
 
 -- lines that stand for values, and then an ending
-refs_all : (texts : List (List ℕ)) (vs : List RefValue) (ending : Ending) → AreRefs texts vs → v2_refs (lines_to texts ending) ≡ behind vs (refs_from [] ending)
+refs_all : (texts : List (List ℕ)) (vs : List RefValue) (ending : Ending) → AreRefs texts vs
+    → v2_refs (lines_to texts ending) ≡ behind vs (refs_from [] ending)
 refs_all texts vs ending h = ap (λ l. refs_from l ending) (sym (append-nil texts)) ∙ refs_behind texts [] vs ending h
 
 all_known : (r : Reading) (o n : Option Pieces) (texts : List (List ℕ)) (vs : List RefValue) (kind : _) → AreRefs texts vs
-    → IfSome o (λ p. (q : Pieces) × (n ≡ Some q) × (lines_ahead r p ≡ lines_to texts (stop kind q))) → IfSome o (λ p. v2_refs (lines_ahead r p) ≡ Ok vs)
+    → IfSome o (λ p. (q : Pieces) × (n ≡ Some q) × (lines_ahead r p ≡ lines_to texts (stop kind q)))
+    → IfSome o (λ p. v2_refs (lines_ahead r p) ≡ Ok vs)
 all_known r None n texts vs kind h k = tt
 all_known r (Some p) n texts vs kind h k = ap v2_refs k.2 ∙ refs_all texts vs (stop kind k.0) h ∙ ap Ok (append-nil vs)
 
@@ -70,7 +75,8 @@ refs-stop old mid new refs h k =
       held = all.held;
     }
 
-line_refused : (r s : Reading) (o n : Option Pieces) (texts : List (List ℕ)) (t : List ℕ) (vs : List RefValue) (e : RefsRefusal) → AreRefs texts vs → v2_line t ≡ Err e
+line_refused : (r s : Reading) (o n : Option Pieces) (texts : List (List ℕ)) (t : List ℕ) (vs : List RefValue) (e : RefsRefusal)
+    → AreRefs texts vs → v2_line t ≡ Err e
     → IfSome o (λ p. (q : Pieces) × (n ≡ Some q) × (lines_ahead r p ≡ before (texts ++ t ∷ []) (lines_ahead s q)))
     → IfSome o (λ p. v2_refs (lines_ahead r p) ≡ Err e)
 line_refused r s None n texts t vs e h is a = tt
@@ -80,10 +86,16 @@ line_refused r s (Some p) n texts t vs e h is a =
     ∙ refs_behind texts (t ∷ rest.lines) vs rest.ending h ∙ (rw is refl)
 
 -- a line that is refused is the first refusal
-pub refs-refused : (plain : Bool) (old mid new : Reading) (vs : List RefValue) (e : Error) (o : Result RefValue RefsRefusal) → RefsSoFar old mid vs → TakesLine mid new
+pub refs-refused : (plain : Bool) (old mid new : Reading) (vs : List RefValue) (e : Error) (o : Result RefValue RefsRefusal)
+    → RefsSoFar old mid vs → TakesLine mid new
     → v2_line new.line ≡ o → AnswersRefs ref_value o (Err e) → RefsFail plain old new e
 refs-refused plain old mid new vs e (Ok v) h k is a =
-    inr (inr (inr (record { taken = h.texts ++ new.line ∷ []; read = so_far-line old mid new h.texts h.read k; stopped = k.stopped; error = a })))
+    inr (inr (inr (record {
+      taken = h.texts ++ new.line ∷ [];
+      read = so_far-line old mid new h.texts h.read k;
+      stopped = k.stopped;
+      error = a;
+    })))
 refs-refused plain old mid new vs e (Err r) h k is a =
     let read = so_far-line old mid new h.texts h.read k in
     inl (record {
@@ -101,7 +113,8 @@ reader_known r None texts vs e h a = tt
 reader_known r (Some p) texts vs e h a = ap v2_refs a ∙ refs_all texts vs (refusal e) h
 
 -- the reader's refusal is the first, or something came from outside
-pub refs-reader : (plain : Bool) (old mid new : Reading) (vs : List RefValue) (r : Refusal) (e : Error) → RefsSoFar old mid vs → Fails mid new r
+pub refs-reader : (plain : Bool) (old mid new : Reading) (vs : List RefValue) (r : Refusal) (e : Error) → RefsSoFar old mid vs
+    → Fails mid new r
     → (plain ≡ true → IsPlain new r) → parse_refusal e ≡ refusal_from r → RefsFail plain old new e
 refs-reader plain old mid new vs r e h (inl k) p is =
     inr (inl (record {
@@ -120,7 +133,8 @@ map_push : (refs more : List Ref) (r : Ref) → more ≡ refs ++ r ∷ [] → ma
 map_push refs more r e = rw e (map-append ref_value refs (r ∷ []))
 
 -- one more ref
-pub refs-pushed : (old mid new : Reading) (refs more : List Ref) (r : Ref) (o : Result RefValue RefsRefusal) → RefsSoFar old mid (map ref_value refs) → TakesLine mid new
+pub refs-pushed : (old mid new : Reading) (refs more : List Ref) (r : Ref) (o : Result RefValue RefsRefusal)
+    → RefsSoFar old mid (map ref_value refs) → TakesLine mid new
     → v2_line new.line ≡ o → AnswersRefs ref_value o (Ok r) → more ≡ refs ++ r ∷ [] → RefsSoFar old new (map ref_value more)
 refs-pushed old mid new refs more r (Ok v) h k is a e =
     let same : v2_line new.line ≡ Ok (ref_value r) = is ∙ ap Ok (sym a) in
@@ -133,9 +147,15 @@ refs-pushed old mid new refs more r (Ok v) h k is a e =
 refs-pushed old mid new refs more r (Err x) h k is a e = absurd a
 
 -- memory ran out after a line
-pub refs-memory : (plain : Bool) (old mid new : Reading) (vs : List RefValue) → RefsSoFar old mid vs → TakesLine mid new → RefsFail plain old new Memory
+pub refs-memory : (plain : Bool) (old mid new : Reading) (vs : List RefValue) → RefsSoFar old mid vs → TakesLine mid new
+    → RefsFail plain old new Memory
 refs-memory plain old mid new vs h k =
-    inr (inr (inr (record { taken = h.texts ++ new.line ∷ []; read = so_far-line old mid new h.texts h.read k; stopped = k.stopped; error = refl })))
+    inr (inr (inr (record {
+      taken = h.texts ++ new.line ∷ [];
+      read = so_far-line old mid new h.texts h.read k;
+      stopped = k.stopped;
+      error = refl;
+    })))
 
 first_known : (r s : Reading) (o n : Option Pieces) (t : List ℕ) (v : RefValue) → v2_line t ≡ Ok v
     → IfSome o (λ p. (q : Pieces) × (n ≡ Some q) × (lines_ahead r p ≡ before (t ∷ []) (lines_ahead s q)))
@@ -144,10 +164,12 @@ first_known r s None n t v is a = tt
 first_known r s (Some p) n t v is a = (a.0, a.1, ap v2_refs a.2 ∙ (rw is refl))
 
 -- the ref of a line is the first of those to come
-pub next-found : (plain : Bool) (old new : Reading) (r : Ref) (o : Result RefValue RefsRefusal) → TakesLine old new → v2_line new.line ≡ o → AnswersRefs ref_value o (Ok r)
+pub next-found : (plain : Bool) (old new : Reading) (r : Ref) (o : Result RefValue RefsRefusal) → TakesLine old new
+    → v2_line new.line ≡ o → AnswersRefs ref_value o (Ok r)
     → NextOfRefs plain old new (Ok (Some r))
 next-found plain old new r (Ok v) k is a =
-    first_known old new old.to_come new.to_come new.line (ref_value r) (is ∙ ap Ok (sym a)) (so_far-line old old new [] (so_far-start old) k).next
+    first_known old new old.to_come new.to_come new.line (ref_value r) (is ∙ ap Ok (sym a))
+    (so_far-line old old new [] (so_far-start old) k).next
 next-found plain old new r (Err x) k is a = absurd a
 
 -- at the stop there are none
@@ -155,11 +177,13 @@ pub next-none : (plain : Bool) (old new : Reading) → AtStop old new → NextOf
 next-none plain old new k = refs-stop old old new [] (refs-start old) k
 
 -- one refusal is that of all
-pub next-refused : (plain : Bool) (old mid new : Reading) (vs : List RefValue) (e : Error) → RefsSoFar old mid vs → NextRef plain mid new (Err e) → RefsFail plain old new e
+pub next-refused : (plain : Bool) (old mid new : Reading) (vs : List RefValue) (e : Error) → RefsSoFar old mid vs
+    → NextRef plain mid new (Err e) → RefsFail plain old new e
 next-refused plain old mid new vs e h (inl k) = refs-refused plain old mid new vs e (v2_line new.line) h k.0 refl k.1
 next-refused plain old mid new vs e h (inr k) = refs-reader plain old mid new vs k.refusal e h k.failed k.is_plain k.error
 
 -- one more ref, as the call for it tells
-pub next-pushed : (plain : Bool) (old mid new : Reading) (refs more : List Ref) (r : Ref) → RefsSoFar old mid (map ref_value refs) → NextRef plain mid new (Ok (Some r)) → more ≡ refs ++ r ∷ []
+pub next-pushed : (plain : Bool) (old mid new : Reading) (refs more : List Ref) (r : Ref) → RefsSoFar old mid (map ref_value refs)
+    → NextRef plain mid new (Ok (Some r)) → more ≡ refs ++ r ∷ []
     → RefsSoFar old new (map ref_value more)
 next-pushed plain old mid new refs more r h k e = refs-pushed old mid new refs more r (v2_line new.line) h k.0 refl k.1 e

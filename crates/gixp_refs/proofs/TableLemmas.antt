@@ -32,7 +32,8 @@ use Rattle.gixp_refs.specs.V1Refs.{symref_value, name_cmp, symref_values, ReadsV
 abbrev Entry : Type 0
 Entry = BString × Option BString
 
-tells_at : (b : Bool) (s : Symref) (o : Option Symref) → option_map (λ (x : Symref). x.target) (cond b (Some s) o) ≡ cond b (Some s.target) (option_map (λ (x : Symref). x.target) o)
+tells_at : (b : Bool) (s : Symref) (o : Option Symref) → option_map (λ (x : Symref). x.target) (cond b (Some s) o)
+    ≡ cond b (Some s.target) (option_map (λ (x : Symref). x.target) o)
 tells_at true s o = refl
 tells_at false s o = refl
 
@@ -67,11 +68,13 @@ apart k e n g h i =
 
 -- a symref that is put into the map stands in front of the others
 pub insert_tells : (es : List Entry) (k : BString) (v : Option BString) (n : List ℕ)
-    → tells (symref_values (insert_entry name_cmp es k v)) n ≡ cond (is_text (bstring_bytes k) n) (Some (option_map bstring_bytes v)) (tells (symref_values es) n)
+    → tells (symref_values (insert_entry name_cmp es k v)) n ≡ cond (is_text (bstring_bytes k) n) (Some (option_map bstring_bytes v))
+    (tells (symref_values es) n)
 insert_tells [] k v n = tells_cons (symref_value (k, v)) [] n
 insert_tells (e ∷ es) k v n = at (name_cmp k e.0) (insert_tells es k v n) refl
   where
-    at : (o : Ordering) → tells (symref_values (insert_entry name_cmp es k v)) n ≡ cond (is_text (bstring_bytes k) n) (Some (option_map bstring_bytes v)) (tells (symref_values es) n) → name_cmp k e.0 ≡ o
+    at : (o : Ordering) → tells (symref_values (insert_entry name_cmp es k v)) n
+        ≡ cond (is_text (bstring_bytes k) n) (Some (option_map bstring_bytes v)) (tells (symref_values es) n) → name_cmp k e.0 ≡ o
         → tells (symref_values (match_ordering o ((k, v) ∷ e ∷ es) ((e.0, v) ∷ es) (e ∷ insert_entry name_cmp es k v))) n
         ≡ cond (is_text (bstring_bytes k) n) (Some (option_map bstring_bytes v)) (tells (symref_values (e ∷ es)) n)
     at Less more h = tells_cons (symref_value (k, v)) (symref_values (e ∷ es)) n
@@ -87,25 +90,30 @@ insert_tells (e ∷ es) k v n = at (name_cmp k e.0) (insert_tells es k v n) refl
         let had = Some (option_map bstring_bytes e.1) in
         tells_cons (symref_value e) (symref_values (insert_entry name_cmp es k v)) n
         ∙ ap (λ x. cond (is_text (bstring_bytes e.0) n) had x) more
-        ∙ not_both (is_text (bstring_bytes e.0) n) (is_text (bstring_bytes k) n) had value (tells (symref_values es) n) (apart (bstring_bytes k) (bstring_bytes e.0) n h)
+        ∙ not_both (is_text (bstring_bytes e.0) n) (is_text (bstring_bytes k) n) had value (tells (symref_values es) n)
+        (apart (bstring_bytes k) (bstring_bytes e.0) n h)
         ∙ ap (λ x. cond (is_text (bstring_bytes k) n) value x) (sym (tells_cons (symref_value e) (symref_values es) n))
 
-lookup_at : (b c : Bool) (e : Entry) (o : Option (Option BString)) (r : Option (Option (List ℕ))) → b ≡ c → option_map (λ (t : Option BString). option_map bstring_bytes t) o ≡ r
+lookup_at : (b c : Bool) (e : Entry) (o : Option (Option BString)) (r : Option (Option (List ℕ))) → b ≡ c
+    → option_map (λ (t : Option BString). option_map bstring_bytes t) o ≡ r
     → option_map (λ (t : Option BString). option_map bstring_bytes t) (cond b (Some e.1) o) ≡ cond c (Some (option_map bstring_bytes e.1)) r
 lookup_at true c e o r h k = rw (← h) refl
 lookup_at false c e o r h k = rw (← h) k
 
 -- what is found in the map is what its symrefs tell
-pub lookup_tells : (es : List Entry) (q : BString) → option_map (λ (t : Option BString). option_map bstring_bytes t) (lookup (is_at (name_cmp q)) es) ≡ tells (symref_values es) (bstring_bytes q)
+pub lookup_tells : (es : List Entry) (q : BString) → option_map (λ (t : Option BString). option_map bstring_bytes t)
+    (lookup (is_at (name_cmp q)) es) ≡ tells (symref_values es) (bstring_bytes q)
 lookup_tells [] q = refl
 lookup_tells (e ∷ es) q =
     let same : is_eq (name_cmp q e.0) ≡ is_text (bstring_bytes e.0) (bstring_bytes q) =
     sym (texts_ties (bstring_bytes q) (bstring_bytes e.0)) ∙ nat_list_eq_equiv.symm (bstring_bytes q) (bstring_bytes e.0) in
-    lookup_at (is_eq (name_cmp q e.0)) (is_text (bstring_bytes e.0) (bstring_bytes q)) e (lookup (is_at (name_cmp q)) es) (tells (symref_values es) (bstring_bytes q)) same (lookup_tells es q)
+    lookup_at (is_eq (name_cmp q e.0)) (is_text (bstring_bytes e.0) (bstring_bytes q)) e (lookup (is_at (name_cmp q)) es)
+    (tells (symref_values es) (bstring_bytes q)) same (lookup_tells es q)
     ∙ sym (tells_cons (symref_value e) (symref_values es) (bstring_bytes q))
 
 -- what was found: whether there is one
-pub found_some : (r : Option (Bor (Option BString))) (x : Option Symref) → option_map (λ (t : Option BString). option_map bstring_bytes t) (option_copied r) ≡ option_map (λ (s : Symref). s.target) x
+pub found_some : (r : Option (Bor (Option BString))) (x : Option Symref)
+    → option_map (λ (t : Option BString). option_map bstring_bytes t) (option_copied r) ≡ option_map (λ (s : Symref). s.target) x
     → is_some r ≡ is_some x
 found_some None None h = refl
 found_some None (Some x) h = cc
@@ -113,7 +121,8 @@ found_some (Some r) None h = cc
 found_some (Some r) (Some x) h = refl
 
 -- and its target
-pub found_target : (v : Option BString) (x : Option Symref) → Some (option_map bstring_bytes v) ≡ option_map (λ (s : Symref). s.target) x → option_map bstring_bytes v ≡ told_target x
+pub found_target : (v : Option BString) (x : Option Symref)
+    → Some (option_map bstring_bytes v) ≡ option_map (λ (s : Symref). s.target) x → option_map bstring_bytes v ≡ told_target x
 found_target v None h = cc
 found_target v (Some x) h = cc
 
@@ -121,19 +130,22 @@ pub found_none : (x : Option Symref) → None ≡ option_map (λ (s : Symref). s
 found_none None h = refl
 found_none (Some x) h = cc
 
-pub copied_bytes : (r : Option (Bor BString)) → option_map (λ (s : Bor BString). bstring_bytes s.now) r ≡ option_map bstring_bytes (option_copied r)
+pub copied_bytes : (r : Option (Bor BString)) → option_map (λ (s : Bor BString). bstring_bytes s.now) r
+    ≡ option_map bstring_bytes (option_copied r)
 copied_bytes None = refl
 copied_bytes (Some s) = refl
 
 -- ---- symrefs that tell alike
 
-told_by : (x y : Option Symref) → option_map (λ (s : Symref). s.target) x ≡ option_map (λ (s : Symref). s.target) y → told_target x ≡ told_target y
+told_by : (x y : Option Symref) → option_map (λ (s : Symref). s.target) x ≡ option_map (λ (s : Symref). s.target) y
+    → told_target x ≡ told_target y
 told_by None None h = refl
 told_by None (Some y) h = cc
 told_by (Some x) None h = cc
 told_by (Some x) (Some y) h = cc
 
-paired_by : (x y : Option Symref) (n : NamedRef) (left base : List ℕ) → option_map (λ (s : Symref). s.target) x ≡ option_map (λ (s : Symref). s.target) y → pair_by x n left base ≡ pair_by y n left base
+paired_by : (x y : Option Symref) (n : NamedRef) (left base : List ℕ) → option_map (λ (s : Symref). s.target) x
+    ≡ option_map (λ (s : Symref). s.target) y → pair_by x n left base ≡ pair_by y n left base
 paired_by None None n left base h = refl
 paired_by None (Some y) n left base h = cc
 paired_by (Some x) None n left base h = cc
@@ -148,24 +160,30 @@ module _ (t u : List Symref) (alike : TellAlike t u) where
   pair_same None left base = refl
   pair_same (Some n) left base = paired_by (symref_named t n.name) (symref_named u n.name) n left base (alike n.name)
 
-  group_same : (last : Option NamedRef) (l : Result V1Line RefsRefusal) (k m : Option NamedRef → Result (List RefValue) RefsRefusal) → ((o : Option NamedRef) → k o ≡ m o)
+  group_same : (last : Option NamedRef) (l : Result V1Line RefsRefusal) (k m : Option NamedRef → Result (List RefValue) RefsRefusal)
+      → ((o : Option NamedRef) → k o ≡ m o)
       → group_with t last l k ≡ group_with u last l m
   group_same last (Err e) k m h = refl
   group_same last (Ok nothing) k m h = h last
   group_same last (Ok (shallows id)) k m h = h last
-  group_same last (Ok (names object name)) k m h = let line : NamedRef = record { object = object; name = name } in rw (closed_same last, h (Some line)) refl
+  group_same last (Ok (names object name)) k m h = let line : NamedRef = record { object = object; name = name } in
+      rw (closed_same last, h (Some line)) refl
   group_same last (Ok (peels left base)) k m h = rw (pair_same last left base, h None) refl
 
-  pub groups_same : (texts : List (List ℕ)) (end : Option RefsRefusal) (last : Option NamedRef) → groups texts end t last ≡ groups texts end u last
+  pub groups_same : (texts : List (List ℕ)) (end : Option RefsRefusal) (last : Option NamedRef)
+      → groups texts end t last ≡ groups texts end u last
   groups_same [] end last = ap (λ vs. group_end vs end) (closed_same last)
-  groups_same (text ∷ texts) end last = group_same last (v1_line text) (λ o. groups texts end t o) (λ o. groups texts end u o) (groups_same texts end)
+  groups_same (text ∷ texts) end last = group_same last (v1_line text) (λ o. groups texts end t o) (λ o. groups texts end u o)
+      (groups_same texts end)
 
-  first_same : (r : Reading) (o : Option Pieces) (e : RefsRefusal) → IfSome o (λ p. v1_refs u (lines_ahead r p) ≡ Err e) → IfSome o (λ p. v1_refs t (lines_ahead r p) ≡ Err e)
+  first_same : (r : Reading) (o : Option Pieces) (e : RefsRefusal) → IfSome o (λ p. v1_refs u (lines_ahead r p) ≡ Err e)
+      → IfSome o (λ p. v1_refs t (lines_ahead r p) ≡ Err e)
   first_same r None e h = tt
   first_same r (Some p) e h = groups_same (lines_ahead r p).lines (end_refusal (lines_ahead r p).ending) None ∙ h
 
   -- what was read by one was read by the other
-  pub reads_same : (old new : Reading) (refs : List Ref) (updates : List ShallowUpdate) → ReadsV1 u old new refs updates → ReadsV1 t old new refs updates
+  pub reads_same : (old new : Reading) (refs : List Ref) (updates : List ShallowUpdate) → ReadsV1 u old new refs updates
+      → ReadsV1 t old new refs updates
   reads_same old new refs updates h = record {
     kind = h.kind;
     texts = h.texts;
@@ -206,14 +224,16 @@ module _ (t u : List Symref) (alike : TellAlike t u) where
   fails_same plain old new e (inl (inr (inr h))) = inl (inr (inr h))
   fails_same plain old new e (inr h) = inr h
 
-  pub answers_same : {A : Type 0} (r : Result A Error) (refs_of : A → List Ref) (updates_of : A → List ShallowUpdate) (plain : Bool) (old new : Reading)
+  pub answers_same : {A : Type 0} (r : Result A Error) (refs_of : A → List Ref) (updates_of : A → List ShallowUpdate) (plain : Bool)
+      (old new : Reading)
       → MatchResult r (λ found. ReadsV1 u old new (refs_of found) (updates_of found)) (V1Fails u plain old new)
       → MatchResult r (λ found. ReadsV1 t old new (refs_of found) (updates_of found)) (V1Fails t plain old new)
   answers_same (Ok found) refs_of updates_of plain old new h = reads_same old new (refs_of found) (updates_of found) h
   answers_same (Err e) refs_of updates_of plain old new h = fails_same plain old new e h
 
 -- what is read by the symrefs of the capabilities
-pub given : {A : Type 0} (r : Result A Error) (refs_of : A → List Ref) (updates_of : A → List ShallowUpdate) (caps : List CapabilityValue) (t : List Symref) (plain : Bool) (old new : Reading) → symref_table caps ≡ Ok t
+pub given : {A : Type 0} (r : Result A Error) (refs_of : A → List Ref) (updates_of : A → List ShallowUpdate)
+    (caps : List CapabilityValue) (t : List Symref) (plain : Bool) (old new : Reading) → symref_table caps ≡ Ok t
     → MatchResult r (λ found. ReadsV1 t old new (refs_of found) (updates_of found)) (V1Fails t plain old new)
     → MatchResult r (λ found. GivesAdvertisement caps old new (refs_of found) (updates_of found)) (AdvertisementFails caps plain old new)
 given (Ok found) refs_of updates_of caps t plain old new is h = (t, is, h)
@@ -226,7 +246,8 @@ list_is view (Err e) x h = absurd h
 
 -- ---- how the map is made: from the last symref to the first
 
-pub taken_off : {A : Type 0} (view : A → Symref) (old now : List A) (x : A) → old ≡ now ++ x ∷ [] → map view old ≡ map view now ++ view x ∷ []
+pub taken_off : {A : Type 0} (view : A → Symref) (old now : List A) (x : A) → old ≡ now ++ x ∷ [] → map view old ≡ map view now
+    ++ view x ∷ []
 taken_off view old now x h = ap (map view) h ∙ map-append view now (x ∷ [])
 
 -- those after the ones that are left are in the map
@@ -236,14 +257,17 @@ MakesTable all left entries = (done : List Symref) × (all ≡ left ++ done) × 
 pub table-start : (all : List Symref) (entries : List Entry) → entries ≡ [] → MakesTable all all entries
 table-start all entries h = ([], sym (append-nil all), λ n. rw h refl)
 
-pub table-put : (all left now : List Symref) (entries more : List Entry) (name : BString) (target : Option BString) → MakesTable all left entries → left ≡ now ++ symref_value (name, target) ∷ []
+pub table-put : (all left now : List Symref) (entries more : List Entry) (name : BString) (target : Option BString)
+    → MakesTable all left entries → left ≡ now ++ symref_value (name, target) ∷ []
     → more ≡ insert_entry name_cmp entries name target → MakesTable all now more
 table-put all left now entries more name target h l m = (
   symref_value (name, target) ∷ h.0,
   h.1 ∙ ap (λ x. x ++ h.0) l ∙ append_assoc now (symref_value (name, target) ∷ []) h.0,
-  λ n. tells_cons (symref_value (name, target)) h.0 n ∙ ap (λ x. cond (is_text (bstring_bytes name) n) (Some (option_map bstring_bytes target)) x) (h.2 n)
+  λ n. tells_cons (symref_value (name, target)) h.0 n
+      ∙ ap (λ x. cond (is_text (bstring_bytes name) n) (Some (option_map bstring_bytes target)) x) (h.2 n)
       ∙ sym (ap (λ es. tells (symref_values es) n) m ∙ insert_tells entries name target n),
 )
 
-pub table-done : (all left : List Symref) (entries : List Entry) → MakesTable all left entries → left ≡ [] → TellAlike all (symref_values entries)
+pub table-done : (all left : List Symref) (entries : List Entry) → MakesTable all left entries → left ≡ []
+    → TellAlike all (symref_values entries)
 table-done all left entries h l = subst (λ x. TellAlike x (symref_values entries)) (sym (h.1 ∙ ap (λ x. x ++ h.0) l)) h.2

@@ -59,7 +59,8 @@ is_no_white_space b high low =
 
 -- an LF after such a byte is all the white space at the end
 pub trims_one : (line : List ℕ) → 1 ≤ length line → slice_index_or line (length line - 1) 0 ≡ 10
-    → let text = take (length line - 1) line in 1 ≤ length text → 32 < slice_index_or text (length text - 1) 0 → slice_index_or text (length text - 1) 0 < 128
+    → let text = take (length line - 1) line in 1 ≤ length text → 32 < slice_index_or text (length text - 1) 0
+    → slice_index_or text (length text - 1) 0 < 128
     → text ≡ trim_end_by is_whitespace line
 trims_one line some end more high low =
     let text = take (length line - 1) line in
@@ -69,7 +70,8 @@ trims_one line some end more high low =
     let before : text ≡ front ++ b ∷ [] = ends_with_last text more in
     let n : length text ≡ length front + 1 = ap length before ∙ length-append front (b ∷ []) in
     let kept_text : kept_end is_whitespace 0 (spans_from 0 (pieces text)) ≡ length text =
-    ap (λ l. kept_end is_whitespace 0 (spans_from 0 (pieces l))) before ∙ kept_by_last is_whitespace front b low ∙ cond-false _ _ _ (is_no_white_space b high low) ∙ sym n in
+    ap (λ l. kept_end is_whitespace 0 (spans_from 0 (pieces l))) before ∙ kept_by_last is_whitespace front b low
+    ∙ cond-false _ _ _ (is_no_white_space b high low) ∙ sym n in
     let kept : kept_end is_whitespace 0 (spans_from 0 (pieces line)) ≡ length text =
     ap (λ l. kept_end is_whitespace 0 (spans_from 0 (pieces l))) whole ∙ kept_by_last is_whitespace text 10 (omega arith) ∙ kept_text in
     sym (ap (λ k. take k line) kept ∙ ap (take (length text)) whole ∙ take-append_seam text (10 ∷ []))

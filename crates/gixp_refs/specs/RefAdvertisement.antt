@@ -112,7 +112,8 @@ other_base = invariant (codes "Expecting peeled refs to have the same base path 
 -- the ref of a ref line whose name is no symref's, with a peeled line of its name after it
 abbrev pub pair_by : Option Symref → NamedRef → List ℕ → List ℕ → Result RefValue RefsRefusal
 pair_by (Some s) n left base = Err not_preceded
-pair_by None n left base = if is_text n.name base then and_then (id_value left) (λ object. Ok (peeled n.name n.object object)) else Err other_base
+pair_by None n left base = if is_text n.name base then and_then (id_value left) (λ object. Ok (peeled n.name n.object object))
+    else Err other_base
 
 abbrev pub pair : List Symref → Option NamedRef → List ℕ → List ℕ → Result RefValue RefsRefusal
 pair t None left base = Err not_preceded
@@ -129,7 +130,8 @@ in_front xs (Ok ys) = Ok (xs ++ ys)
 in_front xs (Err e) = Err e
 
 -- one line, after a ref line that is open or none, and the groups after it
-abbrev pub group_with : List Symref → Option NamedRef → Result V1Line RefsRefusal → (Option NamedRef → Result (List RefValue) RefsRefusal) → Result (List RefValue) RefsRefusal
+abbrev pub group_with : List Symref → Option NamedRef → Result V1Line RefsRefusal
+    → (Option NamedRef → Result (List RefValue) RefsRefusal) → Result (List RefValue) RefsRefusal
 group_with t last (Err e) rest = Err e
 group_with t last (Ok nothing) rest = rest last
 group_with t last (Ok (shallows id)) rest = rest last

@@ -103,7 +103,8 @@ abbrev pub never_born : List ℕ → Option (List ℕ) → Option (List ℕ) →
 never_born name None None = Err (invariant (codes "got 'unborn' as object name of direct reference"))
 never_born name None (Some p) = Err (invariant (codes "got 'unborn' as tag target"))
 never_born name (Some target) p =
-    if is_text target (codes "(null)") then Err (invariant (codes "got 'unborn' while (null) was a symref target")) else Ok (unborn name target)
+    if is_text target (codes "(null)") then Err (invariant (codes "got 'unborn' while (null) was a symref target"))
+    else Ok (unborn name target)
 
 -- by an id or none, and the attributes
 abbrev pub value_of : Option (List ℕ) → List ℕ → AttributeValues → Result RefValue RefsRefusal

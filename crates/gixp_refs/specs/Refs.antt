@@ -61,7 +61,8 @@ pub record LastRefLineRefused (texts : List (List ℕ)) (refusal : RefsRefusal) 
 
 -- the first refusal of the lines to come, or something from outside, which a plain reader has less of
 abbrev pub RefsFail : Bool → Reading → Reading → Error → Type 0
-RefsFail plain old new e = ReadFails parse_errors SoFar (λ now p r. v2_refs (lines_ahead now p) ≡ Err r) (λ texts r _. LastRefLineRefused texts r) plain old new e
+RefsFail plain old new e = ReadFails parse_errors SoFar (λ now p r. v2_refs (lines_ahead now p) ≡ Err r)
+    (λ texts r _. LastRefLineRefused texts r) plain old new e
 
 -- these refs were read so far
 pub record RefsSoFar (old now : Reading) (values : List RefValue) : Type 0 where
@@ -85,6 +86,7 @@ NextRef plain old new (Err e) = (TakesLine old new × AnswersRefs ref_value (v2_
 -- what that call says of all refs to come: its ref is the first of them, there are none, or there is no answer
 abbrev pub NextOfRefs : Bool → Reading → Reading → Result (Option Ref) Error → Type 0
 NextOfRefs plain old new (Ok (Some found)) =
-    IfSome old.to_come (λ p. (q : Pieces) × (new.to_come ≡ Some q) × (v2_refs (lines_ahead old p) ≡ with_ref (Ok (ref_value found)) (v2_refs (lines_ahead new q))))
+    IfSome old.to_come (λ p. (q : Pieces) × (new.to_come ≡ Some q)
+    × (v2_refs (lines_ahead old p) ≡ with_ref (Ok (ref_value found)) (v2_refs (lines_ahead new q))))
 NextOfRefs plain old new (Ok None) = ReadsRefs old new []
 NextOfRefs plain old new (Err e) = RefsFail plain old new e

@@ -48,7 +48,8 @@ with_closed t s = record { refs = s.refs ++ closed t s.open_line; open_line = No
 -- one more line
 abbrev pub with_line : List Symref → SoFarValue → V1Line → Result SoFarValue RefsRefusal
 with_line t s nothing = Ok s
-with_line t s (shallows id) = Ok (record { refs = s.refs; open_line = s.open_line; updates = s.updates ++ Shallow (record { bytes = id }) ∷ [] })
+with_line t s (shallows id) =
+    Ok (record { refs = s.refs; open_line = s.open_line; updates = s.updates ++ Shallow (record { bytes = id }) ∷ [] })
 with_line t s (names object name) =
     Ok (record { refs = s.refs ++ closed t s.open_line; open_line = Some (record { object = object; name = name }); updates = s.updates })
 with_line t s (peels left base) = with_pair s (pair t s.open_line left base)

@@ -64,7 +64,8 @@ pub record NoMemoryAtStop (old new : Reading) (e : Error) : Type 0 where
 -- the first refusal of the lines to come, or something from outside, which a plain reader has less of
 abbrev pub V1Fails : List Symref → Bool → Reading → Reading → Error → Type 0
 V1Fails t plain old new e =
-    ReadFails parse_errors SoFar (λ now p r. v1_refs t (lines_ahead now p) ≡ Err r) (λ texts r _. LastV1LineRefused t texts r) plain old new e ⊎ NoMemoryAtStop old new e
+    ReadFails parse_errors SoFar (λ now p r. v1_refs t (lines_ahead now p) ≡ Err r)
+    (λ texts r _. LastV1LineRefused t texts r) plain old new e ⊎ NoMemoryAtStop old new e
 
 -- the symrefs are read before the first line, and then the lines
 abbrev pub GivesAdvertisement : List CapabilityValue → Reading → Reading → List Ref → List ShallowUpdate → Type 0
@@ -73,4 +74,5 @@ GivesAdvertisement caps old new refs updates = (t : List Symref) × (symref_tabl
 -- before the first line it was the symrefs' refusal or an allocation failure, and nothing was read
 abbrev pub AdvertisementFails : List CapabilityValue → Bool → Reading → Reading → Error → Type 0
 AdvertisementFails caps plain old new e =
-    ((new ≡ old) × AnswersRefs symref_values (symref_table caps) (Err e)) ⊎ ((t : List Symref) × (symref_table caps ≡ Ok t) × V1Fails t plain old new e)
+    ((new ≡ old) × AnswersRefs symref_values (symref_table caps) (Err e))
+    ⊎ ((t : List Symref) × (symref_table caps ≡ Ok t) × V1Fails t plain old new e)

@@ -8,7 +8,8 @@ use Rattle.gixp_refspec.specs.Texts.{AddsSome}
 use Rattle.gixp_refspec.proofs.PrefixLemmas.{matched_is_covered, covered_behind}
 
 -- a call that added the prefixes of a refspec covers what it matches
-pub covers_on_ok : (r : Result Unit AllocError) (old new : List (List ℕ)) (s : Spec) → AddsSome r old (prefixes_of s) new → OnOk r (Covers new s)
+pub covers_on_ok : (r : Result Unit AllocError) (old new : List (List ℕ)) (s : Spec) → AddsSome r old (prefixes_of s) new
+    → OnOk r (Covers new s)
 covers_on_ok (Ok t) old new s h = λ name positive matched.
     ap (λ l. is_covered l name) h ∙ covered_behind old (prefixes_of s) name (matched_is_covered s name positive matched)
 covers_on_ok (Err e) old new s h = tt

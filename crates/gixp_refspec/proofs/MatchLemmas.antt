@@ -19,15 +19,18 @@ pub false_from_other : (xs ys : List ℕ) → xs ≢ ys → false ≡ bytes_eq x
 false_from_other xs ys h = sym (false_from_ne_true _ (λ t. h ((bytes_eq-Decides xs ys).0 t)))
 
 -- a name that does not begin with front is not front, middle, back
-pub no_front : (name front middle back : List ℕ) → ((rest : List ℕ) → name ≢ front ++ rest) → false ≡ bytes_eq name (front ++ (middle ++ back))
+pub no_front : (name front middle back : List ℕ) → ((rest : List ℕ) → name ≢ front ++ rest)
+    → false ≡ bytes_eq name (front ++ (middle ++ back))
 no_front name front middle back h = false_from_other _ _ (h (middle ++ back))
 
 -- nor is one whose rest does not begin with middle
-pub no_middle : (name front rest middle back : List ℕ) → name ≡ front ++ rest → ((r : List ℕ) → rest ≢ middle ++ r) → false ≡ bytes_eq name (front ++ (middle ++ back))
+pub no_middle : (name front rest middle back : List ℕ) → name ≡ front ++ rest → ((r : List ℕ) → rest ≢ middle ++ r)
+    → false ≡ bytes_eq name (front ++ (middle ++ back))
 no_middle name front rest middle back e h = false_from_other _ _ (λ d. h back (same_rest front _ _ (sym e ∙ d)))
 
 -- after front and middle the rest decides
-pub with_back : (name front rest middle last back : List ℕ) (r : Bool) → name ≡ front ++ rest → rest ≡ middle ++ last → r ≡ bytes_eq last back → r ≡ bytes_eq name (front ++ (middle ++ back))
+pub with_back : (name front rest middle last back : List ℕ) (r : Bool) → name ≡ front ++ rest → rest ≡ middle ++ last
+    → r ≡ bytes_eq last back → r ≡ bytes_eq name (front ++ (middle ++ back))
 with_back name front rest middle last back r e d h =
     let all : name ≡ front ++ (middle ++ last) = e ∙ ap (λ x. front ++ x) d in
     same_from_decides r _ (
@@ -47,15 +50,18 @@ none_is e = cc
 inner_is : (front middle back : List ℕ) → inner front back (front ++ (middle ++ back)) ≡ middle
 inner_is front middle back =
     let whole = front ++ (middle ++ back) in
-    let n : length whole - (length front + length back) ≡ length middle = omega (arith, length-append front (middle ++ back), length-append middle back) in
-    ap (λ k. take k (drop (length front) whole)) n ∙ ap (take (length middle)) (drop-append_seam front (middle ++ back)) ∙ take-append_seam middle back
+    let n : length whole - (length front + length back) ≡ length middle =
+    omega (arith, length-append front (middle ++ back), length-append middle back) in
+    ap (λ k. take k (drop (length front) whole)) n ∙ ap (take (length middle)) (drop-append_seam front (middle ++ back))
+    ∙ take-append_seam middle back
 
 -- between says exactly that the name is front, middle, back
 pub between_middle : (front middle back : List ℕ) → between front back (front ++ (middle ++ back)) ≡ Some middle
 unfolding between
 between_middle front middle back =
     let e = inner_is front middle back in
-    let same = (bytes_eq-Decides (front ++ (middle ++ back)) (front ++ (inner front back (front ++ (middle ++ back)) ++ back))).1 (ap (λ m. front ++ (m ++ back)) (sym e)) in
+    let same = (bytes_eq-Decides (front ++ (middle ++ back)) (front ++ (inner front back (front ++ (middle ++ back)) ++ back))).1
+    (ap (λ m. front ++ (m ++ back)) (sym e)) in
     cond-true _ _ _ same ∙ ap Some e
 
 -- no middle where there is none
@@ -74,7 +80,8 @@ between_some front back name middle h = elim (cases_Bool (bytes_eq name (front +
 ]
 
 -- what is left behind the front and before the back is the middle
-pub between_from : (front back name rest : List ℕ) (r : Option (Bor (List ℕ))) → name ≡ front ++ rest → MatchOption r ((f : List ℕ) → rest ≢ f ++ back) (λ x. rest ≡ x.now ++ back) → option_copied r ≡ between front back name
+pub between_from : (front back name rest : List ℕ) (r : Option (Bor (List ℕ))) → name ≡ front ++ rest
+    → MatchOption r ((f : List ℕ) → rest ≢ f ++ back) (λ x. rest ≡ x.now ++ back) → option_copied r ≡ between front back name
 between_from front back name rest None e h = sym (between_none front back name (λ m s. h m (same_rest front _ _ (sym e ∙ s))))
 between_from front back name rest (Some x) e h =
     sym (ap (between front back) (e ∙ ap (λ z. front ++ z) h) ∙ between_middle front x.now back)

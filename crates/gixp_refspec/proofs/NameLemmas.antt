@@ -43,7 +43,8 @@ occurs_before text b bytes k h = record {
 }
 
 -- a text that stands somewhere stands at the front or later
-occurs_first_or_later : (text : List ℕ) (b : ℕ) (bytes : List ℕ) (k : ℕ) → OccursAt (b ∷ bytes) text k → (OccursAt (b ∷ bytes) text 0) ⊎ Contains bytes text
+occurs_first_or_later : (text : List ℕ) (b : ℕ) (bytes : List ℕ) (k : ℕ) → OccursAt (b ∷ bytes) text k → (OccursAt (b ∷ bytes) text 0)
+    ⊎ Contains bytes text
 occurs_first_or_later text b bytes zero h = inl h
 occurs_first_or_later text b bytes (suc k) h = inr (k, occurs_before text b bytes k h)
 

@@ -18,7 +18,8 @@ use Rattle.gixp_refspec.specs.Texts.{AddsSome}
 use Rattle.gixp_refspec.proofs.MatchLemmas.{between_some}
 
 -- what passes one test passes a weaker one
-pub any_weaker : {A : Type 0} (p q : A → Bool) → ((x : A) → p x ≡ true → q x ≡ true) → (xs : List A) → list_any p xs ≡ true → list_any q xs ≡ true
+pub any_weaker : {A : Type 0} (p q : A → Bool) → ((x : A) → p x ≡ true → q x ≡ true) → (xs : List A) → list_any p xs ≡ true
+    → list_any q xs ≡ true
 any_weaker p q h [] t = t
 any_weaker p q h (x ∷ xs) t = elim (or_cases (p x) (list_any p xs) t) [
   | inl here ↦ or_left _ _ (h x here)
@@ -39,27 +40,33 @@ where_is_some true h = refl
 where_is_some false h = h
 
 -- a name with a middle begins with the front
-between_starts : (front back name : List ℕ) (found : Option (List ℕ)) → between front back name ≡ found → is_some found ≡ true → starts_with nat_eq name front ≡ true
+between_starts : (front back name : List ℕ) (found : Option (List ℕ)) → between front back name ≡ found → is_some found ≡ true
+    → starts_with nat_eq name front ≡ true
 between_starts front back name None e h = absurd (false≢true h)
 between_starts front back name (Some middle) e h = starts name front (middle ++ back) (between_some front back name middle e)
 
 -- by its kind, each name that a source matches is covered
-covered_by : (kind : Kind) (source name : List ℕ) → is_some (middle_by kind source name) ≡ true → is_covered (prefixes_by kind source) name ≡ true
+covered_by : (kind : Kind) (source name : List ℕ) → is_some (middle_by kind source name) ≡ true
+    → is_covered (prefixes_by kind source) name ≡ true
 covered_by Id source name h = h
 covered_by Pattern source name h = or_left _ _ (between_starts (before_star source) (after_star source) name _ refl h)
 covered_by Exact source name h = or_left _ _ (starts_itself name source (where_is_some _ h))
-covered_by Short source name h = any_weaker (λ candidate. bytes_eq name candidate) (λ prefix. starts_with nat_eq name prefix) (λ candidate. starts_itself name candidate) (candidates source) (where_is_some _ h)
+covered_by Short source name h = any_weaker (λ candidate. bytes_eq name candidate) (λ prefix. starts_with nat_eq name prefix)
+    (λ candidate. starts_itself name candidate) (candidates source) (where_is_some _ h)
 
 -- what each candidate of a short name adds
-pub adds_short : (source : List ℕ) (text : Bor (List ℕ)) (r : Result Unit AllocError) (old new : List (List ℕ)) → IsNeedle source (the_short text) → AddsSome r old (candidates text.now) new → AddsSome r old (prefixes_by (kind_of source) source) new
+pub adds_short : (source : List ℕ) (text : Bor (List ℕ)) (r : Result Unit AllocError) (old new : List (List ℕ)) → IsNeedle source
+    (the_short text) → AddsSome r old (candidates text.now) new → AddsSome r old (prefixes_by (kind_of source) source) new
 adds_short source text r old new h adds =
     let P : List (List ℕ) → Type 0 = λ more. AddsSome r old more new in
     subst P (ap candidates h.1 ∙ ap (λ k. prefixes_by k source) (sym h.0)) adds
 
 -- each name that a positive refspec matches begins with one of its prefixes
-pub matched_is_covered : (s : Spec) (name : List ℕ) → is_negative s.sign ≡ false → matches s name ≡ true → is_covered (prefixes_of s) name ≡ true
+pub matched_is_covered : (s : Spec) (name : List ℕ) → is_negative s.sign ≡ false → matches s name ≡ true
+    → is_covered (prefixes_of s) name ≡ true
 unfolding prefixes_of middle_of
-matched_is_covered s name positive h = ap (λ l. is_covered l name) (cond-false _ [] (prefixes_by (kind_of s.source) s.source) positive) ∙ covered_by (kind_of s.source) s.source name h
+matched_is_covered s name positive h = ap (λ l. is_covered l name) (cond-false _ [] (prefixes_by (kind_of s.source) s.source) positive)
+    ∙ covered_by (kind_of s.source) s.source name h
 
 -- prefixes after others cover what they cover
 pub covered_behind : (old more : List (List ℕ)) (name : List ℕ) → is_covered more name ≡ true → is_covered (old ++ more) name ≡ true

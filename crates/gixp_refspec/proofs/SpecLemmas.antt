@@ -16,7 +16,8 @@ at_or_end : (n len : ℕ) → n ≤ len → unwrap_or (cond (nat_lt n len) (Some
 at_or_end n len h = elim (cases_lt n len) [ inl l ↦ rw (lt-ltb n len l) refl | inr g ↦ rw (le-ltb n len g) (omega arith) ]
 
 -- equal parts make equal values
-same_spec : (sign : Sign) {source source' : List ℕ} {destination destination' : Option (List ℕ)} → source ≡ source' → destination ≡ destination' → spec sign source destination ≡ spec sign source' destination'
+same_spec : (sign : Sign) {source source' : List ℕ} {destination destination' : Option (List ℕ)} → source ≡ source'
+    → destination ≡ destination' → spec sign source destination ≡ spec sign source' destination'
 same_spec sign {source' = source'} {destination = destination} p q = ap (λ x. spec sign x destination) p ∙ ap (λ y. spec sign source' y) q
 
 -- the first place that passes, or the end
@@ -146,7 +147,8 @@ whole_pair source destination h =
     }
 
 -- parts that are accepted
-pub whole_from_none : (source : List ℕ) (destination : Option (List ℕ)) → positive_fault source destination ≡ None → IsWhole source destination
+pub whole_from_none : (source : List ℕ) (destination : Option (List ℕ)) → positive_fault source destination ≡ None
+    → IsWhole source destination
 whole_from_none source None h = whole_source source h
 whole_from_none source (Some destination) h = whole_pair source destination h
 
@@ -161,7 +163,8 @@ non_empty_same [] h = absurd (h refl)
 non_empty_same (b ∷ bs) h = refl
 
 -- the text of accepted parts is cut into those parts
-positive_same : (sign : Sign) (source : List ℕ) (destination : Option (List ℕ)) → IsWhole source destination → positive sign (source ++ destination_text destination) ≡ spec sign source destination
+positive_same : (sign : Sign) (source : List ℕ) (destination : Option (List ℕ)) → IsWhole source destination
+    → positive sign (source ++ destination_text destination) ≡ spec sign source destination
 positive_same sign source None h =
     let s = before_first_none source h.source_is.no_colon in
     let d = after_first_none source h.source_is.no_colon in
@@ -192,7 +195,8 @@ keeps_parts text =
     let P : Spec → Type 0 = λ s. keeps_sign s.sign s.source ≡ true in
     let plus = cond (starts_with nat_eq text (codes "+")) (positive Force (drop 1 text)) (positive Plain text) in
     cond_both (starts_with nat_eq text (codes "^")) (spec Exclude (drop 1 text) None) plus P (λ _. refl) (λ _.
-    cond_both (starts_with nat_eq text (codes "+")) (positive Force (drop 1 text)) (positive Plain text) P (λ _. refl) (λ apart. plain_keeps text apart))
+    cond_both (starts_with nat_eq text (codes "+")) (positive Force (drop 1 text)) (positive Plain text) P (λ _. refl)
+    (λ apart. plain_keeps text apart))
 
 -- the parts of a text, where they are not refused, are the value of some text
 pub is_spec-parts_of : (text : List ℕ) → fault_of (parts_of text) ≡ None → is_spec (parts_of text) ≡ true
@@ -204,7 +208,8 @@ pub is_spec_from_parts : (text : List ℕ) (s : Spec) → s ≡ parts_of text �
 is_spec_from_parts text s e h = ap is_spec e ∙ is_spec-parts_of text (ap fault_of (sym e) ∙ sym h)
 
 -- a text without a sign is a plain refspec
-plain_parts : (text : List ℕ) → starts_with nat_eq text (codes "^") ≡ false → starts_with nat_eq text (codes "+") ≡ false → parts_of text ≡ positive Plain text
+plain_parts : (text : List ℕ) → starts_with nat_eq text (codes "^") ≡ false → starts_with nat_eq text (codes "+") ≡ false
+    → parts_of text ≡ positive Plain text
 unfolding parts_of
 plain_parts text no_caret no_plus = cond-false _ _ _ no_caret ∙ cond-false _ _ _ no_plus
 
@@ -221,7 +226,8 @@ starts_same [] ys m some = absurd (some refl)
 starts_same (b ∷ bs) ys m some = refl
 
 -- a written value is cut into its parts
-reads : (sign : Sign) (source : List ℕ) (destination : Option (List ℕ)) → fault_in sign source destination ≡ None → keeps_sign sign source ≡ true → parts_of (text_of (spec sign source destination)) ≡ spec sign source destination
+reads : (sign : Sign) (source : List ℕ) (destination : Option (List ℕ)) → fault_in sign source destination ≡ None
+    → keeps_sign sign source ≡ true → parts_of (text_of (spec sign source destination)) ≡ spec sign source destination
 unfolding parts_of
 reads Plain source destination none keeps =
     let whole = whole_from_none source destination none in

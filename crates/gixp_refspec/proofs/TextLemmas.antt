@@ -8,6 +8,7 @@ use Rattle.gixp_refspec.specs.Spec.{Spec, is_spec, spec_of, text_of}
 use Rattle.gixp_refspec.proofs.SpecLemmas.{spec_of-text_of}
 
 -- the text that a call wrote is read as the value
-pub reads_ok : (r : Result BString AllocError) (s : Spec) → is_spec s ≡ true → IfOk r (λ t. bstring_bytes t ≡ text_of s) → IfOk r (λ t. spec_of (bstring_bytes t) ≡ Ok s)
+pub reads_ok : (r : Result BString AllocError) (s : Spec) → is_spec s ≡ true → IfOk r (λ t. bstring_bytes t ≡ text_of s)
+    → IfOk r (λ t. spec_of (bstring_bytes t) ≡ Ok s)
 reads_ok (Ok t) s valid h = ap spec_of h ∙ spec_of-text_of s valid
 reads_ok (Err e) s valid h = tt

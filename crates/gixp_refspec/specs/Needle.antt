@@ -9,7 +9,8 @@ use Rattle.gixp_refspec.specs.Matching.{Id, Pattern, Exact, Short, kind_of, befo
 -- the needle says what the source is
 abbrev pub IsNeedle : List ℕ → Needle → Type 0
 IsNeedle source the_id = kind_of source ≡ Id
-IsNeedle source (the_pattern before after) = (kind_of source ≡ Pattern) × (before.now ≡ before_star source) × (after.now ≡ after_star source)
+IsNeedle source (the_pattern before after) = (kind_of source ≡ Pattern) × (before.now ≡ before_star source)
+    × (after.now ≡ after_star source)
 IsNeedle source (the_exact name) = (kind_of source ≡ Exact) × (name.now ≡ source)
 IsNeedle source (the_short name) = (kind_of source ≡ Short) × (name.now ≡ source)
 

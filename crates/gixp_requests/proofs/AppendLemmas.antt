@@ -8,7 +8,8 @@ use Rattle.gixp_packetline.proofs.ListLemmas.{take-map_more}
 
 -- a step of a loop that appends what it makes of each element that passes
 pub filtered_more : {A B C : Type 0} (h : A → B) (p : B → Bool) (g : B → C) (now new : List C) (xs : List A) (i : ℕ) (d : A) → i < length xs
-    → now ≡ map g (filter p (take i (map h xs))) → new ≡ now ++ map g (filter p (h (get_or xs i d) ∷ [])) → new ≡ map g (filter p (take (i + 1) (map h xs)))
+    → now ≡ map g (filter p (take i (map h xs))) → new ≡ now ++ map g (filter p (h (get_or xs i d) ∷ []))
+    → new ≡ map g (filter p (take (i + 1) (map h xs)))
 filtered_more h p g now new xs i d l kept step =
     let front = take i (map h xs) in
     let last = h (get_or xs i d) ∷ [] in
@@ -16,7 +17,8 @@ filtered_more h p g now new xs i d l kept step =
     ∙ ap (map g) (sym (filter-append p front last)) ∙ ap (λ z. map g (filter p z)) (sym (take-map_more h xs i d l))
 
 -- a step of a loop that appends what each element gives, where lists give what their parts do
-pub joined_more : {A B C : Type 0} (F : List B → List C) → ((xs ys : List B) → F (xs ++ ys) ≡ F xs ++ F ys) → (h : A → B) (old now new : List C) (xs : List A) (i : ℕ) (d : A) → i < length xs
+pub joined_more : {A B C : Type 0} (F : List B → List C) → ((xs ys : List B) → F (xs ++ ys) ≡ F xs ++ F ys)
+    → (h : A → B) (old now new : List C) (xs : List A) (i : ℕ) (d : A) → i < length xs
     → now ≡ old ++ F (take i (map h xs)) → new ≡ now ++ F (h (get_or xs i d) ∷ []) → new ≡ old ++ F (take (i + 1) (map h xs))
 joined_more F parts h old now new xs i d l kept step =
     let front = take i (map h xs) in
@@ -25,12 +27,14 @@ joined_more F parts h old now new xs i d l kept step =
     ∙ ap (λ z. old ++ F z) (sym (take-map_more h xs i d l))
 
 -- the same, where the element was read as x
-pub joined_read : {A B C : Type 0} (F : List B → List C) → ((xs ys : List B) → F (xs ++ ys) ≡ F xs ++ F ys) → (h : A → B) (old now new : List C) (xs : List A) (i : ℕ) (x : A) → x ≡ get_or xs i x → i < length xs
+pub joined_read : {A B C : Type 0} (F : List B → List C) → ((xs ys : List B) → F (xs ++ ys) ≡ F xs ++ F ys)
+    → (h : A → B) (old now new : List C) (xs : List A) (i : ℕ) (x : A) → x ≡ get_or xs i x → i < length xs
     → now ≡ old ++ F (take i (map h xs)) → new ≡ now ++ F (h x ∷ []) → new ≡ old ++ F (take (i + 1) (map h xs))
 joined_read F parts h old now new xs i x e l kept step =
     joined_more F parts h old now new xs i x l kept (step ∙ ap (λ y. now ++ F (h y ∷ [])) e)
 
-some_map : {A B : Type 0} (b : Bool) (h : A → B) (x : A) (r : Option A) → cond b (Some (h x)) (option_map h r) ≡ option_map h (cond b (Some x) r)
+some_map : {A B : Type 0} (b : Bool) (h : A → B) (x : A) (r : Option A) → cond b (Some (h x)) (option_map h r)
+    ≡ option_map h (cond b (Some x) r)
 some_map true h x r = refl
 some_map false h x r = refl
 

@@ -16,7 +16,8 @@ abbrev pub spaced_on : Bool → Bool → List FeatureValue → List ℕ
 spaced_on include_tag deepen_relative features = spaced (texts_on include_tag deepen_relative features)
 
 pub spaced_on-append : (include_tag deepen_relative : Bool) (xs ys : List FeatureValue)
-    → spaced_on include_tag deepen_relative (xs ++ ys) ≡ spaced_on include_tag deepen_relative xs ++ spaced_on include_tag deepen_relative ys
+    → spaced_on include_tag deepen_relative (xs ++ ys) ≡ spaced_on include_tag deepen_relative xs
+    ++ spaced_on include_tag deepen_relative ys
 spaced_on-append i d xs ys =
     ap (λ z. spaced (map feature_text z)) (filter-append (is_on i d) xs ys)
     ∙ ap spaced (map-append feature_text (filter (is_on i d) xs) (filter (is_on i d) ys))
@@ -28,14 +29,16 @@ spaced_joined x [] = ap (λ z. 32 ∷ z) (append-nil x)
 spaced_joined x (y ∷ ys) = ap (λ z. 32 ∷ x ++ z) (spaced_joined y ys)
 
 -- a blank alone, where no text is there
-pub blank_alone : (xs : List (List ℕ)) (text : List ℕ) (n : ℕ) → n ≡ length text → true ≡ (n == 0) → text ≡ spaced xs → 32 ∷ [] ≡ behind_blank xs
+pub blank_alone : (xs : List (List ℕ)) (text : List ℕ) (n : ℕ) → n ≡ length text → true ≡ (n == 0) → text ≡ spaced xs
+    → 32 ∷ [] ≡ behind_blank xs
 blank_alone [] text n len h e = refl
 blank_alone (x ∷ xs) text n len h e =
     let more : n ≡ length (x ++ spaced xs) + 1 = len ∙ ap length e ∙ omega arith in
     grind (arith, nat_tests)
 
 -- else each text comes after its blank
-pub blanks_joined : (xs : List (List ℕ)) (text : List ℕ) (n : ℕ) → n ≡ length text → false ≡ (n == 0) → text ≡ spaced xs → text ≡ behind_blank xs
+pub blanks_joined : (xs : List (List ℕ)) (text : List ℕ) (n : ℕ) → n ≡ length text → false ≡ (n == 0) → text ≡ spaced xs
+    → text ≡ behind_blank xs
 blanks_joined [] text n len h e =
     let none : n ≡ 0 = len ∙ ap length e in
     let t : (n == 0) ≡ true = ap (λ m. m == 0) none in

@@ -55,7 +55,8 @@ fit-map [] = refl
 fit-map (m ∷ ms) = ap (λ b. message_fits m && b) (fit-map ms)
 
 -- what the transport says of the messages
-pub sends_values : (old new : Reading) (ms : List Message) (r : Result (Unit {0}) Error) → Sends old new (all_fit ms) (texts_of (request_frames ms)) r
+pub sends_values : (old new : Reading) (ms : List Message) (r : Result (Unit {0}) Error)
+    → Sends old new (all_fit ms) (texts_of (request_frames ms)) r
     → Sends old new (list_all value_fits (map message_value ms)) (texts_of (map value_frame (map message_value ms))) r
 sends_values old new ms r h =
     subst (λ f. Sends old new f (texts_of (map value_frame (map message_value ms))) r) (fit-map ms)
@@ -63,7 +64,8 @@ sends_values old new ms r h =
 
 -- the features that are sent
 pub sent_features-append : (xs ys : List FeatureValue) → sent_features (xs ++ ys) ≡ sent_features xs ++ sent_features ys
-sent_features-append xs ys = ap (map feature_text) (filter-append has_value xs ys) ∙ map-append feature_text (filter has_value xs) (filter has_value ys)
+sent_features-append xs ys = ap (map feature_text) (filter-append has_value xs ys)
+    ∙ map-append feature_text (filter has_value xs) (filter has_value ys)
 
 -- the texts of lines
 pub texts-append : (xs ys : List (List ℕ)) → map text (xs ++ ys) ≡ map text xs ++ map text ys
@@ -80,7 +82,8 @@ some_arguments [] h = absurd (omega arith)
 some_arguments (a ∷ more) h = refl
 
 -- a have, or `done`, is an argument
-pub any_argument : (lines haves : List (List ℕ)) (done : Bool) → (done ≡ false → 0 < length haves) → 0 < length (fetch_arguments lines haves done)
+pub any_argument : (lines haves : List (List ℕ)) (done : Bool) → (done ≡ false → 0 < length haves)
+    → 0 < length (fetch_arguments lines haves done)
 any_argument lines haves true h = omega (arith, length-append lines (haves ++ done_line ∷ []), length-append haves (done_line ∷ []))
 any_argument lines haves false h = omega (arith, length-append lines (haves ++ []), length-append haves [], h refl)
 
@@ -89,11 +92,14 @@ regroup : {A : Type 0} (f d x y z e : List A) → f ++ d ++ (x ++ (y ++ (z ++ e)
 regroup f d x y z e = simp append_assoc
 
 -- the messages of a fetch, part by part
-pub command_joined : (front behind : List MessageValue) (features lines haves : List (List ℕ)) (done : Bool) → (done ≡ false → 0 < length haves)
+pub command_joined : (front behind : List MessageValue) (features lines haves : List (List ℕ)) (done : Bool)
+    → (done ≡ false → 0 < length haves)
     → front ≡ map text (command_lines (codes "fetch") features) ++ delimiter ∷ [] → behind ≡ map text (done_lines done) ++ flush ∷ []
     → front ++ (map text lines ++ (map text haves ++ behind)) ≡ command_values (codes "fetch") features (fetch_arguments lines haves done)
 command_joined front behind features lines haves done some e1 e2 =
     let head = map text (command_lines (codes "fetch") features) in
     let parts = texts-append lines (haves ++ done_lines done) ∙ ap (λ t. map text lines ++ t) (texts-append haves (done_lines done)) in
-    let arguments = ap (λ t. delimiter ∷ t) (sym parts) ∙ some_arguments (fetch_arguments lines haves done) (any_argument lines haves done some) in
-    rw (e1, e2) (regroup head (delimiter ∷ []) (map text lines) (map text haves) (map text (done_lines done)) (flush ∷ []) ∙ ap (λ t. head ++ t ++ flush ∷ []) arguments)
+    let arguments = ap (λ t. delimiter ∷ t) (sym parts)
+    ∙ some_arguments (fetch_arguments lines haves done) (any_argument lines haves done some) in
+    rw (e1, e2) (regroup head (delimiter ∷ []) (map text lines) (map text haves) (map text (done_lines done)) (flush ∷ [])
+    ∙ ap (λ t. head ++ t ++ flush ∷ []) arguments)

@@ -1,4 +1,5 @@
--- The commands of version 2, and what a client asks for of a server by itself (gitprotocol-v2, "Command Request", "ls-refs", "fetch"; gitprotocol-capabilities).
+-- The commands of version 2, and what a client asks for of a server by itself (gitprotocol-v2, "Command Request", "ls-refs", "fetch";
+-- gitprotocol-capabilities).
 use Rattle.std.specs.Prelude.{ℕ, Bool, true, if◌then◌else◌, List, [], ◌∷◌, ◌++◌, Option, Some, None, Vec, map, filter, nat_eq, codes}
 use Rattle.std.specs.Option.{option_copied}
 use Rattle.std.specs.Borrow.{Bor}

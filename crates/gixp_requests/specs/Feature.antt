@@ -1,4 +1,5 @@
--- A feature that a request asks for, as plain data and as text (gitprotocol-v2, "Command Request"; gitprotocol-pack, "Packfile Negotiation").
+-- A feature that a request asks for, as plain data and as text (gitprotocol-v2, "Command Request"; gitprotocol-pack, "Packfile
+-- Negotiation").
 use Rattle.std.specs.Prelude.{ℕ, Bool, List, Option, String, map}
 use Rattle.std.specs.Option.{option_map}
 use Rattle.std.specs.List.{list_any}

@@ -1,4 +1,5 @@
--- What a client asks for of what a server offers, and what it may ask for (gitprotocol-v2, "Capability Advertisement", "Command Request"; gitprotocol-capabilities).
+-- What a client asks for of what a server offers, and what it may ask for (gitprotocol-v2, "Capability Advertisement", "Command
+-- Request"; gitprotocol-capabilities).
 use Rattle.std.specs.Prelude.{◌≡◌, ℕ, Bool, false, not, ◌&&◌, ◌||◌, ⊤, if◌then◌else◌, List, [], Option, Some, None, Result, Ok, Err, map, filter, find, nat_eq, codes, unwrap_or}
 use Rattle.std.specs.List.{list_any, starts_with}
 use Rattle.std.specs.Str.{bytes_eq}
@@ -91,9 +92,11 @@ abbrev pub refusal_from : Command → Option (List ℕ) → Option FeatureValue 
 refusal_from command (Some argument) f = Some (bad_argument_of (command_name command) argument)
 refusal_from command None f = feature_refusal command f
 
-abbrev pub validation : TableValue → Command → Protocol → List CapabilityValue → List (List ℕ) → List FeatureValue → Option ValidationRefusal
+abbrev pub validation : TableValue → Command → Protocol → List CapabilityValue → List (List ℕ) → List FeatureValue
+    → Option ValidationRefusal
 validation table command version capabilities arguments features =
-    refusal_from command (find (bad_argument (prefixes_of table command)) arguments) (find (bad_feature command version capabilities) features)
+    refusal_from command (find (bad_argument (prefixes_of table command)) arguments)
+    (find (bad_feature command version capabilities) features)
 
 -- a copy of an argument takes memory, and nothing else does
 abbrev pub IsRefusedBy : ValidationRefusal → Error → Type 0

@@ -29,7 +29,8 @@ whole_parts : (v w : AnswerValue) (p q : Pieces) → whole v p ≡ whole w q →
 whole_parts v w p q h = (cc, cc)
 
 -- it ends here
-here : (v : Protocol) (a : Expected) (before : List AnswerItem) (p : Pieces) (value : AnswerValue) (rest : Pieces) (pack : Bool) → ends a before (next_of v p) ≡ Some pack
+here : (v : Protocol) (a : Expected) (before : List AnswerItem) (p : Pieces) (value : AnswerValue) (rest : Pieces) (pack : Bool)
+    → ends a before (next_of v p) ≡ Some pack
     → whole (said_in before pack) p ≡ whole value rest → Shortest v a before p value rest
 here v a before p value rest pack e h =
     let parts = whole_parts (said_in before pack) value p rest h in
@@ -44,8 +45,10 @@ here v a before p value rest pack e h =
     }
 
 -- it ends after one more piece
-further : (v : Protocol) (a : Expected) (before : List AnswerItem) (x : Piece) (p : Pieces) (value : AnswerValue) (rest : Pieces) → ends a before (next_of v (with_piece x p)) ≡ None
-    → Shortest v a (items_behind (x ∷ []) before) p value rest → ((ps : List Piece) → items_behind (x ∷ ps) before ≡ items_behind ps (items_behind (x ∷ []) before))
+further : (v : Protocol) (a : Expected) (before : List AnswerItem) (x : Piece) (p : Pieces) (value : AnswerValue) (rest : Pieces)
+    → ends a before (next_of v (with_piece x p)) ≡ None
+    → Shortest v a (items_behind (x ∷ []) before) p value rest
+    → ((ps : List Piece) → items_behind (x ∷ ps) before ≡ items_behind ps (items_behind (x ∷ []) before))
     → ((ps : List Piece) → AreStops v ps → AreStops v (x ∷ ps))
     → Shortest v a before (with_piece x p) value rest
 further v a before x p value rest e h s m = record {
@@ -72,77 +75,98 @@ further v a before x p value rest e h s m = record {
         (ap (λ i. ends a i (next_of v (front (next ∷ more) rest))) (s ys) ∙ one)
 
 -- it ends here, or further on
-step : (v : Protocol) (a : Expected) (before : List AnswerItem) (p : Pieces) (longer : Found) (value : AnswerValue) (rest : Pieces) (o : Option Bool) → ends a before (next_of v p) ≡ o
-    → unless_ends o before p longer ≡ whole value rest → (ends a before (next_of v p) ≡ None → longer ≡ whole value rest → Shortest v a before p value rest) → Shortest v a before p value rest
+step : (v : Protocol) (a : Expected) (before : List AnswerItem) (p : Pieces) (longer : Found) (value : AnswerValue) (rest : Pieces)
+    (o : Option Bool) → ends a before (next_of v p) ≡ o
+    → unless_ends o before p longer ≡ whole value rest → (ends a before (next_of v p) ≡ None → longer ≡ whole value rest
+    → Shortest v a before p value rest) → Shortest v a before p value rest
 step v a before p longer value rest (Some pack) e h f = here v a before p value rest pack e h
 step v a before p longer value rest None e h f = f e h
 
 -- a mark that stops, or one that is refused
-mark_step : (v : Protocol) (a : Expected) (before : List AnswerItem) (kind : MessageKind) (p : Pieces) (longer : Found) (value : AnswerValue) (rest : Pieces) (b : Bool) → is_stop v kind ≡ b
+mark_step : (v : Protocol) (a : Expected) (before : List AnswerItem) (kind : MessageKind) (p : Pieces) (longer : Found)
+    (value : AnswerValue) (rest : Pieces) (b : Bool) → is_stop v kind ≡ b
     → next_of v (with_piece (mark kind) p) ≡ cond b (stops kind p) (refuses unexpected_frame)
     → cond b (unless_ends (ends a before (stops kind p)) before (with_piece (mark kind) p) longer)
-    (unless_ends (ends a before (refuses unexpected_frame)) before (with_piece (mark kind) p) (refused (by_reader unexpected_frame))) ≡ whole value rest
-    → (is_stop v kind ≡ true → ends a before (next_of v (with_piece (mark kind) p)) ≡ None → longer ≡ whole value rest → Shortest v a before (with_piece (mark kind) p) value rest)
+    (unless_ends (ends a before (refuses unexpected_frame)) before (with_piece (mark kind) p) (refused (by_reader unexpected_frame)))
+    ≡ whole value rest
+    → (is_stop v kind ≡ true → ends a before (next_of v (with_piece (mark kind) p)) ≡ None → longer ≡ whole value rest
+    → Shortest v a before (with_piece (mark kind) p) value rest)
     → Shortest v a before (with_piece (mark kind) p) value rest
 mark_step v a before kind p longer value rest true i n h f =
     step v a before (with_piece (mark kind) p) longer value rest (ends a before (stops kind p)) (ap (ends a before) n) h (f i)
 mark_step v a before kind p longer value rest false i n h f =
-    step v a before (with_piece (mark kind) p) (refused (by_reader unexpected_frame)) value rest (ends a before (refuses unexpected_frame)) (ap (ends a before) n) h (λ e k. cc)
+    step v a before (with_piece (mark kind) p) (refused (by_reader unexpected_frame)) value rest
+    (ends a before (refuses unexpected_frame)) (ap (ends a before) n) h (λ e k. cc)
 
-found_from : (v : Protocol) (a : Expected) (ps : List Piece) (end : Refusal) (before : List AnswerItem) (value : AnswerValue) (rest : Pieces) → beginnings_from v a ps end before ≡ whole value rest
+found_from : (v : Protocol) (a : Expected) (ps : List Piece) (end : Refusal) (before : List AnswerItem) (value : AnswerValue)
+    (rest : Pieces) → beginnings_from v a ps end before ≡ whole value rest
     → Shortest v a before (record { list = ps; end = end }) value rest
 found_from v a [] end before value rest h =
     step v a before (no_pieces end) (refused (from_reader end)) value rest (ends a before (refuses end)) refl h (λ e k. cc)
 found_from v a (line text ∷ ps) end before value rest h =
     let p : Pieces = record { list = ps; end = end } in
-    step v a before (with_piece (line text) p) (beginnings_from v a ps end (line_item text ∷ before)) value rest (ends a before (gives text p)) refl h
-    (λ e k. further v a before (line text) p value rest e (found_from v a ps end (line_item text ∷ before) value rest k) (λ _. refl) (λ _ s. s))
+    step v a before (with_piece (line text) p) (beginnings_from v a ps end (line_item text ∷ before)) value rest
+    (ends a before (gives text p)) refl h
+    (λ e k. further v a before (line text) p value rest e (found_from v a ps end (line_item text ∷ before) value rest k) (λ _. refl)
+    (λ _ s. s))
 found_from v a (mark kind ∷ ps) end before value rest h =
     let p : Pieces = record { list = ps; end = end } in
     mark_step v a before kind p (beginnings_from v a ps end (stopped ∷ before)) value rest (is_stop v kind) refl refl h
-    (λ i e k. further v a before (mark kind) p value rest e (found_from v a ps end (stopped ∷ before) value rest k) (λ _. refl) (λ _ s. (i, s)))
+    (λ i e k. further v a before (mark kind) p value rest e (found_from v a ps end (stopped ∷ before) value rest k) (λ _. refl)
+    (λ _ s. (i, s)))
 
 -- an answer that is found is the shortest beginning that ends one
-pub shortest_found : (v : Protocol) (a : Expected) (p : Pieces) (value : AnswerValue) (rest : Pieces) → v1_answer v a p ≡ whole value rest → IsShortest v a p value rest
+pub shortest_found : (v : Protocol) (a : Expected) (p : Pieces) (value : AnswerValue) (rest : Pieces)
+    → v1_answer v a p ≡ whole value rest → IsShortest v a p value rest
 shortest_found v a p value rest h =
     let x = found_from v a p.list p.end [] value rest h in
     record { taken = x.taken; pack = x.pack; split = x.split; stops = x.stops; ended = x.ended; said = x.said; shortest = x.shortest }
 
 -- ---- and back
 
-mark_ended : (a : Expected) (before : List AnswerItem) (kind : MessageKind) (p : Pieces) (longer : Found) (pack b : Bool) → ends a before (cond b (stops kind p) (refuses unexpected_frame)) ≡ Some pack
+mark_ended : (a : Expected) (before : List AnswerItem) (kind : MessageKind) (p : Pieces) (longer : Found) (pack b : Bool)
+    → ends a before (cond b (stops kind p) (refuses unexpected_frame)) ≡ Some pack
     → cond b (unless_ends (ends a before (stops kind p)) before (with_piece (mark kind) p) longer)
-    (unless_ends (ends a before (refuses unexpected_frame)) before (with_piece (mark kind) p) (refused (by_reader unexpected_frame))) ≡ whole (said_in before pack) (with_piece (mark kind) p)
+    (unless_ends (ends a before (refuses unexpected_frame)) before (with_piece (mark kind) p) (refused (by_reader unexpected_frame)))
+    ≡ whole (said_in before pack) (with_piece (mark kind) p)
 mark_ended a before kind p longer pack true h = rw h refl
 mark_ended a before kind p longer pack false h = rw h refl
 
 -- where an answer ends, it is found
-ended_here : (v : Protocol) (a : Expected) (list : List Piece) (end : Refusal) (before : List AnswerItem) (pack : Bool) → ends a before (next_from v list end) ≡ Some pack
+ended_here : (v : Protocol) (a : Expected) (list : List Piece) (end : Refusal) (before : List AnswerItem) (pack : Bool)
+    → ends a before (next_from v list end) ≡ Some pack
     → beginnings_from v a list end before ≡ whole (said_in before pack) (record { list = list; end = end })
 ended_here v a [] end before pack h = rw h refl
 ended_here v a (line text ∷ ps) end before pack h = rw h refl
 ended_here v a (mark kind ∷ ps) end before pack h =
     mark_ended a before kind (record { list = ps; end = end }) (beginnings_from v a ps end (stopped ∷ before)) pack (is_stop v kind) h
 
-mark_passed : (a : Expected) (before : List AnswerItem) (kind : MessageKind) (p x : Pieces) (longer other all : Found) (b : Bool) → b ≡ true → ends a before (cond b (stops kind p) (refuses unexpected_frame)) ≡ None
+mark_passed : (a : Expected) (before : List AnswerItem) (kind : MessageKind) (p x : Pieces) (longer other all : Found) (b : Bool)
+    → b ≡ true → ends a before (cond b (stops kind p) (refuses unexpected_frame)) ≡ None
     → longer ≡ all → cond b (unless_ends (ends a before (stops kind p)) before x longer) other ≡ all
 mark_passed a before kind p x longer other all true i n h = rw n h
 mark_passed a before kind p x longer other all false i n h = cc
 
 -- where none of its beginnings ends one, a beginning that does is found
-found_shortest : (v : Protocol) (a : Expected) (taken : List Piece) (rest : Pieces) (before : List AnswerItem) (pack : Bool) → AreStops v taken
+found_shortest : (v : Protocol) (a : Expected) (taken : List Piece) (rest : Pieces) (before : List AnswerItem) (pack : Bool)
+    → AreStops v taken
     → ends a (items_behind taken before) (next_of v rest) ≡ Some pack
-    → ((shorter : List Piece) (next : Piece) (more : List Piece) → taken ≡ shorter ++ next ∷ more → ends a (items_behind shorter before) (next_of v (front (next ∷ more) rest)) ≡ None)
+    → ((shorter : List Piece) (next : Piece) (more : List Piece) → taken ≡ shorter ++ next ∷ more
+    → ends a (items_behind shorter before) (next_of v (front (next ∷ more) rest)) ≡ None)
     → beginnings_from v a (taken ++ rest.list) rest.end before ≡ whole (said_in (items_behind taken before) pack) rest
 found_shortest v a [] rest before pack s e f = ended_here v a rest.list rest.end before pack e
 found_shortest v a (line text ∷ ts) rest before pack s e f =
     let none : ends a before (gives text (front ts rest)) ≡ None = f [] (line text) ts refl in
-    rw none (found_shortest v a ts rest (line_item text ∷ before) pack s e (λ shorter next more k. f (line text ∷ shorter) next more (ap (λ l. line text ∷ l) k)))
+    rw none (found_shortest v a ts rest (line_item text ∷ before) pack s e
+    (λ shorter next more k. f (line text ∷ shorter) next more (ap (λ l. line text ∷ l) k)))
 found_shortest v a (mark kind ∷ ts) rest before pack s e f =
-    mark_passed a before kind (front ts rest) (front (mark kind ∷ ts) rest) (beginnings_from v a (ts ++ rest.list) rest.end (stopped ∷ before)) _ _ (is_stop v kind) s.0 (f [] (mark kind) ts refl)
-    (found_shortest v a ts rest (stopped ∷ before) pack s.1 e (λ shorter next more k. f (mark kind ∷ shorter) next more (ap (λ l. mark kind ∷ l) k)))
+    mark_passed a before kind (front ts rest) (front (mark kind ∷ ts) rest)
+    (beginnings_from v a (ts ++ rest.list) rest.end (stopped ∷ before)) _ _ (is_stop v kind) s.0 (f [] (mark kind) ts refl)
+    (found_shortest v a ts rest (stopped ∷ before) pack s.1 e
+    (λ shorter next more k. f (mark kind ∷ shorter) next more (ap (λ l. mark kind ∷ l) k)))
 
 -- the shortest beginning that ends an answer is found
-pub shortest_read : (v : Protocol) (a : Expected) (p : Pieces) (value : AnswerValue) (rest : Pieces) → IsShortest v a p value rest → v1_answer v a p ≡ whole value rest
+pub shortest_read : (v : Protocol) (a : Expected) (p : Pieces) (value : AnswerValue) (rest : Pieces) → IsShortest v a p value rest
+    → v1_answer v a p ≡ whole value rest
 shortest_read v a p value rest h =
     ap (v1_answer v a) h.split ∙ found_shortest v a h.taken rest [] h.pack h.stops h.ended h.shortest ∙ ap (λ x. whole x rest) (sym h.said)

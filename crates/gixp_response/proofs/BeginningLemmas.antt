@@ -63,7 +63,8 @@ amid-start v a old now e =
     }
 
 -- where nothing else ends it, only what comes next may
-goes_on : (a : Expected) (before : List AnswerItem) (next : Next) → ends_by_nak a before ≡ false → last_two_are is_stopped before ≡ false → ends a before next ≡ ends_before before next
+goes_on : (a : Expected) (before : List AnswerItem) (next : Next) → ends_by_nak a before ≡ false
+    → last_two_are is_stopped before ≡ false → ends a before next ≡ ends_before before next
 goes_on a before next n s = rw (n, s) refl
 
 either_whole : (b : Bool) (f g h : Found) → f ≡ h → g ≡ h → cond b f g ≡ h
@@ -71,20 +72,25 @@ either_whole true f g h p q = p
 either_whole false f g h p q = q
 
 -- a beginning that ends an answer, whatever comes next
-ended_is : (v : Protocol) (a : Expected) (list : List Piece) (end : Refusal) (before : List AnswerItem) (pack : Bool) → ((next : Next) → ends a before next ≡ Some pack)
+ended_is : (v : Protocol) (a : Expected) (list : List Piece) (end : Refusal) (before : List AnswerItem) (pack : Bool)
+    → ((next : Next) → ends a before next ≡ Some pack)
     → beginnings_from v a list end before ≡ whole (said_in before pack) (record { list = list; end = end })
 ended_is v a [] end before pack h = rw (h (refuses end)) refl
 ended_is v a (line text ∷ ps) end before pack h = rw (h (gives text (record { list = ps; end = end }))) refl
 ended_is v a (mark kind ∷ ps) end before pack h =
-    either_whole (is_stop v kind) _ _ _ (rw (h (stops kind (record { list = ps; end = end }))) refl) (rw (h (refuses unexpected_frame)) refl)
+    either_whole (is_stop v kind) _ _ _ (rw (h (stops kind (record { list = ps; end = end }))) refl)
+    (rw (h (refuses unexpected_frame)) refl)
 
 -- one more stop
-after_stop : (v : Protocol) (a : Expected) (before : List AnswerItem) (kind : MessageKind) (q : Pieces) → is_stop v kind ≡ true → ends_by_nak a before ≡ false → last_two_are is_stopped before ≡ false
+after_stop : (v : Protocol) (a : Expected) (before : List AnswerItem) (kind : MessageKind) (q : Pieces) → is_stop v kind ≡ true
+    → ends_by_nak a before ≡ false → last_two_are is_stopped before ≡ false
     → longer_of v a before (with_piece (mark kind) q) ≡ longer_of v a (stopped ∷ before) q
 after_stop v a before kind q s n t = rw (s, n, t) refl
 
-read_stop : (v : Protocol) (a : Expected) (before : List AnswerItem) (old mid new : Reading) (h : Read v a before old mid) → ends_by_nak a before ≡ false → last_two_are is_stopped before ≡ false
-    → (k : (kind : MessageKind) × TakesStop mid new kind) → Going (v1_answer v a) (longer_of v a (stopped ∷ before)) (h.taken ++ mark k.0 ∷ []) old new
+read_stop : (v : Protocol) (a : Expected) (before : List AnswerItem) (old mid new : Reading) (h : Read v a before old mid)
+    → ends_by_nak a before ≡ false → last_two_are is_stopped before ≡ false
+    → (k : (kind : MessageKind) × TakesStop mid new kind)
+    → Going (v1_answer v a) (longer_of v a (stopped ∷ before)) (h.taken ++ mark k.0 ∷ []) old new
 read_stop v a before old mid new h n t k =
     let stop : is_stop v k.0 ≡ true = subst (λ w. is_stop w k.0 ≡ true) h.running.version k.1.is_stop in
     going-turn (v1_answer v a) _ (longer_of v a (stopped ∷ before)) (h.taken ++ mark k.0 ∷ []) old new
@@ -92,7 +98,8 @@ read_stop v a before old mid new h n t k =
     (λ q. after_stop v a before k.0 q stop n t)
 
 -- a stop is passed over
-pub amid-stop : (v : Protocol) (a : Expected) (answer : AnswerValue) (came_ready : Bool) (old mid new last : Reading) → Amid v a answer came_ready false old mid → AtStop mid new → last ≡ reset_to v new
+pub amid-stop : (v : Protocol) (a : Expected) (answer : AnswerValue) (came_ready : Bool) (old mid new last : Reading)
+    → Amid v a answer came_ready false old mid → AtStop mid new → last ≡ reset_to v new
     → Amid v a answer came_ready true old last
 amid-stop v a answer came_ready old mid new last h k e =
     let t = stop_taken v mid new h.read.running k in
@@ -108,7 +115,8 @@ amid-stop v a answer came_ready old mid new last h k e =
       no_stops = sym h.stop_is;
     }
 
-ends_by_stops : (a : Expected) (before : List AnswerItem) → true ≡ last_is is_stopped before → (next : Next) → ends a (stopped ∷ before) next ≡ Some false
+ends_by_stops : (a : Expected) (before : List AnswerItem) → true ≡ last_is is_stopped before → (next : Next)
+    → ends a (stopped ∷ before) next ≡ Some false
 ends_by_stops a before e next = rw (← e) refl
 
 -- the versions that answer by beginnings
@@ -133,14 +141,17 @@ ends_bare v (inl e) at h = subst (λ x. EndsBare x at) (sym e) h
 ends_bare v (inr e) at h = subst (λ x. EndsBare x at) (sym e) h
 
 -- a second one ends the answer
-pub amid-stops : (v : Protocol) (earlier : IsEarlier v) (a : Expected) (answer : AnswerValue) (came_ready : Bool) (old mid new : Reading) → Amid v a answer came_ready true old mid → AtStop mid new
+pub amid-stops : (v : Protocol) (earlier : IsEarlier v) (a : Expected) (answer : AnswerValue) (came_ready : Bool)
+    (old mid new : Reading) → Amid v a answer came_ready true old mid → AtStop mid new
     → Answered (v1_answer v a) v old new answer
 amid-stops v earlier a answer came_ready old mid new h k =
     let t = stop_taken v mid new h.read.running k in
     let went = read_stop v a h.before old mid new h.read h.no_nak h.no_stops t in
     inl (subst (ReadsAnswer (v1_answer v a) v old new) (sym h.answer_is)
-    (going-whole (v1_answer v a) (longer_of v a (stopped ∷ h.before)) v _ old new (said_in h.before false) went (t.1.version ∙ h.read.running.version)
-    (ends_bare v earlier new.stopped (inr (t.1.stopped ∙ ap Some (only_flush v earlier t.0 (subst (λ x. is_stop x t.0 ≡ true) h.read.running.version t.1.is_stop)))))
+    (going-whole (v1_answer v a) (longer_of v a (stopped ∷ h.before)) v _ old new (said_in h.before false) went
+    (t.1.version ∙ h.read.running.version)
+    (ends_bare v earlier new.stopped (inr (t.1.stopped
+    ∙ ap Some (only_flush v earlier t.0 (subst (λ x. is_stop x t.0 ≡ true) h.read.running.version t.1.is_stop)))))
     (last_mark h.read.taken t.0 new.stopped t.1.stopped)
     (λ q. ended_is v a q.list q.end (stopped ∷ h.before) false (ends_by_stops a h.before h.stop_is))))
 
@@ -154,23 +165,28 @@ end_is : (r : Refusal) → is_at_end r ≡ true → r ≡ io UnexpectedEof
 end_is (io kind) h = end_kind kind h
 end_is _ h = cc
 
-ends_at_end : (a : Expected) (before : List AnswerItem) → ends_by_nak a before ≡ false → last_two_are is_stopped before ≡ false → false ≡ last_is is_stopped before
+ends_at_end : (a : Expected) (before : List AnswerItem) → ends_by_nak a before ≡ false → last_two_are is_stopped before ≡ false
+    → false ≡ last_is is_stopped before
     → ends a before (refuses (io UnexpectedEof)) ≡ Some false
 ends_at_end a before n t s = rw (n, t, ← s) refl
 
-mark_at_end : (b : Bool) (kind : MessageKind) (p : Pieces) → cond b (stops kind p) (refuses unexpected_frame) ≡ refuses (io UnexpectedEof) → ⊥
+mark_at_end : (b : Bool) (kind : MessageKind) (p : Pieces) → cond b (stops kind p) (refuses unexpected_frame)
+    ≡ refuses (io UnexpectedEof) → ⊥
 mark_at_end true kind p h = cc
 mark_at_end false kind p h = cc
 
 -- the end of the pieces, not right after a stop
-at_end_is : (v : Protocol) (a : Expected) (before : List AnswerItem) (list : List Piece) (end : Refusal) → ends a before (refuses (io UnexpectedEof)) ≡ Some false
-    → next_from v list end ≡ refuses (io UnexpectedEof) → beginnings_from v a list end before ≡ whole (said_in before false) (no_pieces (io UnexpectedEof))
+at_end_is : (v : Protocol) (a : Expected) (before : List AnswerItem) (list : List Piece) (end : Refusal)
+    → ends a before (refuses (io UnexpectedEof)) ≡ Some false
+    → next_from v list end ≡ refuses (io UnexpectedEof) → beginnings_from v a list end before
+    ≡ whole (said_in before false) (no_pieces (io UnexpectedEof))
 at_end_is v a before [] end e h = let s : end ≡ io UnexpectedEof = cc in rw (s, e) refl
 at_end_is v a before (line t ∷ ps) end e h = cc
 at_end_is v a before (mark kind ∷ ps) end e h = absurd (mark_at_end (is_stop v kind) kind (record { list = ps; end = end }) h)
 
 -- after pieces of which the stream's end comes next nothing stands
-nothing_left : (v : Protocol) (list : List Piece) (end : Refusal) → next_from v list end ≡ refuses (io UnexpectedEof) → record { list = list; end = end } ≡ no_pieces (io UnexpectedEof)
+nothing_left : (v : Protocol) (list : List Piece) (end : Refusal) → next_from v list end ≡ refuses (io UnexpectedEof)
+    → record { list = list; end = end } ≡ no_pieces (io UnexpectedEof)
 nothing_left v [] end h = let s : end ≡ io UnexpectedEof = cc in rw s refl
 nothing_left v (line t ∷ ps) end h = cc
 nothing_left v (mark kind ∷ ps) end h = absurd (mark_at_end (is_stop v kind) kind (record { list = ps; end = end }) h)
@@ -186,7 +202,8 @@ took_end v w taken (Some p) (Some q) n i h t =
     let end : q ≡ no_pieces (io UnexpectedEof) = nothing_left w q.list q.end t.1 in
     (no_pieces (io UnexpectedEof), t.0, h.2 ∙ ap (front taken) (sym same ∙ end))
 
-known_end : (v w : Protocol) (found k : Pieces → Found) (taken : List Piece) (o m n : Option Pieces) (value : AnswerValue) (r : Refusal) → w ≡ v → ((q : Pieces) → found (front taken q) ≡ k q)
+known_end : (v w : Protocol) (found k : Pieces → Found) (taken : List Piece) (o m n : Option Pieces) (value : AnswerValue) (r : Refusal)
+    → w ≡ v → ((q : Pieces) → found (front taken q) ≡ k q)
     → ((q : Pieces) → next_of v q ≡ refuses r → k q ≡ whole value (no_pieces r))
     → IfSome o (λ p. (q : Pieces) × (m ≡ Some q) × (p ≡ front taken q))
     → IfSome m (λ p. (n ≡ Some (no_pieces r)) × (next_of w p ≡ refuses r))
@@ -205,7 +222,8 @@ and_parts false y h = cc
 fault_is_no_end : (old new : Reading) → Faults old new (io UnexpectedEof) → ⊥
 fault_is_no_end old new f = let x = f.fault.0 in cc
 
-end_answers : (v : Protocol) (earlier : IsEarlier v) (a : Expected) (before : List AnswerItem) (old mid new : Reading) → Read v a before old mid → ends a before (refuses (io UnexpectedEof)) ≡ Some false
+end_answers : (v : Protocol) (earlier : IsEarlier v) (a : Expected) (before : List AnswerItem) (old mid new : Reading)
+    → Read v a before old mid → ends a before (refuses (io UnexpectedEof)) ≡ Some false
     → last_is is_stopped before ≡ false → Fails mid new (io UnexpectedEof) → Answered (v1_answer v a) v old new (said_in before false)
 end_answers v earlier a before old mid new h e l (inl t) = inl (record {
   taken = h.taken;
@@ -213,7 +231,8 @@ end_answers v earlier a before old mid new h e l (inl t) = inl (record {
   behind = no_pieces (io UnexpectedEof);
   said = h.going.same (no_pieces (io UnexpectedEof)) ∙ at_end_is v a before [] (io UnexpectedEof) e refl;
   at = t.stopped ∙ sym (h.last l);
-  answer = known_end v mid.version (v1_answer v a) (longer_of v a before) h.taken old.to_come mid.to_come new.to_come (said_in before false) (io UnexpectedEof)
+  answer = known_end v mid.version (v1_answer v a) (longer_of v a before) h.taken old.to_come mid.to_come new.to_come
+      (said_in before false) (io UnexpectedEof)
       h.running.version h.going.same (λ q n. at_end_is v a before q.list q.end e n) h.going.took t.next;
   running = λ p. cc;
   stopped = ends_bare v earlier new.stopped (inl t.stopped);
@@ -237,7 +256,8 @@ end_answers v earlier a before old mid new h e l (inr (inr t)) =
     })
 
 -- the stream's end, not right after a stop
-pub amid-end : (v : Protocol) (earlier : IsEarlier v) (a : Expected) (answer : AnswerValue) (came_ready behind_stop : Bool) (old mid new : Reading) (r : ReadError) → Amid v a answer came_ready behind_stop old mid
+pub amid-end : (v : Protocol) (earlier : IsEarlier v) (a : Expected) (answer : AnswerValue) (came_ready behind_stop : Bool)
+    (old mid new : Reading) (r : ReadError) → Amid v a answer came_ready behind_stop old mid
     → Fails mid new (refusal_of r) → true ≡ (is_at_end (refusal_of r) && not behind_stop) → Answered (v1_answer v a) v old new answer
 amid-end v earlier a answer came_ready behind_stop old mid new r h f t =
     let parts = and_parts (is_at_end (refusal_of r)) behind_stop (sym t) in
@@ -250,15 +270,19 @@ amid-end v earlier a answer came_ready behind_stop old mid new r h f t =
 no_end : (x : Bool) (y z : Bool) → z ≡ y → false ≡ (x && not z) → cond (x && not y) (Some false) None ≡ None
 no_end x y z e h = let s : (x && not y) ≡ false = ap (λ w. x && not w) (sym e) ∙ sym h in rw s refl
 
-mark_refused : (v : Protocol) (a : Expected) (before : List AnswerItem) (b : Bool) (kind : MessageKind) (p : Pieces) (f : Found) (r : Refusal)
+mark_refused : (v : Protocol) (a : Expected) (before : List AnswerItem) (b : Bool) (kind : MessageKind) (p : Pieces) (f : Found)
+    (r : Refusal)
     → ends a before (refuses unexpected_frame) ≡ None → cond b (stops kind p) (refuses unexpected_frame) ≡ refuses r
-    → cond b f (unless_ends (ends a before (refuses unexpected_frame)) before (with_piece (mark kind) p) (refused (by_reader unexpected_frame))) ≡ refused (from_reader r)
+    → cond b f (unless_ends (ends a before (refuses unexpected_frame)) before (with_piece (mark kind) p)
+    (refused (by_reader unexpected_frame))) ≡ refused (from_reader r)
 mark_refused v a before true kind p f r e h = cc
 mark_refused v a before false kind p f r e h = let s : unexpected_frame ≡ r = cc in rw (e, ← s) refl
 
 -- what the reader refuses next is refused where it doesn't end the answer
-refused_is : (v : Protocol) (a : Expected) (before : List AnswerItem) (list : List Piece) (end r : Refusal) → ends_by_nak a before ≡ false → last_two_are is_stopped before ≡ false
-    → ends_before before (refuses r) ≡ None → next_from v list end ≡ refuses r → beginnings_from v a list end before ≡ refused (from_reader r)
+refused_is : (v : Protocol) (a : Expected) (before : List AnswerItem) (list : List Piece) (end r : Refusal)
+    → ends_by_nak a before ≡ false → last_two_are is_stopped before ≡ false
+    → ends_before before (refuses r) ≡ None → next_from v list end ≡ refuses r → beginnings_from v a list end before
+    ≡ refused (from_reader r)
 refused_is v a before [] end r n t e h =
     let s : end ≡ r = cc in
     let none : ends a before (refuses r) ≡ None = goes_on a before (refuses r) n t ∙ e in
@@ -268,19 +292,24 @@ refused_is v a before (mark kind ∷ ps) end r n t e h =
     mark_refused v a before (is_stop v kind) kind (record { list = ps; end = end }) _ r (goes_on a before (refuses unexpected_frame) n t) h
 
 -- the reader's refusal, or what came from outside
-pub amid-fails : (plain : Bool) (v : Protocol) (a : Expected) (answer : AnswerValue) (came_ready behind_stop : Bool) (old mid new : Reading) (r : ReadError) (e : Error)
+pub amid-fails : (plain : Bool) (v : Protocol) (a : Expected) (answer : AnswerValue) (came_ready behind_stop : Bool)
+    (old mid new : Reading) (r : ReadError) (e : Error)
     → Amid v a answer came_ready behind_stop old mid → Fails mid new (refusal_of r) → false ≡ (is_at_end (refusal_of r) && not behind_stop)
-    → (plain ≡ true → IsPlain new (refusal_of r)) → answer_refusal e ≡ from_reader (refusal_of r) → AnswerFails (v1_answer v a) plain old new e
+    → (plain ≡ true → IsPlain new (refusal_of r)) → answer_refusal e ≡ from_reader (refusal_of r)
+    → AnswerFails (v1_answer v a) plain old new e
 amid-fails plain v a answer came_ready behind_stop old mid new r e h f t p is =
     going-fails plain (v1_answer v a) (longer_of v a h.before) v h.read.taken old mid new r e h.read.going h.read.running
-    (λ q n. refused_is v a h.before q.list q.end (refusal_of r) h.no_nak h.no_stops (no_end (is_at_end (refusal_of r)) (last_is is_stopped h.before) behind_stop h.stop_is t) n) f p is
+    (λ q n. refused_is v a h.before q.list q.end (refusal_of r) h.no_nak h.no_stops
+    (no_end (is_at_end (refusal_of r)) (last_is is_stopped h.before) behind_stop h.stop_is t) n) f p is
 
 -- a line that was peeked at is still to come
-known_shown : (a b : Option Pieces) (P : Pieces → Pieces → Type 0) → IfSome a (λ p. (q : Pieces) × (b ≡ Some p) × P p q) → IfSome a (λ p. b ≡ Some p)
+known_shown : (a b : Option Pieces) (P : Pieces → Pieces → Type 0) → IfSome a (λ p. (q : Pieces) × (b ≡ Some p) × P p q)
+    → IfSome a (λ p. b ≡ Some p)
 known_shown None b P h = tt
 known_shown (Some p) b P h = h.1
 
-took_same : (o m n : Option Pieces) (taken : List Piece) → IfSome o (λ p. (q : Pieces) × (m ≡ Some q) × (p ≡ front taken q)) → IfSome m (λ p. n ≡ Some p)
+took_same : (o m n : Option Pieces) (taken : List Piece) → IfSome o (λ p. (q : Pieces) × (m ≡ Some q) × (p ≡ front taken q))
+    → IfSome m (λ p. n ≡ Some p)
     → IfSome o (λ p. (q : Pieces) × (n ≡ Some q) × (p ≡ front taken q))
 took_same None m n taken h k = tt
 took_same (Some p) None n taken h k = absurd (let x = h.1 in cc)
@@ -288,7 +317,8 @@ took_same (Some p) (Some q) n taken h k =
     let same : q ≡ h.0 = let x = h.1 in cc in
     (q, k, h.2 ∙ ap (front taken) (sym same))
 
-read_shown : (v : Protocol) (a : Expected) (before : List AnswerItem) (old mid new : Reading) → Read v a before old mid → ShowsLine mid new → Read v a before old new
+read_shown : (v : Protocol) (a : Expected) (before : List AnswerItem) (old mid new : Reading) → Read v a before old mid
+    → ShowsLine mid new → Read v a before old new
 read_shown v a before old mid new h s = record {
   taken = h.taken;
   going = record {
@@ -311,13 +341,16 @@ peeked_taken mid new (Err e) p (inr (inl h)) = absurd (let x = h.stays.unpeeked 
 peeked_taken mid new (Err e) p (inr (inr h)) = absurd (let x = h.unpeeked in cc)
 
 -- another line begins the pack
-pack_is : (v : Protocol) (a : Expected) (before : List AnswerItem) (list : List Piece) (end : Refusal) (text : List ℕ) (rest : Pieces) → ends_by_nak a before ≡ false → last_two_are is_stopped before ≡ false
-    → line_item text ≡ other → next_from v list end ≡ gives text rest → beginnings_from v a list end before ≡ whole (said_in before true) (record { list = list; end = end })
+pack_is : (v : Protocol) (a : Expected) (before : List AnswerItem) (list : List Piece) (end : Refusal) (text : List ℕ) (rest : Pieces)
+    → ends_by_nak a before ≡ false → last_two_are is_stopped before ≡ false
+    → line_item text ≡ other → next_from v list end ≡ gives text rest → beginnings_from v a list end before
+    ≡ whole (said_in before true) (record { list = list; end = end })
 pack_is v a before list end text rest n t o h =
     let parts = line_is v list end text rest h in
     rw parts.0 (rw (n, t, o) refl)
 
-known_pack : (v w : Protocol) (found k : Pieces → Found) (taken : List Piece) (o m n : Option Pieces) (value : AnswerValue) (text : List ℕ) → w ≡ v → ((q : Pieces) → found (front taken q) ≡ k q)
+known_pack : (v w : Protocol) (found k : Pieces → Found) (taken : List Piece) (o m n : Option Pieces) (value : AnswerValue)
+    (text : List ℕ) → w ≡ v → ((q : Pieces) → found (front taken q) ≡ k q)
     → ((q r : Pieces) → next_of v q ≡ gives text r → k q ≡ whole value q)
     → IfSome o (λ p. (q : Pieces) × (m ≡ Some q) × (p ≡ front taken q))
     → IfSome m (λ p. (q : Pieces) × (n ≡ Some p) × (next_of w p ≡ gives text q))
@@ -329,7 +362,8 @@ known_pack v w found k taken (Some p) (Some q) n value text i s e h t =
     (q, t.1, ap found h.2 ∙ ap (λ x. found (front taken x)) (sym same) ∙ s q ∙ e q t.0 (ap (λ x. next_of x q) (sym i) ∙ t.2))
 
 -- in front of another line the pack begins
-pub amid-pack : (v : Protocol) (a : Expected) (answer : AnswerValue) (came_ready behind_stop : Bool) (old mid new : Reading) → Amid v a answer came_ready behind_stop old mid → ShowsLine mid new
+pub amid-pack : (v : Protocol) (a : Expected) (answer : AnswerValue) (came_ready behind_stop : Bool) (old mid new : Reading)
+    → Amid v a answer came_ready behind_stop old mid → ShowsLine mid new
     → line_item new.line ≡ other → Answered (v1_answer v a) v old new (record answer { pack = true })
 amid-pack v a answer came_ready behind_stop old mid new h s o =
     let shown = read_shown v a h.before old mid new h.read s in
@@ -342,8 +376,10 @@ amid-pack v a answer came_ready behind_stop old mid new h s o =
       said = h.read.going.same begun
           ∙ pack_is v a h.before (line new.line ∷ []) (io UnexpectedEof) new.line (no_pieces (io UnexpectedEof)) h.no_nak h.no_stops o refl;
       at = shown.running.stopped;
-      answer = known_pack v mid.version (v1_answer v a) (longer_of v a h.before) h.read.taken old.to_come mid.to_come new.to_come (said_in h.before true) new.line
-          h.read.running.version h.read.going.same (λ q r n. pack_is v a h.before q.list q.end new.line r h.no_nak h.no_stops o n) h.read.going.took s.next;
+      answer = known_pack v mid.version (v1_answer v a) (longer_of v a h.before) h.read.taken old.to_come mid.to_come new.to_come
+          (said_in h.before true) new.line
+          h.read.running.version h.read.going.same
+          (λ q r n. pack_is v a h.before q.list q.end new.line r h.no_nak h.no_stops o n) h.read.going.took s.next;
       running = λ _. shown.running.stopped;
       stopped = shown.running.stopped;
       version = shown.running.version;
@@ -358,12 +394,14 @@ said_is_stop : (s : Said) → is_stopped (item_said (Some s)) ≡ false
 said_is_stop (SaidAcknowledgement x) = refl
 said_is_stop (SaidUpdate x) = refl
 
-after_line : (v : Protocol) (a : Expected) (before : List AnswerItem) (text : List ℕ) (i : AnswerItem) (q : Pieces) → ends_by_nak a before ≡ false → last_two_are is_stopped before ≡ false → line_item text ≡ i
+after_line : (v : Protocol) (a : Expected) (before : List AnswerItem) (text : List ℕ) (i : AnswerItem) (q : Pieces)
+    → ends_by_nak a before ≡ false → last_two_are is_stopped before ≡ false → line_item text ≡ i
     → is_other i ≡ false → longer_of v a before (with_piece (line text) q) ≡ longer_of v a (i ∷ before) q
 after_line v a before text i q n t e o = rw (n, t, e, o) refl
 
 -- one more line
-read_line : (v : Protocol) (a : Expected) (before : List AnswerItem) (s : Said) (old mid new : Reading) → Read v a before old mid → ends_by_nak a before ≡ false → last_two_are is_stopped before ≡ false
+read_line : (v : Protocol) (a : Expected) (before : List AnswerItem) (s : Said) (old mid new : Reading) → Read v a before old mid
+    → ends_by_nak a before ≡ false → last_two_are is_stopped before ≡ false
     → TakesLine mid new → line_item new.line ≡ item_said (Some s) → Read v a (item_said (Some s) ∷ before) old new
 read_line v a before s old mid new h n t k e =
     let all = going-line (v1_answer v a) (longer_of v a before) v h.taken old mid new h.going h.running k in
@@ -379,11 +417,15 @@ read_line v a before s old mid new h n t k e =
 pub record Taken (v : Protocol) (a : Expected) (s : Said) (before : List AnswerItem) (old new : Reading) : Type 0 where
   pub read : Read v a (item_said (Some s) ∷ before) old new
 
-pub amid-line : (v : Protocol) (a : Expected) (answer : AnswerValue) (came_ready behind_stop : Bool) (s : Said) (old mid shown new : Reading) (r : Result Bool ReadError) (h : Amid v a answer came_ready behind_stop old mid)
+pub amid-line : (v : Protocol) (a : Expected) (answer : AnswerValue) (came_ready behind_stop : Bool) (s : Said)
+    (old mid shown new : Reading) (r : Result Bool ReadError) (h : Amid v a answer came_ready behind_stop old mid)
     → ShowsLine mid shown → item_said (Some s) ≡ line_item shown.line → Reads shown new r → Taken v a s h.before old new
 amid-line v a answer came_ready behind_stop s old mid shown new r h k e t =
     let taken = peeked_taken shown new r k.peeked t in
-    record { read = read_line v a h.before s old shown new (read_shown v a h.before old mid shown h.read k) h.no_nak h.no_stops taken (ap line_item (taken.again k.peeked) ∙ sym e) }
+    record {
+      read = read_line v a h.before s old shown new (read_shown v a h.before old mid shown h.read k) h.no_nak h.no_stops taken
+          (ap line_item (taken.again k.peeked) ∙ sym e);
+    }
 
 said_more : (before : List AnswerItem) (i : AnswerItem) → said_with (said_in before false) i ≡ said_in (i ∷ before) false
 said_more before (acknowledged x) = refl
@@ -392,7 +434,8 @@ said_more before other = refl
 said_more before stopped = refl
 
 -- the answer goes on after it
-pub amid-said : (v : Protocol) (a : Expected) (answer more : AnswerValue) (came_ready behind_stop ready : Bool) (s : Said) (old mid new : Reading) (h : Amid v a answer came_ready behind_stop old mid)
+pub amid-said : (v : Protocol) (a : Expected) (answer more : AnswerValue) (came_ready behind_stop ready : Bool) (s : Said)
+    (old mid new : Reading) (h : Amid v a answer came_ready behind_stop old mid)
     → Taken v a s h.before old new → more ≡ said_with answer (item_said (Some s)) → ready ≡ (is_ready (item_said (Some s)) || came_ready)
     → false ≡ ((is_nak (item_said (Some s)) && a.negotiates) && not (a.expects_pack && ready)) → Amid v a more ready false old new
 amid-said v a answer more came_ready behind_stop ready s old mid new h t m r n =
@@ -412,7 +455,8 @@ ends_nak : (a : Expected) (before : List AnswerItem) → ends_by_nak a before �
 ends_nak a before e next = rw e refl
 
 -- or it ends there
-pub amid-nak : (v : Protocol) (earlier : IsEarlier v) (a : Expected) (answer more : AnswerValue) (came_ready behind_stop ready : Bool) (s : Said) (old mid new : Reading) (h : Amid v a answer came_ready behind_stop old mid)
+pub amid-nak : (v : Protocol) (earlier : IsEarlier v) (a : Expected) (answer more : AnswerValue) (came_ready behind_stop ready : Bool)
+    (s : Said) (old mid new : Reading) (h : Amid v a answer came_ready behind_stop old mid)
     → Taken v a s h.before old new → more ≡ said_with answer (item_said (Some s)) → ready ≡ (is_ready (item_said (Some s)) || came_ready)
     → true ≡ ((is_nak (item_said (Some s)) && a.negotiates) && not (a.expects_pack && ready)) → Answered (v1_answer v a) v old new more
 amid-nak v earlier a answer more came_ready behind_stop ready s old mid new h t m r n =
@@ -421,12 +465,15 @@ amid-nak v earlier a answer more came_ready behind_stop ready s old mid new h t 
     let nak : ends_by_nak a (i ∷ h.before) ≡ true = ap (λ x. (is_nak i && a.negotiates) && not (a.expects_pack && x)) (sym came) ∙ sym n in
     let value : more ≡ said_in (i ∷ h.before) false = m ∙ ap (λ x. said_with x i) h.answer_is ∙ said_more h.before i in
     inl (subst (ReadsAnswer (v1_answer v a) v old new) (sym value)
-    (going-whole (v1_answer v a) (longer_of v a (i ∷ h.before)) v t.read.taken old new (said_in (i ∷ h.before) false) t.read.going t.read.running.version
+    (going-whole (v1_answer v a) (longer_of v a (i ∷ h.before)) v t.read.taken old new
+    (said_in (i ∷ h.before) false) t.read.going t.read.running.version
     (ends_bare v earlier new.stopped (inl t.read.running.stopped))
     (t.read.running.stopped ∙ sym (t.read.last (said_is_stop s)))
     (λ q. ended_is v a q.list q.end (i ∷ h.before) false (ends_nak a (i ∷ h.before) nak))))
 
 -- memory ran out for what it says
-pub amid-memory : (plain : Bool) (v : Protocol) (a : Expected) (s : Said) (before : List AnswerItem) (old new : Reading) → Taken v a s before old new → AnswerFails (v1_answer v a) plain old new Memory
+pub amid-memory : (plain : Bool) (v : Protocol) (a : Expected) (s : Said) (before : List AnswerItem) (old new : Reading)
+    → Taken v a s before old new → AnswerFails (v1_answer v a) plain old new Memory
 amid-memory plain v a s before old new t =
-    going-memory plain (v1_answer v a) (longer_of v a (item_said (Some s) ∷ before)) t.read.taken old new t.read.going t.read.running.stopped
+    going-memory plain (v1_answer v a) (longer_of v a
+    (item_said (Some s) ∷ before)) t.read.taken old new t.read.going t.read.running.stopped

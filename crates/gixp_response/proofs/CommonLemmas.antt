@@ -56,11 +56,13 @@ is_out true h = cc
 is_out false h = refl
 
 -- a commit that is among them isn't added
-pub with_same : (had : List Acknowledgement) (ids : BTreeSet ObjectId) (id : ObjectId) → AreCommon had ids → false ≡ not (contains id_cmp ids id) → had ≡ with_acknowledgement had (Common id)
+pub with_same : (had : List Acknowledgement) (ids : BTreeSet ObjectId) (id : ObjectId) → AreCommon had ids
+    → false ≡ not (contains id_cmp ids id) → had ≡ with_acknowledgement had (Common id)
 with_same had ids id h e = rw (sym (h id) ∙ is_in (contains id_cmp ids id) e) refl
 
 -- any other is
-pub with_more : (had : List Acknowledgement) (ids : BTreeSet ObjectId) (id : ObjectId) → AreCommon had ids → true ≡ not (contains id_cmp ids id)
+pub with_more : (had : List Acknowledgement) (ids : BTreeSet ObjectId) (id : ObjectId) → AreCommon had ids
+    → true ≡ not (contains id_cmp ids id)
     → had ++ Common id ∷ [] ≡ with_acknowledgement had (Common id)
 with_more had ids id h e = rw (sym (h id) ∙ is_out (contains id_cmp ids id) e) refl
 
@@ -74,10 +76,12 @@ same_id : (a b : ObjectId) → is_eq (id_cmp a b) ≡ is_text a.bytes b.bytes
 same_id a b = sym (texts_ties a.bytes b.bytes)
 
 pub common_more : (had : List Acknowledgement) (ids new : BTreeSet ObjectId) (id : ObjectId) → AreCommon had ids
-    → ((q : ObjectId) → contains id_cmp new q ≡ cond (is_eq (id_cmp id q)) true (contains id_cmp ids q)) → AreCommon (had ++ Common id ∷ []) new
+    → ((q : ObjectId) → contains id_cmp new q ≡ cond (is_eq (id_cmp id q)) true (contains id_cmp ids q))
+    → AreCommon (had ++ Common id ∷ []) new
 common_more had ids new id h u q =
     u q ∙ ap (λ b. cond b true (contains id_cmp ids q)) (same_id id q) ∙ or_here (is_text id.bytes q.bytes) (contains id_cmp ids q)
-    ∙ ap (λ c. c || (is_text id.bytes q.bytes || false)) (h q) ∙ sym (list_any-append (λ x. is_same_common x (Common q)) had (Common id ∷ []))
+    ∙ ap (λ c. c || (is_text id.bytes q.bytes || false)) (h q)
+    ∙ sym (list_any-append (λ x. is_same_common x (Common q)) had (Common id ∷ []))
 
 -- what holds where a call succeeds brings what follows
 pub on_ok : {A E : Type 0} (r : Result A E) {P Q : Type 0} → OnOk r P → (P → Q) → OnOk r Q

@@ -8,7 +8,8 @@ use Rattle.gixp_response.specs.declared.fetch.response.error.Error.TheVariants.{
 use Rattle.gixp_response.specs.ResponseError.{answer_refusal, from_reader, UnlessAnswerInterrupted}
 
 -- no interrupt ends the call that takes a line that was peeked at
-pub peeked_goes : (P : Type 0) (old new : Reading) (r : Result Bool ReadError) → old.peeked ≡ true → Reads old new r → UnlessInterrupted r P → P
+pub peeked_goes : (P : Type 0) (old new : Reading) (r : Result Bool ReadError) → old.peeked ≡ true → Reads old new r
+    → UnlessInterrupted r P → P
 peeked_goes P old new (Ok b) p h k = k
 peeked_goes P old new (Err x) p (inl h) k = absurd (let e = h.unpeeked in cc)
 peeked_goes P old new (Err x) p (inr (inl h)) k = absurd (let e = h.stays.unpeeked in cc)
@@ -33,7 +34,8 @@ any_refused X P (Reader ReadMemory) h = h
 any_refused X P Memory h = h
 
 -- an error that is no interrupt
-interrupted_alone : (X P : Type 0) (e : Error) → answer_refusal e ≡ from_reader (refusal_of Interrupted) → UnlessAnswerInterrupted {X = X} (Err e) P
+interrupted_alone : (X P : Type 0) (e : Error) → answer_refusal e ≡ from_reader (refusal_of Interrupted)
+    → UnlessAnswerInterrupted {X = X} (Err e) P
 interrupted_alone X P (Io kind) h = cc
 interrupted_alone X P (UploadPack m) h = cc
 interrupted_alone X P (Transport x) h = cc
@@ -51,7 +53,8 @@ interrupted_alone X P (Reader ReadMemory) h = cc
 interrupted_alone X P Memory h = cc
 
 -- a reader that was refused
-pub reader_refused : (X Y P Q : Type 0) (e : ReadError) (error : Error) → answer_refusal error ≡ from_reader (refusal_of e) → (P → Q) → UnlessInterrupted {X = X} (Err e) P → UnlessAnswerInterrupted {X = Y} (Err error) Q
+pub reader_refused : (X Y P Q : Type 0) (e : ReadError) (error : Error) → answer_refusal error ≡ from_reader (refusal_of e) → (P → Q)
+    → UnlessInterrupted {X = X} (Err e) P → UnlessAnswerInterrupted {X = Y} (Err error) Q
 reader_refused X Y P Q (ReadIo kind) error s f h = any_refused Y Q error (f h)
 reader_refused X Y P Q (Decode x) error s f h = any_refused Y Q error (f h)
 reader_refused X Y P Q (Server m) error s f h = any_refused Y Q error (f h)

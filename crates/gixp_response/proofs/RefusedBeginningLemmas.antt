@@ -19,13 +19,15 @@ record Refusing (v : Protocol) (a : Expected) (before : List AnswerItem) (p : Pi
   refusal : Refusal
   next : next_of v rest ≡ refuses refusal
   error : e ≡ from_reader refusal
-  unended : (shorter more : List Piece) → taken ≡ shorter ++ more → ends a (items_behind shorter before) (next_of v (front more rest)) ≡ None
+  unended : (shorter more : List Piece) → taken ≡ shorter ++ more → ends a (items_behind shorter before) (next_of v (front more rest))
+      ≡ None
 
 refused_parts : (e f : AnswerRefusal) → refused e ≡ refused f → e ≡ f
 refused_parts e f h = cc
 
 -- it is refused here
-refused_here : (v : Protocol) (a : Expected) (before : List AnswerItem) (p : Pieces) (e : AnswerRefusal) (refusal : Refusal) → next_of v p ≡ refuses refusal → ends a before (next_of v p) ≡ None
+refused_here : (v : Protocol) (a : Expected) (before : List AnswerItem) (p : Pieces) (e : AnswerRefusal) (refusal : Refusal)
+    → next_of v p ≡ refuses refusal → ends a before (next_of v p) ≡ None
     → refused (from_reader refusal) ≡ refused e → Refusing v a before p e
 refused_here v a before p e refusal n none h = record {
   taken = [];
@@ -43,8 +45,10 @@ refused_here v a before p e refusal n none h = record {
     no_shorter (x ∷ xs) more k = cc
 
 -- it is refused after one more piece
-refused_further : (v : Protocol) (a : Expected) (before : List AnswerItem) (x : Piece) (p : Pieces) (e : AnswerRefusal) → ends a before (next_of v (with_piece x p)) ≡ None
-    → Refusing v a (items_behind (x ∷ []) before) p e → ((ps : List Piece) → items_behind (x ∷ ps) before ≡ items_behind ps (items_behind (x ∷ []) before))
+refused_further : (v : Protocol) (a : Expected) (before : List AnswerItem) (x : Piece) (p : Pieces) (e : AnswerRefusal)
+    → ends a before (next_of v (with_piece x p)) ≡ None
+    → Refusing v a (items_behind (x ∷ []) before) p e
+    → ((ps : List Piece) → items_behind (x ∷ ps) before ≡ items_behind ps (items_behind (x ∷ []) before))
     → ((ps : List Piece) → AreStops v ps → AreStops v (x ∷ ps))
     → Refusing v a before (with_piece x p) e
 refused_further v a before x p e none h s m = record {
@@ -58,7 +62,8 @@ refused_further v a before x p e none h s m = record {
   unended = no_shorter;
 }
   where
-    no_shorter : (shorter more : List Piece) → (x ∷ h.taken) ≡ shorter ++ more → ends a (items_behind shorter before) (next_of v (front more h.rest)) ≡ None
+    no_shorter : (shorter more : List Piece) → (x ∷ h.taken) ≡ shorter ++ more
+        → ends a (items_behind shorter before) (next_of v (front more h.rest)) ≡ None
     no_shorter [] more k =
         let all : with_piece x p ≡ front more h.rest = ap (with_piece x) h.split ∙ ap (λ l. front l h.rest) k in
         subst (λ q. ends a before (next_of v q) ≡ None) all none
@@ -69,48 +74,71 @@ refused_further v a before x p e none h s m = record {
         (ap (λ i. ends a i (next_of v (front more h.rest))) (s ys) ∙ h.unended ys more others)
 
 -- it doesn't end here
-refused_step : (v : Protocol) (a : Expected) (before : List AnswerItem) (p : Pieces) (longer : Found) (e : AnswerRefusal) (o : Option Bool) → ends a before (next_of v p) ≡ o
-    → unless_ends o before p longer ≡ refused e → (ends a before (next_of v p) ≡ None → longer ≡ refused e → Refusing v a before p e) → Refusing v a before p e
+refused_step : (v : Protocol) (a : Expected) (before : List AnswerItem) (p : Pieces) (longer : Found) (e : AnswerRefusal)
+    (o : Option Bool) → ends a before (next_of v p) ≡ o
+    → unless_ends o before p longer ≡ refused e → (ends a before (next_of v p) ≡ None → longer ≡ refused e → Refusing v a before p e)
+    → Refusing v a before p e
 refused_step v a before p longer e (Some pack) i h f = cc
 refused_step v a before p longer e None i h f = f i h
 
 -- a mark that stops, or one that is refused
-refused_mark : (v : Protocol) (a : Expected) (before : List AnswerItem) (kind : MessageKind) (p : Pieces) (longer : Found) (e : AnswerRefusal) (b : Bool) → is_stop v kind ≡ b
+refused_mark : (v : Protocol) (a : Expected) (before : List AnswerItem) (kind : MessageKind) (p : Pieces) (longer : Found)
+    (e : AnswerRefusal) (b : Bool) → is_stop v kind ≡ b
     → next_of v (with_piece (mark kind) p) ≡ cond b (stops kind p) (refuses unexpected_frame)
     → cond b (unless_ends (ends a before (stops kind p)) before (with_piece (mark kind) p) longer)
-    (unless_ends (ends a before (refuses unexpected_frame)) before (with_piece (mark kind) p) (refused (by_reader unexpected_frame))) ≡ refused e
-    → (is_stop v kind ≡ true → ends a before (next_of v (with_piece (mark kind) p)) ≡ None → longer ≡ refused e → Refusing v a before (with_piece (mark kind) p) e)
+    (unless_ends (ends a before (refuses unexpected_frame)) before (with_piece (mark kind) p) (refused (by_reader unexpected_frame)))
+    ≡ refused e
+    → (is_stop v kind ≡ true → ends a before (next_of v (with_piece (mark kind) p)) ≡ None → longer ≡ refused e
+    → Refusing v a before (with_piece (mark kind) p) e)
     → Refusing v a before (with_piece (mark kind) p) e
 refused_mark v a before kind p longer e true i n h f =
     refused_step v a before (with_piece (mark kind) p) longer e (ends a before (stops kind p)) (ap (ends a before) n) h (f i)
 refused_mark v a before kind p longer e false i n h f =
-    refused_step v a before (with_piece (mark kind) p) (refused (by_reader unexpected_frame)) e (ends a before (refuses unexpected_frame)) (ap (ends a before) n) h
+    refused_step v a before (with_piece (mark kind) p) (refused (by_reader unexpected_frame)) e
+    (ends a before (refuses unexpected_frame)) (ap (ends a before) n) h
     (λ none k. refused_here v a before (with_piece (mark kind) p) e unexpected_frame n none k)
 
-refused_from : (v : Protocol) (a : Expected) (ps : List Piece) (end : Refusal) (before : List AnswerItem) (e : AnswerRefusal) → beginnings_from v a ps end before ≡ refused e
+refused_from : (v : Protocol) (a : Expected) (ps : List Piece) (end : Refusal) (before : List AnswerItem) (e : AnswerRefusal)
+    → beginnings_from v a ps end before ≡ refused e
     → Refusing v a before (record { list = ps; end = end }) e
 refused_from v a [] end before e h =
-    refused_step v a before (no_pieces end) (refused (from_reader end)) e (ends a before (refuses end)) refl h (λ none k. refused_here v a before (no_pieces end) e end refl none k)
+    refused_step v a before (no_pieces end) (refused (from_reader end)) e (ends a before (refuses end)) refl h
+    (λ none k. refused_here v a before (no_pieces end) e end refl none k)
 refused_from v a (line text ∷ ps) end before e h =
     let p : Pieces = record { list = ps; end = end } in
-    refused_step v a before (with_piece (line text) p) (beginnings_from v a ps end (line_item text ∷ before)) e (ends a before (gives text p)) refl h
-    (λ none k. refused_further v a before (line text) p e none (refused_from v a ps end (line_item text ∷ before) e k) (λ _. refl) (λ _ s. s))
+    refused_step v a before (with_piece (line text) p) (beginnings_from v a ps end (line_item text ∷ before)) e
+    (ends a before (gives text p)) refl h
+    (λ none k. refused_further v a before (line text) p e none (refused_from v a ps end (line_item text ∷ before) e k) (λ _. refl)
+    (λ _ s. s))
 refused_from v a (mark kind ∷ ps) end before e h =
     let p : Pieces = record { list = ps; end = end } in
     refused_mark v a before kind p (beginnings_from v a ps end (stopped ∷ before)) e (is_stop v kind) refl refl h
-    (λ i none k. refused_further v a before (mark kind) p e none (refused_from v a ps end (stopped ∷ before) e k) (λ _. refl) (λ _ s. (i, s)))
+    (λ i none k. refused_further v a before (mark kind) p e none (refused_from v a ps end (stopped ∷ before) e k) (λ _. refl)
+    (λ _ s. (i, s)))
 
 -- where an answer is refused, no beginning ends one
-pub refusal_found : (v : Protocol) (a : Expected) (p : Pieces) (e : AnswerRefusal) → v1_answer v a p ≡ refused e → BeginningIsRefused v a p e
+pub refusal_found : (v : Protocol) (a : Expected) (p : Pieces) (e : AnswerRefusal) → v1_answer v a p ≡ refused e
+    → BeginningIsRefused v a p e
 refusal_found v a p e h =
     let x = refused_from v a p.list p.end [] e h in
-    record { taken = x.taken; rest = x.rest; split = x.split; stops = x.stops; refusal = x.refusal; next = x.next; error = x.error; unended = x.unended }
+    record {
+      taken = x.taken;
+      rest = x.rest;
+      split = x.split;
+      stops = x.stops;
+      refusal = x.refusal;
+      next = x.next;
+      error = x.error;
+      unended = x.unended;
+    }
 
 -- ---- and back
 
-mark_refused : (a : Expected) (before : List AnswerItem) (kind : MessageKind) (p x : Pieces) (longer : Found) (refusal : Refusal) (b : Bool) → cond b (stops kind p) (refuses unexpected_frame) ≡ refuses refusal
+mark_refused : (a : Expected) (before : List AnswerItem) (kind : MessageKind) (p x : Pieces) (longer : Found) (refusal : Refusal)
+    (b : Bool) → cond b (stops kind p) (refuses unexpected_frame) ≡ refuses refusal
     → ends a before (cond b (stops kind p) (refuses unexpected_frame)) ≡ None
-    → cond b (unless_ends (ends a before (stops kind p)) before x longer) (unless_ends (ends a before (refuses unexpected_frame)) before x (refused (by_reader unexpected_frame)))
+    → cond b (unless_ends (ends a before (stops kind p)) before x longer)
+    (unless_ends (ends a before (refuses unexpected_frame)) before x (refused (by_reader unexpected_frame)))
     ≡ refused (from_reader refusal)
 mark_refused a before kind p x longer refusal true n none = cc
 mark_refused a before kind p x longer refusal false n none =
@@ -118,32 +146,39 @@ mark_refused a before kind p x longer refusal false n none =
     rw none (ap (λ r. refused (from_reader r)) same)
 
 -- where the reader is refused and nothing ends, the answer is refused
-read_here : (v : Protocol) (a : Expected) (list : List Piece) (end : Refusal) (before : List AnswerItem) (refusal : Refusal) → next_from v list end ≡ refuses refusal → ends a before (next_from v list end) ≡ None
+read_here : (v : Protocol) (a : Expected) (list : List Piece) (end : Refusal) (before : List AnswerItem) (refusal : Refusal)
+    → next_from v list end ≡ refuses refusal → ends a before (next_from v list end) ≡ None
     → beginnings_from v a list end before ≡ refused (from_reader refusal)
 read_here v a [] end before refusal n none =
     let same : end ≡ refusal = cc in
     rw none (ap (λ r. refused (from_reader r)) same)
 read_here v a (line text ∷ ps) end before refusal n none = cc
 read_here v a (mark kind ∷ ps) end before refusal n none =
-    mark_refused a before kind (record { list = ps; end = end }) (record { list = mark kind ∷ ps; end = end }) (beginnings_from v a ps end (stopped ∷ before)) refusal (is_stop v kind) n none
+    mark_refused a before kind (record { list = ps; end = end }) (record { list = mark kind ∷ ps; end = end })
+    (beginnings_from v a ps end (stopped ∷ before)) refusal (is_stop v kind) n none
 
-mark_passed : (a : Expected) (before : List AnswerItem) (kind : MessageKind) (p x : Pieces) (longer other all : Found) (b : Bool) → b ≡ true → ends a before (cond b (stops kind p) (refuses unexpected_frame)) ≡ None
+mark_passed : (a : Expected) (before : List AnswerItem) (kind : MessageKind) (p x : Pieces) (longer other all : Found) (b : Bool)
+    → b ≡ true → ends a before (cond b (stops kind p) (refuses unexpected_frame)) ≡ None
     → longer ≡ all → cond b (unless_ends (ends a before (stops kind p)) before x longer) other ≡ all
 mark_passed a before kind p x longer other all true i n h = rw n h
 mark_passed a before kind p x longer other all false i n h = cc
 
 -- after pieces none of whose beginnings ends an answer
-read_behind : (v : Protocol) (a : Expected) (taken : List Piece) (rest : Pieces) (before : List AnswerItem) (refusal : Refusal) → AreStops v taken → next_of v rest ≡ refuses refusal
+read_behind : (v : Protocol) (a : Expected) (taken : List Piece) (rest : Pieces) (before : List AnswerItem) (refusal : Refusal)
+    → AreStops v taken → next_of v rest ≡ refuses refusal
     → ((shorter more : List Piece) → taken ≡ shorter ++ more → ends a (items_behind shorter before) (next_of v (front more rest)) ≡ None)
     → beginnings_from v a (taken ++ rest.list) rest.end before ≡ refused (from_reader refusal)
 read_behind v a [] rest before refusal s n f = read_here v a rest.list rest.end before refusal n (f [] [] refl)
 read_behind v a (line text ∷ ts) rest before refusal s n f =
     let none : ends a before (gives text (front ts rest)) ≡ None = f [] (line text ∷ ts) refl in
-    rw none (read_behind v a ts rest (line_item text ∷ before) refusal s n (λ shorter more k. f (line text ∷ shorter) more (ap (λ l. line text ∷ l) k)))
+    rw none (read_behind v a ts rest (line_item text ∷ before) refusal s n
+    (λ shorter more k. f (line text ∷ shorter) more (ap (λ l. line text ∷ l) k)))
 read_behind v a (mark kind ∷ ts) rest before refusal s n f =
-    mark_passed a before kind (front ts rest) (front (mark kind ∷ ts) rest) (beginnings_from v a (ts ++ rest.list) rest.end (stopped ∷ before)) _ _ (is_stop v kind) s.0 (f [] (mark kind ∷ ts) refl)
+    mark_passed a before kind (front ts rest) (front (mark kind ∷ ts) rest)
+    (beginnings_from v a (ts ++ rest.list) rest.end (stopped ∷ before)) _ _ (is_stop v kind) s.0 (f [] (mark kind ∷ ts) refl)
     (read_behind v a ts rest (stopped ∷ before) refusal s.1 n (λ shorter more k. f (mark kind ∷ shorter) more (ap (λ l. mark kind ∷ l) k)))
 
 -- where no beginning ends an answer, it is refused
 pub refusal_read : (v : Protocol) (a : Expected) (p : Pieces) (e : AnswerRefusal) → BeginningIsRefused v a p e → v1_answer v a p ≡ refused e
-refusal_read v a p e h = ap (v1_answer v a) h.split ∙ read_behind v a h.taken h.rest [] h.refusal h.stops h.next h.unended ∙ ap refused (sym h.error)
+refusal_read v a p e h = ap (v1_answer v a) h.split ∙ read_behind v a h.taken h.rest [] h.refusal h.stops h.next h.unended
+    ∙ ap refused (sym h.error)

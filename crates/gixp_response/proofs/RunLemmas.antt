@@ -41,11 +41,13 @@ start_next r (Some p) = (p, refl, refl)
 pub so_far-start : (r : Reading) → SoFar r r []
 so_far-start r = record { next = start_next r r.to_come; stopped = refl; version = refl; failures = refl; held = refl }
 
-append_before : (texts : List (List ℕ)) (text : List ℕ) (rest : Lines) → before texts (before (text ∷ []) rest) ≡ before (texts ++ text ∷ []) rest
+append_before : (texts : List (List ℕ)) (text : List ℕ) (rest : Lines) → before texts (before (text ∷ []) rest)
+    ≡ before (texts ++ text ∷ []) rest
 append_before texts text rest = rw append_assoc refl
 
 -- one more line
-pub so_far-line : (old mid new : Reading) (texts : List (List ℕ)) → SoFar old mid texts → TakesLine mid new → SoFar old new (texts ++ new.line ∷ [])
+pub so_far-line : (old mid new : Reading) (texts : List (List ℕ)) → SoFar old mid texts → TakesLine mid new
+    → SoFar old new (texts ++ new.line ∷ [])
 so_far-line old mid new texts h k = let text = new.line in record {
   next = known_steps old.to_come mid.to_come new.to_come
       (λ p q. lines_ahead old p ≡ before texts (lines_ahead mid q))
@@ -53,7 +55,8 @@ so_far-line old mid new texts h k = let text = new.line in record {
       (λ p r. lines_ahead old p ≡ before (texts ++ text ∷ []) (lines_ahead new r))
       (λ p q r a b.
       let behind : lines_ahead new r ≡ lines_of mid.version r = ahead_running new r k.stopped ∙ ap (λ v. lines_of v r) k.version in
-      a ∙ ap (before texts) (ahead_running mid q k.running ∙ gives_line mid.version q.list q.end text r b ∙ ap (before (text ∷ [])) (sym behind))
+      a ∙ ap (before texts) (ahead_running mid q k.running ∙ gives_line mid.version q.list q.end text r b
+      ∙ ap (before (text ∷ [])) (sym behind))
       ∙ append_before texts text (lines_ahead new r))
       h.next k.next;
   stopped = k.stopped ∙ sym k.running ∙ h.stopped;
@@ -75,14 +78,16 @@ pub record AllRead (old new : Reading) (texts : List (List ℕ)) : Type 0 where
   pub failures : new.failures ≡ old.failures
   pub held : new.held ≡ old.held
 
-takes_stop : (old mid new : Reading) (texts : List (List ℕ)) (kind : MessageKind) → SoFar old mid texts → TakesStop mid new kind → AllRead old new texts
+takes_stop : (old mid new : Reading) (texts : List (List ℕ)) (kind : MessageKind) → SoFar old mid texts → TakesStop mid new kind
+    → AllRead old new texts
 takes_stop old mid new texts kind h k = record {
   kind = kind;
   lines = known_steps old.to_come mid.to_come new.to_come
       (λ p q. lines_ahead old p ≡ before texts (lines_ahead mid q))
       (λ q r. next_of mid.version q ≡ stops kind r)
       (λ p r. lines_ahead old p ≡ lines_to texts (stop kind r))
-      (λ p q r a b. a ∙ ap (before texts) (ahead_running mid q k.running ∙ stops_here mid.version q.list q.end kind r b) ∙ before_none texts (stop kind r))
+      (λ p q r a b. a ∙ ap (before texts) (ahead_running mid q k.running ∙ stops_here mid.version q.list q.end kind r b)
+      ∙ before_none texts (stop kind r))
       h.next k.next;
   stopped = k.stopped;
   version = k.version ∙ h.version;
@@ -90,7 +95,8 @@ takes_stop old mid new texts kind h k = record {
   held = k.held ∙ h.held;
 }
 
-was_stopped : (old mid new : Reading) (texts : List (List ℕ)) (kind : MessageKind) → mid.stopped ≡ Some kind → SoFar old mid texts → WasStopped mid new → AllRead old new texts
+was_stopped : (old mid new : Reading) (texts : List (List ℕ)) (kind : MessageKind) → mid.stopped ≡ Some kind → SoFar old mid texts
+    → WasStopped mid new → AllRead old new texts
 was_stopped old mid new texts kind at h k = record {
   kind = kind;
   lines = known_steps old.to_come mid.to_come new.to_come

@@ -26,29 +26,35 @@ more_before v vs (whole w rest) = refl
 more_before v vs (refused e) = refl
 
 -- the lines of a section are read as its items
-items_read : (kind : Section) (ts : List (List ℕ)) (vs : List AnswerValue) (stop : MessageKind) (rest : List Piece) (end : Refusal) → AreItems kind ts vs
-    → sections_from (lines_to_stop ts stop rest) end (Some kind) ≡ items_before vs (closed stop (record { list = rest; end = end }) (sections_from rest end None))
+items_read : (kind : Section) (ts : List (List ℕ)) (vs : List AnswerValue) (stop : MessageKind) (rest : List Piece) (end : Refusal)
+    → AreItems kind ts vs
+    → sections_from (lines_to_stop ts stop rest) end (Some kind)
+    ≡ items_before vs (closed stop (record { list = rest; end = end }) (sections_from rest end None))
 items_read kind [] [] stop rest end h = none_before (closed stop (record { list = rest; end = end }) (sections_from rest end None))
 items_read kind [] (v ∷ vs) stop rest end h = absurd h
 items_read kind (t ∷ ts) [] stop rest end h = absurd h
 items_read kind (t ∷ ts) (v ∷ vs) stop rest end h =
     let one : read_item kind t ≡ Ok v = h.0 in
-    rw (one, items_read kind ts vs stop rest end h.1) (more_before v vs (closed stop (record { list = rest; end = end }) (sections_from rest end None)))
+    rw (one, items_read kind ts vs stop rest end h.1)
+    (more_before v vs (closed stop (record { list = rest; end = end }) (sections_from rest end None)))
 
 pub section_read : (s : SectionText) (stop : MessageKind) (rest : List Piece) (end : Refusal) → IsSection s
-    → sections_from (section_text s stop rest) end None ≡ items_before s.items (closed stop (record { list = rest; end = end }) (sections_from rest end None))
+    → sections_from (section_text s stop rest) end None
+    ≡ items_before s.items (closed stop (record { list = rest; end = end }) (sections_from rest end None))
 section_read s stop rest end h =
     let head : read_header s.header ≡ Ok (Of s.kind) = h.0 in
     rw head (items_read s.kind s.lines s.items stop rest end h.1)
 
 -- sections are read as what they say
-pub sections_read : (ps : List Piece) (ss : List SectionText) (last : Last) (rest : List Piece) (end : Refusal) → AreSections ps ss last rest
+pub sections_read : (ps : List Piece) (ss : List SectionText) (last : Last) (rest : List Piece) (end : Refusal)
+    → AreSections ps ss last rest
     → sections_from ps end None ≡ whole (said_by ss last) (record { list = rest; end = end })
 sections_read ps [] (pack_behind header) rest end h =
     let head : read_header header ≡ Ok Packfile = h.0 in
     rw h.1 (rw head refl)
 sections_read ps [] (flushed s) rest end h = rw h.1 (section_read s Flush rest end h.0)
-sections_read ps (s ∷ ss) last rest end h = rw h.2 (section_read s Delimiter h.1 end h.0 ∙ ap (items_before s.items) (sections_read h.1 ss last rest end h.3))
+sections_read ps (s ∷ ss) last rest end h =
+    rw h.2 (section_read s Delimiter h.1 end h.0 ∙ ap (items_before s.items) (sections_read h.1 ss last rest end h.3))
 
 -- what some pieces in a section are, if an answer ends in them
 record Inside (kind : Section) (ps : List Piece) (v : AnswerValue) (rest : List Piece) : Type 0 where
@@ -57,7 +63,8 @@ record Inside (kind : Section) (ps : List Piece) (v : AnswerValue) (rest : List 
   are : AreItems kind lines items
   -- a flush ends it, or a delimiter and further sections
   ends : ((ps ≡ lines_to_stop lines Flush rest) × (v ≡ said_before items (no_more false)))
-      ⊎ ((more : List Piece) × (ss : List SectionText) × (last : Last) × (ps ≡ lines_to_stop lines Delimiter more) × AreSections more ss last rest × (v ≡ said_before items (said_by ss last)))
+      ⊎ ((more : List Piece) × (ss : List SectionText) × (last : Last) × (ps ≡ lines_to_stop lines Delimiter more)
+      × AreSections more ss last rest × (v ≡ said_before items (said_by ss last)))
 
 record Sections (ps : List Piece) (v : AnswerValue) (rest : List Piece) : Type 0 where
   before : List SectionText
@@ -74,12 +81,14 @@ whole_value : (v w : AnswerValue) (p q : Pieces) → whole v p ≡ whole w q →
 whole_value v w p q h = (cc, cc)
 
 -- what is found after an item
-front_found : (item : AnswerValue) (f : Found) (v : AnswerValue) (q : Pieces) → in_front item f ≡ whole v q → (w : AnswerValue) × (f ≡ whole w q) × (v ≡ both w.pack item w)
+front_found : (item : AnswerValue) (f : Found) (v : AnswerValue) (q : Pieces) → in_front item f ≡ whole v q → (w : AnswerValue)
+    × (f ≡ whole w q) × (v ≡ both w.pack item w)
 front_found item (whole w p) v q h = let e = whole_value (both w.pack item w) v p q h in (w, ap (whole w) e.1, sym e.0)
 front_found item (refused e) v q h = cc
 
 -- a line of a section
-inside_line : (kind : Section) (t : List ℕ) (ps rest : List Piece) (item v w : AnswerValue) → read_item kind t ≡ Ok item → v ≡ both w.pack item w → Inside kind ps w rest → Inside kind (line t ∷ ps) v rest
+inside_line : (kind : Section) (t : List ℕ) (ps rest : List Piece) (item v w : AnswerValue) → read_item kind t ≡ Ok item
+    → v ≡ both w.pack item w → Inside kind ps w rest → Inside kind (line t ∷ ps) v rest
 inside_line kind t ps rest item v w e is i = record {
   lines = t ∷ i.lines;
   items = item ∷ i.items;
@@ -88,39 +97,57 @@ inside_line kind t ps rest item v w e is i = record {
 }
   where
     ended : ((ps ≡ lines_to_stop i.lines Flush rest) × (w ≡ said_before i.items (no_more false)))
-        ⊎ ((more : List Piece) × (ss : List SectionText) × (last : Last) × (ps ≡ lines_to_stop i.lines Delimiter more) × AreSections more ss last rest × (w ≡ said_before i.items (said_by ss last)))
+        ⊎ ((more : List Piece) × (ss : List SectionText) × (last : Last) × (ps ≡ lines_to_stop i.lines Delimiter more)
+        × AreSections more ss last rest × (w ≡ said_before i.items (said_by ss last)))
         → (((line t ∷ ps) ≡ lines_to_stop (t ∷ i.lines) Flush rest) × (v ≡ said_before (item ∷ i.items) (no_more false)))
-        ⊎ ((more : List Piece) × (ss : List SectionText) × (last : Last) × ((line t ∷ ps) ≡ lines_to_stop (t ∷ i.lines) Delimiter more) × AreSections more ss last rest × (v ≡ said_before (item ∷ i.items) (said_by ss last)))
+        ⊎ ((more : List Piece) × (ss : List SectionText) × (last : Last) × ((line t ∷ ps) ≡ lines_to_stop (t ∷ i.lines) Delimiter more)
+        × AreSections more ss last rest × (v ≡ said_before (item ∷ i.items) (said_by ss last)))
     ended (inl x) = inl (ap (λ y. line t ∷ y) x.0, is ∙ ap (λ (y : AnswerValue). both y.pack item y) x.1)
     ended (inr x) = inr (x.0, x.1, x.2, ap (λ y. line t ∷ y) x.3, x.4, is ∙ ap (λ (y : AnswerValue). both y.pack item y) x.5)
 
 -- the header of a section
-inside_header : (kind : Section) (t : List ℕ) (ps rest : List Piece) (v : AnswerValue) → read_header t ≡ Ok (Of kind) → Inside kind ps v rest → Sections (line t ∷ ps) v rest
+inside_header : (kind : Section) (t : List ℕ) (ps rest : List Piece) (v : AnswerValue) → read_header t ≡ Ok (Of kind)
+    → Inside kind ps v rest → Sections (line t ∷ ps) v rest
 inside_header kind t ps rest v e i = ended i.ends
   where
     section : SectionText
     section = record { header = t; kind = kind; lines = i.lines; items = i.items }
 
     ended : ((ps ≡ lines_to_stop i.lines Flush rest) × (v ≡ said_before i.items (no_more false)))
-        ⊎ ((more : List Piece) × (ss : List SectionText) × (last : Last) × (ps ≡ lines_to_stop i.lines Delimiter more) × AreSections more ss last rest × (v ≡ said_before i.items (said_by ss last)))
+        ⊎ ((more : List Piece) × (ss : List SectionText) × (last : Last) × (ps ≡ lines_to_stop i.lines Delimiter more)
+        × AreSections more ss last rest × (v ≡ said_before i.items (said_by ss last)))
         → Sections (line t ∷ ps) v rest
-    ended (inl x) = record { before = []; last = flushed (record { header = t; kind = kind; lines = i.lines; items = i.items }); are = ((e, i.are), ap (λ y. line t ∷ y) x.0); value = x.1 }
-    ended (inr x) = record { before = record { header = t; kind = kind; lines = i.lines; items = i.items } ∷ x.1; last = x.2; are = ((e, i.are), x.0, ap (λ y. line t ∷ y) x.3, x.4); value = x.5 }
+    ended (inl x) = record {
+      before = [];
+      last = flushed (record { header = t; kind = kind; lines = i.lines; items = i.items });
+      are = ((e, i.are), ap (λ y. line t ∷ y) x.0);
+      value = x.1;
+    }
+    ended (inr x) = record {
+      before = record { header = t; kind = kind; lines = i.lines; items = i.items } ∷ x.1;
+      last = x.2;
+      are = ((e, i.are), x.0, ap (λ y. line t ∷ y) x.3, x.4);
+      value = x.5;
+    }
 
 -- by what a header opens
-header_found : (t : List ℕ) (ps : List Piece) (end : Refusal) (v : AnswerValue) (q : Pieces) (o : Result Header AnswerRefusal) → read_header t ≡ o
+header_found : (t : List ℕ) (ps : List Piece) (end : Refusal) (v : AnswerValue) (q : Pieces) (o : Result Header AnswerRefusal)
+    → read_header t ≡ o
     → opened o (record { list = ps; end = end }) (sections_from ps end) ≡ whole v q
     → ((kind : Section) → sections_from ps end (Some kind) ≡ whole v q → Inside kind ps v q.list × (q.end ≡ end))
     → Sections (line t ∷ ps) v q.list × (q.end ≡ end)
 header_found t ps end v q (Ok (Of kind)) e h f = let i = f kind h in (inside_header kind t ps q.list v e i.0, i.1)
 header_found t ps end v q (Ok Packfile) e h f =
     let p : Pieces = record { list = ps; end = end } in
-    let s = whole_value (no_more true) v p q h in
-    (record { before = []; last = pack_behind t; are = (e, ap (λ (x : Pieces). line t ∷ x.list) s.1); value = sym s.0 }, ap (λ (x : Pieces). x.end) (sym s.1))
+    let s = whole_value (no_more true) v p q h in (
+      record { before = []; last = pack_behind t; are = (e, ap (λ (x : Pieces). line t ∷ x.list) s.1); value = sym s.0 },
+      ap (λ (x : Pieces). x.end) (sym s.1),
+    )
 header_found t ps end v q (Err r) e h f = cc
 
 -- by what a line says
-item_found : (kind : Section) (t : List ℕ) (ps : List Piece) (end : Refusal) (v : AnswerValue) (q : Pieces) (o : Result AnswerValue AnswerRefusal) → read_item kind t ≡ o
+item_found : (kind : Section) (t : List ℕ) (ps : List Piece) (end : Refusal) (v : AnswerValue) (q : Pieces)
+    (o : Result AnswerValue AnswerRefusal) → read_item kind t ≡ o
     → added o (sections_from ps end (Some kind)) ≡ whole v q
     → ((w : AnswerValue) → sections_from ps end (Some kind) ≡ whole w q → Inside kind ps w q.list × (q.end ≡ end))
     → Inside kind (line t ∷ ps) v q.list × (q.end ≡ end)
@@ -137,19 +164,23 @@ stop_found : (kind : Section) (k : MessageKind) (ps : List Piece) (end : Refusal
     → Inside kind (mark k ∷ ps) v q.list × (q.end ≡ end)
 stop_found kind Flush ps end v q h f =
     let p : Pieces = record { list = ps; end = end } in
-    let s = whole_value (no_more false) v p q h in
-    (record { lines = []; items = []; are = tt; ends = inl (ap (λ (x : Pieces). mark Flush ∷ x.list) s.1, sym s.0) }, ap (λ (x : Pieces). x.end) (sym s.1))
+    let s = whole_value (no_more false) v p q h in (
+      record { lines = []; items = []; are = tt; ends = inl (ap (λ (x : Pieces). mark Flush ∷ x.list) s.1, sym s.0) },
+      ap (λ (x : Pieces). x.end) (sym s.1),
+    )
 stop_found kind Delimiter ps end v q h f =
     let i = f h in
     (record { lines = []; items = []; are = tt; ends = inr (ps, i.0.before, i.0.last, refl, i.0.are, i.0.value) }, i.1)
 stop_found kind ResponseEnd ps end v q h f = cc
 stop_found kind Text ps end v q h f = cc
 
-found_at : (at : Option Section) (ps : List Piece) (end : Refusal) (v : AnswerValue) (q : Pieces) → sections_from ps end at ≡ whole v q → At at ps v q.list × (q.end ≡ end)
+found_at : (at : Option Section) (ps : List Piece) (end : Refusal) (v : AnswerValue) (q : Pieces) → sections_from ps end at ≡ whole v q
+    → At at ps v q.list × (q.end ≡ end)
 found_at None [] end v q h = cc
 found_at (Some kind) [] end v q h = cc
 found_at None (line t ∷ ps) end v q h = header_found t ps end v q (read_header t) refl h (λ kind e. found_at (Some kind) ps end v q e)
-found_at (Some kind) (line t ∷ ps) end v q h = item_found kind t ps end v q (read_item kind t) refl h (λ w e. found_at (Some kind) ps end w q e)
+found_at (Some kind) (line t ∷ ps) end v q h =
+    item_found kind t ps end v q (read_item kind t) refl h (λ w e. found_at (Some kind) ps end w q e)
 found_at None (mark k ∷ ps) end v q h = cc
 found_at (Some kind) (mark k ∷ ps) end v q h = stop_found kind k ps end v q h (λ e. found_at None ps end v q e)
 

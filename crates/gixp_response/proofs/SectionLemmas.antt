@@ -41,10 +41,17 @@ none_had (refused e) = refl
 pub within-start : (old now : Reading) → now ≡ reset_to V2 old → Within (no_more false) None old now
 within-start old now e =
     let all = going-start v2_answer V2 old now e in
-    record { taken = []; going = going-turn v2_answer v2_answer (left_of (no_more false) None) [] old now all.0 (λ q. none_had (v2_answer q)); running = all.1; no_pack = refl }
+    record {
+      taken = [];
+      going = going-turn v2_answer v2_answer (left_of (no_more false) None) [] old now all.0
+          (λ q. none_had (v2_answer q));
+      running = all.1;
+      no_pack = refl;
+    }
 
 -- a header opens its section
-pub within-header : (had : AnswerValue) (s : Section) (old mid new : Reading) → Within had None old mid → TakesLine mid new → read_header new.line ≡ Ok (Of s)
+pub within-header : (had : AnswerValue) (s : Section) (old mid new : Reading) → Within had None old mid → TakesLine mid new
+    → read_header new.line ≡ Ok (Of s)
     → Within had (Some s) old new
 within-header had s old mid new h t is =
     let all = going-line v2_answer (left_of had None) V2 h.taken old mid new h.going h.running t in
@@ -56,56 +63,65 @@ within-header had s old mid new h t is =
     }
 
 -- a header in front of the pack
-pub within-pack : (had : AnswerValue) (old mid new : Reading) → Within had None old mid → TakesLine mid new → read_header new.line ≡ Ok Packfile
+pub within-pack : (had : AnswerValue) (old mid new : Reading) → Within had None old mid → TakesLine mid new
+    → read_header new.line ≡ Ok Packfile
     → ReadsAnswer v2_answer V2 old new (record had { pack = true })
 within-pack had old mid new h t is =
     let all = going-line v2_answer (left_of had None) V2 h.taken old mid new h.going h.running t in
-    going-whole v2_answer _ V2 _ old new (record had { pack = true }) all.0 all.1.version all.1.stopped all.1.stopped (λ q. rw is (simp append-nil refl))
+    going-whole v2_answer _ V2 _ old new (record had { pack = true }) all.0 all.1.version all.1.stopped all.1.stopped
+    (λ q. rw is (simp append-nil refl))
 
 both_assoc : (a b : AnswerValue) (f : Found) → in_front a (in_front b f) ≡ in_front (both a.pack a b) f
 both_assoc a b (whole v rest) = simp append_assoc refl
 both_assoc a b (refused e) = refl
 
 -- an item of a section
-pub within-item : (had more : AnswerValue) (s : Section) (old mid new : Reading) (item : AnswerValue) → Within had (Some s) old mid → TakesLine mid new
+pub within-item : (had more : AnswerValue) (s : Section) (old mid new : Reading) (item : AnswerValue) → Within had (Some s) old mid
+    → TakesLine mid new
     → read_item s new.line ≡ Ok item → more ≡ both had.pack had item → Within more (Some s) old new
 within-item had more s old mid new item h t is m =
     let all = going-line v2_answer (left_of had (Some s)) V2 h.taken old mid new h.going h.running t in
     record {
       taken = h.taken ++ line new.line ∷ [];
-      going = going-turn v2_answer _ (left_of more (Some s)) _ old new all.0 (λ q. rw (is, m) (both_assoc had item (sections_from q.list q.end (Some s))));
+      going = going-turn v2_answer _ (left_of more (Some s)) _ old new all.0
+          (λ q. rw (is, m) (both_assoc had item (sections_from q.list q.end (Some s))));
       running = all.1;
       no_pack = rw m h.no_pack;
     }
 
 -- the item that was added
-pub within-adds : (had more : AnswerValue) (s : Section) (old mid new : Reading) (o : Result AnswerValue AnswerRefusal) → Within had (Some s) old mid → TakesLine mid new
+pub within-adds : (had more : AnswerValue) (s : Section) (old mid new : Reading) (o : Result AnswerValue AnswerRefusal)
+    → Within had (Some s) old mid → TakesLine mid new
     → read_item s new.line ≡ o → Adds o had more (Ok tt) → Within more (Some s) old new
 within-adds had more s old mid new (Ok item) h t is a = within-item had more s old mid new item h t is a
 within-adds had more s old mid new (Err r) h t is a = absurd a
 
 -- a kind that isn't a flush and at which a reader stops goes on
-closed_is : (kind : MessageKind) (rest : Pieces) (later : Found) → is_stop V2 kind ≡ true → is_flush (Some kind) ≡ false → closed kind rest later ≡ later
+closed_is : (kind : MessageKind) (rest : Pieces) (later : Found) → is_stop V2 kind ≡ true → is_flush (Some kind) ≡ false
+    → closed kind rest later ≡ later
 closed_is Flush rest later s f = cc
 closed_is Delimiter rest later s f = refl
 closed_is ResponseEnd rest later s f = cc
 closed_is Text rest later s f = cc
 
-flushed_is : (kind : MessageKind) (rest : Pieces) (later : Found) → is_flush (Some kind) ≡ true → closed kind rest later ≡ whole (no_more false) rest
+flushed_is : (kind : MessageKind) (rest : Pieces) (later : Found) → is_flush (Some kind) ≡ true
+    → closed kind rest later ≡ whole (no_more false) rest
 flushed_is Flush rest later f = refl
 flushed_is Delimiter rest later f = cc
 flushed_is ResponseEnd rest later f = cc
 flushed_is Text rest later f = cc
 
 -- after a section that a delimiter ends a header is due
-pub within-delimiter : (had : AnswerValue) (s : Section) (old mid new last : Reading) → Within had (Some s) old mid → AtStop mid new → is_flush new.stopped ≡ false → last ≡ reset_to V2 new
+pub within-delimiter : (had : AnswerValue) (s : Section) (old mid new last : Reading) → Within had (Some s) old mid → AtStop mid new
+    → is_flush new.stopped ≡ false → last ≡ reset_to V2 new
     → Within had None old last
 within-delimiter had s old mid new last h a f e =
     let t = stop_taken V2 mid new h.running a in
     let went = going-stop v2_answer (left_of had (Some s)) V2 h.taken old mid new t.0 h.going h.running t.1 in
     let stop : is_stop V2 t.0 ≡ true = subst (λ v. is_stop v t.0 ≡ true) h.running.version t.1.is_stop in
     let none : is_flush (Some t.0) ≡ false = subst (λ o. is_flush o ≡ false) t.1.stopped f in
-    let turned = going-turn v2_answer _ (left_of had None) _ old new went (λ q. ap (in_front had) (closed_is t.0 q (sections_from q.list q.end None) stop none)) in
+    let turned = going-turn v2_answer _ (left_of had None) _ old new went
+    (λ q. ap (in_front had) (closed_is t.0 q (sections_from q.list q.end None) stop none)) in
     let all = going-reset v2_answer (left_of had None) V2 _ old new last turned e in
     record { taken = h.taken ++ mark t.0 ∷ []; going = all.0; running = all.1; no_pack = h.no_pack }
 
@@ -117,30 +133,36 @@ flush_is (Some Flush) h = refl
 flush_is _ h = cc
 
 -- a section that a flush ends is the last
-pub within-flush : (had : AnswerValue) (s : Section) (old mid new : Reading) → Within had (Some s) old mid → AtStop mid new → is_flush new.stopped ≡ true
+pub within-flush : (had : AnswerValue) (s : Section) (old mid new : Reading) → Within had (Some s) old mid → AtStop mid new
+    → is_flush new.stopped ≡ true
     → ReadsAnswer v2_answer V2 old new had
 within-flush had s old mid new h a f =
     let t = stop_taken V2 mid new h.running a in
     let went = going-stop v2_answer (left_of had (Some s)) V2 h.taken old mid new t.0 h.going h.running t.1 in
     let flush : is_flush (Some t.0) ≡ true = subst (λ o. is_flush o ≡ true) t.1.stopped f in
-    going-whole v2_answer _ V2 _ old new had went (t.1.version ∙ h.running.version) (subst (λ b. EndsAt V2 b new.stopped) (sym h.no_pack) (flush_is new.stopped f))
+    going-whole v2_answer _ V2 _ old new had went (t.1.version ∙ h.running.version)
+    (subst (λ b. EndsAt V2 b new.stopped) (sym h.no_pack) (flush_is new.stopped f))
     (subst (λ b. new.stopped ≡ stop_behind b (h.taken ++ mark t.0 ∷ [])) (sym h.no_pack) (last_mark h.taken t.0 new.stopped t.1.stopped))
     (λ q. ap (in_front had) (flushed_is t.0 q (sections_from q.list q.end None) flush) ∙ ap (λ v. whole v q) (had_all had h.no_pack))
 
 -- a stop where a header is due
-pub within-no_header : (plain : Bool) (had : AnswerValue) (old mid new : Reading) → Within had None old mid → AtStop mid new → AnswerFails v2_answer plain old new (Io UnexpectedEof)
+pub within-no_header : (plain : Bool) (had : AnswerValue) (old mid new : Reading) → Within had None old mid → AtStop mid new
+    → AnswerFails v2_answer plain old new (Io UnexpectedEof)
 within-no_header plain had old mid new h a =
     let t = stop_taken V2 mid new h.running a in
     let went = going-stop v2_answer (left_of had None) V2 h.taken old mid new t.0 h.going h.running t.1 in
     let stop : is_stop V2 t.0 ≡ true = subst (λ v. is_stop v t.0 ≡ true) h.running.version t.1.is_stop in
-    going-refused plain v2_answer _ _ old new (io_failed UnexpectedEof) (Io UnexpectedEof) went (last_mark h.taken t.0 new.stopped t.1.stopped) (λ q. rw stop refl) refl (λ _. refl)
+    going-refused plain v2_answer _ _ old new (io_failed UnexpectedEof) (Io UnexpectedEof) went
+    (last_mark h.taken t.0 new.stopped t.1.stopped) (λ q. rw stop refl) refl (λ _. refl)
 
-of_header : (b : Bool) (o : Option Header) (text : List ℕ) (r : AnswerRefusal) → cond b (or_refused (unknown_header text) o) (Err (by_reader not_utf8)) ≡ Err r → is_of_line r ≡ true
+of_header : (b : Bool) (o : Option Header) (text : List ℕ) (r : AnswerRefusal)
+    → cond b (or_refused (unknown_header text) o) (Err (by_reader not_utf8)) ≡ Err r → is_of_line r ≡ true
 of_header true (Some x) text r h = cc
 of_header true None text r h = let e : unknown_header text ≡ r = cc in subst (λ x. is_of_line x ≡ true) e refl
 of_header false o text r h = let e : by_reader not_utf8 ≡ r = cc in subst (λ x. is_of_line x ≡ true) e refl
 
-of_item : (b : Bool) (o : Option AnswerValue) (text : List ℕ) (r : AnswerRefusal) → cond b (or_refused (unknown_line text) o) (Err (by_reader not_utf8)) ≡ Err r → is_of_line r ≡ true
+of_item : (b : Bool) (o : Option AnswerValue) (text : List ℕ) (r : AnswerRefusal)
+    → cond b (or_refused (unknown_line text) o) (Err (by_reader not_utf8)) ≡ Err r → is_of_line r ≡ true
 of_item true (Some x) text r h = cc
 of_item true None text r h = let e : unknown_line text ≡ r = cc in subst (λ x. is_of_line x ≡ true) e refl
 of_item false o text r h = let e : by_reader not_utf8 ≡ r = cc in subst (λ x. is_of_line x ≡ true) e refl
@@ -149,7 +171,8 @@ memory_is : (r : AnswerRefusal) (e : Error) → e ≡ Memory → IsAnswerRefusal
 memory_is r e h = subst (λ k. IsAnswerRefusal k r) (sym h) (λ n. cc)
 
 -- a line that is no header
-pub within-bad_header : (plain : Bool) (had : AnswerValue) (old mid new : Reading) (o : Result Header AnswerRefusal) (e : Error) → Within had None old mid → TakesLine mid new
+pub within-bad_header : (plain : Bool) (had : AnswerValue) (old mid new : Reading) (o : Result Header AnswerRefusal) (e : Error)
+    → Within had None old mid → TakesLine mid new
     → read_header new.line ≡ o → AnswersResponse (λ (x : Header). x) o (Err e) → AnswerFails v2_answer plain old new e
 within-bad_header plain had old mid new (Ok x) e h t is a =
     let all = going-line v2_answer (left_of had None) V2 h.taken old mid new h.going h.running t in
@@ -160,7 +183,8 @@ within-bad_header plain had old mid new (Err r) e h t is a =
     going-refused plain v2_answer _ _ old new r e all.0 (last_line h.taken new.line new.stopped all.1.stopped) (λ q. rw is refl) l a
 
 -- a line that is no item of its section, or for which an allocation failed
-pub within-bad_item : (plain : Bool) (had more : AnswerValue) (s : Section) (old mid new : Reading) (o : Result AnswerValue AnswerRefusal) (e : Error) → Within had (Some s) old mid → TakesLine mid new
+pub within-bad_item : (plain : Bool) (had more : AnswerValue) (s : Section) (old mid new : Reading)
+    (o : Result AnswerValue AnswerRefusal) (e : Error) → Within had (Some s) old mid → TakesLine mid new
     → read_item s new.line ≡ o → Adds o had more (Err e) → AnswerFails v2_answer plain old new e
 within-bad_item plain had more s old mid new (Ok x) e h t is a =
     let all = going-line v2_answer (left_of had (Some s)) V2 h.taken old mid new h.going h.running t in
@@ -170,11 +194,13 @@ within-bad_item plain had more s old mid new (Err r) e h t is a =
     let l : is_of_line r ≡ true = of_item (is_utf8 new.line) (item_of s new.line) new.line r is in
     going-refused plain v2_answer _ _ old new r e all.0 (last_line h.taken new.line new.stopped all.1.stopped) (λ q. rw is refl) l a
 
-refuses_header : (b : Bool) (kind : MessageKind) (p : Pieces) (e : Refusal) → cond b (stops kind p) (refuses unexpected_frame) ≡ refuses e → refused (not_opened b) ≡ refused (from_reader e)
+refuses_header : (b : Bool) (kind : MessageKind) (p : Pieces) (e : Refusal) → cond b (stops kind p) (refuses unexpected_frame)
+    ≡ refuses e → refused (not_opened b) ≡ refused (from_reader e)
 refuses_header true kind p e h = cc
 refuses_header false kind p e h = let s : unexpected_frame ≡ e = cc in rw (← s) refl
 
-refuses_section : (kind : MessageKind) (p : Pieces) (later : Found) (e : Refusal) → cond (is_stop V2 kind) (stops kind p) (refuses unexpected_frame) ≡ refuses e
+refuses_section : (kind : MessageKind) (p : Pieces) (later : Found) (e : Refusal)
+    → cond (is_stop V2 kind) (stops kind p) (refuses unexpected_frame) ≡ refuses e
     → closed kind p later ≡ refused (from_reader e)
 refuses_section Flush p later e h = cc
 refuses_section Delimiter p later e h = cc
@@ -182,7 +208,8 @@ refuses_section ResponseEnd p later e h = let s : unexpected_frame ≡ e = cc in
 refuses_section Text p later e h = let s : unexpected_frame ≡ e = cc in rw (← s) refl
 
 -- what the reader refuses next, the answer is refused for
-sections_refused : (at : Option Section) (list : List Piece) (end e : Refusal) → next_from V2 list end ≡ refuses e → sections_from list end at ≡ refused (from_reader e)
+sections_refused : (at : Option Section) (list : List Piece) (end e : Refusal) → next_from V2 list end ≡ refuses e
+    → sections_from list end at ≡ refused (from_reader e)
 sections_refused None [] end e h = let s : end ≡ e = cc in rw (← s) refl
 sections_refused (Some s) [] end e h = let s : end ≡ e = cc in rw (← s) refl
 sections_refused None (line t ∷ ps) end e h = cc
@@ -191,7 +218,8 @@ sections_refused None (mark kind ∷ ps) end e h = refuses_header (is_stop V2 ki
 sections_refused (Some s) (mark kind ∷ ps) end e h = refuses_section kind (record { list = ps; end = end }) (sections_from ps end None) e h
 
 -- the reader's refusal, or what came from outside
-pub within-fails : (plain : Bool) (had : AnswerValue) (at : Option Section) (old mid new : Reading) (r : ReadError) (e : Error) → Within had at old mid → Fails mid new (refusal_of r)
+pub within-fails : (plain : Bool) (had : AnswerValue) (at : Option Section) (old mid new : Reading) (r : ReadError) (e : Error)
+    → Within had at old mid → Fails mid new (refusal_of r)
     → (plain ≡ true → IsPlain new (refusal_of r)) → answer_refusal e ≡ from_reader (refusal_of r) → AnswerFails v2_answer plain old new e
 within-fails plain had at old mid new r e h f p is =
     going-fails plain v2_answer (left_of had at) V2 h.taken old mid new r e h.going h.running

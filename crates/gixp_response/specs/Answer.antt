@@ -1,4 +1,5 @@
--- What an answer to a fetch says, and what is found in the pieces of a stream (gitprotocol-v2, "fetch"; gitprotocol-pack, "Packfile Negotiation").
+-- What an answer to a fetch says, and what is found in the pieces of a stream (gitprotocol-v2, "fetch"; gitprotocol-pack, "Packfile
+-- Negotiation").
 use Rattle.std.specs.Prelude.{Bool, true, false, List, [], ◌∷◌, ◌++◌, Option, Some, None}
 use Rattle.std.specs.Prelude.{Vec}
 use Rattle.std.specs.declared.alloc.Global.{Global}

@@ -1,4 +1,5 @@
--- What the lines of an answer to a fetch stand for (gitprotocol-v2, "fetch", for the sections' lines; gitprotocol-pack, "Packfile Negotiation").
+-- What the lines of an answer to a fetch stand for (gitprotocol-v2, "fetch", for the sections' lines; gitprotocol-pack, "Packfile
+-- Negotiation").
 use Rattle.std.specs.Prelude.{ℕ, ◌==◌, Bool, true, false, if◌then◌else◌, List, [], ◌∷◌, length, take, drop, codes, Option, Some, None}
 use Rattle.std.specs.Option.{option_map}
 use Rattle.std.specs.Char.{is_whitespace}

@@ -58,7 +58,8 @@ abbrev pub EndsAt : Protocol → Bool → Option MessageKind → Type 0
 EndsAt under true at = at ≡ None
 EndsAt under false at = EndsBare under at
 
--- the answer in the pieces to come was read, and what comes after it is still to come; where those aren't known, it is that of the pieces taken and of what may come after them
+-- the answer in the pieces to come was read, and what comes after it is still to come; where those aren't known, it is that of the
+-- pieces taken and of what may come after them
 pub record ReadsAnswer (found : Pieces → Found) (under : Protocol) (old new : Reading) (value : AnswerValue) : Type 0 where
   pub taken : List Piece
   pub took : Took taken old new

@@ -1,4 +1,5 @@
--- An answer under versions 0 and 1 as a relation: a beginning that ends one, and no shorter one does (gitprotocol-pack, "Packfile Negotiation").
+-- An answer under versions 0 and 1 as a relation: a beginning that ends one, and no shorter one does (gitprotocol-pack, "Packfile
+-- Negotiation").
 use Rattle.std.specs.Prelude.{◌≡◌, ⊤, Bool, true, List, [], ◌∷◌, ◌++◌, Option, Some, None}
 use Rattle.gixp_packetline.specs.declared.protocol.Protocol.{Protocol}
 use Rattle.gixp_packetline.specs.Items.{is_stop}
@@ -32,7 +33,8 @@ pub record IsShortest (version : Protocol) (a : Expected) (p : Pieces) (value : 
   pub stops : AreStops version taken
   pub ended : ends_behind version a taken rest ≡ Some pack
   pub said : value ≡ said_in (items_behind taken []) pack
-  pub shortest : (shorter : List Piece) (next : Piece) (more : List Piece) → taken ≡ shorter ++ next ∷ more → ends_behind version a shorter (front (next ∷ more) rest) ≡ None
+  pub shortest : (shorter : List Piece) (next : Piece) (more : List Piece) → taken ≡ shorter ++ next ∷ more
+      → ends_behind version a shorter (front (next ∷ more) rest) ≡ None
 
 -- no beginning ends an answer, and what comes after the longest one is refused
 pub record BeginningIsRefused (version : Protocol) (a : Expected) (p : Pieces) (e : AnswerRefusal) : Type 0 where

@@ -1,4 +1,5 @@
--- An answer under versions 0 and 1: the shortest beginning of what is to come that is one (gitprotocol-pack, "Packfile Negotiation"; where it ends is this project's own rule).
+-- An answer under versions 0 and 1: the shortest beginning of what is to come that is one (gitprotocol-pack, "Packfile Negotiation";
+-- where it ends is this project's own rule).
 use Rattle.std.specs.Prelude.{◌≡◌, ℕ, Bool, true, false, not, ◌&&◌, if◌then◌else◌, List, [], ◌∷◌, ◌++◌, Option, Some, None}
 use Rattle.std.specs.List.{list_any}
 use Rattle.std.specs.BTreeSet.{BTreeSet, contains}
@@ -129,7 +130,8 @@ updates_in (_ ∷ before) = updates_in before
 
 -- what a beginning says
 abbrev pub said_in : List AnswerItem → Bool → AnswerValue
-said_in before pack = record { acknowledgements = acknowledgements_in before; shallow_updates = updates_in before; wanted_refs = []; pack = pack }
+said_in before pack =
+    record { acknowledgements = acknowledgements_in before; shallow_updates = updates_in before; wanted_refs = []; pack = pack }
 
 -- one more item after those of an answer
 abbrev pub said_with : AnswerValue → AnswerItem → AnswerValue

@@ -1,4 +1,5 @@
--- The features without which answers under versions 0 and 1 aren't read (gitprotocol-capabilities, "multi_ack_detailed", "side-band, side-band-64k").
+-- The features without which answers under versions 0 and 1 aren't read (gitprotocol-capabilities, "multi_ack_detailed", "side-band,
+-- side-band-64k").
 use Rattle.std.specs.Prelude.{◌≡◌, ℕ, ⊤, Bool, ◌||◌, if◌then◌else◌, List, map, codes, Option, Some, None, Result, Ok, Err}
 use Rattle.std.specs.Borrow.{Bor}
 use Rattle.std.specs.List.{list_any}
@@ -29,7 +30,8 @@ has_name name names = list_any (λ n. is_text n name) names
 abbrev pub first_missing : List (List ℕ) → Option (List ℕ)
 first_missing names =
     if has_name (codes "multi_ack_detailed") names
-    then (if has_name (codes "side-band") names || has_name (codes "side-band-64k") names then None else Some (codes "side-band OR side-band-64k"))
+    then (if has_name (codes "side-band") names || has_name (codes "side-band-64k") names then None
+    else Some (codes "side-band OR side-band-64k"))
     else Some (codes "multi_ack_detailed")
 
 -- version 2 needs none

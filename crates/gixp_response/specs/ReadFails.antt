@@ -37,7 +37,8 @@ module _ {E R T : Type 0} (errors : Errors E R) (Read : Reading → Reading → 
     pub error : e ≡ errors.memory
 
 -- First says which refusal is the first of the pieces to come, and IsLast that it is that of the last one taken
-module _ {E R T : Type 0} (errors : Errors E R) (Read : Reading → Reading → T → Type 0) (First : Reading → Pieces → R → Type 0) (IsLast : T → R → Reading → Type 0) where
+module _ {E R T : Type 0} (errors : Errors E R) (Read : Reading → Reading → T → Type 0) (First : Reading → Pieces → R → Type 0)
+    (IsLast : T → R → Reading → Type 0) where
   -- the first refusal was that of a line, or of a stop in its place, which is the last that was taken
   pub record LineRefused (old new : Reading) (e : E) : Type 0 where
     pub taken : T

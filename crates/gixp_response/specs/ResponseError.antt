@@ -1,4 +1,5 @@
--- Why there is no answer to a fetch, and how errors of lines are compared (gitprotocol-v2, "fetch"; gitprotocol-pack, "Packfile Negotiation").
+-- Why there is no answer to a fetch, and how errors of lines are compared (gitprotocol-v2, "fetch"; gitprotocol-pack, "Packfile
+-- Negotiation").
 use Rattle.std.specs.Prelude.{◌≡◌, ℕ, Bool, true, false, List, codes, Option, Some, None, Result, Ok, Err, string_bytes, ⊤}
 use Rattle.std.specs.declared.io.ErrorKind.{ErrorKind}
 use Rattle.bstr.specs.Owned.{bstring_bytes}

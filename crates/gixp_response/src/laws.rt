@@ -24,13 +24,15 @@ pub fn sections_are_answers()
 /// An answer that is found under versions 0 and 1 is a beginning that ends one, and no shorter one
 /// does.
 pub fn answers_are_shortest()
-    ensures { (version : Protocol) (a : Expected) (p : Pieces) (value : AnswerValue) (rest : Pieces) → v1_answer version a p ≡ whole value rest → IsShortest version a p value rest }
+    ensures { (version : Protocol) (a : Expected) (p : Pieces) (value : AnswerValue) (rest : Pieces)
+        → v1_answer version a p ≡ whole value rest → IsShortest version a p value rest }
 {}
 
 /// Each beginning that ends an answer under versions 0 and 1, where no shorter one does, is found, so
 /// that it doesn't matter how it was read.
 pub fn shortest_are_answers()
-    ensures { (version : Protocol) (a : Expected) (p : Pieces) (value : AnswerValue) (rest : Pieces) → IsShortest version a p value rest → v1_answer version a p ≡ whole value rest }
+    ensures { (version : Protocol) (a : Expected) (p : Pieces) (value : AnswerValue) (rest : Pieces) → IsShortest version a p value rest
+        → v1_answer version a p ≡ whole value rest }
 {}
 
 /// A version 2 answer that is refused is some sections and after them a header or an item that is
@@ -41,16 +43,19 @@ pub fn refused_sections_are_cut()
 
 /// Sections with such a refusal after them are refused so, however they are read.
 pub fn cut_sections_are_refused()
-    ensures { (ps : List Piece) (end : Refusal) (ss : List SectionText) (e : AnswerRefusal) → AreRefused ps end ss e → v2_answer (record { list = ps; end = end }) ≡ refused e }
+    ensures { (ps : List Piece) (end : Refusal) (ss : List SectionText) (e : AnswerRefusal) → AreRefused ps end ss e
+        → v2_answer (record { list = ps; end = end }) ≡ refused e }
 {}
 
 /// Where an answer under versions 0 and 1 is refused, no beginning ends one, and the refusal is that of
 /// the reader after all of it.
 pub fn refused_answers_have_no_end()
-    ensures { (version : Protocol) (a : Expected) (p : Pieces) (e : AnswerRefusal) → v1_answer version a p ≡ refused e → BeginningIsRefused version a p e }
+    ensures { (version : Protocol) (a : Expected) (p : Pieces) (e : AnswerRefusal) → v1_answer version a p ≡ refused e
+        → BeginningIsRefused version a p e }
 {}
 
 /// Where no beginning ends an answer under versions 0 and 1, it is refused so, however it is read.
 pub fn answers_without_end_are_refused()
-    ensures { (version : Protocol) (a : Expected) (p : Pieces) (e : AnswerRefusal) → BeginningIsRefused version a p e → v1_answer version a p ≡ refused e }
+    ensures { (version : Protocol) (a : Expected) (p : Pieces) (e : AnswerRefusal) → BeginningIsRefused version a p e
+        → v1_answer version a p ≡ refused e }
 {}

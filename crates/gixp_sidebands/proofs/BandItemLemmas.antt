@@ -20,7 +20,8 @@ item_by (Unknown band) text = Err (bad_band band)
 -- by whether the first byte is a band, and which
 item_cases : (band : ℕ) (text : List ℕ) (b1 b2 b3 b4 : Bool) → unless_empty line_item text ≡ cond b4 None (Some (line_item text))
     → cond b1 (Ok (unless_empty line_item text))
-    (cond b2 (Ok (unless_empty (text_item false) (strip_last 10 text))) (cond b3 (Ok (unless_empty (text_item true) (strip_last 10 text))) (Err (bad_band band))))
+    (cond b2 (Ok (unless_empty (text_item false) (strip_last 10 text)))
+    (cond b3 (Ok (unless_empty (text_item true) (strip_last 10 text))) (Err (bad_band band))))
     ≡ item_by (cond b1 (cond b4 Empty Content) (cond b2 (Text false) (cond b3 (Text true) (Unknown band)))) (band ∷ text)
 item_cases band text true b2 b3 true e = ap Ok e
 item_cases band text true b2 b3 false e = ap Ok e
@@ -37,11 +38,13 @@ item_at [] = refl
 item_at (band ∷ text) = item_cases band text (eqb band 1) (eqb band 2) (eqb band 3) (eqb (length (band ∷ text)) 1) (content_cases band text)
 
 -- a text adds no line, and is heard where it isn't empty
-no_line : (is_error : Bool) (text : List ℕ) (rest : Items) → (first_lines (with_found (Ok (unless_empty (text_item is_error) text)) rest)).lines ≡ (first_lines rest).lines
+no_line : (is_error : Bool) (text : List ℕ) (rest : Items)
+    → (first_lines (with_found (Ok (unless_empty (text_item is_error) text)) rest)).lines ≡ (first_lines rest).lines
 no_line is_error [] rest = refl
 no_line is_error (x ∷ xs) rest = refl
 
-one_text : (is_error : Bool) (text : List ℕ) (rest : Items) → first_texts (with_found (Ok (unless_empty (text_item is_error) text)) rest).list ≡ heard_before is_error text (first_texts rest.list)
+one_text : (is_error : Bool) (text : List ℕ) (rest : Items) → first_texts
+    (with_found (Ok (unless_empty (text_item is_error) text)) rest).list ≡ heard_before is_error text (first_texts rest.list)
 one_text is_error [] rest = refl
 one_text is_error (x ∷ xs) rest = refl
 
@@ -53,7 +56,8 @@ line_step v (Text b) text rest items h = h ∙ sym (no_line b (strip_last 10 (dr
 line_step v (Unknown b) text rest items h = refl
 
 lines_mark : (v : Protocol) (b : Bool) (kind : MessageKind) (rest : Pieces) (items : Items)
-    → (cond b (no_lines (stop kind rest)) (no_lines (refusal unexpected_frame))).lines ≡ (first_lines (cond b (with_item (stop_item kind) items) (no_items unexpected_frame))).lines
+    → (cond b (no_lines (stop kind rest)) (no_lines (refusal unexpected_frame))).lines
+    ≡ (first_lines (cond b (with_item (stop_item kind) items) (no_items unexpected_frame))).lines
 lines_mark v true kind rest items = refl
 lines_mark v false kind rest items = refl
 
@@ -66,7 +70,8 @@ content_lines v (line text ∷ ps) end =
     ∙ ap (λ x. (first_lines (with_found x (items_from v banded ps end))).lines) (sym (item_at text))
 content_lines v (mark kind ∷ ps) end = lines_mark v (is_stop v kind) kind (unband_from ps end) (items_from v banded ps end)
 
-joined_mark : (b : Bool) (kind : MessageKind) (rest : Pieces) → [] ≡ joined (cond b (no_lines (stop kind rest)) (no_lines (refusal unexpected_frame))).lines
+joined_mark : (b : Bool) (kind : MessageKind) (rest : Pieces)
+    → [] ≡ joined (cond b (no_lines (stop kind rest)) (no_lines (refusal unexpected_frame))).lines
 joined_mark true kind rest = refl
 joined_mark false kind rest = refl
 
@@ -84,15 +89,18 @@ text_step : (k : Band) (text : List ℕ) (rest : List Message) (items : Items) �
     → heard (messages_line k text rest) ≡ first_texts (with_found (item_by k text) items).list
 text_step Empty text rest items h = h
 text_step Content text rest items h = h
-text_step (Text b) text rest items h = ap (heard_before b (strip_last 10 (drop 1 text))) h ∙ sym (one_text b (strip_last 10 (drop 1 text)) items)
+text_step (Text b) text rest items h = ap (heard_before b (strip_last 10 (drop 1 text))) h
+    ∙ sym (one_text b (strip_last 10 (drop 1 text)) items)
 text_step (Unknown b) text rest items h = refl
 
-texts_mark : (b : Bool) (kind : MessageKind) (items : Items) → [] ≡ first_texts (cond b (with_item (stop_item kind) items) (no_items unexpected_frame)).list
+texts_mark : (b : Bool) (kind : MessageKind) (items : Items)
+    → [] ≡ first_texts (cond b (with_item (stop_item kind) items) (no_items unexpected_frame)).list
 texts_mark true kind items = refl
 texts_mark false kind items = refl
 
 -- the messages that are heard are the texts among them
-pub messages_items : (v : Protocol) (list : List Piece) (end : Refusal) → heard (messages_from list) ≡ first_texts (items_from v banded list end).list
+pub messages_items : (v : Protocol) (list : List Piece) (end : Refusal)
+    → heard (messages_from list) ≡ first_texts (items_from v banded list end).list
 messages_items v [] end = refl
 messages_items v (line text ∷ ps) end =
     text_step (band_of text) text (messages_from ps) (items_from v banded ps end) (messages_items v ps end)
@@ -101,7 +109,8 @@ messages_items v (mark kind ∷ ps) end = texts_mark (is_stop v kind) kind (item
 
 -- ---- items without texts
 
-no_item : (is_error : Bool) (text : List ℕ) (rest : Items) → without_texts (with_found (Ok (unless_empty (text_item is_error) text)) rest) ≡ without_texts rest
+no_item : (is_error : Bool) (text : List ℕ) (rest : Items)
+    → without_texts (with_found (Ok (unless_empty (text_item is_error) text)) rest) ≡ without_texts rest
 no_item is_error [] rest = refl
 no_item is_error (x ∷ xs) rest = refl
 
@@ -113,14 +122,17 @@ item_step v (Text b) text rest items h = h ∙ sym (no_item b (strip_last 10 (dr
 item_step v (Unknown b) text rest items h = refl
 
 items_mark : (b : Bool) (kind : MessageKind) (content items : Items) → content ≡ without_texts items
-    → cond b (with_item (stop_item kind) content) (no_items unexpected_frame) ≡ without_texts (cond b (with_item (stop_item kind) items) (no_items unexpected_frame))
+    → cond b (with_item (stop_item kind) content) (no_items unexpected_frame)
+    ≡ without_texts (cond b (with_item (stop_item kind) items) (no_items unexpected_frame))
 items_mark true kind content items h = ap (with_item (stop_item kind)) h
 items_mark false kind content items h = refl
 
 -- the items of the content are the banded ones but for texts
-pub content_without_texts : (v : Protocol) (list : List Piece) (end : Refusal) → items_of v plain (unband_from list end) ≡ without_texts (items_from v banded list end)
+pub content_without_texts : (v : Protocol) (list : List Piece) (end : Refusal) → items_of v plain (unband_from list end)
+    ≡ without_texts (items_from v banded list end)
 content_without_texts v [] end = refl
 content_without_texts v (line text ∷ ps) end =
     item_step v (band_of text) text (unband_from ps end) (items_from v banded ps end) (content_without_texts v ps end)
     ∙ ap (λ x. without_texts (with_found x (items_from v banded ps end))) (sym (item_at text))
-content_without_texts v (mark kind ∷ ps) end = items_mark (is_stop v kind) kind (items_of v plain (unband_from ps end)) (items_from v banded ps end) (content_without_texts v ps end)
+content_without_texts v (mark kind ∷ ps) end = items_mark (is_stop v kind) kind (items_of v plain (unband_from ps end))
+    (items_from v banded ps end) (content_without_texts v ps end)

@@ -24,7 +24,8 @@ unband_gives v (line t ∷ ps) end text q h =
     let e1 : t ≡ text = cc in
     let e2 : p ≡ q = cc in
     rw (← e1, ← e2) refl
-unband_gives v (mark kind ∷ ps) end text q h = absurd (mark_not_gives (is_stop v kind) kind (record { list = ps; end = end }) q unexpected_frame text h)
+unband_gives v (mark kind ∷ ps) end text q h =
+    absurd (mark_not_gives (is_stop v kind) kind (record { list = ps; end = end }) q unexpected_frame text h)
 
 behind_gives : (v : Protocol) (list : List Piece) (end : Refusal) (text : List ℕ) (q : Pieces) → next_from v list end ≡ gives text q
     → unband_behind (record { list = list; end = end }) ≡ unband q
@@ -33,7 +34,8 @@ behind_gives v (line t ∷ ps) end text q h =
     let p : Pieces = record { list = ps; end = end } in
     let e2 : p ≡ q = cc in
     rw (← e2) refl
-behind_gives v (mark kind ∷ ps) end text q h = absurd (mark_not_gives (is_stop v kind) kind (record { list = ps; end = end }) q unexpected_frame text h)
+behind_gives v (mark kind ∷ ps) end text q h =
+    absurd (mark_not_gives (is_stop v kind) kind (record { list = ps; end = end }) q unexpected_frame text h)
 
 unband_stops : (v : Protocol) (list : List Piece) (end : Refusal) (kind : MessageKind) (q : Pieces) → next_from v list end ≡ stops kind q
     → next_of v (unband_from list end) ≡ stops kind (unband q)
@@ -50,7 +52,8 @@ unband_stops v (mark k ∷ ps) end kind q h = at (is_stop v k) h
         rw (← e1, ← e2) refl
     at false e = cc
 
-unband_refuses : (v : Protocol) (list : List Piece) (end : Refusal) (x : Refusal) → next_from v list end ≡ refuses x → next_of v (unband_from list end) ≡ refuses x
+unband_refuses : (v : Protocol) (list : List Piece) (end : Refusal) (x : Refusal) → next_from v list end ≡ refuses x
+    → next_of v (unband_from list end) ≡ refuses x
 unband_refuses v [] end x h = h
 unband_refuses v (line t ∷ ps) end x h = cc
 unband_refuses v (mark k ∷ ps) end x h = at (is_stop v k) h
@@ -82,7 +85,15 @@ pub record Skipping (o : Reading) (name : GName) (now : Reading) : Type 0 where
   pub moved : (seen name now ≡ o) ⊎ Moved o now
 
 pub skipping-start : (name : GName) (r : Reading) → Skipping (seen name r) name r
-skipping-start name r = record { to_come = same (option_map unband r.to_come); stopped = refl; version = refl; failures = refl; left = omega arith; held = refl; moved = inl refl }
+skipping-start name r = record {
+  to_come = same (option_map unband r.to_come);
+  stopped = refl;
+  version = refl;
+  failures = refl;
+  left = omega arith;
+  held = refl;
+  moved = inl refl;
+}
   where
     same : (o : Option Pieces) → IfSome o (λ p. o ≡ Some p)
     same None = tt
@@ -192,7 +203,8 @@ skip_next (Some p) (Some r) (Some r2) c v w s t k e f h n m =
     passed Empty s rest z = refl
     passed (Text b) s rest z = refl
 
-refused_above : (name : GName) (r : Reading) (x : Option Refusal) → (r.peeked ≡ true → band_refusal (band_of r.line) ≡ x) → (r.peeked ≡ false → r.refused ≡ x) → (seen name r).refused ≡ x
+refused_above : (name : GName) (r : Reading) (x : Option Refusal) → (r.peeked ≡ true → band_refusal (band_of r.line) ≡ x)
+    → (r.peeked ≡ false → r.refused ≡ x) → (seen name r).refused ≡ x
 refused_above name r x f g = at r.peeked refl
   where
     at : (b : Bool) → r.peeked ≡ b → (seen name r).refused ≡ x
@@ -206,7 +218,8 @@ peeked_above name r f = at r.peeked refl
     at true e = rw e (f e)
     at false e = rw e refl
 
-same_band : {A : Type 0} (f : Band → A) (now new : Reading) (k : Band) → ShowsLine now new → band_of new.line ≡ k → now.peeked ≡ true → f (band_of now.line) ≡ f k
+same_band : {A : Type 0} (f : Band → A) (now new : Reading) (k : Band) → ShowsLine now new → band_of new.line ≡ k → now.peeked ≡ true
+    → f (band_of now.line) ≡ f k
 same_band f now new k h e p = ap (λ l. f (band_of l)) (sym (h.again p)) ∙ ap f e
 
 passed_none : (k : Band) → IsPassed k → band_refusal k ≡ None
@@ -236,7 +249,8 @@ unpeeked_before o now name s n = at s.moved
     at (inl e) = ap (λ (r : Reading). r.peeked) (sym e) ∙ n
     at (inr e) = e.unpeeked
 
-same_before : (o now : Reading) (name : GName) (x : Refusal) → Skipping o name now → IfSome (seen name now).refused (λ y. y ≡ x) → IfSome o.refused (λ y. y ≡ x)
+same_before : (o now : Reading) (name : GName) (x : Refusal) → Skipping o name now → IfSome (seen name now).refused (λ y. y ≡ x)
+    → IfSome o.refused (λ y. y ≡ x)
 same_before o now name x s n = at s.moved
   where
     P : Option Refusal → Type 0
@@ -262,9 +276,11 @@ again_before o now new name s h p = at s.moved
 held_above : (name : GName) (a b : Reading) → b.held ≡ a.held → (seen name b).held ≡ (seen name a).held
 held_above name a b e = ap (λ (h : TransportState). record h { names = name ∷ h.names }) e
 
-pub shows_content : (o now new : Reading) (name : GName) → Skipping o name now → ShowsLine now new → band_of new.line ≡ Content → ShowsLine o (seen name new)
+pub shows_content : (o now new : Reading) (name : GName) → Skipping o name now → ShowsLine now new → band_of new.line ≡ Content
+    → ShowsLine o (seen name new)
 shows_content o now new name s h k =
-    let none : (seen name now).refused ≡ None = refused_above name now None (λ p. same_band band_refusal now new Content h k p) (λ _. h.sound) in
+    let none : (seen name now).refused ≡ None = refused_above name now None (λ p. same_band band_refusal now new Content h k p)
+    (λ _. h.sound) in
     record {
       running = sym s.stopped ∙ h.running;
       sound = calm_before o now name s none;
@@ -280,14 +296,16 @@ shows_content o now new name s h k =
       held = held_above name now new h.held ∙ s.held;
     }
 
-pub takes_content : (o now new : Reading) (name : GName) → ShowsLine o (seen name now) → band_of now.line ≡ Content → now.peeked ≡ true → TakesLine now new → TakesLine o (seen name new)
+pub takes_content : (o now new : Reading) (name : GName) → ShowsLine o (seen name now) → band_of now.line ≡ Content → now.peeked ≡ true
+    → TakesLine now new → TakesLine o (seen name new)
 takes_content o now new name s k p t =
     let line : new.line ≡ now.line = t.again p in
     record {
       running = s.running;
       sound = s.sound;
       again = λ q. ap (drop 1) line ∙ s.again q;
-      next = taken_next o.to_come now.to_come new.to_come o.version now.version (drop 1 now.line) new.line s.version (ap band_of line ∙ k) s.next t.next;
+      next = taken_next o.to_come now.to_come new.to_come o.version now.version (drop 1 now.line) new.line s.version
+          (ap band_of line ∙ k) s.next t.next;
       stopped = t.stopped;
       version = t.version ∙ s.version;
       peeked = ap (λ b. b && is_content (band_of new.line)) t.peeked;
@@ -296,7 +314,8 @@ takes_content o now new name s k p t =
       held = held_above name now new t.held ∙ s.held;
     }
 
-pub refuses_band : (o now new : Reading) (name : GName) (band : ℕ) → Skipping o name now → ShowsLine now new → band_of new.line ≡ Unknown band → Refuses o (seen name new) (bad_band band)
+pub refuses_band : (o now new : Reading) (name : GName) (band : ℕ) → Skipping o name now → ShowsLine now new
+    → band_of new.line ≡ Unknown band → Refuses o (seen name new) (bad_band band)
 refuses_band o now new name band s h k =
     record {
       running = sym s.stopped ∙ h.running;
@@ -315,30 +334,41 @@ refuses_band o now new name band s h k =
   where
     at : (b : Bool) → now.peeked ≡ b → IfSome (seen name now).refused (λ y. y ≡ bad_band band)
     at true e = let P : Option Refusal → Type 0 = λ o. IfSome o (λ y. y ≡ bad_band band) in
-        subst P (sym (refused_above name now (Some (bad_band band)) (λ p. same_band band_refusal now new (Unknown band) h k p) (λ p. absurd (let q = e in cc)))) refl
+        subst P (sym (refused_above name now (Some (bad_band band)) (λ p. same_band band_refusal now new (Unknown band) h k p)
+        (λ p. absurd (let q = e in cc)))) refl
     at false e = let P : Option Refusal → Type 0 = λ o. IfSome o (λ y. y ≡ bad_band band) in
         subst P (sym (refused_above name now None (λ p. absurd (let q = e in cc)) (λ _. h.sound))) tt
 
 -- nothing stood at the front of what was seen
 pub calm : (o now mid : Reading) (name : GName) → Skipping o name now → ShowsLine now mid → IsPassed (band_of mid.line) → o.refused ≡ None
-calm o now mid name s h k = calm_before o now name s (refused_above name now None (λ p. same_band band_refusal now mid (band_of mid.line) h refl p ∙ passed_none (band_of mid.line) k) (λ _. h.sound))
+calm o now mid name s h k = calm_before o now name s (refused_above name now None
+    (λ p. same_band band_refusal now mid (band_of mid.line) h refl p ∙ passed_none (band_of mid.line) k) (λ _. h.sound))
 
 pub unseen : (o now mid : Reading) (name : GName) → Skipping o name now → ShowsLine now mid → IsPassed (band_of mid.line) → o.peeked ≡ false
-unseen o now mid name s h k = unpeeked_before o now name s (peeked_above name now (λ p. same_band is_content now mid (band_of mid.line) h refl p ∙ passed_false (band_of mid.line) k))
+unseen o now mid name s h k = unpeeked_before o now name s
+    (peeked_above name now (λ p. same_band is_content now mid (band_of mid.line) h refl p ∙ passed_false (band_of mid.line) k))
 
-pub skips_line : (o now mid new : Reading) (name : GName) → Skipping o name now → ShowsLine now mid → IsPassed (band_of mid.line) → TakesLine mid new → Skipping o name new
+pub skips_line : (o now mid new : Reading) (name : GName) → Skipping o name now → ShowsLine now mid → IsPassed (band_of mid.line)
+    → TakesLine mid new → Skipping o name new
 skips_line o now mid new name s h k t = record {
-  to_come = skip_next o.to_come now.to_come mid.to_come new.to_come now.version mid.version mid.line new.line k (t.again h.peeked) h.version s.to_come h.next t.next;
+  to_come = skip_next o.to_come now.to_come mid.to_come new.to_come now.version mid.version mid.line new.line k
+      (t.again h.peeked) h.version s.to_come h.next t.next;
   stopped = t.stopped ∙ sym h.running ∙ s.stopped;
   version = t.version ∙ h.version ∙ s.version;
   failures = t.failures ∙ h.failures ∙ s.failures;
   left = let a = s.left in let b = h.left in let c = t.left in omega arith;
   held = held_above name mid new t.held ∙ held_above name now mid h.held ∙ s.held;
-  moved = inr (record { refused = calm o now mid name s h k; unpeeked = unseen o now mid name s h k; peeked = t.peeked; running = sym s.stopped ∙ h.running });
+  moved = inr (record {
+    refused = calm o now mid name s h k;
+    unpeeked = unseen o now mid name s h k;
+    peeked = t.peeked;
+    running = sym s.stopped ∙ h.running;
+  });
 }
 
 -- a text was told, its packet taken, and the interrupt said so
-pub interrupt_faults : (o now mid new : Reading) (name : GName) → Skipping o name now → ShowsLine now mid → IsPassed (band_of mid.line) → TakesLine mid new → Faults o (seen name new) interrupted
+pub interrupt_faults : (o now mid new : Reading) (name : GName) → Skipping o name now → ShowsLine now mid → IsPassed (band_of mid.line)
+    → TakesLine mid new → Faults o (seen name new) interrupted
 interrupt_faults o now mid new name s h k t =
     let z = skips_line o now mid new name s h k t in
     let none = calm o now mid name s h k in
@@ -359,7 +389,8 @@ interrupt_faults o now mid new name s h k t =
     }
 
 -- memory ran out for a text: its line is still to come below
-pub text_faults : (o now new : Reading) (name : GName) → Skipping o name now → ShowsLine now new → IsPassed (band_of new.line) → Faults o (seen name new) memory
+pub text_faults : (o now new : Reading) (name : GName) → Skipping o name now → ShowsLine now new → IsPassed (band_of new.line)
+    → Faults o (seen name new) memory
 text_faults o now new name s h k =
     let none = calm o now new name s h k in
     let P : Option Refusal → Type 0 = λ x. IfSome x (λ e. (seen name new).refused ≡ Some e) in
@@ -378,7 +409,8 @@ text_faults o now new name s h k =
       };
     }
   where
-    kept : (a b : Option Pieces) → IfSome a (λ p. (q : Pieces) × (b ≡ Some p) × (next_of now.version p ≡ gives new.line q)) → IfSome a (λ p. b ≡ Some p)
+    kept : (a b : Option Pieces) → IfSome a (λ p. (q : Pieces) × (b ≡ Some p) × (next_of now.version p ≡ gives new.line q))
+        → IfSome a (λ p. b ≡ Some p)
     kept None b n = tt
     kept (Some p) b n = n.1
 
@@ -398,7 +430,8 @@ stays_above o now new name s h =
     }
   where
     at : (seen name now ≡ o) ⊎ Moved o now
-        → (seen name now).refused ≡ now.refused → (seen name new).refused ≡ new.refused → IfSome o.refused (λ e. (seen name new).refused ≡ Some e)
+        → (seen name now).refused ≡ now.refused → (seen name new).refused ≡ new.refused
+        → IfSome o.refused (λ e. (seen name new).refused ≡ Some e)
     at (inl e) nr nw =
         let P : Option Refusal → Type 0 = λ x. IfSome x (λ y. (seen name new).refused ≡ Some y) in
         let Q : Option Refusal → Type 0 = λ c. IfSome now.refused (λ x. c ≡ Some x) in
@@ -407,7 +440,11 @@ stays_above o now new name s h =
 
 pub stop_above : (o now new : Reading) (name : GName) → Skipping o name now → AtStop now new → AtStop o (seen name new)
 stop_above o now new name s (inl h) =
-    inl (record { was = let P : Option MessageKind → Type 0 = IsSome in subst P s.stopped h.was; stays = stays_above o now new name s h.stays; failures = h.failures ∙ s.failures })
+    inl (record {
+      was = let P : Option MessageKind → Type 0 = IsSome in subst P s.stopped h.was;
+      stays = stays_above o now new name s h.stays;
+      failures = h.failures ∙ s.failures;
+    })
 stop_above o now new name s (inr h) =
     let t = h.1 in
     let none : (seen name now).refused ≡ None = refused_above name now None (λ p. absurd (let q = t.unpeeked in cc)) (λ _. t.sound) in
@@ -428,7 +465,8 @@ stop_above o now new name s (inr h) =
       },
     )
 
-fault_above : (o now new : Reading) (name : GName) (e : Refusal) → Skipping o name now → now.peeked ≡ false → IsFault now new e → IsFault o (seen name new) e
+fault_above : (o now new : Reading) (name : GName) (e : Refusal) → Skipping o name now → now.peeked ≡ false → IsFault now new e
+    → IsFault o (seen name new) e
 fault_above o now new name (io kind) s p h = (h.0, calm_before o now name s (rw p h.1), subst (λ n. Rose n new.failures) s.failures h.2)
 fault_above o now new name memory s p h = h ∙ s.failures
 fault_above o now new name interrupted s p h = (calm_before o now name s (rw p h.0), h.1 ∙ s.failures)
@@ -441,7 +479,8 @@ fault_above o now new name (bad_band b) s p h = absurd h
 pub fails_above : (o now new : Reading) (name : GName) (e : Refusal) → Skipping o name now → Fails now new e → Fails o (seen name new) e
 fails_above o now new name e s (inl h) =
     let P : Option Refusal → Type 0 = λ x. IfSome x (λ y. y ≡ e) in
-    let same : IfSome (seen name now).refused (λ y. y ≡ e) = (let nr : (seen name now).refused ≡ now.refused = rw h.unpeeked refl in subst P (sym nr) h.same) in
+    let same : IfSome (seen name now).refused (λ y. y ≡ e) =
+    (let nr : (seen name now).refused ≡ now.refused = rw h.unpeeked refl in subst P (sym nr) h.same) in
     inl (record {
       running = sym s.stopped ∙ h.running;
       lasting = h.lasting;
@@ -457,7 +496,11 @@ fails_above o now new name e s (inl h) =
       held = held_above name now new h.held ∙ s.held;
     })
 fails_above o now new name e s (inr (inl h)) =
-    inr (inl (record { running = sym s.stopped ∙ h.running; fault = fault_above o now new name e s h.stays.unpeeked h.fault; stays = stays_above o now new name s h.stays }))
+    inr (inl (record {
+      running = sym s.stopped ∙ h.running;
+      fault = fault_above o now new name e s h.stays.unpeeked h.fault;
+      stays = stays_above o now new name s h.stays;
+    }))
 fails_above o now new name e s (inr (inr h)) =
     inr (inr (record {
       running = sym s.stopped ∙ h.running;
@@ -475,11 +518,15 @@ fails_above o now new name e s (inr (inr h)) =
     }))
 
 -- at the start of a call
-pub skipping-init : (begun : Bool) (name name' : GName) (r new : Reading) → name' ≡ name → (begun ≡ true → TakesLine r new) → (begun ≡ false → new ≡ r)
+pub skipping-init : (begun : Bool) (name name' : GName) (r new : Reading) → name' ≡ name → (begun ≡ true → TakesLine r new)
+    → (begun ≡ false → new ≡ r)
     → Skipping (banded_reading begun name r) name' new
 skipping-init true name name' r new e t f = rw e (skipping-behind name r new (t refl))
-skipping-init false name name' r new e t f = rw e (subst (λ (x : Reading). Skipping (seen name r) name x) (sym (f refl)) (skipping-start name r))
+skipping-init false name name' r new e t f =
+    rw e (subst (λ (x : Reading). Skipping (seen name r) name x) (sym (f refl)) (skipping-start name r))
 
 -- what is seen with no packet begun, through a reference of the same name
-pub seen_by : (place x : Option ℕ) (name name' : GName) (r : Reading) → place ≡ x → is_begun x ≡ false → name' ≡ name → banded_reading (is_begun place) name' r ≡ seen name r
-seen_by place x name name' r e z n = ap (λ y. banded_reading (is_begun y) name' r) e ∙ ap (λ b. banded_reading b name' r) z ∙ ap (λ m. seen m r) n
+pub seen_by : (place x : Option ℕ) (name name' : GName) (r : Reading) → place ≡ x → is_begun x ≡ false → name' ≡ name
+    → banded_reading (is_begun place) name' r ≡ seen name r
+seen_by place x name name' r e z n = ap (λ y. banded_reading (is_begun y) name' r) e ∙ ap (λ b. banded_reading b name' r) z
+    ∙ ap (λ m. seen m r) n

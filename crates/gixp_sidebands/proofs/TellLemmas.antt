@@ -25,14 +25,17 @@ messages_gives v (line t ∷ ps) end text q h =
     let e1 : t ≡ text = cc in
     let e2 : p ≡ q = cc in
     rw (← e1, ← e2) refl
-messages_gives v (mark kind ∷ ps) end text q h = absurd (mark_not_gives (is_stop v kind) kind (record { list = ps; end = end }) q unexpected_frame text h)
+messages_gives v (mark kind ∷ ps) end text q h =
+    absurd (mark_not_gives (is_stop v kind) kind (record { list = ps; end = end }) q unexpected_frame text h)
 
-messages_stops : (v : Protocol) (list : List Piece) (end : Refusal) (kind : MessageKind) (q : Pieces) → next_from v list end ≡ stops kind q → messages_from list ≡ []
+messages_stops : (v : Protocol) (list : List Piece) (end : Refusal) (kind : MessageKind) (q : Pieces)
+    → next_from v list end ≡ stops kind q → messages_from list ≡ []
 messages_stops v [] end kind q h = refl
 messages_stops v (line t ∷ ps) end kind q h = cc
 messages_stops v (mark k ∷ ps) end kind q h = refl
 
-messages_refuses : (v : Protocol) (list : List Piece) (end : Refusal) (e : Refusal) → next_from v list end ≡ refuses e → messages_from list ≡ []
+messages_refuses : (v : Protocol) (list : List Piece) (end : Refusal) (e : Refusal) → next_from v list end ≡ refuses e
+    → messages_from list ≡ []
 messages_refuses v [] end e h = refl
 messages_refuses v (line t ∷ ps) end e h = cc
 messages_refuses v (mark k ∷ ps) end e h = refl
@@ -53,7 +56,8 @@ known_at None q P e h = absurd (let x = e in cc)
 known_at (Some p) q P e h = let same : p ≡ q = cc in subst P same h
 
 module _ {P I : Type 0} (hears spares : P → Bool → List ℕ → P → Type 0) (says : I → Bool → I → Type 0) where
-  tells-more : (ms : List Message) (m : Message) (a b c : Listener P I) → Tells hears spares says ms a b → TellsThen hears spares says m false b c → Tells hears spares says (ms ++ m ∷ []) a c
+  tells-more : (ms : List Message) (m : Message) (a b c : Listener P I) → Tells hears spares says ms a b
+      → TellsThen hears spares says m false b c → Tells hears spares says (ms ++ m ∷ []) a c
   tells-more [] m a b c h t = (c, subst (λ (x : Listener P I). TellsThen hears spares says m false x c) h t, refl)
   tells-more (n ∷ ms) m a b c h t = (h.0, h.1, tells-more ms m h.0 b c h.2 t)
 
@@ -63,7 +67,8 @@ module _ {P I : Type 0} (hears spares : P → Bool → List ℕ → P → Type 0
       → Told hears spares says true None o new a c
   step o now new a b c h f = at o.to_come h
     where
-      at : (x : Option Pieces) → IfSome x (ToldBy hears spares says true None o now a b) → IfSome x (ToldBy hears spares says true None o new a c)
+      at : (x : Option Pieces) → IfSome x (ToldBy hears spares says true None o now a b)
+          → IfSome x (ToldBy hears spares says true None o new a c)
       at None k = tt
       at (Some p) k = f p k.0 k.1
 
@@ -75,10 +80,12 @@ module _ {P I : Type 0} (hears spares : P → Bool → List ℕ → P → Type 0
       at (Some p) e = (p, record { to_come = e; told = []; messages = refl; tells = refl })
 
   -- a packet of content is taken
-  pub told-content : (o now new : Reading) (a b : Listener P I) → Told hears spares says true None o now a b → band_of now.line ≡ Content → now.peeked ≡ true → TakesLine now new
+  pub told-content : (o now new : Reading) (a b : Listener P I) → Told hears spares says true None o now a b
+      → band_of now.line ≡ Content → now.peeked ≡ true → TakesLine now new
       → Told hears spares says true None o new a b
   told-content o now new a b h k p t = step o now new a b b h (λ x q v.
-      let n = known_at now.to_come q (λ y. (r : Pieces) × (new.to_come ≡ Some r) × (next_of now.version y ≡ gives new.line r)) v.to_come t.next in
+      let n = known_at now.to_come q (λ y. (r : Pieces) × (new.to_come ≡ Some r)
+      × (next_of now.version y ≡ gives new.line r)) v.to_come t.next in
       let c = content_gives now.version q.list q.end new.line n.0 n.2 (ap band_of (t.again p) ∙ k) in (
         n.0,
         record {
@@ -90,14 +97,17 @@ module _ {P I : Type 0} (hears spares : P → Bool → List ℕ → P → Type 0
       ))
 
   -- at the start of a call
-  pub told-init : (place : Option ℕ) (r new : Reading) (a b : Listener P I) → b ≡ a → is_held place r ≡ true → (is_begun place ≡ true → TakesLine r new) → (is_begun place ≡ false → new ≡ r)
+  pub told-init : (place : Option ℕ) (r new : Reading) (a b : Listener P I) → b ≡ a → is_held place r ≡ true
+      → (is_begun place ≡ true → TakesLine r new) → (is_begun place ≡ false → new ≡ r)
       → Told hears spares says true None r new a b
-  told-init place r new a b same held begun fresh = subst (λ (x : Listener P I). Told hears spares says true None r new a x) (sym same) (at place held begun fresh)
+  told-init place r new a b same held begun fresh = subst (λ (x : Listener P I). Told hears spares says true None r new a x) (sym same)
+      (at place held begun fresh)
     where
       stays : new ≡ r → Told hears spares says true None r new a a
       stays e = subst (λ (x : Reading). Told hears spares says true None r x a a) (sym e) (told-start r a)
 
-      at : (place : Option ℕ) → is_held place r ≡ true → (is_begun place ≡ true → TakesLine r new) → (is_begun place ≡ false → new ≡ r) → Told hears spares says true None r new a a
+      at : (place : Option ℕ) → is_held place r ≡ true → (is_begun place ≡ true → TakesLine r new) → (is_begun place ≡ false → new ≡ r)
+          → Told hears spares says true None r new a a
       at None h t f = stays (f refl)
       at (Some n) h t f = by (is_begun (Some n)) refl
         where
@@ -106,11 +116,13 @@ module _ {P I : Type 0} (hears spares : P → Bool → List ℕ → P → Type 0
           by true e = let l = holds_line n r h in told-content r r new a a (told-start r a) l.content l.peeked (t e)
 
   -- a line is peeked at
-  pub told-shown : (o now new : Reading) (a b : Listener P I) → Told hears spares says true None o now a b → ShowsLine now new → Told hears spares says true None o new a b
+  pub told-shown : (o now new : Reading) (a b : Listener P I) → Told hears spares says true None o now a b → ShowsLine now new
+      → Told hears spares says true None o new a b
   told-shown o now new a b h s = step o now new a b b h (λ p q k. (
     q,
     record {
-      to_come = (known_at now.to_come q (λ p. (r : Pieces) × (new.to_come ≡ Some p) × (next_of now.version p ≡ gives new.line r)) k.to_come s.next).1;
+      to_come = (known_at now.to_come q (λ p. (r : Pieces) × (new.to_come ≡ Some p)
+          × (next_of now.version p ≡ gives new.line r)) k.to_come s.next).1;
       told = k.told;
       messages = k.messages ∙ ap (λ x. k.told ++ messages_left x q) (s.running ∙ sym s.stopped);
       tells = k.tells;
@@ -119,7 +131,8 @@ module _ {P I : Type 0} (hears spares : P → Bool → List ℕ → P → Type 0
 
   -- a line is taken
   told-taken : (o now mid new : Reading) (p q : Pieces) → now.to_come ≡ Some q → ShowsLine now mid → TakesLine mid new
-      → (r : Pieces) × (new.to_come ≡ Some r) × (messages_left now.stopped q ≡ messages_line (band_of mid.line) mid.line (messages_left new.stopped r))
+      → (r : Pieces) × (new.to_come ≡ Some r) × (messages_left now.stopped q ≡ messages_line (band_of mid.line) mid.line
+      (messages_left new.stopped r))
   told-taken o now mid new p q e s t =
       let m = known_at now.to_come q (λ p. (r : Pieces) × (mid.to_come ≡ Some p) × (next_of now.version p ≡ gives mid.line r)) e s.next in
       let n = known_at mid.to_come q (λ p. (r : Pieces) × (new.to_come ≡ Some r) × (next_of mid.version p ≡ gives new.line r)) m.1 t.next in
@@ -127,18 +140,29 @@ module _ {P I : Type 0} (hears spares : P → Bool → List ℕ → P → Type 0
         n.0,
         n.1,
         at_none now.stopped q s.running ∙ messages_gives mid.version q.list q.end new.line n.0 n.2
-            ∙ ap (λ l. messages_line (band_of l) l (messages_of n.0)) same ∙ ap (messages_line (band_of mid.line) mid.line) (sym (at_none new.stopped n.0 t.stopped)),
+            ∙ ap (λ l. messages_line (band_of l) l (messages_of n.0)) same
+            ∙ ap (messages_line (band_of mid.line) mid.line) (sym (at_none new.stopped n.0 t.stopped)),
       )
 
   -- a line that tells nothing is taken
-  pub told-empty : (o now mid new : Reading) (a b : Listener P I) → Told hears spares says true None o now a b → ShowsLine now mid → band_of mid.line ≡ Empty → TakesLine mid new
+  pub told-empty : (o now mid new : Reading) (a b : Listener P I) → Told hears spares says true None o now a b → ShowsLine now mid
+      → band_of mid.line ≡ Empty → TakesLine mid new
       → Told hears spares says true None o new a b
   told-empty o now mid new a b h s k t = step o now new a b b h (λ p q w.
-      let n = told-taken o now mid new p q w.to_come s t in
-      (n.0, record { to_come = n.1; told = w.told; messages = w.messages ∙ ap (λ x. w.told ++ x) (n.2 ∙ ap (λ k. messages_line k mid.line (messages_left new.stopped n.0)) k); tells = w.tells }))
+      let n = told-taken o now mid new p q w.to_come s t in (
+        n.0,
+        record {
+          to_come = n.1;
+          told = w.told;
+          messages = w.messages
+              ∙ ap (λ x. w.told ++ x) (n.2 ∙ ap (λ k. messages_line k mid.line (messages_left new.stopped n.0)) k);
+          tells = w.tells;
+        },
+      ))
 
   -- a message is told and its packet taken
-  pub told-text : (o now mid new : Reading) (a b c : Listener P I) (is_error : Bool) → Told hears spares says true None o now a b → ShowsLine now mid → band_of mid.line ≡ Text is_error → TakesLine mid new
+  pub told-text : (o now mid new : Reading) (a b c : Listener P I) (is_error : Bool) → Told hears spares says true None o now a b
+      → ShowsLine now mid → band_of mid.line ≡ Text is_error → TakesLine mid new
       → TellsThen hears spares says (message_in is_error mid.line) false b c → Told hears spares says true None o new a c
   told-text o now mid new a b c is_error h s k t w = step o now new a b c h (λ p q v.
       let n = told-taken o now mid new p q v.to_come s t in
@@ -148,17 +172,20 @@ module _ {P I : Type 0} (hears spares : P → Bool → List ℕ → P → Type 0
         record {
           to_come = n.1;
           told = v.told ++ m ∷ [];
-          messages = v.messages ∙ ap (λ x. v.told ++ x) (n.2 ∙ ap (λ k. messages_line k mid.line rest) k) ∙ sym (append_assoc v.told (m ∷ []) rest);
+          messages = v.messages ∙ ap (λ x. v.told ++ x) (n.2 ∙ ap (λ k. messages_line k mid.line rest) k)
+              ∙ sym (append_assoc v.told (m ∷ []) rest);
           tells = tells-more v.told m a b c v.tells w;
         },
       ))
 
   -- a message is told, its packet taken, and the interrupt says to stop
-  told-until : (plain : Bool) (o now mid new : Reading) (a b c : Listener P I) (is_error : Bool) → Told hears spares says true None o now a b → ShowsLine now mid → band_of mid.line ≡ Text is_error → TakesLine mid new
+  told-until : (plain : Bool) (o now mid new : Reading) (a b c : Listener P I) (is_error : Bool)
+      → Told hears spares says true None o now a b → ShowsLine now mid → band_of mid.line ≡ Text is_error → TakesLine mid new
       → TellsThen hears spares says (message_in is_error mid.line) true b c → Told hears spares says plain (Some interrupted) o new a c
   told-until plain o now mid new a b c is_error h s k t w = at o.to_come h
     where
-      at : (x : Option Pieces) → IfSome x (ToldBy hears spares says true None o now a b) → IfSome x (ToldBy hears spares says plain (Some interrupted) o new a c)
+      at : (x : Option Pieces) → IfSome x (ToldBy hears spares says true None o now a b)
+          → IfSome x (ToldBy hears spares says plain (Some interrupted) o new a c)
       at None h = tt
       at (Some p) h =
           let v = h.1 in
@@ -177,32 +204,45 @@ module _ {P I : Type 0} (hears spares : P → Bool → List ℕ → P → Type 0
           )
 
   -- an allocation failed for a text
-  told-but : (plain : Bool) (o now mid : Reading) (a b c : Listener P I) (is_error : Bool) → Told hears spares says true None o now a b → ShowsLine now mid → band_of mid.line ≡ Text is_error
+  told-but : (plain : Bool) (o now mid : Reading) (a b c : Listener P I) (is_error : Bool) → Told hears spares says true None o now a b
+      → ShowsLine now mid → band_of mid.line ≡ Text is_error
       → SparesThen hears spares says (message_in is_error mid.line) b c → Told hears spares says plain (Some memory) o mid a c
   told-but plain o now mid a b c is_error h s k w = at o.to_come h
     where
-      at : (x : Option Pieces) → IfSome x (ToldBy hears spares says true None o now a b) → IfSome x (ToldBy hears spares says plain (Some memory) o mid a c)
+      at : (x : Option Pieces) → IfSome x (ToldBy hears spares says true None o now a b)
+          → IfSome x (ToldBy hears spares says plain (Some memory) o mid a c)
       at None h = tt
       at (Some p) h =
           let q = h.0 in
           let v = h.1 in
-          let n = known_at now.to_come q (λ p. (r : Pieces) × (mid.to_come ≡ Some p) × (next_of now.version p ≡ gives mid.line r)) v.to_come s.next in
+          let n = known_at now.to_come q (λ p. (r : Pieces) × (mid.to_come ≡ Some p)
+          × (next_of now.version p ≡ gives mid.line r)) v.to_come s.next in
           let m = message_in is_error mid.line in
-          let next = at_none mid.stopped q s.stopped ∙ messages_gives now.version q.list q.end mid.line n.0 n.2 ∙ ap (λ k. messages_line k mid.line (messages_of n.0)) k in (
+          let next = at_none mid.stopped q s.stopped ∙ messages_gives now.version q.list q.end mid.line n.0 n.2
+          ∙ ap (λ k. messages_line k mid.line (messages_of n.0)) k in (
             q,
             record {
               before = b;
-              told = record { to_come = n.1; told = v.told; messages = v.messages ∙ ap (λ x. v.told ++ messages_left x q) (s.running ∙ sym s.stopped); tells = v.tells };
+              told = record {
+                to_come = n.1;
+                told = v.told;
+                messages = v.messages
+                    ∙ ap (λ x. v.told ++ messages_left x q) (s.running ∙ sym s.stopped);
+                tells = v.tells;
+              };
               spared = inr (m, messages_of n.0, next, w);
             },
           )
 
   -- a packet was told or not
-  pub told-tell : (X : Type 0) (plain : Bool) (o now mid new : Reading) (a b c : Listener P I) (is_error : Bool) (e : Error) → Told hears spares says true None o now a b → ShowsLine now mid → band_of mid.line ≡ Text is_error
-      → TellsPacket hears spares says {X = X} (message_in is_error mid.line) mid new b c (Err e) → Told hears spares says plain (Some (refusal_of e)) o new a c
+  pub told-tell : (X : Type 0) (plain : Bool) (o now mid new : Reading) (a b c : Listener P I) (is_error : Bool) (e : Error)
+      → Told hears spares says true None o now a b → ShowsLine now mid → band_of mid.line ≡ Text is_error
+      → TellsPacket hears spares says {X = X} (message_in is_error mid.line) mid new b c (Err e)
+      → Told hears spares says plain (Some (refusal_of e)) o new a c
   told-tell X plain o now mid new a b c is_error Interrupted h s k t = told-until plain o now mid new a b c is_error h s k t.0 t.1
   told-tell X plain o now mid new a b c is_error Memory h s k t =
-      subst (λ (r : Reading). Told hears spares says plain (Some memory) o r a c) (sym t.0) (told-but plain o now mid a b c is_error h s k t.1)
+      subst (λ (r : Reading). Told hears spares says plain (Some memory) o r a c) (sym t.0)
+      (told-but plain o now mid a b c is_error h s k t.1)
   told-tell X plain o now mid new a b c is_error (Io kind) h s k t = absurd t
   told-tell X plain o now mid new a b c is_error (Decode x) h s k t = absurd t
   told-tell X plain o now mid new a b c is_error (Server x) h s k t = absurd t
@@ -211,7 +251,8 @@ module _ {P I : Type 0} (hears spares : P → Bool → List ℕ → P → Type 0
   told-tell X plain o now mid new a b c is_error (BadBand x) h s k t = absurd t
 
   -- nothing is lost
-  told-stays : (o now new : Reading) (a b : Listener P I) → Told hears spares says true None o now a b → Stays now new → Told hears spares says true None o new a b
+  told-stays : (o now new : Reading) (a b : Listener P I) → Told hears spares says true None o now a b → Stays now new
+      → Told hears spares says true None o new a b
   told-stays o now new a b h s = step o now new a b b h (λ p q k. (
     q,
     record {
@@ -223,41 +264,48 @@ module _ {P I : Type 0} (hears spares : P → Bool → List ℕ → P → Type 0
   ))
 
   -- a stop is told
-  pub told-stop : (o now new : Reading) (a b : Listener P I) → Told hears spares says true None o now a b → AtStop now new → Told hears spares says true None o new a b
+  pub told-stop : (o now new : Reading) (a b : Listener P I) → Told hears spares says true None o now a b → AtStop now new
+      → Told hears spares says true None o new a b
   told-stop o now new a b h (inl s) = told-stays o now new a b h s.stays
   told-stop o now new a b h (inr s) = step o now new a b b h (λ p q k.
       let t = s.1 in
-      let n = known_at now.to_come q (λ p. (r : Pieces) × (new.to_come ≡ Some r) × (next_of now.version p ≡ stops s.0 r)) k.to_come t.next in (
+      let n = known_at now.to_come q (λ p. (r : Pieces) × (new.to_come ≡ Some r)
+      × (next_of now.version p ≡ stops s.0 r)) k.to_come t.next in (
         n.0,
         record {
           to_come = n.1;
           told = k.told;
-          messages = k.messages ∙ ap (λ x. k.told ++ x) (at_none now.stopped q t.running ∙ messages_stops now.version q.list q.end s.0 n.0 n.2 ∙ sym (at_some new.stopped s.0 n.0 t.stopped));
+          messages = k.messages ∙ ap (λ x. k.told ++ x) (at_none now.stopped q t.running
+              ∙ messages_stops now.version q.list q.end s.0 n.0 n.2 ∙ sym (at_some new.stopped s.0 n.0 t.stopped));
           tells = k.tells;
         },
       ))
 
-  told-refuses : (o now new : Reading) (a b : Listener P I) (e : Refusal) → Told hears spares says true None o now a b → Refuses now new e → Told hears spares says true None o new a b
+  told-refuses : (o now new : Reading) (a b : Listener P I) (e : Refusal) → Told hears spares says true None o now a b
+      → Refuses now new e → Told hears spares says true None o new a b
   told-refuses o now new a b e h r = step o now new a b b h (λ p q k.
       let n = known_at now.to_come q (λ p. (new.to_come ≡ Some (no_pieces e)) × (next_of now.version p ≡ refuses e)) k.to_come r.next in (
         no_pieces e,
         record {
           to_come = n.0;
           told = k.told;
-          messages = k.messages ∙ ap (λ x. k.told ++ x) (at_none now.stopped q r.running ∙ messages_refuses now.version q.list q.end e n.1 ∙ sym (at_none new.stopped (no_pieces e) r.stopped));
+          messages = k.messages ∙ ap (λ x. k.told ++ x) (at_none now.stopped q r.running
+              ∙ messages_refuses now.version q.list q.end e n.1 ∙ sym (at_none new.stopped (no_pieces e) r.stopped));
           tells = k.tells;
         },
       ))
 
   -- whatever the refusal is that left what is to come
-  pub told-kept : (plain : Bool) (e : Refusal) (o new : Reading) (a b : Listener P I) → (e ≡ interrupted → plain ≡ false) → Told hears spares says true None o new a b → Told hears spares says plain (Some e) o new a b
+  pub told-kept : (plain : Bool) (e : Refusal) (o new : Reading) (a b : Listener P I) → (e ≡ interrupted → plain ≡ false)
+      → Told hears spares says true None o new a b → Told hears spares says plain (Some e) o new a b
   told-kept plain e o new a b f h = at o.to_come h
     where
       unless : (c : Bool) (p : Pieces) → (q : Pieces) × ToldTo hears spares says o new a b p q → ToldUnless hears spares says c o new a b p
       unless false p k = k
       unless true p k = inl k
 
-      by : (e : Refusal) → (e ≡ interrupted → plain ≡ false) → (p : Pieces) → (q : Pieces) × ToldTo hears spares says o new a b p q → ToldBy hears spares says plain (Some e) o new a b p
+      by : (e : Refusal) → (e ≡ interrupted → plain ≡ false) → (p : Pieces) → (q : Pieces) × ToldTo hears spares says o new a b p q
+          → ToldBy hears spares says plain (Some e) o new a b p
       by (io kind) f p k = unless (is_end kind) p k
       by interrupted f p k = (k.0, inr (f refl, k.1))
       by memory f p k = (k.0, record { before = b; told = k.1; spared = inl refl })
@@ -267,31 +315,39 @@ module _ {P I : Type 0} (hears spares : P → Bool → List ℕ → P → Type 0
       by not_utf8 f p k = k
       by (bad_band x) f p k = k
 
-      at : (x : Option Pieces) → IfSome x (ToldBy hears spares says true None o new a b) → IfSome x (ToldBy hears spares says plain (Some e) o new a b)
+      at : (x : Option Pieces) → IfSome x (ToldBy hears spares says true None o new a b)
+          → IfSome x (ToldBy hears spares says plain (Some e) o new a b)
       at None h = tt
       at (Some p) h = by e f p h
 
   -- the stream broke off
-  broken : (plain : Bool) (kind : ErrorKind) (o now new : Reading) (a b : Listener P I) → is_end kind ≡ true → Rose o.failures new.failures → Told hears spares says true None o now a b → Told hears spares says plain (Some (io kind)) o new a b
+  broken : (plain : Bool) (kind : ErrorKind) (o now new : Reading) (a b : Listener P I) → is_end kind ≡ true
+      → Rose o.failures new.failures → Told hears spares says true None o now a b
+      → Told hears spares says plain (Some (io kind)) o new a b
   broken plain kind o now new a b e f h = at o.to_come h
     where
-      at : (x : Option Pieces) → IfSome x (ToldBy hears spares says true None o now a b) → IfSome x (ToldBy hears spares says plain (Some (io kind)) o new a b)
+      at : (x : Option Pieces) → IfSome x (ToldBy hears spares says true None o now a b)
+          → IfSome x (ToldBy hears spares says plain (Some (io kind)) o new a b)
       at None h = tt
-      at (Some p) h = rw e (inr (record { told = h.1.told; rest = messages_left now.stopped h.0; messages = h.1.messages; tells = h.1.tells }, f))
+      at (Some p) h =
+          rw e (inr (record { told = h.1.told; rest = messages_left now.stopped h.0; messages = h.1.messages; tells = h.1.tells }, f))
 
   not_plain : (plain : Bool) (new : Reading) (e : Refusal) → (plain ≡ true → IsPlain new e) → e ≡ interrupted → plain ≡ false
   not_plain false new e f i = refl
   not_plain true new e f i = absurd (subst (IsPlain new) i (f refl))
 
   -- the reader below was refused
-  pub told-fails : (plain : Bool) (e : Refusal) (o now new : Reading) (a b : Listener P I) → now.failures ≡ o.failures → Told hears spares says true None o now a b → Fails now new e → (plain ≡ true → IsPlain new e)
+  pub told-fails : (plain : Bool) (e : Refusal) (o now new : Reading) (a b : Listener P I) → now.failures ≡ o.failures
+      → Told hears spares says true None o now a b → Fails now new e → (plain ≡ true → IsPlain new e)
       → Told hears spares says plain (Some e) o new a b
   told-fails plain e o now new a b s h (inl r) f = told-kept plain e o new a b (not_plain plain new e f) (told-refuses o now new a b e h r)
-  told-fails plain e o now new a b s h (inr (inl r)) f = told-kept plain e o new a b (not_plain plain new e f) (told-stays o now new a b h r.stays)
+  told-fails plain e o now new a b s h (inr (inl r)) f =
+      told-kept plain e o new a b (not_plain plain new e f) (told-stays o now new a b h r.stays)
   told-fails plain e o now new a b s h (inr (inr r)) f = at e r.refusal
     where
       at : (e : Refusal) → e ≡ io UnexpectedEof → Told hears spares says plain (Some e) o new a b
-      at (io kind) i = broken plain kind o now new a b (let k : kind ≡ UnexpectedEof = cc in ap is_end k) (subst (λ n. Rose n new.failures) s r.failures) h
+      at (io kind) i = broken plain kind o now new a b (let k : kind ≡ UnexpectedEof = cc in ap is_end k)
+          (subst (λ n. Rose n new.failures) s r.failures) h
       at (decode x) i = absurd (let j = i in cc)
       at (server x) i = absurd (let j = i in cc)
       at unexpected_frame i = absurd (let j = i in cc)
@@ -301,13 +357,17 @@ module _ {P I : Type 0} (hears spares : P → Bool → List ℕ → P → Type 0
       at memory i = absurd (let j = i in cc)
 
   -- a band that there isn't
-  pub told-band : (plain : Bool) (band : ℕ) (o now new : Reading) (a b : Listener P I) → Told hears spares says true None o now a b → ShowsLine now new → Told hears spares says plain (Some (bad_band band)) o new a b
-  told-band plain band o now new a b h s = told-kept plain (bad_band band) o new a b (λ e. absurd (let i = e in cc)) (told-shown o now new a b h s)
+  pub told-band : (plain : Bool) (band : ℕ) (o now new : Reading) (a b : Listener P I) → Told hears spares says true None o now a b
+      → ShowsLine now new → Told hears spares says plain (Some (bad_band band)) o new a b
+  told-band plain band o now new a b h s =
+      told-kept plain (bad_band band) o new a b (λ e. absurd (let i = e in cc)) (told-shown o now new a b h s)
 
   -- what is to come is known where it was
-  pub told-known : (o now : Reading) (a b : Listener P I) → Told hears spares says true None o now a b → IfSome o.to_come (λ p. (q : Pieces) × (now.to_come ≡ Some q))
+  pub told-known : (o now : Reading) (a b : Listener P I) → Told hears spares says true None o now a b
+      → IfSome o.to_come (λ p. (q : Pieces) × (now.to_come ≡ Some q))
   told-known o now a b h = at o.to_come h
     where
-      at : (x : Option Pieces) → IfSome x (ToldBy hears spares says true None o now a b) → IfSome x (λ p. (q : Pieces) × (now.to_come ≡ Some q))
+      at : (x : Option Pieces) → IfSome x (ToldBy hears spares says true None o now a b)
+          → IfSome x (λ p. (q : Pieces) × (now.to_come ≡ Some q))
       at None h = tt
       at (Some p) h = (h.0, h.1.to_come)

@@ -139,9 +139,11 @@ messages_left None p = messages_of p
 
 -- the messages still to be told are what they were
 abbrev pub KeepsMessages : Reading → Reading → Type 0
-KeepsMessages old new = IfSome old.to_come (λ p. (q : Pieces) × (new.to_come ≡ Some q) × (messages_left new.stopped q ≡ messages_left old.stopped p))
+KeepsMessages old new =
+    IfSome old.to_come (λ p. (q : Pieces) × (new.to_come ≡ Some q) × (messages_left new.stopped q ≡ messages_left old.stopped p))
 
--- what a reader of bands means, over what the reader below means and through a reference of this name. A packet that is begun counts as taken
+-- what a reader of bands means, over what the reader below means and through a reference of this name. A packet that is begun counts as
+-- taken
 abbrev pub banded_reading : Bool → GName → Reading → Reading
 banded_reading begun name r = record {
   to_come = option_map (if begun then unband_behind else unband) r.to_come;
@@ -157,8 +159,10 @@ banded_reading begun name r = record {
 
 -- the next bytes of band 1 were returned
 pub record HandsOut (place : Option ℕ) (old : Reading) (bytes : List ℕ) (place' : Option ℕ) (new : Reading) : Type 0 where
-  pub content : IfSome old.to_come (λ p. IsFirst place old p → (q : Pieces) × (new.to_come ≡ Some q) × IsFirst place' new q × (content_left place old.stopped p ≡ bytes ++ content_left place' new.stopped q))
-  pub messages : IfSome old.to_come (λ p. (q : Pieces) × (new.to_come ≡ Some q) × (messages_left new.stopped q ≡ messages_left old.stopped p))
+  pub content : IfSome old.to_come (λ p. IsFirst place old p → (q : Pieces) × (new.to_come ≡ Some q) × IsFirst place' new q
+      × (content_left place old.stopped p ≡ bytes ++ content_left place' new.stopped q))
+  pub messages : IfSome old.to_come (λ p. (q : Pieces) × (new.to_come ≡ Some q)
+      × (messages_left new.stopped q ≡ messages_left old.stopped p))
   pub stopped : new.stopped ≡ old.stopped
   pub version : new.version ≡ old.version
   pub failures : new.failures ≡ old.failures
@@ -173,7 +177,8 @@ io_kind memory = OutOfMemory
 io_kind interrupted = Other
 io_kind _ = InvalidData
 
--- where a reader of bands stands: the place in the packet at hand, the name of the reference below, what the reader below means, and the refusal of the latest call of `Read` or `BufRead`
+-- where a reader of bands stands: the place in the packet at hand, the name of the reference below, what the reader below means, and
+-- the refusal of the latest call of `Read` or `BufRead`
 pub record Side : Type 0 where
   pub place : Option ℕ
   pub name : GName
@@ -194,7 +199,8 @@ IsFirstOf s p = IsFirst s.place s.reading p
 
 -- these bytes of content came next, and what is left to come is the end of it after them
 abbrev pub Passes : Side → Side → List ℕ → Type 0
-Passes old new bytes = IfSome old.reading.to_come (λ p. IsFirstOf old p → (q : Pieces) × (new.reading.to_come ≡ Some q) × IsFirstOf new q × (side_content old p ≡ bytes ++ side_content new q))
+Passes old new bytes = IfSome old.reading.to_come (λ p. IsFirstOf old p → (q : Pieces) × (new.reading.to_come ≡ Some q)
+    × IsFirstOf new q × (side_content old p ≡ bytes ++ side_content new q))
 
 -- a bound on the bytes of content that may still come, which falls with each that is returned
 abbrev pub content_bound : Side → ℕ
@@ -220,7 +226,8 @@ pub record EndsContent (old new : Side) : Type 0 where
   pub place : new.place ≡ None
   pub fault : new.fault ≡ None
 
--- a refusal, which stands until the next call, and with its kind. It comes only where no packet is at hand. What is left to come is an end of what was: all of it, but where a read failed, and in front of a refusal of the stream there is none
+-- a refusal, which stands until the next call, and with its kind. It comes only where no packet is at hand. What is left to come is an
+-- end of what was: all of it, but where a read failed, and in front of a refusal of the stream there is none
 pub record RefusesContent (old new : Side) (e : io_error) : Type 0 where
   pub refusal : Refusal
   pub fault : new.fault ≡ Some refusal

@@ -13,7 +13,12 @@ use Rattle.gixp_sidebands.specs.SaidToGoOn.{SaidToGoOn}
 module _ {T P I : Type 0} {b : _} where
   -- where it stands, over what its transport means
   abbrev pub side : (T → Reading) → WithSidebands T P I b → Side
-  side reading s = record { place = s.front.place; name = s.front.at.ghost_name; reading = reading s.front.at.now; fault = option_map refusal_of s.fault }
+  side reading s = record {
+    place = s.front.place;
+    name = s.front.at.ghost_name;
+    reading = reading s.front.at.now;
+    fault = option_map refusal_of s.fault;
+  }
 
   -- what it means
   abbrev pub sidebands_reading : (T → Reading) → WithSidebands T P I b → Reading
@@ -24,7 +29,8 @@ module _ {T P I : Type 0} {b : _} where
 
   -- whenever its interrupt was asked, that said to go on, and it is the same one
   abbrev pub sidebands_goes_on : (I → Bool → I → Type 0) → WithSidebands T P I b → WithSidebands T P I b → Type 0
-  sidebands_goes_on says old new = SaidToGoOn says (listener old).interrupt (listener new).interrupt × (new.interrupt.ghost_name ≡ old.interrupt.ghost_name)
+  sidebands_goes_on says old new = SaidToGoOn says (listener old).interrupt (listener new).interrupt
+      × (new.interrupt.ghost_name ≡ old.interrupt.ghost_name)
 
   -- the reader below, as it is now
   abbrev pub transport_of : WithSidebands T P I b → T
@@ -34,7 +40,8 @@ module _ {T P I : Type 0} {b : _} where
     -- a call that lends the content at hand: the reader that comes after it, and what was told on the way
     pub record Lends (old : WithSidebands T P I b) (result : Result (Bor (List ℕ)) io_error) (new : WithSidebands T P I b) : Type 0 where
       pub fills : FillsLent (side reading old) (side reading new) result
-      pub told : Told hears spares says plain (side reading new).fault (side reading old).reading (side reading new).reading (listener old) (listener new)
+      pub told : Told hears spares says plain (side reading new).fault (side reading old).reading (side reading new).reading
+          (listener old) (listener new)
       pub interrupt : new.interrupt.ghost_name ≡ old.interrupt.ghost_name
 
     -- such a call, while the content is lent
@@ -43,12 +50,15 @@ module _ {T P I : Type 0} {b : _} where
 
     -- what was told by a call that lends a line
     abbrev pub ToldLent : WithSidebands T P I b → Side → Listener P I → Result (Option (Bor (List ℕ))) Error → Type 0
-    ToldLent old new heard result = Told hears spares says plain (refusal_in result) (side reading old).reading new.reading (listener old) heard
+    ToldLent old new heard result = Told hears spares says plain (refusal_in result) (side reading old).reading new.reading
+        (listener old) heard
 
     -- a call that lends the line that comes next, and what was told on the way
     abbrev pub PeeksAndTells : WithSidebands T P I b → Result (Option (Bor (List ℕ))) Error → Type 0
-    PeeksAndTells old result = (new : Side) × (heard : Listener P I) × PeeksLent (sidebands_reading reading old) (side_reading new) result × ToldLent old new heard result
+    PeeksAndTells old result = (new : Side) × (heard : Listener P I)
+        × PeeksLent (sidebands_reading reading old) (side_reading new) result × ToldLent old new heard result
 
     -- a call that lends the line that it took, and what was told on the way
     abbrev pub ReadsAndTells : WithSidebands T P I b → Result (Option (Bor (List ℕ))) Error → Type 0
-    ReadsAndTells old result = (new : Side) × (heard : Listener P I) × ReadsLent (sidebands_reading reading old) (side_reading new) result × ToldLent old new heard result
+    ReadsAndTells old result = (new : Side) × (heard : Listener P I)
+        × ReadsLent (sidebands_reading reading old) (side_reading new) result × ToldLent old new heard result

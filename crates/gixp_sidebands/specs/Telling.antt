@@ -52,7 +52,8 @@ module _ {P I : Type 0} (hears spares : P → Bool → List ℕ → P → Type 0
     pub tells : Tells told a before
     pub stops : TellsThen last true before c
 
-  -- the messages up to what is left were told; if an allocation failed for the next one, that is still to come, and no other was told in its place
+  -- the messages up to what is left were told; if an allocation failed for the next one, that is still to come, and no other was told
+  -- in its place
   pub record ToldBut (old new : Reading) (a c : Listener P I) (p q : Pieces) : Type 0 where
     pub before : Listener P I
     pub told : ToldTo old new a before p q

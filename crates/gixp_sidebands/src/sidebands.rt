@@ -71,7 +71,8 @@ impl<'a, 'i, T: ExtendedBufRead, P: Drop, I> WithSidebands<'a, 'i, T, P, I> {
     /// Gives the transport back. A packet that was begun is taken.
     pub fn into_transport(self) -> &'a mut T
         ensures same { result.ghost_name ≡ (side T.reading self.entry).name }
-        ensures begun { is_begun (side T.reading self.entry).place ≡ true → TakesLine (side T.reading self.entry).reading (T.reading result.now) }
+        ensures begun { is_begun (side T.reading self.entry).place ≡ true
+            → TakesLine (side T.reading self.entry).reading (T.reading result.now) }
         ensures fresh { is_begun (side T.reading self.entry).place ≡ false → result.now ≡ transport_of self.entry }
     {
         let WithSidebands {
@@ -86,7 +87,8 @@ impl<'a, 'i, T: ExtendedBufRead, P: Drop, I> WithSidebands<'a, 'i, T, P, I> {
     /// Gives back what it was lent: the transport, as `into_transport` does, and the interrupt.
     pub fn into_parts(self) -> (&'a mut T, &'i mut I)
         ensures same { result.0.ghost_name ≡ (side T.reading self.entry).name }
-        ensures begun { is_begun (side T.reading self.entry).place ≡ true → TakesLine (side T.reading self.entry).reading (T.reading result.0.now) }
+        ensures begun { is_begun (side T.reading self.entry).place ≡ true
+            → TakesLine (side T.reading self.entry).reading (T.reading result.0.now) }
         ensures fresh { is_begun (side T.reading self.entry).place ≡ false → result.0.now ≡ transport_of self.entry }
         ensures same_interrupt { result.1.ghost_name ≡ self.entry.interrupt.ghost_name }
         ensures interrupt { result.1.now ≡ (listener self.entry).interrupt }
@@ -119,7 +121,12 @@ impl<'a, 'i, T: ExtendedBufRead, P: BandText + Drop, I: Interrupt> WithSidebands
 
     /// Reads what is to come of a banded stream. It allocates nothing, and reads nothing yet.
     pub fn new(transport: &'a mut T, progress: P, interrupt: &'i mut I) -> Self
-        ensures side { side T.reading result ≡ record { place = None; name = transport.entry.ghost_name; reading = T.reading transport.old; fault = None } }
+        ensures side { side T.reading result ≡ record {
+          place = None;
+          name = transport.entry.ghost_name;
+          reading = T.reading transport.old;
+          fault = None;
+        } }
         ensures transport { transport_of result ≡ transport.old }
         ensures listener { listener result ≡ record { progress = progress; interrupt = interrupt.old } }
         ensures interrupt { result.interrupt.ghost_name ≡ interrupt.entry.ghost_name }
@@ -169,7 +176,8 @@ impl<'a, 'i, T: ExtendedBufRead, P: BandText + Drop, I: Interrupt> WithSidebands
     /// `Interrupted` as `Other` and all else as `InvalidData`. `fault` has the refusal itself.
     pub fn fill(&mut self) -> io::Result<bool>
         ensures fills { FillsContent (side T.reading self.old) (side T.reading self.new) result }
-        ensures told { Told P.hears P.spares I.says T.is_plain (side T.reading self.new).fault (side T.reading self.old).reading (side T.reading self.new).reading
+        ensures told { Told P.hears P.spares I.says T.is_plain (side T.reading self.new).fault (side T.reading self.old).reading
+            (side T.reading self.new).reading
             (listener self.old) (listener self.new) }
         ensures interrupt { self.new.interrupt.ghost_name ≡ self.old.interrupt.ghost_name }
     {
@@ -224,7 +232,8 @@ impl<'a, 'i, T: ExtendedBufRead, P: BandText + Drop, I: Interrupt> WithSidebands
     // Tells what comes before the next content, which is then peeked at.
     fn settle(&mut self) -> Result<bool, Error>
         ensures peeks { Peeks (sidebands_reading T.reading self.old) (sidebands_reading T.reading self.new) result }
-        ensures told { Told P.hears P.spares I.says T.is_plain (refusal_in result) (T.reading self.old.front.at.now) (T.reading self.new.front.at.now)
+        ensures told { Told P.hears P.spares I.says T.is_plain (refusal_in result) (T.reading self.old.front.at.now)
+            (T.reading self.new.front.at.now)
             (listener self.old) (listener self.new) }
         ensures same { self.new.front.at.ghost_name ≡ self.old.front.at.ghost_name }
         ensures interrupt { self.new.interrupt.ghost_name ≡ self.old.interrupt.ghost_name }
@@ -270,7 +279,8 @@ impl<'a, 'i, T: ExtendedBufRead, P: BandText + Drop, I: Interrupt> ExtendedBufRe
     fn next_line(&mut self) -> Result<bool, Error>
         ensures reads { Reads (sidebands_reading T.reading self.old) (sidebands_reading T.reading self.new) result }
         ensures plain { PlainIf false (sidebands_reading T.reading self.new) result }
-        ensures told { Told P.hears P.spares I.says T.is_plain (refusal_in result) (side T.reading self.old).reading (side T.reading self.new).reading
+        ensures told { Told P.hears P.spares I.says T.is_plain (refusal_in result) (side T.reading self.old).reading
+            (side T.reading self.new).reading
             (listener self.old) (listener self.new) }
         ensures fault { (side T.reading self.new).fault ≡ (side T.reading self.old).fault }
         ensures interrupt { self.new.interrupt.ghost_name ≡ self.old.interrupt.ghost_name }
@@ -286,7 +296,8 @@ impl<'a, 'i, T: ExtendedBufRead, P: BandText + Drop, I: Interrupt> ExtendedBufRe
     fn peek_line(&mut self) -> Result<bool, Error>
         ensures peeks { Peeks (sidebands_reading T.reading self.old) (sidebands_reading T.reading self.new) result }
         ensures plain { PlainIf false (sidebands_reading T.reading self.new) result }
-        ensures told { Told P.hears P.spares I.says T.is_plain (refusal_in result) (side T.reading self.old).reading (side T.reading self.new).reading
+        ensures told { Told P.hears P.spares I.says T.is_plain (refusal_in result) (side T.reading self.old).reading
+            (side T.reading self.new).reading
             (listener self.old) (listener self.new) }
         ensures first { ShowsFirst (side T.reading self.old).reading (side T.reading self.new).reading result }
         ensures place { (side T.reading self.new).place ≡ place_after result }
@@ -332,9 +343,11 @@ impl<'a, 'i, T: ExtendedBufRead, P: BandText + Drop, I: Interrupt> ExtendedBufRe
     }
 
     fn readline_str(&mut self, text: &mut String) -> Result<usize, Error>
-        ensures text { ReadsText (sidebands_reading T.reading self.old) (sidebands_reading T.reading self.new) (string_bytes text.old) (string_bytes text.new) result }
+        ensures text { ReadsText (sidebands_reading T.reading self.old) (sidebands_reading T.reading self.new) (string_bytes text.old)
+            (string_bytes text.new) result }
         ensures plain { PlainText false (sidebands_reading T.reading self.old) (sidebands_reading T.reading self.new) result }
-        ensures told { Told P.hears P.spares I.says T.is_plain (refusal_in result) (side T.reading self.old).reading (side T.reading self.new).reading
+        ensures told { Told P.hears P.spares I.says T.is_plain (refusal_in result) (side T.reading self.old).reading
+            (side T.reading self.new).reading
             (listener self.old) (listener self.new) }
         ensures fault { (side T.reading self.new).fault ≡ (side T.reading self.old).fault }
         ensures interrupt { self.new.interrupt.ghost_name ≡ self.old.interrupt.ghost_name }
@@ -375,7 +388,8 @@ impl<'a, 'i, T: ExtendedBufRead, P: BandText + Drop, I: Interrupt> Read
         ensures bound { ReadsAtMost result buf.new }
         ensures bytes { ReadConsumes None None result buf.new }
         ensures content { ReadsContent (side T.reading self.old) (side T.reading self.new) result buf.new }
-        ensures told { Told P.hears P.spares I.says T.is_plain (side T.reading self.new).fault (side T.reading self.old).reading (side T.reading self.new).reading
+        ensures told { Told P.hears P.spares I.says T.is_plain (side T.reading self.new).fault (side T.reading self.old).reading
+            (side T.reading self.new).reading
             (listener self.old) (listener self.new) }
         ensures interrupt { self.new.interrupt.ghost_name ≡ self.old.interrupt.ghost_name }
     {
@@ -396,7 +410,8 @@ impl<'a, 'i, T: ExtendedBufRead, P: BandText + Drop, I: Interrupt> BufRead
     fn fill_buf(&mut self) -> io::Result<&[u8]>
         ensures front { IfSome None (λ (xs : List ℕ). IfOk result (λ s. StartsWith xs s.now)) }
         ensures end { IfSome None (λ (xs : List ℕ). IfOk result (λ s. length s.now ≡ 0 → xs ≡ [])) }
-        ensures* after_borrow { sem 𝓛 (Rests (the_row (record { mir = named 1; lft = [] }) (record { mir = named 2; lft = [] }) T.row P.row I.row T.ExtendedBufRead) self.entry (λ new.
+        ensures* after_borrow { sem 𝓛 (Rests (the_row (record { mir = named 1; lft = [] })
+            (record { mir = named 2; lft = [] }) T.row P.row I.row T.ExtendedBufRead) self.entry (λ new.
             FillKeeps None None None result)) }
         ensures shown { LendsFrom T.reading P.hears P.spares I.says T.is_plain self.old result }
     {
@@ -408,7 +423,8 @@ impl<'a, 'i, T: ExtendedBufRead, P: BandText + Drop, I: Interrupt> BufRead
 
     fn consume(&mut self, amount: usize)
         ensures bytes { DropsConsumable None None None amount }
-        ensures content { ReadsBytes (side T.reading self.old) (side T.reading self.new) (take amount (shown (side T.reading self.old).place (side T.reading self.old).reading)) }
+        ensures content { ReadsBytes (side T.reading self.old) (side T.reading self.new)
+            (take amount (shown (side T.reading self.old).place (side T.reading self.old).reading)) }
         ensures told { listener self.new ≡ listener self.old }
         ensures messages { KeepsMessages (side T.reading self.old).reading (side T.reading self.new).reading }
         ensures interrupt { self.new.interrupt.ghost_name ≡ self.old.interrupt.ghost_name }

@@ -21,15 +21,19 @@ unfolding IsDistinct
 asks_none P old = record { ids = []; appended = sym (append-nil old); distinct = tt; each = All-nil P }
 
 -- of another property
-pub asks_weaker : (P Q : ObjectId → Type 0) → ((q : ObjectId) → P q → Q q) → (old new : List ObjectId) → AsksEach P old new → AsksEach Q old new
-asks_weaker P Q weaker old new a = record { ids = a.ids; appended = a.appended; distinct = a.distinct; each = All-weaker P Q weaker a.ids a.each }
+pub asks_weaker : (P Q : ObjectId → Type 0) → ((q : ObjectId) → P q → Q q) → (old new : List ObjectId) → AsksEach P old new
+    → AsksEach Q old new
+asks_weaker P Q weaker old new a =
+    record { ids = a.ids; appended = a.appended; distinct = a.distinct; each = All-weaker P Q weaker a.ids a.each }
 
 -- one more
-asks_more : (P Q : ObjectId → Type 0) → ((q : ObjectId) → P q → Q q) → (id : ObjectId) → Q id → ((q : ObjectId) → P q → eq_by_cmp id_cmp id q ≡ false) → (old mid new : List ObjectId) → new ≡ mid ++ id ∷ [] → AsksEach P old mid → AsksEach Q old new
+asks_more : (P Q : ObjectId → Type 0) → ((q : ObjectId) → P q → Q q) → (id : ObjectId) → Q id → ((q : ObjectId) → P q
+    → eq_by_cmp id_cmp id q ≡ false) → (old mid new : List ObjectId) → new ≡ mid ++ id ∷ [] → AsksEach P old mid → AsksEach Q old new
 asks_more P Q weaker id own apart old mid new e a = record {
   ids = a.ids ++ id ∷ [];
   appended = e ∙ ap (λ l. l ++ id ∷ []) a.appended ∙ append_assoc old a.ids (id ∷ []);
-  distinct = IsDistinct-push (eq_by_cmp_equiv ids_total) a.ids id a.distinct (list_any_none (eq_by_cmp id_cmp id) a.ids (All-weaker P (λ q. eq_by_cmp id_cmp id q ≡ false) apart a.ids a.each));
+  distinct = IsDistinct-push (eq_by_cmp_equiv ids_total) a.ids id a.distinct
+      (list_any_none (eq_by_cmp id_cmp id) a.ids (All-weaker P (λ q. eq_by_cmp id_cmp id q ≡ false) apart a.ids a.each));
   each = All-push Q a.ids id (All-weaker P Q weaker a.ids a.each) own;
 }
 
@@ -42,21 +46,27 @@ true_or_false true = inl refl
 true_or_false false = inr refl
 
 -- nothing more was asked for
-pub asked_same : (g : GraphData) (old new : Search) → ((q : ObjectId) → old.seen q ≡ true → new.seen q ≡ true) → (before after : List ObjectId) → after ≡ before → KeepsAsked g old new before after
+pub asked_same : (g : GraphData) (old new : Search) → ((q : ObjectId) → old.seen q ≡ true → new.seen q ≡ true)
+    → (before after : List ObjectId) → after ≡ before → KeepsAsked g old new before after
 asked_same g old new keeps before after e first start l a =
     subst (AsksEach (λ q. (new.seen q ≡ true) × (finite.get first.held q ≡ None)) start) (sym e)
-    (asks_weaker (λ q. (old.seen q ≡ true) × (finite.get first.held q ≡ None)) (λ q. (new.seen q ≡ true) × (finite.get first.held q ≡ None)) (λ q p. (keeps q p.0, p.1)) start before a)
+    (asks_weaker (λ q. (old.seen q ≡ true) × (finite.get first.held q ≡ None))
+    (λ q. (new.seen q ≡ true) × (finite.get first.held q ≡ None)) (λ q p. (keeps q p.0, p.1)) start before a)
 
 -- an id that wasn't looked for before
-pub asked_one : (g : GraphData) (id : ObjectId) (old new : Search) → old.seen id ≡ false → new.seen id ≡ true → ((q : ObjectId) → old.seen q ≡ true → new.seen q ≡ true) → (before after : List ObjectId)
+pub asked_one : (g : GraphData) (id : ObjectId) (old new : Search) → old.seen id ≡ false → new.seen id ≡ true
+    → ((q : ObjectId) → old.seen q ≡ true → new.seen q ≡ true) → (before after : List ObjectId)
     → AsksWhere (finite.get g.held id ≡ None) id before after → KeepsAsked g old new before after
 asked_one g id old new fresh here keeps before after asks first start l a = ⊎_elim
     (λ e. asked_same g old new keeps before after e first start l a)
-    (λ e. asks_more (λ q. (old.seen q ≡ true) × (finite.get first.held q ≡ None)) (λ q. (new.seen q ≡ true) × (finite.get first.held q ≡ None)) (λ q p. (keeps q p.0, p.1)) id (here, unheld first g l id e.0)
-    (λ q p. ⊎_elim (λ t. absurd (true≢false (sym p.0 ∙ ap old.seen (sym (same_from id q t)) ∙ fresh))) (λ f. f) (true_or_false (eq_by_cmp id_cmp id q)))
+    (λ e. asks_more (λ q. (old.seen q ≡ true) × (finite.get first.held q ≡ None))
+    (λ q. (new.seen q ≡ true) × (finite.get first.held q ≡ None)) (λ q p. (keeps q p.0, p.1)) id (here, unheld first g l id e.0)
+    (λ q p. ⊎_elim (λ t. absurd (true≢false (sym p.0 ∙ ap old.seen (sym (same_from id q t)) ∙ fresh))) (λ f. f)
+    (true_or_false (eq_by_cmp id_cmp id q)))
     start before after e.1 a)
     asks
 
 -- and then others
-pub asked_on : (g h : GraphData) → LooksUp g h → (a b c : Search) (before between after : List ObjectId) → KeepsAsked g a b before between → KeepsAsked h b c between after → KeepsAsked g a c before after
+pub asked_on : (g h : GraphData) → LooksUp g h → (a b c : Search) (before between after : List ObjectId)
+    → KeepsAsked g a b before between → KeepsAsked h b c between after → KeepsAsked g a c before after
 asked_on g h l a b c before between after k m first start f asked = m first start (looks_on first g h f l) (k first start f asked)

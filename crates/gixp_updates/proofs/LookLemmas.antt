@@ -47,7 +47,8 @@ one_has id q e = (0, omega arith, e)
 
 -- what waited, by the one that was taken
 pub popped : (o : Option Pending) (old new : List Pending) → IfSome o (λ x. IsPermutation old (x ∷ new))
-    → IfSome o (λ x. (q : ObjectId) → list_any (λ (p : Pending). eq_by_cmp id_cmp q p.id) old ≡ (eq_by_cmp id_cmp q x.id || list_any (λ (p : Pending). eq_by_cmp id_cmp q p.id) new))
+    → IfSome o (λ x. (q : ObjectId) → list_any (λ (p : Pending). eq_by_cmp id_cmp q p.id) old
+    ≡ (eq_by_cmp id_cmp q x.id || list_any (λ (p : Pending). eq_by_cmp id_cmp q p.id) new))
 popped None old new h = h
 popped (Some x) old new h = λ q. list_any-IsPermutation (λ (p : Pending). eq_by_cmp id_cmp q p.id) old (x ∷ new) h
 
@@ -87,30 +88,35 @@ module _ (id : ObjectId) (old new : Search) (noted : (q : ObjectId) → new.seen
 
   -- no more is left
   unseen_le : (objects : Objects) → unseen objects new ≤ unseen objects old
-  unseen_le objects = count_le (λ q. not (old.seen q)) (λ q. not (new.seen q)) (λ q. fewer (old.seen q) (new.seen q) (noted_keeps q)) (finite.keys objects)
+  unseen_le objects = count_le (λ q. not (old.seen q)) (λ q. not (new.seen q)) (λ q. fewer (old.seen q) (new.seen q) (noted_keeps q))
+      (finite.keys objects)
 
   -- nothing more waits: it was looked for before, or it isn't there
-  pub explores_same : (objects : Objects) → ((old.seen id ≡ true) ⊎ (commit_at objects id ≡ None)) → ((q : ObjectId) → new.waits q ≡ old.waits q) → new.waiting ≡ old.waiting → Explores objects (id ∷ []) old new
+  pub explores_same : (objects : Objects) → ((old.seen id ≡ true) ⊎ (commit_at objects id ≡ None))
+      → ((q : ObjectId) → new.waits q ≡ old.waits q) → new.waiting ≡ old.waiting → Explores objects (id ∷ []) old new
   explores_same objects why waits count = record {
     more = more_one;
     sees = All-cons (λ q. new.seen q ≡ true) id [] noted_here (All-nil (λ q. new.seen q ≡ true));
     stays = λ q h. waits q ∙ h;
     waits = λ q h s. ⊎_elim
-        (λ e. ⊎_elim (λ w. inl (subst (λ x. old.seen x ≡ true) e w)) (λ n. absurd (let t : is_some (commit_at objects q) ≡ true = s in let f : is_some (commit_at objects q) ≡ false = ap is_some (ap (commit_at objects) (sym e) ∙ n) in cc)) why)
+        (λ e. ⊎_elim (λ w. inl (subst (λ x. old.seen x ≡ true) e w)) (λ n. absurd (let t : is_some (commit_at objects q) ≡ true = s in
+        let f : is_some (commit_at objects q) ≡ false = ap is_some (ap (commit_at objects) (sym e) ∙ n) in cc)) why)
         (λ e. inl e) (noted_cases q h);
     found = λ q h. inl (sym (waits q) ∙ h);
     less = omega (arith, unseen_le objects);
   }
 
   -- it is found and waits
-  module _ (objects : Objects) (before : old.seen id ≡ false) (there : IsSome (commit_at objects id)) (waits : (q : ObjectId) → new.waits q ≡ (eq_by_cmp id_cmp q id || old.waits q)) (count : new.waiting ≡ old.waiting + 1) where
+  module _ (objects : Objects) (before : old.seen id ≡ false) (there : IsSome (commit_at objects id))
+      (waits : (q : ObjectId) → new.waits q ≡ (eq_by_cmp id_cmp q id || old.waits q)) (count : new.waiting ≡ old.waiting + 1) where
     -- a commit is an object
     is_some_at : (o : Option Object) → IsSome (option_and_then (λ (k : Object). k.commit) o) → is_some o ≡ true
     is_some_at None e = e
     is_some_at (Some k) e = refl
 
     one_less : unseen objects new + 1 ≤ unseen objects old
-    one_less = count_lt (λ q. not (old.seen q)) (λ q. not (new.seen q)) (λ q. fewer (old.seen q) (new.seen q) (noted_keeps q)) id (ap not before) (ap not noted_here) (finite.keys objects)
+    one_less = count_lt (λ q. not (old.seen q)) (λ q. not (new.seen q)) (λ q. fewer (old.seen q) (new.seen q) (noted_keeps q)) id
+        (ap not before) (ap not noted_here) (finite.keys objects)
         (sym (contains_key-keys objects id) ∙ is_some_at (finite.get objects id) there)
 
     pub explores_found : Explores objects (id ∷ []) old new
@@ -122,7 +128,8 @@ module _ (id : ObjectId) (old new : Search) (noted : (q : ObjectId) → new.seen
           (λ e. inr (waits q ∙ or_left (eq_by_cmp id_cmp q id) (old.waits q) (subst (λ x. eq_by_cmp id_cmp x id ≡ true) e (same_id id))))
           (λ e. inl e) (noted_cases q h);
       found = λ q h. ⊎_elim
-          (λ e. let same : q ≡ id = same_from q id e in inr (subst (λ x. IsSome (commit_at objects x)) (sym same) there, one_has id q (sym same)))
+          (λ e. let same : q ≡ id = same_from q id e in
+          inr (subst (λ x. IsSome (commit_at objects x)) (sym same) there, one_has id q (sym same)))
           (λ e. inl e) (or_cases (eq_by_cmp id_cmp q id) (old.waits q) (sym (waits q) ∙ h));
       less = omega (arith, one_less);
     }
@@ -132,7 +139,8 @@ pub more_same : (ids : List ObjectId) (old new : Search) → ((q : ObjectId) →
 more_same ids old new same = record { keeps = λ q h. same q ∙ h; only = λ q h. inl (sym (same q) ∙ h) }
 
 -- and then these
-pub more_on : (ids others all : List ObjectId) (a b c : Search) → ((q : ObjectId) → Contains ids q → Contains all q) → ((q : ObjectId) → Contains others q → Contains all q) → SeesMore ids a b → SeesMore others b c → SeesMore all a c
+pub more_on : (ids others all : List ObjectId) (a b c : Search) → ((q : ObjectId) → Contains ids q → Contains all q)
+    → ((q : ObjectId) → Contains others q → Contains all q) → SeesMore ids a b → SeesMore others b c → SeesMore all a c
 more_on ids others all a b c left right m n = record {
   keeps = λ q h. n.keeps q (m.keeps q h);
   only = λ q h. ⊎_elim (λ e. ⊎_elim (λ e. inl e) (λ e. inr (left q e)) (m.only q e)) (λ e. inr (right q e)) (n.only q h);
@@ -150,10 +158,13 @@ explores_none objects s = record {
 }
 
 -- of one more
-pub explores_on : (objects : Objects) (ids : List ObjectId) (id : ObjectId) (a b c : Search) → Explores objects ids a b → Explores objects (id ∷ []) b c → Explores objects (ids ++ id ∷ []) a c
+pub explores_on : (objects : Objects) (ids : List ObjectId) (id : ObjectId) (a b c : Search) → Explores objects ids a b
+    → Explores objects (id ∷ []) b c → Explores objects (ids ++ id ∷ []) a c
 explores_on objects ids id a b c m n = record {
-  more = more_on ids (id ∷ []) (ids ++ id ∷ []) a b c (λ q. Contains-append_left ids (id ∷ []) q) (λ q. Contains-append_right ids (id ∷ []) q) m.more n.more;
-  sees = All-push (λ q. c.seen q ≡ true) ids id (All-weaker (λ q. b.seen q ≡ true) (λ q. c.seen q ≡ true) n.more.keeps ids m.sees) (n.sees 0 id (omega arith));
+  more = more_on ids (id ∷ []) (ids ++ id ∷ []) a b c (λ q. Contains-append_left ids (id ∷ []) q)
+      (λ q. Contains-append_right ids (id ∷ []) q) m.more n.more;
+  sees = All-push (λ q. c.seen q ≡ true) ids id (All-weaker (λ q. b.seen q ≡ true) (λ q. c.seen q ≡ true) n.more.keeps ids m.sees)
+      (n.sees 0 id (omega arith));
   stays = λ q h. n.stays q (m.stays q h);
   waits = λ q h s. ⊎_elim (λ e. ⊎_elim (λ e. inl e) (λ e. inr (n.stays q e)) (m.waits q e s)) (λ e. inr e) (n.waits q h s);
   found = λ q h. ⊎_elim
@@ -185,47 +196,65 @@ looks_on g h i a b = record {
 }
 
 -- by what is held and what the objects have
-up_at : (g : GraphData) (id q : ObjectId) (o : Option HeldCommit) (p : Option Commit) → finite.get g.held id ≡ o → commit_at g.objects id ≡ p
-    → (finite.get (put g.held id (option_or o (option_map unmarked p))) q ≡ finite.get g.held q) ⊎ ((finite.get g.held q ≡ None) × (finite.get (put g.held id (option_or o (option_map unmarked p))) q ≡ option_map unmarked (commit_at g.objects q)))
+up_at : (g : GraphData) (id q : ObjectId) (o : Option HeldCommit) (p : Option Commit) → finite.get g.held id ≡ o
+    → commit_at g.objects id ≡ p
+    → (finite.get (put g.held id (option_or o (option_map unmarked p))) q ≡ finite.get g.held q) ⊎ ((finite.get g.held q ≡ None)
+    × (finite.get (put g.held id (option_or o (option_map unmarked p))) q ≡ option_map unmarked (commit_at g.objects q)))
 up_at g id q (Some h) p is has = inl (ap (λ m. finite.get m q) (put_same g.held id h is))
 up_at g id q None None is has = inl refl
 up_at g id q None (Some c) is has = at (eq_by_cmp id_cmp q id) refl
   where
-    at : (b : Bool) → eq_by_cmp id_cmp q id ≡ b → (finite.get (finite.insert g.held id (unmarked c)) q ≡ finite.get g.held q) ⊎ ((finite.get g.held q ≡ None) × (finite.get (finite.insert g.held id (unmarked c)) q ≡ option_map unmarked (commit_at g.objects q)))
-    at true e = inr (ap (finite.get g.held) (same_from q id e) ∙ is, get-insert ids_total g.held id (unmarked c) q ∙ ap (λ b. cond b (Some (unmarked c)) (finite.get g.held q)) e ∙ sym (ap (option_map unmarked) (ap (commit_at g.objects) (same_from q id e) ∙ has)))
+    at : (b : Bool) → eq_by_cmp id_cmp q id ≡ b → (finite.get (finite.insert g.held id (unmarked c)) q ≡ finite.get g.held q)
+        ⊎ ((finite.get g.held q ≡ None) × (finite.get (finite.insert g.held id (unmarked c)) q
+        ≡ option_map unmarked (commit_at g.objects q)))
+    at true e =
+        inr (
+          ap (finite.get g.held) (same_from q id e) ∙ is,
+          get-insert ids_total g.held id (unmarked c) q
+              ∙ ap (λ b. cond b (Some (unmarked c)) (finite.get g.held q)) e
+              ∙ sym (ap (option_map unmarked) (ap (commit_at g.objects) (same_from q id e) ∙ has)),
+        )
     at false e = inl (get-insert ids_total g.held id (unmarked c) q ∙ ap (λ b. cond b (Some (unmarked c)) (finite.get g.held q)) e)
 
 -- a look-up
 pub looks_up : (g h : GraphData) (id : ObjectId) → h ≡ graph_of g.objects (looked_up g id) → LooksUp g h
-looks_up g h id e = subst (LooksUp g) (sym e) (record { objects = refl; held = λ q. up_at g id q (finite.get g.held id) (commit_at g.objects id) refl refl })
+looks_up g h id e = subst (LooksUp g) (sym e)
+    (record { objects = refl; held = λ q. up_at g id q (finite.get g.held id) (commit_at g.objects id) refl refl })
 
 -- what was held is held
 pub still_held : (g h : GraphData) → LooksUp g h → (q : ObjectId) → IsSome (finite.get g.held q) → IsSome (finite.get h.held q)
-still_held g h l q s = ⊎_elim (λ e. subst IsSome (sym e) s) (λ e. absurd (let t : is_some (finite.get g.held q) ≡ true = s in let f : is_some (finite.get g.held q) ≡ false = ap is_some e.0 in cc)) (l.held q)
+still_held g h l q s = ⊎_elim (λ e. subst IsSome (sym e) s) (λ e. absurd (let t : is_some (finite.get g.held q) ≡ true = s in
+    let f : is_some (finite.get g.held q) ≡ false = ap is_some e.0 in cc)) (l.held q)
 
 -- what is found is held
 held_at : (g : GraphData) (id : ObjectId) (o : Option HeldCommit) → IsSome o → IsSome (finite.get (put g.held id o) id)
 held_at g id None s = absurd (let t : false ≡ true = s in cc)
-held_at g id (Some h) s = subst IsSome (sym (get-insert ids_total g.held id h id ∙ ap (λ b. cond b (Some h) (finite.get g.held id)) (same_id id))) refl
+held_at g id (Some h) s =
+    subst IsSome (sym (get-insert ids_total g.held id h id ∙ ap (λ b. cond b (Some h) (finite.get g.held id)) (same_id id))) refl
 
-pub held_here : (g h : GraphData) (id : ObjectId) → h ≡ graph_of g.objects (looked_up g id) → IsSome (found_in g id) → IsSome (finite.get h.held id)
+pub held_here : (g h : GraphData) (id : ObjectId) → h ≡ graph_of g.objects (looked_up g id) → IsSome (found_in g id)
+    → IsSome (finite.get h.held id)
 held_here g h id e s = subst (λ (k : GraphData). IsSome (finite.get k.held id)) (sym e) (held_at g id (found_in g id) s)
 
 -- what waits is held
-pub holds_on : (g h : GraphData) (old new : Search) → LooksUp g h → ((q : ObjectId) → new.waits q ≡ true → (old.waits q ≡ true) ⊎ IsSome (finite.get h.held q)) → HoldsWaiting g old → HoldsWaiting h new
+pub holds_on : (g h : GraphData) (old new : Search) → LooksUp g h → ((q : ObjectId) → new.waits q ≡ true → (old.waits q ≡ true)
+    ⊎ IsSome (finite.get h.held q)) → HoldsWaiting g old → HoldsWaiting h new
 holds_on g h old new l cases held q w = ⊎_elim (λ e. still_held g h l q (held q e)) (λ e. e) (cases q w)
 
 -- ---- one of some ids
 
 module _ (ids : List ObjectId) (k : ℕ) (d : ObjectId) (l : k < length ids) where
   -- the first of them, and the next
-  pub explores_step : (objects same : Objects) → same ≡ objects → (a b c : Search) → Explores objects (take k ids) a b → Explores same (get_or ids k d ∷ []) b c → Explores objects (take (k + 1) ids) a c
+  pub explores_step : (objects same : Objects) → same ≡ objects → (a b c : Search) → Explores objects (take k ids) a b
+      → Explores same (get_or ids k d ∷ []) b c → Explores objects (take (k + 1) ids) a c
   explores_step objects same e a b c m n =
-      subst (λ xs. Explores objects xs a c) (sym (take_more ids k d l)) (explores_on objects (take k ids) (get_or ids k d) a b c m (subst (λ o. Explores o (get_or ids k d ∷ []) b c) e n))
+      subst (λ xs. Explores objects xs a c) (sym (take_more ids k d l))
+      (explores_on objects (take k ids) (get_or ids k d) a b c m (subst (λ o. Explores o (get_or ids k d ∷ []) b c) e n))
 
   -- also where the look was refused
   pub more_step : (a b c : Search) → SeesMore (take k ids) a b → SeesMore (get_or ids k d ∷ []) b c → SeesMore ids a c
   more_step a b c m n = more_on (take k ids) (get_or ids k d ∷ []) ids a b c
       (λ q h. subst (λ xs. Contains xs q) (take-append-drop k ids) (Contains-append_left (take k ids) (drop k ids) q h))
-      (λ q h. subst (Contains ids) (All-contains (λ x. get_or ids k d ≡ x) (get_or ids k d ∷ []) q (All-cons (λ x. get_or ids k d ≡ x) (get_or ids k d) [] refl (All-nil (λ x. get_or ids k d ≡ x))) h) (Contains-get_or ids k d l))
+      (λ q h. subst (Contains ids) (All-contains (λ x. get_or ids k d ≡ x) (get_or ids k d ∷ []) q (All-cons (λ x. get_or ids k d ≡ x)
+      (get_or ids k d) [] refl (All-nil (λ x. get_or ids k d ≡ x))) h) (Contains-get_or ids k d l))
       m n

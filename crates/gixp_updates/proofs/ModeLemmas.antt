@@ -30,14 +30,16 @@ risen_on : (a b c : ℕ) → a ≤ b → HasRisen b c → HasRisen a c
 risen_on a b c l h = ⊎_elim (λ e. inl (omega (arith, e))) (λ e. inr e) h
 
 -- what was told since nothing was refused
-tells_on : {T : Type 0} (limit : Option ℕ) (r : Result T Error) (a b c : GraphValue) → b.refusals ≡ a.refusals → a.failures ≤ b.failures → TellsIfRefused limit r b c → TellsIfRefused limit r a c
+tells_on : {T : Type 0} (limit : Option ℕ) (r : Result T Error) (a b c : GraphValue) → b.refusals ≡ a.refusals → a.failures ≤ b.failures
+    → TellsIfRefused limit r b c → TellsIfRefused limit r a c
 tells_on limit (Ok x) a b c e l t = t ∙ e
 tells_on limit (Err (FindObject x)) a b c e l t = (t.0, t.1 ∙ ap (λ w. writing w x) e, risen_on a.failures b.failures c.failures l t.2)
 tells_on limit (Err TooManyCommits) a b c e l t = (t.0, t.1 ∙ e)
 tells_on limit (Err Memory) a b c e l t = subst (λ w. TellsRefusal no_memory w c.refusals) e t
 
 -- one look-up after another
-pub consults_on : {S T : Type 0} (limit : Option ℕ) (x : S) (r : Result T Error) (a b c : GraphValue) → Consults {T = S} limit (Ok x) a b → Consults limit r b c → Consults limit r a c
+pub consults_on : {S T : Type 0} (limit : Option ℕ) (x : S) (r : Result T Error) (a b c : GraphValue)
+    → Consults {T = S} limit (Ok x) a b → Consults limit r b c → Consults limit r a c
 consults_on limit x r a b c m n = record {
   looks = looks_on a.graph b.graph c.graph m.looks n.looks;
   failures = omega (arith, m.failures, n.failures);
@@ -45,11 +47,13 @@ consults_on limit x r a b c m n = record {
 }
 
 -- another value
-pub consults_as : {S T : Type 0} (limit : Option ℕ) (x : S) (y : T) (a b : GraphValue) → Consults {T = S} limit (Ok x) a b → Consults {T = T} limit (Ok y) a b
+pub consults_as : {S T : Type 0} (limit : Option ℕ) (x : S) (y : T) (a b : GraphValue) → Consults {T = S} limit (Ok x) a b
+    → Consults {T = T} limit (Ok y) a b
 consults_as limit x y a b m = record { looks = m.looks; failures = m.failures; tells = m.tells }
 
 -- an error of another value
-pub consults_err : {S T : Type 0} (limit : Option ℕ) (e : Error) (a b : GraphValue) → Consults {T = S} limit (Err e) a b → Consults {T = T} limit (Err e) a b
+pub consults_err : {S T : Type 0} (limit : Option ℕ) (e : Error) (a b : GraphValue) → Consults {T = S} limit (Err e) a b
+    → Consults {T = T} limit (Err e) a b
 consults_err limit e a b m = record { looks = m.looks; failures = m.failures; tells = m.tells }
 
 -- nothing was looked up
@@ -62,12 +66,15 @@ ok_weaker (Ok x) P Q f p = f x p
 ok_weaker (Err e) P Q f p = p
 
 -- an update by what is the same
-pub update_moved : (l : LocalSide) (commits : Objects) → commits ≡ l.commits → (w v : Wanted) → w ≡ v → (n p : Option (List ℕ)) → n ≡ p → (u : Update) → IsUpdate (record l { commits = commits }) w n u → IsUpdate l v p u
+pub update_moved : (l : LocalSide) (commits : Objects) → commits ≡ l.commits → (w v : Wanted) → w ≡ v → (n p : Option (List ℕ)) → n ≡ p
+    → (u : Update) → IsUpdate (record l { commits = commits }) w n u → IsUpdate l v p u
 update_moved l commits same w v is n p name u h =
-    subst (λ x. IsUpdate l v x u) name (subst (λ x. IsUpdate l x n u) is (subst (λ (o : Objects). IsUpdate (record l { commits = o }) w n u) same h))
+    subst (λ x. IsUpdate l v x u) name (subst (λ x. IsUpdate l x n u) is
+    (subst (λ (o : Objects). IsUpdate (record l { commits = o }) w n u) same h))
 
 -- one more on both sides
-pub pushed : {A B : Type 0} (R : A → B → Type 0) (xs : List A) (ys : List B) (x : A) (y : B) → AllZip R xs ys → R x y → AllZip R (xs ++ x ∷ []) (ys ++ y ∷ [])
+pub pushed : {A B : Type 0} (R : A → B → Type 0) (xs : List A) (ys : List B) (x : A) (y : B) → AllZip R xs ys → R x y
+    → AllZip R (xs ++ x ∷ []) (ys ++ y ∷ [])
 pushed R [] [] x y h r = (r, tt)
 pushed R [] (b ∷ ys) x y h r = absurd h
 pushed R (a ∷ xs) [] x y h r = absurd h

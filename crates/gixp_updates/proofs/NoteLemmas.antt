@@ -25,10 +25,12 @@ middle_with-needle source name (the_short text) h =
     ap (λ t. where_true (list_any (λ candidate. bytes_eq name candidate) (candidates t))) h.1 ∙ ap (λ k. middle_by k source name) (sym h.0)
 
 -- what a needle matches of some refs
-pub matched_by : (s : Spec) (needle : Needle) → IsNeedle s.source needle → (refs : List Ref) → list_any (is_match_with needle) refs ≡ list_any (is_match s) refs
+pub matched_by : (s : Spec) (needle : Needle) → IsNeedle s.source needle → (refs : List Ref) → list_any (is_match_with needle) refs
+    ≡ list_any (is_match s) refs
 matched_by s needle h [] = refl
 matched_by s needle h (r ∷ refs) =
-    let e : is_match_with needle r ≡ is_match s r = ap (λ m. is_some (unpacked_target r) && is_some m) (middle_with-needle s.source (unpacked_name r) needle h) in
+    let e : is_match_with needle r ≡ is_match s r =
+    ap (λ m. is_some (unpacked_target r) && is_some m) (middle_with-needle s.source (unpacked_name r) needle h) in
     let t = matched_by s needle h refs in
     (cc)
 

@@ -35,22 +35,26 @@ the_commit (Some c) s = (c, refl)
 
 module _ (objects : Objects) (start target : ObjectId) (none s : Search) (unseen : (q : ObjectId) → none.seen q ≡ false) where
   pub begun_reached : SeesMore (start ∷ []) none s → (q : ObjectId) → s.seen q ≡ true → IsReached (commit_at objects) start q
-  begun_reached m q h = ⊎_elim (λ e. absurd (true≢false (sym e ∙ unseen q))) (λ e. subst (IsReached (commit_at objects) start) (is_one start q e) IsReached.itself) (m.only q h)
+  begun_reached m q h = ⊎_elim (λ e. absurd (true≢false (sym e ∙ unseen q)))
+      (λ e. subst (IsReached (commit_at objects) start) (is_one start q e) IsReached.itself) (m.only q h)
 
-  pub search_begun : ((q : ObjectId) → none.waits q ≡ false) → Explores objects (start ∷ []) none s → IsSearch (commit_at objects) start target s
+  pub search_begun : ((q : ObjectId) → none.waits q ≡ false) → Explores objects (start ∷ []) none s
+      → IsSearch (commit_at objects) start target s
   search_begun idle e = record {
     begun = All-contains (λ q. s.seen q ≡ true) (start ∷ []) start e.sees (0, omega arith, refl);
     reached = begun_reached e.more;
     ancestors = λ q w. ⊎_elim
         (λ h. absurd (true≢false (sym h ∙ idle q)))
-        (λ h. let same : start ≡ q = is_one start q h.1 in subst (IsAncestor (commit_at objects) start) same (IsAncestor.itself (subst (λ x. IsSome (commit_at objects x)) (sym same) h.0)))
+        (λ h. let same : start ≡ q = is_one start q h.1 in subst (IsAncestor (commit_at objects) start) same
+        (IsAncestor.itself (subst (λ x. IsSome (commit_at objects x)) (sym same) h.0)))
         (e.found q w);
     closed = λ q h t. ⊎_elim (λ e. absurd (true≢false (sym e ∙ unseen q))) (λ w. inl w) (e.waits q h t);
   }
 
 -- ---- its steps
 
-module _ (objects : Objects) (start target : ObjectId) (a b c : Search) (id : ObjectId) (search : IsSearch (commit_at objects) start target a) (taken : (q : ObjectId) → a.waits q ≡ (eq_by_cmp id_cmp q id || b.waits q))
+module _ (objects : Objects) (start target : ObjectId) (a b c : Search) (id : ObjectId)
+    (search : IsSearch (commit_at objects) start target a) (taken : (q : ObjectId) → a.waits q ≡ (eq_by_cmp id_cmp q id || b.waits q))
     (same : (q : ObjectId) → b.seen q ≡ a.seen q) where
   -- the one that is taken is an ancestor
   pub taken_ancestor : IsAncestor (commit_at objects) start id
@@ -64,14 +68,16 @@ module _ (objects : Objects) (start target : ObjectId) (a b c : Search) (id : Ob
     is_parent q h = subst (λ xs. Contains xs q) (parents its_commit.0 its_commit.1) h
 
     pub step_reached : SeesMore ps b c → (q : ObjectId) → c.seen q ≡ true → IsReached (commit_at objects) start q
-    step_reached m q h = ⊎_elim (λ e. search.reached q (sym (same q) ∙ e)) (λ e. IsReached.parent taken_ancestor its_commit.1 (is_parent q e)) (m.only q h)
+    step_reached m q h = ⊎_elim (λ e. search.reached q (sym (same q) ∙ e))
+        (λ e. IsReached.parent taken_ancestor its_commit.1 (is_parent q e)) (m.only q h)
 
     module _ (other : id ≢ target) (e : Explores objects ps b c) where
       -- the one that is taken is passed
       passes : (q : ObjectId) → q ≡ id → IsSeenThrough (commit_at objects) target c.seen q
       passes q is = record {
         other = λ t. other (sym is ∙ t);
-        parents = λ k p r i. All-contains (λ x. c.seen x ≡ true) ps p e.sees (subst (λ xs. Contains xs p) (sym (parents k (ap (commit_at objects) (sym is) ∙ r))) i);
+        parents = λ k p r i. All-contains (λ x. c.seen x ≡ true) ps p e.sees
+            (subst (λ xs. Contains xs p) (sym (parents k (ap (commit_at objects) (sym is) ∙ r))) i);
       }
 
       stays_passed : (q : ObjectId) → IsSeenThrough (commit_at objects) target a.seen q → IsSeenThrough (commit_at objects) target c.seen q
@@ -87,7 +93,8 @@ module _ (objects : Objects) (start target : ObjectId) (a b c : Search) (id : Ob
             (e.found q w);
         closed = λ q h t. ⊎_elim
             (λ h. ⊎_elim
-            (λ w. ⊎_elim (λ is. inr (passes q (same_from q id is))) (λ w. inl (e.stays q w)) (or_cases (eq_by_cmp id_cmp q id) (b.waits q) (sym (taken q) ∙ w)))
+            (λ w. ⊎_elim (λ is. inr (passes q (same_from q id is))) (λ w. inl (e.stays q w))
+            (or_cases (eq_by_cmp id_cmp q id) (b.waits q) (sym (taken q) ∙ w)))
             (λ p. inr (stays_passed q p))
             (search.closed q (sym (same q) ∙ h) t))
             (λ w. inl w) (e.waits q h t);
@@ -95,28 +102,35 @@ module _ (objects : Objects) (start target : ObjectId) (a b c : Search) (id : Ob
 
 -- ---- its end
 
-module _ (objects : Objects) (start target : ObjectId) (s : Search) (search : IsSearch (commit_at objects) start target s) (idle : (q : ObjectId) → s.waits q ≡ false) where
+module _ (objects : Objects) (start target : ObjectId) (s : Search) (search : IsSearch (commit_at objects) start target s)
+    (idle : (q : ObjectId) → s.waits q ≡ false) where
   -- each ancestor was looked for
   all_seen : (q : ObjectId) → IsAncestor (commit_at objects) start q → s.seen q ≡ true
   all_seen q (IsAncestor.itself t) = search.begun
   all_seen q (IsAncestor.parent {child} {id} {c} k r i t) =
-      ⊎_elim (λ w. absurd (true≢false (sym w ∙ idle child))) (λ p. p.parents c q r i) (search.closed child (all_seen child k) (ap is_some r))
+      ⊎_elim (λ w. absurd (true≢false (sym w ∙ idle child))) (λ p. p.parents c q r i)
+      (search.closed child (all_seen child k) (ap is_some r))
 
   -- and none of them is the one that is searched
   pub not_found : IsAncestor (commit_at objects) start target → ⊥
-  not_found k = ⊎_elim (λ w. true≢false (sym w ∙ idle target)) (λ p. p.other refl) (search.closed target (all_seen target k) (ancestor_there (commit_at objects) start target k))
+  not_found k = ⊎_elim (λ w. true≢false (sym w ∙ idle target)) (λ p. p.other refl)
+      (search.closed target (all_seen target k) (ancestor_there (commit_at objects) start target k))
 
 -- ---- what was asked for
 
-pub asked_reached : (g : GraphData) (read : ObjectId → Option Commit) (start : ObjectId) (s : Search) (before after : List ObjectId) → ((q : ObjectId) → s.seen q ≡ true → IsReached read start q) → HasAskedFor g s before after
+pub asked_reached : (g : GraphData) (read : ObjectId → Option Commit) (start : ObjectId) (s : Search) (before after : List ObjectId)
+    → ((q : ObjectId) → s.seen q ≡ true → IsReached read start q) → HasAskedFor g s before after
     → AsksEach (λ q. (finite.get g.held q ≡ None) × IsReached read start q) before after
 asked_reached g read start s before after reached a =
-    asks_weaker (λ q. (s.seen q ≡ true) × (finite.get g.held q ≡ None)) (λ q. (finite.get g.held q ≡ None) × IsReached read start q) (λ q p. (p.1, reached q p.0)) before after a
+    asks_weaker (λ q. (s.seen q ≡ true) × (finite.get g.held q ≡ None)) (λ q. (finite.get g.held q ≡ None) × IsReached read start q)
+    (λ q p. (p.1, reached q p.0)) before after a
 
 -- what was looked for is the same
-pub asked_seen : (g : GraphData) (a b : Search) (before after : List ObjectId) → ((q : ObjectId) → b.seen q ≡ a.seen q) → HasAskedFor g a before after → HasAskedFor g b before after
+pub asked_seen : (g : GraphData) (a b : Search) (before after : List ObjectId) → ((q : ObjectId) → b.seen q ≡ a.seen q)
+    → HasAskedFor g a before after → HasAskedFor g b before after
 asked_seen g a b before after same h =
-    asks_weaker (λ q. (a.seen q ≡ true) × (finite.get g.held q ≡ None)) (λ q. (b.seen q ≡ true) × (finite.get g.held q ≡ None)) (λ q p. (same q ∙ p.0, p.1)) before after h
+    asks_weaker (λ q. (a.seen q ≡ true) × (finite.get g.held q ≡ None)) (λ q. (b.seen q ≡ true) × (finite.get g.held q ≡ None))
+    (λ q p. (same q ∙ p.0, p.1)) before after h
 
 -- ---- small steps
 
@@ -129,11 +143,13 @@ pub others_wait : (q id : ObjectId) (w : Bool) → w ≡ true → (eq_by_cmp id_
 others_wait q id w h = or_right (eq_by_cmp id_cmp q id) w h
 
 -- by objects that are the same
-pub explored : (objects same : Objects) → same ≡ objects → (ids : List ObjectId) (a b : Search) → Explores same ids a b → Explores objects ids a b
+pub explored : (objects same : Objects) → same ≡ objects → (ids : List ObjectId) (a b : Search) → Explores same ids a b
+    → Explores objects ids a b
 explored objects same e ids a b x = subst (λ o. Explores o ids a b) e x
 
 -- more were looked for than are allowed
-pub beyond : (read : ObjectId → Option Commit) (start : ObjectId) (allowed : Option ℕ) (ids : List ObjectId) (seen : ℕ) → seen ≡ length ids → IsBeyond seen allowed → IsDistinct (eq_by_cmp id_cmp) ids → All (IsReached read start) ids
+pub beyond : (read : ObjectId → Option Commit) (start : ObjectId) (allowed : Option ℕ) (ids : List ObjectId) (seen : ℕ)
+    → seen ≡ length ids → IsBeyond seen allowed → IsDistinct (eq_by_cmp id_cmp) ids → All (IsReached read start) ids
     → (most : ℕ) × (allowed ≡ Some most) × ReachesMore read start most
 beyond read start None ids seen l b d a = absurd b
 beyond read start (Some most) ids seen l b d a = (most, refl, record { ids = ids; more = omega arith; distinct = d; each = a })

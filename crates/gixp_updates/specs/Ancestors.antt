@@ -9,12 +9,15 @@ use Rattle.gixp_graph.specs.Object.{Commit}
 -- a commit that is there is an ancestor of itself, and so are the parents that are there of each of its ancestors
 pub data IsAncestor (read : ObjectId → Option Commit) (start : ObjectId) : ObjectId → Type 0 where
   itself : IsSome (read start) → IsAncestor read start start
-  parent : {child id : ObjectId} {c : Commit} → IsAncestor read start child → read child ≡ Some c → Contains c.parents id → IsSome (read id) → IsAncestor read start id
+  parent : {child id : ObjectId} {c : Commit} → IsAncestor read start child → read child ≡ Some c → Contains c.parents id
+      → IsSome (read id) → IsAncestor read start id
 
--- the ids that a look at all ancestors comes to: that of the commit, and the parents of each of its ancestors, whether they are there or not
+-- the ids that a look at all ancestors comes to: that of the commit, and the parents of each of its ancestors, whether they are there
+-- or not
 pub data IsReached (read : ObjectId → Option Commit) (start : ObjectId) : ObjectId → Type 0 where
   itself : IsReached read start start
-  parent : {child id : ObjectId} {c : Commit} → IsAncestor read start child → read child ≡ Some c → Contains c.parents id → IsReached read start id
+  parent : {child id : ObjectId} {c : Commit} → IsAncestor read start child → read child ≡ Some c → Contains c.parents id
+      → IsReached read start id
 
 -- more ids than so many are come to
 pub record ReachesMore (read : ObjectId → Option Commit) (start : ObjectId) (most : ℕ) : Type 0 where

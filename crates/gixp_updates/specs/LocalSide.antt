@@ -11,7 +11,13 @@ use Rattle.gixp_updates.specs.declared.refs.update.Options.{Options}
 
 -- by what their types mean
 abbrev pub local_of : {R O : Type 0} → (R → FinMap (slice_cmp nat_cmp) ObjectId) → (O → Objects) → Local R O → GraphData → LocalSide
-local_of refs contents l g = record { refs = refs l.refs.now; objects = contents l.objects.now; commits = g.objects; is_checked_out = is_among l.checked_out.now }
+local_of refs contents l g = record {
+  refs = refs l.refs.now;
+  objects = contents l.objects.now;
+  commits = g.objects;
+  is_checked_out = is_among l.checked_out.now;
+}
 
 abbrev pub local_with : {R O : Type 0} → (R → FinMap (slice_cmp nat_cmp) ObjectId) → (O → Objects) → R → O → Options → GraphData → LocalSide
-local_with refs contents r o options g = record { refs = refs r; objects = contents o; commits = g.objects; is_checked_out = is_among options.checked_out.now }
+local_with refs contents r o options g =
+    record { refs = refs r; objects = contents o; commits = g.objects; is_checked_out = is_among options.checked_out.now }

@@ -8,4 +8,5 @@ use Rattle.gixp_graph.specs.GraphData.{GraphData, unmarked}
 -- commits may be held that weren't, with no marks; nothing else changes
 pub record LooksUp (g h : GraphData) : Type 0 where
   pub objects : h.objects ≡ g.objects
-  pub held : (id : ObjectId) → (finite.get h.held id ≡ finite.get g.held id) ⊎ ((finite.get g.held id ≡ None) × (finite.get h.held id ≡ option_map unmarked (commit_at g.objects id)))
+  pub held : (id : ObjectId) → (finite.get h.held id ≡ finite.get g.held id)
+      ⊎ ((finite.get g.held id ≡ None) × (finite.get h.held id ≡ option_map unmarked (commit_at g.objects id)))

@@ -64,7 +64,8 @@ abbrev pub holds_at : (Spec → Bool) → Option RefSpec → Bool
 holds_at test None = false
 holds_at test (Some s) = test (owned_value_of s)
 
--- what a mapping asks for, with these tags and refspecs: the id that its local ref is to hold, whether by force (`+`), and whether it is a tag that is included where its object is there
+-- what a mapping asks for, with these tags and refspecs: the id that its local ref is to hold, whether by force (`+`), and whether it
+-- is a tag that is included where its object is there
 abbrev pub wanted_of : Tags → List RefSpec → List RefSpec → Mapping → Wanted
 wanted_of tags explicit extra m = record {
   id = source_id m.remote;
@@ -104,13 +105,15 @@ ByAncestry commits forced old new Forced = (IsAncestor (commit_at commits) new o
 ByAncestry commits forced old new RejectedNonFastForward = (IsAncestor (commit_at commits) new old → ⊥) × (forced ≡ false)
 ByAncestry commits forced old new _ = ⊥
 
--- a ref that holds another id. Tags move by force alone, branches to commits alone; a tree or a blob takes any place and has it taken, any other object by force alone
+-- a ref that holds another id. Tags move by force alone, branches to commits alone; a tree or a blob takes any place and has it taken,
+-- any other object by force alone
 abbrev pub Moves : Objects → Objects → Bool → List ℕ → ObjectId → ObjectId → Mode → Type 0
 Moves objects commits forced name old new mode =
     MatchBool (is_tag_name name) (mode ≡ (if forced then Forced else RejectedTagUpdate))
     (MatchBool (is_branch_name name && not (is_commit commits new)) (mode ≡ RejectedNonCommit)
     (MatchBool (is_commit commits old && is_commit commits new) (ByAncestry commits forced old new mode)
-    (mode ≡ (if forced || is_tree_or_blob (kind_at objects old) || is_tree_or_blob (kind_at objects new) then Forced else RejectedNonFastForward))))
+    (mode ≡ (if forced || is_tree_or_blob (kind_at objects old) || is_tree_or_blob (kind_at objects new) then Forced
+    else RejectedNonFastForward))))
 
 -- a ref that is made
 abbrev pub made : Objects → List ℕ → ObjectId → Mode
@@ -119,7 +122,8 @@ made commits name new = if is_branch_name name && not (is_commit commits new) th
 -- by what the ref holds
 abbrev pub ByOld : Objects → Objects → Bool → List ℕ → Option ObjectId → ObjectId → Mode → Type 0
 ByOld objects commits forced name None new mode = mode ≡ made commits name new
-ByOld objects commits forced name (Some old) new mode = MatchBool (bytes_eq old.bytes new.bytes) (mode ≡ NoChangeNeeded) (Moves objects commits forced name old new mode)
+ByOld objects commits forced name (Some old) new mode =
+    MatchBool (bytes_eq old.bytes new.bytes) (mode ≡ NoChangeNeeded) (Moves objects commits forced name old new mode)
 
 -- the object isn't there
 abbrev pub not_there : Bool → ObjectId → Mode
@@ -128,12 +132,14 @@ not_there is_implicit_tag id = if is_implicit_tag then ImplicitTagNotSentByRemot
 -- by what it is to hold
 abbrev pub ByNew : LocalSide → Wanted → List ℕ → Option ObjectId → Mode → Type 0
 ByNew l w name None mode = mode ≡ (if is_some (finite.get l.refs name) then RejectedToReplaceWithUnborn else NoChangeNeeded)
-ByNew l w name (Some new) mode = MatchBool (finite.contains_key l.objects new) (ByOld l.objects l.commits w.is_forced name (finite.get l.refs name) new mode) (mode ≡ not_there w.is_implicit_tag new)
+ByNew l w name (Some new) mode = MatchBool (finite.contains_key l.objects new)
+    (ByOld l.objects l.commits w.is_forced name (finite.get l.refs name) new mode) (mode ≡ not_there w.is_implicit_tag new)
 
 -- by the local name
 abbrev pub IsMode : LocalSide → Wanted → Option (List ℕ) → Mode → Type 0
 IsMode l w None mode = mode ≡ NoChangeNeeded
-IsMode l w (Some name) mode = MatchBool (is_writable name) (MatchBool (l.is_checked_out name) (mode ≡ RejectedCurrentlyCheckedOut) (ByNew l w name w.id mode)) (mode ≡ RejectedUnsafeName)
+IsMode l w (Some name) mode = MatchBool (is_writable name)
+    (MatchBool (l.is_checked_out name) (mode ≡ RejectedCurrentlyCheckedOut) (ByNew l w name w.id mode)) (mode ≡ RejectedUnsafeName)
 
 -- the modes by which a ref is written
 abbrev pub writes : Mode → Bool
@@ -169,4 +175,5 @@ pub record IsUpdate (l : LocalSide) (w : Wanted) (name : Option (List ℕ)) (u :
 
 -- the updates of some mappings, in order
 abbrev pub AreUpdates : LocalSide → Tags → List RefSpec → List RefSpec → List Mapping → List Update → Type 0
-AreUpdates l tags explicit extra ms us = AllZip (λ (m : Mapping) u. IsUpdate l (wanted_of tags explicit extra m) (option_map bstring_bytes m.local) u) ms us
+AreUpdates l tags explicit extra ms us =
+    AllZip (λ (m : Mapping) u. IsUpdate l (wanted_of tags explicit extra m) (option_map bstring_bytes m.local) u) ms us

@@ -62,7 +62,8 @@ HasAskedFor g s start asked = AsksEach (λ q. (s.seen q ≡ true) × (finite.get
 
 -- and that stays so
 abbrev pub KeepsAsked : GraphData → Search → Search → List ObjectId → List ObjectId → Type 0
-KeepsAsked g old new before after = (first : GraphData) (start : List ObjectId) → LooksUp first g → HasAskedFor first old start before → HasAskedFor first new start after
+KeepsAsked g old new before after = (first : GraphData) (start : List ObjectId) → LooksUp first g → HasAskedFor first old start before
+    → HasAskedFor first new start after
 
 -- the parents of a commit were looked for, and it isn't the one that is searched
 pub record IsSeenThrough (read : ObjectId → Option Commit) (target : ObjectId) (seen : ObjectId → Bool) (id : ObjectId) : Type 0 where

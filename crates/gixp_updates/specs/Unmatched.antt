@@ -25,7 +25,8 @@ is_unmatched refs s = not (is_negative s.sign) && not (is_id s.source) && not (l
 
 -- a refspec with its place, if it is one
 abbrev pub note_on : List Ref → ℕ × RefSpec → List UnmatchedSpec
-note_on refs s = if is_unmatched refs (owned_value_of s.1) then record { index = s.0; is_pattern = is_pattern (owned_value_of s.1).source } ∷ [] else []
+note_on refs s = if is_unmatched refs (owned_value_of s.1)
+    then record { index = s.0; is_pattern = is_pattern (owned_value_of s.1).source } ∷ [] else []
 
 -- all of them, in order
 abbrev pub unmatched_of : List Ref → List RefSpec → List UnmatchedSpec

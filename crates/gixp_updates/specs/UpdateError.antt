@@ -15,7 +15,8 @@ from_object (Io kind) = FindObject (Io kind)
 from_object Corrupt = FindObject Corrupt
 from_object no_memory = Memory
 
--- the objects told this error, and a failure was counted; they were refused nothing, and the caller set a limit; or they were refused nothing and an allocation failed, or they told that
+-- the objects told this error, and a failure was counted; they were refused nothing, and the caller set a limit; or they were refused
+-- nothing and an allocation failed, or they told that
 abbrev pub TellsError : Option ℕ → Error → GraphValue → GraphValue → Type 0
 TellsError limit (FindObject e) old new = (e ≢ no_memory) × (new.refusals ≡ writing old.refusals e) × HasRisen old.failures new.failures
 TellsError limit TooManyCommits old new = IsSome limit × (new.refusals ≡ old.refusals)

@@ -28,7 +28,8 @@ use Rattle.gixp_wire.specs.CapabilityAdvertisement.{Advertised, Named, another, 
 use Rattle.gixp_packetline.proofs.LineLemmas.{gives_line, stops_here, refuses_here}
 
 -- what one says of known pieces, the other says of those that are left
-abbrev pub Turns : (Pieces → Result Advertised ClientRefusal) → (Pieces → Result Advertised ClientRefusal) → Option Pieces → Option Pieces → Type 0
+abbrev pub Turns : (Pieces → Result Advertised ClientRefusal) → (Pieces → Result Advertised ClientRefusal) → Option Pieces
+    → Option Pieces → Type 0
 Turns said then old new = IfSome old (λ p. (q : Pieces) × (new ≡ Some q) × (said p ≡ then q))
 
 -- nothing but these lines went
@@ -87,13 +88,16 @@ gives-is v (line t ∷ ps) end text q h =
     let e1 : t ≡ text = cc in
     let e2 : p ≡ q = cc in
     rw (← e1, ← e2) refl
-gives-is v (mark kind ∷ ps) end text q h = absurd (mark_not_gives (is_stop v kind) kind (record { list = ps; end = end }) q unexpected_frame text h)
+gives-is v (mark kind ∷ ps) end text q h =
+    absurd (mark_not_gives (is_stop v kind) kind (record { list = ps; end = end }) q unexpected_frame text h)
 
-one-taken : (a b : Option Pieces) (v : Protocol) (text : List ℕ) → IfSome a (λ p. (q : Pieces) × (b ≡ Some q) × (next_of v p ≡ gives text q)) → LinesTaken (text ∷ []) a b
+one-taken : (a b : Option Pieces) (v : Protocol) (text : List ℕ)
+    → IfSome a (λ p. (q : Pieces) × (b ≡ Some q) × (next_of v p ≡ gives text q)) → LinesTaken (text ∷ []) a b
 one-taken None b v text h = tt
 one-taken (Some p) b v text h = (h.0, h.1, gives-is v p.list p.end text h.0 h.2)
 
-shown-taken : (a b : Option Pieces) (v : Protocol) (text : List ℕ) → IfSome a (λ p. (q : Pieces) × (b ≡ Some p) × (next_of v p ≡ gives text q)) → LinesTaken [] a b
+shown-taken : (a b : Option Pieces) (v : Protocol) (text : List ℕ)
+    → IfSome a (λ p. (q : Pieces) × (b ≡ Some p) × (next_of v p ≡ gives text q)) → LinesTaken [] a b
 shown-taken None b v text h = tt
 shown-taken (Some p) b v text h = (p, h.1, refl)
 
@@ -107,7 +111,8 @@ refused-then xs (Some p) None P h k = absurd (let e = h.1 in cc)
 refused-then xs (Some p) (Some q) P h k = k
 
 -- what comes after an error, from before lines were taken
-stands-then : (xs ys : List (List ℕ)) (old mid new : Reading) (e : Error) → LinesTaken xs old.to_come mid.to_come → Stands ys mid new e → Stands (xs ++ ys) old new e
+stands-then : (xs ys : List (List ℕ)) (old mid new : Reading) (e : Error) → LinesTaken xs old.to_come mid.to_come → Stands ys mid new e
+    → Stands (xs ++ ys) old new e
 stands-then xs ys old mid new (Io kind) h k = by (is_end kind) k
   where
     by : (b : Bool) → StandsIo b ys mid new kind → StandsIo b (xs ++ ys) old new kind
@@ -121,8 +126,10 @@ stands-then xs ys old mid new MissingDelimitingNullByte h k = (k.0, k.1, taken-t
 stands-then xs ys old mid new Memory h k = taken-then xs ys old.to_come mid.to_come new.to_come h k
 
 -- after such steps
-pub advertises-then : (said then : Pieces → Result Advertised ClientRefusal) (takes more : Protocol → List (List ℕ) → Type 0) (texts : List (List ℕ)) (old mid new : Reading)
-    (r : Result SetServiceResponse Error) → ((v : Protocol) (ts : List (List ℕ)) → more v ts → takes v (texts ++ ts)) → Steps said then texts old mid
+pub advertises-then : (said then : Pieces → Result Advertised ClientRefusal) (takes more : Protocol → List (List ℕ) → Type 0)
+    (texts : List (List ℕ)) (old mid new : Reading)
+    (r : Result SetServiceResponse Error) → ((v : Protocol) (ts : List (List ℕ)) → more v ts → takes v (texts ++ ts)) → Steps said
+    then texts old mid
     → Advertises then more mid new r → Advertises said takes old new r
 advertises-then said then takes more texts old mid new (Ok found) f s h = record {
   value = turned_value said then old.to_come mid.to_come (λ a. Answers a new found) s.turns h.value;
@@ -171,7 +178,8 @@ is_memory (UnsupportedProtocolVersion t) h = absurd (cc)
 is_memory MissingDelimitingNullByte h = absurd (cc)
 is_memory Memory h = refl
 
-outside : (old new : Reading) (x : Refusal) (e : Error) → IsOutside old new x → IsPlain new x → client_refusal e ≡ client_from x → IsFromDevice old new e
+outside : (old new : Reading) (x : Refusal) (e : Error) → IsOutside old new x → IsPlain new x → client_refusal e ≡ client_from x
+    → IsFromDevice old new e
 outside old new (io kind) e (inl h) p is = subst (IsFromDevice old new) (sym (is_io e kind is)) h.fault.2
 outside old new (io kind) e (inr h) p is = subst (IsFromDevice old new) (sym (is_io e kind is)) h.failures
 outside old new memory e (inl h) p is = subst (IsFromDevice old new) (sym (is_memory e is)) h.fault
@@ -187,12 +195,15 @@ outside old new unexpected_frame e (inr h) p is = absurd (let e = h.refusal in c
 outside old new not_utf8 e (inl h) p is = absurd h.fault
 outside old new not_utf8 e (inr h) p is = absurd (let e = h.refusal in cc)
 
-refused_known : (said : Pieces → Result Advertised ClientRefusal) (o : Option Pieces) (v : Protocol) (x : Refusal) (y : ClientRefusal) (Q : Pieces → Type 0)
-    → ((p : Pieces) → next_of v p ≡ refuses x → said p ≡ Err y) → IfSome o (λ p. Q p × (next_of v p ≡ refuses x)) → IfSome o (λ p. said p ≡ Err y)
+refused_known : (said : Pieces → Result Advertised ClientRefusal) (o : Option Pieces) (v : Protocol) (x : Refusal) (y : ClientRefusal)
+    (Q : Pieces → Type 0)
+    → ((p : Pieces) → next_of v p ≡ refuses x → said p ≡ Err y) → IfSome o (λ p. Q p × (next_of v p ≡ refuses x))
+    → IfSome o (λ p. said p ≡ Err y)
 refused_known said None v x y Q f h = tt
 refused_known said (Some p) v x y Q f h = f p h.1
 
-is_reader : (e : Error) (x : Refusal) → client_refusal e ≡ reader x → (P : Error → Type 0) → ((y : ReadError) → refusal_of y ≡ x → P (Read y)) → P e
+is_reader : (e : Error) (x : Refusal) → client_refusal e ≡ reader x → (P : Error → Type 0)
+    → ((y : ReadError) → refusal_of y ≡ x → P (Read y)) → P e
 is_reader (Io k) x h P f = absurd (cc)
 is_reader (Read y) x h P f = f y (cc)
 is_reader LineTooLong x h P f = absurd (cc)
@@ -216,7 +227,8 @@ of-said new interrupted e l p is = absurd p
 of-said new memory e l p is = absurd l
 
 -- the refusal of a stream stands
-stands-lasting : (old new : Reading) (x : Refusal) (e : Error) → IsLasting x → IsPlain new x → client_refusal e ≡ client_from x → StandsRefused old new x → Stands [] old new e
+stands-lasting : (old new : Reading) (x : Refusal) (e : Error) → IsLasting x → IsPlain new x → client_refusal e ≡ client_from x
+    → StandsRefused old new x → Stands [] old new e
 stands-lasting old new (io kind) e l p is k =
     let end : is_end kind ≡ true = ap is_end l in
     let s : Stands [] old new (Io kind) = rw end k in
@@ -230,12 +242,14 @@ stands-lasting old new interrupted e l p is k = absurd p
 stands-lasting old new memory e l p is k = absurd l
 
 -- a fault loses nothing
-stands-fault : (old new : Reading) (x : Refusal) (e : Error) → Faults old new x → IsPlain new x → client_refusal e ≡ client_from x → Stands [] old new e
+stands-fault : (old new : Reading) (x : Refusal) (e : Error) → Faults old new x → IsPlain new x → client_refusal e ≡ client_from x
+    → Stands [] old new e
 stands-fault old new (io kind) e k p is =
     let on : is_end kind ≡ false = k.fault.0 in
     let s : Stands [] old new (Io kind) = rw on (k.stays.peeked, stays-taken old.to_come new.to_come k.stays.to_come) in
     subst (Stands [] old new) (sym (is_io e kind is)) s
-stands-fault old new memory e k p is = subst (Stands [] old new) (sym (is_memory e is)) (stays-taken old.to_come new.to_come k.stays.to_come)
+stands-fault old new memory e k p is =
+    subst (Stands [] old new) (sym (is_memory e is)) (stays-taken old.to_come new.to_come k.stays.to_come)
 stands-fault old new interrupted e k p is = absurd p
 stands-fault old new (bad_band b) e k p is = absurd p
 stands-fault old new (decode y) e k p is = absurd k.fault
@@ -243,7 +257,8 @@ stands-fault old new (server m) e k p is = absurd k.fault
 stands-fault old new unexpected_frame e k p is = absurd k.fault
 stands-fault old new not_utf8 e k p is = absurd k.fault
 
-next-stands : (o new : Option Pieces) (v : Protocol) (x : Refusal) → IfSome o (λ p. (new ≡ Some (no_pieces x)) × (next_of v p ≡ refuses x)) → IfSome o (λ p. new ≡ Some (no_pieces x))
+next-stands : (o new : Option Pieces) (v : Protocol) (x : Refusal)
+    → IfSome o (λ p. (new ≡ Some (no_pieces x)) × (next_of v p ≡ refuses x)) → IfSome o (λ p. new ≡ Some (no_pieces x))
 next-stands None new v x h = tt
 next-stands (Some p) new v x h = h.0
 
@@ -252,8 +267,10 @@ always None P h = tt
 always (Some p) P h = h
 
 -- a reader that is refused refuses what was said
-pub fails-reading : (said : Pieces → Result Advertised ClientRefusal) (takes : Protocol → List (List ℕ) → Type 0) (old new : Reading) (x : Refusal) (e : Error) → takes old.version [] → Failing old new x
-    → IsPlain new x → client_refusal e ≡ client_from x → ((p : Pieces) → next_of old.version p ≡ refuses x → said p ≡ Err (client_from x)) → FailsAdvertisement said takes old new e
+pub fails-reading : (said : Pieces → Result Advertised ClientRefusal) (takes : Protocol → List (List ℕ) → Type 0) (old new : Reading)
+    (x : Refusal) (e : Error) → takes old.version [] → Failing old new x
+    → IsPlain new x → client_refusal e ≡ client_from x
+    → ((p : Pieces) → next_of old.version p ≡ refuses x → said p ≡ Err (client_from x)) → FailsAdvertisement said takes old new e
 fails-reading said takes old new x e m (inl k) p is f = record {
   taken = [];
   by_version = subst (λ v. takes v []) (sym k.version) m;
@@ -264,22 +281,45 @@ fails-reading said takes old new x e m (inl k) p is f = record {
   left = k.left;
   held = k.held;
 }
-fails-reading said takes old new x e m (inr (inl k)) p is f = record { taken = []; by_version = subst (λ v. takes v []) (sym k.stays.version) m; why = inr (outside old new x e (inl k) p is); caused = inr (outside old new x e (inl k) p is); stands = stands-fault old new x e k p is; stopped = k.stays.stopped ∙ k.running; left = k.stays.left; held = k.stays.held }
-fails-reading said takes old new x e m (inr (inr k)) p is f = record { taken = []; by_version = subst (λ v. takes v []) (sym k.version) m; why = inr (outside old new x e (inr k) p is); caused = inr (outside old new x e (inr k) p is); stands = stands-lasting old new x e (subst IsLasting (sym k.refusal) refl) p is (k.refused, always old.to_come _ k.to_come); stopped = k.stopped; left = k.left; held = k.held }
+fails-reading said takes old new x e m (inr (inl k)) p is f = record {
+  taken = [];
+  by_version =
+      subst (λ v. takes v []) (sym k.stays.version) m;
+  why = inr (outside old new x e (inl k) p is);
+  caused = inr (outside old new x e (inl k) p is);
+  stands = stands-fault old new x e k p is;
+  stopped = k.stays.stopped ∙ k.running;
+  left = k.stays.left;
+  held = k.stays.held;
+}
+fails-reading said takes old new x e m (inr (inr k)) p is f =
+    record {
+      taken = [];
+      by_version = subst (λ v. takes v []) (sym k.version) m;
+      why = inr (outside old new x e (inr k) p is);
+      caused = inr (outside old new x e (inr k) p is);
+      stands = stands-lasting old new x e (subst IsLasting (sym k.refusal) refl) p is
+          (k.refused, always old.to_come _ k.to_come);
+      stopped = k.stopped;
+      left = k.left;
+      held = k.held;
+    }
 
 -- a reader that isn't at a stop and comes to one takes it
 pub takes-stop : (old new : Reading) → old.stopped ≡ None → AtStop old new → (kind : MessageKind) × TakesStop old new kind
 takes-stop old new run (inl k) = absurd (let e = rw run at k.was in cc)
 takes-stop old new run (inr k) = k
 
-stopped_known : (said : Pieces → Result Advertised ClientRefusal) (a b : Option Pieces) (v : Protocol) (kind : MessageKind) (found : Pieces → Advertised) (P : Advertised → Type 0)
+stopped_known : (said : Pieces → Result Advertised ClientRefusal) (a b : Option Pieces) (v : Protocol) (kind : MessageKind)
+    (found : Pieces → Advertised) (P : Advertised → Type 0)
     → ((p q : Pieces) → next_of v p ≡ stops kind q → said p ≡ Ok (found q)) → ((q : Pieces) → b ≡ Some q → P (found q))
     → IfSome a (λ p. (q : Pieces) × (b ≡ Some q) × (next_of v p ≡ stops kind q)) → IfSome a (λ p. (x : Advertised) × (said p ≡ Ok x) × P x)
 stopped_known said None b v kind found P f g h = tt
 stopped_known said (Some p) b v kind found P f g h = (found h.0, f p h.0 h.2, g h.0 h.1)
 
 -- a stop in place of the first ref line
-pub reads-empty_advertisement : (said : Pieces → Result Advertised ClientRefusal) (v : Protocol) (old new : Reading) (kind : MessageKind) (found : SetServiceResponse)
+pub reads-empty_advertisement : (said : Pieces → Result Advertised ClientRefusal) (v : Protocol) (old new : Reading)
+    (kind : MessageKind) (found : SetServiceResponse)
     → old.version ≡ v → found ≡ record { actual_protocol = v; capabilities = []; has_refs = true } → TakesStop old new kind
     → ((p q : Pieces) → next_of v p ≡ stops kind q → said p ≡ Ok (empty_advertisement v kind q)) → ReadsAdvertisement said old new found
 reads-empty_advertisement said v old new kind found version is k f = record {
@@ -309,7 +349,15 @@ pub record Gathers (old now : Reading) (texts : List (List ℕ)) : Type 0 where
   pub held : now.held ≡ old.held
 
 pub gathers-none : (r : Reading) → r.stopped ≡ None → r.version ≡ V2 → Gathers r r []
-gathers-none r run v = record { next = at r.to_come; lines = none-taken r.to_come; running = run; version = v; failures = refl; left = omega arith; held = refl }
+gathers-none r run v = record {
+  next = at r.to_come;
+  lines = none-taken r.to_come;
+  running = run;
+  version = v;
+  failures = refl;
+  left = omega arith;
+  held = refl;
+}
   where
     at : (o : Option Pieces) → IfSome o (λ p. (q : Pieces) × (o ≡ Some q) × (lines_of V2 p ≡ before [] (lines_of V2 q)))
     at None = tt
@@ -323,14 +371,20 @@ behind_line None b c texts text w v h k = tt
 behind_line (Some p) None c texts text w v h k = absurd (let e = h.1 in cc)
 behind_line (Some p) (Some q) c texts text w v h k =
     let same : h.0 ≡ q = let e = h.1 in cc in
-    let next : next_of V2 q ≡ gives text k.0 = rw v at k.2 in
-    (k.0, k.1, h.2 ∙ ap (λ x. before texts (lines_of V2 x)) same ∙ ap (before texts) (gives_line V2 q.list q.end text k.0 next) ∙ (rw append_assoc refl))
+    let next : next_of V2 q ≡ gives text k.0 = rw v at k.2 in (
+      k.0,
+      k.1,
+      h.2 ∙ ap (λ x. before texts (lines_of V2 x)) same ∙ ap (before texts) (gives_line V2 q.list q.end text k.0 next)
+          ∙ (rw append_assoc refl),
+    )
 
 -- one more line
-pub gathers-line : (old mid new : Reading) (texts : List (List ℕ)) → Gathers old mid texts → TakesLine mid new → Gathers old new (texts ++ new.line ∷ [])
+pub gathers-line : (old mid new : Reading) (texts : List (List ℕ)) → Gathers old mid texts → TakesLine mid new
+    → Gathers old new (texts ++ new.line ∷ [])
 gathers-line old mid new texts h k = record {
   next = behind_line old.to_come mid.to_come new.to_come texts new.line mid.version h.version h.next k.next;
-  lines = taken-then texts (new.line ∷ []) old.to_come mid.to_come new.to_come h.lines (one-taken mid.to_come new.to_come mid.version new.line k.next);
+  lines = taken-then texts (new.line ∷ []) old.to_come mid.to_come new.to_come h.lines
+      (one-taken mid.to_come new.to_come mid.version new.line k.next);
   running = k.stopped;
   version = k.version ∙ h.version;
   failures = k.failures ∙ h.failures;
@@ -342,24 +396,31 @@ gathers-line old mid new texts h k = record {
 abbrev said_behind : List (List ℕ) → Pieces → Result Advertised ClientRefusal
 said_behind texts p = let l = lines_of V2 p in by_lines (texts ++ l.lines) l.ending
 
-gathers-steps : (old mid : Reading) (texts : List (List ℕ)) → Gathers old mid texts → Steps from_capability_lines (said_behind texts) texts old mid
-gathers-steps old mid texts h = record { turns = at old.to_come mid.to_come h.next; lines = h.lines; failures = h.failures; left = h.left; held = h.held }
+gathers-steps : (old mid : Reading) (texts : List (List ℕ)) → Gathers old mid texts
+    → Steps from_capability_lines (said_behind texts) texts old mid
+gathers-steps old mid texts h =
+    record { turns = at old.to_come mid.to_come h.next; lines = h.lines; failures = h.failures; left = h.left; held = h.held }
   where
-    at : (a b : Option Pieces) → IfSome a (λ p. (q : Pieces) × (b ≡ Some q) × (lines_of V2 p ≡ before texts (lines_of V2 q))) → Turns from_capability_lines (said_behind texts) a b
+    at : (a b : Option Pieces) → IfSome a (λ p. (q : Pieces) × (b ≡ Some q) × (lines_of V2 p ≡ before texts (lines_of V2 q)))
+        → Turns from_capability_lines (said_behind texts) a b
     at None b k = tt
     at (Some p) b k = (k.0, k.1, ap (λ (l : Lines). by_lines l.lines l.ending) k.2)
 
 -- the capability lines up to the stop
 pub reads-lines : (old mid new : Reading) (texts : List (List ℕ)) (found : SetServiceResponse) → Gathers old mid texts → AtStop mid new
-    → found ≡ record { actual_protocol = V2; capabilities = capabilities_of_lines texts; has_refs = false } → ReadsAdvertisement from_capability_lines old new found
+    → found ≡ record { actual_protocol = V2; capabilities = capabilities_of_lines texts; has_refs = false }
+    → ReadsAdvertisement from_capability_lines old new found
 reads-lines old mid new texts found h at is =
     let stop = takes-stop mid new h.running at in
     let kind = stop.0 in
     let k = stop.1 in
-    let said : Pieces → Advertised = λ q. record { version = V2; capabilities = capabilities_of_lines texts; has_refs = false; rest = q; stopped = Some kind } in
-    advertises-then from_capability_lines (said_behind texts) TakesAny TakesAny texts old mid new (Ok found) (λ v ts m. m) (gathers-steps old mid texts h) (record {
+    let said : Pieces → Advertised =
+    λ q. record { version = V2; capabilities = capabilities_of_lines texts; has_refs = false; rest = q; stopped = Some kind } in
+    advertises-then from_capability_lines (said_behind texts) TakesAny TakesAny texts old mid new (Ok found) (λ v ts m. m)
+    (gathers-steps old mid texts h) (record {
       value = stopped_known (said_behind texts) mid.to_come new.to_come mid.version kind said (λ a. Answers a new found)
-          (λ p q n. let next : next_of V2 p ≡ stops kind q = ap (λ v. next_of v p) (sym h.version) ∙ n in rw (stops_here V2 p.list p.end kind q next, append-nil) refl)
+          (λ p q n. let next : next_of V2 p ≡ stops kind q = ap (λ v. next_of v p) (sym h.version) ∙ n in
+          rw (stops_here V2 p.list p.end kind q next, append-nil) refl)
           (λ q e. rw is (record { version = refl; capabilities = refl; has_refs = refl; rest = e; stopped = k.stopped }))
           k.next;
       says = inl (record {
@@ -375,19 +436,35 @@ reads-lines old mid new texts found h at is =
     })
 
 -- a refusal among them
-pub fails-lines : (old mid new : Reading) (texts : List (List ℕ)) (x : Refusal) (e : Error) → Gathers old mid texts → Failing mid new x → IsPlain new x
+pub fails-lines : (old mid new : Reading) (texts : List (List ℕ)) (x : Refusal) (e : Error) → Gathers old mid texts → Failing mid new x
+    → IsPlain new x
     → client_refusal e ≡ client_from x → FailsAdvertisement from_capability_lines TakesAny old new e
 fails-lines old mid new texts x e h k p is =
-    advertises-then from_capability_lines (said_behind texts) TakesAny TakesAny texts old mid new (Err e) (λ v ts m. m) (gathers-steps old mid texts h)
+    advertises-then from_capability_lines (said_behind texts) TakesAny TakesAny texts old mid new (Err e) (λ v ts m. m)
+    (gathers-steps old mid texts h)
     (fails-reading (said_behind texts) TakesAny mid new x e h.version k p is
-    (λ q n. let next : next_of V2 q ≡ refuses x = ap (λ v. next_of v q) (sym h.version) ∙ n in rw (refuses_here V2 q.list q.end x next) refl))
+    (λ q n. let next : next_of V2 q ≡ refuses x = ap (λ v. next_of v q) (sym h.version) ∙ n in
+    rw (refuses_here V2 q.list q.end x next) refl))
 
 -- an allocation failed for one of them
-pub fails-memory : (old mid new : Reading) (texts : List (List ℕ)) → Gathers old mid texts → TakesLine mid new → FailsAdvertisement from_capability_lines TakesAny old new Memory
-fails-memory old mid new texts h k = record { why = inr (k.failures ∙ h.failures); caused = inr (k.failures ∙ h.failures); taken = texts ++ new.line ∷ []; by_version = k.version ∙ h.version; stands = taken-then texts (new.line ∷ []) old.to_come mid.to_come new.to_come h.lines (one-taken mid.to_come new.to_come mid.version new.line k.next); stopped = k.stopped; left = let a = h.left in let b = k.left in omega arith; held = k.held ∙ h.held }
+pub fails-memory : (old mid new : Reading) (texts : List (List ℕ)) → Gathers old mid texts → TakesLine mid new
+    → FailsAdvertisement from_capability_lines TakesAny old new Memory
+fails-memory old mid new texts h k = record {
+  why = inr (k.failures ∙ h.failures);
+  caused = inr (k.failures ∙ h.failures);
+  taken = texts ++ new.line ∷ [];
+  by_version = k.version ∙ h.version;
+  stands = taken-then texts (new.line ∷ []) old.to_come mid.to_come new.to_come h.lines
+      (one-taken mid.to_come new.to_come mid.version new.line k.next);
+  stopped = k.stopped;
+  left = let a = h.left in let b = k.left in
+      omega arith;
+  held = k.held ∙ h.held;
+}
 
 -- the capabilities of one more line
-pub capabilities-push : (texts : List (List ℕ)) (text : List ℕ) → capabilities_of_lines texts ++ capability_of_line text ∷ [] ≡ capabilities_of_lines (texts ++ text ∷ [])
+pub capabilities-push : (texts : List (List ℕ)) (text : List ℕ) → capabilities_of_lines texts
+    ++ capability_of_line text ∷ [] ≡ capabilities_of_lines (texts ++ text ∷ [])
 capabilities-push texts text = sym (map-append capability_of_line texts (text ∷ []))
 
 -- reading under another version leaves the pieces where they are
@@ -400,18 +477,33 @@ reset-steps said r v = record { turns = at r.to_come; lines = none-taken r.to_co
 
 -- to peek leaves them too
 pub shows-steps : (said : Pieces → Result Advertised ClientRefusal) (old new : Reading) → ShowsLine old new → Steps said said [] old new
-shows-steps said old new k = record { turns = at old.to_come new.to_come k.next; lines = shown-taken old.to_come new.to_come old.version new.line k.next; failures = k.failures; left = k.left; held = k.held }
+shows-steps said old new k = record {
+  turns = at old.to_come new.to_come k.next;
+  lines = shown-taken old.to_come new.to_come old.version new.line k.next;
+  failures = k.failures;
+  left = k.left;
+  held = k.held;
+}
   where
-    at : (a b : Option Pieces) → IfSome a (λ p. (q : Pieces) × (b ≡ Some p) × (next_of old.version p ≡ gives new.line q)) → Turns said said a b
+    at : (a b : Option Pieces) → IfSome a (λ p. (q : Pieces) × (b ≡ Some p) × (next_of old.version p ≡ gives new.line q))
+        → Turns said said a b
     at None b h = tt
     at (Some p) b h = (p, h.1, refl)
 
 -- after a line that was taken, where what was said turns on it
 pub takes-steps : (said then : Pieces → Result Advertised ClientRefusal) (old new : Reading) → TakesLine old new
     → ((p q : Pieces) → next_of old.version p ≡ gives new.line q → said p ≡ then q) → Steps said then (new.line ∷ []) old new
-takes-steps said then old new k f = record { turns = at old.to_come new.to_come k.next; lines = one-taken old.to_come new.to_come old.version new.line k.next; failures = k.failures; left = let a = k.left in omega arith; held = k.held }
+takes-steps said then old new k f =
+    record {
+      turns = at old.to_come new.to_come k.next;
+      lines = one-taken old.to_come new.to_come old.version new.line k.next;
+      failures = k.failures;
+      left = let a = k.left in omega arith;
+      held = k.held;
+    }
   where
-    at : (a b : Option Pieces) → IfSome a (λ p. (q : Pieces) × (b ≡ Some q) × (next_of old.version p ≡ gives new.line q)) → Turns said then a b
+    at : (a b : Option Pieces) → IfSome a (λ p. (q : Pieces) × (b ≡ Some q) × (next_of old.version p ≡ gives new.line q)) → Turns said
+        then a b
     at None b h = tt
     at (Some p) b h = (h.0, h.1, f p h.0 h.2)
 
@@ -432,7 +524,8 @@ found-is None found h = absurd h
 found-is (Some x) found h = ap Some (sym h)
 
 -- a line with a NUL is as long as its place
-pub place-within : (text : List ℕ) (cs : List CapabilityValue) (place : ℕ) → capabilities_of_line text ≡ Some (cs, place) → place < length text
+pub place-within : (text : List ℕ) (cs : List CapabilityValue) (place : ℕ) → capabilities_of_line text ≡ Some (cs, place)
+    → place < length text
 place-within text cs place h = at (position (λ b. b == 0) text) refl h
   where
     at : (o : Option ℕ) → position (λ b. b == 0) text ≡ o → capabilities_behind text o ≡ Some (cs, place) → place < length text
@@ -452,13 +545,16 @@ module _ {R : Type 0} where
   to_come-peeked rem p e = rw e refl
 
   -- the first ref line was cut before its NUL
-  pub reads-cut : (rem : R → Option (List ℕ)) (p : Packets R) (v : Protocol) (cs : List CapabilityValue) (n : ℕ) → p.place ≡ Peeked → p.version ≡ v
+  pub reads-cut : (rem : R → Option (List ℕ)) (p : Packets R) (v : Protocol) (cs : List CapabilityValue) (n : ℕ) → p.place ≡ Peeked
+      → p.version ≡ v
       → capabilities_of_line p.window.lent ≡ Some (cs, n)
-      → ReadsAdvertisement (from_ref_line v) (packets_reading rem p) (packets_reading rem (shortened p n)) (record { actual_protocol = v; capabilities = cs; has_refs = true })
+      → ReadsAdvertisement (from_ref_line v) (packets_reading rem p) (packets_reading rem (shortened p n))
+      (record { actual_protocol = v; capabilities = cs; has_refs = true })
   reads-cut rem p v cs n e version is =
       let new = shortened p n in
       let found : SetServiceResponse = record { actual_protocol = v; capabilities = cs; has_refs = true } in
-      let P : Option Pieces → Type 0 = λ c. IfSome c (λ q. (a : Advertised) × (from_ref_line v q ≡ Ok a) × Answers a (packets_reading rem new) found) in
+      let P : Option Pieces → Type 0 =
+      λ c. IfSome c (λ q. (a : Advertised) × (from_ref_line v q ≡ Ok a) × Answers a (packets_reading rem new) found) in
       record {
         value = subst P (sym (to_come-peeked rem p e)) (at (option_map stream_pieces (known rem p)) refl);
         says = inr (inr (record {
@@ -496,29 +592,48 @@ module _ {R : Type 0} where
 
   -- it has no NUL
   pub fails-cut : (rem : R → Option (List ℕ)) (p : Packets R) (v : Protocol) (e : Error) → p.place ≡ Peeked → p.version ≡ v
-      → IsOfLine (capabilities_of_line p.window.lent) (Err e) → FailsAdvertisement (from_ref_line v) (TakesNone v) (packets_reading rem p) (packets_reading rem p) e
+      → IsOfLine (capabilities_of_line p.window.lent) (Err e)
+      → FailsAdvertisement (from_ref_line v) (TakesNone v) (packets_reading rem p) (packets_reading rem p) e
   fails-cut rem p v e peeked version h = by (capabilities_of_line p.window.lent) refl h
     where
-      none : (o : Option Pieces) → capabilities_of_line p.window.lent ≡ None → IfSome (option_map (with_piece (line p.window.lent)) o) (λ q. from_ref_line v q ≡ Err no_null_byte)
+      none : (o : Option Pieces) → capabilities_of_line p.window.lent ≡ None
+          → IfSome (option_map (with_piece (line p.window.lent)) o) (λ q. from_ref_line v q ≡ Err no_null_byte)
       none None k = tt
       none (Some q) k = ap (ref_line v p.window.lent q) k
 
-      by : (o : Option (List CapabilityValue × ℕ)) → capabilities_of_line p.window.lent ≡ o → IsOfLine o (Err e) → FailsAdvertisement (from_ref_line v) (TakesNone v) (packets_reading rem p) (packets_reading rem p) e
+      by : (o : Option (List CapabilityValue × ℕ)) → capabilities_of_line p.window.lent ≡ o → IsOfLine o (Err e)
+          → FailsAdvertisement (from_ref_line v) (TakesNone v) (packets_reading rem p) (packets_reading rem p) e
       by None k i =
           let P : Option Pieces → Type 0 = λ c. IfSome c (λ q. from_ref_line v q ≡ Err (client_refusal e)) in
           let refused : client_refusal e ≡ no_null_byte = ap client_refusal i in
-          let Q : ClientRefusal → Type 0 = λ x. IfSome (option_map (with_piece (line p.window.lent)) (option_map stream_pieces (known rem p))) (λ q. from_ref_line v q ≡ Err x) in
+          let Q : ClientRefusal → Type 0 = λ x. IfSome (option_map (with_piece (line p.window.lent))
+          (option_map stream_pieces (known rem p))) (λ q. from_ref_line v q ≡ Err x) in
           record {
-            why = inl (subst P (sym (to_come-peeked rem p peeked)) (subst Q (sym refused) (none (option_map stream_pieces (known rem p)) k)), refl);
+            why = inl (
+              subst P (sym (to_come-peeked rem p peeked))
+                  (subst Q (sym refused) (none (option_map stream_pieces (known rem p)) k)),
+              refl,
+            );
             caused = inl (subst IsOfSaid (sym i) tt, refl);
             taken = [];
             by_version = (version, refl);
-            stands = subst (Stands [] (packets_reading rem p) (packets_reading rem p)) (sym i) (ap is_peeked peeked, k, none-taken (packets_reading rem p).to_come);
+            stands = subst (Stands [] (packets_reading rem p) (packets_reading rem p)) (sym i)
+                (ap is_peeked peeked, k, none-taken (packets_reading rem p).to_come);
             stopped = ap place_stop peeked;
             left = omega arith;
             held = refl;
           }
-      by (Some found) k i = record { why = inr (subst (IsFromDevice (packets_reading rem p) (packets_reading rem p)) (sym i) refl); caused = inr (subst (IsFromDevice (packets_reading rem p) (packets_reading rem p)) (sym i) refl); taken = []; by_version = (version, refl); stands = subst (Stands [] (packets_reading rem p) (packets_reading rem p)) (sym i) (none-taken (packets_reading rem p).to_come); stopped = ap place_stop peeked; left = omega arith; held = refl }
+      by (Some found) k i = record {
+        why = inr (subst (IsFromDevice (packets_reading rem p) (packets_reading rem p)) (sym i) refl);
+        caused = inr (subst (IsFromDevice (packets_reading rem p) (packets_reading rem p)) (sym i) refl);
+        taken = [];
+        by_version = (version, refl);
+        stands = subst (Stands [] (packets_reading rem p) (packets_reading rem p)) (sym i)
+            (none-taken (packets_reading rem p).to_come);
+        stopped = ap place_stop peeked;
+        left = omega arith;
+        held = refl;
+      }
 
   peeked_known : (rem : R → Option (List ℕ)) (p : Packets R) (P : Option Pieces → Type 0) → p.place ≡ Peeked
       → ((o : Option Pieces) → P (option_map (with_piece (line p.window.lent)) o)) → P (packets_reading rem p).to_come
@@ -527,15 +642,24 @@ module _ {R : Type 0} where
   -- a first line that names no version is the first ref line
   pub unnamed-steps : (rem : R → Option (List ℕ)) (p : Packets R) → p.place ≡ Peeked → version_named p.window.lent ≡ unnamed
       → Steps advertisement (from_ref_line V0) [] (packets_reading rem p) (packets_reading rem p)
-  unnamed-steps rem p e is = record { turns = peeked_known rem p (λ o. Turns advertisement (from_ref_line V0) o o) e at; lines = none-taken (packets_reading rem p).to_come; failures = refl; left = omega arith; held = refl }
+  unnamed-steps rem p e is = record {
+    turns = peeked_known rem p (λ o. Turns advertisement (from_ref_line V0) o o) e at;
+    lines = none-taken (packets_reading rem p).to_come;
+    failures = refl;
+    left = omega arith;
+    held = refl;
+  }
     where
-      at : (o : Option Pieces) → Turns advertisement (from_ref_line V0) (option_map (with_piece (line p.window.lent)) o) (option_map (with_piece (line p.window.lent)) o)
+      at : (o : Option Pieces) → Turns advertisement (from_ref_line V0) (option_map (with_piece (line p.window.lent)) o)
+          (option_map (with_piece (line p.window.lent)) o)
       at None = tt
       at (Some q) = (with_piece (line p.window.lent) q, refl, ap (λ n. by_version n (with_piece (line p.window.lent) q) q) is)
 
   -- one that names another version is refused
-  pub fails-another : (rem : R → Option (List ℕ)) (p : Packets R) (e : Error) → p.version ≡ V0 → p.place ≡ Peeked → version_named p.window.lent ≡ another (trimmed p.window.lent)
-      → (client_refusal e ≡ unsupported_version (trimmed p.window.lent)) ⊎ (e ≡ Memory) → FailsAdvertisement advertisement TakesFirst (packets_reading rem p) (packets_reading rem p) e
+  pub fails-another : (rem : R → Option (List ℕ)) (p : Packets R) (e : Error) → p.version ≡ V0 → p.place ≡ Peeked
+      → version_named p.window.lent ≡ another (trimmed p.window.lent)
+      → (client_refusal e ≡ unsupported_version (trimmed p.window.lent))
+      ⊎ (e ≡ Memory) → FailsAdvertisement advertisement TakesFirst (packets_reading rem p) (packets_reading rem p) e
   fails-another rem p e version peeked is (inl refused) = record {
     taken = [];
     by_version = subst (λ v. TakesFirst v []) (sym version) refl;
@@ -560,7 +684,8 @@ module _ {R : Type 0} where
       of-version MissingDelimitingNullByte h = absurd (cc)
       of-version Memory h = absurd (cc)
 
-      named : (e : Error) → client_refusal e ≡ unsupported_version (trimmed p.window.lent) → Stands [] (packets_reading rem p) (packets_reading rem p) e
+      named : (e : Error) → client_refusal e ≡ unsupported_version (trimmed p.window.lent)
+          → Stands [] (packets_reading rem p) (packets_reading rem p) e
       named (Io k) h = absurd (cc)
       named (Read y) h = absurd (cc)
       named LineTooLong h = absurd (cc)
@@ -582,8 +707,10 @@ module _ {R : Type 0} where
   }
 
 -- after a line that names a version, which was peeked at and taken, and the version
-pub named-steps : (then : Pieces → Result Advertised ClientRefusal) (named : Named) (v : Protocol) (old mid new : Reading) (text : List ℕ) → old.version ≡ V0 → old.peeked ≡ true
-    → old.line ≡ text → version_named text ≡ named → ((p q : Pieces) → by_version named p q ≡ then q) → TakesLine old mid → new ≡ reset_to v mid → Steps advertisement then (text ∷ []) old new
+pub named-steps : (then : Pieces → Result Advertised ClientRefusal) (named : Named) (v : Protocol) (old mid new : Reading)
+    (text : List ℕ) → old.version ≡ V0 → old.peeked ≡ true
+    → old.line ≡ text → version_named text ≡ named → ((p q : Pieces) → by_version named p q ≡ then q) → TakesLine old mid
+    → new ≡ reset_to v mid → Steps advertisement then (text ∷ []) old new
 named-steps then named v old mid new text version peeked is names turns k reset =
     let lines : mid.line ≡ text = k.again peeked ∙ is in
     let taken = takes-steps advertisement then old mid k (λ p q n.
@@ -601,8 +728,10 @@ named-steps then named v old mid new text version peeked is names turns k reset 
 pub first-none : (v : Protocol) (texts : List (List ℕ)) → TakesNone V0 v texts → TakesFirst v texts
 first-none v texts h = subst (λ w. TakesFirst w texts) (sym h.0) h.1
 
-pub first-one : (text : List ℕ) → version_named text ≡ one → (v : Protocol) (texts : List (List ℕ)) → TakesNone V1 v texts → TakesFirst v (text ∷ texts)
+pub first-one : (text : List ℕ) → version_named text ≡ one → (v : Protocol) (texts : List (List ℕ)) → TakesNone V1 v texts
+    → TakesFirst v (text ∷ texts)
 first-one text named v texts h = subst (λ w. TakesFirst w (text ∷ texts)) (sym h.0) (text, named, ap (λ ts. text ∷ ts) h.1)
 
-pub first-two : (text : List ℕ) → version_named text ≡ two → (v : Protocol) (texts : List (List ℕ)) → TakesAny v texts → TakesFirst v (text ∷ texts)
+pub first-two : (text : List ℕ) → version_named text ≡ two → (v : Protocol) (texts : List (List ℕ)) → TakesAny v texts
+    → TakesFirst v (text ∷ texts)
 first-two text named v texts h = subst (λ w. TakesFirst w (text ∷ texts)) (sym h) (text, texts, named, refl)

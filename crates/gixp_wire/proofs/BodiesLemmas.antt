@@ -19,16 +19,20 @@ unfolding frames_of frames_within
 no_bytes = refl
 
 -- the last body is the first answer
-pub answers-popped : (old more : List Body) (x : Body) → old ≡ more ++ x ∷ [] → map answer_of (reverse old) ≡ answer_of x ∷ map answer_of (reverse more)
+pub answers-popped : (old more : List Body) (x : Body) → old ≡ more ++ x ∷ [] → map answer_of (reverse old) ≡ answer_of x
+    ∷ map answer_of (reverse more)
 answers-popped old more x h = rw (h, reverse-append more (x ∷ [])) refl
 
 -- packets of another reader
 abbrev pub restarted : Packets (Cursor (Vec ℕ Global)) → Cursor (Vec ℕ Global) → ℕ → Packets (Cursor (Vec ℕ Global))
-restarted p reader failures = record p { reader = reader; window = record { pending = []; lent = [] }; place = Open; ended = false; failures = failures }
+restarted p reader failures =
+    record p { reader = reader; window = record { pending = []; lent = [] }; place = Open; ended = false; failures = failures }
 
 -- the body is what is read
-pub takes-answer : (b : Bodies) (reader : Cursor (Vec ℕ Global)) (more : Vec Body Global) (failures : ℕ) (bytes : List ℕ) → reader.pos ≡ 0 → reader.inner.items ≡ bytes
-    → stream_pieces bytes ≡ answer_pieces (first_answer (bodies_held b).answers) → later_answers (bodies_held b).answers ≡ map answer_of (reverse more.items)
+pub takes-answer : (b : Bodies) (reader : Cursor (Vec ℕ Global)) (more : Vec Body Global) (failures : ℕ) (bytes : List ℕ)
+    → reader.pos ≡ 0 → reader.inner.items ≡ bytes
+    → stream_pieces bytes ≡ answer_pieces (first_answer (bodies_held b).answers) → later_answers (bodies_held b).answers
+    ≡ map answer_of (reverse more.items)
     → TakesAnswer (bodies_reading b) (bodies_reading (record b { packets = restarted b.packets reader failures; later = more }))
 takes-answer b reader more failures bytes at is first later = record {
   to_come = ap Some (rw (at, is) first);
@@ -41,16 +45,19 @@ takes-answer b reader more failures bytes at is first later = record {
 }
 
 -- packets that were restarted are what is read
-pub takes-packets : (b : Bodies) (p : Packets (Cursor (Vec ℕ Global))) (reader : Cursor (Vec ℕ Global)) (more : Vec Body Global) (bytes : List ℕ)
+pub takes-packets : (b : Bodies) (p : Packets (Cursor (Vec ℕ Global))) (reader : Cursor (Vec ℕ Global)) (more : Vec Body Global)
+    (bytes : List ℕ)
     → p ≡ restarted b.packets reader p.failures → reader.pos ≡ 0 → reader.inner.items ≡ bytes
-    → stream_pieces bytes ≡ answer_pieces (first_answer (bodies_held b).answers) → later_answers (bodies_held b).answers ≡ map answer_of (reverse more.items)
+    → stream_pieces bytes ≡ answer_pieces (first_answer (bodies_held b).answers) → later_answers (bodies_held b).answers
+    ≡ map answer_of (reverse more.items)
     → TakesAnswer (bodies_reading b) (bodies_reading (record b { packets = p; later = more }))
 takes-packets b p reader more bytes is at holds first later =
     subst (λ q. TakesAnswer (bodies_reading b) (bodies_reading (record b { packets = q; later = more }))) (sym is)
     (takes-answer b reader more p.failures bytes at holds first later)
 
 -- no body is left
-pub no_answers : (old more : List Body) → old ≡ more ++ [] → length old ≡ 0 → (map answer_of (reverse old) ≡ []) × (map answer_of (reverse more) ≡ [])
+pub no_answers : (old more : List Body) → old ≡ more ++ [] → length old ≡ 0 → (map answer_of (reverse old) ≡ [])
+    × (map answer_of (reverse more) ≡ [])
 no_answers [] [] h n = (refl, refl)
 no_answers [] (x ∷ xs) h n = absurd (let e = h in cc)
 no_answers (x ∷ xs) more h n = absurd (omega arith)

@@ -27,7 +27,8 @@ arguments-fit (a ∷ more) = lines-fit (a ∷ more)
 -- the name, the features and the arguments
 pub command_fits_parts : (command : List ℕ) (features : List (Bor (List ℕ) × Option (String Global))) (arguments : List BString)
     → command_fits command (feature_lines features) (map bstring_bytes arguments)
-    ≡ (fits (codes "command=" ++ command) && (list_all (λ (f : Bor (List ℕ) × Option (String Global)). fits (feature_line f.0.now (option_map string_bytes f.1))) features && lines_fit arguments))
+    ≡ (fits (codes "command=" ++ command) && (list_all (λ (f : Bor (List ℕ) × Option (String Global)). fits
+    (feature_line f.0.now (option_map string_bytes f.1))) features && lines_fit arguments))
 command_fits_parts command features arguments =
     let head : List ℕ = codes "command=" ++ command in
     let lines : List (List ℕ) = feature_lines features in
@@ -35,9 +36,12 @@ command_fits_parts command features arguments =
     let front : List MessageValue = map text (head ∷ lines) in
     let a = list_all-append value_fits (front ++ argument_values given) (flush ∷ []) in
     let b = list_all-append value_fits front (argument_values given) in
-    let c = lines-fit lines ∙ list_all-map fits (λ (f : Bor (List ℕ) × Option (String Global)). feature_line f.0.now (option_map string_bytes f.1)) features in
+    let c = lines-fit lines ∙ list_all-map fits
+    (λ (f : Bor (List ℕ) × Option (String Global)). feature_line f.0.now (option_map string_bytes f.1)) features in
     let d = arguments-fit given ∙ list_all-map fits bstring_bytes arguments in
     a ∙ ap (λ x. x && true) b
     ∙ ap (λ x. ((fits head && x) && list_all value_fits (argument_values given)) && true) c
-    ∙ ap (λ x. ((fits head && list_all (λ (f : Bor (List ℕ) × Option (String Global)). fits (feature_line f.0.now (option_map string_bytes f.1))) features) && x) && true) d
-    ∙ and_parts (fits head) (list_all (λ (f : Bor (List ℕ) × Option (String Global)). fits (feature_line f.0.now (option_map string_bytes f.1))) features) (lines_fit arguments)
+    ∙ ap (λ x. ((fits head && list_all (λ (f : Bor (List ℕ) × Option (String Global)). fits
+    (feature_line f.0.now (option_map string_bytes f.1))) features) && x) && true) d
+    ∙ and_parts (fits head) (list_all (λ (f : Bor (List ℕ) × Option (String Global)). fits
+    (feature_line f.0.now (option_map string_bytes f.1))) features) (lines_fit arguments)

@@ -12,7 +12,8 @@ use Rattle.gixp_wire.specs.Transport.{Wrote, Writes, EndsBy}
 use Rattle.gixp_wire.proofs.TransportLemmas.{wrote_nothing, broke_then}
 
 -- nothing is said
-pub greets-none : (service : Service) (ps : List Parameter) (old new : Reading) (r : Result Unit Error) → EndsBy true old new r → GreetsBy None service ps old new r
+pub greets-none : (service : Service) (ps : List Parameter) (old new : Reading) (r : Result Unit Error) → EndsBy true old new r
+    → GreetsBy None service ps old new r
 greets-none service ps old new (Ok x) k = (refl, (old, wrote_nothing old k.whole, k))
 greets-none service ps old new (Err (Io kind)) k = (refl, k)
 greets-none service ps old new (Err (Read e)) k = k
@@ -23,7 +24,8 @@ greets-none service ps old new (Err MissingDelimitingNullByte) k = k
 greets-none service ps old new (Err Memory) k = absurd k
 
 -- a greeting was written, and then the writer flushed
-pub greets-some : (g : Greeting) (service : Service) (ps : List Parameter) (old mid new : Reading) (r : Result Unit Error) → greeting_fits (Some g) service ps ≡ true
+pub greets-some : (g : Greeting) (service : Service) (ps : List Parameter) (old mid new : Reading) (r : Result Unit Error)
+    → greeting_fits (Some g) service ps ≡ true
     → Wrote old mid (payload_text (greeting_text g service ps)) → EndsBy true mid new r → GreetsBy (Some g) service ps old new r
 greets-some g service ps old mid new (Ok x) fit w k =
     (fit, (mid, subst (Wrote old mid) (sym (append-nil (payload_text (greeting_text g service ps)))) w, k))
@@ -36,7 +38,8 @@ greets-some g service ps old mid new (Err MissingDelimitingNullByte) fit w k = k
 greets-some g service ps old mid new (Err Memory) fit w k = absurd k
 
 -- it couldn't be written
-pub greets-refused : (g : Greeting) (service : Service) (ps : List Parameter) (old new : Reading) (bytes : List ℕ) (e : Error) → old.held.persists ≡ true
+pub greets-refused : (g : Greeting) (service : Service) (ps : List Parameter) (old new : Reading) (bytes : List ℕ) (e : Error)
+    → old.held.persists ≡ true
     → greeting_fits (Some g) service ps ≡ true → Writes old new bytes (Err e) → GreetsBy (Some g) service ps old new (Err e)
 greets-refused g service ps old new bytes (Io kind) persists fit k = (fit, k)
 greets-refused g service ps old new bytes (Read e) persists fit k = k

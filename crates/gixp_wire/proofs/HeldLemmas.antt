@@ -21,23 +21,82 @@ module _ (h : TransportState) (a b : Reading) where
   B = record b { held = h }
 
   stays : Stays a b → Stays A B
-  stays k = record { to_come = k.to_come; refused = k.refused; stopped = k.stopped; version = k.version; unpeeked = k.unpeeked; peeked = k.peeked; left = k.left; held = refl }
+  stays k = record {
+    to_come = k.to_come;
+    refused = k.refused;
+    stopped = k.stopped;
+    version = k.version;
+    unpeeked = k.unpeeked;
+    peeked = k.peeked;
+    left = k.left;
+    held = refl;
+  }
 
   takes_line : TakesLine a b → TakesLine A B
-  takes_line k = record { running = k.running; sound = k.sound; again = k.again; next = k.next; stopped = k.stopped; version = k.version; peeked = k.peeked; failures = k.failures; left = k.left; held = refl }
+  takes_line k = record {
+    running = k.running;
+    sound = k.sound;
+    again = k.again;
+    next = k.next;
+    stopped = k.stopped;
+    version = k.version;
+    peeked = k.peeked;
+    failures = k.failures;
+    left = k.left;
+    held = refl;
+  }
 
   shows_line : ShowsLine a b → ShowsLine A B
-  shows_line k = record { running = k.running; sound = k.sound; again = k.again; next = k.next; refused = k.refused; stopped = k.stopped; version = k.version; peeked = k.peeked; failures = k.failures; left = k.left; room = k.room; held = refl }
+  shows_line k = record {
+    running = k.running;
+    sound = k.sound;
+    again = k.again;
+    next = k.next;
+    refused = k.refused;
+    stopped = k.stopped;
+    version = k.version;
+    peeked = k.peeked;
+    failures = k.failures;
+    left = k.left;
+    room = k.room;
+    held = refl;
+  }
 
   takes_stop : (kind : MessageKind) → TakesStop a b kind → TakesStop A B kind
-  takes_stop kind k = record { running = k.running; sound = k.sound; unpeeked = k.unpeeked; is_stop = k.is_stop; next = k.next; stopped = k.stopped; version = k.version; peeked = k.peeked; failures = k.failures; left = k.left; held = refl }
+  takes_stop kind k = record {
+    running = k.running;
+    sound = k.sound;
+    unpeeked = k.unpeeked;
+    is_stop = k.is_stop;
+    next = k.next;
+    stopped = k.stopped;
+    version = k.version;
+    peeked = k.peeked;
+    failures = k.failures;
+    left = k.left;
+    held = refl;
+  }
 
   at_stop : AtStop a b → AtStop A B
   at_stop (inl k) = inl (record { was = k.was; stays = stays k.stays; failures = k.failures })
   at_stop (inr (kind, k)) = inr (kind, takes_stop kind k)
 
   refuses : (e : Refusal) → Refuses a b e → Refuses A B e
-  refuses e k = record { running = k.running; lasting = k.lasting; unpeeked = k.unpeeked; same = k.same; next = k.next; refused = k.refused; stopped = k.stopped; version = k.version; peeked = k.peeked; failures = k.failures; left = k.left; held = refl }
+  refuses e k = record {
+    running = k.running;
+    lasting = k.lasting;
+    unpeeked = k.unpeeked;
+    same = k.same;
+    next = k.next;
+    refused =
+        k.refused;
+    stopped = k.stopped;
+    version = k.version;
+    peeked = k.peeked;
+    failures = k.failures;
+    left = k.left;
+    held = refl;
+  }
 
   is_fault : (e : Refusal) → IsFault a b e → IsFault A B e
   is_fault (io kind) k = k
@@ -52,7 +111,21 @@ module _ (h : TransportState) (a b : Reading) where
   fails : (e : Refusal) → Fails a b e → Fails A B e
   fails e (inl k) = inl (refuses e k)
   fails e (inr (inl k)) = inr (inl (record { running = k.running; fault = is_fault e k.fault; stays = stays k.stays }))
-  fails e (inr (inr k)) = inr (inr (record { running = k.running; sound = k.sound; unpeeked = k.unpeeked; refusal = k.refusal; to_come = k.to_come; refused = k.refused; stopped = k.stopped; version = k.version; peeked = k.peeked; failures = k.failures; left = k.left; held = refl }))
+  fails e (inr (inr k)) =
+      inr (inr (record {
+        running = k.running;
+        sound = k.sound;
+        unpeeked = k.unpeeked;
+        refusal = k.refusal;
+        to_come = k.to_come;
+        refused = k.refused;
+        stopped = k.stopped;
+        version = k.version;
+        peeked = k.peeked;
+        failures = k.failures;
+        left = k.left;
+        held = refl;
+      }))
 
   pub reads : (r : Result Bool Error) → Reads a b r → Reads A B r
   reads (Ok true) k = takes_line k
@@ -101,19 +174,31 @@ module _ (h : TransportState) (a b : Reading) where
   stands_held texts ClientMemory k = k
 
   answers_held : (x : Advertised) (found : SetServiceResponse) → Answers x b found → Answers x B found
-  answers_held x found k = record { version = k.version; capabilities = k.capabilities; has_refs = k.has_refs; rest = k.rest; stopped = k.stopped }
+  answers_held x found k =
+      record { version = k.version; capabilities = k.capabilities; has_refs = k.has_refs; rest = k.rest; stopped = k.stopped }
 
   value_held : (said : Pieces → Result Advertised ClientRefusal) (found : SetServiceResponse) (o : Option Pieces)
-      → IfSome o (λ p. (x : Advertised) × (said p ≡ Ok x) × Answers x b found) → IfSome o (λ p. (x : Advertised) × (said p ≡ Ok x) × Answers x B found)
+      → IfSome o (λ p. (x : Advertised) × (said p ≡ Ok x) × Answers x b found)
+      → IfSome o (λ p. (x : Advertised) × (said p ≡ Ok x) × Answers x B found)
   value_held said found None k = tt
   value_held said found (Some p) k = (k.0, k.1, answers_held k.0 found k.2)
 
   says_held : (found : SetServiceResponse) → Says b found → Says B found
   says_held found (inl k) = inl (record { texts = k.texts; capabilities = k.capabilities; has_refs = k.has_refs; stopped = k.stopped })
   says_held found (inr (inl k)) = inr (inl (record { capabilities = k.capabilities; has_refs = k.has_refs; stopped = k.stopped }))
-  says_held found (inr (inr k)) = inr (inr (record { text = k.text; place = k.place; capabilities = k.capabilities; has_refs = k.has_refs; line = k.line; peeked = k.peeked; stopped = k.stopped }))
+  says_held found (inr (inr k)) =
+      inr (inr (record {
+        text = k.text;
+        place = k.place;
+        capabilities = k.capabilities;
+        has_refs = k.has_refs;
+        line = k.line;
+        peeked = k.peeked;
+        stopped = k.stopped;
+      }))
 
-  pub advertises : (said : Pieces → Result Advertised ClientRefusal) (takes : Protocol → List (List ℕ) → Type 0) (r : Result SetServiceResponse ClientError) → Advertises said takes a b r → Advertises said takes A B r
+  pub advertises : (said : Pieces → Result Advertised ClientRefusal) (takes : Protocol → List (List ℕ) → Type 0)
+      (r : Result SetServiceResponse ClientError) → Advertises said takes a b r → Advertises said takes A B r
   advertises said takes (Ok found) k = record {
     value = value_held said found a.to_come k.value;
     says = says_held found k.says;
@@ -122,7 +207,16 @@ module _ (h : TransportState) (a b : Reading) where
     left = k.left;
     held = refl;
   }
-  advertises said takes (Err e) k = record { why = why k.why; caused = caused k.caused; taken = k.taken; by_version = k.by_version; stands = stands_held k.taken e k.stands; stopped = k.stopped; left = k.left; held = refl }
+  advertises said takes (Err e) k = record {
+    why = why k.why;
+    caused = caused k.caused;
+    taken = k.taken;
+    by_version = k.by_version;
+    stands = stands_held k.taken e k.stands;
+    stopped = k.stopped;
+    left = k.left;
+    held = refl;
+  }
     where
       why : (IfSome a.to_come (λ p. said p ≡ Err (client_refusal e)) × (b.failures ≡ a.failures)) ⊎ IsFromDevice a b e
           → (IfSome a.to_come (λ p. said p ≡ Err (client_refusal e)) × (b.failures ≡ a.failures)) ⊎ IsFromDevice A B e

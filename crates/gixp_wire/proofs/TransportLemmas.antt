@@ -39,7 +39,8 @@ wrote_more old mid new xs ys h k = record {
 }
 
 -- and then a write failed
-pub broke_then : (old mid new : Reading) (xs : List ℕ) (kind : ErrorKind) → Wrote old mid xs → WriteBroke mid new kind → WriteBroke old new kind
+pub broke_then : (old mid new : Reading) (xs : List ℕ) (kind : ErrorKind) → Wrote old mid xs → WriteBroke mid new kind
+    → WriteBroke old new kind
 broke_then old mid new xs kind h k =
     let b = subst (λ m. WriteBroke m new kind) h.rest k in
     record {
@@ -62,7 +63,8 @@ unfinished_behind old mid new xs h k =
     record { alone = b.alone; rest = b.rest }
 
 -- several writes that are refused after others
-refused_behind : (old mid new : Reading) (xs ys zs : List ℕ) (e : Error) → Wrote old mid xs → WritesAll mid new ys (Err e) → WritesAll old new zs (Err e)
+refused_behind : (old mid new : Reading) (xs ys zs : List ℕ) (e : Error) → Wrote old mid xs → WritesAll mid new ys (Err e)
+    → WritesAll old new zs (Err e)
 refused_behind old mid new xs ys zs (Io kind) h k = broke_then old mid new xs kind h k
 refused_behind old mid new xs ys zs Memory h k = unfinished_behind old mid new xs h k
 refused_behind old mid new xs ys zs (Read e) h k = k
@@ -72,7 +74,8 @@ refused_behind old mid new xs ys zs (UnsupportedProtocolVersion line) h k = k
 refused_behind old mid new xs ys zs MissingDelimitingNullByte h k = k
 
 -- several writes after others
-pub writes_behind : (old mid new : Reading) (xs ys : List ℕ) (r : Result (Unit {0}) Error) → Wrote old mid xs → WritesAll mid new ys r → WritesAll old new (xs ++ ys) r
+pub writes_behind : (old mid new : Reading) (xs ys : List ℕ) (r : Result (Unit {0}) Error) → Wrote old mid xs → WritesAll mid new ys r
+    → WritesAll old new (xs ++ ys) r
 writes_behind old mid new xs ys (Ok t) h k = wrote_more old mid new xs ys h k
 writes_behind old mid new xs ys (Err e) h k = refused_behind old mid new xs ys (xs ++ ys) e h k
 
@@ -112,16 +115,20 @@ frames-alone : (messages : List Message) → lined_frames messages [] [] [] ≡ 
 frames-alone messages = rw (append-nil (map message_value messages)) (sym (frames-values messages))
 
 pub sends_alone : (old new : Reading) (messages : List Message) (r : Result Unit Error)
-    → Sends old new (lined_fit messages [] [] []) (texts_of (lined_frames messages [] [] [])) r → Sends old new (all_fit messages) (texts_of (request_frames messages)) r
+    → Sends old new (lined_fit messages [] [] []) (texts_of (lined_frames messages [] [] [])) r
+    → Sends old new (all_fit messages) (texts_of (request_frames messages)) r
 sends_alone old new messages r h = rw (← fit-alone messages, ← frames-alone messages) h
 
 pub fit_alone : (messages : List Message) → lined_fit messages [] [] [] ≡ true → all_fit messages ≡ true
 fit_alone messages h = sym (fit-alone messages) ∙ h
 
 -- a request is sent by what its messages mean
-pub sends-values : (old new : Reading) (messages : List Message) (values : List MessageValue) (r : Result Unit Error) → map message_value messages ≡ values
-    → Sends old new (all_fit messages) (texts_of (request_frames messages)) r → Sends old new (list_all value_fits values) (texts_of (map value_frame values)) r
+pub sends-values : (old new : Reading) (messages : List Message) (values : List MessageValue) (r : Result Unit Error)
+    → map message_value messages ≡ values
+    → Sends old new (all_fit messages) (texts_of (request_frames messages)) r
+    → Sends old new (list_all value_fits values) (texts_of (map value_frame values)) r
 sends-values old new messages values r is h =
     let fit = fit-values messages ∙ ap (list_all value_fits) is in
     let frames = frames-values messages ∙ ap (map value_frame) is in
-    subst (λ b. Sends old new b (texts_of (map value_frame values)) r) fit (subst (λ fs. Sends old new (all_fit messages) (texts_of fs) r) frames h)
+    subst (λ b. Sends old new b (texts_of (map value_frame values)) r) fit
+    (subst (λ fs. Sends old new (all_fit messages) (texts_of fs) r) frames h)

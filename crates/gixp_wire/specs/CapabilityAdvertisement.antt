@@ -1,4 +1,5 @@
--- What a server says first: its version, its capabilities, and under versions 0 and 1 its refs (gitprotocol-pack, "Reference Discovery" and "Extra Parameters"; gitprotocol-v2, "Capability Advertisement").
+-- What a server says first: its version, its capabilities, and under versions 0 and 1 its refs (gitprotocol-pack, "Reference Discovery"
+-- and "Extra Parameters"; gitprotocol-v2, "Capability Advertisement").
 use Rattle.std.specs.Prelude.{◌≡◌, ℕ, ◌≤◌, ◌⊎◌, Bool, true, false, nat_eq, List, [], ◌∷◌, take, codes, if◌then◌else◌, Option, Some, None, Result, Ok, Err, IfSome, IsSome, ⊤}
 use Rattle.std.specs.Char.{is_whitespace}
 use Rattle.bstr.specs.Trim.{trim_end_by}
@@ -56,7 +57,13 @@ empty_advertisement version kind rest = record { version = version; capabilities
 abbrev pub ref_line : Protocol → List ℕ → Pieces → Option (List CapabilityValue × ℕ) → Result Advertised ClientRefusal
 ref_line version text rest None = Err no_null_byte
 ref_line version text rest (Some found) =
-    Ok (record { version = version; capabilities = found.0; has_refs = true; rest = with_piece (line (take found.1 text)) rest; stopped = None })
+    Ok (record {
+      version = version;
+      capabilities = found.0;
+      has_refs = true;
+      rest = with_piece (line (take found.1 text)) rest;
+      stopped = None;
+    })
 
 abbrev pub by_ref_line : Protocol → Next → Result Advertised ClientRefusal
 by_ref_line version (gives text rest) = ref_line version text rest (capabilities_of_line text)
@@ -68,7 +75,8 @@ abbrev pub from_ref_line : Protocol → Pieces → Result Advertised ClientRefus
 from_ref_line version p = by_ref_line version (next_of version p)
 
 abbrev pub by_lines : List (List ℕ) → Ending → Result Advertised ClientRefusal
-by_lines texts (stop kind rest) = Ok (record { version = V2; capabilities = capabilities_of_lines texts; has_refs = false; rest = rest; stopped = Some kind })
+by_lines texts (stop kind rest) =
+    Ok (record { version = V2; capabilities = capabilities_of_lines texts; has_refs = false; rest = rest; stopped = Some kind })
 by_lines texts (refusal e) = Err (client_from e)
 
 -- the capability lines of version 2, up to the stop
@@ -127,7 +135,8 @@ abbrev pub Says : Reading → SetServiceResponse → Type 0
 Says new found = SaysLines new found ⊎ SaysNothing new found ⊎ SaysRefs new found
 
 -- what was said was read
-pub record ReadsAdvertisement (said : Pieces → Result Advertised ClientRefusal) (old new : Reading) (found : SetServiceResponse) : Type 0 where
+pub record ReadsAdvertisement (said : Pieces → Result Advertised ClientRefusal) (old new : Reading)
+    (found : SetServiceResponse) : Type 0 where
   pub value : IfSome old.to_come (λ p. (a : Advertised) × (said p ≡ Ok a) × Answers a new found)
   pub says : Says new found
   pub version : new.version ≡ found.actual_protocol
@@ -185,17 +194,21 @@ abbrev pub StandsIo : Bool → List (List ℕ) → Reading → Reading → Error
 StandsIo true texts old new kind = StandsRefused old new (io kind)
 StandsIo false texts old new kind = (new.peeked ≡ false) × LinesTaken texts old.to_come new.to_come
 
--- what comes after an error: a refusal of the stream, or what is left behind the lines that were taken. The line that names another version, and a first ref line without a NUL, are still to come
+-- what comes after an error: a refusal of the stream, or what is left behind the lines that were taken. The line that names another
+-- version, and a first ref line without a NUL, are still to come
 abbrev pub Stands : List (List ℕ) → Reading → Reading → Error → Type 0
 Stands texts old new (Io kind) = StandsIo (is_end kind) texts old new kind
 Stands texts old new (Read e) = StandsRefused old new (refusal_of e)
-Stands texts old new (UnsupportedProtocolVersion text) = (new.peeked ≡ true) × (version_named new.line ≡ another (bstring_bytes text)) × LinesTaken texts old.to_come new.to_come
-Stands texts old new MissingDelimitingNullByte = (new.peeked ≡ true) × (capabilities_of_line new.line ≡ None) × LinesTaken texts old.to_come new.to_come
+Stands texts old new (UnsupportedProtocolVersion text) = (new.peeked ≡ true) × (version_named new.line ≡ another (bstring_bytes text))
+    × LinesTaken texts old.to_come new.to_come
+Stands texts old new MissingDelimitingNullByte = (new.peeked ≡ true) × (capabilities_of_line new.line ≡ None)
+    × LinesTaken texts old.to_come new.to_come
 Stands texts old new Memory = LinesTaken texts old.to_come new.to_come
 Stands texts old new _ = ⊥
 
 -- the first refusal of what was said, or that of a failed read or write, or of an allocation
-pub record FailsAdvertisement (said : Pieces → Result Advertised ClientRefusal) (takes : Protocol → List (List ℕ) → Type 0) (old new : Reading) (e : Error) : Type 0 where
+pub record FailsAdvertisement (said : Pieces → Result Advertised ClientRefusal) (takes : Protocol → List (List ℕ) → Type 0)
+    (old new : Reading) (e : Error) : Type 0 where
   pub why : (IfSome old.to_come (λ p. said p ≡ Err (client_refusal e)) × (new.failures ≡ old.failures)) ⊎ IsFromDevice old new e
   pub caused : IsCaused old new e
   pub taken : List (List ℕ)
@@ -206,6 +219,7 @@ pub record FailsAdvertisement (said : Pieces → Result Advertised ClientRefusal
   pub held : new.held ≡ old.held
 
 -- a call that reads what a server says first
-abbrev pub Advertises : (Pieces → Result Advertised ClientRefusal) → (Protocol → List (List ℕ) → Type 0) → Reading → Reading → Result SetServiceResponse Error → Type 0
+abbrev pub Advertises : (Pieces → Result Advertised ClientRefusal) → (Protocol → List (List ℕ) → Type 0) → Reading → Reading
+    → Result SetServiceResponse Error → Type 0
 Advertises said takes old new (Ok found) = ReadsAdvertisement said old new found
 Advertises said takes old new (Err e) = FailsAdvertisement said takes old new e

@@ -16,7 +16,8 @@ abbrev pub greeting_of : Protocol → Opening → Greeting
 greeting_of version o = record { path = bstring_bytes o.path; host = option_map bstring_bytes o.host; version = version }
 
 -- before the first call: nothing was read, and what the writer holds is as it was
-pub record IsNewConnection (known : Option (List ℕ)) (holds : Option (List ℕ)) (at : List ℕ) (asked : Protocol) (versions : List Protocol) (opening : Option Opening) (r : Reading) : Type 0 where
+pub record IsNewConnection (known : Option (List ℕ)) (holds : Option (List ℕ)) (at : List ℕ) (asked : Protocol)
+    (versions : List Protocol) (opening : Option Opening) (r : Reading) : Type 0 where
   pub to_come : r.to_come ≡ option_map stream_pieces known
   pub refused : r.refused ≡ None
   pub stopped : r.stopped ≡ None

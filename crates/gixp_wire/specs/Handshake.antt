@@ -1,4 +1,5 @@
--- What a transport's handshake does (gitprotocol-pack, "Git Transport" and "Reference Discovery"; gitprotocol-v2, "Initial Client Request").
+-- What a transport's handshake does (gitprotocol-pack, "Git Transport" and "Reference Discovery"; gitprotocol-v2, "Initial Client
+-- Request").
 use Rattle.std.specs.Prelude.{◌≡◌, ℕ, ◌⊎◌, Bool, true, false, List, Option, Some, None, Result, Ok, Err}
 use Rattle.std.specs.declared.io.ErrorKind.{ErrorKind}
 use Rattle.gixp_capabilities.specs.declared.client.Error.{Error}

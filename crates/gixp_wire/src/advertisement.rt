@@ -69,7 +69,8 @@ pub(crate) fn advertisement<R: Read>(
     packets: &mut Packets<R>,
     alloc: Global,
 ) -> Result<SetServiceResponse, Error>
-    ensures { Advertises advertisement TakesFirst (packets_reading R.remaining packets.old) (packets_reading R.remaining packets.new) result }
+    ensures { Advertises advertisement TakesFirst (packets_reading R.remaining packets.old)
+        (packets_reading R.remaining packets.new) result }
 {
     packets.reset(Protocol::V0);
     match packets.peek_line() {
@@ -86,7 +87,8 @@ fn by_first_line<R: Read>(
 ) -> Result<SetServiceResponse, Error>
     requires version { packets.old.version ≡ V0 }
     requires peeked { is_peeked packets.old.place ≡ true }
-    ensures { Advertises advertisement TakesFirst (packets_reading R.remaining packets.old) (packets_reading R.remaining packets.new) result }
+    ensures { Advertises advertisement TakesFirst (packets_reading R.remaining packets.old)
+        (packets_reading R.remaining packets.new) result }
 {
     match version_named(packets.line()) {
         Named::Unnamed => cut_ref_line(packets, alloc, Protocol::V0),
@@ -120,7 +122,8 @@ fn ref_line<R: Read>(
 ) -> Result<SetServiceResponse, Error>
     requires version { packets.old.version ≡ version }
     requires running { (packets_reading R.remaining packets.old).stopped ≡ None }
-    ensures { Advertises (from_ref_line version) (TakesNone version) (packets_reading R.remaining packets.old) (packets_reading R.remaining packets.new) result }
+    ensures { Advertises (from_ref_line version) (TakesNone version) (packets_reading R.remaining packets.old)
+        (packets_reading R.remaining packets.new) result }
 {
     match packets.peek_line() {
         Ok(true) => cut_ref_line(packets, alloc, version),
@@ -137,7 +140,8 @@ fn cut_ref_line<R: Read>(
 ) -> Result<SetServiceResponse, Error>
     requires version { packets.old.version ≡ version }
     requires peeked { is_peeked packets.old.place ≡ true }
-    ensures { Advertises (from_ref_line version) (TakesNone version) (packets_reading R.remaining packets.old) (packets_reading R.remaining packets.new) result }
+    ensures { Advertises (from_ref_line version) (TakesNone version) (packets_reading R.remaining packets.old)
+        (packets_reading R.remaining packets.new) result }
 {
     match Capabilities::from_bytes(alloc, packets.line()) {
         Ok((capabilities, place)) => {
@@ -159,7 +163,8 @@ fn capability_lines<R: Read>(
 ) -> Result<SetServiceResponse, Error>
     requires version { packets.old.version ≡ V2 }
     requires running { (packets_reading R.remaining packets.old).stopped ≡ None }
-    ensures { Advertises from_capability_lines TakesAny (packets_reading R.remaining packets.old) (packets_reading R.remaining packets.new) result }
+    ensures { Advertises from_capability_lines TakesAny (packets_reading R.remaining packets.old)
+        (packets_reading R.remaining packets.new) result }
 {
     let mut capabilities = Capabilities::empty(alloc);
     loop {

@@ -75,7 +75,8 @@ pub(crate) fn command_lines(
 
 /// Appends the lines as messages.
 fn push_lines<'a>(messages: &mut Vec<Message<'a>>, lines: &'a [BString]) -> Result<(), AllocError>
-    ensures { OnOk result (map message_value messages.new.items ≡ map message_value messages.old.items ++ map text (map bstring_bytes lines.now)) }
+    ensures { OnOk result (map message_value messages.new.items ≡ map message_value messages.old.items
+        ++ map text (map bstring_bytes lines.now)) }
 {
     for line in lines {
         messages.push(Message::Line(line.as_bytes()))?;

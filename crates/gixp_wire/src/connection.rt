@@ -62,7 +62,8 @@ impl<R: Read + Drop, W: Write + Drop> Connection<R, W> {
         accepted: Vec<Protocol>,
         opening: Option<Opening>,
     ) -> Result<Connection<R, W>, AllocError>
-        ensures { IfOk result (λ c. IsNewConnection (R.remaining reader) (W.contents writer) (bstring_bytes url) version accepted.items opening
+        ensures { IfOk result (λ c. IsNewConnection (R.remaining reader) (W.contents writer)
+            (bstring_bytes url) version accepted.items opening
             (connection_reading R.remaining W.contents c)) }
     {
         let packets = Packets::new(alloc, reader)?;
@@ -111,7 +112,8 @@ impl<R: Read, W: Write> Connection<R, W> {
 
     // Notes that a write failed with this kind.
     fn break_off(&mut self, kind: ErrorKind) -> Error
-        ensures { IsBroken (connection_reading R.remaining W.contents self.old) (connection_reading R.remaining W.contents self.new) kind result }
+        ensures { IsBroken (connection_reading R.remaining W.contents self.old)
+            (connection_reading R.remaining W.contents self.new) kind result }
     {
         self.packets.note_failure();
         self.broken = Some(kind);
@@ -121,14 +123,16 @@ impl<R: Read, W: Write> Connection<R, W> {
     // Notes that a write or flush failed with this error: its kind is what every later request
     // answers.
     fn write_failed(&mut self, e: io::Error) -> Error
-        ensures { IsBroken (connection_reading R.remaining W.contents self.old) (connection_reading R.remaining W.contents self.new) (error_kind e) result }
+        ensures { IsBroken (connection_reading R.remaining W.contents self.old) (connection_reading R.remaining W.contents self.new)
+            (error_kind e) result }
     {
         self.break_off(e.kind())
     }
 
     // Writes these bytes, unless a write failed before.
     fn write_bytes(&mut self, bytes: &[u8]) -> Result<(), Error>
-        ensures { Writes (connection_reading R.remaining W.contents self.old) (connection_reading R.remaining W.contents self.new) bytes.now result }
+        ensures { Writes (connection_reading R.remaining W.contents self.old)
+            (connection_reading R.remaining W.contents self.new) bytes.now result }
     {
         if let Some(kind) = self.broken {
             return Err(self.break_off(kind));
@@ -141,7 +145,8 @@ impl<R: Read, W: Write> Connection<R, W> {
 
     // Flushes the writer, and goes on after the stop.
     fn go_on(&mut self) -> Result<(), Error>
-        ensures { EndsBy true (connection_reading R.remaining W.contents self.old) (connection_reading R.remaining W.contents self.new) result }
+        ensures { EndsBy true (connection_reading R.remaining W.contents self.old)
+            (connection_reading R.remaining W.contents self.new) result }
     {
         if let Some(kind) = self.broken {
             return Err(self.break_off(kind));
@@ -159,7 +164,8 @@ impl<R: Read, W: Write> Connection<R, W> {
     // Writes a payload as a frame.
     fn write_payload(&mut self, payload: &[u8]) -> Result<(), Error>
         requires { length payload.now ≤ 65516 }
-        ensures { Writes (connection_reading R.remaining W.contents self.old) (connection_reading R.remaining W.contents self.new) (payload_text payload.now) result }
+        ensures { Writes (connection_reading R.remaining W.contents self.old) (connection_reading R.remaining W.contents self.new)
+            (payload_text payload.now) result }
     {
         self.write_bytes(&frame_text::payload_digits(payload.len()))?;
         self.write_bytes(payload)
@@ -242,7 +248,8 @@ impl<R: Read, W: Write> Transport for Connection<R, W> {
     ///
     /// `AuthenticationUnsupported`, always.
     fn set_identity(&mut self, account: Account) -> Result<(), Error>
-        ensures identifies { Identifies (connection_reading R.remaining W.contents self.old) (connection_reading R.remaining W.contents self.new) account result }
+        ensures identifies { Identifies (connection_reading R.remaining W.contents self.old)
+            (connection_reading R.remaining W.contents self.new) account result }
         ensures refused { result ≡ Err AuthenticationUnsupported }
     {
         let _ = account;

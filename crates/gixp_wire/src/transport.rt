@@ -67,7 +67,8 @@ pub trait Transport: ExtendedBufRead {
         service: Service,
         extra_parameters: &[(String, Option<String>)],
     ) -> Result<SetServiceResponse, Error>
-        ensures handshakes { Handshakes service (parameters_of extra_parameters.now) (Self.reading self.old) (Self.reading self.new) result };
+        ensures handshakes { Handshakes service (parameters_of extra_parameters.now) (Self.reading self.old)
+            (Self.reading self.new) result };
 
     /// Begins a request. What was written of one that isn't ended is dropped, unless it went out
     /// already.
@@ -198,7 +199,8 @@ pub trait Transport: ExtendedBufRead {
     final fn request(&mut self, messages: &[Message<'_>]) -> Result<(), Error>
     where
         Self: Sized,
-        ensures sends { Sends (Self.reading self.old) (Self.reading self.new) (all_fit messages.now) (texts_of (request_frames messages.now)) result }
+        ensures sends { Sends (Self.reading self.old) (Self.reading self.new) (all_fit messages.now)
+            (texts_of (request_frames messages.now)) result }
         ensures fit { result ≡ Err Memory → all_fit messages.now ≡ true }
     {
         self.request_with_lines(messages, &[], &[], &[])
@@ -244,7 +246,8 @@ fn write_with_lines<T: Transport>(
 ) -> Result<(), Error>
     requires whole { (T.reading transport.old).held.broken ≡ None }
     requires fit { lined_fit front.now lines.now more.now behind.now ≡ true }
-    ensures { WritesAll (T.reading transport.old) (T.reading transport.new) (texts_of (lined_frames front.now lines.now more.now behind.now)) result }
+    ensures { WritesAll (T.reading transport.old) (T.reading transport.new)
+        (texts_of (lined_frames front.now lines.now more.now behind.now)) result }
 {
     transport.write_all(front)?;
     transport.write_lines(lines)?;

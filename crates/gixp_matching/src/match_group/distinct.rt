@@ -46,7 +46,8 @@ fn are_all_new(alloc: Global, mappings: &[Mapping]) -> Result<bool, AllocError>
 /// Remembers the source and the local name of a mapping, and returns whether they are new.
 fn mark<'a>(seen: &mut BTreeSet<Key<'a>>, mapping: &'a Mapping) -> Result<bool, AllocError>
     ensures fresh { IfOk result (λ is_new. is_new ≡ not (is_marked seen.old.keys (mapped_of mapping.now))) }
-    ensures marked { OnOk result ((m : Mapped) → is_marked seen.new.keys m ≡ (is_marked seen.old.keys m || is_same (mapped_of mapping.now) m)) }
+    ensures marked { OnOk result ((m : Mapped)
+        → is_marked seen.new.keys m ≡ (is_marked seen.old.keys m || is_same (mapped_of mapping.now) m)) }
 {
     let is_new = seen.insert(key_of(mapping))?;
     Ok(is_new)

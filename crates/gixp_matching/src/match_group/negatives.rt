@@ -29,7 +29,8 @@ fn push_negative<'s>(
     others: &mut Vec<Needle<'s>>,
     spec: &RefSpecRef<'s>,
 ) -> Result<(), AllocError>
-    ensures { OnOk result ((name : List ℕ) → is_any names.new.items others.new.items name ≡ (is_any names.old.items others.old.items name || excludes name (value_of spec.now))) }
+    ensures { OnOk result ((name : List ℕ) → is_any names.new.items others.new.items name
+        ≡ (is_any names.old.items others.old.items name || excludes name (value_of spec.now))) }
 {
     if !is_negative(spec.sign) {
         return Ok(());

@@ -124,7 +124,8 @@ impl Matching<'_, '_, '_> {
     ) -> Result<Option<Mapping>, AllocError>
         requires needle { IsLookedAt numbered.now }
         requires prepared { IsPrepared self.now.prepared.now }
-        ensures { IfOk result (λ found. option_to_list (option_map mapped_of found) ≡ pair (values self.now.prepared.now.specs.now) (numbered_value numbered.now) (shown row.now)) }
+        ensures { IfOk result (λ found. option_to_list (option_map mapped_of found) ≡ pair (values self.now.prepared.now.specs.now)
+            (numbered_value numbered.now) (shown row.now)) }
     {
         let spec = numbered.spec;
         if is_negative(spec.sign) {
@@ -155,7 +156,8 @@ impl Matching<'_, '_, '_> {
     ) -> Result<(), AllocError>
         requires needle { IsLookedAt numbered.now }
         requires prepared { IsPrepared self.now.prepared.now }
-        ensures { OnOk result (mapped_in out.new ≡ mapped_in out.old ++ pair (values self.now.prepared.now.specs.now) (numbered_value numbered.now) (shown row.now)) }
+        ensures { OnOk result (mapped_in out.new ≡ mapped_in out.old
+            ++ pair (values self.now.prepared.now.specs.now) (numbered_value numbered.now) (shown row.now)) }
     {
         let found = self.pair(numbered, row)?;
         push_found(out, found)
@@ -169,7 +171,8 @@ impl Matching<'_, '_, '_> {
     ) -> Result<(), AllocError>
         requires needle { IsLookedAt numbered.now }
         requires prepared { IsPrepared self.now.prepared.now }
-        ensures { OnOk result (mapped_in out.new ≡ mapped_in out.old ++ pairs_of (values self.now.prepared.now.specs.now) (names self.now.items.now) (numbered_value numbered.now)) }
+        ensures { OnOk result (mapped_in out.new ≡ mapped_in out.old
+            ++ pairs_of (values self.now.prepared.now.specs.now) (names self.now.items.now) (numbered_value numbered.now)) }
     {
         if is_negative(numbered.spec.sign) {
             return Ok(());
@@ -190,7 +193,8 @@ impl Matching<'_, '_, '_> {
     ) -> Result<(), AllocError>
         requires needle { IsLookedAt numbered.now }
         requires prepared { IsPrepared self.now.prepared.now }
-        ensures { OnOk result (mapped_in out.new ≡ mapped_in out.old ++ flat_map (pair (values self.now.prepared.now.specs.now) (numbered_value numbered.now)) (map shown rows.now)) }
+        ensures { OnOk result (mapped_in out.new ≡ mapped_in out.old
+            ++ flat_map (pair (values self.now.prepared.now.specs.now) (numbered_value numbered.now)) (map shown rows.now)) }
     {
         'rows: for row in rows {
             self.push_pair(numbered, row, out)?;
@@ -207,7 +211,8 @@ impl Matching<'_, '_, '_> {
     ) -> Result<(), AllocError>
         requires needle { IsLookedAt numbered.now }
         requires prepared { IsPrepared self.now.prepared.now }
-        ensures { OnOk result (mapped_in out.new ≡ mapped_in out.old ++ flat_map (pair (values self.now.prepared.now.specs.now) (numbered_value numbered.now)) (ref_at (names self.now.items.now) place)) }
+        ensures { OnOk result (mapped_in out.new ≡ mapped_in out.old ++ flat_map
+            (pair (values self.now.prepared.now.specs.now) (numbered_value numbered.now)) (ref_at (names self.now.items.now) place)) }
     {
         match self.items.get(place) {
             None => Ok(()),
@@ -227,7 +232,9 @@ impl Matching<'_, '_, '_> {
     ) -> Result<(), AllocError>
         requires needle { IsLookedAt numbered.now }
         requires prepared { IsPrepared self.now.prepared.now }
-        ensures { OnOk result (mapped_in out.new ≡ mapped_in out.old ++ flat_map (λ place. flat_map (pair (values self.now.prepared.now.specs.now) (numbered_value numbered.now)) (ref_at (names self.now.items.now) place)) places.now) }
+        ensures { OnOk result (mapped_in out.new ≡ mapped_in out.old
+            ++ flat_map (λ place. flat_map (pair (values self.now.prepared.now.specs.now) (numbered_value numbered.now))
+            (ref_at (names self.now.items.now) place)) places.now) }
     {
         'places: for place in places {
             self.push_at(numbered, *place, out)?;
@@ -246,7 +253,8 @@ impl Matching<'_, '_, '_> {
         requires needle { IsLookedAt numbered.now }
         requires prepared { IsPrepared self.now.prepared.now }
         requires table { IsRowTable (names self.now.items.now) table.now }
-        ensures { OnOk result (mapped_in out.new ≡ mapped_in out.old ++ pairs_of (values self.now.prepared.now.specs.now) (names self.now.items.now) (numbered_value numbered.now)) }
+        ensures { OnOk result (mapped_in out.new ≡ mapped_in out.old
+            ++ pairs_of (values self.now.prepared.now.specs.now) (names self.now.items.now) (numbered_value numbered.now)) }
     {
         if is_negative(numbered.spec.sign) {
             return Ok(());
@@ -268,7 +276,8 @@ impl Matching<'_, '_, '_> {
     /// Appends the mappings of each refspec and each ref, with no table of the refs.
     fn push_all_compared(&self, out: &mut Vec<Mapping>) -> Result<(), AllocError>
         requires { IsPrepared self.now.prepared.now }
-        ensures { OnOk result (mapped_in out.new ≡ mapped_in out.old ++ pairs (values self.now.prepared.now.specs.now) (names self.now.items.now)) }
+        ensures { OnOk result (mapped_in out.new ≡ mapped_in out.old
+            ++ pairs (values self.now.prepared.now.specs.now) (names self.now.items.now)) }
     {
         'specs: for (index, spec) in self.prepared.specs.iter().enumerate() {
             self.push_compared(&Numbered::new(index, spec), out)?;
@@ -279,7 +288,8 @@ impl Matching<'_, '_, '_> {
     /// Appends the mappings of each refspec and each ref, with a table of the refs.
     fn push_all_looked_up(&self, out: &mut Vec<Mapping>) -> Result<(), AllocError>
         requires { IsPrepared self.now.prepared.now }
-        ensures { OnOk result (mapped_in out.new ≡ mapped_in out.old ++ pairs (values self.now.prepared.now.specs.now) (names self.now.items.now)) }
+        ensures { OnOk result (mapped_in out.new ≡ mapped_in out.old
+            ++ pairs (values self.now.prepared.now.specs.now) (names self.now.items.now)) }
     {
         let table = table_of(self.alloc, self.items)?;
         'specs: for (index, spec) in self.prepared.specs.iter().enumerate() {
@@ -291,7 +301,8 @@ impl Matching<'_, '_, '_> {
     /// Appends the mappings of each refspec and each ref. A table of the refs is made only where some name is looked up.
     pub(crate) fn push_pairs(&self, out: &mut Vec<Mapping>) -> Result<(), AllocError>
         requires { IsPrepared self.now.prepared.now }
-        ensures { OnOk result (mapped_in out.new ≡ mapped_in out.old ++ pairs (values self.now.prepared.now.specs.now) (names self.now.items.now)) }
+        ensures { OnOk result (mapped_in out.new ≡ mapped_in out.old
+            ++ pairs (values self.now.prepared.now.specs.now) (names self.now.items.now)) }
     {
         if are_compared(self.prepared.specs) {
             self.push_all_compared(out)

@@ -173,7 +173,8 @@ pub(crate) fn find_mappings(
     extra: &[RefSpec],
 ) -> Result<(Vec<Mapping>, Vec<Fix>), Error>
     ensures maps { Maps (joined_specs explicit.now extra.now) (length explicit.now) (map ref_value refs.now) result }
-    ensures filtered { HoldsOfAll (joined_specs explicit.now extra.now) (map ref_value refs.now) (λ all. Maps (joined_specs explicit.now extra.now) (length explicit.now) all result) }
+    ensures filtered { HoldsOfAll (joined_specs explicit.now extra.now) (map ref_value refs.now)
+        (λ all. Maps (joined_specs explicit.now extra.now) (length explicit.now) all result) }
     ensures found { IfOk result (λ found. AllByRecursion (λ x. IsSome (spec_at x.spec_index explicit.now extra.now)) found.0.items) }
 {
     laws::filtering_keeps_answers();

@@ -42,7 +42,8 @@ impl CommandTable {
         version: Protocol,
         capabilities: &Capabilities,
     ) -> Result<Vec<Feature>, AllocError>
-        ensures { IfOk result (λ features. feature_values features.items ≡ default_features (table_of self.now) command version capabilities.now) }
+        ensures { IfOk result (λ features. feature_values features.items
+            ≡ default_features (table_of self.now) command version capabilities.now) }
     {
         if version == Protocol::V2 {
             return supported(alloc, self.v2_words(command), capabilities, command);
@@ -96,7 +97,8 @@ fn push_supported(
     capabilities: &Capabilities,
     command: Command,
 ) -> Result<(), AllocError>
-    ensures { OnOk result (feature_values features.new.items ≡ feature_values features.old.items ++ map plain_feature (filter (supports capabilities.now command) (word.now ∷ []))) }
+    ensures { OnOk result (feature_values features.new.items ≡ feature_values features.old.items
+        ++ map plain_feature (filter (supports capabilities.now command) (word.now ∷ []))) }
 {
     if supports(capabilities, command, word) {
         push_feature(features, word)?;
@@ -111,7 +113,8 @@ fn supported(
     capabilities: &Capabilities,
     command: Command,
 ) -> Result<Vec<Feature>, AllocError>
-    ensures { IfOk result (λ features. feature_values features.items ≡ map plain_feature (filter (supports capabilities.now command) (words_of words.now))) }
+    ensures { IfOk result (λ features. feature_values features.items
+        ≡ map plain_feature (filter (supports capabilities.now command) (words_of words.now))) }
 {
     let mut features = Vec::new(alloc);
     for word in words {
@@ -141,7 +144,8 @@ fn offered(
     entries: &[(&'static str, Option<&'static str>)],
     capabilities: &Capabilities,
 ) -> Result<Vec<Feature>, AllocError>
-    ensures { IfOk result (λ features. feature_values features.items ≡ map plain_feature (map (λ (e : WordEntry). e.word) (filter (is_offered capabilities.now) (entries_of entries.now)))) }
+    ensures { IfOk result (λ features. feature_values features.items
+        ≡ map plain_feature (map (λ (e : WordEntry). e.word) (filter (is_offered capabilities.now) (entries_of entries.now)))) }
 {
     let mut features = Vec::new(alloc);
     for entry in entries {

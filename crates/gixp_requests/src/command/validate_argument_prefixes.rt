@@ -87,7 +87,8 @@ impl CommandTable {
         arguments: &[BString],
         features: &[Feature],
     ) -> Result<(), Error>
-        ensures { AnswersRefusal (validation (table_of self.now) command version capabilities.now (map bstring_bytes arguments.now) (feature_values features.now)) result }
+        ensures { AnswersRefusal (validation (table_of self.now) command version capabilities.now (map bstring_bytes arguments.now)
+            (feature_values features.now)) result }
     {
         if let Some(argument) = unsupported_argument(self.prefixes(command), arguments) {
             return Err(refuse_argument(alloc, command, argument));
@@ -143,7 +144,8 @@ fn unsupported_argument<'a>(
     prefixes: &[&'static str],
     arguments: &'a [BString],
 ) -> Option<&'a BString>
-    ensures { option_map bstring_bytes (option_copied result) ≡ find (bad_argument (words_of prefixes.now)) (map bstring_bytes arguments.now) }
+    ensures { option_map bstring_bytes (option_copied result) ≡ find (bad_argument (words_of prefixes.now))
+        (map bstring_bytes arguments.now) }
 {
     bad_argument(prefixes, arguments)
 }
@@ -175,7 +177,8 @@ fn unsupported_feature<'a>(
     capabilities: &Capabilities,
     features: &'a [Feature],
 ) -> Option<&'a Feature>
-    ensures { option_map feature_value (option_copied result) ≡ find (bad_feature command version capabilities.now) (feature_values features.now) }
+    ensures { option_map feature_value (option_copied result) ≡ find (bad_feature command version capabilities.now)
+        (feature_values features.now) }
 {
     bad_feature(command, version, capabilities, features)
 }

@@ -46,7 +46,16 @@ impl Model for Arguments {
     ghost use Rattle.gixp_requests.specs.Feature.{feature_values};
     ghost use Rattle.gixp_requests.specs.Command.{texts};
 
-    ghost view = { λ a. record { version = a.version; features = feature_values a.features.items; include_tag = a.include_tag; deepen_relative = a.deepen_relative; added = texts a.added; wanted = a.wanted; lines = texts a.lines; haves = texts a.haves } };
+    ghost view = { λ a. record {
+      version = a.version;
+      features = feature_values a.features.items;
+      include_tag = a.include_tag;
+      deepen_relative = a.deepen_relative;
+      added = texts a.added;
+      wanted = a.wanted;
+      lines = texts a.lines;
+      haves = texts a.haves;
+    } };
 }
 
 impl Arguments {
@@ -378,7 +387,8 @@ impl Arguments {
     // Sends the request, with no memory of it here.
     fn transmit<T: Transport>(&self, transport: &mut T, done: bool) -> Result<(), Error>
         requires { done ≡ false → 0 < length self.now.haves }
-        ensures { Sends (T.reading transport.old) (T.reading transport.new) (request_fits self.now done) (texts_of (request self.now done)) result }
+        ensures { Sends (T.reading transport.old) (T.reading transport.new) (request_fits self.now done)
+            (texts_of (request self.now done)) result }
     {
         if self.version == Protocol::V2 {
             let features = sent_features(self.alloc, &self.features)?;

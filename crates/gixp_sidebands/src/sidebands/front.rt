@@ -117,7 +117,8 @@ impl<'a, T: ExtendedBufRead> Front<'a, T> {
     /// Takes this many of the bytes at hand, or all of them. The packet is taken with its last.
     pub(crate) fn advance(&mut self, amount: usize)
         ensures same { self.new.at.ghost_name ≡ self.old.at.ghost_name }
-        ensures hands_out { HandsOut self.old.place (T.reading self.old.at.now) (take amount (shown self.old.place (T.reading self.old.at.now)))
+        ensures hands_out { HandsOut self.old.place (T.reading self.old.at.now)
+            (take amount (shown self.old.place (T.reading self.old.at.now)))
             self.new.place (T.reading self.new.at.now) }
     {
         let Some(handed) = self.place else { return };

@@ -48,8 +48,10 @@ pub fn is_ancestor<O: Objects>(
     ensures graph { LooksUp graph.old.graph graph.new.graph }
 
     // No commit is read twice, and none but those that aren't held, of the ids that are come to.
-    ensures asked { AsksEach (λ id. (finite.get graph.old.graph.held id ≡ None) × IsReached (commit_at graph.old.graph.objects) new.now id) graph.old.asked graph.new.asked }
-    ensures limited { result ≡ Err TooManyCommits → (most : ℕ) × (most_commits ≡ Some most) × ReachesMore (commit_at graph.old.graph.objects) new.now most }
+    ensures asked { AsksEach (λ id. (finite.get graph.old.graph.held id ≡ None)
+        × IsReached (commit_at graph.old.graph.objects) new.now id) graph.old.asked graph.new.asked }
+    ensures limited { result ≡ Err TooManyCommits → (most : ℕ) × (most_commits ≡ Some most)
+        × ReachesMore (commit_at graph.old.graph.objects) new.now most }
     ensures unrefused { OnOk result (graph.new.refusals ≡ graph.old.refusals) }
     ensures failed { IfErr result (λ e. TellsError most_commits e graph.old graph.new) }
     ensures failures { graph.old.failures ≤ graph.new.failures }

@@ -47,7 +47,8 @@ impl Heap {
     /// Takes the newest commit.
     pub fn pop(&mut self) -> Option<Pending>
         ensures len { OnSome result (waiting_len self.old ≡ waiting_len self.new + 1) }
-        ensures taken { IfSome result (λ newest. (q : ObjectId) → waits_in self.old q ≡ (eq_by_cmp id_cmp q newest.id || waits_in self.new q)) }
+        ensures taken { IfSome result (λ newest. (q : ObjectId)
+            → waits_in self.old q ≡ (eq_by_cmp id_cmp q newest.id || waits_in self.new q)) }
         ensures none { IfNone result ((q : ObjectId) → waits_in self.old q ≡ false) }
     {
         self.waiting.pop()

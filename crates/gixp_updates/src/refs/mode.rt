@@ -139,7 +139,8 @@ fn are_commits(is_old_commit: bool, is_new_commit: bool) -> bool
 
 // Whether a ref may be set to an id, of which either isn't known to be a commit.
 fn is_free<O: Objects>(objects: &O, target: Target<'_>, old: &ObjectId) -> bool
-    ensures { result ≡ (target.entry.is_forced || is_tree_or_blob (kind_at (O.contents objects.now) old.now) || is_tree_or_blob (kind_at (O.contents objects.now) target.entry.id.now)) }
+    ensures { result ≡ (target.entry.is_forced || is_tree_or_blob (kind_at (O.contents objects.now) old.now) || is_tree_or_blob
+        (kind_at (O.contents objects.now) target.entry.id.now)) }
 {
     target.is_forced || is_tree_or_blob(objects, old) || is_tree_or_blob(objects, target.id)
 }
@@ -153,7 +154,9 @@ fn moved<O: Objects, P: Objects>(
     old: &ObjectId,
     most_commits: Option<usize>,
 ) -> Result<Mode, Error>
-    ensures mode { IfOk result (λ mode. Moves (O.contents objects.now) graph.old.graph.objects target.entry.is_forced target.entry.name.now old.now target.entry.id.now mode) }
+    ensures mode { IfOk result (λ mode. Moves
+        (O.contents objects.now) graph.old.graph.objects target.entry.is_forced target.entry.name.now old.now target.entry.id.now
+        mode) }
     ensures consults { Consults most_commits result graph.old graph.new }
 {
     if is_tag_name(target.name) {
@@ -209,7 +212,8 @@ fn by_old<O: Objects, P: Objects>(
     old: Option<ObjectId>,
     most_commits: Option<usize>,
 ) -> Result<Mode, Error>
-    ensures mode { IfOk result (λ mode. ByOld (O.contents objects.now) graph.old.graph.objects target.entry.is_forced target.entry.name.now old target.entry.id.now mode) }
+    ensures mode { IfOk result (λ mode. ByOld
+        (O.contents objects.now) graph.old.graph.objects target.entry.is_forced target.entry.name.now old target.entry.id.now mode) }
     ensures consults { Consults most_commits result graph.old graph.new }
 {
     let Some(old) = old else {
@@ -286,7 +290,8 @@ pub(crate) fn mode_of<R: RefStore, O: Objects, P: Objects>(
     wanted: Wanted,
     name: Option<&[u8]>,
 ) -> Result<Mode, Error>
-    ensures mode { IfOk result (λ mode. IsMode (local_of R.refs O.contents local.now graph.old.graph) wanted (option_copied name.entry) mode) }
+    ensures mode { IfOk result (λ mode. IsMode (local_of R.refs O.contents local.now graph.old.graph) wanted
+        (option_copied name.entry) mode) }
     ensures consults { Consults local.now.most_commits result graph.old graph.new }
 {
     let Some(name) = name else {

@@ -114,7 +114,9 @@ pub fn update<R: RefStore, O: Objects, P: Objects>(
     graph: &mut Graph<P>,
     options: &Options<'_>,
 ) -> Result<Vec<Update>, Error>
-    ensures updates { IfOk result (λ updates. AreUpdates (local_with R.refs O.contents refs.now objects.now options.now graph.old.graph) options.now.tags map.now.refspecs.items map.now.extra_refspecs.items map.now.mappings.items updates.items) }
+    ensures updates { IfOk result (λ updates.
+        AreUpdates (local_with R.refs O.contents refs.now objects.now options.now graph.old.graph) options.now.tags
+        map.now.refspecs.items map.now.extra_refspecs.items map.now.mappings.items updates.items) }
     ensures consults { Consults options.now.most_commits result graph.old graph.new }
 {
     let local = Local {

@@ -30,7 +30,8 @@ pub(crate) fn parents_of<O: Objects>(
     graph: &Graph<O>,
     id: &ObjectId,
 ) -> Result<Vec<ObjectId>, AllocError>
-    ensures { IfOk result (λ parents. IsSome (finite.get graph.now.graph.held id.now) → (c : Commit) → commit_at graph.now.graph.objects id.now ≡ Some c → parents.items ≡ c.parents) }
+    ensures { IfOk result (λ parents. IsSome (finite.get graph.now.graph.held id.now) → (c : Commit)
+        → commit_at graph.now.graph.objects id.now ≡ Some c → parents.items ≡ c.parents) }
 {
     let _held = graph.get(id);
     graph.parents(alloc, id)
@@ -61,7 +62,8 @@ impl Walk {
     pub fn pop(&mut self) -> Option<Pending>
         ensures seen { self.new.seen ≡ self.old.seen }
         ensures len { OnSome result (waiting_len self.old.heap ≡ waiting_len self.new.heap + 1) }
-        ensures taken { IfSome result (λ newest. (q : ObjectId) → waits_in self.old.heap q ≡ (eq_by_cmp id_cmp q newest.id || waits_in self.new.heap q)) }
+        ensures taken { IfSome result (λ newest. (q : ObjectId)
+            → waits_in self.old.heap q ≡ (eq_by_cmp id_cmp q newest.id || waits_in self.new.heap q)) }
         ensures none { IfNone result ((q : ObjectId) → waits_in self.old.heap q ≡ false) }
     {
         self.heap.pop()
@@ -71,7 +73,8 @@ impl Walk {
     fn note(&mut self, id: &ObjectId) -> Result<bool, AllocError>
         ensures heap { self.new.heap ≡ self.old.heap }
         ensures added { IfOk result (λ added. tree.contains id_cmp self.old.seen id.now ≡ not added) }
-        ensures ok { OnOk result ((q : ObjectId) → tree.contains id_cmp self.new.seen q ≡ (eq_by_cmp id_cmp id.now q || tree.contains id_cmp self.old.seen q)) }
+        ensures ok { OnOk result ((q : ObjectId) → tree.contains id_cmp self.new.seen q
+            ≡ (eq_by_cmp id_cmp id.now q || tree.contains id_cmp self.old.seen q)) }
         ensures err { OnErr result ((q : ObjectId) → tree.contains id_cmp self.new.seen q ≡ tree.contains id_cmp self.old.seen q) }
     {
         match self.seen.insert(*id) {
@@ -88,7 +91,8 @@ impl Walk {
     ) -> Result<(), ObjectError>
         ensures explores { OnOk result (Explores graph.old.graph.objects (id.now ∷ []) (search_of self.old) (search_of self.new)) }
         ensures more { SeesMore (id.now ∷ []) (search_of self.old) (search_of self.new) }
-        ensures holds { OnOk result (HoldsWaiting graph.old.graph (search_of self.old) → HoldsWaiting graph.new.graph (search_of self.new)) }
+        ensures holds { OnOk result (HoldsWaiting graph.old.graph (search_of self.old)
+            → HoldsWaiting graph.new.graph (search_of self.new)) }
         ensures graph { LooksUp graph.old.graph graph.new.graph }
         ensures asked { KeepsAsked graph.old.graph (search_of self.old) (search_of self.new) graph.old.asked graph.new.asked }
         ensures unrefused { OnOk result (graph.new.refusals ≡ graph.old.refusals) }
@@ -118,7 +122,8 @@ impl Walk {
     ) -> Result<(), ObjectError>
         ensures explores { OnOk result (Explores graph.old.graph.objects ids.now (search_of self.old) (search_of self.new)) }
         ensures more { SeesMore ids.now (search_of self.old) (search_of self.new) }
-        ensures holds { OnOk result (HoldsWaiting graph.old.graph (search_of self.old) → HoldsWaiting graph.new.graph (search_of self.new)) }
+        ensures holds { OnOk result (HoldsWaiting graph.old.graph (search_of self.old)
+            → HoldsWaiting graph.new.graph (search_of self.new)) }
         ensures graph { LooksUp graph.old.graph graph.new.graph }
         ensures asked { KeepsAsked graph.old.graph (search_of self.old) (search_of self.new) graph.old.asked graph.new.asked }
         ensures unrefused { OnOk result (graph.new.refusals ≡ graph.old.refusals) }

@@ -8,5 +8,6 @@ use Rattle.gixp_capabilities.proofs.capabilities.has_word.Goals as goal
 pub returns : goal.returns
 returns c =
     any_from_yields_List (λ w. is_text w c.args.word.now) _ _ _ c.any.ensures.ran
-    (YieldsList-from_slice_split _ _ c.args.text.now c.split.ensures.rest c.split.ensures.done c.split.ensures.closure (λ x r q k. search (rules, tests)))
+    (YieldsList-from_slice_split _ _ c.args.text.now c.split.ensures.rest c.split.ensures.done c.split.ensures.closure
+    (λ x r q k. search (rules, tests)))
     (λ x b q k. search (rules, tests))

@@ -3,7 +3,8 @@ use Rattle.gixp_listing.proofs.ListLemmas.{printed-more, printed-refused}
 use Rattle.gixp_listing.proofs.list.print_refs.Goals as goal
 
 pub returns-in_err-found : goal.returns-in_err-found
-returns-in_err-found g c = let p = err_from_is_err_and c.from_residual.result c.from_residual.ensures.1 in rw (p.1, p.2) (printed-refused _ _ _ _ _ c.in_err-found.field-0.0 c.loop-text.invariant c.in_err-found.ensures.answer)
+returns-in_err-found g c = let p = err_from_is_err_and c.from_residual.result c.from_residual.ensures.1 in
+    rw (p.1, p.2) (printed-refused _ _ _ _ _ c.in_err-found.field-0.0 c.loop-text.invariant c.in_err-found.ensures.answer)
 
 pub loop-text-preserved : goal.loop-text-preserved
 loop-text-preserved g c =

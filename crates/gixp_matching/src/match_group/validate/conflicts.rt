@@ -108,7 +108,8 @@ fn push_conflict(
     group: &[&Mapping],
     issues: &mut Vec<Issue>,
 ) -> Result<(), AllocError>
-    ensures { OnOk result (conflicts_in issues.new ≡ conflicts_in issues.old ++ conflict_over (values specs.now) name.now (mapped_behind group.now)) }
+    ensures { OnOk result (conflicts_in issues.new ≡ conflicts_in issues.old
+        ++ conflict_over (values specs.now) name.now (mapped_behind group.now)) }
 {
     if differ(group) {
         issues.push(conflict(alloc, specs, name, group)?)?;

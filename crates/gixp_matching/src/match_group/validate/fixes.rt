@@ -51,7 +51,8 @@ fn push_fix(
     mapping: &Mapping,
     found: &mut Vec<Fix>,
 ) -> Result<(), AllocError>
-    ensures { OnOk result (fixes_in found.new ≡ fixes_in found.old ++ map (removed_at (values specs.now)) (filter is_partial (mapped_of mapping.now ∷ []))) }
+    ensures { OnOk result (fixes_in found.new ≡ fixes_in found.old
+        ++ map (removed_at (values specs.now)) (filter is_partial (mapped_of mapping.now ∷ []))) }
 {
     match &mapping.rhs {
         None => Ok(()),

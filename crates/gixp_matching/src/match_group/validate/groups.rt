@@ -13,8 +13,10 @@ pub(crate) type Groups<'a> = BTreeMap<&'a [u8], Vec<&'a Mapping>>;
 
 /// Puts a mapping after the others of its local name, where it has one.
 fn push<'a>(alloc: Global, groups: &mut Groups<'a>, mapping: &'a Mapping) -> Result<(), AllocError>
-    ensures names { OnOk result ((name : List ℕ) → is_some (at_name groups.new name) ≡ (is_some (at_name groups.old name) || has_local name (mapped_of mapping.now))) }
-    ensures groups { OnOk result ((name : List ℕ) → group_at groups.new name ≡ group_at groups.old name ++ of_local name (mapped_of mapping.now ∷ [])) }
+    ensures names { OnOk result ((name : List ℕ)
+        → is_some (at_name groups.new name) ≡ (is_some (at_name groups.old name) || has_local name (mapped_of mapping.now))) }
+    ensures groups { OnOk result ((name : List ℕ) → group_at groups.new name ≡ group_at groups.old name
+        ++ of_local name (mapped_of mapping.now ∷ [])) }
 {
     if let Some(name) = &mapping.rhs {
         let name = name.as_bytes();

@@ -11,5 +11,7 @@ returns-then-max-lt16 c =
     let ld : c.digit_value-d.result < 16 = omega arith in
     rw (c.from.ensures, c.from-then-max-lt16.ensures, c.from-then-max-lt16-2.ensures, c.from-then-max-lt16-3.ensures)
     (four_read c.args.digits.now c.digit_value-a.result c.digit_value-b.result c.digit_value-c.result c.digit_value-d.result c.requires
-    (digit_reads (slice_index c.args.digits.now 0) c.digit_value-a.result c.digit_value-a.ensures la) (digit_reads (slice_index c.args.digits.now 1) c.digit_value-b.result c.digit_value-b.ensures lb) (digit_reads (slice_index c.args.digits.now 2) c.digit_value-c.result c.digit_value-c.ensures lc)
+    (digit_reads (slice_index c.args.digits.now 0) c.digit_value-a.result c.digit_value-a.ensures la)
+    (digit_reads (slice_index c.args.digits.now 1) c.digit_value-b.result c.digit_value-b.ensures lb)
+    (digit_reads (slice_index c.args.digits.now 2) c.digit_value-c.result c.digit_value-c.ensures lc)
     (digit_reads (slice_index c.args.digits.now 3) c.digit_value-d.result c.digit_value-d.ensures ld) la lb lc ld)

@@ -20,5 +20,12 @@ returns-in-Data c =
     let step = by_head c.args.bytes.now (Data c.in-Data.size) c.in-Data.ensures in
     let fits = fits_by c.args.bytes.now (Data c.in-Data.size) c.in-Data.ensures in
     let text = c.split_at-in-Data-2.ensures.back ∙ ap (drop 4) c.split_at-in-Data.ensures.front in
-    let size = payload_size c.args.bytes.now _ c.in-Data.size (omega (arith, fits.0)) (omega (arith, fits.1)) text in
-    (rw (c.split_at-in-Data-2.ensures.back, c.split_at-in-Data.ensures.front, c.split_at-in-Data.ensures.back) step, omega (arith, c.split_at-in-Data.ensures.back_len, fits), rest_is c.args.bytes.now _ c.in-Data.size _ size c.split_at-in-Data.ensures.back)
+    let size = payload_size c.args.bytes.now _ c.in-Data.size (omega (arith, fits.0)) (omega (arith, fits.1)) text in (
+      rw (c.split_at-in-Data-2.ensures.back, c.split_at-in-Data.ensures.front, c.split_at-in-Data.ensures.back) step,
+      omega (
+        arith,
+        c.split_at-in-Data.ensures.back_len,
+        fits,
+      ),
+      rest_is c.args.bytes.now _ c.in-Data.size _ size c.split_at-in-Data.ensures.back,
+    )

@@ -93,7 +93,8 @@ fn put(targets: &mut Targets, name: BString, target: Option<BString>) -> Result<
 
 // The target of the symref of this name, if there is one and it is told.
 pub(crate) fn target_of<'a>(targets: &'a Targets, name: &BString) -> Option<&'a BString>
-    ensures { option_map (λ s. bstring_bytes s.now) result ≡ told_target (symref_named (symref_values targets.now.entries) (bstring_bytes name.now)) }
+    ensures { option_map (λ s. bstring_bytes s.now) result
+        ≡ told_target (symref_named (symref_values targets.now.entries) (bstring_bytes name.now)) }
 {
     match targets.get(name) {
         Some(target) => target.as_ref(),

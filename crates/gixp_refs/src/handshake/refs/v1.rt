@@ -172,7 +172,8 @@ impl Advertised {
 
     // Takes in one more line. What it is after a refusal is left open.
     pub(crate) fn add(&mut self, alloc: Global, targets: &Targets, line: &[u8]) -> Result<(), Error>
-        ensures { AnswersRefs (λ _. so_far_value self.new) (with_text (symref_values targets.now.entries) (so_far_value self.old) line.now) result }
+        ensures { AnswersRefs (λ _. so_far_value self.new)
+            (with_text (symref_values targets.now.entries) (so_far_value self.old) line.now) result }
     {
         self.add_line(alloc, targets, read_line(alloc, line)?)
     }
@@ -183,7 +184,8 @@ impl Advertised {
         targets: &Targets,
     ) -> Result<(Vec<Ref>, Vec<ShallowUpdate>), Error>
         ensures { MatchResult result
-            (λ found. (map ref_value found.0.items ≡ (so_far_value self).refs ++ closed (symref_values targets.now.entries) (so_far_value self).open_line) × (found.1.items ≡ (so_far_value self).updates))
+            (λ found. (map ref_value found.0.items ≡ (so_far_value self).refs ++ closed (symref_values targets.now.entries)
+            (so_far_value self).open_line) × (found.1.items ≡ (so_far_value self).updates))
             (λ e. e ≡ Memory) }
     {
         self.close(targets)?;
@@ -196,7 +198,8 @@ impl Advertised {
     }
 
     fn add_line(&mut self, alloc: Global, targets: &Targets, line: Line<'_>) -> Result<(), Error>
-        ensures { AnswersRefs (λ _. so_far_value self.new) (with_line (symref_values targets.now.entries) (so_far_value self.old) (line_of line.entry)) result }
+        ensures { AnswersRefs (λ _. so_far_value self.new)
+            (with_line (symref_values targets.now.entries) (so_far_value self.old) (line_of line.entry)) result }
     {
         match line {
             Line::Nothing => Ok(()),
@@ -217,7 +220,8 @@ impl Advertised {
         object: ObjectId,
         name: &[u8],
     ) -> Result<(), Error>
-        ensures { AnswersRefs (λ _. so_far_value self.new) (with_line (symref_values targets.now.entries) (so_far_value self.old) (names object.bytes name.now)) result }
+        ensures { AnswersRefs (λ _. so_far_value self.new)
+            (with_line (symref_values targets.now.entries) (so_far_value self.old) (names object.bytes name.now)) result }
     {
         let name = BString::from_slice(alloc, name)?;
         self.close(targets)?;
@@ -227,7 +231,8 @@ impl Advertised {
 
     // The ref line that is open stays without a peeled line.
     fn close(&mut self, targets: &Targets) -> Result<(), Error>
-        ensures { MatchResult result (λ _. so_far_value self.new ≡ with_closed (symref_values targets.now.entries) (so_far_value self.old)) (λ e. e ≡ Memory) }
+        ensures { MatchResult result (λ _. so_far_value self.new ≡ with_closed (symref_values targets.now.entries)
+            (so_far_value self.old)) (λ e. e ≡ Memory) }
     {
         match self.last.take() {
             None => Ok(()),
@@ -237,7 +242,8 @@ impl Advertised {
 
     // A peeled line.
     fn peel(&mut self, targets: &Targets, left: &[u8], base: &[u8]) -> Result<(), Error>
-        ensures { AnswersRefs (λ _. so_far_value self.new) (with_pair (so_far_value self.old) (pair (symref_values targets.now.entries) (so_far_value self.old).open_line left.now base.now)) result }
+        ensures { AnswersRefs (λ _. so_far_value self.new) (with_pair (so_far_value self.old)
+            (pair (symref_values targets.now.entries) (so_far_value self.old).open_line left.now base.now)) result }
     {
         match self.last.take() {
             None => Err(Error::InvariantViolation {

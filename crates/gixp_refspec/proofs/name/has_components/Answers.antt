@@ -8,5 +8,6 @@ use Rattle.gixp_refspec.proofs.name.has_components.Goals as goal
 pub returns : goal.returns
 returns c =
     all_from_yields_List is_component _ _ _ c.all.ensures.ran
-    (YieldsList-from_slice_split _ _ c.args.name.now c.split.ensures.rest c.split.ensures.done c.split.ensures.closure (λ x r q k. search (rules, tests)))
+    (YieldsList-from_slice_split _ _ c.args.name.now c.split.ensures.rest c.split.ensures.done c.split.ensures.closure
+    (λ x r q k. search (rules, tests)))
     (λ x b q k. search (rules, tests))

@@ -7,7 +7,8 @@ use Rattle.gixp_refspec.proofs.needle.between.Goals as goal
 
 pub returns-in-None : goal.returns-in-None
 returns-in-None c =
-    sym (between_none c.args.front.now c.args.back.now c.args.name.now (λ m. strip_prefix_is Decides-eqb c.args.name.now c.args.front.now None c.in-None.ensures.cases _))
+    sym (between_none c.args.front.now c.args.back.now c.args.name.now
+    (λ m. strip_prefix_is Decides-eqb c.args.name.now c.args.front.now None c.in-None.ensures.cases _))
 
 pub returns-in-Some : goal.returns-in-Some
 returns-in-Some c =

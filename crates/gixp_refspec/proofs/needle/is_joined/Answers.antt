@@ -20,5 +20,6 @@ pub returns-in-Some-strip_prefix : goal.returns-in-Some-strip_prefix
 returns-in-Some-strip_prefix c =
     with_back c.args.name.now c.args.front.now c.in-Some.rest.now c.args.middle.now c.in-Some-strip_prefix.rest.now c.args.back.now _
     (strip_prefix_is Decides-eqb c.args.name.now c.args.front.now (Some c.in-Some.rest) c.in-Some.ensures.cases)
-    (strip_prefix_is Decides-eqb c.in-Some.rest.now c.args.middle.now (Some c.in-Some-strip_prefix.rest) c.in-Some-strip_prefix.ensures.cases)
+    (strip_prefix_is Decides-eqb c.in-Some.rest.now c.args.middle.now
+    (Some c.in-Some-strip_prefix.rest) c.in-Some-strip_prefix.ensures.cases)
     c.eq.ensures

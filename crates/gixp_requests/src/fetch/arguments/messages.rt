@@ -53,7 +53,8 @@ pub(crate) fn sent_features(alloc: Global, features: &[Feature]) -> Result<Vec<B
 
 // Appends a message.
 fn push<'a>(messages: &mut Vec<Message<'a>>, message: Message<'a>) -> Result<(), AllocError>
-    ensures { OnOk result (map message_value messages.new.items ≡ map message_value messages.old.items ++ message_value message.entry ∷ []) }
+    ensures { OnOk result (map message_value messages.new.items ≡ map message_value messages.old.items
+        ++ message_value message.entry ∷ []) }
 {
     messages.push(message)?;
     Ok(())
@@ -61,7 +62,8 @@ fn push<'a>(messages: &mut Vec<Message<'a>>, message: Message<'a>) -> Result<(),
 
 // Appends lines.
 fn push_lines<'a>(messages: &mut Vec<Message<'a>>, lines: &'a [BString]) -> Result<(), AllocError>
-    ensures { OnOk result (map message_value messages.new.items ≡ map message_value messages.old.items ++ map text (map bstring_bytes lines.now)) }
+    ensures { OnOk result (map message_value messages.new.items ≡ map message_value messages.old.items
+        ++ map text (map bstring_bytes lines.now)) }
 {
     for line in lines {
         push(messages, Message::Line(line.as_bytes()))?;
@@ -74,7 +76,8 @@ fn command_messages<'a>(
     alloc: Global,
     features: &'a [BString],
 ) -> Result<Vec<Message<'a>>, AllocError>
-    ensures { IfOk result (λ messages. map message_value messages.items ≡ map text (command_lines (codes "fetch") (map bstring_bytes features.now)) ++ delimiter ∷ []) }
+    ensures { IfOk result (λ messages. map message_value messages.items
+        ≡ map text (command_lines (codes "fetch") (map bstring_bytes features.now)) ++ delimiter ∷ []) }
 {
     let mut messages = Vec::with_capacity(alloc, features.len().saturating_add(2))?;
     push(&mut messages, Message::Line(b"command=fetch"))?;
@@ -104,8 +107,10 @@ pub(crate) fn send_command<T: Transport>(
 ) -> Result<(), Error>
     requires { done ≡ false → 0 < length haves.now }
     ensures { Sends (T.reading transport.old) (T.reading transport.new)
-        (command_fits (codes "fetch") (map bstring_bytes features.now) (fetch_arguments (map bstring_bytes lines.now) (map bstring_bytes haves.now) done))
-        (texts_of (command_frames (codes "fetch") (map bstring_bytes features.now) (fetch_arguments (map bstring_bytes lines.now) (map bstring_bytes haves.now) done))) result }
+        (command_fits (codes "fetch") (map bstring_bytes features.now)
+        (fetch_arguments (map bstring_bytes lines.now) (map bstring_bytes haves.now) done))
+        (texts_of (command_frames (codes "fetch") (map bstring_bytes features.now)
+        (fetch_arguments (map bstring_bytes lines.now) (map bstring_bytes haves.now) done))) result }
 {
     let messages = command_messages(alloc, features)?;
     transport.request_with_lines(&messages, lines, haves, command_end(done))
@@ -147,7 +152,8 @@ fn front<'a>(
 
 // Appends a flush, where there are lines.
 fn push_flush<'a>(messages: &mut Vec<Message<'a>>, lines: &[BString]) -> Result<(), AllocError>
-    ensures { OnOk result (map message_value messages.new.items ≡ map message_value messages.old.items ++ flush_behind (map bstring_bytes lines.now)) }
+    ensures { OnOk result (map message_value messages.new.items ≡ map message_value messages.old.items
+        ++ flush_behind (map bstring_bytes lines.now)) }
 {
     if lines.is_empty() {
         return Ok(());
@@ -172,7 +178,8 @@ pub(crate) fn upload_messages<'a>(
     haves: &'a [BString],
     done: bool,
 ) -> Result<Vec<Message<'a>>, AllocError>
-    ensures { IfOk result (λ messages. map message_value messages.items ≡ upload_values (map bstring_bytes lines.now) (map bstring_bytes haves.now) done) }
+    ensures { IfOk result (λ messages. map message_value messages.items ≡ upload_values (map bstring_bytes lines.now)
+        (map bstring_bytes haves.now) done) }
 {
     let capacity = lines.len().saturating_add(haves.len()).saturating_add(2);
     let mut messages = front(alloc, lines, capacity)?;

@@ -81,7 +81,8 @@ fn push_if_on(
     include_tag: bool,
     deepen_relative: bool,
 ) -> Result<(), AllocError>
-    ensures { OnOk result (line.new.items ≡ line.old.items ++ spaced (texts_on include_tag deepen_relative (feature_value feature.now ∷ []))) }
+    ensures { OnOk result (line.new.items ≡ line.old.items
+        ++ spaced (texts_on include_tag deepen_relative (feature_value feature.now ∷ []))) }
 {
     if is_on(feature, include_tag, deepen_relative) {
         line.push(b' ')?;
@@ -132,7 +133,8 @@ fn spaced_features(
     deepen_relative: bool,
     added: &[BString],
 ) -> Result<Vec<u8>, AllocError>
-    ensures { IfOk result (λ text. text.items ≡ spaced (texts_on include_tag deepen_relative (feature_values features.now) ++ map bstring_bytes added.now)) }
+    ensures { IfOk result (λ text. text.items
+        ≡ spaced (texts_on include_tag deepen_relative (feature_values features.now) ++ map bstring_bytes added.now)) }
 {
     let mut text = Vec::new(alloc);
     push_on(&mut text, features, include_tag, deepen_relative)?;
@@ -148,7 +150,8 @@ pub(crate) fn features_text(
     deepen_relative: bool,
     added: &[BString],
 ) -> Result<Vec<u8>, AllocError>
-    ensures { IfOk result (λ text. text.items ≡ behind_blank (texts_on include_tag deepen_relative (feature_values features.now) ++ map bstring_bytes added.now)) }
+    ensures { IfOk result (λ text. text.items
+        ≡ behind_blank (texts_on include_tag deepen_relative (feature_values features.now) ++ map bstring_bytes added.now)) }
 {
     let text = spaced_features(alloc, features, include_tag, deepen_relative, added)?;
     if text.is_empty() {

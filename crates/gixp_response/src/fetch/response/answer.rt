@@ -35,7 +35,12 @@ impl Model for Response {
 
     ghost Value = { AnswerValue };
 
-    ghost view = { λ r. record { acknowledgements = r.acknowledgements.items; shallow_updates = r.shallow_updates.items; wanted_refs = map wanted_value r.wanted_refs.items; pack = r.has_pack } };
+    ghost view = { λ r. record {
+      acknowledgements = r.acknowledgements.items;
+      shallow_updates = r.shallow_updates.items;
+      wanted_refs = map wanted_value r.wanted_refs.items;
+      pack = r.has_pack;
+    } };
 }
 
 impl Clone for Response {
@@ -81,8 +86,10 @@ impl Response {
         wants_to_negotiate: bool,
     ) -> Result<Response, Error>
         ensures answers { MatchResult result
-            (Answered (answer_of version (expected client_expects_pack wants_to_negotiate)) version (R.reading reader.old) (R.reading reader.new))
-            (AnswerFails (answer_of version (expected client_expects_pack wants_to_negotiate)) R.is_plain (R.reading reader.old) (R.reading reader.new)) }
+            (Answered (answer_of version (expected client_expects_pack wants_to_negotiate)) version (R.reading reader.old)
+            (R.reading reader.new))
+            (AnswerFails (answer_of version (expected client_expects_pack wants_to_negotiate)) R.is_plain (R.reading reader.old)
+            (R.reading reader.new)) }
         ensures held { (R.reading reader.new).held ≡ (R.reading reader.old).held }
         ensures version { (R.reading reader.new).version ≡ version }
         ensures goes_on { UnlessAnswerInterrupted result (R.goes_on reader.old reader.new) }

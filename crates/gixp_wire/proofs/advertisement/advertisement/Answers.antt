@@ -12,7 +12,8 @@ returns-in-Ok-true g c =
     let old = packets_reading g.R.Read.remaining c.args.packets.now in
     let reset = subst (Steps advertisement advertisement [] old) (sym c.reset.ensures.reading) (reset-steps advertisement old V0) in
     let k = rw c.in-Ok-true.field-0-test at c.in-Ok-true.ensures.peeks in
-    advertises-then _ _ TakesFirst TakesFirst [] _ _ _ _ (λ v ts h. h) reset (advertises-then _ _ TakesFirst TakesFirst [] _ _ _ _ (λ v ts h. h) (shows-steps advertisement _ _ k) c.by_first_line.ensures)
+    advertises-then _ _ TakesFirst TakesFirst [] _ _ _ _ (λ v ts h. h) reset
+    (advertises-then _ _ TakesFirst TakesFirst [] _ _ _ _ (λ v ts h. h) (shows-steps advertisement _ _ k) c.by_first_line.ensures)
 
 pub returns-in-Ok-false : goal.returns-in-Ok-false
 returns-in-Ok-false g c =
@@ -30,5 +31,6 @@ returns-in-Err g c =
     let reset = subst (Steps advertisement advertisement [] old) (sym c.reset.ensures.reading) (reset-steps advertisement old V0) in
     let version = ap (λ (r : Reading). r.version) c.reset.ensures.reading in
     advertises-then advertisement advertisement TakesFirst TakesFirst [] old _ _ (Err c.from.result) (λ v ts h. h) reset
-    (fails-reading advertisement TakesFirst _ _ _ _ (subst (λ v. TakesFirst v []) (sym version) refl) c.in-Err.ensures.peeks (c.in-Err.ensures.plain refl) c.from.ensures
+    (fails-reading advertisement TakesFirst _ _ _ _ (subst (λ v. TakesFirst v []) (sym version) refl) c.in-Err.ensures.peeks
+    (c.in-Err.ensures.plain refl) c.from.ensures
     (λ p n. ap (by_first p) (ap (λ v. next_of v p) (sym version) ∙ n)))

@@ -4,4 +4,5 @@ use Rattle.gixp_wire.specs.Message.{text, message_value}
 use Rattle.gixp_wire.proofs.command.push_lines.Given as goal
 
 abbrev pub invariant-loop-line : goal.invariant-loop-line
-invariant-loop-line l = map message_value l.messages.items ≡ map message_value l.fn.messages.items ++ map text (map bstring_bytes (take l.line-index l.lines))
+invariant-loop-line l = map message_value l.messages.items ≡ map message_value l.fn.messages.items
+    ++ map text (map bstring_bytes (take l.line-index l.lines))

@@ -9,4 +9,5 @@ use Rattle.gixp_capabilities.proofs.capabilities.Capabilities.capability.Goals a
 pub returns : goal.returns
 returns c =
     find_from_yields_List (is_named c.args.name.now) c.find.new.self _ _ c.find.ensures.ran
-    (YieldsList-from_first capability_value capabilities_left {s = c.iter.result} c.args.self.now c.iter.ensures) (λ x b q k. search (rules, tests))
+    (YieldsList-from_first capability_value capabilities_left {s = c.iter.result} c.args.self.now c.iter.ensures)
+    (λ x b q k. search (rules, tests))

@@ -9,4 +9,5 @@ use Rattle.gixp_capabilities.proofs.capabilities.Capabilities.contains.Goals as 
 pub returns : goal.returns
 returns c =
     any_from_yields_List (is_named c.args.name.now) c.any.new.self _ _ c.any.ensures.ran
-    (YieldsList-from_first capability_value capabilities_left {s = c.iter.result} c.args.self.now c.iter.ensures) (λ x b q k. search (rules, tests))
+    (YieldsList-from_first capability_value capabilities_left {s = c.iter.result} c.args.self.now c.iter.ensures)
+    (λ x b q k. search (rules, tests))

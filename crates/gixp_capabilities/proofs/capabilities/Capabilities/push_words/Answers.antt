@@ -6,8 +6,10 @@ use Rattle.gixp_capabilities.proofs.capabilities.Capabilities.push_words.Goals a
 pub loop-rest-preserved-in_ok-push : goal.loop-rest-preserved-in_ok-push
 loop-rest-preserved-in_ok-push c =
     rw c.in_ok-push.ensures.ok
-    (word_more _ _ c.in-Some.text.now c.cut.result.0.now c.cut.result.1 c.cut.ensures (search (rules, tests)) (rw c.in-Some.is at c.loop-rest.invariant))
+    (word_more _ _ c.in-Some.text.now c.cut.result.0.now c.cut.result.1 c.cut.ensures (search (rules, tests))
+    (rw c.in-Some.is at c.loop-rest.invariant))
 
 pub loop-rest-preserved : goal.loop-rest-preserved
 loop-rest-preserved c =
-    word_none _ _ c.in-Some.text.now c.cut.result.0.now c.cut.result.1 c.cut.ensures (search (rules, tests)) (rw c.in-Some.is at c.loop-rest.invariant)
+    word_none _ _ c.in-Some.text.now c.cut.result.0.now c.cut.result.1 c.cut.ensures (search (rules, tests))
+    (rw c.in-Some.is at c.loop-rest.invariant)

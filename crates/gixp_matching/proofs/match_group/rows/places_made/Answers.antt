@@ -14,12 +14,16 @@ rules-init c = λ all table place. no_places all c.new-places.result place c.new
 pub rules-preserved : goal.rules-preserved
 rules-preserved c = λ all table place.
     let f : Bor (List ℕ) × Bor (List ℕ) → List ℕ = λ rule. joined c.args.short.now (rule_of rule) in
-    places_more all (take c.rules.front-index (map f c.args.rules.now)) _ c.args.rows.now c.rows_named-run.result.now c.rules.places c.add_places.new.places table (c.rules.invariant all table)
-    (c.rows_named-run.ensures ∙ ap (λ name. filter (is_row_of name) c.args.rows.now) (c.as_bytes.ensures ∙ c.in_ok-name.ensures)) c.in_ok-add_places.ensures place
+    places_more all (take c.rules.front-index
+    (map f c.args.rules.now)) _ c.args.rows.now c.rows_named-run.result.now c.rules.places c.add_places.new.places table
+    (c.rules.invariant all table)
+    (c.rows_named-run.ensures ∙ ap (λ name. filter (is_row_of name) c.args.rows.now)
+    (c.as_bytes.ensures ∙ c.in_ok-name.ensures)) c.in_ok-add_places.ensures place
     ∙ ap (λ texts. has_place place (meant all texts)) (sym (take-map_more f c.args.rules.now c.rules.front-index _ c.rules-test.true))
 
 pub returns : goal.returns
 returns c =
     let f : Bor (List ℕ) × Bor (List ℕ) → List ℕ = λ rule. joined c.args.short.now (rule_of rule) in
     let all : length (map f c.args.rules.now) ≤ c.rules.front-index = omega (arith, length-map c.args.rules.now f) in
-    subst (λ texts. HasPlaces texts c.args.rows.now c.rules.places) (take_all c.rules.front-index (map f c.args.rules.now) all) c.rules.invariant
+    subst (λ texts. HasPlaces texts c.args.rows.now c.rules.places)
+    (take_all c.rules.front-index (map f c.args.rules.now) all) c.rules.invariant

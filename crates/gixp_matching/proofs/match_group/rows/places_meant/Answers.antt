@@ -10,5 +10,6 @@ pub returns : goal.returns
 unfolding candidates
 returns c =
     IfOk-weaker c.in_order.result _ _
-    (λ list h. subst (ArePlaces (candidates c.args.short.now) c.args.rows.now) (sym h) (places_are (candidates c.args.short.now) c.args.rows.now _ c.in_order.ensures.ordered c.in_ok-places.ensures))
+    (λ list h. subst (ArePlaces (candidates c.args.short.now) c.args.rows.now) (sym h)
+    (places_are (candidates c.args.short.now) c.args.rows.now _ c.in_order.ensures.ordered c.in_ok-places.ensures))
     c.in_order.ensures.same

@@ -7,4 +7,6 @@ use Rattle.gixp_matching.proofs.match_group.rows.rows_of.Goals as goal
 
 pub items-preserved : goal.items-preserved
 items-preserved c =
-    listed name_of _ (map shown c.items.rows.items) (map shown c.push_row.new.rows.items) c.args.items.now c.items.place _ c.items-test.true c.items.invariant c.in_ok-push_row.ensures
+    listed name_of _ (map shown c.items.rows.items)
+    (map shown c.push_row.new.rows.items) c.args.items.now c.items.place _ c.items-test.true c.items.invariant
+    c.in_ok-push_row.ensures

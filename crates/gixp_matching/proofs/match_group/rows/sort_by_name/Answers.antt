@@ -9,4 +9,5 @@ returns-clause-order c = c.in_ok-sort_by_key.ensures.sorted (λ row. row.name) (
 
 pub returns-clause-same : goal.returns-clause-same
 returns-clause-same c =
-    named_stays c.args.rows.now.items c.sort_by_key.new.self.items (c.in_ok-sort_by_key.ensures.stable (λ row. row.name) (always_returns_same _ _ _ (λ a r q k. search rules)))
+    named_stays c.args.rows.now.items c.sort_by_key.new.self.items
+    (c.in_ok-sort_by_key.ensures.stable (λ row. row.name) (always_returns_same _ _ _ (λ a r q k. search rules)))

@@ -9,4 +9,5 @@ pub digests_differ-requires : goal.digests_differ-requires
 digests_differ-requires g c = subst (λ l. AreDigests (eq_by_cmp g.K.Ord.cmp) l c.args.digests.items) (sym c.deref.ensures.value) c.requires
 
 pub returns-then-branch : goal.returns-then-branch
-returns-then-branch g c = λ t. subst (IsDistinct (eq_by_cmp g.K.Ord.cmp)) c.deref.ensures.value (c.in_ok-digests_differ.ensures c.if-branch.true)
+returns-then-branch g c =
+    λ t. subst (IsDistinct (eq_by_cmp g.K.Ord.cmp)) c.deref.ensures.value (c.in_ok-digests_differ.ensures c.if-branch.true)

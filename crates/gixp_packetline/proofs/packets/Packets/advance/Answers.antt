@@ -75,5 +75,7 @@ returns-else-is_server_error-clause-spends g c =
     let size = c.in-Ok-Data.size in
     let mid = c.settle.new.self in
     let fits = front_fits mid.window.pending (Data size) (sym h.front) in
-    line_spent size mid.reads_left (reads_and_bytes c.args.self.now) mid.window.pending c.take_line.new.self.pending c.take_line.new.self.lent
-    (omega (arith, fits.0)) (omega (arith, fits.1)) (ap (λ (w : Shown). w.lent) c.take_line.ensures) (ap (λ (w : Shown). w.pending) c.take_line.ensures) h.reads
+    line_spent size mid.reads_left
+    (reads_and_bytes c.args.self.now) mid.window.pending c.take_line.new.self.pending c.take_line.new.self.lent
+    (omega (arith, fits.0)) (omega (arith, fits.1)) (ap (λ (w : Shown). w.lent) c.take_line.ensures)
+    (ap (λ (w : Shown). w.pending) c.take_line.ensures) h.reads

@@ -8,4 +8,5 @@ returns-in-Peeked-clause-peeks g c = peeks_again g.R.Read.remaining c.args.self.
 pub returns-in-Ok-true-clause-peeks : goal.returns-in-Ok-true-clause-peeks
 returns-in-Ok-true-clause-peeks g c =
     let h = rw c.in-Ok-true.field-0-test at c.in-Ok-true.ensures.reads in
-    peeks_line g.R.Read.remaining c.args.self.now c.advance.new.self h (c.advance.ensures.open (c.in-Ok-true.is ∙ ap Ok c.in-Ok-true.field-0-test))
+    peeks_line g.R.Read.remaining c.args.self.now c.advance.new.self h
+    (c.advance.ensures.open (c.in-Ok-true.is ∙ ap Ok c.in-Ok-true.field-0-test))

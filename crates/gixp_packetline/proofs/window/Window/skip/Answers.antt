@@ -9,5 +9,6 @@ returns c =
     let i = c.self.inside in
     let fits = rw (← c.self.view_is) at c.requires in
     let cap : length i.bytes.items ≡ 65520 = omega arith in
-    rw (← c.self.view_is) (ap (λ (l : List ℕ). let s : Shown = record { pending = l; lent = slice_range i.bytes.items i.line_start i.line_end } in s)
+    rw (← c.self.view_is) (ap (λ (l : List ℕ). let s : Shown =
+    record { pending = l; lent = slice_range i.bytes.items i.line_start i.line_end } in s)
     (range_skipped i.bytes.items i.start i.end c.args.amount c.self.invariant.1 (omega arith) fits))

@@ -8,5 +8,6 @@ use Rattle.gixp_refmap.proofs.ls_refs.prefixes.prefix_lines.Goals as goal
 
 pub prefixes-preserved : goal.prefixes-preserved
 prefixes-preserved c =
-    mapped_more bstring_bytes prefix_line (texts c.prefixes.lines) (texts c.push_line.new.lines) c.args.prefixes.now c.prefixes.prefix-index c.prefix-item.result c.prefix-item.is
+    mapped_more bstring_bytes prefix_line (texts c.prefixes.lines)
+    (texts c.push_line.new.lines) c.args.prefixes.now c.prefixes.prefix-index c.prefix-item.result c.prefix-item.is
     c.prefixes-test.true c.prefixes.invariant (c.in_ok-push_line.ensures ∙ ap (λ t. texts c.prefixes.lines ++ t ∷ []) c.in_ok-line.ensures)

@@ -25,14 +25,17 @@ returns-clause-filtered c =
     let specs = joined_specs c.args.explicit.now c.args.extra.now in
     let refs = map ref_value c.args.refs.now in
     let h : Maps specs (length c.args.explicit.now) refs (Ok (c.in_ok-mappings.mappings, c.in_ok-outcome-2.fixes)) = search rules in
-    maps_all c.filtering_keeps_answers.ensures c.mappings_have_origins.ensures specs (length c.args.explicit.now) refs (Ok (c.in_ok-mappings.mappings, c.in_ok-outcome-2.fixes)) h
+    maps_all c.filtering_keeps_answers.ensures c.mappings_have_origins.ensures specs (length c.args.explicit.now) refs
+    (Ok (c.in_ok-mappings.mappings, c.in_ok-outcome-2.fixes)) h
 
 pub returns-clause-found : goal.returns-clause-found
 returns-clause-found c =
     let specs = joined_specs c.args.explicit.now c.args.extra.now in
     let refs = map ref_value c.args.refs.now in
-    let h : AllZip (IsMapping refs (length c.args.explicit.now)) (kept (found_in specs refs)) c.in_ok-mappings.mappings.items = search rules in
-    specs_are_there c.args.explicit.now c.args.extra.now refs (kept (found_in specs refs)) c.in_ok-mappings.mappings.items (kept_are_good c.mappings_have_origins.ensures specs refs) h
+    let h : AllZip (IsMapping refs (length c.args.explicit.now)) (kept (found_in specs refs)) c.in_ok-mappings.mappings.items =
+    search rules in
+    specs_are_there c.args.explicit.now c.args.extra.now refs (kept (found_in specs refs)) c.in_ok-mappings.mappings.items
+    (kept_are_good c.mappings_have_origins.ensures specs refs) h
 
 pub returns-in_err-outcome-2-clause-filtered : goal.returns-in_err-outcome-2-clause-filtered
 returns-in_err-outcome-2-clause-filtered c =
@@ -40,4 +43,5 @@ returns-in_err-outcome-2-clause-filtered c =
     let refs = map ref_value c.args.refs.now in
     let p = err_from_is_err_and c.from_residual-in_err-outcome-2.result c.from_residual-in_err-outcome-2.ensures.1 in
     let h : Maps specs (length c.args.explicit.now) refs (Err (MappingValidation c.in_err-outcome-2.field-0.0)) = search rules in
-    rw (p.1, p.2) (maps_all c.filtering_keeps_answers.ensures c.mappings_have_origins.ensures specs (length c.args.explicit.now) refs (Err (MappingValidation c.in_err-outcome-2.field-0.0)) h)
+    rw (p.1, p.2) (maps_all c.filtering_keeps_answers.ensures c.mappings_have_origins.ensures specs (length c.args.explicit.now) refs
+    (Err (MappingValidation c.in_err-outcome-2.field-0.0)) h)

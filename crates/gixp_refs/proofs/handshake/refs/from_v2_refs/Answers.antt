@@ -9,7 +9,8 @@ returns-clause-answers g c =
     refs-stop _ _ _ c.loop-refs.refs.items c.loop-refs.invariant k
 
 pub returns-in_err-found-clause-answers : goal.returns-in_err-found-clause-answers
-returns-in_err-found-clause-answers g c = let p = err_from_is_err_and c.from_residual.result c.from_residual.ensures.1 in rw (p.1, p.2) (next-refused _ _ _ _ _ c.in_err-found.field-0.0 c.loop-refs.invariant c.in_err-found.ensures.next)
+returns-in_err-found-clause-answers g c = let p = err_from_is_err_and c.from_residual.result c.from_residual.ensures.1 in
+    rw (p.1, p.2) (next-refused _ _ _ _ _ c.in_err-found.field-0.0 c.loop-refs.invariant c.in_err-found.ensures.next)
 
 pub loop-refs-preserved : goal.loop-refs-preserved
 loop-refs-preserved g c =
@@ -19,7 +20,8 @@ loop-refs-preserved g c =
 pub returns-in_err-push-clause-answers : goal.returns-in_err-push-clause-answers
 returns-in_err-push-clause-answers g c =
     let k = rw c.in-Some.is at c.in_ok-found.ensures.next in
-    let p = err_from_is_err_and c.from_residual-in_err-push.result c.from_residual-in_err-push.ensures.1 in rw (p.1, p.2) (refs-memory _ _ _ _ _ c.loop-refs.invariant k.0)
+    let p = err_from_is_err_and c.from_residual-in_err-push.result c.from_residual-in_err-push.ensures.1 in
+    rw (p.1, p.2) (refs-memory _ _ _ _ _ c.loop-refs.invariant k.0)
 
 pub returns-clause-held : goal.returns-clause-held
 returns-clause-held g c = c.in_ok-found.ensures.held ∙ c.loop-refs.invariant.read.held

@@ -8,4 +8,5 @@ use Rattle.gixp_requests.proofs.command.features.offered.Given as goal
 
 abbrev pub invariant-loop-entry : goal.invariant-loop-entry
 invariant-loop-entry l =
-    feature_values l.features.items ≡ map plain_feature (map (λ (e : WordEntry). e.word) (filter (is_offered l.capabilities) (take l.entry-index (entries_of l.entries))))
+    feature_values l.features.items ≡ map plain_feature
+    (map (λ (e : WordEntry). e.word) (filter (is_offered l.capabilities) (take l.entry-index (entries_of l.entries))))

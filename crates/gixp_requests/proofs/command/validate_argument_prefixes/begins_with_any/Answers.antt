@@ -5,4 +5,5 @@ use Rattle.gixp_packetline.proofs.ListLemmas.{any_of_map}
 use Rattle.gixp_requests.proofs.command.validate_argument_prefixes.begins_with_any.Goals as goal
 
 pub returns : goal.returns
-returns c = c.begins_with.ensures ∙ sym (any_of_map (λ prefix. starts_with nat_eq c.args.argument.now prefix) (λ (w : Bor (List ℕ)). w.now) c.args.prefixes.now)
+returns c = c.begins_with.ensures ∙ sym (any_of_map (λ prefix. starts_with nat_eq c.args.argument.now prefix)
+    (λ (w : Bor (List ℕ)). w.now) c.args.prefixes.now)

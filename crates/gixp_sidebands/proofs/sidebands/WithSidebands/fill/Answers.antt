@@ -8,11 +8,13 @@ use Rattle.gixp_sidebands.proofs.sidebands.WithSidebands.fill.Goals as goal
 
 pub returns-in-Ok-clause-fills : goal.returns-in-Ok-clause-fills
 returns-in-Ok-clause-fills g c =
-    fills_by _ _ c.in-Ok.more (none_of _ (sym c.if-is_open.ensures)) c.in-Ok.ensures.place (ap (option_map refusal_of) c.in-Ok.ensures.fault) c.settle.new.self.front.held c.in-Ok.ensures.first c.in-Ok.ensures.peeks
+    fills_by _ _ c.in-Ok.more (none_of _ (sym c.if-is_open.ensures)) c.in-Ok.ensures.place
+    (ap (option_map refusal_of) c.in-Ok.ensures.fault) c.settle.new.self.front.held c.in-Ok.ensures.first c.in-Ok.ensures.peeks
 
 pub returns-in-Err-clause-fills : goal.returns-in-Err-clause-fills
 returns-in-Err-clause-fills g c =
-    refuses_by _ _ (refusal_of c.in-Err.e) _ (none_of _ (sym c.if-is_open.ensures)) c.in-Err.ensures.place refl (c.from-error.ensures ∙ c.io_kind.ensures) c.in-Err.ensures.peeks
+    refuses_by _ _ (refusal_of c.in-Err.e) _ (none_of _ (sym c.if-is_open.ensures)) c.in-Err.ensures.place refl
+    (c.from-error.ensures ∙ c.io_kind.ensures) c.in-Err.ensures.peeks
 
 pub returns-then-is_open-clause-fills : goal.returns-then-is_open-clause-fills
 returns-then-is_open-clause-fills g c = grind (arith, common_steps)

@@ -14,8 +14,10 @@ packets-init g c =
     let s = c.args.self.now in
     let n = c.leave.new.self in
     record {
-      skips = skipping-init _ _ _ (reading s.front.at.now) (reading n.at.now) c.leave.ensures.same c.leave.ensures.begun (λ e. ap reading (c.leave.ensures.fresh e));
-      told = told-init g.P.BandText.hears g.P.BandText.spares g.I.Interrupt.says s.front.place (reading s.front.at.now) (reading n.at.now) _ _ refl s.front.held c.leave.ensures.begun (λ e. ap reading (c.leave.ensures.fresh e));
+      skips = skipping-init _ _ _ (reading s.front.at.now) (reading n.at.now) c.leave.ensures.same c.leave.ensures.begun
+          (λ e. ap reading (c.leave.ensures.fresh e));
+      told = told-init g.P.BandText.hears g.P.BandText.spares g.I.Interrupt.says s.front.place (reading s.front.at.now)
+          (reading n.at.now) _ _ refl s.front.held c.leave.ensures.begun (λ e. ap reading (c.leave.ensures.fresh e));
       same = c.leave.ensures.same;
       interrupt = refl;
       fault = refl;
@@ -28,10 +30,13 @@ returns-in_err-peek-clause-peeks g c =
     let reading = g.T.ExtendedBufRead.reading in
     let n = c.peek.new.self in
     let e = seen_by n.place None _ n.at.ghost_name (reading n.at.now) c.peek.ensures.place refl c.peek.ensures.same in
-    let p = err_from_is_err_and c.from_residual.result c.from_residual.ensures.1 in rw (e, p.1, p.2) (fails_above _ _ _ _ _ c.packets.invariant.skips c.in_err-peek.ensures.peeks)
+    let p = err_from_is_err_and c.from_residual.result c.from_residual.ensures.1 in
+    rw (e, p.1, p.2) (fails_above _ _ _ _ _ c.packets.invariant.skips c.in_err-peek.ensures.peeks)
 
 pub returns-in_err-peek-clause-told : goal.returns-in_err-peek-clause-told
-returns-in_err-peek-clause-told g c = let p = err_from_is_err_and c.from_residual.result c.from_residual.ensures.1 in rw (p.1, p.2) (told-fails g.P.BandText.hears g.P.BandText.spares g.I.Interrupt.says _ _ _ _ _ _ _ c.packets.invariant.skips.failures c.packets.invariant.told c.in_err-peek.ensures.peeks c.in_err-peek.ensures.plain)
+returns-in_err-peek-clause-told g c = let p = err_from_is_err_and c.from_residual.result c.from_residual.ensures.1 in
+    rw (p.1, p.2) (told-fails g.P.BandText.hears g.P.BandText.spares g.I.Interrupt.says _ _ _ _ _ _ _ c.packets.invariant.skips.failures
+    c.packets.invariant.told c.in_err-peek.ensures.peeks c.in_err-peek.ensures.plain)
 
 pub returns-in-Content-clause-peeks : goal.returns-in-Content-clause-peeks
 returns-in-Content-clause-peeks g c =
@@ -40,32 +45,42 @@ returns-in-Content-clause-peeks g c =
     let h = rw c.if-not-branch.false at c.in_ok-peek.ensures.peeks in
     let k = ap band_of (sym c.line.ensures) ∙ sym c.in-Content.ensures in
     let s = shows_content _ _ _ _ c.packets.invariant.skips h k in
-    let e = seen_by n.place (Some 0) _ n.at.ghost_name (reading n.at.now) c.open.ensures.place refl (c.open.ensures.same ∙ c.peek.ensures.same) in
+    let e = seen_by n.place (Some 0) _ n.at.ghost_name (reading n.at.now) c.open.ensures.place refl
+    (c.open.ensures.same ∙ c.peek.ensures.same) in
     rw (e, c.open.ensures.now) s
 
 pub returns-in_err-tell-in-Text-clause-told : goal.returns-in_err-tell-in-Text-clause-told
 returns-in_err-tell-in-Text-clause-told g c =
     let h = rw c.if-not-branch.false at c.in_ok-peek.ensures.peeks in
     let k = ap band_of (sym c.line.ensures) ∙ sym c.in-Text.ensures in
-    let p = err_from_is_err_and c.from_residual-in_err-tell-in-Text.result c.from_residual-in_err-tell-in-Text.ensures.1 in rw (p.1, p.2) (told-tell g.P.BandText.hears g.P.BandText.spares g.I.Interrupt.says (Unit {0}) _ _ _ _ _ _ _ _ _ c.in_err-tell-in-Text.field-0.0 c.packets.invariant.told h k c.in_err-tell-in-Text.ensures.tells)
+    let p = err_from_is_err_and c.from_residual-in_err-tell-in-Text.result c.from_residual-in_err-tell-in-Text.ensures.1 in
+    rw (p.1, p.2) (told-tell g.P.BandText.hears g.P.BandText.spares g.I.Interrupt.says
+    (Unit {0}) _ _ _ _ _ _ _ _ _ c.in_err-tell-in-Text.field-0.0 c.packets.invariant.told h k c.in_err-tell-in-Text.ensures.tells)
 
 pub packets-preserved : goal.packets-preserved
 packets-preserved g c =
     let h = rw c.if-not-branch.false at c.in_ok-peek.ensures.peeks in
-    let k : band_of (g.T.ExtendedBufRead.reading c.peek.new.self.at.now).line ≡ Text c.in-Text.is_error = ap band_of (sym c.line.ensures) ∙ sym c.in-Text.ensures in
+    let k : band_of (g.T.ExtendedBufRead.reading c.peek.new.self.at.now).line ≡ Text c.in-Text.is_error =
+    ap band_of (sym c.line.ensures) ∙ sym c.in-Text.ensures in
     let t = c.in_ok-tell-in-Text.ensures.tells in
     let name = c.in_ok-tell-in-Text.ensures.same ∙ c.peek.ensures.same in
     record {
       skips = rw name (skips_line _ _ _ _ _ c.packets.invariant.skips h (subst IsPassed (sym k) tt) t.0);
-      told = told-text g.P.BandText.hears g.P.BandText.spares g.I.Interrupt.says _ _ _ _ _ _ _ c.in-Text.is_error c.packets.invariant.told h k t.0 t.1;
+      told =
+          told-text g.P.BandText.hears g.P.BandText.spares g.I.Interrupt.says _ _ _ _ _ _ _ c.in-Text.is_error c.packets.invariant.told
+          h k t.0 t.1;
       same = name ∙ c.packets.invariant.same;
       interrupt = c.in_ok-tell-in-Text.ensures.interrupt ∙ c.packets.invariant.interrupt;
       fault = c.in_ok-tell-in-Text.ensures.fault ∙ c.packets.invariant.fault;
       place = c.in_ok-tell-in-Text.ensures.place;
-      goes_on = (goes_on-joins g.I.Interrupt.says _ _ _ c.packets.invariant.goes_on.0 (_ ∷ [], (t.1.1, refl)), c.in_ok-tell-in-Text.ensures.interrupt ∙ c.packets.invariant.goes_on.1);
+      goes_on = (
+        goes_on-joins g.I.Interrupt.says _ _ _ c.packets.invariant.goes_on.0 (_ ∷ [], (t.1.1, refl)),
+        c.in_ok-tell-in-Text.ensures.interrupt ∙ c.packets.invariant.goes_on.1,
+      );
     }
 
 pub returns-in-Content-clause-first : goal.returns-in-Content-clause-first
 returns-in-Content-clause-first g c =
     let h = rw c.if-not-branch.false at c.in_ok-peek.ensures.peeks in
-    rw c.open.ensures.now (shows_first _ _ _ (told-known g.P.BandText.hears g.P.BandText.spares g.I.Interrupt.says _ _ _ _ c.packets.invariant.told) h)
+    rw c.open.ensures.now (shows_first _ _ _
+    (told-known g.P.BandText.hears g.P.BandText.spares g.I.Interrupt.says _ _ _ _ c.packets.invariant.told) h)

@@ -9,7 +9,8 @@ invariant-packets g l =
     let reading = g.T.ExtendedBufRead.reading in
     record {
       skips : Skipping (sidebands_reading reading l.fn.self) l.self.front.at.ghost_name (reading l.self.front.at.now);
-      told : Told g.P.BandText.hears g.P.BandText.spares g.I.Interrupt.says g.T.ExtendedBufRead.is_plain None (reading l.fn.self.front.at.now) (reading l.self.front.at.now) (listener l.fn.self) (listener l.self);
+      told : Told g.P.BandText.hears g.P.BandText.spares g.I.Interrupt.says g.T.ExtendedBufRead.is_plain None
+          (reading l.fn.self.front.at.now) (reading l.self.front.at.now) (listener l.fn.self) (listener l.self);
       same : l.self.front.at.ghost_name ≡ l.fn.self.front.at.ghost_name;
       interrupt : l.self.interrupt.ghost_name ≡ l.fn.self.interrupt.ghost_name;
       fault : l.self.fault ≡ l.fn.self.fault;

@@ -4,9 +4,27 @@ use Rattle.gixp_sidebands.proofs.sidebands.WithSidebandsBufRead.fill_buf.Goals a
 
 pub returns-in-Ok : goal.returns-in-Ok
 returns-in-Ok g c =
-    let h = fills_either _ _ c.in-Ok.field-0 c.in-Ok.ensures.fills in
-    ((refl, λ _. tt, (tt, tt)), record { front = tt; end = tt; after_borrow = tt; shown = (c.fill.new.self, record { fills = (c.rest.ensures, h); told = c.in-Ok.ensures.told; interrupt = c.in-Ok.ensures.interrupt }) })
+    let h = fills_either _ _ c.in-Ok.field-0 c.in-Ok.ensures.fills in (
+      (refl, λ _. tt, (tt, tt)),
+      record {
+        front = tt;
+        end = tt;
+        after_borrow = tt;
+        shown =
+            (c.fill.new.self, record { fills = (c.rest.ensures, h); told = c.in-Ok.ensures.told; interrupt = c.in-Ok.ensures.interrupt });
+      },
+    )
 
 pub returns-in-Err : goal.returns-in-Err
-returns-in-Err g c =
-    ((refl, λ _. tt, (tt, tt)), record { front = tt; end = tt; after_borrow = tt; shown = (c.fill.new.self, record { fills = c.in-Err.ensures.fills; told = c.in-Err.ensures.told; interrupt = c.in-Err.ensures.interrupt }) })
+returns-in-Err g c = (
+  (refl, λ _. tt, (tt, tt)),
+  record {
+    front = tt;
+    end = tt;
+    after_borrow = tt;
+    shown = (
+      c.fill.new.self,
+      record { fills = c.in-Err.ensures.fills; told = c.in-Err.ensures.told; interrupt = c.in-Err.ensures.interrupt },
+    );
+  },
+)

@@ -16,8 +16,11 @@ returns-in_default-clause-text g c =
     let below = seen_by s.place (Some 0) _ s.at.ghost_name (reading s.at.now) place refl refl in
     let above = seen_by n.place None _ n.at.ghost_name (reading n.at.now) c.take.ensures.place refl c.take.ensures.same in
     let shown = rw below at (rw c.if-not-branch.false at c.in_ok-peek_line.ensures.peeks) in
-    let line = c.take.ensures.takes.again h.peeked in
-    (rw above (takes_content _ _ _ _ shown h.content h.peeked c.take.ensures.takes), rw (line, ← c.line.ensures) c.in_default.ensures.cases.0, refl)
+    let line = c.take.ensures.takes.again h.peeked in (
+      rw above (takes_content _ _ _ _ shown h.content h.peeked c.take.ensures.takes),
+      rw (line, ← c.line.ensures) c.in_default.ensures.cases.0,
+      refl,
+    )
 
 pub returns-in_default-clause-told : goal.returns-in_default-clause-told
 returns-in_default-clause-told g c =
@@ -26,8 +29,10 @@ returns-in_default-clause-told g c =
     let place = rw c.if-not-branch.false at c.in_ok-peek_line.ensures.place in
     let h = holds_line 0 (reading s.at.now) (subst (λ p. is_held p (reading s.at.now) ≡ true) place s.held) in
     told-kept g.P.BandText.hears g.P.BandText.spares g.I.Interrupt.says g.T.ExtendedBufRead.is_plain not_utf8 _ _ _ _ (λ e. cc)
-    (told-content g.P.BandText.hears g.P.BandText.spares g.I.Interrupt.says _ _ _ _ _ c.in_ok-peek_line.ensures.told h.content h.peeked c.take.ensures.takes)
+    (told-content g.P.BandText.hears g.P.BandText.spares g.I.Interrupt.says _ _ _ _ _ c.in_ok-peek_line.ensures.told h.content h.peeked
+    c.take.ensures.takes)
 
 pub returns-then-is_err-clause-told : goal.returns-then-is_err-clause-told
 returns-then-is_err-clause-told g c =
-    told-kept g.P.BandText.hears g.P.BandText.spares g.I.Interrupt.says g.T.ExtendedBufRead.is_plain memory _ _ _ _ (λ e. cc) c.in_ok-peek_line.ensures.told
+    told-kept g.P.BandText.hears g.P.BandText.spares g.I.Interrupt.says g.T.ExtendedBufRead.is_plain memory _ _ _ _
+    (λ e. cc) c.in_ok-peek_line.ensures.told

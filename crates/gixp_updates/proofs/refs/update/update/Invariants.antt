@@ -8,6 +8,8 @@ use Rattle.gixp_updates.proofs.refs.update.update.Given as goal
 -- the mappings so far have their updates
 abbrev pub invariant-loop-mapping : goal.invariant-loop-mapping
 invariant-loop-mapping g l = record {
-  updates : AreUpdates (local_with g.R.RefStore.refs g.O.Objects.contents l.refs l.objects l.options l.fn.graph.graph) l.options.tags l.map.refspecs.items l.map.extra_refspecs.items (take l.mapping-index l.map.mappings.items) l.updates.items;
+  updates : AreUpdates
+      (local_with g.R.RefStore.refs g.O.Objects.contents l.refs l.objects l.options l.fn.graph.graph) l.options.tags
+      l.map.refspecs.items l.map.extra_refspecs.items (take l.mapping-index l.map.mappings.items) l.updates.items;
   consults : Consults l.options.most_commits (Ok l.updates) l.fn.graph l.graph;
 }

@@ -12,7 +12,8 @@ returns-in-Some-Fail c =
     let p = c.note_failure.new.self in
     let reader = c.new-in-Some-Fail-2.result in
     let is : p ≡ restarted b.packets reader p.failures = rw c.restart-in-Some-Fail.ensures at c.note_failure.ensures.rest in (
-      takes-packets b p reader c.pop.new.self [] is c.new-in-Some-Fail-2.ensures.position (rw c.new-in-Some-Fail-2.ensures.inner c.new-in-Some-Fail.ensures.items)
+      takes-packets b p reader c.pop.new.self [] is c.new-in-Some-Fail-2.ensures.position
+          (rw c.new-in-Some-Fail-2.ensures.inner c.new-in-Some-Fail.ensures.items)
           (no_bytes ∙ ap (λ (l : List Answer). answer_pieces (first_answer l)) (sym popped)) (ap later_answers popped),
       (ap (λ (l : List Answer). answer_failure (first_answer l)) popped, rw c.restart-in-Some-Fail.ensures at c.note_failure.ensures.rose),
     )
@@ -26,7 +27,8 @@ returns-in-None c =
     let p = c.restart-in-None.new.self in
     let reader = c.new-in-None-2.result in
     let is : p ≡ restarted b.packets reader p.failures = rw c.restart-in-None.ensures refl in (
-      takes-packets b p reader c.pop.new.self [] is c.new-in-None-2.ensures.position (rw c.new-in-None-2.ensures.inner c.new-in-None.ensures.items)
+      takes-packets b p reader c.pop.new.self [] is c.new-in-None-2.ensures.position
+          (rw c.new-in-None-2.ensures.inner c.new-in-None.ensures.items)
           (no_bytes ∙ ap (λ (l : List Answer). answer_pieces (first_answer l)) (sym none.0)) (ap later_answers none.0 ∙ sym none.1),
       (ap (λ (l : List Answer). answer_failure (first_answer l)) none.0, rw c.restart-in-None.ensures refl),
     )

@@ -16,7 +16,8 @@ returns-in_default g c =
     let ps = parameters_of c.args.extra_parameters.now in
     let old = connection_reading g.R.Read.remaining g.W.Write.contents c.args.self.now in
     let new = connection_reading g.R.Read.remaining g.W.Write.contents c.go_on.new.self in
-    let P : Option Opening → Type 0 = λ o. GreetsBy (option_map (greeting_of c.args.self.now.version) o) c.args.service ps old new c.go_on.result in
+    let P : Option Opening → Type 0 =
+    λ o. GreetsBy (option_map (greeting_of c.args.self.now.version) o) c.args.service ps old new c.go_on.result in
     subst P (sym c.in_default.is) (greets-none c.args.service ps old new c.go_on.result c.go_on.ensures)
 
 pub returns-in_err-write_payload : goal.returns-in_err-write_payload
@@ -27,8 +28,10 @@ returns-in_err-write_payload g c =
     let said = greeting_of c.args.self.now.version c.in-Some.opening in
     let fit : greeting_fits (Some said) c.args.service ps ≡ true = sym c.if-not-greeting_fits.ensures in
     let p = err_from_is_err_and c.from_residual-in_err-write_payload.result c.from_residual-in_err-write_payload.ensures.1 in
-    let P : Option Opening → Type 0 = λ o. GreetsBy (option_map (greeting_of c.args.self.now.version) o) c.args.service ps old new (Err c.in_err-write_payload.field-0.0) in
-    rw (p.1, p.2) (subst P (sym c.in-Some.is) (greets-refused said c.args.service ps old new (payload_text c.deref.result.now) c.in_err-write_payload.field-0.0 refl fit c.in_err-write_payload.ensures))
+    let P : Option Opening → Type 0 = λ o. GreetsBy (option_map (greeting_of c.args.self.now.version) o) c.args.service ps old new
+    (Err c.in_err-write_payload.field-0.0) in
+    rw (p.1, p.2) (subst P (sym c.in-Some.is) (greets-refused said c.args.service ps old new
+    (payload_text c.deref.result.now) c.in_err-write_payload.field-0.0 refl fit c.in_err-write_payload.ensures))
 
 pub returns : goal.returns
 returns g c =
@@ -40,5 +43,7 @@ returns g c =
     let text : c.deref.result.now ≡ greeting_text said c.args.service ps = c.deref.ensures.value ∙ c.in_ok-payload.ensures in
     let fit : greeting_fits (Some said) c.args.service ps ≡ true = sym c.if-not-greeting_fits.ensures in
     let Q : List ℕ → Type 0 = λ t. Wrote old mid (payload_text t) in
-    let P : Option Opening → Type 0 = λ o. GreetsBy (option_map (greeting_of c.args.self.now.version) o) c.args.service ps old new c.go_on-2.result in
-    subst P (sym c.in-Some.is) (greets-some said c.args.service ps old mid new c.go_on-2.result fit (subst Q text c.in_ok-write_payload.ensures) c.go_on-2.ensures)
+    let P : Option Opening → Type 0 =
+    λ o. GreetsBy (option_map (greeting_of c.args.self.now.version) o) c.args.service ps old new c.go_on-2.result in
+    subst P (sym c.in-Some.is) (greets-some said c.args.service ps old mid new c.go_on-2.result fit
+    (subst Q text c.in_ok-write_payload.ensures) c.go_on-2.ensures)

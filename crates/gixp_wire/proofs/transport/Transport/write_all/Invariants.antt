@@ -6,4 +6,5 @@ use Rattle.gixp_wire.proofs.transport.Transport.write_all.Given as goal
 
 abbrev pub invariant-loop-message : goal.invariant-loop-message
 invariant-loop-message g l =
-    Wrote (g.Self.ExtendedBufRead.reading l.fn.self) (g.Self.ExtendedBufRead.reading l.self) (texts_of (request_frames (take l.message-index l.messages)))
+    Wrote (g.Self.ExtendedBufRead.reading l.fn.self) (g.Self.ExtendedBufRead.reading l.self)
+    (texts_of (request_frames (take l.message-index l.messages)))

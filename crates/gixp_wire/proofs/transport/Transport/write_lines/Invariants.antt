@@ -6,4 +6,5 @@ use Rattle.gixp_wire.proofs.transport.Transport.write_lines.Given as goal
 
 abbrev pub invariant-loop-line : goal.invariant-loop-line
 invariant-loop-line g l =
-    Wrote (g.Self.ExtendedBufRead.reading l.fn.self) (g.Self.ExtendedBufRead.reading l.self) (texts_of (line_frames (take l.line-index l.lines)))
+    Wrote (g.Self.ExtendedBufRead.reading l.fn.self) (g.Self.ExtendedBufRead.reading l.self)
+    (texts_of (line_frames (take l.line-index l.lines)))

@@ -13,6 +13,8 @@ returns-in-Err g c = (
     c.set_identity.result,
     g.T.ExtendedBufRead.reading c.set_identity.new.self,
     c.set_identity.ensures.identifies,
-    not_identified c.args.self.now.service (parameters_of c.args.self.now.extra_parameters.now) c.set_identity.result c.in-Err.e c.args.outcome.next (bstring_bytes c.args.retry.url) _ c.from.result c.in-Err.is c.from.ensures,
+    not_identified c.args.self.now.service
+        (parameters_of c.args.self.now.extra_parameters.now) c.set_identity.result c.in-Err.e c.args.outcome.next
+        (bstring_bytes c.args.retry.url) _ c.from.result c.in-Err.is c.from.ensures,
   ),
 )

@@ -12,9 +12,12 @@ pub returns : goal.returns
 returns g c =
     let turn : CredentialCall = record { action = Get c.in-Ok.found.asked_for; answer = c.ask-got.result } in
     let h = c.log_in_with.ensures in
-    let url : bstring_bytes c.in-Ok.found.asked_for ≡ (g.T.ExtendedBufRead.reading c.args.transport.now).held.url = c.in-Ok.ensures.asked_for ∙ c.to_url.ensures in
-    let again : bstring_bytes c.in-Ok.found.refused ≡ (g.T.ExtendedBufRead.reading c.args.transport.now).held.url = c.in-Ok.ensures.refused ∙ c.to_url.ensures in (
+    let url : bstring_bytes c.in-Ok.found.asked_for ≡ (g.T.ExtendedBufRead.reading c.args.transport.now).held.url =
+    c.in-Ok.ensures.asked_for ∙ c.to_url.ensures in
+    let again : bstring_bytes c.in-Ok.found.refused ≡ (g.T.ExtendedBufRead.reading c.args.transport.now).held.url =
+    c.in-Ok.ensures.refused ∙ c.to_url.ensures in (
       turn ∷ h.0,
       (c.ask-got.new.authenticate, c.ask-got.ensures.asked, h.1),
-      logs_in _ c.args.e c.args.self.now.service (parameters_of c.args.self.now.extra_parameters.now) _ _ turn h.0 (bstring_bytes c.in-Ok.found.refused) _ (sym c.is_denied.ensures ∙ c.if-not-is_denied.false) (ap get url) again h.2,
+      logs_in _ c.args.e c.args.self.now.service (parameters_of c.args.self.now.extra_parameters.now) _ _ turn h.0
+          (bstring_bytes c.in-Ok.found.refused) _ (sym c.is_denied.ensures ∙ c.if-not-is_denied.false) (ap get url) again h.2,
     )

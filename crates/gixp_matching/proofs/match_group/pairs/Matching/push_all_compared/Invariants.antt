@@ -7,5 +7,6 @@ use Rattle.gixp_matching.proofs.match_group.pairs.Matching.push_all_compared.Giv
 
 abbrev pub invariant-specs : goal.invariant-specs
 invariant-specs l =
-    mapped_in l.out ++ (flat_map (pairs_of (values l.self.prepared.now.specs.now) (names l.self.items.now)) (enumerate_from l.index (drop l.index (values l.self.prepared.now.specs.now))))
+    mapped_in l.out ++ (flat_map (pairs_of (values l.self.prepared.now.specs.now) (names l.self.items.now))
+    (enumerate_from l.index (drop l.index (values l.self.prepared.now.specs.now))))
     ≡ mapped_in l.initial.out ++ (pairs (values l.self.prepared.now.specs.now) (names l.self.items.now))

@@ -8,5 +8,8 @@ use Rattle.gixp_matching.proofs.match_group.pairs.Matching.push_all_looked_up.Go
 
 pub specs-preserved : goal.specs-preserved
 specs-preserved c =
-    walked_at value_of (pairs_of (values c.args.self.now.prepared.now.specs.now) (names c.args.self.now.items.now)) _ (mapped_in c.specs.out) (mapped_in c.push_looked_up.new.out)
-    c.args.self.now.prepared.now.specs.now c.specs.index c.spec-item.result c.spec-item.is c.specs-test.true c.specs.invariant (c.in_ok-push_looked_up.ensures ∙ ap (λ s. mapped_in c.specs.out ++ pairs_of (values c.args.self.now.prepared.now.specs.now) (names c.args.self.now.items.now) s) c.new.ensures.value)
+    walked_at value_of (pairs_of (values c.args.self.now.prepared.now.specs.now) (names c.args.self.now.items.now)) _
+    (mapped_in c.specs.out) (mapped_in c.push_looked_up.new.out)
+    c.args.self.now.prepared.now.specs.now c.specs.index c.spec-item.result c.spec-item.is c.specs-test.true c.specs.invariant
+    (c.in_ok-push_looked_up.ensures ∙ ap (λ s. mapped_in c.specs.out
+    ++ pairs_of (values c.args.self.now.prepared.now.specs.now) (names c.args.self.now.items.now) s) c.new.ensures.value)

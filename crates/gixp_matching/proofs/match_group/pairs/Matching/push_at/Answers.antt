@@ -17,9 +17,12 @@ returns-in-None c =
 pub returns-in-Some : goal.returns-in-Some
 returns-in-Some c =
     let f = pair (values c.args.self.now.prepared.now.specs.now) (numbered_value c.args.numbered.now) in
-    let one = one_ref name_of c.args.self.now.items.now c.args.place c.in-Some.item.now c.in-Some.ensures.lookup.3.0 c.in-Some.ensures.lookup.1 in
+    let one =
+    one_ref name_of c.args.self.now.items.now c.args.place c.in-Some.item.now c.in-Some.ensures.lookup.3.0
+    c.in-Some.ensures.lookup.1 in
     on_ok c.push_pair.result _ _
     (λ step. step
     ∙ ap (λ l. mapped_in c.args.out.now ++ l)
-    (ap (λ n. f (c.args.place, n)) c.as_bytes-name.ensures ∙ sym (append-nil (f (c.args.place, name_of c.in-Some.item.now))) ∙ sym (ap (flat_map f) one)))
+    (ap (λ n. f (c.args.place, n)) c.as_bytes-name.ensures ∙ sym (append-nil (f (c.args.place, name_of c.in-Some.item.now)))
+    ∙ sym (ap (flat_map f) one)))
     c.push_pair.ensures

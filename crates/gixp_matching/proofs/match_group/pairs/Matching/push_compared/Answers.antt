@@ -16,4 +16,5 @@ items-preserved c =
 
 -- Refs of a negative refspec are not mapped.
 pub returns-then-is_negative : goal.returns-then-is_negative
-returns-then-is_negative c = negative_mapped (values c.args.self.now.prepared.now.specs.now) (names c.args.self.now.items.now) (numbered_value c.args.numbered.now) (mapped_in c.args.out.now) (sym c.if-is_negative.ensures)
+returns-then-is_negative c = negative_mapped (values c.args.self.now.prepared.now.specs.now) (names c.args.self.now.items.now)
+    (numbered_value c.args.numbered.now) (mapped_in c.args.out.now) (sym c.if-is_negative.ensures)

@@ -8,5 +8,6 @@ use Rattle.gixp_matching.proofs.match_group.pairs.Matching.push_compared.Given a
 
 abbrev pub invariant-items : goal.invariant-items
 invariant-items l =
-    mapped_in l.out ++ (flat_map (pair (values l.self.prepared.now.specs.now) (numbered_value l.numbered)) (enumerate_from l.place (drop l.place (names l.self.items.now))))
+    mapped_in l.out ++ (flat_map (pair (values l.self.prepared.now.specs.now) (numbered_value l.numbered))
+    (enumerate_from l.place (drop l.place (names l.self.items.now))))
     ≡ mapped_in l.initial.out ++ (pairs_of (values l.self.prepared.now.specs.now) (names l.self.items.now) (numbered_value l.numbered))

@@ -10,19 +10,29 @@ use Rattle.gixp_matching.proofs.RowLemmas.{on_ok, negative_mapped, id_mapped, ex
 use Rattle.gixp_matching.proofs.match_group.pairs.Matching.push_looked_up.Goals as goal
 
 pub returns-then-is_negative : goal.returns-then-is_negative
-returns-then-is_negative c = negative_mapped (values c.args.self.now.prepared.now.specs.now) (names c.args.self.now.items.now) (numbered_value c.args.numbered.now) (mapped_in c.args.out.now) (sym c.if-is_negative.ensures)
+returns-then-is_negative c = negative_mapped (values c.args.self.now.prepared.now.specs.now) (names c.args.self.now.items.now)
+    (numbered_value c.args.numbered.now) (mapped_in c.args.out.now) (sym c.if-is_negative.ensures)
 
 pub returns-in-Id : goal.returns-in-Id
-returns-in-Id c = id_mapped (values c.args.self.now.prepared.now.specs.now) (names c.args.self.now.items.now) (numbered_value c.args.numbered.now) (mapped_in c.args.out.now) (subst (IsNeedle c.args.numbered.now.spec.now.source.now) c.in-Id.is c.requires.needle)
+returns-in-Id c = id_mapped (values c.args.self.now.prepared.now.specs.now) (names c.args.self.now.items.now)
+    (numbered_value c.args.numbered.now) (mapped_in c.args.out.now)
+    (subst (IsNeedle c.args.numbered.now.spec.now.source.now) c.in-Id.is c.requires.needle)
 
 pub returns-in-Exact : goal.returns-in-Exact
 returns-in-Exact c =
-    on_ok c.push_rows.result _ _ (λ step. exact_mapped (values c.args.self.now.prepared.now.specs.now) (names c.args.self.now.items.now) (numbered_value c.args.numbered.now) c.in-Exact.name
-    c.args.table.now c.rows_named-run.result.now (mapped_in c.args.out.now) (mapped_in c.push_rows.new.out) (subst (IsNeedle c.args.numbered.now.spec.now.source.now) c.in-Exact.is c.requires.needle) c.requires.table c.rows_named-run.ensures step) c.push_rows.ensures
+    on_ok c.push_rows.result _ _ (λ step. exact_mapped (values c.args.self.now.prepared.now.specs.now) (names c.args.self.now.items.now)
+    (numbered_value c.args.numbered.now) c.in-Exact.name
+    c.args.table.now c.rows_named-run.result.now (mapped_in c.args.out.now) (mapped_in c.push_rows.new.out)
+    (subst (IsNeedle c.args.numbered.now.spec.now.source.now) c.in-Exact.is c.requires.needle) c.requires.table
+    c.rows_named-run.ensures step) c.push_rows.ensures
 
 pub returns-in_ok-places-in-Short : goal.returns-in_ok-places-in-Short
 returns-in_ok-places-in-Short c =
     let f = pair (values c.args.self.now.prepared.now.specs.now) (numbered_value c.args.numbered.now) in
-    on_ok c.push_places.result _ _ (λ step. short_mapped (values c.args.self.now.prepared.now.specs.now) (names c.args.self.now.items.now) (numbered_value c.args.numbered.now) c.in-Short.name
-    c.args.table.now c.in_ok-places-in-Short.places.items (mapped_in c.args.out.now) (mapped_in c.push_places.new.out) (subst (IsNeedle c.args.numbered.now.spec.now.source.now) c.in-Short.is c.requires.needle) c.requires.table c.in_ok-places-in-Short.ensures
-    (step ∙ ap (λ l. mapped_in c.args.out.now ++ flat_map (λ place. flat_map f (ref_at (names c.args.self.now.items.now) place)) l) c.deref.ensures.value)) c.push_places.ensures
+    on_ok c.push_places.result _ _ (λ step. short_mapped (values c.args.self.now.prepared.now.specs.now)
+    (names c.args.self.now.items.now) (numbered_value c.args.numbered.now) c.in-Short.name
+    c.args.table.now c.in_ok-places-in-Short.places.items (mapped_in c.args.out.now) (mapped_in c.push_places.new.out)
+    (subst (IsNeedle c.args.numbered.now.spec.now.source.now) c.in-Short.is c.requires.needle) c.requires.table
+    c.in_ok-places-in-Short.ensures
+    (step ∙ ap (λ l. mapped_in c.args.out.now ++ flat_map
+    (λ place. flat_map f (ref_at (names c.args.self.now.items.now) place)) l) c.deref.ensures.value)) c.push_places.ensures

@@ -8,6 +8,7 @@ use Rattle.gixp_matching.proofs.match_group.pairs.Matching.push_places.Goals as 
 
 pub places-preserved : goal.places-preserved
 places-preserved c =
-    gathered_here (λ place. flat_map (pair (values c.args.self.now.prepared.now.specs.now) (numbered_value c.args.numbered.now)) (ref_at (names c.args.self.now.items.now) place))
+    gathered_here (λ place. flat_map (pair (values c.args.self.now.prepared.now.specs.now) (numbered_value c.args.numbered.now))
+    (ref_at (names c.args.self.now.items.now) place))
     (mapped_in c.args.out.now) (mapped_in c.places.out) (mapped_in c.push_at.new.out)
     c.args.places.now c.places.place-index _ c.places-test.true c.places.invariant c.in_ok-push_at.ensures

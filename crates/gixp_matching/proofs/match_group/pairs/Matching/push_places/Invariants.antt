@@ -8,4 +8,6 @@ use Rattle.gixp_matching.proofs.match_group.pairs.Matching.push_places.Given as 
 
 abbrev pub invariant-places : goal.invariant-places
 invariant-places l =
-    mapped_in l.out ≡ mapped_in l.initial.out ++ flat_map (λ place. flat_map (pair (values l.self.prepared.now.specs.now) (numbered_value l.numbered)) (ref_at (names l.self.items.now) place)) (take l.place-index l.places)
+    mapped_in l.out ≡ mapped_in l.initial.out
+    ++ flat_map (λ place. flat_map (pair (values l.self.prepared.now.specs.now) (numbered_value l.numbered))
+    (ref_at (names l.self.items.now) place)) (take l.place-index l.places)

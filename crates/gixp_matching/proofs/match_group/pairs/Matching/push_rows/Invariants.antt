@@ -7,4 +7,5 @@ use Rattle.gixp_matching.specs.Rows.{numbered_value, shown}
 use Rattle.gixp_matching.proofs.match_group.pairs.Matching.push_rows.Given as goal
 
 abbrev pub invariant-rows : goal.invariant-rows
-invariant-rows l = mapped_in l.out ≡ mapped_in l.initial.out ++ flat_map (pair (values l.self.prepared.now.specs.now) (numbered_value l.numbered)) (take l.row-index (map shown l.rows))
+invariant-rows l = mapped_in l.out ≡ mapped_in l.initial.out
+    ++ flat_map (pair (values l.self.prepared.now.specs.now) (numbered_value l.numbered)) (take l.row-index (map shown l.rows))

@@ -10,10 +10,13 @@ use Rattle.gixp_matching.proofs.match_group.validate.apart.are_apart.Goals as go
 
 pub returns : goal.returns
 returns c =
-    IfOk-weaker c.are_distinct.result _ _ (λ d h t. locals_are_apart c.in_ok-names.names.items (map mapped_of c.args.mappings.now) c.in_ok-names.ensures (h t)) c.are_distinct.ensures
+    IfOk-weaker c.are_distinct.result _ _ (λ d h t. locals_are_apart c.in_ok-names.names.items
+    (map mapped_of c.args.mappings.now) c.in_ok-names.ensures (h t)) c.are_distinct.ensures
 
 pub returns-then-are_in_order : goal.returns-then-are_in_order
-returns-then-are_in_order c = λ t. locals_are_apart c.in_ok-names.names.items (map mapped_of c.args.mappings.now) c.in_ok-names.ensures (subst (IsDistinct _) c.deref.ensures.value (c.if-are_in_order.ensures refl))
+returns-then-are_in_order c = λ t. locals_are_apart c.in_ok-names.names.items (map mapped_of c.args.mappings.now) c.in_ok-names.ensures
+    (subst (IsDistinct _) c.deref.ensures.value (c.if-are_in_order.ensures refl))
 
 pub are_distinct-requires : goal.are_distinct-requires
-are_distinct-requires c = names_alike c.in_ok-names.names.items c.in_ok-digests.digests.items (c.in_ok-digests.ensures ∙ ap (map (λ name. digest (key_bytes name))) c.deref-2.ensures.value)
+are_distinct-requires c = names_alike c.in_ok-names.names.items c.in_ok-digests.digests.items
+    (c.in_ok-digests.ensures ∙ ap (map (λ name. digest (key_bytes name))) c.deref-2.ensures.value)

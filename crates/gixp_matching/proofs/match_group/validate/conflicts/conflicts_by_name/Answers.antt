@@ -13,9 +13,11 @@ use Rattle.gixp_matching.proofs.match_group.validate.conflicts.conflicts_by_name
 
 pub names-preserved : goal.names-preserved
 names-preserved c =
-    made_more (λ p. conflict_over (values c.args.specs.now) p.0.now.now (mapped_behind p.1.now.items)) (conflicts_in c.names.issues) (conflicts_in c.push_conflict.new.issues)
+    made_more (λ p. conflict_over (values c.args.specs.now) p.0.now.now (mapped_behind p.1.now.items)) (conflicts_in c.names.issues)
+    (conflicts_in c.push_conflict.new.issues)
     c.names.yielded (c.in-Some.name, c.in-Some.group) c.names.invariant
-    (c.in_ok-push_conflict.ensures ∙ ap (λ g. conflicts_in c.names.issues ++ conflict_over (values c.args.specs.now) c.in-Some.name.now.now (mapped_behind g)) c.deref.ensures.value)
+    (c.in_ok-push_conflict.ensures ∙ ap (λ g. conflicts_in c.names.issues
+    ++ conflict_over (values c.args.specs.now) c.in-Some.name.now.now (mapped_behind g)) c.deref.ensures.value)
 
 pub returns : goal.returns
 returns c =
@@ -23,4 +25,5 @@ returns c =
     c.names.invariant
     ∙ sym (flat_map_of_map (λ e. conflict_over (values c.args.specs.now) e.0.now (mapped_behind e.1.items)) deref_pair c.names.yielded)
     ∙ ap (flat_map (λ e. conflict_over (values c.args.specs.now) e.0.now (mapped_behind e.1.items))) all
-    ∙ conflicts_from_groups (values c.args.specs.now) (map mapped_of c.args.mappings.now) c.in_ok-groups.groups c.in_ok-groups.ensures c.iter-name-items.ensures.ordered
+    ∙ conflicts_from_groups (values c.args.specs.now)
+    (map mapped_of c.args.mappings.now) c.in_ok-groups.groups c.in_ok-groups.ensures c.iter-name-items.ensures.ordered

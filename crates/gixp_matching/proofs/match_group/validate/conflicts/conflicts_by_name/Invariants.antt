@@ -8,4 +8,5 @@ use Rattle.gixp_matching.specs.Validation.{conflict_over}
 use Rattle.gixp_matching.proofs.match_group.validate.conflicts.conflicts_by_name.Given as goal
 
 abbrev pub invariant-names : goal.invariant-names
-invariant-names l = conflicts_in l.issues ≡ flat_map (λ p. conflict_over (values l.specs) p.0.now.now (mapped_behind p.1.now.items)) l.yielded
+invariant-names l =
+    conflicts_in l.issues ≡ flat_map (λ p. conflict_over (values l.specs) p.0.now.now (mapped_behind p.1.now.items)) l.yielded

@@ -8,4 +8,5 @@ use Rattle.gixp_matching.proofs.match_group.validate.fixes.fixes_of.Goals as goa
 pub mappings-preserved : goal.mappings-preserved
 mappings-preserved c =
     filtered_more mapped_of is_partial (removed_at (values c.args.specs.now)) (fixes_in c.mappings.found) (fixes_in c.push_fix.new.found)
-    c.args.mappings.now c.mappings.mapping-index c.mapping-item.result c.mapping-item.is c.mappings-test.true c.mappings.invariant c.in_ok-push_fix.ensures
+    c.args.mappings.now c.mappings.mapping-index c.mapping-item.result c.mapping-item.is c.mappings-test.true c.mappings.invariant
+    c.in_ok-push_fix.ensures

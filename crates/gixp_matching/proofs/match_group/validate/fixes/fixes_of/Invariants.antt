@@ -7,4 +7,5 @@ use Rattle.gixp_matching.specs.Validate.{fixes_in}
 use Rattle.gixp_matching.proofs.match_group.validate.fixes.fixes_of.Given as goal
 
 abbrev pub invariant-mappings : goal.invariant-mappings
-invariant-mappings l = fixes_in l.found ≡ map (removed_at (values l.specs)) (filter is_partial (take l.mapping-index (map mapped_of l.mappings)))
+invariant-mappings l =
+    fixes_in l.found ≡ map (removed_at (values l.specs)) (filter is_partial (take l.mapping-index (map mapped_of l.mappings)))

@@ -10,5 +10,6 @@ use Rattle.gixp_matching.proofs.match_group.validate.fixes.keep_whole.Goals as g
 pub returns : goal.returns
 unfolding kept
 returns c =
-    ap (map mapped_of) (filter_from_retain _ (λ m. not (is_partial (mapped_of m))) (λ p x b q k. search rules) _ _ _ c.retain.ensures.filtered)
+    ap (map mapped_of) (filter_from_retain _ (λ m. not (is_partial (mapped_of m)))
+    (λ p x b q k. search rules) _ _ _ c.retain.ensures.filtered)
     ∙ sym (filter_of_map (λ m. not (is_partial m)) mapped_of c.args.mappings.now.items)

@@ -16,7 +16,8 @@ returns-in-Ok-false-clause-answers g c =
     v1-finish c.finish.result (λ found. found.0.items) (λ found. found.1.items) _ _ _ _ _ _ c.loop-found.invariant k c.finish.ensures
 
 pub returns-in-Err-clause-answers : goal.returns-in-Err-clause-answers
-returns-in-Err-clause-answers g c = v1-reader _ _ _ _ _ _ c.in-Err.e _ c.loop-found.invariant c.in-Err.ensures.reads c.in-Err.ensures.plain c.from.ensures
+returns-in-Err-clause-answers g c =
+    v1-reader _ _ _ _ _ _ c.in-Err.e _ c.loop-found.invariant c.in-Err.ensures.reads c.in-Err.ensures.plain c.from.ensures
 
 pub loop-found-preserved : goal.loop-found-preserved
 loop-found-preserved g c =
@@ -27,7 +28,8 @@ loop-found-preserved g c =
 pub returns-in_err-add-clause-answers : goal.returns-in_err-add-clause-answers
 returns-in_err-add-clause-answers g c =
     let k = rw c.in-Ok-true.field-0-test at c.in-Ok-true.ensures.reads in
-    let p = err_from_is_err_and c.from_residual.result c.from_residual.ensures.1 in rw (p.1, p.2) (v1-refused _ _ _ _ _ (so_far_value c.loop-found.found) _ _ _ c.loop-found.invariant k
+    let p = err_from_is_err_and c.from_residual.result c.from_residual.ensures.1 in
+    rw (p.1, p.2) (v1-refused _ _ _ _ _ (so_far_value c.loop-found.found) _ _ _ c.loop-found.invariant k
     (ap (with_text (symref_values c.args.targets.now.entries) (so_far_value c.loop-found.found)) (sym c.line.ensures)) c.in_err-add.ensures)
 
 pub returns-in-Ok-false-clause-held : goal.returns-in-Ok-false-clause-held
@@ -44,7 +46,8 @@ pub returns-in-Err-clause-held : goal.returns-in-Err-clause-held
 returns-in-Err-clause-held g c = (fails-keep _ _ (refusal_of c.in-Err.e) c.in-Err.ensures.reads).held ∙ c.loop-found.invariant.read.held
 
 pub returns-in-Err-clause-version : goal.returns-in-Err-clause-version
-returns-in-Err-clause-version g c = (fails-keep _ _ (refusal_of c.in-Err.e) c.in-Err.ensures.reads).version ∙ c.loop-found.invariant.read.version
+returns-in-Err-clause-version g c = (fails-keep _ _ (refusal_of c.in-Err.e) c.in-Err.ensures.reads).version
+    ∙ c.loop-found.invariant.read.version
 
 pub returns-in_err-add-clause-held : goal.returns-in_err-add-clause-held
 returns-in_err-add-clause-held g c =

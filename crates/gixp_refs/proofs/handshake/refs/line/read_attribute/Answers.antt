@@ -12,7 +12,8 @@ returns-else-eq-2 c =
     let no_peeled : is_text name (codes "peeled") ≡ false = search rules in
     let no_target : is_text name (codes "symref-target") ≡ false = search rules in
     refusal_answers attribute_values _ _ _
-    (unknown_is c.args.line.now c.args.piece.now name value (attribute_values c.args.had) whole (λ z. let t = eq-eqb (length value) 0 z in let f = c.if-is_empty.ensures in cc) no_peeled no_target)
+    (unknown_is c.args.line.now c.args.piece.now name value (attribute_values c.args.had) whole
+    (λ z. let t = eq-eqb (length value) 0 z in let f = c.if-is_empty.ensures in cc) no_peeled no_target)
     c.unknown_attribute.ensures
 
 pub returns-then-eq-2 : goal.returns-then-eq-2

@@ -11,12 +11,17 @@ use Rattle.gixp_refs.proofs.handshake.refs.symrefs.from_capabilities.Goals as go
 pub loop-capability-preserved-in_default : goal.loop-capability-preserved-in_default
 loop-capability-preserved-in_default c =
     let none = rw c.in_default.is at c.in_ok-symref.ensures in
-    symrefs_skip symref_value (symref_table c.args.capabilities.now) (symref_values c.loop-capability.symrefs.items) (capabilities_left c.loop-capability.capability-iterator)
+    symrefs_skip symref_value (symref_table c.args.capabilities.now) (symref_values c.loop-capability.symrefs.items)
+    (capabilities_left c.loop-capability.capability-iterator)
     (capabilities_left c.next.new.self) (capability_value c.in-Some.capability) c.loop-capability.invariant c.in-Some.ensures.steps none
 
 pub returns-in_err-symref : goal.returns-in_err-symref
-returns-in_err-symref c = let p = err_from_is_err_and c.from_residual.result c.from_residual.ensures.1 in rw (p.1, p.2) (symrefs_refused symref_value _ (symref_table c.args.capabilities.now) (symref_values c.loop-capability.symrefs.items) (capabilities_left c.loop-capability.capability-iterator)
-    (capabilities_left c.next.new.self) (capability_value c.in-Some.capability) c.in_err-symref.field-0.0 c.loop-capability.invariant c.in-Some.ensures.steps c.in_err-symref.ensures)
+returns-in_err-symref c = let p = err_from_is_err_and c.from_residual.result c.from_residual.ensures.1 in
+    rw (p.1, p.2) (symrefs_refused symref_value _ (symref_table c.args.capabilities.now) (symref_values c.loop-capability.symrefs.items)
+    (capabilities_left c.loop-capability.capability-iterator)
+    (capabilities_left c.next.new.self)
+    (capability_value c.in-Some.capability) c.in_err-symref.field-0.0 c.loop-capability.invariant c.in-Some.ensures.steps
+    c.in_err-symref.ensures)
 
 pub loop-capability-preserved : goal.loop-capability-preserved
 loop-capability-preserved c = grind (arith, common_steps)

@@ -7,4 +7,5 @@ use Rattle.gixp_refs.proofs.SymrefLemmas.{symrefs_in_front}
 use Rattle.gixp_refs.proofs.handshake.refs.symrefs.from_capabilities.Given as goal
 
 abbrev pub invariant-loop-capability : goal.invariant-loop-capability
-invariant-loop-capability l = symref_table l.capabilities ≡ symrefs_in_front (symref_values l.symrefs.items) (symref_table (capabilities_left l.capability-iterator))
+invariant-loop-capability l = symref_table l.capabilities ≡ symrefs_in_front (symref_values l.symrefs.items)
+    (symref_table (capabilities_left l.capability-iterator))

@@ -9,4 +9,5 @@ use Rattle.gixp_refs.proofs.handshake.refs.symrefs.is_symref.Goals as goal
 pub returns : goal.returns
 returns c =
     c.is_some.ensures
-    ∙ found_some c.get.result _ (ap (option_map (λ (t : Option BString). option_map bstring_bytes t)) c.get.ensures.value ∙ lookup_tells c.args.targets.now.entries c.args.name.now)
+    ∙ found_some c.get.result _ (ap (option_map (λ (t : Option BString). option_map bstring_bytes t)) c.get.ensures.value
+    ∙ lookup_tells c.args.targets.now.entries c.args.name.now)

@@ -11,7 +11,8 @@ pub returns-in-Some : goal.returns-in-Some
 returns-in-Some c =
     let lines = map bstring_bytes c.args.lines.now in
     let all = c.in_ok-push_lines.ensures ∙ ap (λ t. map message_value t ++ map text lines) c.in_ok-messages.ensures.items in
-    ap (map message_value) c.swap.ensures.items ∙ texts_exchanged _ lines c.in-Some.place all ∙ ap (λ o. map text (exchanged lines o)) c.in-Some.ensures.place
+    ap (map message_value) c.swap.ensures.items ∙ texts_exchanged _ lines c.in-Some.place all
+    ∙ ap (λ o. map text (exchanged lines o)) c.in-Some.ensures.place
 
 pub swap-requires : goal.swap-requires
 swap-requires c =

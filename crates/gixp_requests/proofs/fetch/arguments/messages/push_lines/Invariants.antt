@@ -5,4 +5,5 @@ use Rattle.gixp_wire.specs.Message.{text, message_value}
 use Rattle.gixp_requests.proofs.fetch.arguments.messages.push_lines.Given as goal
 
 abbrev pub invariant-loop-line : goal.invariant-loop-line
-invariant-loop-line l = map message_value l.messages.items ≡ map message_value l.initial.messages.items ++ map text (take l.line-index (map bstring_bytes l.lines))
+invariant-loop-line l = map message_value l.messages.items ≡ map message_value l.initial.messages.items
+    ++ map text (take l.line-index (map bstring_bytes l.lines))

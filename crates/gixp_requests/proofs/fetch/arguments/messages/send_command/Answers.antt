@@ -15,9 +15,12 @@ returns g c =
     let new = g.T.ExtendedBufRead.reading c.request_with_lines.new.self in
     let haves = map bstring_bytes c.args.haves.now in
     let n = length-map c.args.haves.now bstring_bytes in
-    let some = λ (e : c.args.done ≡ false). let have : 0 < length c.args.haves.now = c.requires e in let t : 0 < length haves = omega arith in t in
+    let some = λ (e : c.args.done ≡ false). let have : 0 < length c.args.haves.now = c.requires e in
+    let t : 0 < length haves = omega arith in t in
     let front = ap (map message_value) c.deref.ensures.value ∙ c.in_ok-messages.ensures in
-    let is = command_joined (map message_value c.deref.result.now) (map message_value c.command_end.result.now) (map bstring_bytes c.args.features.now)
+    let is = command_joined (map message_value c.deref.result.now) (map message_value c.command_end.result.now)
+    (map bstring_bytes c.args.features.now)
     (map bstring_bytes c.args.lines.now) haves c.args.done some front c.command_end.ensures in
-    let P : List MessageValue → Type 0 = λ vs. Sends old new (list_all value_fits vs) (texts_of (map value_frame vs)) c.request_with_lines.result in
+    let P : List MessageValue → Type 0 =
+    λ vs. Sends old new (list_all value_fits vs) (texts_of (map value_frame vs)) c.request_with_lines.result in
     subst P is c.request_with_lines.ensures.sends

@@ -9,5 +9,6 @@ use Rattle.gixp_requests.proofs.fetch.arguments.messages.sent_features.Goals as 
 
 pub loop-feature-preserved : goal.loop-feature-preserved
 loop-feature-preserved c =
-    joined_read sent_features sent_features-append feature_value [] (texts c.loop-feature.lines) (texts c.push_sent.new.lines) c.args.features.now c.loop-feature.feature-index
+    joined_read sent_features sent_features-append feature_value [] (texts c.loop-feature.lines)
+    (texts c.push_sent.new.lines) c.args.features.now c.loop-feature.feature-index
     c.feature-item.result c.feature-item.is c.loop-feature-test.true c.loop-feature.invariant c.in_ok-push_sent.ensures

@@ -11,6 +11,8 @@ returns c =
     let flush = flush_behind (map bstring_bytes c.args.lines.now) in
     let haves = map text (map bstring_bytes c.args.haves.now) in
     let end = done_value c.args.done ∷ [] in
-    three_parts (map message_value c.in_ok-messages.messages.items) (map message_value c.push_flush.new.messages.items) (map message_value c.push_lines.new.messages.items)
-    (map message_value c.push_end.new.messages.items) flush haves end c.in_ok-push_flush.ensures c.in_ok-push_lines.ensures c.in_ok-push_end.ensures
+    three_parts (map message_value c.in_ok-messages.messages.items) (map message_value c.push_flush.new.messages.items)
+    (map message_value c.push_lines.new.messages.items)
+    (map message_value c.push_end.new.messages.items) flush haves end c.in_ok-push_flush.ensures c.in_ok-push_lines.ensures
+    c.in_ok-push_end.ensures
     ∙ ap (λ t. t ++ (flush ++ (haves ++ end))) c.in_ok-messages.ensures

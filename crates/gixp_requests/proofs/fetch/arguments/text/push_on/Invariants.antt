@@ -6,4 +6,5 @@ use Rattle.gixp_requests.proofs.fetch.arguments.text.push_on.Given as goal
 
 abbrev pub invariant-loop-feature : goal.invariant-loop-feature
 invariant-loop-feature l =
-    l.line.items ≡ l.initial.line.items ++ spaced (texts_on l.include_tag l.deepen_relative (take l.feature-index (feature_values l.features)))
+    l.line.items ≡ l.initial.line.items ++ spaced
+    (texts_on l.include_tag l.deepen_relative (take l.feature-index (feature_values l.features)))

@@ -10,4 +10,5 @@ pub returns : goal.returns
 returns c =
     let added = map bstring_bytes c.args.added.now in
     let on = texts_on c.args.include_tag c.args.deepen_relative (feature_values c.args.features.now) in
-    c.in_ok-push_added.ensures ∙ ap (λ t. t ++ spaced added) (c.in_ok-push_on.ensures ∙ ap (λ t. t ++ spaced on) c.new-text.ensures.items) ∙ sym (spaced-append on added)
+    c.in_ok-push_added.ensures ∙ ap (λ t. t ++ spaced added)
+    (c.in_ok-push_on.ensures ∙ ap (λ t. t ++ spaced on) c.new-text.ensures.items) ∙ sym (spaced-append on added)

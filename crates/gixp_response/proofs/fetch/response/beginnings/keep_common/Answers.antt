@@ -8,12 +8,16 @@ pub returns-in-Ok-true-clause-ok : goal.returns-in-Ok-true-clause-ok
 returns-in-Ok-true-clause-ok c =
     let new = rw c.in-Ok-true.field-0-test at c.in-Ok-true.ensures.added in
     let same = with_more _ _ c.args.id c.requires new in
-    on_ok c.push_acknowledgement.result c.push_acknowledgement.ensures.ok (λ e. e ∙ ap (λ x. record c.args.answer.now { acknowledgements = x }) same)
+    on_ok c.push_acknowledgement.result c.push_acknowledgement.ensures.ok
+    (λ e. e ∙ ap (λ x. record c.args.answer.now { acknowledgements = x }) same)
 
 pub returns-in-Ok-true-clause-common : goal.returns-in-Ok-true-clause-common
 returns-in-Ok-true-clause-common c =
-    let more = common_more c.args.answer.now.acknowledgements c.args.commons.now c.insert.new.self c.args.id c.requires c.in-Ok-true.ensures.updates.0 in
-    on_ok c.push_acknowledgement.result c.push_acknowledgement.ensures.ok (λ e. subst (λ (x : AnswerValue). AreCommon x.acknowledgements c.insert.new.self) (sym e) more)
+    let more =
+    common_more c.args.answer.now.acknowledgements c.args.commons.now c.insert.new.self c.args.id c.requires
+    c.in-Ok-true.ensures.updates.0 in
+    on_ok c.push_acknowledgement.result c.push_acknowledgement.ensures.ok
+    (λ e. subst (λ (x : AnswerValue). AreCommon x.acknowledgements c.insert.new.self) (sym e) more)
 
 pub returns-in-Ok-false-clause-ok : goal.returns-in-Ok-false-clause-ok
 returns-in-Ok-false-clause-ok c =

@@ -8,7 +8,11 @@ use Rattle.gixp_response.proofs.InterruptLemmas.{peeked_goes, reader_refused}
 use Rattle.gixp_response.proofs.fetch.response.beginnings.read_beginning.Goals as goal
 
 pub loop-answer-init : goal.loop-answer-init
-loop-answer-init g c = (rw c.empty-answer.ensures (amid-start _ _ _ _ c.reset.ensures.reading), rw c.empty-answer.ensures (none_common _ c.new-commons.ensures.empty), c.reset.ensures.goes_on)
+loop-answer-init g c = (
+  rw c.empty-answer.ensures (amid-start _ _ _ _ c.reset.ensures.reading),
+  rw c.empty-answer.ensures (none_common _ c.new-commons.ensures.empty),
+  c.reset.ensures.goes_on,
+)
 
 pub returns-then-behind_stop-clause-answers : goal.returns-then-behind_stop-clause-answers
 returns-then-behind_stop-clause-answers g c =
@@ -20,41 +24,57 @@ pub loop-answer-preserved-in-Ok-false : goal.loop-answer-preserved-in-Ok-false
 loop-answer-preserved-in-Ok-false g c =
     let k = rw c.in-Ok-false.field-0-test at c.in-Ok-false.ensures.peeks in
     let h = rw c.if-behind_stop.false at c.loop-answer.invariant.0 in
-    let went = g.met.R.ExtendedBufRead.joins _ _ _ c.loop-answer.invariant.2 c.in-Ok-false.ensures.goes_on in
-    (amid-stop _ _ _ _ _ _ _ _ h k c.reset-in-Ok-false.ensures.reading, c.loop-answer.invariant.1, g.met.R.ExtendedBufRead.joins _ _ _ went c.reset-in-Ok-false.ensures.goes_on)
+    let went = g.met.R.ExtendedBufRead.joins _ _ _ c.loop-answer.invariant.2 c.in-Ok-false.ensures.goes_on in (
+      amid-stop _ _ _ _ _ _ _ _ h k c.reset-in-Ok-false.ensures.reading,
+      c.loop-answer.invariant.1,
+      g.met.R.ExtendedBufRead.joins _ _ _ went c.reset-in-Ok-false.ensures.goes_on,
+    )
 
 pub returns-then-ends_answer-clause-answers : goal.returns-then-ends_answer-clause-answers
-returns-then-ends_answer-clause-answers g c = amid-end _ c.requires _ _ _ _ _ _ _ c.in-Err.e c.loop-answer.invariant.0 c.in-Err.ensures.peeks c.if-ends_answer.ensures
+returns-then-ends_answer-clause-answers g c =
+    amid-end _ c.requires _ _ _ _ _ _ _ c.in-Err.e c.loop-answer.invariant.0 c.in-Err.ensures.peeks c.if-ends_answer.ensures
 
 pub returns-in-Err-clause-answers : goal.returns-in-Err-clause-answers
 returns-in-Err-clause-answers g c =
-    amid-fails _ _ _ _ _ _ _ _ _ c.in-Err.e _ c.loop-answer.invariant.0 c.in-Err.ensures.peeks c.if-ends_answer.ensures c.in-Err.ensures.plain c.from.ensures
+    amid-fails _ _ _ _ _ _ _ _ _ c.in-Err.e _ c.loop-answer.invariant.0 c.in-Err.ensures.peeks c.if-ends_answer.ensures
+    c.in-Err.ensures.plain c.from.ensures
 
 pub returns-in-None-clause-answers : goal.returns-in-None-clause-answers
 returns-in-None-clause-answers g c =
     let k = rw c.in-Ok-true.field-0-test at c.in-Ok-true.ensures.peeks in
-    rw c.with_pack.ensures (amid-pack _ _ _ _ _ _ _ _ c.loop-answer.invariant.0 k (ap line_item (sym c.line.ensures) ∙ sym c.in-None.ensures))
+    rw c.with_pack.ensures (amid-pack _ _ _ _ _ _ _ _ c.loop-answer.invariant.0 k
+    (ap line_item (sym c.line.ensures) ∙ sym c.in-None.ensures))
 
 pub returns-in_err-keep-clause-answers : goal.returns-in_err-keep-clause-answers
 returns-in_err-keep-clause-answers g c =
     let k = rw c.in-Ok-true.field-0-test at c.in-Ok-true.ensures.peeks in
-    let t = amid-line _ _ _ _ _ c.in-Some.said _ _ _ _ _ c.loop-answer.invariant.0 k (c.in-Some.ensures ∙ ap line_item c.line.ensures) c.next_line.ensures.reads in
+    let t = amid-line _ _ _ _ _ c.in-Some.said _ _ _ _ _ c.loop-answer.invariant.0 k
+    (c.in-Some.ensures ∙ ap line_item c.line.ensures) c.next_line.ensures.reads in
     let p = err_from_is_err_and c.from_residual.result c.from_residual.ensures.1 in rw (p.1, p.2) (amid-memory _ _ _ c.in-Some.said _ _ _ t)
 
 pub returns-then-ends_by_nak-clause-answers : goal.returns-then-ends_by_nak-clause-answers
 returns-then-ends_by_nak-clause-answers g c =
     let k = rw c.in-Ok-true.field-0-test at c.in-Ok-true.ensures.peeks in
-    let t = amid-line _ _ _ _ _ c.in-Some.said _ _ _ _ _ c.loop-answer.invariant.0 k (c.in-Some.ensures ∙ ap line_item c.line.ensures) c.next_line.ensures.reads in
-    amid-nak _ c.requires _ _ _ _ _ _ c.in-Some.said _ _ _ c.loop-answer.invariant.0 t c.in_ok-keep.ensures.ok c.ready_by-came_ready.ensures c.if-ends_by_nak.ensures
+    let t = amid-line _ _ _ _ _ c.in-Some.said _ _ _ _ _ c.loop-answer.invariant.0 k
+    (c.in-Some.ensures ∙ ap line_item c.line.ensures) c.next_line.ensures.reads in
+    amid-nak _ c.requires _ _ _ _ _ _ c.in-Some.said _ _ _ c.loop-answer.invariant.0 t c.in_ok-keep.ensures.ok
+    c.ready_by-came_ready.ensures c.if-ends_by_nak.ensures
 
 pub loop-answer-preserved : goal.loop-answer-preserved
 loop-answer-preserved g c =
     let k = rw c.in-Ok-true.field-0-test at c.in-Ok-true.ensures.peeks in
-    let t = amid-line _ _ _ _ _ c.in-Some.said _ _ _ _ _ c.loop-answer.invariant.0 k (c.in-Some.ensures ∙ ap line_item c.line.ensures) c.next_line.ensures.reads in
+    let t = amid-line _ _ _ _ _ c.in-Some.said _ _ _ _ _ c.loop-answer.invariant.0 k
+    (c.in-Some.ensures ∙ ap line_item c.line.ensures) c.next_line.ensures.reads in
     let shown = g.met.R.ExtendedBufRead.joins _ _ _ c.loop-answer.invariant.2 c.in-Ok-true.ensures.goes_on in
-    let went = g.met.R.ExtendedBufRead.joins _ _ _ shown (peeked_goes _ _ _ _ k.peeked c.next_line.ensures.reads c.next_line.ensures.goes_on) in
-    (amid-said _ _ _ _ _ _ _ c.in-Some.said _ _ _ c.loop-answer.invariant.0 t c.in_ok-keep.ensures.ok c.ready_by-came_ready.ensures c.if-ends_by_nak.ensures, c.in_ok-keep.ensures.common, went)
+    let went = g.met.R.ExtendedBufRead.joins _ _ _ shown
+    (peeked_goes _ _ _ _ k.peeked c.next_line.ensures.reads c.next_line.ensures.goes_on) in (
+      amid-said _ _ _ _ _ _ _ c.in-Some.said _ _ _ c.loop-answer.invariant.0 t c.in_ok-keep.ensures.ok c.ready_by-came_ready.ensures
+          c.if-ends_by_nak.ensures,
+      c.in_ok-keep.ensures.common,
+      went,
+    )
 
 pub returns-in-Err-clause-goes_on : goal.returns-in-Err-clause-goes_on
 returns-in-Err-clause-goes_on g c =
-    reader_refused Bool Response _ _ c.in-Err.e _ c.from.ensures (λ k. g.met.R.ExtendedBufRead.joins _ _ _ c.loop-answer.invariant.2 k) c.in-Err.ensures.goes_on
+    reader_refused Bool Response _ _ c.in-Err.e _ c.from.ensures
+    (λ k. g.met.R.ExtendedBufRead.joins _ _ _ c.loop-answer.invariant.2 k) c.in-Err.ensures.goes_on

@@ -8,7 +8,8 @@ use Rattle.gixp_response.proofs.fetch.response.line.read_acknowledged.Goals as g
 -- fewer than 40 digits are no id
 too_short : (text : List ℕ) → length text < 40 → None ≡ acknowledged (Some text)
 too_short text h =
-    let few : (length (take 40 text) == 40) ≡ false = false_from_ne_true _ (λ t. let n = eqb-true _ _ t in absurd (omega (arith, length-take 40 text))) in
+    let few : (length (take 40 text) == 40) ≡ false =
+    false_from_ne_true _ (λ t. let n = eqb-true _ _ t in absurd (omega (arith, length-take 40 text))) in
     rw few refl
 
 pub returns-then-text-lt40 : goal.returns-then-text-lt40

@@ -25,8 +25,10 @@ pub loop-answer-preserved-in-Some : goal.loop-answer-preserved-in-Some
 loop-answer-preserved-in-Some g c =
     let k = rw c.in-Ok-false.field-0-test at c.in-Ok-false.ensures.reads in
     let h = rw c.in-Some.is at c.loop-answer.invariant.0 in
-    let went = g.met.R.ExtendedBufRead.joins _ _ _ c.loop-answer.invariant.1 c.in-Ok-false.ensures.goes_on in
-    (within-delimiter _ _ _ _ _ _ h k (rw (sym c.stopped_at.ensures) (sym c.if-is_flush.ensures)) c.reset-in-Some.ensures.reading, g.met.R.ExtendedBufRead.joins _ _ _ went c.reset-in-Some.ensures.goes_on)
+    let went = g.met.R.ExtendedBufRead.joins _ _ _ c.loop-answer.invariant.1 c.in-Ok-false.ensures.goes_on in (
+      within-delimiter _ _ _ _ _ _ h k (rw (sym c.stopped_at.ensures) (sym c.if-is_flush.ensures)) c.reset-in-Some.ensures.reading,
+      g.met.R.ExtendedBufRead.joins _ _ _ went c.reset-in-Some.ensures.goes_on,
+    )
 
 pub returns-in-Err-clause-answers : goal.returns-in-Err-clause-answers
 returns-in-Err-clause-answers g c =
@@ -51,21 +53,30 @@ pub returns-in_err-section-in-None-at-clause-answers : goal.returns-in_err-secti
 returns-in_err-section-in-None-at-clause-answers g c =
     let k = rw c.in-Ok-true.field-0-test at c.in-Ok-true.ensures.reads in
     let h = rw c.in-None-at.is at c.loop-answer.invariant.0 in
-    let p = err_from_is_err_and c.from_residual.result c.from_residual.ensures.1 in rw (p.1, p.2) (within-bad_header _ _ _ _ _ _ c.in_err-section-in-None-at.field-0.0 h k (ap read_header (sym c.line.ensures)) c.in_err-section-in-None-at.ensures)
+    let p = err_from_is_err_and c.from_residual.result c.from_residual.ensures.1 in
+    rw (p.1, p.2) (within-bad_header _ _ _ _ _ _ c.in_err-section-in-None-at.field-0.0 h k
+    (ap read_header (sym c.line.ensures)) c.in_err-section-in-None-at.ensures)
 
 pub loop-answer-preserved : goal.loop-answer-preserved
 loop-answer-preserved g c =
     let k = rw c.in-Ok-true.field-0-test at c.in-Ok-true.ensures.reads in
     let h = rw c.in-Some-at.is at c.loop-answer.invariant.0 in
-    let went = g.met.R.ExtendedBufRead.joins _ _ _ c.loop-answer.invariant.1 c.in-Ok-true.ensures.goes_on in
-    (within-adds _ _ _ _ _ _ _ h k (ap (read_item c.in-Some-at.section) (sym c.line-in-Some-at.ensures)) c.in_ok-add_item-in-Some-at.ensures, went)
+    let went = g.met.R.ExtendedBufRead.joins _ _ _ c.loop-answer.invariant.1 c.in-Ok-true.ensures.goes_on in (
+      within-adds _ _ _ _ _ _ _ h k (ap (read_item c.in-Some-at.section)
+          (sym c.line-in-Some-at.ensures)) c.in_ok-add_item-in-Some-at.ensures,
+      went,
+    )
 
 pub returns-in_err-add_item-in-Some-at-clause-answers : goal.returns-in_err-add_item-in-Some-at-clause-answers
 returns-in_err-add_item-in-Some-at-clause-answers g c =
     let k = rw c.in-Ok-true.field-0-test at c.in-Ok-true.ensures.reads in
     let h = rw c.in-Some-at.is at c.loop-answer.invariant.0 in
-    let p = err_from_is_err_and c.from_residual-in_err-add_item-in-Some-at.result c.from_residual-in_err-add_item-in-Some-at.ensures.1 in rw (p.1, p.2) (within-bad_item _ _ _ _ _ _ _ _ c.in_err-add_item-in-Some-at.field-0.0 h k (ap (read_item c.in-Some-at.section) (sym c.line-in-Some-at.ensures)) c.in_err-add_item-in-Some-at.ensures)
+    let p =
+    err_from_is_err_and c.from_residual-in_err-add_item-in-Some-at.result c.from_residual-in_err-add_item-in-Some-at.ensures.1 in
+    rw (p.1, p.2) (within-bad_item _ _ _ _ _ _ _ _ c.in_err-add_item-in-Some-at.field-0.0 h k
+    (ap (read_item c.in-Some-at.section) (sym c.line-in-Some-at.ensures)) c.in_err-add_item-in-Some-at.ensures)
 
 pub returns-in-Err-clause-goes_on : goal.returns-in-Err-clause-goes_on
 returns-in-Err-clause-goes_on g c =
-    reader_refused Bool Response _ _ c.in-Err.e _ c.from.ensures (λ k. g.met.R.ExtendedBufRead.joins _ _ _ c.loop-answer.invariant.1 k) c.in-Err.ensures.goes_on
+    reader_refused Bool Response _ _ c.in-Err.e _ c.from.ensures
+    (λ k. g.met.R.ExtendedBufRead.joins _ _ _ c.loop-answer.invariant.1 k) c.in-Err.ensures.goes_on

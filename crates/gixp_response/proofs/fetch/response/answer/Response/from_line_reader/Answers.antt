@@ -15,4 +15,5 @@ pub returns-in-V2-clause-answers : goal.returns-in-V2-clause-answers
 returns-in-V2-clause-answers g c = rw c.in-V2.is c.read_sections.ensures.answers
 
 pub returns-in-V1 : goal.returns-in-V1
-returns-in-V1 g c = rw (earlier_is c.args.version (expected c.args.client_expects_pack c.args.wants_to_negotiate) c.in-V1.is) c.read_beginning.ensures
+returns-in-V1 g c =
+    rw (earlier_is c.args.version (expected c.args.client_expects_pack c.args.wants_to_negotiate) c.in-V1.is) c.read_beginning.ensures
