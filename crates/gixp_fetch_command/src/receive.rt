@@ -44,7 +44,7 @@ pub struct Whole<W> {
     pub summary: PackSummary,
 }
 
-/// ReceivesPack a pack into its place. What has come stands under the pack's name only once it is whole, and kept.
+/// Receives a pack into its place. What has come stands under the pack's name only once it is whole, and kept.
 #[derive(Drop)]
 pub struct PackReceiver<P: PackPlace> {
     alloc: Global,

@@ -3,46 +3,52 @@ ghost use Rattle.std.specs.Prelude.{◌≡◌, ◌↔◌, IsTrue};
 ghost use Rattle.gixp_response.specs.AnswerLine.{wanted_value};
 ghost use Rattle.gixp_response.specs.Order.{acknowledgement_cmp, update_cmp, wanted_cmp};
 
-use crate::fetch::response::{Acknowledgement, ShallowUpdate, WantedRef};
+use crate::fetch::response;
 use std::cmp::Ordering;
 
 /// Two acknowledgements are equal exactly where they are one value.
-fn is_same_acknowledgement(one: &Acknowledgement, other: &Acknowledgement) -> bool
+fn is_same_acknowledgement(
+    one: &response::Acknowledgement,
+    other: &response::Acknowledgement,
+) -> bool
     ensures { IsTrue result ↔ (one.now ≡ other.now) }
 {
     one == other
 }
 
 /// Common commits stand first, ordered by their ids, and `NAK` last.
-fn order_of_acknowledgements(first: &Acknowledgement, second: &Acknowledgement) -> Ordering
+fn order_of_acknowledgements(
+    first: &response::Acknowledgement,
+    second: &response::Acknowledgement,
+) -> Ordering
     ensures { result ≡ acknowledgement_cmp first.now second.now }
 {
     first.cmp(second)
 }
 
 /// Two shallow updates are equal exactly where they are one value.
-fn is_same_update(left: &ShallowUpdate, right: &ShallowUpdate) -> bool
+fn is_same_update(left: &response::ShallowUpdate, right: &response::ShallowUpdate) -> bool
     ensures { IsTrue result ↔ (left.now ≡ right.now) }
 {
     left == right
 }
 
 /// Those that make a commit shallow stand first, and each kind is ordered by the ids.
-fn order_of_updates(earlier: &ShallowUpdate, later: &ShallowUpdate) -> Ordering
+fn order_of_updates(earlier: &response::ShallowUpdate, later: &response::ShallowUpdate) -> Ordering
     ensures { result ≡ update_cmp earlier.now later.now }
 {
     earlier.cmp(later)
 }
 
 /// Two wanted refs are equal exactly where their ids and paths are.
-fn is_same_wanted(a: &WantedRef, b: &WantedRef) -> bool
+fn is_same_wanted(a: &response::WantedRef, b: &response::WantedRef) -> bool
     ensures { IsTrue result ↔ (wanted_value a.now ≡ wanted_value b.now) }
 {
     a == b
 }
 
 /// Wanted refs are ordered by their ids, and then by their paths.
-fn order_of_wanted(x: &WantedRef, y: &WantedRef) -> Ordering
+fn order_of_wanted(x: &response::WantedRef, y: &response::WantedRef) -> Ordering
     ensures { result ≡ wanted_cmp (wanted_value x.now) (wanted_value y.now) }
 {
     x.cmp(y)
