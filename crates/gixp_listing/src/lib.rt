@@ -3,5 +3,7 @@
 
 mod list;
 mod print;
+mod text;
 
 pub use list::{ListError, list_lines, list_refs};
+pub use text::append;

@@ -1,24 +1,15 @@
 //! Refs as printed lines.
-ghost use Rattle.std.specs.Prelude.{◌≡◌, ◌++◌, OnOk, flat_map};
+ghost use Rattle.std.specs.Prelude.{◌≡◌, ◌++◌, OnOk};
 ghost use Rattle.gixp_listing.specs.List.{ref_line, symbolic_line};
-ghost use Rattle.gixp_refs.specs.Ref.{ref_value};
+ghost use Rattle.gixp_refs.specs.Ref.{ref_value, peeled, unborn};
 ghost use Rattle.gixp_refs.specs.ParseError.{object_of};
 
+use crate::text::append;
 use gixp_hash::ObjectId;
 use gixp_refs::handshake::Ref;
 use std::alloc::AllocError;
 
-// The pieces, one after the other.
-#[inline(always)]
-fn append(text: &mut Vec<u8>, pieces: &[&[u8]]) -> Result<(), AllocError>
-    ensures { OnOk result (text.new.items ≡ text.old.items ++ flat_map (λ piece. piece.now) pieces.now) }
-{
-    for piece in pieces {
-        text.extend_from_slice(piece)?;
-    }
-    Ok(())
-}
-
+// The line of a symbolic ref.
 fn append_symbolic(
     text: &mut Vec<u8>,
     name: &[u8],
@@ -50,6 +41,28 @@ fn append_symbolic(
     }
 }
 
+// The line of a tag, with what it leads to.
+#[inline(always)]
+fn append_peeled(
+    text: &mut Vec<u8>,
+    name: &[u8],
+    tag: &ObjectId,
+    object: &ObjectId,
+) -> Result<(), AllocError>
+    ensures { OnOk result (text.new.items ≡ text.old.items ++ ref_line (peeled name.now tag.now.bytes object.now.bytes)) }
+{
+    let (tag, object) = (tag.to_hex(), object.to_hex());
+    append(text, &[&tag, b" ", name, b" peeled:", &object, b"\n"])
+}
+
+// The line of a ref that leads to one that isn't there yet.
+fn append_unborn(text: &mut Vec<u8>, name: &[u8], target: &[u8]) -> Result<(), AllocError>
+    ensures { OnOk result (text.new.items ≡ text.old.items ++ ref_line (unborn name.now target.now)) }
+{
+    append(text, &[b"unborn ", name, b" symref-target:", target, b"\n"])
+}
+
+// The line of a ref.
 #[inline(always)]
 fn append_ref(text: &mut Vec<u8>, found: &Ref) -> Result<(), AllocError>
     ensures { OnOk result (text.new.items ≡ text.old.items ++ ref_line (ref_value found.now)) }
@@ -66,17 +79,7 @@ fn append_ref(text: &mut Vec<u8>, found: &Ref) -> Result<(), AllocError>
             full_ref_name,
             tag,
             object,
-        } => append(
-            text,
-            &[
-                &tag.to_hex(),
-                b" ",
-                full_ref_name.as_bytes(),
-                b" peeled:",
-                &object.to_hex(),
-                b"\n",
-            ],
-        ),
+        } => append_peeled(text, full_ref_name.as_bytes(), tag, object),
         Ref::Symbolic {
             full_ref_name,
             target,
@@ -92,16 +95,7 @@ fn append_ref(text: &mut Vec<u8>, found: &Ref) -> Result<(), AllocError>
         Ref::Unborn {
             full_ref_name,
             target,
-        } => append(
-            text,
-            &[
-                b"unborn ",
-                full_ref_name.as_bytes(),
-                b" symref-target:",
-                target.as_bytes(),
-                b"\n",
-            ],
-        ),
+        } => append_unborn(text, full_ref_name.as_bytes(), target.as_bytes()),
     }
 }
 

@@ -15,20 +15,10 @@ use bstr::BString;
 use gix_protocol::fetch::RefMap;
 use gix_protocol::fetch::refmap::{Mapping, Source};
 use gix_protocol::refspec::match_group::validate::Fix;
+use gixp_listing::append;
 use gixp_packetline::{MessageKind, PacketLine, split_packet_line};
 use std::alloc::{AllocError, Global};
 use std::io::{ErrorKind, Write};
-
-// Appends the pieces, one after the other.
-#[inline(always)]
-fn append(text: &mut Vec<u8>, pieces: &[&[u8]]) -> Result<(), AllocError>
-    ensures { OnOk result (text.new.items ≡ text.old.items ++ flat_map (λ piece. piece.now) pieces.now) }
-{
-    for piece in pieces {
-        text.extend_from_slice(piece)?;
-    }
-    Ok(())
-}
 
 // The digits of a packet line without a payload.
 fn mark(kind: MessageKind) -> &'static [u8]
