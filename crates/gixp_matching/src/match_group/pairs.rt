@@ -99,11 +99,16 @@ impl<'m, 's> Numbered<'m, 's> {
     }
 }
 
-/// Whether no positive refspec is looked up by its name.
+/// How many refspecs with a name of their own are sooner compared with each ref than looked up in a table of them, for which
+/// refs that come out of order have to be sorted.
+const FEW: usize = 4;
+
+/// Whether at most a few positive refspecs are looked up by their names.
 fn are_compared(specs: &[RefSpecRef<'_>]) -> bool {
-    specs
+    let looked_up = specs
         .iter()
-        .all(|spec| is_negative(spec.sign) || stars(spec.source) > 0)
+        .filter(|spec| !is_negative(spec.sign) && stars(spec.source) == 0);
+    looked_up.count() <= FEW
 }
 
 /// A group of refspecs, and the refs that it is matched with.
@@ -298,7 +303,7 @@ impl Matching<'_, '_, '_> {
         Ok(())
     }
 
-    /// Appends the mappings of each refspec and each ref. A table of the refs is made only where some name is looked up.
+    /// Appends the mappings of each refspec and each ref. A table of the refs is made only where many names are looked up.
     pub(crate) fn push_pairs(&self, out: &mut Vec<Mapping>) -> Result<(), AllocError>
         requires { IsPrepared self.now.prepared.now }
         ensures { OnOk result (mapped_in out.new ≡ mapped_in out.old
