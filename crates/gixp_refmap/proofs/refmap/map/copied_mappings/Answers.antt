@@ -3,5 +3,5 @@ use Rattle.gixp_refmap.specs.Values.{mapping_value}
 use Rattle.gixp_refmap.proofs.CloneLemmas.{same_values}
 use Rattle.gixp_refmap.proofs.refmap.map.copied_mappings.Goals as goal
 
-pub returns-in-Ok : goal.returns-in-Ok
-returns-in-Ok c = same_values mapping_value _ _ c.in-Ok.ensures.cases.0
+pub returns : goal.returns
+returns c = same_values mapping_value _ _ c.in_ok-copy.ensures.cases.0
