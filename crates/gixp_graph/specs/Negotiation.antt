@@ -1,9 +1,29 @@
--- What a negotiator may answer.
+-- What the calls of a negotiator do, and what it may answer.
 use Rattle.std.specs.Prelude.{◌≡◌, ⊤, ℕ, ◌⊎◌}
 use Rattle.gixp_graph.specs.declared.objects.ObjectError.TheVariants as object
 use Rattle.gixp_graph.specs.declared.negotiator.NegotiatorError.{NegotiatorError}
 use Rattle.gixp_graph.specs.declared.negotiator.NegotiatorError.TheVariants.{Lookup, Memory}
 use Rattle.gixp_graph.specs.Object.{HasRisen}
+use Rattle.gixp_graph.specs.GraphData.{GraphData}
+use Rattle.gixp_graph.specs.Run.{Call, Offer, RefusedCall, RefusedOffer}
+
+-- what the calls of a negotiator do, what refused ones leave, how many haves it may still offer, and how many calls have failed so far
+pub record NegotiatorCalls (N : Type 0) : Type 1 where
+  -- with this graph
+  pub count : N → GraphData → ℕ
+  pub failures : N → ℕ
+  -- `known_common`
+  pub knows : Call N
+  -- `add_tip`
+  pub adds : Call N
+  -- `in_common_with_remote`
+  pub learns : Call N
+  -- `next_have`
+  pub offers : Offer N
+  pub knowing_fails : RefusedCall N
+  pub adding_fails : RefusedCall N
+  pub learning_fails : RefusedCall N
+  pub offering_fails : RefusedOffer N
 
 -- an allocation failed, also where the graph says so
 abbrev pub IsMemory : NegotiatorError → Type 0

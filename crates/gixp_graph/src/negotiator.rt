@@ -1,9 +1,8 @@
 //! What a negotiation asks of the one who chooses the haves.
-ghost use Rattle.std.specs.Prelude.{◌≡◌, ⊤, ℕ, ◌≤◌, ◌<◌, Option, Some, None, IfOk, IfErr, OnOk, OnErr, IfSome, IfNone};
+ghost use Rattle.std.specs.Prelude.{◌≡◌, ◌≤◌, ◌<◌, Some, None, IfOk, IfErr, OnOk, OnErr, IfSome, IfNone};
 ghost use Rattle.gixp_hash.specs.declared.object_id.ObjectId.{ObjectId};
 ghost use Rattle.gixp_graph.specs.GraphData.{GraphData};
-ghost use Rattle.gixp_graph.specs.Negotiation.{IsRefusal};
-ghost use Rattle.gixp_graph.specs.declared.negotiator.NegotiatorError.{NegotiatorError};
+ghost use Rattle.gixp_graph.specs.Negotiation.{IsRefusal, NegotiatorCalls};
 
 use crate::graph::Graph;
 use crate::objects::{ObjectError, Objects};
@@ -44,43 +43,16 @@ impl<T: Drop> From<AllocFailed<T>> for NegotiatorError {
 
 /// Chooses the commits to offer as haves (gitprotocol-pack, "Packfile Negotiation").
 ///
-/// Each call says what it does as a relation of the negotiator and the graph before and after it, in
-/// which a graph stands as plain data. No call changes what the graph's objects mean. What a refused call
-/// leaves is a relation too, by its error, which an implementation need not give: by default it leaves
-/// all open. Contracts of the calls above say by it that nothing was done after a refusal.
+/// Each call says what it does as a relation of the negotiator and the graph before and after it, a field of
+/// `calls`, in which a graph stands as plain data. No call changes what the graph's objects mean. What a
+/// refused call leaves is a relation too, by its error; an implementation may leave all open there
+/// (`AnyCallLeft`, `AnyOfferLeft`). Contracts of the calls above say by it that nothing was done after a refusal.
 ///
 /// The law: there is a count of the haves that it may still offer, which each offer lowers, and which
 /// neither `in_common_with_remote` nor a `next_have` with no offer raises.
 pub trait Negotiator {
-    /// How many haves it may still offer, with this graph.
-    ghost count: { Self → GraphData → ℕ };
-
-    /// How many calls have failed so far.
-    ghost failures: { Self → ℕ };
-
-    /// What `known_common` does.
-    ghost knows: { Self → GraphData → ObjectId → Self → GraphData → Type 0 };
-
-    /// What `add_tip` does.
-    ghost adds: { Self → GraphData → ObjectId → Self → GraphData → Type 0 };
-
-    /// What `in_common_with_remote` does.
-    ghost learns: { Self → GraphData → ObjectId → Self → GraphData → Type 0 };
-
-    /// What `next_have` does, by its offer.
-    ghost offers: { Self → GraphData → Option ObjectId → Self → GraphData → Type 0 };
-
-    /// What a refused `known_common` leaves, by its error.
-    ghost knowing_fails: { Self → GraphData → ObjectId → NegotiatorError → Self → GraphData → Type 0 } = { λ _ _ _ _ _ _. ⊤ };
-
-    /// What a refused `add_tip` leaves, by its error.
-    ghost adding_fails: { Self → GraphData → ObjectId → NegotiatorError → Self → GraphData → Type 0 } = { λ _ _ _ _ _ _. ⊤ };
-
-    /// What a refused `in_common_with_remote` leaves, by its error.
-    ghost learning_fails: { Self → GraphData → ObjectId → NegotiatorError → Self → GraphData → Type 0 } = { λ _ _ _ _ _ _. ⊤ };
-
-    /// What a refused `next_have` leaves, by its error.
-    ghost offering_fails: { Self → GraphData → NegotiatorError → Self → GraphData → Type 0 } = { λ _ _ _ _ _. ⊤ };
+    /// What its calls do, what refused ones leave, how many haves it may still offer, and how many calls have failed.
+    ghost calls: { NegotiatorCalls Self };
 
     /// Tells it of a commit that both sides have, before the first have.
     ///
@@ -92,12 +64,12 @@ pub trait Negotiator {
         id: ObjectId,
         graph: &mut Graph<O>,
     ) -> Result<(), NegotiatorError>
-        ensures told { OnOk result (knows self.old graph.old.graph id self.new graph.new.graph) }
-        ensures fails { IfErr result (λ e. knowing_fails self.old graph.old.graph id e self.new graph.new.graph) }
+        ensures told { OnOk result (calls.knows self.old graph.old.graph id self.new graph.new.graph) }
+        ensures fails { IfErr result (λ e. calls.knowing_fails self.old graph.old.graph id e self.new graph.new.graph) }
         ensures objects { graph.new.graph.objects ≡ graph.old.graph.objects }
-        ensures failures { failures self.old ≤ failures self.new }
+        ensures failures { calls.failures self.old ≤ calls.failures self.new }
         ensures graph_failures { graph.old.failures ≤ graph.new.failures }
-        ensures failed { IfErr result (IsRefusal (failures self.old) (failures self.new) graph.old.failures graph.new.failures) };
+        ensures failed { IfErr result (IsRefusal (calls.failures self.old) (calls.failures self.new) graph.old.failures graph.new.failures) };
 
     /// Adds a commit to begin from.
     ///
@@ -109,12 +81,12 @@ pub trait Negotiator {
         id: ObjectId,
         graph: &mut Graph<O>,
     ) -> Result<(), NegotiatorError>
-        ensures added { OnOk result (adds self.old graph.old.graph id self.new graph.new.graph) }
-        ensures fails { IfErr result (λ e. adding_fails self.old graph.old.graph id e self.new graph.new.graph) }
+        ensures added { OnOk result (calls.adds self.old graph.old.graph id self.new graph.new.graph) }
+        ensures fails { IfErr result (λ e. calls.adding_fails self.old graph.old.graph id e self.new graph.new.graph) }
         ensures objects { graph.new.graph.objects ≡ graph.old.graph.objects }
-        ensures failures { failures self.old ≤ failures self.new }
+        ensures failures { calls.failures self.old ≤ calls.failures self.new }
         ensures graph_failures { graph.old.failures ≤ graph.new.failures }
-        ensures failed { IfErr result (IsRefusal (failures self.old) (failures self.new) graph.old.failures graph.new.failures) };
+        ensures failed { IfErr result (IsRefusal (calls.failures self.old) (calls.failures self.new) graph.old.failures graph.new.failures) };
 
     /// Tells it of a have that the server has too.
     ///
@@ -126,13 +98,13 @@ pub trait Negotiator {
         id: ObjectId,
         graph: &mut Graph<O>,
     ) -> Result<(), NegotiatorError>
-        ensures learnt { OnOk result (learns self.old graph.old.graph id self.new graph.new.graph) }
-        ensures fails { IfErr result (λ e. learning_fails self.old graph.old.graph id e self.new graph.new.graph) }
-        ensures refused { OnErr result (count self.new graph.new.graph ≤ count self.old graph.old.graph) }
+        ensures learnt { OnOk result (calls.learns self.old graph.old.graph id self.new graph.new.graph) }
+        ensures fails { IfErr result (λ e. calls.learning_fails self.old graph.old.graph id e self.new graph.new.graph) }
+        ensures refused { OnErr result (calls.count self.new graph.new.graph ≤ calls.count self.old graph.old.graph) }
         ensures objects { graph.new.graph.objects ≡ graph.old.graph.objects }
-        ensures failures { failures self.old ≤ failures self.new }
+        ensures failures { calls.failures self.old ≤ calls.failures self.new }
         ensures graph_failures { graph.old.failures ≤ graph.new.failures }
-        ensures failed { IfErr result (IsRefusal (failures self.old) (failures self.new) graph.old.failures graph.new.failures) };
+        ensures failed { IfErr result (IsRefusal (calls.failures self.old) (calls.failures self.new) graph.old.failures graph.new.failures) };
 
     /// The next commit to offer, none where it has no more.
     ///
@@ -143,20 +115,20 @@ pub trait Negotiator {
         &mut self,
         graph: &mut Graph<O>,
     ) -> Option<Result<ObjectId, NegotiatorError>>
-        ensures offered { IfSome result (λ have. IfOk have (λ id. offers self.old graph.old.graph (Some id) self.new graph.new.graph)) }
-        ensures none { IfNone result (offers self.old graph.old.graph None self.new graph.new.graph) }
-        ensures fails { IfSome result (λ have. IfErr have (λ e. offering_fails self.old graph.old.graph e self.new graph.new.graph)) }
+        ensures offered { IfSome result (λ have. IfOk have (λ id. calls.offers self.old graph.old.graph (Some id) self.new graph.new.graph)) }
+        ensures none { IfNone result (calls.offers self.old graph.old.graph None self.new graph.new.graph) }
+        ensures fails { IfSome result (λ have. IfErr have (λ e. calls.offering_fails self.old graph.old.graph e self.new graph.new.graph)) }
         ensures objects { graph.new.graph.objects ≡ graph.old.graph.objects }
-        ensures failures { failures self.old ≤ failures self.new }
+        ensures failures { calls.failures self.old ≤ calls.failures self.new }
         ensures graph_failures { graph.old.failures ≤ graph.new.failures }
-        ensures failed { IfSome result (λ have. IfErr have (IsRefusal (failures self.old) (failures self.new) graph.old.failures graph.new.failures)) };
+        ensures failed { IfSome result (λ have. IfErr have (IsRefusal (calls.failures self.old) (calls.failures self.new) graph.old.failures graph.new.failures)) };
 
     /// Each offer lowers the count.
-    ghost offer_lowers: { (n : Self) (g : GraphData) (id : ObjectId) (m : Self) (h : GraphData) → offers n g (Some id) m h → count m h < count n g };
+    ghost offer_lowers: { (n : Self) (g : GraphData) (id : ObjectId) (m : Self) (h : GraphData) → calls.offers n g (Some id) m h → calls.count m h < calls.count n g };
 
     /// Where there is no offer, it isn't raised.
-    ghost none_keeps: { (n : Self) (g : GraphData) (m : Self) (h : GraphData) → offers n g None m h → count m h ≤ count n g };
+    ghost none_keeps: { (n : Self) (g : GraphData) (m : Self) (h : GraphData) → calls.offers n g None m h → calls.count m h ≤ calls.count n g };
 
     /// Nor is it by what the server has.
-    ghost learning_keeps: { (n : Self) (g : GraphData) (id : ObjectId) (m : Self) (h : GraphData) → learns n g id m h → count m h ≤ count n g };
+    ghost learning_keeps: { (n : Self) (g : GraphData) (id : ObjectId) (m : Self) (h : GraphData) → calls.learns n g id m h → calls.count m h ≤ calls.count n g };
 }

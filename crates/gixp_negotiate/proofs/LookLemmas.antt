@@ -13,7 +13,8 @@ use Rattle.gixp_graph.specs.declared.flags.Flags.{Flags}
 use Rattle.gixp_graph.specs.Object.{Objects, Commit, commit_at}
 use Rattle.gixp_graph.specs.GraphData.{HeldCommit, GraphData, found_in, shown, as_read, is_marked, OnlyMarks, IsFaithful}
 use Rattle.gixp_graph.specs.Complete.{IsComplete}
-use Rattle.gixp_graph.specs.Run.{Call, IsRun}
+use Rattle.gixp_graph.specs.Run.{Call, RefusedCall, IsRun}
+use Rattle.gixp_graph.specs.Negotiation.{NegotiatorCalls}
 use Rattle.gixp_graph.specs.GraphLaws.{faithful_reads, marked_looked_up, held_looked_up}
 use Rattle.gixp_refmap.specs.declared.refmap.mapping.Mapping.{Mapping}
 use Rattle.gixp_negotiate.specs.NegotiationMapping.{mapping_id}
@@ -22,9 +23,9 @@ use Rattle.gixp_graph.specs.Refusals.{Written}
 use Rattle.gixp_graph.specs.declared.objects.ObjectError.{ObjectError}
 use Rattle.gixp_graph.specs.declared.negotiator.NegotiatorError.{NegotiatorError}
 use Rattle.gixp_negotiate.specs.declared.negotiate.Error.{Error}
-use Rattle.gixp_negotiate.specs.Refused.{RefusedCall, CallsSome}
+use Rattle.gixp_negotiate.specs.Refused.{CallsSome}
 use Rattle.gixp_negotiate.specs.Stores.{Listings, Lent}
-use Rattle.gixp_negotiate.specs.Stopped.{LooksAtSome, Telling, Step, StopsTelling, StopsAfterLookups, refs_refused, lent_refused, telling_stopped, Stops, at_mappings, at_refs, at_lent, at_telling}
+use Rattle.gixp_negotiate.specs.Stopped.{LooksAtSome, Step, StopsTelling, StopsAfterLookups, refs_refused, lent_refused, telling_stopped, Stops, at_mappings, at_refs, at_lent, at_telling}
 use Rattle.gixp_negotiate.specs.Marking.{mapping_ids, look, look_each, commit_time, time_at, later, cutoff_from, cutoff_of, is_here, is_known, tips_in, TellsNegotiator, Marks}
 
 append-none : (xs : List ObjectId) → xs ++ [] ≡ xs
@@ -161,8 +162,8 @@ marked_some p front m id b had new eh em eb en =
     ∙ (sym (filter-append p (mapping_ids front) (id ∷ [])) ∙ ap (filter p) (sym (mapping_ids-append front (m ∷ []) ∙ ap (λ o. mapping_ids front ++ with_common o []) (sym em))))))
 
 -- what a walk marks and holds, by the graph in front of all looks
-pub walk_marks : {N : Type 0} (knows adds : Call N) (n : N) (g g1 : GraphData) (ids tips : List ObjectId) (cutoff : Option ℤ) (m : N) (h : GraphData) → g1 ≡ look_each ids g → cutoff ≡ cutoff_of g.objects ids → TellsNegotiator knows adds n g1 ids tips cutoff m h → Marks knows adds n g ids tips m h
-walk_marks knows adds n g g1 ids tips cutoff m h e ec t =
+pub walk_marks : {N : Type 0} (calls : NegotiatorCalls N) (n : N) (g g1 : GraphData) (ids tips : List ObjectId) (cutoff : Option ℤ) (m : N) (h : GraphData) → g1 ≡ look_each ids g → cutoff ≡ cutoff_of g.objects ids → TellsNegotiator calls n g1 ids tips cutoff m h → Marks calls n g ids tips m h
+walk_marks calls n g g1 ids tips cutoff m h e ec t =
     let same : (look_each tips g1).objects ≡ g.objects = look_each-objects tips g1 ∙ (ap (λ x. x.objects) e ∙ look_each-objects ids g) in
     let near : g1.objects ≡ g.objects = ap (λ x. x.objects) e ∙ look_each-objects ids g in
     record {
@@ -177,7 +178,7 @@ walk_marks knows adds n g g1 ids tips cutoff m h e ec t =
       told = t.told;
       told_graph = t.told_graph;
       known = t.known;
-      added = subst (λ (o : Objects). IsRun adds (tips_in o tips) t.told t.told_graph m h) near t.added;
+      added = subst (λ (o : Objects). IsRun calls.adds (tips_in o tips) t.told t.told_graph m h) near t.added;
     }
   where
     by_walk : (id : ObjectId) → IsSome (finite.get (look_each tips g1).held id) ⊎ IsComplete (commit_at (look_each tips g1).objects) tips cutoff id
@@ -222,7 +223,7 @@ calls_some call fails ids i d n g told told_graph x m h less run refused = recor
 }
 
 -- what was refused after the mappings, by the graph in front of all looks
-pub stops_behind : {N R A : Type 0} (calls : Telling N) (listings : Listings R) (Negotiates : Type 0) (n : N) (g g1 : GraphData) (q q1 : Written ObjectError) (refs : R) (lent : Lent R A) (ids tips : List ObjectId) (cutoff : Option ℤ) (e : Error A) (new : Step N R A)
+pub stops_behind : {N R A : Type 0} (calls : NegotiatorCalls N) (listings : Listings R) (Negotiates : Type 0) (n : N) (g g1 : GraphData) (q q1 : Written ObjectError) (refs : R) (lent : Lent R A) (ids tips : List ObjectId) (cutoff : Option ℤ) (e : Error A) (new : Step N R A)
     → g1 ≡ look_each ids g → cutoff ≡ cutoff_of g.objects ids → q1 ≡ q → Negotiates
     → StopsAfterLookups calls listings ids tips cutoff (record { negotiator = n; graph = g1; refusals = q1; refs = refs; lent = lent }) e new
     → Stops calls listings Negotiates ids tips (record { negotiator = n; graph = g; refusals = q; refs = refs; lent = lent }) e new
@@ -234,7 +235,7 @@ stops_behind calls listings P n g g1 q q1 refs lent ids tips cutoff e new eg ec 
     (subst (λ k. StopsTelling calls n g1 q1 ids tips k x new.negotiator new.graph new.refusals) ec s)))
 
 -- the same where the decision is told otherwise
-pub stops_when : {N R A : Type 0} (calls : Telling N) (listings : Listings R) (P Q : Type 0) (ids tips : List ObjectId) (old : Step N R A) (e : Error A) (new : Step N R A) → (P → Q) → Stops calls listings P ids tips old e new → Stops calls listings Q ids tips old e new
+pub stops_when : {N R A : Type 0} (calls : NegotiatorCalls N) (listings : Listings R) (P Q : Type 0) (ids tips : List ObjectId) (old : Step N R A) (e : Error A) (new : Step N R A) → (P → Q) → Stops calls listings P ids tips old e new → Stops calls listings Q ids tips old e new
 stops_when calls listings P Q ids tips old e new f (at_mappings x a b c d r l) = at_mappings x a b c d r l
 stops_when calls listings P Q ids tips old e new f (at_refs p a b c d) = at_refs (f p) a b c d
 stops_when calls listings P Q ids tips old e new f (at_lent p a b c d) = at_lent (f p) a b c d
@@ -244,5 +245,5 @@ stops_when calls listings P Q ids tips old e new f (at_telling p a b x c d) = at
 pub calls_same : {N : Type 0} (call : Call N) (refuses : RefusedCall N) (ids others : List ObjectId) (n : N) (g : GraphData) (x : NegotiatorError) (m : N) (h : GraphData) → ids ≡ others → CallsSome call refuses ids n g x m h → CallsSome call refuses others n g x m h
 calls_same call refuses ids others n g x m h e c = subst (λ i. CallsSome call refuses i n g x m h) e c
 
-pub telling_same : {N : Type 0} (calls : Telling N) (n : N) (g : GraphData) (q : Written ObjectError) (ids tips others : List ObjectId) (cutoff : Option ℤ) (x : NegotiatorError) (m : N) (h : GraphData) (p : Written ObjectError) → tips ≡ others → StopsTelling calls n g q ids tips cutoff x m h p → StopsTelling calls n g q ids others cutoff x m h p
+pub telling_same : {N : Type 0} (calls : NegotiatorCalls N) (n : N) (g : GraphData) (q : Written ObjectError) (ids tips others : List ObjectId) (cutoff : Option ℤ) (x : NegotiatorError) (m : N) (h : GraphData) (p : Written ObjectError) → tips ≡ others → StopsTelling calls n g q ids tips cutoff x m h p → StopsTelling calls n g q ids others cutoff x m h p
 telling_same calls n g q ids tips others cutoff x m h p e s = subst (λ l. StopsTelling calls n g q ids l cutoff x m h p) e s

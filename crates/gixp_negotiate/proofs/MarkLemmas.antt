@@ -6,6 +6,7 @@ use Rattle.gixp_graph.specs.Object.{commit_at}
 use Rattle.gixp_graph.specs.GraphData.{GraphData, is_marked}
 use Rattle.gixp_graph.specs.Complete.{IsComplete}
 use Rattle.gixp_graph.specs.Run.{Call, IsRun}
+use Rattle.gixp_graph.specs.Negotiation.{NegotiatorCalls}
 use Rattle.gixp_negotiate.specs.Marking.{cutoff_of, Marks}
 use Rattle.gixp_negotiate.specs.MarkLaws.{LeavesMarks, MarksComplete, CompleteMarksAreExact}
 
@@ -14,16 +15,16 @@ run_leaves call law [] n g m h r q = ap (λ x. is_marked x.held q) r.1
 run_leaves call law (id ∷ ids) n g m h r q = run_leaves call law ids r.0 r.1 m h r.3 q ∙ law n g id r.0 r.1 r.2 q
 
 -- the marks after both runs are those of the walk
-pub marks_complete : {N : Type 0} (knows adds : Call N) (n : N) (g : GraphData) (ids tips : List ObjectId) (m : N) (h : GraphData) → LeavesMarks knows → LeavesMarks adds → Marks knows adds n g ids tips m h → MarksComplete g ids tips h
-marks_complete knows adds n g ids tips m h k a marks id =
+pub marks_complete : {N : Type 0} (calls : NegotiatorCalls N) (n : N) (g : GraphData) (ids tips : List ObjectId) (m : N) (h : GraphData) → LeavesMarks calls.knows → LeavesMarks calls.adds → Marks calls n g ids tips m h → MarksComplete g ids tips h
+marks_complete calls n g ids tips m h k a marks id =
     subst (λ (b : Bool). IsTrue b ↔ (IsTrue (is_marked g.held id) ⊎ IsComplete (commit_at g.objects) tips (cutoff_of g.objects ids) id))
-    (sym (run_leaves adds a _ marks.told marks.told_graph m h marks.added id ∙ run_leaves knows k _ n marks.walked marks.told marks.told_graph marks.known id)) (marks.marked id)
+    (sym (run_leaves calls.adds a _ marks.told marks.told_graph m h marks.added id ∙ run_leaves calls.knows k _ n marks.walked marks.told marks.told_graph marks.known id)) (marks.marked id)
 
 from_none : (b : Bool) (C : Type 0) → b ≡ false → IsTrue b ⊎ C → C
 from_none b C e (inl t) = absurd (true≢false (sym t ∙ e))
 from_none b C e (inr c) = c
 
-pub marks_are_exact : {N : Type 0} (knows adds : Call N) → CompleteMarksAreExact knows adds
-marks_are_exact knows adds n g ids tips m h k a none marks id =
-    let both = marks_complete knows adds n g ids tips m h k a marks id in
+pub marks_are_exact : {N : Type 0} (calls : NegotiatorCalls N) → CompleteMarksAreExact calls
+marks_are_exact calls n g ids tips m h k a none marks id =
+    let both = marks_complete calls n g ids tips m h k a marks id in
     (λ t. from_none (is_marked g.held id) _ (none id) (both.0 t), λ c. both.1 (inr c))

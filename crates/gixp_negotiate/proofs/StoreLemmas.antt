@@ -4,8 +4,7 @@ use Rattle.std.proofs.Math.Numerals.{add-one}
 use Rattle.std.proofs.Math.Seq.{drop-cons}
 use Rattle.std.specs.List.{flat_map}
 use Rattle.gixp_hash.specs.declared.object_id.ObjectId.{ObjectId}
-use Rattle.std.proofs.Common.{inl, inr, Bool, true, false, Option, Some, None}
-use Rattle.std.specs.Prelude.{option_map}
+use Rattle.std.proofs.Common.{inl, inr, Bool, true, false, Some, None}
 use Rattle.gixp_refmap.specs.declared.refmap.mapping.Mapping.{Mapping}
 use Rattle.gixp_negotiate.specs.declared.shallow.Shallow.{Shallow}
 use Rattle.gixp_negotiate.specs.declared.negotiate.Error.{Error}

@@ -5,6 +5,7 @@ use Rattle.gixp_graph.specs.Object.{commit_at}
 use Rattle.gixp_graph.specs.GraphData.{GraphData, is_marked, HasNoMarks}
 use Rattle.gixp_graph.specs.Complete.{IsComplete}
 use Rattle.gixp_graph.specs.Run.{Call}
+use Rattle.gixp_graph.specs.Negotiation.{NegotiatorCalls}
 use Rattle.gixp_negotiate.specs.Marking.{cutoff_of, Marks}
 
 -- a call that leaves the mark COMPLETE of each commit alone
@@ -16,7 +17,7 @@ abbrev pub MarksComplete : GraphData → List ObjectId → List ObjectId → Gra
 MarksComplete g ids tips h = (id : ObjectId) → IsTrue (is_marked h.held id) ↔ (IsTrue (is_marked g.held id) ⊎ IsComplete (commit_at g.objects) tips (cutoff_of g.objects ids) id)
 
 -- from a graph without marks on, the marks after a negotiator that leaves them alone are the complete commits
-abbrev pub CompleteMarksAreExact : {N : Type 0} → Call N → Call N → Type 0
-CompleteMarksAreExact {N} knows adds =
-    (n : N) (g : GraphData) (ids tips : List ObjectId) (m : N) (h : GraphData) → LeavesMarks knows → LeavesMarks adds → HasNoMarks g.held → Marks knows adds n g ids tips m h
+abbrev pub CompleteMarksAreExact : {N : Type 0} → NegotiatorCalls N → Type 0
+CompleteMarksAreExact {N} calls =
+    (n : N) (g : GraphData) (ids tips : List ObjectId) (m : N) (h : GraphData) → LeavesMarks calls.knows → LeavesMarks calls.adds → HasNoMarks g.held → Marks calls n g ids tips m h
     → (id : ObjectId) → IsTrue (is_marked h.held id) ↔ IsComplete (commit_at g.objects) tips (cutoff_of g.objects ids) id

@@ -2,12 +2,8 @@
 use Rattle.std.specs.Prelude.{◌≡◌, List, ◌∷◌, ◌++◌}
 use Rattle.gixp_hash.specs.declared.object_id.ObjectId.{ObjectId}
 use Rattle.gixp_graph.specs.GraphData.{GraphData}
-use Rattle.gixp_graph.specs.Run.{Call, IsRun}
+use Rattle.gixp_graph.specs.Run.{Call, RefusedCall, IsRun}
 use Rattle.gixp_graph.specs.declared.negotiator.NegotiatorError.{NegotiatorError}
-
--- what a refused call with an id leaves, by its error
-abbrev pub RefusedCall : Type 0 → Type 1
-RefusedCall N = N → GraphData → ObjectId → NegotiatorError → N → GraphData → Type 0
 
 -- the first of these calls were made, and the next was refused with this error; what the negotiator and the graph are after that one is its own, and nothing was done since
 pub record CallsSome {N : Type 0} (call : Call N) (refuses : RefusedCall N) (ids : List ObjectId) (n : N) (g : GraphData) (x : NegotiatorError) (m : N) (h : GraphData) : Type 0 where

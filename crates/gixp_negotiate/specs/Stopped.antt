@@ -1,12 +1,13 @@
 -- How far a first step came that was refused: what was looked up, marked and told stays.
-use Rattle.std.specs.Prelude.{◌≡◌, ◌⊎◌, ⊤, List, ◌∷◌, ◌++◌, filter, IsTrue, IsSome, Option, ℤ}
+use Rattle.std.specs.Prelude.{◌≡◌, ◌⊎◌, ⊤, List, ◌++◌, filter, IsTrue, IsSome, Option, ℤ}
 use Rattle.std.specs.FinMap as finite
 use Rattle.gixp_hash.specs.declared.object_id.ObjectId.{ObjectId}
 use Rattle.gixp_graph.specs.Object.{commit_at}
 use Rattle.gixp_graph.specs.GraphData.{GraphData, is_marked, OnlyMarks}
 use Rattle.gixp_graph.specs.Complete.{IsComplete}
 use Rattle.gixp_graph.specs.Refusals.{Written, TellsRefusal}
-use Rattle.gixp_graph.specs.Run.{Call, IsRun}
+use Rattle.gixp_graph.specs.Run.{IsRun}
+use Rattle.gixp_graph.specs.Negotiation.{NegotiatorCalls}
 use Rattle.gixp_graph.specs.declared.objects.ObjectError.{ObjectError}
 use Rattle.gixp_graph.specs.declared.objects.ObjectError.TheVariants.{Memory}
 use Rattle.gixp_graph.specs.declared.negotiator.NegotiatorError.{NegotiatorError}
@@ -15,7 +16,7 @@ use Rattle.gixp_negotiate.specs.declared.negotiate.Error.{Error}
 use Rattle.gixp_negotiate.specs.Negotiate.{ActionValue, no_change, skip, negotiate}
 use Rattle.gixp_negotiate.specs.NegotiateError.{from_object, from_negotiator}
 use Rattle.gixp_negotiate.specs.Marking.{look_each, cutoff_of, tips_in, Walks}
-use Rattle.gixp_negotiate.specs.Refused.{RefusedCall, CallsSome}
+use Rattle.gixp_negotiate.specs.Refused.{CallsSome}
 use Rattle.gixp_negotiate.specs.Stores.{Listings, HasListed, RefusesToList, Lent, ListsLent, RefusesLent}
 
 -- the first of these ids were looked up, and nothing else was done
@@ -32,20 +33,13 @@ pub record WalksSome (g : GraphData) (ids : List ObjectId) (cutoff : Option ℤ)
   pub sound : (id : ObjectId) → IsTrue (is_marked h.held id) → IsTrue (is_marked g.held id) ⊎ IsComplete (commit_at g.objects) ids cutoff id
   pub held : (id : ObjectId) → IsSome (finite.get h.held id) → IsSome (finite.get g.held id) ⊎ IsComplete (commit_at g.objects) ids cutoff id
 
--- what a negotiator is told first, and what calls leave that it refuses
-pub record Telling (N : Type 0) : Type 1 where
-  pub knows : Call N
-  pub adds : Call N
-  pub knowing_fails : RefusedCall N
-  pub adding_fails : RefusedCall N
-
 -- an error of look-ups
 abbrev pub object_error : NegotiatorError → ObjectError
 object_error (Lookup x) = x
 object_error no_memory = Memory
 
 -- how far the walk and the calls after it came, over ids and tips that were looked up, and why; the lists are what the objects' refused calls told before and after it
-pub data StopsTelling {N : Type 0} (calls : Telling N) (n : N) (g : GraphData) (refusals : Written ObjectError) (ids tips : List ObjectId) (cutoff : Option ℤ) (x : NegotiatorError) (m : N) (h : GraphData) (refusals' : Written ObjectError) : Type 0 where
+pub data StopsTelling {N : Type 0} (calls : NegotiatorCalls N) (n : N) (g : GraphData) (refusals : Written ObjectError) (ids tips : List ObjectId) (cutoff : Option ℤ) (x : NegotiatorError) (m : N) (h : GraphData) (refusals' : Written ObjectError) : Type 0 where
   at_looks : TellsRefusal (object_error x) refusals refusals' → m ≡ n → LooksAtSome tips g h → StopsTelling calls n g refusals ids tips cutoff x m h refusals'
   at_walk : TellsRefusal (object_error x) refusals refusals' → m ≡ n → WalksSome (look_each tips g) tips cutoff h → StopsTelling calls n g refusals ids tips cutoff x m h refusals'
   at_known : (walked : GraphData) → Walks (look_each tips g) tips cutoff walked → CallsSome calls.knows calls.knowing_fails (filter (is_marked walked.held) ids) n walked x m h → StopsTelling calls n g refusals ids tips cutoff x m h refusals'
@@ -67,7 +61,7 @@ pub record Step (N R A : Type 0) : Type 0 where
   pub lent : Lent R A
 
 -- how far the whole came, and why it was refused: some of the mappings' commits were looked up; or all of them, something is to be negotiated, and the refs weren't listed; or those of the lending repositories, after them; or it came so far from there
-pub data Stops {N R A : Type 0} (calls : Telling N) (listings : Listings R) (Negotiates : Type 0) (ids tips : List ObjectId) (old : Step N R A) (e : Error A) (new : Step N R A) : Type 0 where
+pub data Stops {N R A : Type 0} (calls : NegotiatorCalls N) (listings : Listings R) (Negotiates : Type 0) (ids tips : List ObjectId) (old : Step N R A) (e : Error A) (new : Step N R A) : Type 0 where
   at_mappings : (x : ObjectError) → e ≡ from_object x → TellsRefusal x old.refusals new.refusals → new.negotiator ≡ old.negotiator → LooksAtSome ids old.graph new.graph → new.refs ≡ old.refs → new.lent ≡ old.lent → Stops calls listings Negotiates ids tips old e new
   at_refs : Negotiates → RefusesToList listings old.refs new.refs e → new.negotiator ≡ old.negotiator → new.graph ≡ look_each ids old.graph → new.lent ≡ old.lent → Stops calls listings Negotiates ids tips old e new
   at_lent : Negotiates → HasListed listings old.refs new.refs → RefusesLent listings old.lent new.lent e → new.negotiator ≡ old.negotiator → new.graph ≡ look_each ids old.graph → Stops calls listings Negotiates ids tips old e new
@@ -75,7 +69,7 @@ pub data Stops {N R A : Type 0} (calls : Telling N) (listings : Listings R) (Neg
       → StopsTelling calls old.negotiator (look_each ids old.graph) old.refusals ids tips (cutoff_of old.graph.objects ids) x new.negotiator new.graph new.refusals → Stops calls listings Negotiates ids tips old e new
 
 -- the same once the ids were looked up
-pub data StopsAfterLookups {N R A : Type 0} (calls : Telling N) (listings : Listings R) (ids tips : List ObjectId) (cutoff : Option ℤ) (old : Step N R A) (e : Error A) (new : Step N R A) : Type 0 where
+pub data StopsAfterLookups {N R A : Type 0} (calls : NegotiatorCalls N) (listings : Listings R) (ids tips : List ObjectId) (cutoff : Option ℤ) (old : Step N R A) (e : Error A) (new : Step N R A) : Type 0 where
   refs_refused : RefusesToList listings old.refs new.refs e → new.negotiator ≡ old.negotiator → new.graph ≡ old.graph → new.lent ≡ old.lent → StopsAfterLookups calls listings ids tips cutoff old e new
   lent_refused : HasListed listings old.refs new.refs → RefusesLent listings old.lent new.lent e → new.negotiator ≡ old.negotiator → new.graph ≡ old.graph → StopsAfterLookups calls listings ids tips cutoff old e new
   telling_stopped : HasListed listings old.refs new.refs → ListsLent listings old.lent new.lent → (x : NegotiatorError) → e ≡ from_negotiator x

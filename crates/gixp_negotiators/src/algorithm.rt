@@ -70,18 +70,20 @@ impl Negotiator for AnyNegotiator {
     ghost use Rattle.gixp_negotiators.specs.Marks.{left};
     ghost use Rattle.gixp_negotiators.specs.Algorithm.{KnowsByKind, AddsByKind, LearnsByKind, OffersByKind};
     ghost use Rattle.gixp_negotiators.specs.AlgorithmLaws.{any_lowers, any_keeps, any_learns};
+    ghost use Rattle.gixp_graph.specs.Run.{AnyCallLeft, AnyOfferLeft};
 
-    ghost count = { λ n g. left 16 g };
-
-    ghost failures = { λ n. 0 };
-
-    ghost knows = { λ n g id m h. KnowsByKind n g id m h };
-
-    ghost adds = { λ n g id m h. AddsByKind n g id m h };
-
-    ghost learns = { λ n g id m h. LearnsByKind n g id m h };
-
-    ghost offers = { λ n g have m h. OffersByKind n g have m h };
+    ghost calls = { record {
+      count = λ n g. left 16 g;
+      failures = λ n. 0;
+      knows = KnowsByKind;
+      adds = AddsByKind;
+      learns = LearnsByKind;
+      offers = OffersByKind;
+      knowing_fails = AnyCallLeft;
+      adding_fails = AnyCallLeft;
+      learning_fails = AnyCallLeft;
+      offering_fails = AnyOfferLeft;
+    } };
 
     fn known_common<O: Objects>(
         &mut self,

@@ -469,18 +469,20 @@ impl Negotiator for Consecutive {
     ghost use Rattle.gixp_negotiators.specs.MarkLaws.{offer_lowers, grows_left};
     ghost use Rattle.gixp_negotiators.specs.Marks.{left};
     ghost use Rattle.gixp_negotiators.specs.Calls.{KnowsInTurn, AddsInTurn, LearnsInTurn, OffersInTurn};
+    ghost use Rattle.gixp_graph.specs.Run.{AnyCallLeft, AnyOfferLeft};
 
-    ghost count = { λ n g. left 16 g };
-
-    ghost failures = { λ n. 0 };
-
-    ghost knows = { λ n g id m h. KnowsInTurn n g id m h };
-
-    ghost adds = { λ n g id m h. AddsInTurn n g id m h };
-
-    ghost learns = { λ n g id m h. LearnsInTurn n g id m h };
-
-    ghost offers = { λ n g have m h. OffersInTurn n g have m h };
+    ghost calls = { record {
+      count = λ n g. left 16 g;
+      failures = λ n. 0;
+      knows = KnowsInTurn;
+      adds = AddsInTurn;
+      learns = LearnsInTurn;
+      offers = OffersInTurn;
+      knowing_fails = AnyCallLeft;
+      adding_fails = AnyCallLeft;
+      learning_fails = AnyCallLeft;
+      offering_fails = AnyOfferLeft;
+    } };
 
     fn known_common<O: Objects>(
         &mut self,

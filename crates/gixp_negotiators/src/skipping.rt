@@ -495,18 +495,20 @@ impl Negotiator for Skipping {
     ghost use Rattle.gixp_negotiators.specs.MarkLaws.{offer_lowers, grows_left};
     ghost use Rattle.gixp_negotiators.specs.Marks.{left};
     ghost use Rattle.gixp_negotiators.specs.Calls.{KnowsSkipping, AddsSkipping, LearnsSkipping, OffersSkipping};
+    ghost use Rattle.gixp_graph.specs.Run.{AnyCallLeft, AnyOfferLeft};
 
-    ghost count = { λ n g. left 16 g };
-
-    ghost failures = { λ n. 0 };
-
-    ghost knows = { λ n g id m h. KnowsSkipping n g id m h };
-
-    ghost adds = { λ n g id m h. AddsSkipping n g id m h };
-
-    ghost learns = { λ n g id m h. LearnsSkipping n g id m h };
-
-    ghost offers = { λ n g have m h. OffersSkipping n g have m h };
+    ghost calls = { record {
+      count = λ n g. left 16 g;
+      failures = λ n. 0;
+      knows = KnowsSkipping;
+      adds = AddsSkipping;
+      learns = LearnsSkipping;
+      offers = OffersSkipping;
+      knowing_fails = AnyCallLeft;
+      adding_fails = AnyCallLeft;
+      learning_fails = AnyCallLeft;
+      offering_fails = AnyOfferLeft;
+    } };
 
     fn known_common<O: Objects>(
         &mut self,

@@ -5,21 +5,14 @@ use Rattle.std.proofs.lemmas.List.{take_all, take_at, drop_at}
 use Rattle.std.proofs.Math.ListN.{drop_of_length-le}
 use Rattle.gixp_hash.specs.declared.object_id.ObjectId.{ObjectId}
 use Rattle.gixp_graph.specs.GraphData.{GraphData}
-use Rattle.gixp_graph.specs.Run.{Call, IsRun}
+use Rattle.gixp_graph.specs.Run.{IsRun}
 use Rattle.gixp_requests.specs.Arguments.{ArgumentsValue}
 use Rattle.gixp_response.specs.Answer.{AnswerValue}
 use Rattle.gixp_negotiate.specs.declared.negotiate.Round.{Round}
 use Rattle.gixp_negotiate.specs.Negotiate.{Window, ActionValue, no_change, skip, negotiate}
 use Rattle.gixp_negotiate.specs.Marking.{tips_in, Acts}
-use Rattle.gixp_negotiate.specs.Plain.{OffersFirst}
-use Rattle.gixp_negotiate.specs.Rounds.{Offer, offering, Offered, OneRound, commons_of, is_any, with_kept, kept_ids, asks_haves, advanced, is_last}
-
--- such a negotiator takes no notice of what it is told, and offers the first id
-abbrev pub stays : Call (List ObjectId)
-stays n g id m h = (m ≡ n) × (h ≡ g)
-
-abbrev pub offers_first : Offer (List ObjectId)
-offers_first n g have m h = OffersFirst n have m × (h ≡ g)
+use Rattle.gixp_negotiate.specs.Plain.{stays, offers_first, list_calls}
+use Rattle.gixp_negotiate.specs.Rounds.{offering, Offered, OneRound, commons_of, is_any, with_kept, kept_ids, asks_haves, advanced, is_last}
 
 run-stays : (ids : List ObjectId) (n : List ObjectId) (g : GraphData) (m : List ObjectId) (h : GraphData) → IsRun stays ids n g m h → m ≡ n
 run-stays [] n g m h r = r.0
@@ -30,7 +23,7 @@ run-offers [] n g m h r = sym r.0
 run-offers (id ∷ ids) n g m h r = r.2.0 ∙ ap (λ l. id ∷ l) (run-offers ids r.0 r.1 m h r.3)
 
 -- what is decided leaves the list
-pub acts-stay : (action : ActionValue) (n : List ObjectId) (g : GraphData) (ids tips : List ObjectId) (m : List ObjectId) (h : GraphData) → Acts stays stays action n g ids tips m h → m ≡ n
+pub acts-stay : (action : ActionValue) (n : List ObjectId) (g : GraphData) (ids tips : List ObjectId) (m : List ObjectId) (h : GraphData) → Acts list_calls action n g ids tips m h → m ≡ n
 acts-stay no_change n g ids tips m h a = a.0
 acts-stay skip n g ids tips m h a = a.0
 acts-stay (negotiate known) n g ids tips m h a = run-stays (tips_in g.objects tips) a.told a.told_graph m h a.added ∙ run-stays _ n a.walked a.told a.told_graph a.known
@@ -62,7 +55,7 @@ pub record ListRound (n : List ObjectId) (s : Window) (a : ArgumentsValue) (p : 
   pub last : done ≡ is_last t s.haves_to_send (length (take s.haves_to_send n))
 
 pub by-list : (n : List ObjectId) (g : GraphData) (s : Window) (a : ArgumentsValue) (p : Option AnswerValue) (r : Round) (done : Bool) (m : List ObjectId) (h : GraphData) (t : Window) (b : ArgumentsValue)
-    → OneRound stays offers_first n g s a p r done m h t b → ListRound n s a p done m t b
+    → OneRound list_calls n g s a p r done m h t b → ListRound n s a p done m t b
 by-list n g s a p r done m h t b o =
     let told : o.told ≡ n = run-stays (commons_of p) n g o.told o.told_graph o.hears in
     let parts = offered-first s.haves_to_send o.haves o.told o.told_graph m h o.offered in

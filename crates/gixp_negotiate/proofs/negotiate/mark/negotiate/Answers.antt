@@ -10,4 +10,4 @@ returns-clause-failed g c = inl (c.in-Err-mark_and_tell.e, c.from-in-Err-mark_an
 
 pub returns-clause-stops : goal.returns-clause-stops
 returns-clause-stops g c = telling_stopped c.in-Ok.ensures.listed c.in_ok-list_alternates.ensures.each c.in-Err-mark_and_tell.e c.from-in-Err-mark_and_tell.ensures
-    (telling_same _ _ _ _ _ _ _ _ _ _ _ _ (c.deref.ensures.value ∙ (c.in_ok-list_alternates.ensures.listed ∙ ap (λ l. l ++ listed g.R.RefStore.targets c.args.alternates.now) c.in-Ok.ensures.peeled)) c.in-Err-mark_and_tell.ensures.stops)
+    (telling_same _ _ _ _ _ _ _ _ _ _ _ _ (c.deref.ensures.value ∙ (c.in_ok-list_alternates.ensures.listed ∙ ap (λ l. l ++ listed g.R.RefStore.targets c.args.context.now.alternates) c.in-Ok.ensures.peeled)) c.in-Err-mark_and_tell.ensures.stops)
