@@ -118,6 +118,7 @@ pub use Rattle.gixp_negotiate.specs.Shallow
 pub use Rattle.gixp_negotiate.specs.Wants
 pub use Rattle.gixp_negotiate.specs.Marking
 pub use Rattle.gixp_negotiate.specs.Stopped
+pub use Rattle.gixp_negotiate.specs.FirstStep
 pub use Rattle.gixp_negotiate.specs.MarkLaws
 pub use Rattle.gixp_negotiate.specs.RoundLaws
 pub use Rattle.gixp_negotiate.specs.Ignored

@@ -3,7 +3,8 @@ use Rattle.std.specs.Prelude.{◌≡◌, ◌⊎◌, ◌≤◌, ◌++◌, ℕ, Bo
 use Rattle.gixp_hash.specs.declared.object_id.ObjectId.{ObjectId}
 use Rattle.gixp_graph.specs.Object.{Objects}
 use Rattle.gixp_graph.specs.GraphData.{GraphValue}
-use Rattle.gixp_graph.specs.Negotiation.{NegotiatorCalls}
+use Rattle.gixp_graph.specs.Negotiation.{NegotiatorCalls, IsRefusal}
+use Rattle.gixp_graph.specs.declared.negotiator.NegotiatorError.{NegotiatorError}
 use Rattle.gixp_refmap.specs.declared.refmap.mapping.Mapping.{Mapping}
 use Rattle.gixp_negotiate.specs.declared.shallow.Shallow.{Shallow}
 use Rattle.gixp_negotiate.specs.declared.negotiate.Error.{Error}
@@ -11,13 +12,20 @@ use Rattle.gixp_negotiate.specs.declared.negotiate.negotiation.NegotiateContext.
 use Rattle.gixp_negotiate.specs.declared.negotiate.negotiation.Negotiation.{Negotiation}
 use Rattle.gixp_negotiate.specs.Negotiate.{ActionValue}
 use Rattle.gixp_negotiate.specs.NegotiateError.{IsNegotiatorRefusal}
-use Rattle.gixp_negotiate.specs.Marking.{LocalRefs, listed, is_known, any_changed, any_unknown, settle, decision, IsRefsRefusal, IsAlternatesRefusal}
-use Rattle.gixp_negotiate.specs.Stores.{lent_value}
+use Rattle.gixp_negotiate.specs.Marking.{LocalRefs, listed, is_known, any_changed, any_unknown, settle, decision, Acts, IsRefsRefusal, IsAlternatesRefusal}
+use Rattle.gixp_negotiate.specs.Stores.{Listings, lent_value, ListsBy}
 use Rattle.gixp_negotiate.specs.Stopped.{Step}
 
 -- calls on a negotiator and a graph keep what the graph's objects mean, and failures are only counted up
 abbrev pub KeepsObjects : {N : Type 0} → NegotiatorCalls N → N → GraphValue → N → GraphValue → Type 0
 KeepsObjects calls n g m h = (h.graph.objects ≡ g.graph.objects) × (calls.failures n ≤ calls.failures m) × (g.failures ≤ h.failures)
+
+-- why calls on them are refused, by the error of the negotiator, and by that of the negotiation
+abbrev pub IsCallRefusal : {N : Type 0} → NegotiatorCalls N → N → GraphValue → N → GraphValue → NegotiatorError → Type 0
+IsCallRefusal calls n g m h e = IsRefusal (calls.failures n) (calls.failures m) g.failures h.failures e
+
+abbrev pub IsRoundRefusal : {N A : Type 0} → NegotiatorCalls N → N → GraphValue → N → GraphValue → Error A → Type 0
+IsRoundRefusal calls n g m h e = IsNegotiatorRefusal (calls.failures n) (calls.failures m) g.failures h.failures e
 
 module _ {O R N G E : Type 0} where
   -- how far it is
@@ -28,6 +36,14 @@ module _ {O R N G E : Type 0} where
   abbrev pub tips_of : (R → List ObjectId) → NegotiateContext O R N G E → List ObjectId
   tips_of targets c = targets c.refs.now ++ listed targets c.alternates
 
+  -- what is done for an action: the negotiator is told of what is complete and common
+  abbrev pub ActsIn : NegotiatorCalls N → (R → List ObjectId) → ActionValue → List ObjectId → NegotiateContext O R N G E → NegotiateContext O R N G E → Type 0
+  ActsIn calls targets action ids old new = Acts calls action old.negotiator.now old.graph.now.graph ids (tips_of targets old) new.negotiator.now new.graph.now.graph
+
+  -- the refs of all stores are listed where something is to be negotiated, and else untouched
+  abbrev pub ListsIn : Listings R → ActionValue → NegotiateContext O R N G E → NegotiateContext O R N G E → Type 0
+  ListsIn listings action old new = ListsBy listings action old.refs.now (lent_value old.alternates) new.refs.now (lent_value new.alternates)
+
   -- it keeps what all objects mean, the refs and what they lead to; failures are only counted up
   abbrev pub KeepsStores : NegotiatorCalls N → (R → LocalRefs) → (R → List ObjectId) → (R → ℕ) → NegotiateContext O R N G E → NegotiateContext O R N G E → Type 0
   KeepsStores calls refs targets failures old new =
@@ -37,7 +53,7 @@ module _ {O R N G E : Type 0} where
   -- the negotiator or the graph's objects refused a call, or the refs can't be listed, or those of the lending repositories
   abbrev pub IsStepRefusal : NegotiatorCalls N → (R → ℕ) → NegotiateContext O R N G E → NegotiateContext O R N G E → Error E → Type 0
   IsStepRefusal calls failures old new e =
-      IsNegotiatorRefusal (calls.failures old.negotiator.now) (calls.failures new.negotiator.now) old.graph.now.failures new.graph.now.failures e
+      IsRoundRefusal calls old.negotiator.now old.graph.now new.negotiator.now new.graph.now e
       ⊎ (IsRefsRefusal (failures old.refs.now) (failures new.refs.now) e ⊎ IsAlternatesRefusal failures old.alternates new.alternates e)
 
   -- what the refs call for where nothing is plain before, and what they call for at all
@@ -47,6 +63,10 @@ module _ {O R N G E : Type 0} where
 
   abbrev pub decided_by : (O → Objects) → (R → LocalRefs) → (Mapping → Bool) → Shallow → List Mapping → NegotiateContext O R N G E → ActionValue
   decided_by contents refs ignores shallow ms c = decision ignores c.graph.now.graph.objects (contents c.objects.now) (refs c.refs.now) shallow ms
+
+  -- what a negotiation was made with beside its context stays
+  abbrev pub KeepsOptions : Negotiation O R N G E → Negotiation O R N G E → Type 0
+  KeepsOptions n m = (m.ref_map.now ≡ n.ref_map.now) × (m.shallow.now ≡ n.shallow.now) × (m.tags ≡ n.tags)
 
   -- what a negotiation worked with, with the alternates that its first step was handed
   abbrev pub handing : Negotiation O R N G E → NegotiateContext O R N G E
