@@ -7,6 +7,7 @@ pub mod StepLemmas
 pub mod MappedLemmas
 pub mod RefusedLemmas
 pub mod UnmappedLemmas
+pub mod DiscoveredLemmas
 pub mod WantLemmas
 pub mod AnswerLemmas
 pub mod CountLemmas

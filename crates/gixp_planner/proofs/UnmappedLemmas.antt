@@ -39,13 +39,14 @@ use Rattle.gixp_handshake.specs.declared.handshake.ref_map.ObtainRefMap.TheVaria
 use Rattle.gixp_handshake.specs.Obtain.{prefixes_if, MakesMap, PreparesBy, ByList, ObtainsBy, Obtains}
 use Rattle.gixp_planner.specs.Refusal.{map_name}
 use Rattle.gixp_planner.specs.Session.{planner_agent, MapsRefs}
+use Rattle.gixp_planner.specs.Discovered.{values_of}
 use Rattle.gixp_planner.specs.Unmapped.{IsUnmapped, IsSameRefusal, RefusedMapsFollow}
-use Rattle.gixp_planner.proofs.MappedLemmas.{AreAlike, HoldAlike, hold-alike, if-known, same-ahead, sent-alike, new-held, greetings-alike, same-specs, values_of, all_specs, SameGreeting}
+use Rattle.gixp_planner.proofs.MappedLemmas.{AreAlike, HoldAlike, hold-alike, if-known, same-ahead, sent-alike, new-held, greetings-alike, same-specs, all_specs, SameGreeting}
 
 -- ---- what a list can't be refused for, where the same one was answered
 
 -- a read that failed is counted, and a plain reader is refused nothing else from outside but memory
-outside : (old new : Reading) (e : Refusal) → new.failures ≡ 0 → IsOutside old new e → IsPlain new e → refusal_from e ≡ no_memory
+pub outside : (old new : Reading) (e : Refusal) → new.failures ≡ 0 → IsOutside old new e → IsPlain new e → refusal_from e ≡ no_memory
 outside old new e u (inr b) p = absurd (let r = b.failures in omega arith)
 outside old new (io kind) u (inl f) p = absurd (let r = f.fault.2 in omega arith)
 outside old new (decode e) u (inl f) p = absurd f.fault
