@@ -8,5 +8,5 @@ pub mod Session
 pub mod Discovered
 pub mod PlannedText
 pub mod Mapped
-pub mod Unmapped
+pub mod Sought
 pub mod Follows

@@ -6,7 +6,7 @@ ghost use Rattle.gixp_hash.specs.declared.object_id.ObjectId.{ObjectId};
 ghost use Rattle.gixp_graph.specs.GraphData.{GraphValue};
 ghost use Rattle.gixp_planner.specs.Discovered.{GreetingsFollow};
 ghost use Rattle.gixp_planner.specs.Mapped.{MappingsFollow};
-ghost use Rattle.gixp_planner.specs.Unmapped.{RefusedMapsFollow};
+ghost use Rattle.gixp_planner.specs.Sought.{RefMapsFollow};
 ghost use Rattle.gixp_planner.specs.Follows.{Follow};
 
 use gix_protocol::fetch::negotiate::{HaveList, Negotiate, Negotiation, NoRefs, Objects};
@@ -27,10 +27,10 @@ pub fn mappings_follow_bodies()
     ensures { MappingsFollow }
 {}
 
-/// Where the ref map is refused, why is a function of the bodies and the refspecs, but for memory and for reads that failed:
-/// two sessions over the same are refused by one name, whatever their objects, graphs and negotiators.
-pub fn refused_maps_follow_bodies()
-    ensures { RefusedMapsFollow }
+/// Whether a session that was greeted comes to a ref map, by which name the map is refused if it is, and what was sent for it by
+/// then are a function of the bodies and the refspecs, but for memory and for reads that failed.
+pub fn ref_maps_follow_bodies()
+    ensures { RefMapsFollow }
 {}
 
 /// With a [`HaveList`], what a client sends and how its session ends are a function of the bodies, the refspecs, the objects
