@@ -12,14 +12,14 @@ use Rattle.gixp_fetch.specs.View.{view}
 use Rattle.gixp_planner.proofs.MappedLemmas.{if-known}
 
 -- after a failure the count isn't 0
-never-none : (old new : ℕ) → Rose old new → new ≡ 0 → ⊥
+pub never-none : (old new : ℕ) → Rose old new → new ≡ 0 → ⊥
 never-none old new r e = omega arith
 
 same-value : (x y : AnswerValue) (p q : Pieces) → whole x p ≡ whole y q → x ≡ y
 same-value x y p q e = cc
 
 module _ (found : Pieces → Found) (under : Protocol) where
-  found-in : (old new : Reading) (p : Pieces) (x : AnswerValue) → old.to_come ≡ Some p → new.failures ≡ 0 → Answered found under old new x → (q : Pieces) × (found p ≡ whole x q)
+  pub found-in : (old new : Reading) (p : Pieces) (x : AnswerValue) → old.to_come ≡ Some p → new.failures ≡ 0 → Answered found under old new x → (q : Pieces) × (found p ≡ whole x q)
   found-in old new p x e z (inl r) = let a = if-known _ old.to_come p e r.answer in (a.0, a.2)
   found-in old new p x e z (inr b) = absurd (never-none old.failures new.failures b.failures z)
 

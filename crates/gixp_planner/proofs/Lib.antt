@@ -6,7 +6,8 @@ pub mod SeenLemmas
 pub mod StepLemmas
 pub mod MappedLemmas
 pub mod RefusedLemmas
-pub mod UnmappedLemmas
+pub mod DiscoveredLemmas
+pub mod SoughtLemmas
 pub mod WantLemmas
 pub mod AnswerLemmas
 pub mod CountLemmas

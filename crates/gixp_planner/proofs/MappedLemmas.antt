@@ -3,7 +3,6 @@ use Rattle.std.proofs.Common.{◌≡◌, ◌⊎◌, ℕ, Bool, true, false, List
 use Rattle.std.proofs.lemmas.Bool.Decides.{nat_tests}
 use Rattle.std.specs.Prelude.{IsOk, ◌==◌, codes}
 use Rattle.std.specs.Io.KnownBytes.{Appends}
-use Rattle.std.specs.Option.{option_map}
 use Rattle.std.specs.declared.alloc.Global.{Global}
 use Rattle.gixp_packetline.specs.declared.protocol.Protocol.{Protocol}
 use Rattle.gixp_packetline.specs.declared.protocol.MessageKind.{MessageKind}
@@ -62,6 +61,7 @@ use Rattle.gixp_planner.specs.declared.error.PlanError.{PlanError}
 use Rattle.gixp_planner.specs.Refusal.{PlanRefusal, refusal, refusal_of}
 use Rattle.gixp_planner.specs.Text.{map_shown, mapped_shown, requests_shown, end_shown, Course}
 use Rattle.gixp_planner.specs.Session.{planner_agent, planner_call, AreUnanswered, GreetsWithoutAccount, MapsRefs, FetchesMapped, Runs, ungreeted, unmapped, fetched, end_counted}
+use Rattle.gixp_planner.specs.Discovered.{values_of}
 use Rattle.gixp_planner.specs.PlannedText.{IsCourse, Shows}
 use Rattle.gixp_planner.specs.Mapped.{IsMapped, MappingsFollow, ShowsMapped, ShowsFetch}
 use Rattle.gixp_planner.proofs.StepLemmas.{other-step, not-unwritten, n-not-t, f-not-t, l-not-t}
@@ -183,12 +183,12 @@ said-alike a b c d x y s l r =
     }
 
 -- the next answer was taken, and read
-record Hears (old new : Reading) (x : SetServiceResponse) : Type 0 where
-  mid : Reading
-  takes : TakesAnswer old mid
-  reads : ReadsAdvertisement advertisement mid new x
+pub record Hears (old new : Reading) (x : SetServiceResponse) : Type 0 where
+  pub mid : Reading
+  pub takes : TakesAnswer old mid
+  pub reads : ReadsAdvertisement advertisement mid new x
 
-hears-by : (service : Service) (ps : List Parameter) (persists : Bool) (old new : Reading) (x : SetServiceResponse) → persists ≡ false → HandshakesBy persists service ps old new (Ok x) → Hears old new x
+pub hears-by : (service : Service) (ps : List Parameter) (persists : Bool) (old new : Reading) (x : SetServiceResponse) → persists ≡ false → HandshakesBy persists service ps old new (Ok x) → Hears old new x
 hears-by service ps true old new x e h = cc e
 hears-by service ps false old new x e (inl h) = cc h.1
 hears-by service ps false old new x e (inr h) = record { mid = h.0; takes = h.1; reads = h.3 }
@@ -216,31 +216,29 @@ module _ (old mid new : Reading) (turns : List CredentialCall) (x : SetServiceRe
   first-heard (Err e) p u h f = undenied _ e u f
 
 -- a handshake that came to its refs
-record Greeted (plain : Bool) (old new : Reading) (h : Handshake) : Type 0 where
-  mid : Reading
-  found : SetServiceResponse
-  hears : Hears old mid found
-  first : ReadsFirst found.has_refs found plain mid new (Ok h)
-  version : h.server_protocol_version ≡ found.actual_protocol
-  capabilities : h.capabilities ≡ found.capabilities
+pub record Greeted (plain : Bool) (old new : Reading) (h : Handshake) : Type 0 where
+  pub mid : Reading
+  pub found : SetServiceResponse
+  pub accepted : is_accepted old.held.accepted found.actual_protocol ≡ true
+  pub hears : Hears old mid found
+  pub first : ReadsFirst found.has_refs found plain mid new (Ok h)
+  pub version : h.server_protocol_version ≡ found.actual_protocol
+  pub capabilities : h.capabilities ≡ found.capabilities
 
 module _ (plain : Bool) (old new : Reading) (h : Handshake) (turns : List CredentialCall) where
-  kept-accepted : (accepted : Bool) (mid : Reading) (found : SetServiceResponse) → Hears old mid found → KeepsVersion accepted found plain mid new (Ok h) → Greeted plain old new h
-  kept-accepted true mid found o k = record { mid = mid; found = found; hears = o; first = k.0; version = k.1.0; capabilities = k.1.1 }
-  kept-accepted false mid found o k = cc k.1
+  kept-accepted : (accepted : Bool) (mid : Reading) (found : SetServiceResponse) → is_accepted old.held.accepted found.actual_protocol ≡ accepted → Hears old mid found → KeepsVersion accepted found plain mid new (Ok h)
+      → Greeted plain old new h
+  kept-accepted true mid found a o k = record { mid = mid; found = found; accepted = a; hears = o; first = k.0; version = k.1.0; capabilities = k.1.1 }
+  kept-accepted false mid found a o k = cc k.1
 
   greeted-by : (opened : OpeningResult) (mid : Reading) → old.held.persists ≡ false → AreUnanswered turns → Opens UploadPack [] old mid turns opened ⊎ StopsForMemory old mid turns opened
       → FinishesHandshake old.held.accepted opened plain mid new (Ok h) → Greeted plain old new h
   greeted-by (Err e) mid p u o g = cc g.1
   greeted-by (Ok found) mid p u (inr n) g = cc n.error
-  greeted-by (Ok found) mid p u (inl o) g = kept-accepted (is_accepted old.held.accepted found.actual_protocol) mid found (first-heard old o.1 mid turns found o.0 p u o.2 o.3) g
+  greeted-by (Ok found) mid p u (inl o) g = kept-accepted (is_accepted old.held.accepted found.actual_protocol) mid found refl (first-heard old o.1 mid turns found o.0 p u o.2 o.3) g
 
-greeted : (plain : Bool) (old new : Reading) (h : Handshake) → old.held.persists ≡ false → GreetsWithoutAccount plain old new (Ok h) → Greeted plain old new h
+pub greeted : (plain : Bool) (old new : Reading) (h : Handshake) → old.held.persists ≡ false → GreetsWithoutAccount plain old new (Ok h) → Greeted plain old new h
 greeted plain old new h p g = greeted-by plain old new h g.turns g.shakes.opened g.shakes.mid p g.unanswered g.shakes.opens g.shakes.goes_on
-
--- the refs that came first, as values
-abbrev pub values_of : Option (Vec Ref Global) → Option (List RefValue)
-values_of refs = option_map (λ (v : Vec Ref Global). map ref_value v.items) refs
 
 pub record SameGreeting (c d : Reading) (h k : Handshake) : Type 0 where
   pub alike : AreAlike c d

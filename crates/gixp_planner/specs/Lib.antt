@@ -5,7 +5,8 @@ pub mod Recorded
 pub mod Specs
 pub mod Text
 pub mod Session
+pub mod Discovered
 pub mod PlannedText
 pub mod Mapped
-pub mod Unmapped
+pub mod Sought
 pub mod Follows

@@ -4,14 +4,21 @@ ghost use Rattle.gixp_fetch.specs.Fetch.{parties_of};
 ghost use Rattle.gixp_wire.specs.declared.bodies.Body.{Body};
 ghost use Rattle.gixp_hash.specs.declared.object_id.ObjectId.{ObjectId};
 ghost use Rattle.gixp_graph.specs.GraphData.{GraphValue};
+ghost use Rattle.gixp_planner.specs.Discovered.{GreetingsFollow};
 ghost use Rattle.gixp_planner.specs.Mapped.{MappingsFollow};
-ghost use Rattle.gixp_planner.specs.Unmapped.{RefusedMapsFollow};
+ghost use Rattle.gixp_planner.specs.Sought.{RefMapsFollow};
 ghost use Rattle.gixp_planner.specs.Follows.{Follow};
 
 use gix_protocol::fetch::negotiate::{HaveList, Negotiate, Negotiation, NoRefs, Objects};
 use gix_protocol::fetch::{ConsumePack, ReadToEnd, Shallow, ShallowMemory, ShallowStore, Tags};
 use gix_protocol::transport::{Discard, Interrupt, NeverInterrupt};
 use std::alloc::AllocError;
+
+/// How a handshake without an account ends is a function of the first body, but for memory and for reads that failed: it has
+/// the version, the capabilities and the refs that the body says, or it is refused by the name that follows from the body.
+pub fn greetings_follow_bodies()
+    ensures { GreetingsFollow }
+{}
 
 /// What a client sends up to its ref map, and the lines of the mappings and of those taken out, are a function of the
 /// bodies and the refspecs: two sessions over the same have the same, whatever their objects, graphs and negotiators.
@@ -20,10 +27,10 @@ pub fn mappings_follow_bodies()
     ensures { MappingsFollow }
 {}
 
-/// Where the ref map is refused, why is a function of the bodies and the refspecs, but for memory and for reads that failed:
-/// two sessions over the same are refused by one name, whatever their objects, graphs and negotiators.
-pub fn refused_maps_follow_bodies()
-    ensures { RefusedMapsFollow }
+/// Whether a session that was greeted comes to a ref map, by which name the map is refused if it is, and what was sent for it by
+/// then are a function of the bodies and the refspecs, but for memory and for reads that failed.
+pub fn ref_maps_follow_bodies()
+    ensures { RefMapsFollow }
 {}
 
 /// With a [`HaveList`], what a client sends and how its session ends are a function of the bodies, the refspecs, the objects

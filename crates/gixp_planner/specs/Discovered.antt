@@ -1,0 +1,94 @@
+-- What a handshake over recorded bodies comes to, as a function of the first of them (gitprotocol-pack, "Reference Discovery"; gitprotocol-v2, "Capability Advertisement").
+use Rattle.std.specs.Prelude.{ℕ, ◌≡◌, ◌⊎◌, Bool, true, false, List, [], map, codes, Option, Some, None, Vec, Result, Ok, Err}
+use Rattle.std.specs.Option.{option_map}
+use Rattle.std.specs.declared.alloc.Global.{Global}
+use Rattle.gixp_packetline.specs.declared.protocol.Protocol.{Protocol}
+use Rattle.gixp_packetline.specs.Pieces.{Pieces}
+use Rattle.gixp_packetline.specs.Reading.{Reading, lines_from_stop}
+use Rattle.gixp_capabilities.specs.Capabilities.{CapabilityValue}
+use Rattle.gixp_capabilities.specs.Client.{ClientRefusal}
+use Rattle.gixp_wire.specs.declared.bodies.Body.{Body}
+use Rattle.gixp_wire.specs.declared.bodies.Bodies.{Bodies}
+use Rattle.gixp_wire.specs.Bodies.{answer_of, bodies_reading, IsNewBodies}
+use Rattle.gixp_wire.specs.CapabilityAdvertisement.{Advertised, advertisement}
+use Rattle.gixp_wire.specs.Transport.{first_answer, answer_pieces}
+use Rattle.gixp_refs.specs.declared.handshake.Ref.{Ref}
+use Rattle.gixp_refs.specs.Ref.{RefValue, ref_value}
+use Rattle.gixp_refs.specs.RefLine.{RefsRefusal}
+use Rattle.gixp_refs.specs.RefAdvertisement.{Symref, symref_table, v1_refs}
+use Rattle.gixp_handshake.specs.declared.handshake.error.Error.{Error as HandshakeError}
+use Rattle.gixp_handshake.specs.declared.handshake.error.Error.TheVariants as handshake
+use Rattle.gixp_handshake.specs.declared.handshake.read.Handshake.{Handshake}
+use Rattle.gixp_handshake.specs.Shake.{is_accepted}
+use Rattle.gixp_planner.specs.Refusal.{handshake_name}
+use Rattle.gixp_planner.specs.Session.{GreetsWithoutAccount}
+
+-- what a server says first, and its refs where they come first
+pub record Discovery : Type 0 where
+  pub version : Protocol
+  pub capabilities : List CapabilityValue
+  pub refs : Option (List RefValue)
+
+abbrev pub discovered : Advertised → Option (List RefValue) → Discovery
+discovered said refs = record { version = said.version; capabilities = said.capabilities; refs = refs }
+
+-- the lines of refs are refused, or these are their refs
+abbrev pub with_refs : Advertised → Result (List RefValue) RefsRefusal → Result Discovery (List ℕ)
+with_refs said (Ok refs) = Ok (discovered said (Some refs))
+with_refs said (Err e) = Err (codes "ParseRefs")
+
+-- a capability `symref` is refused, or its refs are read by these
+abbrev pub by_symrefs : Advertised → Result (List Symref) RefsRefusal → Result Discovery (List ℕ)
+by_symrefs said (Ok symrefs) = with_refs said (v1_refs symrefs (lines_from_stop said.stopped said.version said.rest))
+by_symrefs said (Err e) = Err (codes "ParseRefs")
+
+-- whether refs come first
+abbrev pub by_refs : Bool → Advertised → Result Discovery (List ℕ)
+by_refs false said = Ok (discovered said None)
+by_refs true said = by_symrefs said (symref_table said.capabilities)
+
+-- whether its version is accepted
+abbrev pub by_acceptance : Bool → Advertised → Result Discovery (List ℕ)
+by_acceptance false said = Err (codes "TransportProtocolPolicyViolation")
+by_acceptance true said = by_refs said.has_refs said
+
+abbrev pub by_advertisement : List Protocol → Result Advertised ClientRefusal → Result Discovery (List ℕ)
+by_advertisement accepted (Ok said) = by_acceptance (is_accepted accepted said.version) said
+by_advertisement accepted (Err e) = Err (codes "Transport")
+
+-- what an answer says where these versions are accepted, or the name by which its handshake is refused
+abbrev pub discovery : List Protocol → Pieces → Result Discovery (List ℕ)
+discovery accepted answer = by_advertisement accepted (advertisement answer)
+
+-- the refs that came first, as values
+abbrev pub values_of : Option (Vec Ref Global) → Option (List RefValue)
+values_of refs = option_map (λ (v : Vec Ref Global). map ref_value v.items) refs
+
+-- a handshake has what was discovered
+pub record HasDiscovered (said : Discovery) (h : Handshake) : Type 0 where
+  pub version : h.server_protocol_version ≡ said.version
+  pub capabilities : h.capabilities ≡ said.capabilities
+  pub refs : values_of h.refs ≡ said.refs
+
+-- a handshake ended as it was to end, or an allocation failed
+abbrev pub IsDiscovered : Result Discovery (List ℕ) → Result Handshake HandshakeError → Type 0
+IsDiscovered (Ok said) (Ok h) = HasDiscovered said h
+IsDiscovered (Ok said) (Err e) = e ≡ handshake.Memory
+IsDiscovered (Err name) (Ok h) = ⊥
+IsDiscovered (Err name) (Err e) = (handshake_name e ≡ name) ⊎ (e ≡ handshake.Memory)
+
+-- what the first body reads as; one that is missing is empty
+abbrev pub first_pieces : List Body → Pieces
+first_pieces bodies = answer_pieces (first_answer (map answer_of bodies))
+
+-- a handshake over these bodies ended so, though no read failed
+pub record GreetsOver (bodies : List Body) (r : Result Handshake HandshakeError) : Type 0 where
+  pub transport : Bodies
+  pub last : Reading
+  pub over : IsNewBodies bodies [] [] transport
+  pub greets : GreetsWithoutAccount true (bodies_reading transport) last r
+  pub unfailed : last.failures ≡ 0
+
+-- how a handshake ends follows from the first body, but for memory
+abbrev pub GreetingsFollow : Type 0
+GreetingsFollow = (bodies : List Body) (r : Result Handshake HandshakeError) → GreetsOver bodies r → IsDiscovered (discovery [] (first_pieces bodies)) r
