@@ -3,16 +3,16 @@
 
 mod clauses;
 mod fetches;
-mod ls_remote;
 mod maps;
 mod mirror;
 mod refs;
+mod remote_listing;
 mod whole_fetch;
 
 pub use clauses::{marked_complete, read_answer, read_pack, read_spec};
 pub use fetches::fetch_one;
-pub use ls_remote::{ls_remote, print_remote_refs, remote_refs};
 pub use maps::mapped_branches;
 pub use mirror::{Change, MirrorRefs, plan_mirror};
 pub use refs::{recorded_refs, refs_of_bytes, refs_of_file};
+pub use remote_listing::{ls_remote, print_remote_refs, remote_refs};
 pub use whole_fetch::{Fetched, Repository, Wanted, fetch_from, refs_to_write};

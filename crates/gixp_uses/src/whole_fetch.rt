@@ -3,8 +3,8 @@ use anyhow::Result;
 use bstr::{BStr, BString};
 use gix_protocol::command::CommandTable;
 use gix_protocol::fetch::negotiate::{
-    Algorithm, Graph, NegotiateContext, Negotiation, NoAlternates, Shared, StoredObjects,
-    StoredRefs,
+    Algorithm, Graph, Negotiate, NegotiateContext, Negotiation, NoAlternates, Shared,
+    StoredObjects, StoredRefs,
 };
 use gix_protocol::fetch::refmap::init;
 use gix_protocol::fetch::refs::Update;
@@ -79,7 +79,41 @@ fn greet<T: Transport>(alloc: Global, transport: &mut T) -> Result<Handshake> {
     )?)
 }
 
-// Fetches what is mapped, and copies the pack into a writer.
+// Fetches what a negotiation asks for, and copies the pack into a writer.
+fn fetch_over<N: Negotiate<AlternatesError = NoAlternates>, T: Transport, W: Write>(
+    alloc: Global,
+    negotiation: &mut N,
+    shallow: &Shallow,
+    boundary: &mut ShallowMemory,
+    shaken: &mut Handshake,
+    transport: &mut T,
+    pack: &mut CopyPack<W>,
+) -> Result<Option<Outcome>> {
+    let name = ("agent", Some(agent(alloc, "first/1.0")?));
+    let context = Context {
+        handshake: shaken,
+        transport,
+        table: &CommandTable::git(),
+    };
+    let options = Options {
+        shallow_file: boundary,
+        shallow,
+        tags: Tags::Included,
+        reject_shallow_remote: false,
+    };
+    Ok(fetch(
+        alloc,
+        negotiation,
+        pack,
+        &mut Discard,
+        &mut NeverInterrupt,
+        name,
+        context,
+        options,
+    )?)
+}
+
+// Fetches what is mapped. All that the context borrows is a local here.
 fn fetch_mapped<T: Transport, W: Write>(
     alloc: Global,
     repository: Repository,
@@ -89,7 +123,6 @@ fn fetch_mapped<T: Transport, W: Write>(
     transport: &mut T,
     pack: &mut CopyPack<W>,
 ) -> Result<Fetched> {
-    let name = ("agent", Some(agent(alloc, "first/1.0")?));
     let Repository {
         objects,
         mut refs,
@@ -107,24 +140,14 @@ fn fetch_mapped<T: Transport, W: Write>(
         graph: &mut graph,
     };
     let mut negotiation = Negotiation::new(context, &map, shallow, Tags::Included);
-    let outcome = fetch(
+    let outcome = fetch_over(
         alloc,
         &mut negotiation,
+        shallow,
+        &mut boundary,
+        shaken,
+        transport,
         pack,
-        &mut Discard,
-        &mut NeverInterrupt,
-        name,
-        Context {
-            handshake: shaken,
-            transport,
-            table: &CommandTable::git(),
-        },
-        Options {
-            shallow_file: &mut boundary,
-            shallow,
-            tags: Tags::Included,
-            reject_shallow_remote: false,
-        },
     )?;
     Ok(Fetched {
         map,
