@@ -1,5 +1,5 @@
 -- A boundary in a file, and its lock.
-use Rattle.std.proofs.Common.{◌≡◌, ℕ, Bool, true, false, List, refl, sym, ap, ◌∙◌, subst}
+use Rattle.std.proofs.Common.{◌≡◌, ℕ, Bool, true, false, List, sym, ◌∙◌, subst}
 use Rattle.gixp_hash.specs.declared.object_id.ObjectId.{ObjectId}
 use Rattle.gixp_fetch.specs.declared.shallow.file.ShallowFile.{ShallowFile}
 use Rattle.gixp_fetch.specs.declared.shallow.ShallowError.{ShallowError}

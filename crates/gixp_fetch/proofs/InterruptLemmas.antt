@@ -1,7 +1,6 @@
 -- What an answer that is read through bands leaves of the interrupt.
-use Rattle.std.proofs.Common.{◌≡◌, ap, sym, subst, ◌∙◌, refl, Bool, false, [], Result, Err}
+use Rattle.std.proofs.Common.{◌≡◌, ap, sym, subst, ◌∙◌, Bool, Err}
 use Rattle.std.specs.Borrow.{GName}
-use Rattle.gixp_packetline.specs.declared.read.Error.{Error as ReadError}
 use Rattle.gixp_packetline.specs.declared.read.Error.TheVariants.{Io as ReadIo, Decode, Server, UnexpectedFrame, NotUtf8, BadBand, Interrupted, Memory as ReadMemory}
 use Rattle.gixp_sidebands.specs.Telling.{Listener}
 use Rattle.gixp_sidebands.specs.SaidToGoOn.{SaidToGoOn}

@@ -1,15 +1,18 @@
 -- A whole fetch, by its result (gitprotocol-capabilities; gitprotocol-pack, "Packfile Negotiation"; gitprotocol-v2, "fetch").
 use Rattle.std.specs.Prelude.{◌≡◌, ◌⊎◌, Bool, true, false, List, Option, Result, Ok, Err}
 use Rattle.gixp_packetline.specs.declared.protocol.Protocol.{Protocol}
+use Rattle.gixp_packetline.specs.Reading.{Reading}
 use Rattle.gixp_capabilities.specs.Capabilities.{CapabilityValue}
+use Rattle.gixp_response.specs.Answer.{update_items}
 use Rattle.gixp_requests.specs.Feature.{FeatureValue}
 use Rattle.gixp_requests.specs.Command.{TableValue}
 use Rattle.gixp_requests.specs.Arguments.{ArgumentsValue}
 use Rattle.gixp_refmap.specs.declared.fetch.Tags.{Tags}
+use Rattle.gixp_handshake.specs.declared.handshake.read.Handshake.{Handshake}
 use Rattle.gixp_fetch.specs.declared.options.Outcome.{Outcome}
 use Rattle.gixp_fetch.specs.declared.error.Error.{Error}
 use Rattle.gixp_negotiate.specs.Negotiate.{action_value, negotiate}
-use Rattle.gixp_fetch.specs.FetchShallow.{is_change}
+use Rattle.gixp_fetch.specs.FetchShallow.{ShallowValue, is_change}
 use Rattle.gixp_fetch.specs.Prepare.{features_of, Prepared, PrepareFails, LocksFirst, ReleasesIf, LockFails}
 use Rattle.gixp_fetch.specs.Fetch.{Wishes, World, Parties, SessionEnds}
 
@@ -21,6 +24,28 @@ pub record FetchCall : Type 0 where
   pub agent : FeatureValue
   pub tags : Tags
   pub wishes : Wishes
+
+-- what these hand in
+abbrev pub call_of : TableValue → Handshake → FeatureValue → Tags → ShallowValue → Bool → FetchCall
+call_of table handshake agent tags shallow reject = record {
+  table = table;
+  version = handshake.server_protocol_version;
+  capabilities = handshake.capabilities;
+  agent = agent;
+  tags = tags;
+  wishes = record { shallow = shallow; told = update_items handshake.v1_shallow_updates; reject = reject };
+}
+
+-- what a fetch changes, before and after which no lock is had
+abbrev pub unlocked_world : {N I S C : Type 0} → N → Reading → I → S → C → World N I S C
+unlocked_world n r i s c = record {
+  negotiate = n;
+  reading = r;
+  interrupt = i;
+  store = s;
+  locked = false;
+  consumer = c;
+}
 
 -- an outcome says that objects were asked for, and ends in an answer with a pack
 pub record IsNegotiated (outcome : Outcome) : Type 0 where

@@ -1,0 +1,18 @@
+use Rattle.std.proofs.Common.{◌<◌}
+use Rattle.gixp_fetch.specs.FetchRounds.{Running}
+use Rattle.gixp_fetch.specs.Lent.{IsSameSession, manner_in, stands, begins}
+use Rattle.gixp_fetch.proofs.session.FetchSession.rounds.Given as goal
+
+abbrev pub invariant-rounds : goal.invariant-rounds
+invariant-rounds g l = record {
+  same : IsSameSession l.fn.self l.self;
+  window : 0 < l.so_far.window.haves_to_send;
+  running : Running
+      (manner_in g.N.Negotiate.calls g.I.Interrupt.says g.T.ExtendedBufRead.is_plain l.fn.self)
+      (begins g.T.ExtendedBufRead.reading l.fn.negotiate l.fn.self l.stateless l.fn.arguments)
+      (stands g.T.ExtendedBufRead.reading l.negotiate l.self l.so_far l.previous)
+      l.so_far.rounds.items l.so_far.updates.items;
+}
+
+abbrev pub decreases-rounds : goal.decreases-rounds
+decreases-rounds g l = g.N.Negotiate.calls.count l.negotiate
