@@ -14,7 +14,7 @@ finished-failures : (finished : Bool) (old new : Side) → Finishes finished old
 finished-failures true old new f = (f.drains refl).failures
 finished-failures false old new f = ap (λ (s : Side). s.reading.failures) (f.stays refl)
 
-back-failures : (s : Side) (new : Reading) → GivesBack s new → new.failures ≡ s.reading.failures
+pub back-failures : (s : Side) (new : Reading) → GivesBack s new → new.failures ≡ s.reading.failures
 back-failures s new b = at (is_begun s.place) refl
   where
     at : (x : Bool) → is_begun s.place ≡ x → new.failures ≡ s.reading.failures

@@ -1,5 +1,5 @@
 -- How a handshake without an account ends, by the answer to it: as that is discovered, or for memory.
-use Rattle.std.proofs.Common.{◌≡◌, ◌⊎◌, ℕ, Bool, true, false, List, [], ◌∷◌, map, Option, Some, None, Result, Ok, Err, IfSome, inl, inr, refl, sym, ap, ◌∙◌, subst, arith, true≢false}
+use Rattle.std.proofs.Common.{◌≡◌, ◌⊎◌, ℕ, Bool, true, false, List, [], map, Option, Some, None, Result, Ok, Err, IfSome, inl, inr, refl, sym, ap, ◌∙◌, subst, arith, true≢false}
 use Rattle.std.specs.Prelude.{codes}
 use Rattle.std.specs.declared.io.ErrorKind.{ErrorKind}
 use Rattle.std.specs.declared.io.ErrorKind.TheVariants.{UnexpectedEof}
@@ -9,11 +9,9 @@ use Rattle.gixp_packetline.specs.Reading.{Reading, IsOutside, IsPlain, lines_fro
 use Rattle.gixp_packetline.specs.TransportState.{TransportState}
 use Rattle.gixp_capabilities.specs.declared.client.Error.{Error as client_error}
 use Rattle.gixp_capabilities.specs.declared.client.Error.TheVariants as client
-use Rattle.gixp_capabilities.specs.Capabilities.{CapabilityValue}
-use Rattle.gixp_capabilities.specs.Client.{ClientRefusal, client_refusal}
+use Rattle.gixp_capabilities.specs.Client.{client_refusal}
 use Rattle.gixp_wire.specs.declared.service.Service.TheVariants.{UploadPack}
 use Rattle.gixp_wire.specs.declared.service.SetServiceResponse.{SetServiceResponse}
-use Rattle.gixp_wire.specs.declared.bodies.Body.{Body}
 use Rattle.gixp_wire.specs.Bodies.{bodies_reading}
 use Rattle.gixp_wire.specs.CapabilityAdvertisement.{Advertised, advertisement, Answers, IsOfSaid, IsFromDevice}
 use Rattle.gixp_wire.specs.Handshake.{Handshakes, HandshakesBy}
@@ -32,7 +30,7 @@ use Rattle.gixp_handshake.specs.Shake.{CredentialCall, OpeningResult, Got, Stops
 use Rattle.gixp_handshake.specs.ShakeError.{from_client, from_parse, is_denial, is_denied}
 use Rattle.gixp_planner.specs.Refusal.{handshake_name}
 use Rattle.gixp_planner.specs.Session.{AreUnanswered, GreetsWithoutAccount}
-use Rattle.gixp_planner.specs.Discovered.{Discovery, discovered, with_refs, by_symrefs, by_refs, by_acceptance, by_advertisement, discovery, values_of, HasDiscovered, IsDiscovered, first_pieces, GreetsOver, GreetingsFollow}
+use Rattle.gixp_planner.specs.Discovered.{Discovery, discovered, with_refs, by_symrefs, by_refs, by_acceptance, by_advertisement, discovery, values_of, HasDiscovered, IsDiscovered, GreetingsFollow}
 use Rattle.gixp_planner.proofs.MappedLemmas.{if-known, new-held, Hears, hears-by, Greeted, greeted}
 use Rattle.gixp_planner.proofs.AnswerLemmas.{never-none}
 

@@ -44,22 +44,22 @@ pub record OffersList {N A : Type 0} (negotiation_calls : NegotiationCalls N A) 
 -- ---- the first two steps of a negotiation
 
 -- by this basis objects are to be asked for, and these lines do so
-record Asks (b : Basis) (given wanted : ArgumentsValue) : Type 0 where
-  known : List Bool
-  must : decided b ≡ negotiate known
-  any : list_any asks_for (asked_for b given known) ≡ true
-  asked : wanted ≡ asking_all (asked_for b given known) given
+pub record Asks (b : Basis) (given wanted : ArgumentsValue) : Type 0 where
+  pub known : List Bool
+  pub must : decided b ≡ negotiate known
+  pub any : list_any asks_for (asked_for b given known) ≡ true
+  pub asked : wanted ≡ asking_all (asked_for b given known) given
 
 same-known : (known other : List Bool) → negotiate known ≡ negotiate other → known ≡ other
 same-known known other e = cc
 
-asks-same : (p q : Basis) (given wanted other : ArgumentsValue) → SameBasis p q → Asks p given wanted → Asks q given other → wanted ≡ other
+pub asks-same : (p q : Basis) (given wanted other : ArgumentsValue) → SameBasis p q → Asks p given wanted → Asks q given other → wanted ≡ other
 asks-same p q given wanted other s l r =
     let known : l.known ≡ r.known = same-known l.known r.known (sym l.must ∙ decided-alike p q s ∙ r.must) in
     l.asked ∙ ap (λ ws. asking_all ws given) (asked-alike p q given l.known s ∙ ap (asked_for q given) known) ∙ sym r.asked
 
 module _ {N A : Type 0} (negotiation_calls : NegotiationCalls N A) (basis : N → Basis) (haves : N → List ObjectId) (list : OffersList negotiation_calls basis haves) (n : N) (given : ArgumentsValue) where
-  readied-asks : (action : ActionValue) (ready : N) (wanted : ArgumentsValue) → MakesReady negotiation_calls n given action ready wanted → Asks (basis n) given wanted × (haves ready ≡ haves n)
+  pub readied-asks : (action : ActionValue) (ready : N) (wanted : ArgumentsValue) → MakesReady negotiation_calls n given action ready wanted → Asks (basis n) given wanted × (haves ready ≡ haves n)
   readied-asks action ready wanted r =
       let m = list.marks n action r.marked r.marks in
       let a = list.adds r.marked r.known given true wanted ready r.adds in (
@@ -73,7 +73,7 @@ module _ {N A : Type 0} (negotiation_calls : NegotiationCalls N A) (basis : N �
       )
 
   -- where there is nothing to ask for, none are asked for by a basis that decides and asks the same
-  idle-asks-none : (b : Basis) (last : N) (wanted : ArgumentsValue) → decided (basis n) ≡ decided b → ((known : List Bool) → asked_for (basis n) given known ≡ asked_for b given known) → Idle negotiation_calls n given last
+  pub idle-asks-none : (b : Basis) (last : N) (wanted : ArgumentsValue) → decided (basis n) ≡ decided b → ((known : List Bool) → asked_for (basis n) given known ≡ asked_for b given known) → Idle negotiation_calls n given last
       → Asks b given wanted → ⊥
   idle-asks-none b last wanted d w i a = by_action (list.marks n i.action i.marked i.marks) i.idle
     where
@@ -95,10 +95,10 @@ module _ {N A : Type 0} (negotiation_calls : NegotiationCalls N A) (basis : N �
 -- ---- a fetch
 
 -- what the planner asks for at first, and whether all is banded then
-abbrev first_asks : Protocol → List CapabilityValue → ArgumentsValue
+abbrev pub first_asks : Protocol → List CapabilityValue → ArgumentsValue
 first_asks v caps = asks_nothing git_table v (features_of git_table v caps planner_agent)
 
-abbrev bands : Protocol → List CapabilityValue → Bool
+abbrev pub bands : Protocol → List CapabilityValue → Bool
 bands v caps = has_feature (codes "sideband-all") (features_of git_table v caps planner_agent)
 
 -- how a fetch ended that wasn't refused
@@ -143,11 +143,11 @@ module _ {N I A S C P X : Type 0} (parties : Parties N I A S C P X) (basis : N �
 
   -- or there was nothing to ask for
   pub record Rested (v : Protocol) (caps : List CapabilityValue) (n : N) (old new : Reading) : Type 0 where
-    opened : ArgumentsValue
-    opens : shallow_asks no_change [] (first_asks v caps) ≡ Ok opened
-    last : N
-    idle : Idle parties.negotiation_calls n opened last
-    rests : new ≡ old
+    pub opened : ArgumentsValue
+    pub opens : shallow_asks no_change [] (first_asks v caps) ≡ Ok opened
+    pub last : N
+    pub idle : Idle parties.negotiation_calls n opened last
+    pub rests : new ≡ old
 
   abbrev pub Came : Protocol → List CapabilityValue → N → Reading → Reading → Option Outcome → Type 0
   Came v caps n old new (Some out) = Rounded v caps n old new

@@ -14,5 +14,8 @@ pub mod CountLemmas
 pub mod ListRoundLemmas
 pub mod RoundLemmas
 pub mod FetchLemmas
+pub mod VerdictLemmas
+pub mod RefusedFetchLemmas
+pub mod AlikeLemmas
 pub mod LaterLemmas
 pub mod ListNegotiationLemmas

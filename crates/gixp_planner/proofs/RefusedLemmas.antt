@@ -66,7 +66,7 @@ opened-sent : (old mid : Reading) (turns : List CredentialCall) (r : OpeningResu
 opened-sent old mid turns r p u (inr n) = stood-sent old mid n.same
 opened-sent old mid turns r p u (inl o) = first-sent o.0 o.1 mid turns r u o.3 ∙ shaken-sent old.held.persists old o.1 o.0 p o.2
 
-greeting-sent : (plain : Bool) (old new : Reading) (r : Result Handshake HandshakeError) → old.held.persists ≡ false → GreetsWithoutAccount plain old new r → SentAlike old new
+pub greeting-sent : (plain : Bool) (old new : Reading) (r : Result Handshake HandshakeError) → old.held.persists ≡ false → GreetsWithoutAccount plain old new r → SentAlike old new
 greeting-sent plain old new r p g = held-sent g.shakes.mid new g.shakes.held ∙ opened-sent old g.shakes.mid g.turns g.shakes.opened p g.unanswered g.shakes.opens
 
 -- ---- what is written of it

@@ -50,11 +50,11 @@ module _ {N I A : Type 0} (m : Manner N I A) where
       by_turns (t ∷ ts) e = (request_of t, requests_of ts ++ request_of p.last ∷ [], e)
 
   -- where none is counted at the end none was before
-  turn-none : (x : At N I) (t : Turn N I) → Turns m x t → t.after.reading.failures ≡ 0 → x.reading.failures ≡ 0
+  pub turn-none : (x : At N I) (t : Turn N I) → Turns m x t → t.after.reading.failures ≡ 0 → x.reading.failures ≡ 0
   turn-none x t h z =
       sym (sent-failures x.reading.held.persists x.reading t.sent _ h.sends.1) ∙ answered-none (answer_of m.version (flags t.done (not t.done))) m.version m.banded t.sent t.after.reading t.reply h.answer z
 
-  rounds-none : (ts : List (Turn N I)) (x b : At N I) → Rounds m x ts b → b.reading.failures ≡ 0 → x.reading.failures ≡ 0
+  pub rounds-none : (ts : List (Turn N I)) (x b : At N I) → Rounds m x ts b → b.reading.failures ≡ 0 → x.reading.failures ≡ 0
   rounds-none [] x b r z = ap (λ (a : At N I). a.reading.failures) (sym r) ∙ z
   rounds-none (w ∷ ts) x b r z = turn-none x w r.0 (rounds-none ts w.after b r.3 z)
 
@@ -84,7 +84,7 @@ module _ {N I A : Type 0} (m : Manner N I A) (haves : N → List ObjectId)
       u.reply (view-come m.banded t.sent a.sent.pieces a.sent.first) (view-come m.banded u.sent a.sent.pieces a.sent.second) (view-failures m.banded t.after.reading ∙ z) (view-failures m.banded u.after.reading ∙ w) h.answer
       (subst (λ d. Answered (answer_of m.version (flags d (not d))) m.version (view m.banded u.sent) (view m.banded u.after.reading) u.reply) (sym a.done) k.answer)
 
-  turns-alike : (x y : At N I) (t u : Turn N I) → AtAlike haves x y → Turns m x t → Turns m y u → t.after.reading.failures ≡ 0 → u.after.reading.failures ≡ 0 → (t.reply ≡ u.reply) × AtAlike haves t.after u.after
+  pub turns-alike : (x y : At N I) (t u : Turn N I) → AtAlike haves x y → Turns m x t → Turns m y u → t.after.reading.failures ≡ 0 → u.after.reading.failures ≡ 0 → (t.reply ≡ u.reply) × AtAlike haves t.after u.after
   turns-alike x y t u s h k z w =
       let a = asks-alike x y t u s h k in
       let reply = same-reply t u x y a h k z w in (

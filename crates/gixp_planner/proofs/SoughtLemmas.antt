@@ -1,5 +1,5 @@
 -- How a ref map ends, by the refs that came first or the answer to its list: as that says, or for memory.
-use Rattle.std.proofs.Common.{◌≡◌, ◌≢◌, ◌⊎◌, ℕ, Bool, true, false, List, [], ◌∷◌, ◌++◌, map, length, Option, Some, None, Vec, Result, Ok, Err, IfSome, inl, inr, refl, sym, ap, ◌∙◌, subst, arith, append-nil}
+use Rattle.std.proofs.Common.{◌≡◌, ◌≢◌, ◌⊎◌, ℕ, true, false, List, [], ◌∷◌, ◌++◌, map, length, Option, Some, None, Vec, Result, Ok, Err, IfSome, inl, inr, refl, sym, ap, ◌∙◌, subst, append-nil}
 use Rattle.std.specs.Prelude.{codes}
 use Rattle.std.specs.declared.alloc.Global.{Global}
 use Rattle.gixp_packetline.specs.Lines.{lines_of}
@@ -12,12 +12,12 @@ use Rattle.gixp_capabilities.specs.Capabilities.{CapabilityValue}
 use Rattle.gixp_wire.specs.declared.bodies.Body.{Body}
 use Rattle.gixp_wire.specs.declared.bodies.Bodies.{Bodies}
 use Rattle.gixp_wire.specs.Bodies.{answer_of, bodies_reading, IsNewBodies}
-use Rattle.gixp_wire.specs.Transport.{TakesAnswer, SentBy, FailsBy, Sends, Unsent, entered, with_written, first_answer, later_answers, answer_pieces}
+use Rattle.gixp_wire.specs.Transport.{SentBy, FailsBy, first_answer, later_answers, answer_pieces}
 use Rattle.gixp_refs.specs.declared.handshake.Ref.{Ref}
 use Rattle.gixp_refs.specs.declared.handshake.refs.parse.Error.{Error as parse_error}
 use Rattle.gixp_refs.specs.Ref.{RefValue, ref_value}
 use Rattle.gixp_refs.specs.RefLine.{RefsRefusal, refusal_from}
-use Rattle.gixp_refs.specs.Refs.{v2_refs, ReadsRefs, RefsFail}
+use Rattle.gixp_refs.specs.Refs.{v2_refs, RefsFail}
 use Rattle.gixp_requests.specs.declared.command.validate_argument_prefixes.Error.{Error as validation_error}
 use Rattle.gixp_requests.specs.Offers.{ValidationRefusal, AnswersRefusal}
 use Rattle.gixp_refspec.specs.declared.spec.RefSpec.{RefSpec}
@@ -32,7 +32,7 @@ use Rattle.gixp_refmap.specs.declared.ls_refs.error.Error.{Error as list_error}
 use Rattle.gixp_refmap.specs.declared.ls_refs.error.Error.TheVariants as list
 use Rattle.gixp_refmap.specs.ListError.{from_client, from_parse, from_validation}
 use Rattle.gixp_refmap.specs.MapError.{from_listing}
-use Rattle.gixp_refmap.specs.Listing.{Listing, listing_of, listing_refusal, listing_fits, listing_text, SendsListing, Listed, Lists, NotAsked, NotSent, NotRead}
+use Rattle.gixp_refmap.specs.Listing.{Listing, listing_of, listing_refusal, listing_fits, listing_text, SendsListing, Listed, Lists}
 use Rattle.gixp_refmap.specs.Mapping.{found_in, unknown_format, AnswersBy}
 use Rattle.gixp_requests.specs.Command.{git_table}
 use Rattle.gixp_handshake.specs.declared.handshake.read.Handshake.{Handshake}
@@ -43,7 +43,7 @@ use Rattle.gixp_planner.specs.Refusal.{map_name}
 use Rattle.gixp_planner.specs.Specs.{specs_of, IsContext}
 use Rattle.gixp_planner.specs.Session.{planner_agent, GreetsWithoutAccount, MapsRefs}
 use Rattle.gixp_planner.specs.Discovered.{Discovery, discovery, values_of, HasDiscovered, first_pieces}
-use Rattle.gixp_planner.specs.Sought.{Sought, at_hand, unasked, of_answer, by_size, by_offer, list_for, by_arrival, sought, by_conflicts, by_format, map_refusal, IsSought, second_pieces, MapsOver, Plans, RefMapsFollow}
+use Rattle.gixp_planner.specs.Sought.{Sought, at_hand, unasked, of_answer, by_size, by_offer, list_for, by_arrival, sought, by_conflicts, by_format, map_refusal, IsSought, second_pieces, Plans, RefMapsFollow}
 use Rattle.gixp_planner.proofs.MappedLemmas.{if-known, state, new-held, all_specs}
 use Rattle.gixp_planner.proofs.DiscoveredLemmas.{next_pieces, outside, discovers, memory-read}
 use Rattle.gixp_planner.proofs.AnswerLemmas.{never-none}

@@ -10,3 +10,4 @@ pub mod PlannedText
 pub mod Mapped
 pub mod Sought
 pub mod Follows
+pub mod Alike

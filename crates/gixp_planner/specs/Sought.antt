@@ -1,5 +1,5 @@
 -- What a ref map over recorded bodies is made of, as a function of what the server said, the refspecs and the answer to its list: the requests for it, and the refs or the name by which it is refused (gitprotocol-v2, "ls-refs"; git-fetch, "<refspec>").
-use Rattle.std.specs.Prelude.{ℕ, ◌≡◌, ◌⊎◌, Bool, true, false, List, [], ◌∷◌, ◌++◌, map, codes, Option, Some, None, Result, Ok, Err}
+use Rattle.std.specs.Prelude.{ℕ, ◌≡◌, ◌⊎◌, Bool, true, false, List, [], ◌∷◌, map, codes, Option, Some, None, Result, Ok, Err}
 use Rattle.gixp_packetline.specs.declared.protocol.Protocol.{Protocol}
 use Rattle.gixp_packetline.specs.Pieces.{Pieces}
 use Rattle.gixp_packetline.specs.Lines.{lines_of}

@@ -8,6 +8,7 @@ ghost use Rattle.gixp_planner.specs.Discovered.{GreetingsFollow};
 ghost use Rattle.gixp_planner.specs.Mapped.{MappingsFollow};
 ghost use Rattle.gixp_planner.specs.Sought.{RefMapsFollow};
 ghost use Rattle.gixp_planner.specs.Follows.{Follow};
+ghost use Rattle.gixp_planner.specs.Alike.{CoursesFollow};
 
 use gix_protocol::fetch::negotiate::{HaveList, Negotiate, Negotiation, NoRefs, Objects};
 use gix_protocol::fetch::{ConsumePack, ReadToEnd, Shallow, ShallowMemory, ShallowStore, Tags};
@@ -49,6 +50,24 @@ pub fn texts_follow_bodies<'a, O: Objects + 'a, G: Objects + 'a>()
         (parties_of ⟦<Negotiation<'a, O, NoRefs, HaveList, G, AllocError> as Negotiate>⟧.calls ⟦<ShallowMemory as ShallowStore>⟧.calls ⟦<NeverInterrupt as Interrupt>⟧.says ⟦<ReadToEnd as ConsumePack<Discard>>⟧.consumes true)
         (λ m n. (n.context.objects.now ≡ objects) × (n.context.graph.now ≡ graph) × (n.context.negotiator.now ≡ haves) × (n.ref_map.now ≡ m) × (n.shallow.now ≡ Shallow.NoChange) × (n.tags ≡ Tags.None) × IfOk n.context.alternates (λ a. a.now ≡ []) × IsOk n.context.alternates)
         (λ m n. (n.context.objects.now ≡ others) × (n.context.graph.now ≡ another) × (n.context.negotiator.now ≡ haves) × (n.ref_map.now ≡ m) × (n.shallow.now ≡ Shallow.NoChange) × (n.tags ≡ Tags.None) × IfOk n.context.alternates (λ a. a.now ≡ []) × IsOk n.context.alternates)
+        (λ s. (s.ids.items ≡ []) × (s.locked ≡ false))
+        bodies specs }
+{}
+
+/// With a [`HaveList`], two sessions over the same bodies, refspecs, objects and ids go alike, refused ones too: they send the
+/// same requests, the same is printed of their ref maps, and they end at the same step, with the same end there or by the same
+/// name, or both at a pack, of which it is left open whether it is taken whole. Where they have the same end,
+/// [`plan`](crate::plan) writes the same text.
+///
+/// An allocation failure, a failure that the transport counted, one of the repository or its boundary, and an interrupt, of
+/// which there are none here, come from no body: sessions with such are left out, and so are those that end with `Memory`.
+pub fn courses_follow_bodies<'a, O: Objects + 'a, G: Objects + 'a>()
+    ensures { (bodies : List Body) (specs : List (List ℕ)) (haves : List ObjectId) (objects others : O) (graph another : GraphValue)
+        → O.contents objects ≡ O.contents others → graph.graph.objects ≡ another.graph.objects
+        → CoursesFollow
+        (parties_of ⟦<Negotiation<'a, O, NoRefs, HaveList, G, AllocError> as Negotiate>⟧.calls ⟦<ShallowMemory as ShallowStore>⟧.calls ⟦<NeverInterrupt as Interrupt>⟧.says ⟦<ReadToEnd as ConsumePack<Discard>>⟧.consumes true)
+        (λ m n. (n.objects.now ≡ objects) × (n.graph.now ≡ graph) × (n.negotiator.now ≡ haves) × (n.ref_map.now ≡ m) × (n.shallow.now ≡ Shallow.NoChange) × (n.tags ≡ Tags.None) × IfOk n.alternates (λ a. a.now ≡ []) × IsOk n.alternates)
+        (λ m n. (n.objects.now ≡ others) × (n.graph.now ≡ another) × (n.negotiator.now ≡ haves) × (n.ref_map.now ≡ m) × (n.shallow.now ≡ Shallow.NoChange) × (n.tags ≡ Tags.None) × IfOk n.alternates (λ a. a.now ≡ []) × IsOk n.alternates)
         (λ s. (s.ids.items ≡ []) × (s.locked ≡ false))
         bodies specs }
 {}

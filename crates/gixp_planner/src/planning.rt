@@ -64,7 +64,8 @@ fn counted(failures: u64, ended: Result<bool, PlanError>) -> Result<bool, PlanEr
 /// Of a plan that isn't refused, or whose fetch is, the requests up to the ref map, the mappings and those taken out are a
 /// function of the bodies and the refspecs alone ([`mappings_follow_bodies`](crate::laws::mappings_follow_bodies)). With a
 /// [`HaveList`](gix_protocol::fetch::negotiate::HaveList) the whole text is one of these, the objects and the ids, whatever
-/// version the server speaks ([`texts_follow_bodies`](crate::laws::texts_follow_bodies)).
+/// version the server speaks ([`texts_follow_bodies`](crate::laws::texts_follow_bodies)). Plans that are refused go alike too
+/// ([`courses_follow_bodies`](crate::laws::courses_follow_bodies)).
 ///
 /// # Errors
 ///
