@@ -136,13 +136,13 @@ fn negotiate<T: Transport, P: PackPlace>(
 ) -> Result<Option<Outcome>, Failure> {
     match asked.wish.haves {
         Haves::By(algorithm) => {
-            let mut negotiator = algorithm.negotiator(alloc);
-            session.fetch(repository, &mut negotiator, asked, sink, shown)
+            let negotiator = algorithm.negotiator(alloc);
+            session.fetch(repository, negotiator, asked, sink, shown)
         }
         Haves::InOrder => {
             let ids = Vec::from_slice(alloc, &repository.commits)?;
-            let mut negotiator = HaveList::new(ids);
-            session.fetch(repository, &mut negotiator, asked, sink, shown)
+            let negotiator = HaveList::new(ids);
+            session.fetch(repository, negotiator, asked, sink, shown)
         }
     }
 }

@@ -21,6 +21,7 @@ use gix_protocol::{Handshake, LsRefsCommand, agent, indicate_end_of_interaction}
 use gixp_fetch_parts::{PackPlace, Server, Wish};
 use std::alloc::{AllocError, Global};
 use std::io::{Read, Write};
+use std::mem;
 
 /// A server after the handshake.
 #[derive(Drop)]
@@ -106,6 +107,11 @@ fn specs_of(alloc: Global, wish: &Wish<'_>) -> Result<init::Context, Failure> {
 // The feature that names a client.
 fn named(alloc: Global, name: &str) -> Result<Feature, AllocError> {
     Ok(("agent", Some(agent(alloc, name)?)))
+}
+
+// Alternates that can be opened.
+fn opened(alternates: &mut [StoredRefs]) -> Result<&mut [StoredRefs], NoAlternates> {
+    Ok(alternates)
 }
 
 // The fetch of what a negotiation asks for.
@@ -237,10 +243,10 @@ impl<'a, T: Transport> Session<'a, T> {
     }
 
     /// Fetches what is mapped.
-    pub(crate) fn fetch<N: Negotiator, P: PackPlace, S: NestedProgress>(
+    pub(crate) fn fetch<N: Negotiator + Drop, P: PackPlace, S: NestedProgress>(
         &mut self,
         repository: &mut Repository,
-        negotiator: &mut N,
+        mut negotiator: N,
         asked: Asked<'_>,
         sink: &mut Sink<P>,
         shown: &mut S,
@@ -248,21 +254,23 @@ impl<'a, T: Transport> Session<'a, T> {
     where
         S::SubProgress: Drop,
     {
-        let mut graph = Graph::new(self.alloc, Shared::new(&repository.objects));
+        let alloc = self.alloc;
+        let mut refs = mem::replace(&mut repository.refs, StoredRefs::new(alloc));
+        let mut graph = Graph::new(alloc, Shared::new(&repository.objects));
         let shared = Shared::new(&repository.objects);
-        let alternates: Result<&mut [StoredRefs], NoAlternates> = Ok(&mut []);
+        let mut alternates = Vec::new(alloc);
         let context = NegotiateContext {
             objects: &shared,
-            refs: &mut repository.refs,
-            alternates,
-            negotiator,
+            refs: &mut refs,
+            alternates: opened(&mut alternates),
+            negotiator: &mut negotiator,
             graph: &mut graph,
         };
         let wish = asked.wish;
         let negotiation = Negotiation::new(context, asked.map, &wish.shallow, wish.tags);
         let mut windowed = Windowed::new(negotiation, self.most_haves());
-        fetch_over(
-            self.alloc,
+        let result = fetch_over(
+            alloc,
             &mut windowed,
             self.agent,
             &mut self.shaken,
@@ -271,7 +279,10 @@ impl<'a, T: Transport> Session<'a, T> {
             &mut sink.boundary,
             &mut sink.pack,
             shown,
-        )
+        );
+        drop(windowed);
+        repository.refs = refs;
+        result
     }
 
     /// Says that nothing more is asked for, unless a pack came under version 0 or 1, where the server ends by itself. A server
