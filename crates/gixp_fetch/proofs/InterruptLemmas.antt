@@ -1,5 +1,6 @@
 -- What an answer that is read through bands leaves of the interrupt.
-use Rattle.std.proofs.Common.{◌≡◌, ap, sym, subst, ◌∙◌, Bool, Err}
+use Rattle.std.proofs.Common.{◌≡◌, ap, sym, subst, ◌∙◌, Bool}
+use Rattle.std.specs.Prelude.{Result, Ok, Err}
 use Rattle.std.specs.Borrow.{GName}
 use Rattle.gixp_packetline.specs.declared.read.Error.TheVariants.{Io as ReadIo, Decode, Server, UnexpectedFrame, NotUtf8, BadBand, Interrupted, Memory as ReadMemory}
 use Rattle.gixp_sidebands.specs.Telling.{Listener}
@@ -16,7 +17,7 @@ back_goes {P} {I} says start first old end out new name start_name end_name out_
     subst (λ x. SaidToGoOn says old x) (sym (back (sym n ∙ sym g.1 ∙ sym o) ∙ e)) (subst (λ x. SaidToGoOn says x end) (ap (λ (l : Listener P I). l.interrupt) s) g.0)
 
 -- what follows from what holds
-pub goes_by : (X Y P Q : Type 0) (e : Error) → (P → Q) → UnlessAnswerInterrupted {X = X} (Err e) P → UnlessAnswerInterrupted {X = Y} (Err e) Q
+goes_by : (X Y P Q : Type 0) (e : Error) → (P → Q) → UnlessAnswerInterrupted {X = X} (Err e) P → UnlessAnswerInterrupted {X = Y} (Err e) Q
 goes_by X Y P Q (Io kind) f h = f h
 goes_by X Y P Q (UploadPack m) f h = f h
 goes_by X Y P Q (Transport x) f h = f h
@@ -32,3 +33,7 @@ goes_by X Y P Q (Reader (BadBand b)) f h = f h
 goes_by X Y P Q (Reader Interrupted) f h = tt
 goes_by X Y P Q (Reader ReadMemory) f h = f h
 goes_by X Y P Q Memory f h = f h
+
+pub goes_so : (X P Q : Type 0) (r : Result X Error) → (P → Q) → UnlessAnswerInterrupted r P → UnlessAnswerInterrupted r Q
+goes_so X P Q (Ok v) f h = f h
+goes_so X P Q (Err e) f h = goes_by X X P Q e f h
