@@ -18,7 +18,7 @@ use Rattle.gixp_negotiate.specs.Negotiate.{ActionValue, no_change as nothing_cha
 use Rattle.gixp_negotiate.specs.Wants.{asks_for, asking_all, AddsWants}
 use Rattle.gixp_fetch.specs.declared.options.Outcome.{Outcome}
 use Rattle.gixp_fetch.specs.FetchShallow.{no_change, shallow_asks}
-use Rattle.gixp_fetch.specs.FetchRounds.{At, Manner, Packed}
+use Rattle.gixp_fetch.specs.FetchRounds.{At, Manner, manner_of, Packed}
 use Rattle.gixp_fetch.specs.Session.{MakesReady, Idle, OpensFetch}
 use Rattle.gixp_fetch.specs.Prepare.{features_of, Prepared}
 use Rattle.gixp_fetch.specs.Fetch.{World, Parties}
@@ -101,6 +101,58 @@ first_asks v caps = asks_nothing git_table v (features_of git_table v caps plann
 abbrev pub bands : Protocol → List CapabilityValue → Bool
 bands v caps = has_feature (codes "sideband-all") (features_of git_table v caps planner_agent)
 
+-- where rounds begin
+abbrev pub start_of : {N I : Type 0} → N → ArgumentsValue → Reading → I → At N I
+start_of ready wanted old interrupt = record {
+  negotiate = ready;
+  window = first_window (not old.held.persists || is_v2 wanted.version);
+  asked = wanted;
+  previous = None;
+  reading = old;
+  interrupt = interrupt;
+}
+
+module _ {N A : Type 0} (negotiation_calls : NegotiationCalls N A) (basis : N → Basis) (haves : N → List ObjectId) (list : OffersList negotiation_calls basis haves) (v : Protocol) (caps : List CapabilityValue) where
+  -- objects are asked for
+  pub record Began (n ready : N) (wanted : ArgumentsValue) : Type 0 where
+    pub opened : ArgumentsValue
+    pub opens : shallow_asks no_change [] (first_asks v caps) ≡ Ok opened
+    pub asks : Asks (basis n) opened wanted
+    pub left : haves ready ≡ haves n
+
+  -- or there is nothing to ask for
+  pub record Rested (n : N) (old new : Reading) : Type 0 where
+    pub opened : ArgumentsValue
+    pub opens : shallow_asks no_change [] (first_asks v caps) ≡ Ok opened
+    pub last : N
+    pub idle : Idle negotiation_calls n opened last
+    pub rests : new ≡ old
+
+  -- two fetches begin alike, or both have nothing to ask for
+  module _ (n o : N) (basis_same : SameBasis (basis n) (basis o)) (haves_same : haves n ≡ haves o) (a b : Reading) (hold : HoldAlike a b) where
+    pub starts-alike : {I : Type 0} (ready other : N) (wanted asked : ArgumentsValue) (i j : I) → Began n ready wanted → Began o other asked → AtAlike haves (start_of ready wanted a i) (start_of other asked b j)
+    starts-alike ready other wanted asked i j l r =
+        let opened = same-ok _ l.opened r.opened l.opens r.opens in
+        let same : wanted ≡ asked = asks-same (basis n) (basis o) l.opened wanted asked basis_same l.asks (subst (λ x. Asks (basis o) x asked) (sym opened) r.asks) in
+        record {
+          left = l.left ∙ haves_same ∙ sym r.left;
+          window =
+              ap (λ (h : TransportState). first_window (not h.persists || is_v2 wanted.version)) hold.held ∙ ap (λ (x : ArgumentsValue). first_window (not b.held.persists || is_v2 x.version)) same;
+          asked = same;
+          previous = refl;
+          reading = hold;
+        }
+
+    pub first-rests : (c : Reading) (other : N) (asked : ArgumentsValue) → Rested n a c → Began o other asked → ⊥
+    first-rests c other asked l r =
+        idle-asks-none negotiation_calls basis haves list n l.opened (basis o) l.last asked (decided-alike (basis n) (basis o) basis_same) (λ known. asked-alike (basis n) (basis o) l.opened known basis_same) l.idle
+        (subst (λ x. Asks (basis o) x asked) (sym (same-ok _ l.opened r.opened l.opens r.opens)) r.asks)
+
+    pub other-rests : (d : Reading) (ready : N) (wanted : ArgumentsValue) → Began n ready wanted → Rested o b d → ⊥
+    other-rests d ready wanted l r =
+        idle-asks-none negotiation_calls basis haves list o r.opened (basis n) r.last wanted (sym (decided-alike (basis n) (basis o) basis_same)) (λ known. sym (asked-alike (basis n) (basis o) r.opened known basis_same)) r.idle
+        (subst (λ x. Asks (basis n) x wanted) (same-ok _ l.opened r.opened l.opens r.opens) l.asks)
+
 -- how a fetch ended that wasn't refused
 abbrev pub came_to : Option Outcome → Result Bool PlanRefusal
 came_to (Some out) = Ok true
@@ -111,47 +163,27 @@ not-refused-ok o e h = absurd cc
 
 module _ {N I A S C P X : Type 0} (parties : Parties N I A S C P X) (basis : N → Basis) (haves : N → List ObjectId) (list : OffersList parties.negotiation_calls basis haves) (IsEmpty : S → Type 0)
     (reads : (s : S) (ids : List ObjectId) (t : S) → IsEmpty s → parties.store_calls.reads s ids t → ids ≡ []) (none : CountsNone parties.consumes) where
-  abbrev manner_of : Protocol → Bool → Manner N I A
-  manner_of v banded = record { goes = parties.negotiation_calls.goes; fails = parties.negotiation_calls.round_fails; says = parties.says; version = v; banded = banded; plain = parties.plain }
-
-  abbrev start_of : N → ArgumentsValue → Reading → I → At N I
-  start_of ready wanted old interrupt = record {
-    negotiate = ready;
-    window = first_window (not old.held.persists || is_v2 wanted.version);
-    asked = wanted;
-    previous = None;
-    reading = old;
-    interrupt = interrupt;
-  }
+  abbrev how : Protocol → Bool → Manner N I A
+  how v banded = manner_of parties.negotiation_calls parties.says v banded parties.plain
 
   -- it came to a pack
   pub record Rounded (v : Protocol) (caps : List CapabilityValue) (n : N) (old new : Reading) : Type 0 where
-    opened : ArgumentsValue
-    opens : shallow_asks no_change [] (first_asks v caps) ≡ Ok opened
     ready : N
     wanted : ArgumentsValue
-    asks : Asks (basis n) opened wanted
-    left : haves ready ≡ haves n
+    began : Began parties.negotiation_calls basis haves list v caps n ready wanted
     interrupt : I
     rounds : List Round
     updates : List ShallowUpdate
     reply : AnswerValue
     end : At N I
-    packed : Packed (manner_of v (bands v caps)) (start_of ready wanted old interrupt) rounds updates reply end
+    packed : Packed (how v (bands v caps)) (start_of ready wanted old interrupt) rounds updates reply end
     held : new.held ≡ end.reading.held
     failures : new.failures ≡ end.reading.failures
 
   -- or there was nothing to ask for
-  pub record Rested (v : Protocol) (caps : List CapabilityValue) (n : N) (old new : Reading) : Type 0 where
-    pub opened : ArgumentsValue
-    pub opens : shallow_asks no_change [] (first_asks v caps) ≡ Ok opened
-    pub last : N
-    pub idle : Idle parties.negotiation_calls n opened last
-    pub rests : new ≡ old
-
   abbrev pub Came : Protocol → List CapabilityValue → N → Reading → Reading → Option Outcome → Type 0
   Came v caps n old new (Some out) = Rounded v caps n old new
-  Came v caps n old new None = Rested v caps n old new
+  Came v caps n old new None = Rested parties.negotiation_calls basis haves list v caps n old new
 
   module _ (IsOver : N → Type 0) (h : Handshake) (old new : Reading) where
     prepared-first : (asked : ArgumentsValue) (banded : Bool) → Prepared git_table h.server_protocol_version (features_of git_table h.server_protocol_version h.capabilities planner_agent) tags.None asked banded
@@ -171,21 +203,18 @@ module _ {N I A S C P X : Type 0} (parties : Parties N I A S C P X) (basis : N �
         let b = s.negotiated.begun in
         let a = readied-asks parties.negotiation_calls basis haves list f.first.negotiate b.asked _ s.negotiated.ready s.negotiated.wanted b.readied in
         record {
-          opened = b.asked;
-          opens = opened-first c.held s.ids s.read c.asked b.asked (subst IsEmpty (sym c.locks.0) f.empty) p.0 b.opened;
           ready = s.negotiated.ready;
           wanted = s.negotiated.wanted;
-          asks = a.0;
-          left = a.1;
+          began = record { opened = b.asked; opens = opened-first c.held s.ids s.read c.asked b.asked (subst IsEmpty (sym c.locks.0) f.empty) p.0 b.opened; asks = a.0; left = a.1 };
           interrupt = f.first.interrupt;
           rounds = out.negotiate.rounds.items;
           updates = s.updates;
           reply = s.reply;
           end = s.end;
           packed =
-              subst (λ r. Packed (manner_of h.server_protocol_version (bands h.server_protocol_version h.capabilities)) (start_of s.negotiated.ready s.negotiated.wanted r f.first.interrupt) out.negotiate.rounds.items s.updates s.reply s.end)
+              subst (λ r. Packed (how h.server_protocol_version (bands h.server_protocol_version h.capabilities)) (start_of s.negotiated.ready s.negotiated.wanted r f.first.interrupt) out.negotiate.rounds.items s.updates s.reply s.end)
               f.begins
-              (subst (λ d. Packed (manner_of h.server_protocol_version d) (start_of s.negotiated.ready s.negotiated.wanted f.first.reading f.first.interrupt) out.negotiate.rounds.items s.updates s.reply s.end) p.1
+              (subst (λ d. Packed (how h.server_protocol_version d) (start_of s.negotiated.ready s.negotiated.wanted f.first.reading f.first.interrupt) out.negotiate.rounds.items s.updates s.reply s.end) p.1
               s.negotiated.packed);
           held =
               ap (λ (r : Reading). r.held) (sym f.ends)
@@ -197,7 +226,8 @@ module _ {N I A S C P X : Type 0} (parties : Parties N I A S C P X) (basis : N �
               ∙ received-failures parties.consumes none f.first.consumer s.end.reading c.last.consumer c.last.reading f.progress s.delivered.received;
         }
 
-    rested : (f : FetchesOver parties IsOver IsEmpty h old new (Ok None)) → CarriesOut parties (planner_call h) f.first (Ok None) f.last f.progress → Rested h.server_protocol_version h.capabilities f.first.negotiate old new
+    rested : (f : FetchesOver parties IsOver IsEmpty h old new (Ok None)) → CarriesOut parties (planner_call h) f.first (Ok None) f.last f.progress
+        → Rested parties.negotiation_calls basis haves list h.server_protocol_version h.capabilities f.first.negotiate old new
     rested f c =
         let p = prepared-first c.asked c.banded c.prepared in
         let s = c.meets in
@@ -217,49 +247,32 @@ module _ {N I A S C P X : Type 0} (parties : Parties N I A S C P X) (basis : N �
   -- what it asked for after the requests up to its ref map
   pub asked-behind : (v : Protocol) (caps : List CapabilityValue) (n : N) (old new : Reading) → old.held.persists ≡ false → (o : Option Outcome) → Came v caps n old new o → AsksBehind (came_to o) old.held.sent new.held.sent
   asked-behind v caps n old new alone (Some out) r =
-      let s = asks-behind (manner_of v (bands v caps)) _ r.rounds r.updates r.reply r.end alone r.packed in (s.0, s.1, ap (λ (h : TransportState). h.sent) r.held ∙ s.2)
+      let s = asks-behind (how v (bands v caps)) _ r.rounds r.updates r.reply r.end alone r.packed in (s.0, s.1, ap (λ (h : TransportState). h.sent) r.held ∙ s.2)
   asked-behind v caps n old new alone None r = ap (λ (z : Reading). z.held.sent) r.rests
 
   -- ---- two fetches
 
   module _ (v : Protocol) (caps : List CapabilityValue) (n o : N) (a b c d : Reading) (basis_same : SameBasis (basis n) (basis o)) (haves_same : haves n ≡ haves o) (hold : HoldAlike a b) where
-    opened-same : (x y : ArgumentsValue) → shallow_asks no_change [] (first_asks v caps) ≡ Ok x → shallow_asks no_change [] (first_asks v caps) ≡ Ok y → x ≡ y
-    opened-same x y e f = same-ok _ x y e f
+    starts-so : (l : Rounded v caps n a c) (r : Rounded v caps o b d) → AtAlike haves (start_of l.ready l.wanted a l.interrupt) (start_of r.ready r.wanted b r.interrupt)
+    starts-so l r = starts-alike parties.negotiation_calls basis haves list v caps n o basis_same haves_same a b hold l.ready r.ready l.wanted r.wanted l.interrupt r.interrupt l.began r.began
 
-    starts-alike : (l : Rounded v caps n a c) (r : Rounded v caps o b d) → AtAlike haves (start_of l.ready l.wanted a l.interrupt) (start_of r.ready r.wanted b r.interrupt)
-    starts-alike l r =
-        let opened = opened-same l.opened r.opened l.opens r.opens in
-        let wanted : l.wanted ≡ r.wanted = asks-same (basis n) (basis o) l.opened l.wanted r.wanted basis_same l.asks (subst (λ x. Asks (basis o) x r.wanted) (sym opened) r.asks) in
-        record {
-          left = l.left ∙ haves_same ∙ sym r.left;
-          window =
-              ap (λ (h : TransportState). first_window (not h.persists || is_v2 l.wanted.version)) hold.held ∙ ap (λ (x : ArgumentsValue). first_window (not b.held.persists || is_v2 x.version)) wanted;
-          asked = wanted;
-          previous = refl;
-          reading = hold;
-        }
+    first-none : Rested parties.negotiation_calls basis haves list v caps n a c → Rounded v caps o b d → ⊥
+    first-none l r = first-rests parties.negotiation_calls basis haves list v caps n o basis_same haves_same a b hold c r.ready r.wanted l r.began
 
-    first-rests : Rested v caps n a c → Rounded v caps o b d → ⊥
-    first-rests l r =
-        idle-asks-none parties.negotiation_calls basis haves list n l.opened (basis o) l.last r.wanted (decided-alike (basis n) (basis o) basis_same) (λ known. asked-alike (basis n) (basis o) l.opened known basis_same) l.idle
-        (subst (λ x. Asks (basis o) x r.wanted) (sym (opened-same l.opened r.opened l.opens r.opens)) r.asks)
-
-    other-rests : Rounded v caps n a c → Rested v caps o b d → ⊥
-    other-rests l r =
-        idle-asks-none parties.negotiation_calls basis haves list o r.opened (basis n) r.last l.wanted (sym (decided-alike (basis n) (basis o) basis_same)) (λ known. sym (asked-alike (basis n) (basis o) r.opened known basis_same)) r.idle
-        (subst (λ x. Asks (basis n) x l.wanted) (opened-same l.opened r.opened l.opens r.opens) l.asks)
+    other-none : Rounded v caps n a c → Rested parties.negotiation_calls basis haves list v caps o b d → ⊥
+    other-none l r = other-rests parties.negotiation_calls basis haves list v caps n o basis_same haves_same a b hold d l.ready l.wanted l.began r
 
     -- both came to the same end
     pub ends-same : (x y : Option Outcome) → Came v caps n a c x → Came v caps o b d y → came_to x ≡ came_to y
     ends-same (Some x) (Some y) l r = refl
-    ends-same (Some x) None l r = absurd (other-rests l r)
-    ends-same None (Some y) l r = absurd (first-rests l r)
+    ends-same (Some x) None l r = absurd (other-none l r)
+    ends-same None (Some y) l r = absurd (first-none l r)
     ends-same None None l r = refl
 
     -- where none is counted both sent the same
     pub sent-same : c.failures ≡ 0 → d.failures ≡ 0 → (x y : Option Outcome) → Came v caps n a c x → Came v caps o b d y → c.held ≡ d.held
     sent-same z w (Some x) (Some y) l r =
-        l.held ∙ packed-alike (manner_of v (bands v caps)) haves list.goes _ _ _ _ _ _ _ _ _ _ (starts-alike l r) l.packed (sym l.failures ∙ z) r.packed (sym r.failures ∙ w) ∙ sym r.held
-    sent-same z w (Some x) None l r = absurd (other-rests l r)
-    sent-same z w None (Some y) l r = absurd (first-rests l r)
+        l.held ∙ packed-alike (how v (bands v caps)) haves list.goes _ _ _ _ _ _ _ _ _ _ (starts-so l r) l.packed (sym l.failures ∙ z) r.packed (sym r.failures ∙ w) ∙ sym r.held
+    sent-same z w (Some x) None l r = absurd (other-none l r)
+    sent-same z w None (Some y) l r = absurd (first-none l r)
     sent-same z w None None l r = ap (λ (z : Reading). z.held) l.rests ∙ hold.held ∙ sym (ap (λ (z : Reading). z.held) r.rests)

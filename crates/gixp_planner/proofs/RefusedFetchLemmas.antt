@@ -1,12 +1,11 @@
 -- Two fetches of the planner over the same mappings, refused ones too, whose negotiators offer the same list: nothing is asked for, or they break off at the same round, or both come to a pack.
-use Rattle.std.proofs.Common.{◌≡◌, ◌⊎◌, ℕ, Bool, true, false, not, ◌||◌, List, [], ◌∷◌, ◌++◌, map, codes, Option, Some, None, Result, Ok, Err, inl, inr, refl, sym, ap, ◌∙◌, subst, arith}
+use Rattle.std.proofs.Common.{◌≡◌, ◌⊎◌, ℕ, Bool, true, false, not, List, [], ◌∷◌, ◌++◌, map, codes, Option, Some, None, Result, Ok, Err, inl, inr, refl, sym, ap, ◌∙◌, subst, arith}
 use Rattle.std.specs.Prelude.{if◌then◌else◌, ◌&&◌}
 use Rattle.gixp_hash.specs.declared.object_id.ObjectId.{ObjectId}
 use Rattle.gixp_packetline.specs.declared.protocol.Protocol.{Protocol}
 use Rattle.gixp_packetline.specs.declared.read.Error.{Error as read_error}
 use Rattle.gixp_packetline.specs.Pieces.{Refusal, io, decode, server, unexpected_frame, not_utf8, bad_band, interrupted, memory}
 use Rattle.gixp_packetline.specs.Reading.{Reading, Fails, IsFault, refusal_of}
-use Rattle.gixp_packetline.specs.TransportState.{TransportState}
 use Rattle.gixp_capabilities.specs.Capabilities.{CapabilityValue}
 use Rattle.gixp_sidebands.specs.Bands.{Side, side_reading}
 use Rattle.gixp_response.specs.declared.fetch.response.error.Error.{Error as response_error}
@@ -16,10 +15,10 @@ use Rattle.gixp_response.specs.Answer.{AnswerValue}
 use Rattle.gixp_response.specs.Features.{Feature, feature_names, missing_name, missing_feature, Misses}
 use Rattle.gixp_requests.specs.Feature.{FeatureValue, feature_values}
 use Rattle.gixp_requests.specs.Command.{git_table}
-use Rattle.gixp_requests.specs.Arguments.{ArgumentsValue, is_v2, can_use}
+use Rattle.gixp_requests.specs.Arguments.{ArgumentsValue, can_use}
 use Rattle.gixp_handshake.specs.declared.handshake.read.Handshake.{Handshake}
 use Rattle.gixp_negotiate.specs.declared.negotiate.Round.{Round}
-use Rattle.gixp_negotiate.specs.Negotiate.{ActionValue, first_window}
+use Rattle.gixp_negotiate.specs.Negotiate.{ActionValue}
 use Rattle.gixp_fetch.specs.declared.error.Error.{Error as FetchError}
 use Rattle.gixp_fetch.specs.declared.error.Error.TheVariants as fetch
 use Rattle.gixp_fetch.specs.declared.options.Outcome.{Outcome}
@@ -31,7 +30,7 @@ use Rattle.gixp_fetch.specs.FetchShallow.{no_change, shallow_asks, IsMissing}
 use Rattle.gixp_fetch.specs.Prepare.{features_of, no_room, unneeded, untagged}
 use Rattle.gixp_fetch.specs.Receive.{Consumed, DrainFails}
 use Rattle.gixp_fetch.specs.Received.{PackRefused, ReceiveFails}
-use Rattle.gixp_fetch.specs.Session.{OpensFetch, OpenFails, ReadyFails, Idle, UnheldBy, SettleFails, is_any, at_lock, at_pack, at_boundary, DeliverFails}
+use Rattle.gixp_fetch.specs.Session.{OpensFetch, OpenFails, ReadyFails, UnheldBy, SettleFails, is_any, at_lock, at_pack, at_boundary, DeliverFails}
 use Rattle.gixp_fetch.specs.Fetch.{World, Parties, Wishes, Begun, Negotiated, FetchFails, unopened, unready, unpacked, untold, undelivered, SessionEnds}
 use Rattle.gixp_fetch.specs.Fetched.{CarriesOut, StartFails, unprepared, unlocked}
 use Rattle.gixp_fetch.proofs.SessionLemmas.{received_held, undelivered_held}
@@ -40,11 +39,10 @@ use Rattle.gixp_planner.specs.Refusal.{PlanRefusal, refusal}
 use Rattle.gixp_planner.specs.Session.{planner_agent, planner_call, end_of, FetchesOver, FetchesMapped}
 use Rattle.gixp_planner.specs.Alike.{IsDisturbed, IsUndisturbed, EndsAtPack, EndAlike}
 use Rattle.gixp_planner.proofs.MappedLemmas.{HoldAlike, same-ok}
-use Rattle.gixp_planner.proofs.WantLemmas.{Basis, SameBasis, decided-alike, asked-alike}
+use Rattle.gixp_planner.proofs.WantLemmas.{Basis, SameBasis}
 use Rattle.gixp_planner.proofs.AnswerLemmas.{never-none}
 use Rattle.gixp_planner.proofs.CountLemmas.{CountsNone, back-failures, received-failures}
-use Rattle.gixp_planner.proofs.RoundLemmas.{AtAlike}
-use Rattle.gixp_planner.proofs.FetchLemmas.{OffersList, Asks, asks-same, readied-asks, idle-asks-none, first_asks, bands}
+use Rattle.gixp_planner.proofs.FetchLemmas.{OffersList, readied-asks, first_asks, bands, start_of, Began, Rested, starts-alike, first-rests, other-rests}
 use Rattle.gixp_planner.proofs.VerdictLemmas.{by_pack, EndsBy, Ran, last-turn, own-disturbs, rounds-fail, runs-alike}
 
 -- ---- what isn't counted
@@ -170,36 +168,11 @@ module _ {N I A S C P X : Type 0} (parties : Parties N I A S C P X) (basis : N �
   abbrev how : Protocol → Bool → Manner N I A
   how v banded = manner_of parties.negotiation_calls parties.says v banded parties.plain
 
-  abbrev start_at : N → ArgumentsValue → Reading → I → At N I
-  start_at ready wanted old interrupt = record {
-    negotiate = ready;
-    window = first_window (not old.held.persists || is_v2 wanted.version);
-    asked = wanted;
-    previous = None;
-    reading = old;
-    interrupt = interrupt;
-  }
-
-  -- objects are asked for
-  pub record Began (v : Protocol) (caps : List CapabilityValue) (n ready : N) (wanted : ArgumentsValue) : Type 0 where
-    opened : ArgumentsValue
-    opens : shallow_asks no_change [] (first_asks v caps) ≡ Ok opened
-    asks : Asks (basis n) opened wanted
-    left : haves ready ≡ haves n
-
-  -- there was nothing to ask for
-  pub record Idles (v : Protocol) (caps : List CapabilityValue) (n : N) (old new : Reading) : Type 0 where
-    opened : ArgumentsValue
-    opens : shallow_asks no_change [] (first_asks v caps) ≡ Ok opened
-    last : N
-    idle : Idle parties.negotiation_calls n opened last
-    rests : new ≡ old
-
   -- how a fetch went that nothing disturbed
   pub data Way (v : Protocol) (caps : List CapabilityValue) (banded : Bool) (n : N) (old new : Reading) (ended : Result Bool PlanRefusal) : Type 0 where
     lacks : {name : List ℕ} → lacking v caps ≡ Some name → new.held ≡ old.held → ended ≡ Err (refusal (codes "fetch") (codes "FetchResponse")) → Way v caps banded n old new ended
-    rests : lacking v caps ≡ None → Idles v caps n old new → ended ≡ Ok false → Way v caps banded n old new ended
-    runs : lacking v caps ≡ None → (ready : N) (wanted : ArgumentsValue) (interrupt : I) → Began v caps n ready wanted → Ran (how v banded) (start_at ready wanted old interrupt) new ended → Way v caps banded n old new ended
+    rests : lacking v caps ≡ None → Rested parties.negotiation_calls basis haves list v caps n old new → ended ≡ Ok false → Way v caps banded n old new ended
+    runs : lacking v caps ≡ None → (ready : N) (wanted : ArgumentsValue) (interrupt : I) → Began parties.negotiation_calls basis haves list v caps n ready wanted → Ran (how v banded) (start_of ready wanted old interrupt) new ended → Way v caps banded n old new ended
 
   module _ (v : Protocol) (caps : List CapabilityValue) (banded : Bool) (told : List ShallowUpdate) (given : ArgumentsValue) (given_is : given ≡ first_asks v caps) (has_all : lacking v caps ≡ None) (old : World N I S C) (empty : IsEmpty old.store)
       (alone : old.reading.held.persists ≡ false) where
@@ -210,7 +183,7 @@ module _ {N I A S C P X : Type 0} (parties : Parties N I A S C P X) (basis : N �
     opened-so : (ids : List ObjectId) (t : S) (asked : ArgumentsValue) → OpensFetch parties.store_calls no_change old.store given ids t asked → shallow_asks no_change [] (first_asks v caps) ≡ Ok asked
     opened-so ids t asked o = ap (λ l. shallow_asks no_change l (first_asks v caps)) (sym (reads old.store ids t empty o.reads)) ∙ ap (λ a. shallow_asks no_change ids a) (sym given_is) ∙ o.asks
 
-    began-so : (ids : List ObjectId) (read : S) (action : ActionValue) (ready : N) (wanted : ArgumentsValue) → Begun parties v banded wishes given old ids read action ready wanted → Began v caps old.negotiate ready wanted
+    began-so : (ids : List ObjectId) (read : S) (action : ActionValue) (ready : N) (wanted : ArgumentsValue) → Begun parties v banded wishes given old ids read action ready wanted → Began parties.negotiation_calls basis haves list v caps old.negotiate ready wanted
     began-so ids read action ready wanted b =
         let a = readied-asks parties.negotiation_calls basis haves list old.negotiate b.asked action ready wanted b.readied in
         record { opened = b.asked; opens = opened-so ids read b.asked b.opened; asks = a.0; left = a.1 }
@@ -222,7 +195,7 @@ module _ {N I A S C P X : Type 0} (parties : Parties N I A S C P X) (basis : N �
         let p = g.packed in
         let m = how v banded in
         let here : end.reading ≡ p.last.after.reading = ap (λ (a : At N I). a.reading) p.stands in
-        let there : p.before.reading.held.persists ≡ false = (rounds_written m (start_at g.ready g.wanted old.reading old.interrupt) p.before p.turns p.run).persists ∙ alone in
+        let there : p.before.reading.held.persists ≡ false = (rounds_written m (start_of g.ready g.wanted old.reading old.interrupt) p.before p.turns p.run).persists ∙ alone in
         runs has_all g.ready g.wanted old.interrupt (began-so ids read action g.ready g.wanted g.begun)
         (record {
           turns = p.turns;
@@ -287,9 +260,9 @@ module _ {N I A S C P X : Type 0} (parties : Parties N I A S C P X) (basis : N �
       fails-way progress (unready ids asked o f r) = unready-way asked f
       fails-way progress (untold ids action rounds updates reply end g m n r l c) = inl m
       fails-way progress (undelivered ids read action rounds updates reply end g n d) = delivered-way ids read action rounds updates reply end progress g d
-      fails-way progress (unpacked rounds u l c) = at (rounds-fail (how v banded) never (start_at u.ready u.wanted old.reading old.interrupt) alone new.reading z e undisturbed rounds new.negotiate new.interrupt u.fails)
+      fails-way progress (unpacked rounds u l c) = at (rounds-fail (how v banded) never (start_of u.ready u.wanted old.reading old.interrupt) alone new.reading z e undisturbed rounds new.negotiate new.interrupt u.fails)
         where
-          at : (e ≡ fetch.Memory) ⊎ Ran (how v banded) (start_at u.ready u.wanted old.reading old.interrupt) new.reading (end_of {A = A} {X = X} (Err e)) → WayOr
+          at : (e ≡ fetch.Memory) ⊎ Ran (how v banded) (start_of u.ready u.wanted old.reading old.interrupt) new.reading (end_of {A = A} {X = X} (Err e)) → WayOr
           at (inl m) = inl m
           at (inr w) = inr (runs has_all u.ready u.wanted old.interrupt (began-so u.ids new.store u.action u.ready u.wanted u.begun) w)
 
@@ -371,29 +344,6 @@ module _ {N I A S C P X : Type 0} (parties : Parties N I A S C P X) (basis : N �
   -- ---- two fetches
 
   module _ (v : Protocol) (caps : List CapabilityValue) (n o : N) (a b c d : Reading) (basis_same : SameBasis (basis n) (basis o)) (haves_same : haves n ≡ haves o) (hold : HoldAlike a b) (e f : Result Bool PlanRefusal) where
-    starts-same : (ready other : N) (wanted asked : ArgumentsValue) (i j : I) → Began v caps n ready wanted → Began v caps o other asked → AtAlike haves (start_at ready wanted a i) (start_at other asked b j)
-    starts-same ready other wanted asked i j l r =
-        let opened = same-ok _ l.opened r.opened l.opens r.opens in
-        let same : wanted ≡ asked = asks-same (basis n) (basis o) l.opened wanted asked basis_same l.asks (subst (λ x. Asks (basis o) x asked) (sym opened) r.asks) in
-        record {
-          left = l.left ∙ haves_same ∙ sym r.left;
-          window =
-              ap (λ (h : TransportState). first_window (not h.persists || is_v2 wanted.version)) hold.held ∙ ap (λ (x : ArgumentsValue). first_window (not b.held.persists || is_v2 x.version)) same;
-          asked = same;
-          previous = refl;
-          reading = hold;
-        }
-
-    rests-or-runs : (other : N) (asked : ArgumentsValue) → Idles v caps n a c → Began v caps o other asked → ⊥
-    rests-or-runs other asked l r =
-        idle-asks-none parties.negotiation_calls basis haves list n l.opened (basis o) l.last asked (decided-alike (basis n) (basis o) basis_same) (λ known. asked-alike (basis n) (basis o) l.opened known basis_same) l.idle
-        (subst (λ x. Asks (basis o) x asked) (sym (same-ok _ l.opened r.opened l.opens r.opens)) r.asks)
-
-    runs-or-rests : (ready : N) (wanted : ArgumentsValue) → Began v caps n ready wanted → Idles v caps o b d → ⊥
-    runs-or-rests ready wanted l r =
-        idle-asks-none parties.negotiation_calls basis haves list o r.opened (basis n) r.last wanted (sym (decided-alike (basis n) (basis o) basis_same)) (λ known. sym (asked-alike (basis n) (basis o) r.opened known basis_same)) r.idle
-        (subst (λ x. Asks (basis n) x wanted) (same-ok _ l.opened r.opened l.opens r.opens) l.asks)
-
     abbrev Ends : Type 0
     Ends = (c.held ≡ d.held) × EndAlike e f
 
@@ -403,8 +353,8 @@ module _ {N I A S C P X : Type 0} (parties : Parties N I A S C P X) (basis : N �
     ways-alike (lacks {name} p q r) (runs s t u w x y) = absurd (lacks-or-not (lacking v caps) name p s)
     ways-alike (rests p q r) (lacks {name} s t u) = absurd (lacks-or-not (lacking v caps) name s p)
     ways-alike (rests p q r) (rests s t u) = (ap (λ (x : Reading). x.held) q.rests ∙ hold.held ∙ sym (ap (λ (x : Reading). x.held) t.rests), inl (r ∙ sym u))
-    ways-alike (rests p q r) (runs s t u w x y) = absurd (rests-or-runs t u q x)
+    ways-alike (rests p q r) (runs s t u w x y) = absurd (first-rests parties.negotiation_calls basis haves list v caps n o basis_same haves_same a b hold c t u q x)
     ways-alike (runs p ready wanted i l k) (lacks {name} s t u) = absurd (lacks-or-not (lacking v caps) name s p)
-    ways-alike (runs p ready wanted i l k) (rests s t u) = absurd (runs-or-rests ready wanted l t)
+    ways-alike (runs p ready wanted i l k) (rests s t u) = absurd (other-rests parties.negotiation_calls basis haves list v caps n o basis_same haves_same a b hold d ready wanted l t)
     ways-alike (runs p ready wanted i l k) (runs s other asked j r m) =
-        let x = runs-alike (how v (bands v caps)) haves list.goes (start_at ready wanted a i) (start_at other asked b j) c d e f (starts-same ready other wanted asked i j l r) k m in (x.held, x.ends)
+        let x = runs-alike (how v (bands v caps)) haves list.goes (start_of ready wanted a i) (start_of other asked b j) c d e f (starts-alike parties.negotiation_calls basis haves list v caps n o basis_same haves_same a b hold ready other wanted asked i j l r) k m in (x.held, x.ends)
