@@ -66,8 +66,8 @@ pub fn courses_follow_bodies<'a, O: Objects + 'a, G: Objects + 'a>()
         → O.contents objects ≡ O.contents others → graph.graph.objects ≡ another.graph.objects
         → CoursesFollow
         (parties_of ⟦<Negotiation<'a, O, NoRefs, HaveList, G, AllocError> as Negotiate>⟧.calls ⟦<ShallowMemory as ShallowStore>⟧.calls ⟦<NeverInterrupt as Interrupt>⟧.says ⟦<ReadToEnd as ConsumePack<Discard>>⟧.consumes true)
-        (λ m n. (n.objects.now ≡ objects) × (n.graph.now ≡ graph) × (n.negotiator.now ≡ haves) × (n.ref_map.now ≡ m) × (n.shallow.now ≡ Shallow.NoChange) × (n.tags ≡ Tags.None) × IfOk n.alternates (λ a. a.now ≡ []) × IsOk n.alternates)
-        (λ m n. (n.objects.now ≡ others) × (n.graph.now ≡ another) × (n.negotiator.now ≡ haves) × (n.ref_map.now ≡ m) × (n.shallow.now ≡ Shallow.NoChange) × (n.tags ≡ Tags.None) × IfOk n.alternates (λ a. a.now ≡ []) × IsOk n.alternates)
+        (λ m n. (n.context.objects.now ≡ objects) × (n.context.graph.now ≡ graph) × (n.context.negotiator.now ≡ haves) × (n.ref_map.now ≡ m) × (n.shallow.now ≡ Shallow.NoChange) × (n.tags ≡ Tags.None) × IfOk n.context.alternates (λ a. a.now ≡ []) × IsOk n.context.alternates)
+        (λ m n. (n.context.objects.now ≡ others) × (n.context.graph.now ≡ another) × (n.context.negotiator.now ≡ haves) × (n.ref_map.now ≡ m) × (n.shallow.now ≡ Shallow.NoChange) × (n.tags ≡ Tags.None) × IfOk n.context.alternates (λ a. a.now ≡ []) × IsOk n.context.alternates)
         (λ s. (s.ids.items ≡ []) × (s.locked ≡ false))
         bodies specs }
 {}

@@ -7,12 +7,12 @@ use Rattle.gixp_planner.proofs.laws.courses_follow_bodies.Goals as goal
 
 pub returns : goal.returns
 returns g c = λ bodies specs haves objects others graph another e f.
-    courses-follow _ (basis_of g.O.Objects.contents) (λ n. n.negotiator.now)
+    courses-follow _ (basis_of g.O.Objects.contents) (λ n. n.context.negotiator.now)
     (record {
       marks = λ n action m h.
-          (h.0, acts-stay action n.negotiator.now n.graph.now.graph _ _ m.negotiator.now m.graph.now.graph h.1, asked-still g.O.Objects.contents n m h.4 h.5 h.6 h.7);
+          (h.0, acts-stay action n.context.negotiator.now n.context.graph.now.graph _ _ m.context.negotiator.now m.context.graph.now.graph h.1, asked-still g.O.Objects.contents n m h.4 h.5 h.6 h.7);
       adds = λ n known a any b m h. (h.0, h.1);
-      goes = λ n s a p r done m t b h. by-list n.negotiator.now n.graph.now.graph s a p r done m.negotiator.now m.graph.now.graph t b h.0;
+      goes = λ n s a p r done m t b h. by-list n.context.negotiator.now n.context.graph.now.graph s a p r done m.context.negotiator.now m.context.graph.now.graph t b h.0;
     })
     _ _ _ (λ s ids t empty read. read.0 ∙ empty.0) haves
     (λ m k n o l r alike. (
