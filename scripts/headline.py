@@ -26,7 +26,7 @@ CHANGES = {
     "every server stream, however cut": [
         ("a connection's bytes aren't known", "Headline", "IsNewConnection (Some bytes)", "IsNewConnection None"),
         ("the bodies are others", "Headline", "IsNewBodies given at", "IsNewBodies [] at"),
-        ("a stream has no frames of the grammar", "Headline", "AreFrames bytes frames end → frames_of", "AreFrames [] frames end → frames_of"),
+        ("a stream has no frames of the grammar", "Headline", "AreFrames bytes frames end", "AreFrames [] frames end"),
     ],
     "every lawful repository, negotiator and refspec list": [
         ("the negotiation is over another map", "Headline", "map_of old.negotiate ≡ made", "map_of old.negotiate ≡ map_of old.negotiate"),
@@ -39,7 +39,7 @@ CHANGES = {
         ("the first words were read elsewhere", "Headline", "Handshakes service parameters old new r → SaysBy", "Handshakes service parameters new new r → SaysBy"),
     ],
     "responses": [
-        ("an answer is that of no reading", "FetchRounds", "(view m.banded t.sent) (view m.banded t.after.reading) t.reply", "(view m.banded t.sent) (view m.banded t.sent) t.reply"),
+        ("an answer is that of no reading", "FetchRounds", "(view m.banded t.after.reading) t.reply", "(view m.banded t.sent) t.reply"),
         ("a round before the last is done", "FetchRounds", "Turns old t × (t.done ≡ false)", "Turns old t × (t.done ≡ t.done)"),
         ("a round before the last has a pack", "FetchRounds", "× (t.reply.pack ≡ false) × Rounds", "× (t.reply.pack ≡ t.reply.pack) × Rounds"),
     ],
@@ -47,7 +47,7 @@ CHANGES = {
         ("an answer is refused elsewhere", "Headline", "AnswerFails found plain old new e", "AnswerFails found plain new new e"),
         ("refs are refused elsewhere", "Headline", "RefsFail plain old new e", "RefsFail plain new new e"),
         ("an advertisement is refused elsewhere", "Headline", "V1Fails t plain old new e", "V1Fails t plain new new e"),
-        ("a handshake is refused elsewhere", "Headline", "plain start reached credentials (Err e) →", "plain reached reached credentials (Err e) →"),
+        ("a handshake is refused elsewhere", "Headline", "→ CompletesHandshake service parameters plain start", "→ CompletesHandshake service parameters plain reached"),
         ("rounds without a pack are refused for memory", "FetchRounds", "gives : e ≡ Negotiate (NegotiationFailed count)", "gives : e ≡ Memory"),
         ("with any number of rounds", "FetchRounds", "counted : count ≡ length rounds", "counted : count ≡ count"),
         ("a round is refused, and others are told", "FetchRounds", "++ told_of refused", "++ rounds"),
@@ -55,7 +55,7 @@ CHANGES = {
         ("any refusal after the rounds", "Fetch", "rounds updates reply end → e ≡ Memory", "rounds updates reply end → e ≡ e"),
         ("any refusal where the lock isn't had", "Session", "at_lock : HoldFails store_calls updates reject store locked e store' locked' →", "at_lock : e ≡ e →"),
         ("any refusal of the pack", "Received", "gives : e ≡ of_pack error", "gives : e ≡ e"),
-        ("any refusal of the boundary", "Session", "reading progress → SettleFails store_calls held e store'", "reading progress → e ≡ e"),
+        ("any refusal of the boundary", "Session", "→ SettleFails store_calls held e store'", "→ e ≡ e"),
     ],
     "each request": [
         ("the first request has no wants", "Fetch", "    asked = wanted;", "    asked = given;"),

@@ -113,7 +113,7 @@ def function_around(path, crate, lines, at):
     block = []
     if heads:
         # `Trait<U> for module::Type<V>` is TypeTrait, and may have U and V in it
-        head = without_generics(BLOCK.match(" ".join(lines[heads[-1]:begin]))[1].partition("{")[0])
+        head = without_generics(re.split(r"\{| where ", BLOCK.match(" ".join(lines[heads[-1]:begin]))[1])[0])
         named, _, whose = head.partition(" for ")
         words = [re.findall(r"\w+", it)[-1] for it in (whose, named.partition(": ")[0]) if it]
         block = [ANY.join([*words, ""])]
@@ -126,7 +126,10 @@ def names_of(patterns, lines):
     found = set()
     for pattern in patterns - {None}:
         exact = [it for it in names if it.endswith("::" + pattern.replace(ANY, ""))]
-        found.update(exact or [it for it in names if re.search(f"::{pattern}$", it)] or [None])
+        # an `impl` may stand outside of the module of its type
+        block = pattern.partition("::")[2]
+        found.update(exact or [it for it in names if re.search(f"::{pattern}$", it)]
+                     or [it for it in names if "::" in block and re.search(f"::{block}$", it)] or [None])
     return found | patterns & {None}
 
 

@@ -16,9 +16,11 @@ call_of (call.Fail message) = fail (string_bytes message)
 -- a call comes after the others, or is known to be missing
 abbrev pub WritesDown : Told → ProgressCall → Told → Type 0
 WritesDown old told new =
-    ((map call_of new.calls.items ≡ map call_of old.calls.items ++ told ∷ []) × (new.is_short ≡ old.is_short) × (new.children ≡ old.children))
+    ((map call_of new.calls.items ≡ map call_of old.calls.items ++ told ∷ []) × (new.is_short ≡ old.is_short)
+    × (new.children ≡ old.children))
     ⊎ ((new.calls.items ≡ old.calls.items) × (new.is_short ≡ true) × (new.children ≡ old.children))
 
 -- the id of a part is written down, and nothing else
 abbrev pub AddsChild : Told → List ℕ → Told → Type 0
-AddsChild old id new = (new.children.items ≡ old.children.items ++ id ∷ []) × (new.calls.items ≡ old.calls.items) × (new.is_short ≡ old.is_short)
+AddsChild old id new = (new.children.items ≡ old.children.items ++ id ∷ []) × (new.calls.items ≡ old.calls.items)
+    × (new.is_short ≡ old.is_short)

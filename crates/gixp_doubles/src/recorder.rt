@@ -103,10 +103,14 @@ impl Negotiator for Recorder {
     ghost calls = { record {
       count = λ n g. length (drop n.next n.haves.items);
       failures = λ n. n.failures;
-      knows = λ n g id m h. (m.known.items ≡ n.known.items ++ id ∷ []) × (m.tips ≡ n.tips) × (m.common ≡ n.common) × (drop m.next m.haves.items ≡ drop n.next n.haves.items) × (h ≡ g);
-      adds = λ n g id m h. (m.tips.items ≡ n.tips.items ++ id ∷ []) × (m.known ≡ n.known) × (m.common ≡ n.common) × (drop m.next m.haves.items ≡ drop n.next n.haves.items) × (h ≡ g);
-      learns = λ n g id m h. (m.common.items ≡ n.common.items ++ id ∷ []) × (m.known ≡ n.known) × (m.tips ≡ n.tips) × (drop m.next m.haves.items ≡ drop n.next n.haves.items) × (h ≡ g);
-      offers = λ n g have m h. OffersFirstHave (drop n.next n.haves.items) have (drop m.next m.haves.items) × (m.known ≡ n.known) × (m.tips ≡ n.tips) × (m.common ≡ n.common) × (h ≡ g);
+      knows = λ n g id m h. (m.known.items ≡ n.known.items ++ id ∷ []) × (m.tips ≡ n.tips) × (m.common ≡ n.common)
+          × (drop m.next m.haves.items ≡ drop n.next n.haves.items) × (h ≡ g);
+      adds = λ n g id m h. (m.tips.items ≡ n.tips.items ++ id ∷ []) × (m.known ≡ n.known) × (m.common ≡ n.common)
+          × (drop m.next m.haves.items ≡ drop n.next n.haves.items) × (h ≡ g);
+      learns = λ n g id m h. (m.common.items ≡ n.common.items ++ id ∷ []) × (m.known ≡ n.known) × (m.tips ≡ n.tips)
+          × (drop m.next m.haves.items ≡ drop n.next n.haves.items) × (h ≡ g);
+      offers = λ n g have m h. OffersFirstHave (drop n.next n.haves.items) have (drop m.next m.haves.items) × (m.known ≡ n.known)
+          × (m.tips ≡ n.tips) × (m.common ≡ n.common) × (h ≡ g);
       knowing_fails = AnyCallLeft;
       adding_fails = AnyCallLeft;
       learning_fails = AnyCallLeft;

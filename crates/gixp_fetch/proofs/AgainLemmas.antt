@@ -52,7 +52,8 @@ all_join kept [] q h = all_stay kept [] q (none h)
     none h = absurd (no_member q h)
 all_join kept (id ∷ ids) q h = at (member_cases id ids q h) (all_join (keeping kept id) ids q)
   where
-    at : (q ≡ id) ⊎ Contains ids q → (Contains ids q → Contains (keeping_all (keeping kept id) ids) q) → Contains (keeping_all (keeping kept id) ids) q
+    at : (q ≡ id) ⊎ Contains ids q → (Contains ids q → Contains (keeping_all (keeping kept id) ids) q)
+        → Contains (keeping_all (keeping kept id) ids) q
     at (inl e) rest = all_stay (keeping kept id) ids q (subst (λ x. Contains (keeping kept id) x) (sym e) (joins kept id))
     at (inr b) rest = rest b
 
@@ -60,7 +61,8 @@ lines_of_haves : (ids : List ObjectId) (q : ObjectId) → Contains ids q → Con
 lines_of_haves [] q h = absurd (no_member q h)
 lines_of_haves (id ∷ ids) q h = at (member_cases id ids q h) (lines_of_haves ids q)
   where
-    at : (q ≡ id) ⊎ Contains ids q → (Contains ids q → Contains (map have_line ids) (have_line q)) → Contains (have_line id ∷ map have_line ids) (have_line q)
+    at : (q ≡ id) ⊎ Contains ids q → (Contains ids q → Contains (map have_line ids) (have_line q))
+        → Contains (have_line id ∷ map have_line ids) (have_line q)
     at (inl e) rest = first_member (have_line id) (map have_line ids) (have_line q) (ap have_line e)
     at (inr b) rest = later_member (have_line id) (map have_line ids) (have_line q) (rest b)
 
@@ -91,9 +93,11 @@ module _ {N I A : Type 0} (m : Manner N I A) (law : Renames m.goes) where
       × ((id : ObjectId) → Contains ids id → Contains (keeping_all k.kept (commons_of old.previous)) id)
       × ((id : ObjectId) → Contains ids id → Contains t.asked.haves (have_line id))
   one_names old t lines ids k h =
-      let kept : t.after.window.kept ≡ Some (keeping_all k.kept (commons_of old.previous)) = law.keeps _ _ _ _ _ _ _ _ _ h.negotiated ∙ ap (λ o. kept_with o (commons_of old.previous)) k.is_kept in
+      let kept : t.after.window.kept ≡ Some (keeping_all k.kept (commons_of old.previous)) = law.keeps _ _ _ _ _ _ _ _ _ h.negotiated
+      ∙ ap (λ o. kept_with o (commons_of old.previous)) k.is_kept in
       let names = law.names _ _ _ _ _ _ _ _ _ h.negotiated in
-      let all : (id : ObjectId) → Contains ids id → Contains (keeping_all k.kept (commons_of old.previous)) id = λ id c. by_known id (k.known id c) in (
+      let all : (id : ObjectId) → Contains ids id → Contains (keeping_all k.kept (commons_of old.previous)) id =
+      λ id c. by_known id (k.known id c) in (
         kept,
         ap (λ (a : ArgumentsValue). a.lines) names.1 ∙ k.same,
         ap (λ (a : ArgumentsValue). a.version) names.1,
@@ -101,14 +105,17 @@ module _ {N I A : Type 0} (m : Manner N I A) (law : Renames m.goes) where
         λ id c. subst (λ (a : ArgumentsValue). Contains a.haves (have_line id)) (sym names.1)
             (Contains-append_right old.asked.haves (map have_line (kept_ids t.after.window.kept ++ names.0)) (have_line id)
             (lines_of_haves (kept_ids t.after.window.kept ++ names.0) id
-            (Contains-append_left (kept_ids t.after.window.kept) names.0 id (subst (λ o. Contains (kept_ids o) id) (sym kept) (all id c))))),
+            (Contains-append_left (kept_ids t.after.window.kept) names.0 id
+            (subst (λ o. Contains (kept_ids o) id) (sym kept) (all id c))))),
       )
     where
-      by_known : (id : ObjectId) → Contains k.kept id ⊎ Contains (commons_of old.previous) id → Contains (keeping_all k.kept (commons_of old.previous)) id
+      by_known : (id : ObjectId) → Contains k.kept id ⊎ Contains (commons_of old.previous) id
+          → Contains (keeping_all k.kept (commons_of old.previous)) id
       by_known id (inl a) = all_stay k.kept (commons_of old.previous) id a
       by_known id (inr b) = all_join k.kept (commons_of old.previous) id b
 
-  next_knows : (old : At N I) (t : Turn N I) (lines : List (List ℕ)) (ids : List ObjectId) → Knows old lines ids → Turns m old t → Knows t.after lines (ids ++ commons t.reply.acknowledgements)
+  next_knows : (old : At N I) (t : Turn N I) (lines : List (List ℕ)) (ids : List ObjectId) → Knows old lines ids → Turns m old t
+      → Knows t.after lines (ids ++ commons t.reply.acknowledgements)
   next_knows old t lines ids k h =
       let one = one_names old t lines ids k h in
       let stay : (is_v2 t.asked.version ≡ true) ⊎ (old.reading.held.persists ≡ false) = by_alone k.alone one.2 in
@@ -120,33 +127,42 @@ module _ {N I A : Type 0} (m : Manner N I A) (law : Renames m.goes) where
         alone = after_alone stay;
       }
     where
-      by_alone : (is_v2 old.asked.version ≡ true) ⊎ (old.reading.held.persists ≡ false) → t.asked.version ≡ old.asked.version → (is_v2 t.asked.version ≡ true) ⊎ (old.reading.held.persists ≡ false)
+      by_alone : (is_v2 old.asked.version ≡ true) ⊎ (old.reading.held.persists ≡ false) → t.asked.version ≡ old.asked.version
+          → (is_v2 t.asked.version ≡ true) ⊎ (old.reading.held.persists ≡ false)
       by_alone (inl a) e = inl (ap is_v2 e ∙ a)
       by_alone (inr b) e = inr b
 
-      after_alone : (is_v2 t.asked.version ≡ true) ⊎ (old.reading.held.persists ≡ false) → (is_v2 t.after.asked.version ≡ true) ⊎ (t.after.reading.held.persists ≡ false)
+      after_alone : (is_v2 t.asked.version ≡ true) ⊎ (old.reading.held.persists ≡ false) → (is_v2 t.after.asked.version ≡ true)
+          ⊎ (t.after.reading.held.persists ≡ false)
       after_alone (inl a) = inl (ap (λ (x : ArgumentsValue). is_v2 x.version) h.rest ∙ a)
       after_alone (inr b) = inr ((turn_written m old t h).persists ∙ b)
 
-      by_place : (id : ObjectId) → ((id : ObjectId) → Contains ids id → Contains (keeping_all k.kept (commons_of old.previous)) id) → Contains ids id ⊎ Contains (commons t.reply.acknowledgements) id
+      by_place : (id : ObjectId) → ((id : ObjectId) → Contains ids id → Contains (keeping_all k.kept (commons_of old.previous)) id)
+          → Contains ids id ⊎ Contains (commons t.reply.acknowledgements) id
           → Contains (keeping_all k.kept (commons_of old.previous)) id ⊎ Contains (commons_of t.after.previous) id
       by_place id all (inl a) = inl (all id a)
       by_place id all (inr b) = inr (subst (λ p. Contains (commons_of p) id) (sym h.previous) b)
 
-  run_names : (old end : At N I) (ts : List (Turn N I)) (lines : List (List ℕ)) (ids : List ObjectId) → Knows old lines ids → Rounds m old ts end → NamesAgain lines ids ts
+  run_names : (old end : At N I) (ts : List (Turn N I)) (lines : List (List ℕ)) (ids : List ObjectId) → Knows old lines ids
+      → Rounds m old ts end → NamesAgain lines ids ts
   run_names old end [] lines ids k r = tt
   run_names old end (t ∷ ts) lines ids k r =
       let one = one_names old t lines ids k r.0 in
       (one.1, one.4, run_names t.after end ts lines (ids ++ commons t.reply.acknowledgements) (next_knows old t lines ids k r.0) r.3)
 
-  more_names : (old before : At N I) (ts : List (Turn N I)) (last : Turn N I) (lines : List (List ℕ)) (ids : List ObjectId) → Knows old lines ids → Rounds m old ts before → Turns m before last
+  more_names : (old before : At N I) (ts : List (Turn N I)) (last : Turn N I) (lines : List (List ℕ)) (ids : List ObjectId)
+      → Knows old lines ids → Rounds m old ts before → Turns m before last
       → NamesAgain lines ids (ts ++ last ∷ [])
   more_names old before [] last lines ids k r h =
       let one = one_names old last lines ids k (subst (λ a. Turns m a last) r h) in
       (one.1, one.4, tt)
   more_names old before (t ∷ ts) last lines ids k r h =
-      let one = one_names old t lines ids k r.0 in
-      (one.1, one.4, more_names t.after before ts last lines (ids ++ commons t.reply.acknowledgements) (next_knows old t lines ids k r.0) r.3 h)
+      let one = one_names old t lines ids k r.0 in (
+        one.1,
+        one.4,
+        more_names t.after before ts last lines (ids ++ commons t.reply.acknowledgements)
+            (next_knows old t lines ids k r.0) r.3 h,
+      )
 
   first_knows : (start : At N I) → StandsAlone start → Knows start start.asked.lines []
   first_knows start s = record {
@@ -157,8 +173,10 @@ module _ {N I A : Type 0} (m : Manner N I A) (law : Renames m.goes) where
     alone = s.alone;
   }
 
-  pub rounds_name : (start end : At N I) (ts : List (Turn N I)) → StandsAlone start → Rounds m start ts end → NamesAgain start.asked.lines [] ts
+  pub rounds_name : (start end : At N I) (ts : List (Turn N I)) → StandsAlone start → Rounds m start ts end
+      → NamesAgain start.asked.lines [] ts
   rounds_name start end ts s r = run_names start end ts start.asked.lines [] (first_knows start s) r
 
-  pub last_names : (start before : At N I) (ts : List (Turn N I)) (last : Turn N I) → StandsAlone start → Rounds m start ts before → Turns m before last → NamesAgain start.asked.lines [] (ts ++ last ∷ [])
+  pub last_names : (start before : At N I) (ts : List (Turn N I)) (last : Turn N I) → StandsAlone start → Rounds m start ts before
+      → Turns m before last → NamesAgain start.asked.lines [] (ts ++ last ∷ [])
   last_names start before ts last s r h = more_names start before ts last start.asked.lines [] (first_knows start s) r h

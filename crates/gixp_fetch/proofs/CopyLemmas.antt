@@ -14,7 +14,8 @@ use Rattle.gixp_fetch.proofs.SentLemmas.{appends_nil, appends_trans}
 passes_none : (s : Side) → Passes s s []
 passes_none s = at s.reading.to_come
   where
-    at : (o : Option Pieces) → IfSome o (λ p. IsFirstOf s p → (q : Pieces) × (o ≡ Some q) × IsFirstOf s q × (side_content s p ≡ [] ++ side_content s q))
+    at : (o : Option Pieces) → IfSome o (λ p. IsFirstOf s p → (q : Pieces) × (o ≡ Some q) × IsFirstOf s q
+        × (side_content s p ≡ [] ++ side_content s q))
     at None = tt
     at (Some p) = λ f. (p, refl, f, refl)
 
@@ -23,24 +24,35 @@ passes_more a b c xs ys h k = at a.reading.to_come b.reading.to_come h k
   where
     at : (o n : Option Pieces)
         → IfSome o (λ p. IsFirstOf a p → (q : Pieces) × (n ≡ Some q) × IsFirstOf b q × (side_content a p ≡ xs ++ side_content b q))
-        → IfSome n (λ p. IsFirstOf b p → (q : Pieces) × (c.reading.to_come ≡ Some q) × IsFirstOf c q × (side_content b p ≡ ys ++ side_content c q))
-        → IfSome o (λ p. IsFirstOf a p → (q : Pieces) × (c.reading.to_come ≡ Some q) × IsFirstOf c q × (side_content a p ≡ (xs ++ ys) ++ side_content c q))
+        → IfSome n (λ p. IsFirstOf b p → (q : Pieces) × (c.reading.to_come ≡ Some q) × IsFirstOf c q
+        × (side_content b p ≡ ys ++ side_content c q))
+        → IfSome o (λ p. IsFirstOf a p → (q : Pieces) × (c.reading.to_come ≡ Some q) × IsFirstOf c q
+        × (side_content a p ≡ (xs ++ ys) ++ side_content c q))
     at None n x y = tt
     at (Some p) None x y = λ f. let e = (x f).1 in cc
     at (Some p) (Some r) x y = λ f.
         let u = x f in
         let same : r ≡ u.0 = cc in
-        let v = y (subst (λ z. IsFirstOf b z) (sym same) u.2) in
-        (v.0, v.1, v.2, u.3 ∙ (ap (λ z. xs ++ side_content b z) (sym same) ∙ (ap (λ z. xs ++ z) v.3 ∙ sym (append_assoc xs ys (side_content c v.0)))))
+        let v = y (subst (λ z. IsFirstOf b z) (sym same) u.2) in (
+          v.0,
+          v.1,
+          v.2,
+          u.3 ∙ (ap (λ z. xs ++ side_content b z) (sym same)
+              ∙ (ap (λ z. xs ++ z) v.3 ∙ sym (append_assoc xs ys (side_content c v.0)))),
+        )
 
 pub copied_none : (w : Option (List ℕ)) (s : Side) → Copied w s [] w s
 copied_none w s = record { reads = record { content = passes_none s }; failures = refl; held = refl; written = appends_nil w }
 
 -- one piece more
-pub copied_more : (old w w' : Option (List ℕ)) (start now mid next : Side) (read piece : List ℕ) → Copied old start read w now → ShowsContent now mid → ReadsBytes mid next piece → Appends w w' piece
+pub copied_more : (old w w' : Option (List ℕ)) (start now mid next : Side) (read piece : List ℕ) → Copied old start read w now
+    → ShowsContent now mid → ReadsBytes mid next piece → Appends w w' piece
     → Copied old start (read ++ piece) w' next
 copied_more old w w' start now mid next read piece h s r a = record {
-  reads = record { content = passes_more start now next read piece h.reads.content (passes_more now mid next [] piece s.content r.content) };
+  reads = record {
+    content = passes_more start now next read piece h.reads.content
+        (passes_more now mid next [] piece s.content r.content);
+  };
   failures = r.failures ∙ s.failures ∙ h.failures;
   held = r.held ∙ (s.held ∙ h.held);
   written = appends_trans old w w' read piece h.written a;
@@ -59,13 +71,16 @@ fails_held old new e (inl h) = h.held
 fails_held old new e (inr (inl h)) = h.stays.held
 fails_held old new e (inr (inr h)) = h.held
 
-module _ (now mid next : Side) (piece : List ℕ) (n : ℕ) (s : ShowsContent now mid) (r : ReadsBytes mid next (take n (shown mid.place mid.reading))) (e : piece ≡ shown mid.place mid.reading) (l : n ≡ length piece) where
+module _ (now mid next : Side) (piece : List ℕ) (n : ℕ) (s : ShowsContent now mid) (r : ReadsBytes mid next
+    (take n (shown mid.place mid.reading))) (e : piece ≡ shown mid.place mid.reading) (l : n ≡ length piece) where
   whole_piece : take n (shown mid.place mid.reading) ≡ piece
   whole_piece = ap (λ x. take n x) (sym e) ∙ take_all n piece (omega (arith, l))
 
   -- a piece that was lent is copied and returned
-  pub copied_piece : (old w w' : Option (List ℕ)) (start : Side) (read : List ℕ) → Copied old start read w now → Appends w w' piece → (read' : List ℕ) × Copied old start read' w' next
-  copied_piece old w w' start read h a = (read ++ piece, copied_more old w w' start now mid next read piece h s (subst (λ x. ReadsBytes mid next x) whole_piece r) a)
+  pub copied_piece : (old w w' : Option (List ℕ)) (start : Side) (read : List ℕ) → Copied old start read w now → Appends w w' piece
+      → (read' : List ℕ) × Copied old start read' w' next
+  copied_piece old w w' start read h a =
+      (read ++ piece, copied_more old w w' start now mid next read piece h s (subst (λ x. ReadsBytes mid next x) whole_piece r) a)
 
   pub passed_piece : (start : Side) (read : List ℕ) → Copied None start read None now → (read' : List ℕ) × Copied None start read' None next
   passed_piece start read h = copied_piece None None None start read h tt
@@ -85,7 +100,10 @@ pub copied_all : (old w : Option (List ℕ)) (start now end : Side) (read : List
 copied_all old w start now end read h t = (
   read,
   record {
-    reads = record { content = subst (λ x. Passes start end x) (append-nil read) (passes_more start now end read [] h.reads.content t.rest) };
+    reads = record {
+      content = subst (λ x. Passes start end x) (append-nil read)
+          (passes_more start now end read [] h.reads.content t.rest);
+    };
     failures = at_stop_failures (side_reading now) (side_reading end) t.at_stop ∙ h.failures;
     held = at_stop_held (side_reading now) (side_reading end) t.at_stop ∙ h.held;
     written = h.written;
@@ -93,7 +111,8 @@ copied_all old w start now end read h t = (
   all start.reading.to_come now.reading.to_come h.reads.content t.content,
 )
   where
-    all : (o n : Option Pieces) → IfSome o (λ p. IsFirstOf start p → (q : Pieces) × (n ≡ Some q) × IsFirstOf now q × (side_content start p ≡ read ++ side_content now q))
+    all : (o n : Option Pieces) → IfSome o (λ p. IsFirstOf start p → (q : Pieces) × (n ≡ Some q) × IsFirstOf now q
+        × (side_content start p ≡ read ++ side_content now q))
         → IfSome n (λ q. side_content now q ≡ []) → IfSome o (λ p. IsFirstOf start p → side_content start p ≡ read)
     all None n x y = tt
     all (Some p) None x y = λ f. let e = (x f).1 in cc
@@ -103,16 +122,27 @@ copied_all old w start now end read h t = (
         u.3 ∙ (ap (λ z. read ++ side_content now z) same ∙ (ap (λ z. read ++ z) y ∙ append-nil read))
 
 -- a read was refused, and its refusal taken out of the reader
-pub copied_refused : (old w : Option (List ℕ)) (start now failed end : Side) (read : List ℕ) (e : io_error) (refusal : Refusal) → Copied old start read w now → RefusesContent now failed e
+pub copied_refused : (old w : Option (List ℕ)) (start now failed end : Side) (read : List ℕ) (e : io_error) (refusal : Refusal)
+    → Copied old start read w now → RefusesContent now failed e
     → IfSome failed.fault (λ r. refusal ≡ r) → end ≡ record failed { fault = None }
-    → (read' : List ℕ) × (lost : List ℕ) × Appends old w read' × ReadsOn start end (read' ++ lost) × ((side_reading end).held ≡ (side_reading start).held) × ReadRefused old start read' w end refusal
+    → (read' : List ℕ) × (lost : List ℕ) × Appends old w read' × ReadsOn start end (read' ++ lost)
+    × ((side_reading end).held ≡ (side_reading start).held) × ReadRefused old start read' w end refusal
 copied_refused old w start now failed end read e refusal h t is taken = (
   read,
   t.lost,
   h.written,
-  subst (λ s. ReadsOn start s (read ++ t.lost)) (sym taken) (record { content = passes_more start now failed read t.lost h.reads.content t.rest }),
+  subst (λ s. ReadsOn start s (read ++ t.lost)) (sym taken)
+      (record { content = passes_more start now failed read t.lost h.reads.content t.rest }),
   ap (λ s. (side_reading s).held) taken ∙ (fails_held (side_reading now) (side_reading failed) t.refusal t.fails ∙ h.held),
-  record { now = now; copied = h; failed = failed; error = e; refused = t; gives = subst (λ o. IfSome o (λ r. refusal ≡ r)) t.fault is; taken = taken },
+  record {
+    now = now;
+    copied = h;
+    failed = failed;
+    error = e;
+    refused = t;
+    gives = subst (λ o. IfSome o (λ r. refusal ≡ r)) t.fault is;
+    taken = taken;
+  },
 )
 
 -- the writer failed

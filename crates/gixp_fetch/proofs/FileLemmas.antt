@@ -28,16 +28,28 @@ module _ {F : Type 0} (old new : ShallowFile F) (e : ShallowError) where
 
 module _ {F : Type 0} (old a new : ShallowFile F) where
   pub alone_refused : (e : ShallowError) → RefusesInFile to_read old e a → HoldsLock false a new → RefusesAlone old e new
-  alone_refused e h t = record { held = t.held; kept = kept_through old a new h.kept t.kept; counted = subst (λ n. IsStoreRefusal old.failures n e) (sym t.failures) h.counted }
+  alone_refused e h t = record {
+    held = t.held;
+    kept = kept_through old a new h.kept t.kept;
+    counted = subst (λ n. IsStoreRefusal old.failures n e) (sym t.failures) h.counted;
+  }
 
   pub alone_written : (left : Bool) → HoldsLock left old a → HoldsLock false a new → HoldsLock false old new
   alone_written left h t = record { held = t.held; kept = kept_through old a new h.kept t.kept; failures = t.failures ∙ h.failures }
 
-  pub write_alone_refused : (e : ShallowError) → old.held ≡ false → HoldsLock true old a → RefusesAlone a e new → RefusesInFile to_write old e new
-  write_alone_refused e f t h = record { held = h.held ∙ sym f; kept = kept_through old a new t.kept h.kept; counted = subst (λ n. IsStoreRefusal n new.failures e) t.failures h.counted; locked = λ _. f }
+  pub write_alone_refused : (e : ShallowError) → old.held ≡ false → HoldsLock true old a → RefusesAlone a e new
+      → RefusesInFile to_write old e new
+  write_alone_refused e f t h = record {
+    held = h.held ∙ sym f;
+    kept = kept_through old a new t.kept h.kept;
+    counted = subst (λ n. IsStoreRefusal n new.failures e) t.failures h.counted;
+    locked = λ _. f;
+  }
 
-  pub write_alone_written : (ids : List ObjectId) → old.held ≡ false → HoldsLock true old a → HoldsLock false a new → HoldsLock (is_left_of old.held ids) old new
-  write_alone_written ids f t h = subst (λ x. HoldsLock (is_left_of x ids) old new) (sym f) (record { held = h.held; kept = kept_through old a new t.kept h.kept; failures = h.failures ∙ t.failures })
+  pub write_alone_written : (ids : List ObjectId) → old.held ≡ false → HoldsLock true old a → HoldsLock false a new
+      → HoldsLock (is_left_of old.held ids) old new
+  write_alone_written ids f t h = subst (λ x. HoldsLock (is_left_of x ids) old new) (sym f)
+      (record { held = h.held; kept = kept_through old a new t.kept h.kept; failures = h.failures ∙ t.failures })
 
   pub write_had : (ids : List ObjectId) → old.held ≡ true → HoldsLock (is_left ids) old new → HoldsLock (is_left_of old.held ids) old new
   write_had ids f h = subst (λ x. HoldsLock (is_left_of x ids) old new) (sym f) h

@@ -10,11 +10,14 @@ use Rattle.gixp_response.specs.declared.fetch.response.error.Error.TheVariants.{
 use Rattle.gixp_response.specs.ResponseError.{UnlessAnswerInterrupted}
 
 -- the interrupt is given back by a reader of bands that was made over it
-pub back_goes : {P I : Type 0} (says : I → Bool → I → Type 0) (start : Listener P I) (first : P) (old end out new : I) (name start_name end_name out_name : GName)
-    → start ≡ record { progress = first; interrupt = old } → start_name ≡ name → out_name ≡ end_name → out ≡ end → (name ≡ out_name → new ≡ out)
+pub back_goes : {P I : Type 0} (says : I → Bool → I → Type 0) (start : Listener P I) (first : P) (old end out new : I)
+    (name start_name end_name out_name : GName)
+    → start ≡ record { progress = first; interrupt = old } → start_name ≡ name → out_name ≡ end_name → out ≡ end
+    → (name ≡ out_name → new ≡ out)
     → SaidToGoOn says start.interrupt end × (end_name ≡ start_name) → SaidToGoOn says old new
 back_goes {P} {I} says start first old end out new name start_name end_name out_name s n o e back g =
-    subst (λ x. SaidToGoOn says old x) (sym (back (sym n ∙ sym g.1 ∙ sym o) ∙ e)) (subst (λ x. SaidToGoOn says x end) (ap (λ (l : Listener P I). l.interrupt) s) g.0)
+    subst (λ x. SaidToGoOn says old x) (sym (back (sym n ∙ sym g.1 ∙ sym o) ∙ e))
+    (subst (λ x. SaidToGoOn says x end) (ap (λ (l : Listener P I). l.interrupt) s) g.0)
 
 -- what follows from what holds
 goes_by : (X Y P Q : Type 0) (e : Error) → (P → Q) → UnlessAnswerInterrupted {X = X} (Err e) P → UnlessAnswerInterrupted {X = Y} (Err e) Q

@@ -26,7 +26,8 @@ module _ {K : Type 0} {R : K → K → Ordering} (o : IsTotalOrder R) (exact : C
   all_inserted P k [] p a = (p, a)
   all_inserted P k (x ∷ xs) p a = at (R k x) (all_inserted P k xs p a.1)
     where
-      at : (r : Ordering) → AllByRecursion P (insert_key R xs k) → AllByRecursion P (match_ordering r (k ∷ x ∷ xs) (x ∷ xs) (x ∷ insert_key R xs k))
+      at : (r : Ordering) → AllByRecursion P (insert_key R xs k)
+          → AllByRecursion P (match_ordering r (k ∷ x ∷ xs) (x ∷ xs) (x ∷ insert_key R xs k))
       at Less more = (p, a)
       at Equal more = a
       at Greater more = (a.0, more)
@@ -40,7 +41,8 @@ module _ {K : Type 0} {R : K → K → Ordering} (o : IsTotalOrder R) (exact : C
   sorted_inserted [] k h = (tt, tt)
   sorted_inserted (x ∷ xs) k h = at (R k x) refl (sorted_inserted xs k h.1)
     where
-      at : (r : Ordering) → R k x ≡ r → IsStrictlySortedBy R (insert_key R xs k) → IsStrictlySortedBy R (match_ordering r (k ∷ x ∷ xs) (x ∷ xs) (x ∷ insert_key R xs k))
+      at : (r : Ordering) → R k x ≡ r → IsStrictlySortedBy R (insert_key R xs k)
+          → IsStrictlySortedBy R (match_ordering r (k ∷ x ∷ xs) (x ∷ xs) (x ∷ insert_key R xs k))
       at Less e more = ((e, all_above k x xs e h.0), h)
       at Equal e more = h
       at Greater e more = (all_inserted (λ y. R x y ≡ Less) k xs (o.antisymm x k ∙ ap ordering_reverse e) h.0, more)
@@ -137,7 +139,8 @@ module _ {K : Type 0} {R : K → K → Ordering} (o : IsTotalOrder R) (exact : C
   and_none a = refl
 
   -- the first key that ties with this one is the only one
-  has-removed : (xs : List K) (k q : K) → IsStrictlySortedBy R xs → has (remove_key (is_at (R k)) xs) q ≡ (not (eq_by_cmp R q k) && has xs q)
+  has-removed : (xs : List K) (k q : K) → IsStrictlySortedBy R xs → has (remove_key (is_at (R k)) xs) q
+      ≡ (not (eq_by_cmp R q k) && has xs q)
   unfolding IsStrictlySortedBy
   has-removed [] k q h = at (eq_by_cmp R q k)
     where
@@ -213,7 +216,8 @@ pub sorted_ids : (keys ids : List ObjectId) → IsStrictlySortedBy id_cmp keys �
 sorted_ids keys [] h = h
 sorted_ids keys (id ∷ ids) h = sorted_ids (insert_key id_cmp keys id) ids (sorted_inserted ids_total ids_exact keys id h)
 
-with_one : (keys : List ObjectId) (id : ObjectId) (ids : List ObjectId) (q : ObjectId) → Contains (with_ids (insert_key id_cmp keys id) ids) q ↔ (Contains (insert_key id_cmp keys id) q ⊎ Contains ids q)
+with_one : (keys : List ObjectId) (id : ObjectId) (ids : List ObjectId) (q : ObjectId)
+    → Contains (with_ids (insert_key id_cmp keys id) ids) q ↔ (Contains (insert_key id_cmp keys id) q ⊎ Contains ids q)
     → Contains (with_ids keys (id ∷ ids)) q ↔ (Contains keys q ⊎ Contains (id ∷ ids) q)
 with_one keys id ids q more = (λ h. there_by (more.0 h), back)
   where
@@ -266,22 +270,32 @@ stays_by id P Q f (becomes_shallow other ∷ us) h = stays_by id (P ⊎ (id ≡ 
     one (inr b) = inr b
 stays_by id P Q f (becomes_whole other ∷ us) h = stays_by id (P × (id ≢ other)) (Q × (id ≢ other)) (λ p. (f p.0, p.1)) us h
 
-sorted_updates : (keys : List ObjectId) (us : List ShallowUpdate) → IsStrictlySortedBy id_cmp keys → IsStrictlySortedBy id_cmp (with_updates keys us)
+sorted_updates : (keys : List ObjectId) (us : List ShallowUpdate) → IsStrictlySortedBy id_cmp keys
+    → IsStrictlySortedBy id_cmp (with_updates keys us)
 sorted_updates keys [] h = h
-sorted_updates keys (becomes_shallow id ∷ us) h = sorted_updates (insert_key id_cmp keys id) us (sorted_inserted ids_total ids_exact keys id h)
-sorted_updates keys (becomes_whole id ∷ us) h = sorted_updates (remove_key (is_at (id_cmp id)) keys) us (sorted_removed ids_total ids_exact keys (is_at (id_cmp id)) h)
+sorted_updates keys (becomes_shallow id ∷ us) h =
+    sorted_updates (insert_key id_cmp keys id) us (sorted_inserted ids_total ids_exact keys id h)
+sorted_updates keys (becomes_whole id ∷ us) h =
+    sorted_updates (remove_key (is_at (id_cmp id)) keys) us (sorted_removed ids_total ids_exact keys (is_at (id_cmp id)) h)
 
-updates_has : (keys : List ObjectId) (us : List ShallowUpdate) → IsStrictlySortedBy id_cmp keys → (q : ObjectId) → Contains (with_updates keys us) q ↔ StaysIn q (Contains keys q) us
+updates_has : (keys : List ObjectId) (us : List ShallowUpdate) → IsStrictlySortedBy id_cmp keys → (q : ObjectId)
+    → Contains (with_updates keys us) q ↔ StaysIn q (Contains keys q) us
 updates_has keys [] h q = (λ a. a, λ a. a)
 updates_has keys (becomes_shallow id ∷ us) h q =
     let more = updates_has (insert_key id_cmp keys id) us (sorted_inserted ids_total ids_exact keys id h) q in
-    let put = inserted_has ids_total ids_exact keys id q in
-    (λ a. stays_by q (Contains (insert_key id_cmp keys id) q) (Contains keys q ⊎ (q ≡ id)) put.0 us (more.0 a), λ a. more.1 (stays_by q (Contains keys q ⊎ (q ≡ id)) (Contains (insert_key id_cmp keys id) q) put.1 us a))
+    let put = inserted_has ids_total ids_exact keys id q in (
+      λ a. stays_by q (Contains (insert_key id_cmp keys id) q) (Contains keys q ⊎ (q ≡ id)) put.0 us (more.0 a),
+      λ a.
+          more.1 (stays_by q (Contains keys q ⊎ (q ≡ id)) (Contains (insert_key id_cmp keys id) q) put.1 us a),
+    )
 updates_has keys (becomes_whole id ∷ us) h q =
     let gone : List ObjectId = remove_key (is_at (id_cmp id)) keys in
     let more = updates_has gone us (sorted_removed ids_total ids_exact keys (is_at (id_cmp id)) h) q in
-    let cut = removed_has ids_total ids_exact keys id q h in
-    (λ a. stays_by q (Contains gone q) (Contains keys q × (q ≢ id)) cut.0 us (more.0 a), λ a. more.1 (stays_by q (Contains keys q × (q ≢ id)) (Contains gone q) cut.1 us a))
+    let cut = removed_has ids_total ids_exact keys id q h in (
+      λ a. stays_by q (Contains gone q) (Contains keys q × (q ≢ id)) cut.0 us (more.0 a),
+      λ a.
+          more.1 (stays_by q (Contains keys q × (q ≢ id)) (Contains gone q) cut.1 us a),
+    )
 
 -- the boundary after the updates is that set
 pub boundary_is : (ids : List ObjectId) (us : List ShallowUpdate) → IsBoundary ids us (boundary ids us)
@@ -290,6 +304,9 @@ boundary_is ids us =
     record {
       ordered = sorted_updates (with_ids [] ids) us first.ordered;
       same = λ id.
-          let more = updates_has (with_ids [] ids) us first.ordered id in
-          (λ a. stays_by id (Contains (with_ids [] ids) id) (Contains ids id) (first.same id).0 us (more.0 a), λ a. more.1 (stays_by id (Contains ids id) (Contains (with_ids [] ids) id) (first.same id).1 us a));
+          let more = updates_has (with_ids [] ids) us first.ordered id in (
+            λ a. stays_by id (Contains (with_ids [] ids) id) (Contains ids id) (first.same id).0 us (more.0 a),
+            λ a.
+                more.1 (stays_by id (Contains ids id) (Contains (with_ids [] ids) id) (first.same id).1 us a),
+          );
     }

@@ -1,4 +1,5 @@
--- What requests name again where each stands alone: under version 2, and where the connection doesn't persist (gitprotocol-v2, "fetch"; gitprotocol-http, "Smart Service git-upload-pack").
+-- What requests name again where each stands alone: under version 2, and where the connection doesn't persist (gitprotocol-v2, "fetch";
+-- gitprotocol-http, "Smart Service git-upload-pack").
 use Rattle.std.specs.Prelude.{◌≡◌, ◌⊎◌, ℕ, ⊤, Bool, true, false, List, [], ◌∷◌, ◌++◌, Option, Some, None}
 use Rattle.std.specs.List.{Contains}
 use Rattle.gixp_hash.specs.declared.object_id.ObjectId.{ObjectId}
@@ -11,8 +12,10 @@ use Rattle.gixp_fetch.specs.FetchRounds.{At, Turn}
 
 -- where ids are kept, the commits that the last answer named as common join them, and the haves of a round begin with all of these
 pub record Renames {N : Type 0} (goes : Goes N) : Type 0 where
-  pub keeps : (n : N) (s : Window) (a : ArgumentsValue) (p : Option AnswerValue) (r : Round) (d : Bool) (m : N) (t : Window) (b : ArgumentsValue) → goes n s a p r d m t b → t.kept ≡ kept_with s.kept (commons_of p)
-  pub names : (n : N) (s : Window) (a : ArgumentsValue) (p : Option AnswerValue) (r : Round) (d : Bool) (m : N) (t : Window) (b : ArgumentsValue) → goes n s a p r d m t b
+  pub keeps : (n : N) (s : Window) (a : ArgumentsValue) (p : Option AnswerValue) (r : Round) (d : Bool) (m : N) (t : Window)
+      (b : ArgumentsValue) → goes n s a p r d m t b → t.kept ≡ kept_with s.kept (commons_of p)
+  pub names : (n : N) (s : Window) (a : ArgumentsValue) (p : Option AnswerValue) (r : Round) (d : Bool) (m : N) (t : Window)
+      (b : ArgumentsValue) → goes n s a p r d m t b
       → (haves : List ObjectId) × (b ≡ asks_haves (kept_ids t.kept ++ haves) a)
 
 -- rounds begin here whose requests stand alone: nothing is kept yet, and no answer came
@@ -25,4 +28,5 @@ pub record StandsAlone {N I : Type 0} (start : At N I) : Type 0 where
 abbrev pub NamesAgain : {N I : Type 0} → List (List ℕ) → List ObjectId → List (Turn N I) → Type 0
 NamesAgain lines ids [] = ⊤
 NamesAgain lines ids (t ∷ ts) =
-    (t.asked.lines ≡ lines) × ((id : ObjectId) → Contains ids id → Contains t.asked.haves (have_line id)) × NamesAgain lines (ids ++ commons t.reply.acknowledgements) ts
+    (t.asked.lines ≡ lines) × ((id : ObjectId) → Contains ids id → Contains t.asked.haves (have_line id))
+    × NamesAgain lines (ids ++ commons t.reply.acknowledgements) ts

@@ -12,7 +12,8 @@ pub record IsSetOf (ids set : List ObjectId) : Type 0 where
   pub ordered : IsStrictlySortedBy id_cmp set
   pub same : (id : ObjectId) → Contains set id ↔ Contains ids id
 
--- whether an id is in the boundary after these updates, in their order: as before, but each `shallow` adds its own and each `unshallow` takes it away
+-- whether an id is in the boundary after these updates, in their order: as before, but each `shallow` adds its own and each `unshallow`
+-- takes it away
 abbrev pub StaysIn : ObjectId → Type 0 → List ShallowUpdate → Type 0
 StaysIn id before [] = before
 StaysIn id before (becomes_shallow other ∷ us) = StaysIn id (before ⊎ (id ≡ other)) us

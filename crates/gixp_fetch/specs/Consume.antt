@@ -17,7 +17,8 @@ pub record Copied (old : Option (List ℕ)) (start : Side) (read : List ℕ) (ne
   pub written : Appends old new read
 
 -- a read of content was refused after what was copied, and the refusal was taken out of the reader
-pub record ReadRefused (old : Option (List ℕ)) (start : Side) (read : List ℕ) (new : Option (List ℕ)) (end : Side) (refusal : Refusal) : Type 0 where
+pub record ReadRefused (old : Option (List ℕ)) (start : Side) (read : List ℕ) (new : Option (List ℕ)) (end : Side)
+    (refusal : Refusal) : Type 0 where
   pub now : Side
   pub copied : Copied old start read new now
   pub failed : Side
@@ -34,12 +35,16 @@ pub record WriteRefused (old : Option (List ℕ)) (start end : Side) : Type 0 wh
   pub copied : Copied old start read mid now
   pub shows : ShowsContent now end
 
--- all content up to the stop was copied; or a read was refused after some, of which the writer got all but what the failed read lost; or the writer failed after some, with more at hand for it
+-- all content up to the stop was copied; or a read was refused after some, of which the writer got all but what the failed read lost;
+-- or the writer failed after some, with more at hand for it
 abbrev pub Copies : Option (List ℕ) → Side → Result (Unit {0}) CopyError → Option (List ℕ) → Side → Type 0
-Copies old start (Ok done) new end = (read : List ℕ) × Copied old start read new end × IfSome start.reading.to_come (λ p. IsFirstOf start p → side_content start p ≡ read)
-Copies old start (Err (Read e)) new end = (read : List ℕ) × (lost : List ℕ) × Appends old new read × ReadsOn start end (read ++ lost) × ((side_reading end).held ≡ (side_reading start).held)
+Copies old start (Ok done) new end = (read : List ℕ) × Copied old start read new end
+    × IfSome start.reading.to_come (λ p. IsFirstOf start p → side_content start p ≡ read)
+Copies old start (Err (Read e)) new end = (read : List ℕ) × (lost : List ℕ) × Appends old new read × ReadsOn start end (read ++ lost)
+    × ((side_reading end).held ≡ (side_reading start).held)
     × ReadRefused old start read new end (refusal_of e)
-Copies old start (Err (Write kind)) new end = (read : List ℕ) × ReadsOn start end read × ((side_reading end).held ≡ (side_reading start).held) × WriteRefused old start end
+Copies old start (Err (Write kind)) new end = (read : List ℕ) × ReadsOn start end read
+    × ((side_reading end).held ≡ (side_reading start).held) × WriteRefused old start end
 
 -- a consumer that copies a pack returns true, since nothing but the rest of the stream is left
 abbrev pub CopiesPack : Option (List ℕ) → Side → Result Bool CopyError → Option (List ℕ) → Side → Type 0
@@ -59,7 +64,8 @@ copies_owes old new start end (Ok finished) h = (h.1.0, h.1.1.reads, h.1.1.held)
 copies_owes old new start end (Err (Read e)) h = (h.0 ++ h.1, h.3, h.4)
 copies_owes old new start end (Err (Write kind)) h = (h.0, h.1, h.2)
 
-pub passes_over_owes : (start end : Side) (r : Result Bool CopyError) → PassesOver start r end → (read : List ℕ) × ReadsOn start end read × ((side_reading end).held ≡ (side_reading start).held)
+pub passes_over_owes : (start end : Side) (r : Result Bool CopyError) → PassesOver start r end → (read : List ℕ)
+    × ReadsOn start end read × ((side_reading end).held ≡ (side_reading start).held)
 passes_over_owes start end (Ok finished) h = copies_owes None None start end (Ok finished) h
 passes_over_owes start end (Err (Read e)) h = copies_owes None None start end (Err (Read e)) h
 passes_over_owes start end (Err (Write kind)) h = absurd h

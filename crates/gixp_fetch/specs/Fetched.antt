@@ -16,7 +16,8 @@ use Rattle.gixp_fetch.specs.FetchShallow.{ShallowValue, is_change}
 use Rattle.gixp_fetch.specs.Prepare.{features_of, Prepared, PrepareFails, LocksFirst, ReleasesIf, LockFails}
 use Rattle.gixp_fetch.specs.Fetch.{Wishes, World, Parties, SessionEnds}
 
--- what a fetch is handed in: what the client asks for by default, what the server said first, the client's name, which tags are to come, and what is asked for
+-- what a fetch is handed in: what the client asks for by default, what the server said first, the client's name, which tags are to
+-- come, and what is asked for
 pub record FetchCall : Type 0 where
   pub table : TableValue
   pub version : Protocol
@@ -74,7 +75,8 @@ module _ {N I A S C P X : Type 0} (parties : Parties N I A S C P X) (call : Fetc
   -- the first arguments or the lock were refused, and nothing else changed
   pub data StartFails (e : Error A X) (new : World N I S C) : Type 0 where
     unprepared : PrepareFails call.table call.version (features call) call.tags e → new ≡ old → StartFails e new
-    unlocked : (asked : ArgumentsValue) (banded : Bool) → Prepared call.table call.version (features call) call.tags asked banded → LockFails parties.store_calls.failures old.store e new.store
+    unlocked : (asked : ArgumentsValue) (banded : Bool) → Prepared call.table call.version (features call) call.tags asked banded
+        → LockFails parties.store_calls.failures old.store e new.store
         → new ≡ record old { store = new.store } → StartFails e new
 
   -- by its result, before and after which no lock is had

@@ -1,4 +1,5 @@
--- A client's whole run over one transport, and what is true of it: frames, capabilities, refs, answers and refusals, requests, the pack, the bound on requests, and ref maps of filtered refs.
+-- A client's whole run over one transport, and what is true of it: frames, capabilities, refs, answers and refusals, requests, the
+-- pack, the bound on requests, and ref maps of filtered refs.
 use Rattle.std.proofs.Common.{inl, inr}
 use Rattle.std.specs.declared.alloc.Global.{Global}
 use Rattle.std.specs.declared.io.ErrorKind.{ErrorKind}
@@ -78,34 +79,42 @@ use Rattle.gixp_fetch.specs.Sessions.{Starts, SessionFails, at_depth, at_wants, 
 
 -- ---- frames
 
--- what a connection that has read nothing has to come are the pieces of its bytes' frames, and where each request has its own answer those of each body's; and these are those of the grammar, and no others
+-- what a connection that has read nothing has to come are the pieces of its bytes' frames, and where each request has its own answer
+-- those of each body's; and these are those of the grammar, and no others
 pub record FramesAreGrammar : Type 0 where
-  pub connections : (bytes : List ℕ) (holds : Option (List ℕ)) (at : List ℕ) (asked : Protocol) (versions : List Protocol) (opening : Option Opening) (r : Reading) → IsNewConnection (Some bytes) holds at asked versions opening r
+  pub connections : (bytes : List ℕ) (holds : Option (List ℕ)) (at : List ℕ) (asked : Protocol) (versions : List Protocol)
+      (opening : Option Opening) (r : Reading) → IsNewConnection (Some bytes) holds at asked versions opening r
       → r.to_come ≡ Some (stream_pieces bytes)
-  pub bodies : (given : List Body) (at : List ℕ) (versions : List Protocol) (b : Bodies) → IsNewBodies given at versions b → (bodies_reading b).held.answers ≡ map body_answer given
+  pub bodies : (given : List Body) (at : List ℕ) (versions : List Protocol) (b : Bodies) → IsNewBodies given at versions b
+      → (bodies_reading b).held.answers ≡ map body_answer given
   pub readers : (bytes : List ℕ) (r : Reading) → IsFresh (Some bytes) r → r.to_come ≡ Some (stream_pieces bytes)
   pub grammar : (bytes : List ℕ) → AreFrames bytes (frames_of bytes).list (frames_of bytes).end
-  pub no_others : (bytes : List ℕ) (frames : List Frame) (end : End) → AreFrames bytes frames end → frames_of bytes ≡ record { list = frames; end = end }
+  pub no_others : (bytes : List ℕ) (frames : List Frame) (end : End) → AreFrames bytes frames end
+      → frames_of bytes ≡ record { list = frames; end = end }
 
 -- ---- refusals
 
--- after the pieces or lines that were taken a read failed, an interrupt came, or an allocation failed, of which a plain reader has less: nothing that the stream says
+-- after the pieces or lines that were taken a read failed, an interrupt came, or an allocation failed, of which a plain reader has
+-- less: nothing that the stream says
 abbrev pub OutsideOf : Bool → Reading → Reading → Refusal → Type 0
 OutsideOf plain now new refusal = IsOutside now new refusal × (plain ≡ true → IsPlain new refusal)
 
 abbrev pub AnswerFromOutside : Bool → Reading → Reading → answer_error → Type 0
 AnswerFromOutside plain old new e =
-    (taken : List Piece) × (((now : Reading) × (refusal : Refusal) × Passed old now taken × OutsideOf plain now new refusal × (answer_refusal e ≡ from_reader refusal))
+    (taken : List Piece) × (((now : Reading) × (refusal : Refusal) × Passed old now taken × OutsideOf plain now new refusal
+    × (answer_refusal e ≡ from_reader refusal))
     ⊎ (Passed old new taken × (new.stopped ≡ None) × (e ≡ answer_memory)))
 
 abbrev pub RefsFromOutside : Bool → Reading → Reading → refs_error → Type 0
 RefsFromOutside plain old new e =
-    (taken : List (List ℕ)) × (((now : Reading) × (refusal : Refusal) × SoFar old now taken × OutsideOf plain now new refusal × (parse_refusal e ≡ refusal_from refusal))
+    (taken : List (List ℕ)) × (((now : Reading) × (refusal : Refusal) × SoFar old now taken × OutsideOf plain now new refusal
+    × (parse_refusal e ≡ refusal_from refusal))
     ⊎ (SoFar old new taken × (new.stopped ≡ None) × (e ≡ refs_memory)))
 
 -- the refs of an advertisement may also lack memory after the stop
 abbrev pub AdvertisementFromOutside : Bool → Reading → Reading → refs_error → Type 0
-AdvertisementFromOutside plain old new e = RefsFromOutside plain old new e ⊎ ((taken : List (List ℕ)) × (now : Reading) × SoFar old now taken × AtStop now new × (e ≡ refs_memory))
+AdvertisementFromOutside plain old new e = RefsFromOutside plain old new e
+    ⊎ ((taken : List (List ℕ)) × (now : Reading) × SoFar old now taken × AtStop now new × (e ≡ refs_memory))
 
 -- a refused answer is refused by the grammar, for that reason, or from outside
 abbrev pub AnswersAreRefused : Type 0
@@ -115,11 +124,13 @@ AnswersAreRefused = (found : Pieces → Found) (plain : Bool) (old new : Reading
 -- so are refused refs, of either kind
 abbrev pub RefsAreRefused : Type 0
 RefsAreRefused = (plain : Bool) (old new : Reading) (e : refs_error) → RefsFail plain old new e
-    → ((r : RefsRefusal) × IfSome old.to_come (λ p. v2_refs (lines_ahead old p) ≡ Err r) × IsParseRefusal e r) ⊎ RefsFromOutside plain old new e
+    → ((r : RefsRefusal) × IfSome old.to_come (λ p. v2_refs (lines_ahead old p) ≡ Err r) × IsParseRefusal e r)
+    ⊎ RefsFromOutside plain old new e
 
 abbrev pub AdvertisementsAreRefused : Type 0
 AdvertisementsAreRefused = (t : List Symref) (plain : Bool) (old new : Reading) (e : refs_error) → V1Fails t plain old new e
-    → ((r : RefsRefusal) × IfSome old.to_come (λ p. v1_refs t (lines_ahead old p) ≡ Err r) × IsParseRefusal e r) ⊎ AdvertisementFromOutside plain old new e
+    → ((r : RefsRefusal) × IfSome old.to_come (λ p. v1_refs t (lines_ahead old p) ≡ Err r) × IsParseRefusal e r)
+    ⊎ AdvertisementFromOutside plain old new e
 
 -- ---- what a server says first
 
@@ -131,23 +142,29 @@ AsksWords false service parameters old new = TakesAnswer old new × ByAnswer old
 -- the greeting wasn't written, or the call that takes the answer failed
 abbrev pub UnaskedWords : Bool → Service → List Parameter → Reading → Reading → client_error → Type 0
 UnaskedWords true service parameters old new e = Greets service parameters old new (Err e)
-UnaskedWords false service parameters old new e = (kind : ErrorKind) × (e ≡ client_io kind) × TakesAnswer old new × ByAnswer old new (Some kind)
+UnaskedWords false service parameters old new e = (kind : ErrorKind) × (e ≡ client_io kind) × TakesAnswer old new
+    × ByAnswer old new (Some kind)
 
--- its version and its capabilities are those of the definition, or its refusal is, unless a read, a write or an allocation failed, which is told apart whether the bytes are known or not
+-- its version and its capabilities are those of the definition, or its refusal is, unless a read, a write or an allocation failed,
+-- which is told apart whether the bytes are known or not
 abbrev pub SaysBy : Bool → Service → List Parameter → Reading → Reading → Result SetServiceResponse client_error → Type 0
 SaysBy persists service parameters old new (Ok found) =
-    (mid : Reading) × AsksWords persists service parameters old mid × IfSome mid.to_come (λ p. (a : Advertised) × (advertisement p ≡ Ok a) × Answers a new found) × Says new found
+    (mid : Reading) × AsksWords persists service parameters old mid
+    × IfSome mid.to_come (λ p. (a : Advertised) × (advertisement p ≡ Ok a) × Answers a new found) × Says new found
 SaysBy persists service parameters old new (Err e) =
     UnaskedWords persists service parameters old new e
-    ⊎ ((mid : Reading) × AsksWords persists service parameters old mid × (IfSome mid.to_come (λ p. advertisement p ≡ Err (client_refusal e)) ⊎ IsFromDevice mid new e) × IsCaused mid new e)
+    ⊎ ((mid : Reading) × AsksWords persists service parameters old mid
+    × (IfSome mid.to_come (λ p. advertisement p ≡ Err (client_refusal e)) ⊎ IsFromDevice mid new e) × IsCaused mid new e)
 
 abbrev pub WordsAreSaid : Type 0
-WordsAreSaid = (service : Service) (parameters : List Parameter) (old new : Reading) (r : Result SetServiceResponse client_error) → Handshakes service parameters old new r → SaysBy old.held.persists service parameters old new r
+WordsAreSaid = (service : Service) (parameters : List Parameter) (old new : Reading) (r : Result SetServiceResponse client_error)
+    → Handshakes service parameters old new r → SaysBy old.held.persists service parameters old new r
 
 -- ---- handshakes and their refusals
 
 -- a handshake has the version and the capabilities of the server's first words, and its version is one of those that are accepted
-pub record Greeted (service : Service) (parameters : List Parameter) (credentials : List CredentialCall) (start shaken : Reading) (handshake : Handshake) : Type 0 where
+pub record Greeted (service : Service) (parameters : List Parameter) (credentials : List CredentialCall) (start shaken : Reading)
+    (handshake : Handshake) : Type 0 where
   pub found : SetServiceResponse
   pub from : Reading
   pub opens : Opens service parameters start from credentials (Ok found)
@@ -157,7 +174,8 @@ pub record Greeted (service : Service) (parameters : List Parameter) (credential
   pub held : shaken.held ≡ from.held
 
 -- these refs came with the handshake, and are those of its lines, after which nothing more was read
-pub record ShownByHandshake (found : SetServiceResponse) (from shaken reached : Reading) (handshake : Handshake) (given : List Ref) : Type 0 where
+pub record ShownByHandshake (found : SetServiceResponse) (from shaken reached : Reading) (handshake : Handshake)
+    (given : List Ref) : Type 0 where
   pub follow : found.has_refs ≡ true
   pub refs : Vec Ref Global
   pub updates : Vec ShallowUpdate Global
@@ -171,11 +189,14 @@ pub record ShownByHandshake (found : SetServiceResponse) (from shaken reached : 
   pub stays : reached ≡ shaken
 
 -- or none came, and they are those of the lines that answer the command, which asks for the prefixes of the refspecs
-pub record ListedByCommand (table : TableValue) (agent : FeatureValue) (context : Context) (handshake : Handshake) (shaken reached : Reading) (given : List Ref) : Type 0 where
+pub record ListedByCommand (table : TableValue) (agent : FeatureValue) (context : Context) (handshake : Handshake)
+    (shaken reached : Reading) (given : List Ref) : Type 0 where
   pub none : handshake.refs ≡ None
-  pub valid : AnswersRefusal (listing_refusal (listing table (prefixes_if true (joined_specs context.fetch_refspecs.items context.extra_refspecs.items)) handshake.capabilities agent)) (Ok tt)
+  pub valid : AnswersRefusal (listing_refusal (listing table
+      (prefixes_if true (joined_specs context.fetch_refspecs.items context.extra_refspecs.items)) handshake.capabilities agent)) (Ok tt)
   pub from : Reading
-  pub sends : SendsListing (listing table (prefixes_if true (joined_specs context.fetch_refspecs.items context.extra_refspecs.items)) handshake.capabilities agent) shaken from (Ok tt)
+  pub sends : SendsListing (listing table (prefixes_if true
+      (joined_specs context.fetch_refspecs.items context.extra_refspecs.items)) handshake.capabilities agent) shaken from (Ok tt)
   pub read : ReadsRefs from reached given
   pub held : reached.held ≡ from.held
 
@@ -184,10 +205,12 @@ abbrev pub RefsRefused : List CapabilityValue → Bool → Reading → Reading �
 RefsRefused capabilities plain old new e =
     ((new ≡ old) × (((r : RefsRefusal) × (symref_table capabilities ≡ Err r) × IsParseRefusal e r) ⊎ (e ≡ refs_memory)))
     ⊎ ((t : List Symref) × (symref_table capabilities ≡ Ok t)
-    × (((r : RefsRefusal) × IfSome old.to_come (λ p. v1_refs t (lines_ahead old p) ≡ Err r) × IsParseRefusal e r) ⊎ AdvertisementFromOutside plain old new e))
+    × (((r : RefsRefusal) × IfSome old.to_come (λ p. v1_refs t (lines_ahead old p) ≡ Err r) × IsParseRefusal e r)
+    ⊎ AdvertisementFromOutside plain old new e))
 
 -- an account for the server's URL was asked for first
-pub record AsksAccount (old : Reading) (credentials : List CredentialCall) (turn : CredentialCall) (later : List CredentialCall) : Type 0 where
+pub record AsksAccount (old : Reading) (credentials : List CredentialCall) (turn : CredentialCall)
+    (later : List CredentialCall) : Type 0 where
   pub all : credentials ≡ turn ∷ later
   pub asked : action_value turn.action ≡ get old.held.url
 
@@ -201,66 +224,97 @@ abbrev pub IsErased : CredentialAnswer → List ℕ → shake_error → Type 0
 IsErased (Ok x) url e = (u : BString) × (bstring_bytes u ≡ url) × (e ≡ InvalidCredentials u)
 IsErased (Err x) url e = e ≡ Credentials x
 
--- the table of accounts: who has them refused or has none for the server; the transport takes none; the server's first words weren't had again, for another reason; they weren't for want of a good account, which is then told; or that it is good wasn't told
-pub data NoAccount (service : Service) (parameters : List Parameter) (old new : Reading) (credentials : List CredentialCall) (e : shake_error) : Type 0 where
-  unanswered : (turn : CredentialCall) → AsksAccount old credentials turn [] → (x : credentials_error) → turn.answer ≡ Err x → new ≡ old → e ≡ Credentials x → NoAccount service parameters old new credentials e
-  none_known : (turn : CredentialCall) → AsksAccount old credentials turn [] → turn.answer ≡ Ok None → new ≡ old → e ≡ EmptyCredentials → NoAccount service parameters old new credentials e
-  untaken : (turn : CredentialCall) → AsksAccount old credentials turn [] → (account : Account) → turn.answer ≡ Ok (Some account) → (x : client_error) → Identifies old new account.identity (Err x) → e ≡ from_client x
+-- the table of accounts: who has them refused or has none for the server; the transport takes none; the server's first words weren't
+-- had again, for another reason; they weren't for want of a good account, which is then told; or that it is good wasn't told
+pub data NoAccount (service : Service) (parameters : List Parameter) (old new : Reading) (credentials : List CredentialCall)
+    (e : shake_error) : Type 0 where
+  unanswered : (turn : CredentialCall) → AsksAccount old credentials turn [] → (x : credentials_error) → turn.answer ≡ Err x → new ≡ old
+      → e ≡ Credentials x → NoAccount service parameters old new credentials e
+  none_known : (turn : CredentialCall) → AsksAccount old credentials turn [] → turn.answer ≡ Ok None → new ≡ old → e ≡ EmptyCredentials
       → NoAccount service parameters old new credentials e
-  unheard_again : (turn : CredentialCall) → AsksAccount old credentials turn [] → (account : Account) (now : Reading) → HasAccount old now turn account → (x : client_error) → Handshakes service parameters now new (Err x) → is_denied x ≡ false
+  untaken : (turn : CredentialCall) → AsksAccount old credentials turn [] → (account : Account) → turn.answer ≡ Ok (Some account)
+      → (x : client_error) → Identifies old new account.identity (Err x) → e ≡ from_client x
+      → NoAccount service parameters old new credentials e
+  unheard_again : (turn : CredentialCall) → AsksAccount old credentials turn [] → (account : Account) (now : Reading)
+      → HasAccount old now turn account → (x : client_error) → Handshakes service parameters now new (Err x) → is_denied x ≡ false
       → e ≡ from_client x → NoAccount service parameters old new credentials e
-  bad : (turn told : CredentialCall) → AsksAccount old credentials turn (told ∷ []) → (account : Account) (now : Reading) → HasAccount old now turn account → (x : client_error) → Handshakes service parameters now new (Err x) → is_denied x ≡ true
-      → action_value told.action ≡ erase (next_value account.next) → IsErased told.answer old.held.url e → NoAccount service parameters old new credentials e
-  unkept : (turn told : CredentialCall) → AsksAccount old credentials turn (told ∷ []) → (account : Account) (now : Reading) → HasAccount old now turn account → (found : SetServiceResponse) → Handshakes service parameters now new (Ok found)
-      → action_value told.action ≡ store (next_value account.next) → (x : credentials_error) → told.answer ≡ Err x → e ≡ Credentials x → NoAccount service parameters old new credentials e
+  bad : (turn told : CredentialCall) → AsksAccount old credentials turn (told ∷ []) → (account : Account) (now : Reading)
+      → HasAccount old now turn account → (x : client_error) → Handshakes service parameters now new (Err x) → is_denied x ≡ true
+      → action_value told.action ≡ erase (next_value account.next) → IsErased told.answer old.held.url e
+      → NoAccount service parameters old new credentials e
+  unkept : (turn told : CredentialCall) → AsksAccount old credentials turn (told ∷ []) → (account : Account) (now : Reading)
+      → HasAccount old now turn account → (found : SetServiceResponse) → Handshakes service parameters now new (Ok found)
+      → action_value told.action ≡ store (next_value account.next) → (x : credentials_error) → told.answer ≡ Err x → e ≡ Credentials x
+      → NoAccount service parameters old new credentials e
 
--- a handshake is refused, for this reason: no memory; the server's first words weren't had, and not for want of an account; they weren't had without an account, and the table of accounts has the refusal; the version isn't accepted; or the refs are refused
-pub data HandshakeFails (service : Service) (parameters : List Parameter) (plain : Bool) (start reached : Reading) (credentials : List CredentialCall) (e : shake_error) : Type 0 where
+-- a handshake is refused, for this reason: no memory; the server's first words weren't had, and not for want of an account; they
+-- weren't had without an account, and the table of accounts has the refusal; the version isn't accepted; or the refs are refused
+pub data HandshakeFails (service : Service) (parameters : List Parameter) (plain : Bool) (start reached : Reading)
+    (credentials : List CredentialCall) (e : shake_error) : Type 0 where
   unbegun : StopsForMemory start reached credentials (Err e) → HandshakeFails service parameters plain start reached credentials e
-  unheard : (x : client_error) → Handshakes service parameters start reached (Err x) → is_denied x ≡ false → credentials ≡ [] → e ≡ from_client x → HandshakeFails service parameters plain start reached credentials e
-  denied : (x : client_error) (mid : Reading) → Handshakes service parameters start mid (Err x) → is_denied x ≡ true → NoAccount service parameters mid reached credentials e ⊎ StopsForMemory mid reached credentials (Err e)
+  unheard : (x : client_error) → Handshakes service parameters start reached (Err x) → is_denied x ≡ false → credentials ≡ []
+      → e ≡ from_client x → HandshakeFails service parameters plain start reached credentials e
+  denied : (x : client_error) (mid : Reading) → Handshakes service parameters start mid (Err x) → is_denied x ≡ true
+      → NoAccount service parameters mid reached credentials e ⊎ StopsForMemory mid reached credentials (Err e)
       → HandshakeFails service parameters plain start reached credentials e
-  unaccepted : (found : SetServiceResponse) → Opens service parameters start reached credentials (Ok found) → is_accepted start.held.accepted found.actual_protocol ≡ false → e ≡ TransportProtocolPolicyViolation found.actual_protocol
+  unaccepted : (found : SetServiceResponse) → Opens service parameters start reached credentials (Ok found)
+      → is_accepted start.held.accepted found.actual_protocol ≡ false → e ≡ TransportProtocolPolicyViolation found.actual_protocol
       → HandshakeFails service parameters plain start reached credentials e
-  unread : (found : SetServiceResponse) (from : Reading) → Opens service parameters start from credentials (Ok found) → is_accepted start.held.accepted found.actual_protocol ≡ true → found.has_refs ≡ true
-      → (x : refs_error) → RefsRefused found.capabilities plain from reached x → e ≡ from_parse x → HandshakeFails service parameters plain start reached credentials e
+  unread : (found : SetServiceResponse) (from : Reading) → Opens service parameters start from credentials (Ok found)
+      → is_accepted start.held.accepted found.actual_protocol ≡ true → found.has_refs ≡ true
+      → (x : refs_error) → RefsRefused found.capabilities plain from reached x → e ≡ from_parse x
+      → HandshakeFails service parameters plain start reached credentials e
 
 abbrev pub HandshakesAreRefused : Type 0
-HandshakesAreRefused = (service : Service) (parameters : List Parameter) (plain : Bool) (start reached : Reading) (credentials : List CredentialCall) (e : shake_error)
-    → CompletesHandshake service parameters plain start reached credentials (Err e) → HandshakeFails service parameters plain start reached credentials e
+HandshakesAreRefused = (service : Service) (parameters : List Parameter) (plain : Bool) (start reached : Reading)
+    (credentials : List CredentialCall) (e : shake_error)
+    → CompletesHandshake service parameters plain start reached credentials (Err e)
+    → HandshakeFails service parameters plain start reached credentials e
 
 -- ---- ref maps and their refusals
 
--- the answer for these refs: the mappings and fixes, or the refusal; and it is that for all refs from which a server that was asked for the prefixes of the refspecs may have left some out
+-- the answer for these refs: the mappings and fixes, or the refusal; and it is that for all refs from which a server that was asked for
+-- the prefixes of the refspecs may have left some out
 abbrev pub IsOfAll : Context → List CapabilityValue → List Ref → Result RefMap map_error → Type 0
 IsOfAll context capabilities given r =
     AnswersMap capabilities context.fetch_refspecs.items context.extra_refspecs.items (map ref_value given) r
-    × HoldsOfAll (joined_specs context.fetch_refspecs.items context.extra_refspecs.items) (map ref_value given) (λ all. AnswersMap capabilities context.fetch_refspecs.items context.extra_refspecs.items all r)
+    × HoldsOfAll (joined_specs context.fetch_refspecs.items context.extra_refspecs.items) (map ref_value given)
+    (λ all. AnswersMap capabilities context.fetch_refspecs.items context.extra_refspecs.items all r)
 
--- a ref map, or why there is none: it is that of the refs that came with the handshake, or of those that the server lists, or these weren't listed; or an allocation failed before
-pub data FindsRefMap (table : TableValue) (agent : FeatureValue) (context : Context) (handshake : Handshake) (plain : Bool) (shaken reached : Reading) (r : Result RefMap map_error) : Type 0 where
-  of_shown : (refs : Vec Ref Global) → handshake.refs ≡ Some refs → reached ≡ shaken → IsOfAll context handshake.capabilities refs.items r → FindsRefMap table agent context handshake plain shaken reached r
-  of_listed : (given : List Ref) → ListedByCommand table agent context handshake shaken reached given → IsOfAll context handshake.capabilities given r → FindsRefMap table agent context handshake plain shaken reached r
+-- a ref map, or why there is none: it is that of the refs that came with the handshake, or of those that the server lists, or these
+-- weren't listed; or an allocation failed before
+pub data FindsRefMap (table : TableValue) (agent : FeatureValue) (context : Context) (handshake : Handshake) (plain : Bool)
+    (shaken reached : Reading) (r : Result RefMap map_error) : Type 0 where
+  of_shown : (refs : Vec Ref Global) → handshake.refs ≡ Some refs → reached ≡ shaken
+      → IsOfAll context handshake.capabilities refs.items r → FindsRefMap table agent context handshake plain shaken reached r
+  of_listed : (given : List Ref) → ListedByCommand table agent context handshake shaken reached given
+      → IsOfAll context handshake.capabilities given r → FindsRefMap table agent context handshake plain shaken reached r
   unlisted : handshake.refs ≡ None → (e : list_error)
-      → Lists (listing table (prefixes_if true (joined_specs context.fetch_refspecs.items context.extra_refspecs.items)) handshake.capabilities agent) plain shaken reached (Err e) → r ≡ Err (from_listing e)
+      → Lists (listing table (prefixes_if true
+      (joined_specs context.fetch_refspecs.items context.extra_refspecs.items)) handshake.capabilities agent) plain shaken reached
+      (Err e) → r ≡ Err (from_listing e)
       → FindsRefMap table agent context handshake plain shaken reached r
   unmade : handshake.refs ≡ None → r ≡ Err map_memory → reached ≡ shaken → FindsRefMap table agent context handshake plain shaken reached r
 
 abbrev pub MapsAreOfAll : Type 0
-MapsAreOfAll = (table : TableValue) (agent : FeatureValue) (context : Context) (handshake : Handshake) (plain : Bool) (shaken reached : Reading) (r : Result RefMap map_error)
+MapsAreOfAll = (table : TableValue) (agent : FeatureValue) (context : Context) (handshake : Handshake) (plain : Bool)
+    (shaken reached : Reading) (r : Result RefMap map_error)
     → Obtains table agent context handshake plain shaken reached r → FindsRefMap table agent context handshake plain shaken reached r
 
 -- ---- what is asked for of a map
 
 module _ {N I A S C P X : Type 0} (parties : Parties N I A S C P X) (k : Knowledge) (made : RefMap) where
   -- the rounds begin: the decision is what the mappings of this map call for, and their lines are asked for
-  pub record WantsOfMap {call : FetchCall} {old : World N I S C} {banded : Bool} {ids : List ObjectId} {action : ActionValue} {locked : Bool} {read : S} {start : At N I} (starts : Starts parties call old banded ids action locked read start) : Type 0 where
+  pub record WantsOfMap {call : FetchCall} {old : World N I S C} {banded : Bool} {ids : List
+      ObjectId} {action : ActionValue} {locked : Bool} {read : S} {start : At N I}
+      (starts : Starts parties call old banded ids action locked read start) : Type 0 where
     pub decides : action ≡ decided k made
     pub wants : AddsWants (lines_of k made starts.asked starts.known) true starts.asked start.asked
 
   module _ {last marked : N} {asked : ArgumentsValue} {action : ActionValue} where
     -- no line of theirs is a want
-    abbrev pub NoWants : (((action ≡ no_change) ⊎ (action ≡ skip)) × (last ≡ marked)) ⊎ ((known : List Bool) × (wanted : ArgumentsValue) × (action ≡ negotiate known) × parties.negotiation_calls.adds marked known asked false wanted last) → Type 0
+    abbrev pub NoWants : (((action ≡ no_change) ⊎ (action ≡ skip)) × (last ≡ marked)) ⊎ ((known : List Bool) × (wanted : ArgumentsValue)
+        × (action ≡ negotiate known) × parties.negotiation_calls.adds marked known asked false wanted last) → Type 0
     NoWants (inl x) = ⊤
     NoWants (inr x) = AddsWants (lines_of k made asked x.0) false asked x.1
 
@@ -270,17 +324,20 @@ module _ {N I A S C P X : Type 0} (parties : Parties N I A S C P X) (k : Knowled
     pub wants : NoWants idle.idle
 
   -- where the second step was refused the first decided what they call for
-  abbrev pub DecidesOfMap : {first last : N} {asked : ArgumentsValue} {e : Error A X} → ReadyFails parties.negotiation_calls first asked e last → Type 0
+  abbrev pub DecidesOfMap : {first last : N} {asked : ArgumentsValue} {e : Error A X}
+      → ReadyFails parties.negotiation_calls first asked e last → Type 0
   DecidesOfMap (inl u) = ⊤
   DecidesOfMap (inr u) = negotiate u.known ≡ decided k made
 
-  abbrev pub RefusalOfMap : {call : FetchCall} {old : World N I S C} {e : Error A X} {last : World N I S C} {progress : P} → SessionFails parties call old e last progress → Type 0
+  abbrev pub RefusalOfMap : {call : FetchCall} {old : World N I S C} {e : Error A X} {last : World N I S C} {progress : P}
+      → SessionFails parties call old e last progress → Type 0
   RefusalOfMap (at_depth given banded held p l u n t) = ⊤
   RefusalOfMap (at_wants banded ids asked a u t) = DecidesOfMap u
   RefusalOfMap (in_session b) = WantsOfMap b.starts
 
   -- as far as a fetch came, what it asked for is what the mappings of this map call for
-  abbrev pub AsksOfMap : (call : FetchCall) (old : World N I S C) (result : Result (Option Outcome) (Error A X)) (new : World N I S C) (progress : P) → HoldsSession parties call old result new progress → Type 0
+  abbrev pub AsksOfMap : (call : FetchCall) (old : World N I S C) (result : Result (Option Outcome) (Error A X)) (new : World N I S C)
+      (progress : P) → HoldsSession parties call old result new progress → Type 0
   AsksOfMap call old (Ok (Some outcome)) new progress h = WantsOfMap h.1.starts
   AsksOfMap call old (Ok None) new progress h = NoneOfMap h.1.idle
   AsksOfMap call old (Err e) new progress (inl u) = ⊤
@@ -289,8 +346,10 @@ module _ {N I A S C P X : Type 0} (parties : Parties N I A S C P X) (k : Knowled
 -- ---- a run
 
 module _ {N I A S C P X : Type 0} (parties : Parties N I A S C P X) (map_of : N → RefMap) (knows : N → Knowledge) where
-  -- a handshake, the ref map that stands on it, and a fetch whose negotiation is over this map, each where the one before left the transport
-  pub record Run (call : FetchCall) (context : Context) (start : Reading) (made : RefMap) (old : World N I S C) (result : Result (Option Outcome) (Error A X)) (new : World N I S C) (progress : P) : Type 0 where
+  -- a handshake, the ref map that stands on it, and a fetch whose negotiation is over this map, each where the one before left the
+  -- transport
+  pub record Run (call : FetchCall) (context : Context) (start : Reading) (made : RefMap) (old : World N I S C)
+      (result : Result (Option Outcome) (Error A X)) (new : World N I S C) (progress : P) : Type 0 where
     pub service : Service
     pub parameters : List Parameter
     pub credentials : List CredentialCall
@@ -305,14 +364,16 @@ module _ {N I A S C P X : Type 0} (parties : Parties N I A S C P X) (map_of : N 
     pub fetches : Fetches parties call old result new progress
 
   -- what is true of a run
-  pub record Promise (call : FetchCall) (context : Context) (start : Reading) (made : RefMap) (old : World N I S C) (result : Result (Option Outcome) (Error A X)) (new : World N I S C) (progress : P)
+  pub record Promise (call : FetchCall) (context : Context) (start : Reading) (made : RefMap) (old : World N I S C)
+      (result : Result (Option Outcome) (Error A X)) (new : World N I S C) (progress : P)
       (run : Run call context start made old result new progress) : Type 0 where
     pub greeted : Greeted run.service run.parameters run.credentials start run.shaken run.handshake
     pub refs : ShownByHandshake greeted.found greeted.from run.shaken old.reading run.handshake made.remote_refs.items
         ⊎ ((greeted.found.has_refs ≡ false) × (run.shaken ≡ greeted.from) × (run.handshake.v1_shallow_updates ≡ None)
         × ListedByCommand call.table call.agent context run.handshake run.shaken old.reading made.remote_refs.items)
     pub mappings : IsOfAll context run.handshake.capabilities made.remote_refs.items (Ok made)
-    pub placed : AllByRecursion (λ (m : Mapping). IsSome (spec_at m.spec_index made.refspecs.items made.extra_refspecs.items)) made.mappings.items
+    pub placed : AllByRecursion (λ (m : Mapping). IsSome
+        (spec_at m.spec_index made.refspecs.items made.extra_refspecs.items)) made.mappings.items
     pub explicit : made.refspecs ≡ context.fetch_refspecs
     pub extra : made.extra_refspecs ≡ context.extra_refspecs
     pub conversation : HoldsSession parties call old result new progress

@@ -66,7 +66,8 @@ module _ {S : Type 0} where
 
 module _ {N I A Q : Type 0} (m : Manner N I A) where
   -- a round was met after the interrupt said to go on, and what it told stands after what was told before
-  pub record TurnEnds (old : At N I) (before : RoundsSoFar Q) (done : Bool) (reply : AnswerValue) (new : At N I) (after : RoundsSoFar Q) : Type 0 where
+  pub record TurnEnds (old : At N I) (before : RoundsSoFar Q) (done : Bool) (reply : AnswerValue) (new : At N I)
+      (after : RoundsSoFar Q) : Type 0 where
     pub round : Round
     pub asked : ArgumentsValue
     pub sent : Reading

@@ -1,4 +1,5 @@
--- A negotiation over a ref map: what it decides, and which lines it asks for (gitprotocol-pack, "Packfile Negotiation"; git-fetch, "<refspec>").
+-- A negotiation over a ref map: what it decides, and which lines it asks for (gitprotocol-pack, "Packfile Negotiation"; git-fetch,
+-- "<refspec>").
 use Rattle.std.proofs.Common.{subst}
 use Rattle.std.specs.Prelude.{◌≡◌, Bool, List, codes}
 use Rattle.gixp_requests.specs.Arguments.{ArgumentsValue, can_use}
@@ -31,20 +32,25 @@ decided k m = decision (is_ignored k.tags m.extra_refspecs.items) k.commits k.ex
 
 -- the lines that are asked for, by what is asked for already, and by which objects are there
 abbrev pub lines_of : Knowledge → RefMap → ArgumentsValue → List Bool → List Wish
-lines_of k m asked known = wishes (is_ignored k.tags m.extra_refspecs.items) k.existing (can_use (codes "ref-in-want") asked) (is_no_change k.shallow) m.mappings.items known
+lines_of k m asked known = wishes (is_ignored k.tags m.extra_refspecs.items) k.existing (can_use (codes "ref-in-want") asked)
+    (is_no_change k.shallow) m.mappings.items known
 
 -- the first step decides what the mappings call for, and the second asks for their lines
-pub record FollowsMap {N : Type 0} (marks : N → ActionValue → N → Type 0) (adds : N → List Bool → ArgumentsValue → Bool → ArgumentsValue → N → Type 0) (map_of : N → RefMap) (knows : N → Knowledge) : Type 0 where
+pub record FollowsMap {N : Type 0} (marks : N → ActionValue → N → Type 0) (adds : N → List Bool → ArgumentsValue → Bool → ArgumentsValue
+    → N → Type 0) (map_of : N → RefMap) (knows : N → Knowledge) : Type 0 where
   pub decides : (n : N) (action : ActionValue) (m : N) → marks n action m → action ≡ decided (knows n) (map_of n)
   pub asks : (n : N) (action : ActionValue) (m : N) (known : List Bool) (a : ArgumentsValue) (is_any : Bool) (b : ArgumentsValue) (l : N)
       → marks n action m → adds m known a is_any b l → AddsWants (lines_of (knows n) (map_of n) a known) is_any a b
 
 -- these lines were asked for, by what they are made of
 abbrev pub AddsLines : ArgumentsValue → List Bool → Bool → ArgumentsValue → RefMap → Tags → Shallow → Objects → Type 0
-AddsLines a known is_any b m tags shallow existing = AddsWants (wishes (is_ignored tags m.extra_refspecs.items) existing (can_use (codes "ref-in-want") a) (is_no_change shallow) m.mappings.items known) is_any a b
+AddsLines a known is_any b m tags shallow existing = AddsWants (wishes (is_ignored tags m.extra_refspecs.items) existing
+    (can_use (codes "ref-in-want") a) (is_no_change shallow) m.mappings.items known) is_any a b
 
 -- the lines are the same where what they are made of is
-pub lines_kept : (a : ArgumentsValue) (known : List Bool) (is_any : Bool) (b : ArgumentsValue) (m n : RefMap) (t u : Tags) (s r : Shallow) (o q : Objects) → n ≡ m → u ≡ t → r ≡ s → q ≡ o
+pub lines_kept : (a : ArgumentsValue) (known : List Bool) (is_any : Bool) (b : ArgumentsValue) (m n : RefMap) (t u : Tags)
+    (s r : Shallow) (o q : Objects) → n ≡ m → u ≡ t → r ≡ s → q ≡ o
     → AddsLines a known is_any b n u r q → AddsLines a known is_any b m t s o
 lines_kept a known is_any b m n t u s r o q maps tags shallow existing w =
-    subst (λ x. AddsLines a known is_any b m t s x) existing (subst (λ x. AddsLines a known is_any b m t x q) shallow (subst (λ x. AddsLines a known is_any b m x r q) tags (subst (λ x. AddsLines a known is_any b x u r q) maps w)))
+    subst (λ x. AddsLines a known is_any b m t s x) existing (subst (λ x. AddsLines a known is_any b m t x q) shallow
+    (subst (λ x. AddsLines a known is_any b m x r q) tags (subst (λ x. AddsLines a known is_any b x u r q) maps w)))

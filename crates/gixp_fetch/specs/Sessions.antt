@@ -1,4 +1,5 @@
--- A fetch seen from outside: what it asked for, its rounds with their requests and answers, the pack, and why it was refused (gitprotocol-pack, "Packfile Negotiation"; gitprotocol-v2, "fetch").
+-- A fetch seen from outside: what it asked for, its rounds with their requests and answers, the pack, and why it was refused
+-- (gitprotocol-pack, "Packfile Negotiation"; gitprotocol-v2, "fetch").
 use Rattle.std.proofs.Common.{inl, inr}
 use Rattle.std.specs.Borrow.{GName}
 use Rattle.std.specs.Prelude.{◌≡◌, ◌⊎◌, ⊤, ℕ, ◌+◌, ◌/◌, ◌≤◌, Bool, true, false, not, ◌||◌, length, codes, List, [], ◌∷◌, ◌++◌, map, Option, Some, None, IfSome, Result, Ok, Err}
@@ -40,13 +41,16 @@ use Rattle.gixp_fetch.specs.Fetched.{FetchCall, features, StartFails}
 
 -- ---- what a round asks for, and its answer
 
--- an answer is that of the grammar in what was to come; or a read failed as at the stream's end, and it is that of the grammar in the pieces before
+-- an answer is that of the grammar in what was to come; or a read failed as at the stream's end, and it is that of the grammar in the
+-- pieces before
 abbrev pub IsAnswer : (Pieces → Found) → Protocol → Reading → Reading → AnswerValue → Type 0
-IsAnswer found version old new value = IfSome old.to_come (λ p. (q : Pieces) × (new.to_come ≡ Some q) × (found p ≡ whole value q)) ⊎ AnswerBrokeOff found version old new value
+IsAnswer found version old new value = IfSome old.to_come (λ p. (q : Pieces) × (new.to_come ≡ Some q) × (found p ≡ whole value q))
+    ⊎ AnswerBrokeOff found version old new value
 
 abbrev pub AreAnswers : {N I : Type 0} → Protocol → Bool → List (Turn N I) → Type 0
 AreAnswers version banded [] = ⊤
-AreAnswers version banded (t ∷ ts) = IsAnswer (answer_of version (flags t.done (not t.done))) version (view banded t.sent) (view banded t.after.reading) t.reply × AreAnswers version banded ts
+AreAnswers version banded (t ∷ ts) = IsAnswer (answer_of version (flags t.done (not t.done))) version (view banded t.sent)
+    (view banded t.after.reading) t.reply × AreAnswers version banded ts
 
 -- none of these rounds is the last or has a pack
 abbrev pub GoOn : {N I : Type 0} → List (Turn N I) → Type 0
@@ -58,35 +62,48 @@ abbrev pub rounds_of : {N I : Type 0} → List (Turn N I) → List Round
 rounds_of ts = map (λ t. t.round) ts
 
 module _ {N I A : Type 0} (m : Manner N I A) where
-  -- what each round asks for is what the negotiation makes of what was asked for before, of its window and of the last answer; after its request no have is left, and the lines are where each request says them again
+  -- what each round asks for is what the negotiation makes of what was asked for before, of its window and of the last answer; after
+  -- its request no have is left, and the lines are where each request says them again
   abbrev pub AreNegotiated : At N I → List (Turn N I) → Type 0
   AreNegotiated old [] = ⊤
   AreNegotiated old (t ∷ ts) =
-      m.goes old.negotiate old.window old.asked old.previous t.round t.done t.after.negotiate t.after.window t.asked × (t.after.asked ≡ sent_off old.reading.held.persists t.asked) × (t.after.previous ≡ Some t.reply)
+      m.goes old.negotiate old.window old.asked old.previous t.round t.done t.after.negotiate t.after.window t.asked
+      × (t.after.asked ≡ sent_off old.reading.held.persists t.asked) × (t.after.previous ≡ Some t.reply)
       × AreNegotiated t.after ts
 
   module _ {E : Type 0} where
     -- the request of a round that came to no answer, where it was begun
-    abbrev pub begun_by : {old : At N I} {asked : ArgumentsValue} {done : Bool} {e : Error A E} {reading : Reading} → Breaks m old asked done e reading → List (List ℕ)
+    abbrev pub begun_by : {old : At N I} {asked : ArgumentsValue} {done : Bool} {e : Error A E} {reading : Reading}
+        → Breaks m old asked done e reading → List (List ℕ)
     begun_by (before_request w r) = []
     begun_by {old} {asked} {done} (at_request error s g) = texts_of (request asked done) ∷ []
     begun_by {old} {asked} {done} (behind_request s w) = texts_of (request asked done) ∷ []
     begun_by {old} {asked} {done} (at_answer sent s error a h g) = texts_of (request asked done) ∷ []
     begun_by {old} {asked} {done} (behind_answer sent s reply a h w) = texts_of (request asked done) ∷ []
 
-    abbrev pub begun_in : {old : At N I} {e : Error A E} {negotiate : N} {reading : Reading} → TurnFails m old e negotiate reading → List (List ℕ)
+    abbrev pub begun_in : {old : At N I} {e : Error A E} {negotiate : N} {reading : Reading} → TurnFails m old e negotiate reading
+        → List (List ℕ)
     begun_in (inl u) = []
     begun_in (inr b) = begun_by b.breaks
 
 module _ {N I A S C P X : Type 0} (parties : Parties N I A S C P X) where
   -- how the rounds of a call go
   abbrev pub manner_of : FetchCall → Bool → Manner N I A
-  manner_of call banded = record { goes = parties.negotiation_calls.goes; fails = parties.negotiation_calls.round_fails; says = parties.says; version = call.version; banded = banded; plain = parties.plain }
+  manner_of call banded = record {
+    goes = parties.negotiation_calls.goes;
+    fails = parties.negotiation_calls.round_fails;
+    says = parties.says;
+    version = call.version;
+    banded = banded;
+    plain = parties.plain;
+  }
 
   -- ---- what is asked for
 
-  -- before any object: the features, the tags, the boundary and the depth, of what the client and the server can do and of the boundary that the store has, whose lock is had where it may change
-  pub record Asks (call : FetchCall) (store : S) (banded : Bool) (ids : List ObjectId) (asked : ArgumentsValue) (locked : Bool) (read : S) : Type 0 where
+  -- before any object: the features, the tags, the boundary and the depth, of what the client and the server can do and of the boundary
+  -- that the store has, whose lock is had where it may change
+  pub record Asks (call : FetchCall) (store : S) (banded : Bool) (ids : List ObjectId) (asked : ArgumentsValue) (locked : Bool)
+      (read : S) : Type 0 where
     pub raw : List Feature
     pub values : feature_values raw ≡ features call
     pub needed : missing_feature call.version raw ≡ None
@@ -98,8 +115,10 @@ module _ {N I A S C P X : Type 0} (parties : Parties N I A S C P X) where
     pub reads : parties.store_calls.reads held ids read
     pub depth : shallow_asks call.wishes.shallow ids given ≡ Ok asked
 
-  -- the rounds begin: the wants of the negotiation are asked for next, the window is the first, no answer came, and nothing was written or read
-  pub record Starts (call : FetchCall) (old : World N I S C) (banded : Bool) (ids : List ObjectId) (action : ActionValue) (locked : Bool) (read : S) (start : At N I) : Type 0 where
+  -- the rounds begin: the wants of the negotiation are asked for next, the window is the first, no answer came, and nothing was written
+  -- or read
+  pub record Starts (call : FetchCall) (old : World N I S C) (banded : Bool) (ids : List ObjectId) (action : ActionValue)
+      (locked : Bool) (read : S) (start : At N I) : Type 0 where
     pub asked : ArgumentsValue
     pub asks : Asks call old.store banded ids asked locked read
     pub known : List Bool
@@ -129,7 +148,8 @@ module _ {N I A S C P X : Type 0} (parties : Parties N I A S C P X) where
 
   -- ---- the pack
 
-  -- the consumer was lent a reader of the bands that stands here. What it read begins the joined payloads of band 1, and the rest of these is what its reader has left: where that is nothing it read all of them
+  -- the consumer was lent a reader of the bands that stands here. What it read begins the joined payloads of band 1, and the rest of
+  -- these is what its reader has left: where that is nothing it read all of them
   pub record TakesPack (c : C) (from : Reading) (returned : Result Bool X) (d : C) (left : Side) (progress : P) : Type 0 where
     pub name : GName
     pub before : P
@@ -158,12 +178,15 @@ module _ {N I A S C P X : Type 0} (parties : Parties N I A S C P X) where
   -- the consumer refused the pack, or what it left was refused before a stop
   abbrev pub RefusesPack : C → Reading → PackFailure X → C → Reading → P → Type 0
   RefusesPack c from (Consumer x) d new progress = (left : Side) × TakesPack c from (Err x) d left progress × GivesBack left new
-  RefusesPack c from (Rest x) d new progress = (left end : Side) × TakesPack c from (Ok true) d left progress × DrainFails (side_reading left) (side_reading end) x × GivesBack end new
+  RefusesPack c from (Rest x) d new progress = (left end : Side) × TakesPack c from (Ok true) d left progress
+      × DrainFails (side_reading left) (side_reading end) x × GivesBack end new
 
   -- ---- a session that came to a pack
 
-  -- its rounds one after another, each with its request, which is the stated function of what was asked for, and its answer; and then the lock, the pack and the boundary
-  pub record Conversation (call : FetchCall) (old : World N I S C) (action : ActionValue) (rounds : List Round) (answer : AnswerValue) (last : World N I S C) (progress : P) : Type 0 where
+  -- its rounds one after another, each with its request, which is the stated function of what was asked for, and its answer; and then
+  -- the lock, the pack and the boundary
+  pub record Conversation (call : FetchCall) (old : World N I S C) (action : ActionValue) (rounds : List Round) (answer : AnswerValue)
+      (last : World N I S C) (progress : P) : Type 0 where
     pub banded : Bool
     pub ids : List ObjectId
     pub locked : Bool
@@ -201,28 +224,44 @@ module _ {N I A S C P X : Type 0} (parties : Parties N I A S C P X) where
     pub negotiate : last.negotiate ≡ at.negotiate
     pub reading : last.reading ≡ at.reading
 
-  -- a pack came, and the rest was refused for this reason: an allocation failed, the lock wasn't had, the pack or what comes after it was refused, or the boundary wasn't written
-  pub data Unpacks (ids : List ObjectId) (updates : List ShallowUpdate) (reject : Bool) (c : C) (read : S) (locked : Bool) (from : Reading) (e : Error A X) (last : World N I S C) (progress : P) : Type 0 where
-    lacks_memory : e ≡ Memory → last.reading ≡ from → Unlent c read locked last → Unpacks ids updates reject c read locked from e last progress
-    lacks_lock : HoldFails parties.store_calls updates reject read locked e last.store last.locked → last.reading ≡ from → last.consumer ≡ c → Unpacks ids updates reject c read locked from e last progress
-    lacks_room : Holds parties.store_calls updates reject read locked last.store last.locked → e ≡ Memory → last.reading ≡ from → last.consumer ≡ c → Unpacks ids updates reject c read locked from e last progress
-    untaken : Holds parties.store_calls updates reject read locked last.store last.locked → (error : PackFailure X) → e ≡ of_pack error → RefusesPack c from error last.consumer last.reading progress
+  -- a pack came, and the rest was refused for this reason: an allocation failed, the lock wasn't had, the pack or what comes after it
+  -- was refused, or the boundary wasn't written
+  pub data Unpacks (ids : List ObjectId) (updates : List ShallowUpdate) (reject : Bool) (c : C) (read : S) (locked : Bool)
+      (from : Reading) (e : Error A X) (last : World N I S C) (progress : P) : Type 0 where
+    lacks_memory : e ≡ Memory → last.reading ≡ from → Unlent c read locked last
         → Unpacks ids updates reject c read locked from e last progress
-    unwritten : (held : S) → Holds parties.store_calls updates reject read locked held last.locked → TakesAll c from last.consumer last.reading progress → SettleFails parties.store_calls held e last.store
+    lacks_lock : HoldFails parties.store_calls updates reject read locked e last.store last.locked → last.reading ≡ from
+        → last.consumer ≡ c → Unpacks ids updates reject c read locked from e last progress
+    lacks_room : Holds parties.store_calls updates reject read locked last.store last.locked → e ≡ Memory → last.reading ≡ from
+        → last.consumer ≡ c → Unpacks ids updates reject c read locked from e last progress
+    untaken : Holds parties.store_calls updates reject read locked last.store last.locked → (error : PackFailure X) → e ≡ of_pack error
+        → RefusesPack c from error last.consumer last.reading progress
+        → Unpacks ids updates reject c read locked from e last progress
+    unwritten : (held : S) → Holds parties.store_calls updates reject read locked held last.locked
+        → TakesAll c from last.consumer last.reading progress → SettleFails parties.store_calls held e last.store
         → Unpacks ids updates reject c read locked from e last progress
 
-  -- after rounds that were neither the last nor had a pack, with this refusal: the caller stopped it; one more round was the last and had no pack; one more was refused, by the negotiation, in its request or in its answer; or one more had a pack, and the rest was refused
-  pub data RoundsBreakOff (call : FetchCall) (banded : Bool) (ids : List ObjectId) (c : C) (read : S) (locked : Bool) (turns : List (Turn N I)) (before : At N I) (e : Error A X) (last : World N I S C) (progress : P) : Type 0 where
-    by_caller : parties.says before.interrupt true last.interrupt → e ≡ Negotiate (NegotiationFailed (length turns)) → StandsAt before last → Unlent c read locked last
+  -- after rounds that were neither the last nor had a pack, with this refusal: the caller stopped it; one more round was the last and
+  -- had no pack; one more was refused, by the negotiation, in its request or in its answer; or one more had a pack, and the rest was
+  -- refused
+  pub data RoundsBreakOff (call : FetchCall) (banded : Bool) (ids : List ObjectId) (c : C) (read : S) (locked : Bool)
+      (turns : List (Turn N I)) (before : At N I) (e : Error A X) (last : World N I S C) (progress : P) : Type 0 where
+    by_caller : parties.says before.interrupt true last.interrupt → e ≡ Negotiate (NegotiationFailed (length turns))
+        → StandsAt before last → Unlent c read locked last
         → RoundsBreakOff call banded ids c read locked turns before e last progress
-    exhausted : (t : Turn N I) → Turns (manner_of call banded) before t → t.done ≡ true → t.reply.pack ≡ false → e ≡ Negotiate (NegotiationFailed (length turns + 1)) → StandsAt t.after last → last.interrupt ≡ t.after.interrupt → Unlent c read locked last
+    exhausted : (t : Turn N I) → Turns (manner_of call banded) before t → t.done ≡ true → t.reply.pack ≡ false → e ≡ Negotiate
+        (NegotiationFailed (length turns + 1)) → StandsAt t.after last → last.interrupt ≡ t.after.interrupt → Unlent c read locked last
         → RoundsBreakOff call banded ids c read locked turns before e last progress
-    at_round : TurnFails (manner_of call banded) before e last.negotiate last.reading → Unlent c read locked last → RoundsBreakOff call banded ids c read locked turns before e last progress
-    behind_pack : (t : Turn N I) → Turns (manner_of call banded) before t → t.reply.pack ≡ true → last.negotiate ≡ t.after.negotiate → last.reading.held ≡ t.after.reading.held
-        → Unpacks ids ((updates_of (manner_of call banded) turns ++ t.reply.shallow_updates) ++ call.wishes.told) call.wishes.reject c read locked t.after.reading e last progress
+    at_round : TurnFails (manner_of call banded) before e last.negotiate last.reading → Unlent c read locked last
+        → RoundsBreakOff call banded ids c read locked turns before e last progress
+    behind_pack : (t : Turn N I) → Turns (manner_of call banded) before t → t.reply.pack ≡ true → last.negotiate ≡ t.after.negotiate
+        → last.reading.held ≡ t.after.reading.held
+        → Unpacks ids ((updates_of (manner_of call banded) turns ++ t.reply.shallow_updates)
+        ++ call.wishes.told) call.wishes.reject c read locked t.after.reading e last progress
         → RoundsBreakOff call banded ids c read locked turns before e last progress
 
-  module _ {call : FetchCall} {banded : Bool} {ids : List ObjectId} {c : C} {read : S} {locked : Bool} {turns : List (Turn N I)} {before : At N I} {e : Error A X} {last : World N I S C} {progress : P} where
+  module _ {call : FetchCall} {banded : Bool} {ids : List ObjectId} {c : C} {read : S} {locked : Bool} {turns : List
+      (Turn N I)} {before : At N I} {e : Error A X} {last : World N I S C} {progress : P} where
     -- the one round more that was answered, if there is one
     abbrev pub one_more : RoundsBreakOff call banded ids c read locked turns before e last progress → List (Turn N I)
     one_more (by_caller s g at u) = []
@@ -274,12 +313,16 @@ module _ {N I A S C P X : Type 0} (parties : Parties N I A S C P X) where
 
   -- ---- by the result
 
-  -- refused after its first arguments and its lock, for this reason: the boundary wasn't read, or it and the depth not asked for; the negotiation refused one of its first two steps; or the session broke off
+  -- refused after its first arguments and its lock, for this reason: the boundary wasn't read, or it and the depth not asked for; the
+  -- negotiation refused one of its first two steps; or the session broke off
   pub data SessionFails (call : FetchCall) (old : World N I S C) (e : Error A X) (last : World N I S C) (progress : P) : Type 0 where
     at_depth : (given : ArgumentsValue) (banded : Bool) (held : S) → Prepared call.table call.version (features call) call.tags given banded
-        → LocksFirst parties.store_calls.locks (is_change call.wishes.shallow) old.store held last.locked → OpenFails parties.store_calls call.wishes.shallow held given e last.store
+        → LocksFirst parties.store_calls.locks (is_change call.wishes.shallow) old.store held last.locked
+        → OpenFails parties.store_calls call.wishes.shallow held given e last.store
         → last.negotiate ≡ old.negotiate → Untouched old last → SessionFails call old e last progress
-    at_wants : (banded : Bool) (ids : List ObjectId) (asked : ArgumentsValue) → Asks call old.store banded ids asked last.locked last.store → ReadyFails parties.negotiation_calls old.negotiate asked e last.negotiate
+    at_wants : (banded : Bool) (ids : List ObjectId) (asked : ArgumentsValue)
+        → Asks call old.store banded ids asked last.locked last.store
+        → ReadyFails parties.negotiation_calls old.negotiate asked e last.negotiate
         → Untouched old last → SessionFails call old e last progress
     in_session : BrokenOff call old e last progress → SessionFails call old e last progress
 
@@ -288,9 +331,12 @@ module _ {N I A S C P X : Type 0} (parties : Parties N I A S C P X) where
     pub releases : ReleasesIf parties.store_calls.releases last.locked last.store new.store
     pub stands : new ≡ record last { store = new.store; locked = false }
 
-  -- a fetch by its result: an outcome is that of a session that came to a pack; without one there was nothing to ask for; and a refusal is that of the first part that is refused
+  -- a fetch by its result: an outcome is that of a session that came to a pack; without one there was nothing to ask for; and a refusal
+  -- is that of the first part that is refused
   abbrev pub HoldsSession : FetchCall → World N I S C → Result (Option Outcome) (Error A X) → World N I S C → P → Type 0
   HoldsSession call old (Ok (Some outcome)) new progress =
-      (last : World N I S C) × Conversation call old (action_value outcome.negotiate.action) outcome.negotiate.rounds.items outcome.last_response last progress × Releases last new
+      (last : World N I S C) × Conversation call old
+      (action_value outcome.negotiate.action) outcome.negotiate.rounds.items outcome.last_response last progress × Releases last new
   HoldsSession call old (Ok None) new progress = (last : World N I S C) × AsksNothing call old last × Releases last new
-  HoldsSession call old (Err e) new progress = StartFails parties call old e new ⊎ ((last : World N I S C) × SessionFails call old e last progress × Releases last new)
+  HoldsSession call old (Err e) new progress = StartFails parties call old e new
+      ⊎ ((last : World N I S C) × SessionFails call old e last progress × Releases last new)

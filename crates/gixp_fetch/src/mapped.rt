@@ -25,7 +25,13 @@ impl<'a, O: Objects, R: RefStore, N: Negotiator, G: Objects, E: Drop> Negotiates
 
     ghost map_of = { λ n. n.ref_map.now };
 
-    ghost knows = { λ n. record { tags = n.tags; shallow = n.shallow.now; commits = n.context.graph.now.graph.objects; existing = O.contents n.context.objects.now; refs = R.refs n.context.refs.now } };
+    ghost knows = { λ n. record {
+      tags = n.tags;
+      shallow = n.shallow.now;
+      commits = n.context.graph.now.graph.objects;
+      existing = O.contents n.context.objects.now;
+      refs = R.refs n.context.refs.now;
+    } };
 
     ghost follows = { record {
       decides = λ n action m h. h.0;

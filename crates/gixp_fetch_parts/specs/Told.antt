@@ -39,7 +39,8 @@ name_told None = codes "-"
 -- a mapping: what is taken, its name, and the local name
 abbrev pub mapping_told : Mapping → List ℕ
 mapping_told m =
-    together (word_told m.spec_index ∷ id_told (source_id m.remote) ∷ codes " " ∷ name_told (source_name m.remote) ∷ codes " " ∷ name_told (option_map bstring_bytes m.local) ∷ codes "\n" ∷ [])
+    together (word_told m.spec_index ∷ id_told (source_id m.remote) ∷ codes " " ∷ name_told (source_name m.remote) ∷ codes " "
+    ∷ name_told (option_map bstring_bytes m.local) ∷ codes "\n" ∷ [])
 
 abbrev pub removed_told : Removed → List ℕ
 removed_told r = together (codes "fix " ∷ name_told r.name ∷ codes " " ∷ r.spec ∷ codes "\n" ∷ [])
@@ -68,7 +69,8 @@ default_of_ref found = default_told (ref_value found)
 
 -- the mappings, those that were taken out, what `HEAD` leads to, and the pack
 abbrev pub fetch_told : RefMap → Option PackSummary → List ℕ
-fetch_told m pack = flat_map mapping_told m.mappings.items ++ (flat_map fix_told m.fixes.items ++ (flat_map default_of_ref m.remote_refs.items ++ end_told pack))
+fetch_told m pack = flat_map mapping_told m.mappings.items
+    ++ (flat_map fix_told m.fixes.items ++ (flat_map default_of_ref m.remote_refs.items ++ end_told pack))
 
 -- an id with a name (git-ls-remote)
 abbrev pub id_line : (id name : List ℕ) → List ℕ

@@ -20,7 +20,8 @@ each_none objects old = record {
 }
 
 -- one visit more
-pub each_more : (objects : Objects) (wanted : List ObjectId) (old mid new : Walk) (id : ObjectId) → VisitsEach objects wanted old mid → Visits objects id mid new → VisitsEach objects (wanted ++ id ∷ []) old new
+pub each_more : (objects : Objects) (wanted : List ObjectId) (old mid new : Walk) (id : ObjectId) → VisitsEach objects wanted old mid
+    → Visits objects id mid new → VisitsEach objects (wanted ++ id ∷ []) old new
 each_more objects wanted old mid new id e v = record {
   walk = λ g ids cutoff others same due w. visit_walk g objects same id (beside others mid) (beside others new) ids cutoff
       (All-head (IsDue (commit_in g) ids cutoff) id [] (all_right (IsDue (commit_in g) ids cutoff) wanted (id ∷ []) due))
@@ -38,12 +39,15 @@ each_more objects wanted old mid new id e v = record {
 }
 
 -- some of these ids were visited, also where the last visit was refused
-pub some_more : (objects : Objects) (wanted : List ObjectId) (old held held' : Commits) → VisitsSome objects wanted old held → (i : ℕ) (d : ObjectId) → i < length wanted
+pub some_more : (objects : Objects) (wanted : List ObjectId) (old held held' : Commits) → VisitsSome objects wanted old held
+    → (i : ℕ) (d : ObjectId) → i < length wanted
     → (held' ≡ held) ⊎ (held' ≡ marked_found (graph_of objects held) (get_or wanted i d)) → VisitsSome objects wanted old held'
 some_more objects wanted old held held' s i d l r g ids cutoff same due w =
-    marking_step g ids cutoff held objects same (get_or wanted i d) held' (s g ids cutoff same due w) (due_complete (commit_in g) ids cutoff (get_or wanted i d) (due i d l)) r
+    marking_step g ids cutoff held objects same (get_or wanted i d) held' (s g ids cutoff same due w)
+    (due_complete (commit_in g) ids cutoff (get_or wanted i d) (due i d l)) r
 
 -- a visit leaves the commits as they were, or marks one
-pub some_visit : (objects : Objects) (id : ObjectId) (old new : Walk) → Visits objects id old new → (new.held ≡ old.held) ⊎ (new.held ≡ marked_found (graph_of objects old.held) id)
+pub some_visit : (objects : Objects) (id : ObjectId) (old new : Walk) → Visits objects id old new → (new.held ≡ old.held)
+    ⊎ (new.held ≡ marked_found (graph_of objects old.held) id)
 some_visit objects id old new (Visits.again v h q w) = inl h
 some_visit objects id old new (Visits.first v h q w) = inr h

@@ -11,13 +11,17 @@ use Rattle.gixp_graph.specs.GraphLaws.{faithful_reads}
 use Rattle.gixp_graph.proofs.StepLemmas.{marked_by}
 use Rattle.gixp_graph.proofs.FaithfulLemmas.{complete_same}
 
-module _ (g : GraphData) (new : Commits) (ids : List ObjectId) (cutoff : Option ℤ) (sound : (id : ObjectId) → is_marked new id ≡ true → (is_marked g.held id ≡ true) ⊎ IsComplete (commit_in g) ids cutoff id) (faithful : IsFaithful g) where
+module _ (g : GraphData) (new : Commits) (ids : List ObjectId) (cutoff : Option ℤ) (sound : (id : ObjectId) → is_marked new id ≡ true
+    → (is_marked g.held id ≡ true) ⊎ IsComplete (commit_in g) ids cutoff id) (faithful : IsFaithful g) where
   -- what was marked is complete by the objects
-  pub sound_exact : (id : ObjectId) → is_marked new id ≡ true → (is_marked g.held id ≡ true) ⊎ IsComplete (commit_at g.objects) ids cutoff id
-  sound_exact id m = ⊎_elim (λ a. inl a) (λ a. inr (complete_same (commit_in g) (commit_at g.objects) (faithful_reads g faithful) ids cutoff id a)) (sound id m)
+  pub sound_exact : (id : ObjectId) → is_marked new id ≡ true → (is_marked g.held id ≡ true)
+      ⊎ IsComplete (commit_at g.objects) ids cutoff id
+  sound_exact id m = ⊎_elim (λ a. inl a) (λ a.
+      inr (complete_same (commit_in g) (commit_at g.objects) (faithful_reads g faithful) ids cutoff id a)) (sound id m)
 
   -- and with what was marked before, just that
-  pub complete_exact : OnlyMarks g new → ((id : ObjectId) → IsComplete (commit_in g) ids cutoff id → is_marked new id ≡ true) → (id : ObjectId) → IsTrue (is_marked new id) ↔ (IsTrue (is_marked g.held id) ⊎ IsComplete (commit_at g.objects) ids cutoff id)
+  pub complete_exact : OnlyMarks g new → ((id : ObjectId) → IsComplete (commit_in g) ids cutoff id → is_marked new id ≡ true)
+      → (id : ObjectId) → IsTrue (is_marked new id) ↔ (IsTrue (is_marked g.held id) ⊎ IsComplete (commit_at g.objects) ids cutoff id)
   complete_exact only all id = (
     λ m. sound_exact id m,
     λ k. ⊎_elim
@@ -31,13 +35,18 @@ marked_held None e = cc
 marked_held (Some h) e = refl
 
 -- a commit that is held was held before, or is complete
-pub held_exact : (g : GraphData) (new : Commits) (ids : List ObjectId) (cutoff : Option ℤ) → OnlyMarks g new → ((id : ObjectId) → is_marked new id ≡ true → (is_marked g.held id ≡ true) ⊎ IsComplete (commit_in g) ids cutoff id) → IsFaithful g
+pub held_exact : (g : GraphData) (new : Commits) (ids : List ObjectId) (cutoff : Option ℤ) → OnlyMarks g new
+    → ((id : ObjectId) → is_marked new id ≡ true → (is_marked g.held id ≡ true) ⊎ IsComplete (commit_in g) ids cutoff id) → IsFaithful g
     → (id : ObjectId) → IsSome (finite.get new id) → IsSome (finite.get g.held id) ⊎ IsComplete (commit_at g.objects) ids cutoff id
 held_exact g new ids cutoff only sound faithful id s = ⊎_elim
     (λ e. inl (ap is_some (sym e) ∙ s))
-    (λ n. ⊎_elim (λ m. inl (marked_held (finite.get g.held id) m)) (λ k. inr k) (sound_exact g new ids cutoff sound faithful id (marked_by g new only id n.0 n.2)))
+    (λ n. ⊎_elim (λ m. inl (marked_held (finite.get g.held id) m)) (λ k. inr k)
+    (sound_exact g new ids cutoff sound faithful id (marked_by g new only id n.0 n.2)))
     (only id)
 
 -- and each that is complete is
-pub reads_exact : (g : GraphData) (new : Commits) (ids : List ObjectId) (cutoff : Option ℤ) → IsFaithful g → ((id : ObjectId) → IsComplete (commit_in g) ids cutoff id → is_marked new id ≡ true) → (id : ObjectId) → IsComplete (commit_at g.objects) ids cutoff id → IsSome (finite.get new id)
-reads_exact g new ids cutoff faithful all id c = marked_held (finite.get new id) (all id (complete_same (commit_at g.objects) (commit_in g) (λ q. sym (faithful_reads g faithful q)) ids cutoff id c))
+pub reads_exact : (g : GraphData) (new : Commits) (ids : List ObjectId) (cutoff : Option ℤ) → IsFaithful g
+    → ((id : ObjectId) → IsComplete (commit_in g) ids cutoff id → is_marked new id ≡ true) → (id : ObjectId)
+    → IsComplete (commit_at g.objects) ids cutoff id → IsSome (finite.get new id)
+reads_exact g new ids cutoff faithful all id c = marked_held (finite.get new id)
+    (all id (complete_same (commit_at g.objects) (commit_in g) (λ q. sym (faithful_reads g faithful q)) ids cutoff id c))

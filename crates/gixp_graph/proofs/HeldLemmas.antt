@@ -14,7 +14,8 @@ pub found_held : (g : GraphData) (id : ObjectId) (h : HeldCommit) → finite.get
 found_held g id h is = ap (λ o. option_or o (option_map unmarked (commit_at g.objects id))) is
 
 -- or by the objects
-pub found_new : (g : GraphData) (id : ObjectId) (o : Option Commit) → finite.get g.held id ≡ None → o ≡ commit_at g.objects id → found_in g id ≡ option_map unmarked o
+pub found_new : (g : GraphData) (id : ObjectId) (o : Option Commit) → finite.get g.held id ≡ None → o ≡ commit_at g.objects id
+    → found_in g id ≡ option_map unmarked o
 found_new g id o is c = ap (λ o. option_or o (option_map unmarked (commit_at g.objects id))) is ∙ ap (option_map unmarked) (sym c)
 
 -- a look-up of a commit that is held changes nothing
@@ -22,7 +23,8 @@ pub looked_up_held : (g : GraphData) (id : ObjectId) (h : HeldCommit) → finite
 looked_up_held g id h is = ap (put g.held id) (found_held g id h is) ∙ put_same g.held id h is
 
 -- marks are added to a commit that is held
-pub flagged_held : (m : Commits) (id : ObjectId) (flags : Flags) (h : HeldCommit) → finite.get m id ≡ Some h → flagged m id flags ≡ finite.insert m id (with_flags flags h)
+pub flagged_held : (m : Commits) (id : ObjectId) (flags : Flags) (h : HeldCommit) → finite.get m id ≡ Some h
+    → flagged m id flags ≡ finite.insert m id (with_flags flags h)
 flagged_held m id flags h is = ap (λ o. put m id (option_map (with_flags flags) o)) is
 
 -- and to no other
@@ -30,10 +32,12 @@ pub flagged_none : (m : Commits) (id : ObjectId) (flags : Flags) → finite.get 
 flagged_none m id flags is = ap (λ o. put m id (option_map (with_flags flags) o)) is
 
 -- where a commit is held
-pub known_looked_up : (g : GraphData) (id : ObjectId) (r : ℤ × Flags) → ◌≡◌ {A = Option (ℤ × Flags)} (Some r) (option_map shown (finite.get g.held id)) → looked_up g id ≡ g.held
+pub known_looked_up : (g : GraphData) (id : ObjectId) (r : ℤ × Flags)
+    → ◌≡◌ {A = Option (ℤ × Flags)} (Some r) (option_map shown (finite.get g.held id)) → looked_up g id ≡ g.held
 known_looked_up g id r e = at (finite.get g.held id) refl e
   where
-    at : (o : Option HeldCommit) → finite.get g.held id ≡ o → ◌≡◌ {A = Option (ℤ × Flags)} (Some r) (option_map shown o) → looked_up g id ≡ g.held
+    at : (o : Option HeldCommit) → finite.get g.held id ≡ o → ◌≡◌ {A = Option (ℤ × Flags)} (Some r) (option_map shown o)
+        → looked_up g id ≡ g.held
     at None is e = cc
     at (Some h) is e = looked_up_held g id h is
 
@@ -43,5 +47,6 @@ none_shown None e = refl
 none_shown (Some h) e = cc
 
 -- where none is
-pub unknown : (m : Commits) (id : ObjectId) → ◌≡◌ {A = Option (ℤ × Flags)} None (option_map shown (finite.get m id)) → finite.get m id ≡ None
+pub unknown : (m : Commits) (id : ObjectId) → ◌≡◌ {A = Option (ℤ × Flags)} None (option_map shown (finite.get m id))
+    → finite.get m id ≡ None
 unknown m id e = none_shown (finite.get m id) e

@@ -21,7 +21,8 @@ use Rattle.gixp_graph.proofs.StepLemmas.{visit_keeps, visit_visited, visit_reads
 -- what is in the first of two lists is in both
 any_left : (t : ObjectId → Bool) (xs ys : List ObjectId) → list_any t xs ≡ true → list_any t (xs ++ ys) ≡ true
 any_left t [] ys e = cc
-any_left t (x ∷ xs) ys e = ⊎_elim (λ a. ap (λ b. b || list_any t (xs ++ ys)) a) (λ a. or_true (t x) (list_any t (xs ++ ys)) (any_left t xs ys a)) (or_cases (t x) (list_any t xs) e)
+any_left t (x ∷ xs) ys e = ⊎_elim (λ a. ap (λ b. b || list_any t (xs ++ ys)) a)
+    (λ a. or_true (t x) (list_any t (xs ++ ys)) (any_left t xs ys a)) (or_cases (t x) (list_any t xs) e)
 
 -- so is what is in the second
 any_right : (t : ObjectId → Bool) (xs ys : List ObjectId) → list_any t ys ≡ true → list_any t (xs ++ ys) ≡ true
@@ -34,8 +35,10 @@ is_some_at None e = e
 is_some_at (Some k) e = refl
 
 -- the same, by what is held
-found_id_at : (g : GraphData) (id : ObjectId) (o : Option HeldCommit) → finite.get g.held id ≡ o → IsSome (option_map as_read (option_or o (option_map unmarked (commit_at g.objects id)))) → list_any (eq_by_cmp id_cmp id) (all_ids g) ≡ true
-found_id_at g id (Some h) e s = any_right (eq_by_cmp id_cmp id) (finite.keys g.objects) (finite.keys g.held) (sym (contains_key-keys g.held id) ∙ ap is_some e)
+found_id_at : (g : GraphData) (id : ObjectId) (o : Option HeldCommit) → finite.get g.held id ≡ o → IsSome (option_map as_read
+    (option_or o (option_map unmarked (commit_at g.objects id)))) → list_any (eq_by_cmp id_cmp id) (all_ids g) ≡ true
+found_id_at g id (Some h) e s = any_right (eq_by_cmp id_cmp id) (finite.keys g.objects) (finite.keys g.held)
+    (sym (contains_key-keys g.held id) ∙ ap is_some e)
 found_id_at g id None e s = any_left (eq_by_cmp id_cmp id) (finite.keys g.objects) (finite.keys g.held)
     (sym (contains_key-keys g.objects id) ∙ is_some_at (finite.get g.objects id) (some_read (commit_at g.objects id) s))
   where
@@ -57,23 +60,29 @@ fewer : (a b : Bool) → (a ≡ true → b ≡ true) → not b ≡ true → not 
 fewer true b k e = absurd (let t : b ≡ true = k refl in let f : b ≡ false = not_true b e in cc)
 fewer false b k e = refl
 
-module _ (g : GraphData) (objects : Objects) (same : objects ≡ g.objects) (id : ObjectId) (old new : Walk) (v : Visits objects id old new) where
+module _ (g : GraphData) (objects : Objects) (same : objects ≡ g.objects) (id : ObjectId) (old new : Walk)
+    (v : Visits objects id old new) where
   -- no id more is left
   left_no_more : left g new.visited ≤ left g old.visited
-  left_no_more = count_le (λ q. not (old.visited q)) (λ q. not (new.visited q)) (λ q. fewer (old.visited q) (new.visited q) (visit_keeps objects id old new v q)) (all_ids g)
+  left_no_more = count_le (λ q. not (old.visited q)) (λ q. not (new.visited q))
+      (λ q. fewer (old.visited q) (new.visited q) (visit_keeps objects id old new v q)) (all_ids g)
 
   -- where a commit was found, one less is
-  left_less : old.visited id ≡ false → OnlyMarks g old.held → (k : HeldCommit) → found_in (graph_of objects old.held) id ≡ Some k → left g new.visited + 1 ≤ left g old.visited
-  left_less u only k e = count_lt (λ q. not (old.visited q)) (λ q. not (new.visited q)) (λ q. fewer (old.visited q) (new.visited q) (visit_keeps objects id old new v q)) id (ap not u) (ap not (visit_visited objects id old new v)) (all_ids g)
+  left_less : old.visited id ≡ false → OnlyMarks g old.held → (k : HeldCommit) → found_in (graph_of objects old.held) id ≡ Some k
+      → left g new.visited + 1 ≤ left g old.visited
+  left_less u only k e = count_lt (λ q. not (old.visited q)) (λ q. not (new.visited q)) (λ q. fewer (old.visited q) (new.visited q)
+      (visit_keeps objects id old new v q)) id (ap not u) (ap not (visit_visited objects id old new v)) (all_ids g)
       (found_id g id (ap is_some (visit_reads g objects same id old new only (Some k) e)))
 
   -- by what is found
-  less_at : old.visited id ≡ false → OnlyMarks g old.held → (o : Option HeldCommit) → found_in (graph_of objects old.held) id ≡ o → Queues o id old.waiting new.waiting → left g new.visited + length new.waiting ≤ left g old.visited + length old.waiting
+  less_at : old.visited id ≡ false → OnlyMarks g old.held → (o : Option HeldCommit) → found_in (graph_of objects old.held) id ≡ o
+      → Queues o id old.waiting new.waiting → left g new.visited + length new.waiting ≤ left g old.visited + length old.waiting
   less_at u only None e w =
       let a : length new.waiting ≡ length old.waiting = ap length w in
       omega (arith, left_no_more)
   less_at u only (Some k) e w =
-      let a : length new.waiting ≡ suc (length old.waiting) = length_permutation (record { time = k.time; id = id } ∷ old.waiting) new.waiting w in
+      let a : length new.waiting ≡ suc (length old.waiting) =
+      length_permutation (record { time = k.time; id = id } ∷ old.waiting) new.waiting w in
       omega (arith, left_less u only k e)
 
   -- a visit leaves no more to do

@@ -39,7 +39,8 @@ pub is_complete-completed : (h : HeldCommit) → is_complete (completed h) ≡ t
 is_complete-completed h = ap (λ n. n == 1) (and_or_self 1 h.flags.0)
 
 -- the same, by what is held
-marked_at : (m : Commits) (id : ObjectId) (o : Option HeldCommit) (p : Option Commit) (t : ℤ) (f : Flags) → finite.get m id ≡ o → ◌≡◌ {A = Option (ℤ × Flags)} (Some (t, f)) (option_map shown (option_or o (option_map unmarked p))) → (bit_and f.0 1 == 1) ≡ true
+marked_at : (m : Commits) (id : ObjectId) (o : Option HeldCommit) (p : Option Commit) (t : ℤ) (f : Flags) → finite.get m id ≡ o
+    → ◌≡◌ {A = Option (ℤ × Flags)} (Some (t, f)) (option_map shown (option_or o (option_map unmarked p))) → (bit_and f.0 1 == 1) ≡ true
     → put m id (option_or o (option_map unmarked p)) ≡ put m id (option_map completed (if_unmarked (option_or o (option_map unmarked p))))
 marked_at m id (Some h) p t f at is full =
     let both : ◌≡◌ {A = ℤ × Flags} (t, f) (shown h) = cc in
@@ -54,11 +55,13 @@ marked_at m id None (Some c) t f at is full =
     cc
 
 -- nothing is left to do where the mark is there
-pub marked_before : (g : GraphData) (id : ObjectId) (t : ℤ) (f : Flags) → ◌≡◌ {A = Option (ℤ × Flags)} (Some (t, f)) (option_map shown (found_in g id)) → (bit_and f.0 1 == 1) ≡ true → looked_up g id ≡ marked_found g id
+pub marked_before : (g : GraphData) (id : ObjectId) (t : ℤ) (f : Flags) → ◌≡◌ {A = Option (ℤ × Flags)} (Some (t, f))
+    (option_map shown (found_in g id)) → (bit_and f.0 1 == 1) ≡ true → looked_up g id ≡ marked_found g id
 marked_before g id t f is full = marked_at g.held id (finite.get g.held id) (commit_at g.objects id) t f refl is full
 
 -- the same, by what is found
-marks_at : (m : Commits) (id : ObjectId) (o : Option HeldCommit) (t : ℤ) (f : Flags) → ◌≡◌ {A = Option (ℤ × Flags)} (Some (t, f)) (option_map shown o) → (bit_and f.0 1 == 1) ≡ false
+marks_at : (m : Commits) (id : ObjectId) (o : Option HeldCommit) (t : ℤ) (f : Flags)
+    → ◌≡◌ {A = Option (ℤ × Flags)} (Some (t, f)) (option_map shown o) → (bit_and f.0 1 == 1) ≡ false
     → flagged (put m id o) id (record { 0 = 1 }) ≡ put m id (option_map completed (if_unmarked o))
 marks_at m id None t f is empty = cc
 marks_at m id (Some h) t f is empty =
@@ -69,7 +72,8 @@ marks_at m id (Some h) t f is empty =
     ∙ ap (λ b. put m id (option_map completed (cond b None (Some h)))) (sym none)
 
 -- to mark what was looked up
-pub marked_now : (g : GraphData) (id : ObjectId) (t : ℤ) (f : Flags) → ◌≡◌ {A = Option (ℤ × Flags)} (Some (t, f)) (option_map shown (found_in g id)) → (bit_and f.0 1 == 1) ≡ false → flagged (looked_up g id) id (record { 0 = 1 }) ≡ marked_found g id
+pub marked_now : (g : GraphData) (id : ObjectId) (t : ℤ) (f : Flags) → ◌≡◌ {A = Option (ℤ × Flags)} (Some (t, f)) (option_map shown
+    (found_in g id)) → (bit_and f.0 1 == 1) ≡ false → flagged (looked_up g id) id (record { 0 = 1 }) ≡ marked_found g id
 marked_now g id t f is empty = marks_at g.held id (found_in g id) t f is empty
 
 -- where no time is shown, nothing is found
@@ -78,7 +82,8 @@ none_timed None e = refl
 none_timed (Some h) e = cc
 
 -- the time that is shown is that of what is found
-pub some_timed : (o : Option HeldCommit) (t : ℤ) → ◌≡◌ {A = Option ℤ} (Some t) (option_map (λ (h : HeldCommit). h.time) o) → (h : HeldCommit) × (o ≡ Some h) × (h.time ≡ t)
+pub some_timed : (o : Option HeldCommit) (t : ℤ) → ◌≡◌ {A = Option ℤ} (Some t) (option_map (λ (h : HeldCommit). h.time) o)
+    → (h : HeldCommit) × (o ≡ Some h) × (h.time ≡ t)
 some_timed None t e = cc
 some_timed (Some h) t e = (h, refl, (let s : t ≡ h.time = cc in sym s))
 
@@ -88,5 +93,6 @@ true_or_false true = inl refl
 true_or_false false = inr refl
 
 -- what is put under an id is under no other
-pub get_insert_other : (m : Commits) (id : ObjectId) (h : HeldCommit) (q : ObjectId) → eq_by_cmp id_cmp q id ≡ false → finite.get (finite.insert m id h) q ≡ finite.get m q
+pub get_insert_other : (m : Commits) (id : ObjectId) (h : HeldCommit) (q : ObjectId) → eq_by_cmp id_cmp q id ≡ false
+    → finite.get (finite.insert m id h) q ≡ finite.get m q
 get_insert_other m id h q e = get-insert ids_total m id h q ∙ ap (λ b. cond b (Some h) (finite.get m q)) e

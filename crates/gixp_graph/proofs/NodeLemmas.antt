@@ -25,7 +25,8 @@ shown_node ids parents x = cond x.is_found (Some (held_of ids parents x)) None
 
 module _ (ids : List ObjectId) (parents : List ℕ) where
   -- an id that no node has is held by none
-  find_none : (nodes : List Node) (q : ObjectId) → ((k : ℕ) (d : Node) → k < length nodes → eq_by_cmp id_cmp q (get_or nodes k d).id ≡ false) → find id_cmp q (filter_map (entry_of ids parents) nodes) ≡ None
+  find_none : (nodes : List Node) (q : ObjectId) → ((k : ℕ) (d : Node) → k < length nodes → eq_by_cmp id_cmp q (get_or nodes k d).id
+      ≡ false) → find id_cmp q (filter_map (entry_of ids parents) nodes) ≡ None
   find_none [] q h = refl
   find_none (x ∷ xs) q h = here x.is_found (h 0 x (omega arith)) (find_none xs q (λ k d l. h (suc k) d (omega arith)))
     where
@@ -35,23 +36,30 @@ module _ (ids : List ObjectId) (parents : List ℕ) where
       here false e r = r
 
   -- the node that has an id alone says whether it is held
-  find_node : (nodes : List Node) (q : ObjectId) (n : ℕ) (x : Node) → n < length nodes → ((d : Node) → get_or nodes n d ≡ x) → eq_by_cmp id_cmp q x.id ≡ true
-      → ((k : ℕ) (d : Node) → k < length nodes → eq_by_cmp id_cmp q (get_or nodes k d).id ≡ true → k ≡ n) → find id_cmp q (filter_map (entry_of ids parents) nodes) ≡ shown_node ids parents x
+  find_node : (nodes : List Node) (q : ObjectId) (n : ℕ) (x : Node) → n < length nodes → ((d : Node) → get_or nodes n d ≡ x)
+      → eq_by_cmp id_cmp q x.id ≡ true
+      → ((k : ℕ) (d : Node) → k < length nodes → eq_by_cmp id_cmp q (get_or nodes k d).id ≡ true → k ≡ n)
+      → find id_cmp q (filter_map (entry_of ids parents) nodes) ≡ shown_node ids parents x
   find_node [] q n x l at e one = absurd (omega arith)
-  find_node (y ∷ ys) q zero x l at e one = subst (λ z. find id_cmp q (filter_map (entry_of ids parents) (y ∷ ys)) ≡ shown_node ids parents z) (at y)
+  find_node (y ∷ ys) q zero x l at e one =
+      subst (λ z. find id_cmp q (filter_map (entry_of ids parents) (y ∷ ys)) ≡ shown_node ids parents z) (at y)
       (here y.is_found (subst (λ (z : Node). eq_by_cmp id_cmp q z.id ≡ true) (sym (at y)) e)
-      (find_none ys q (λ k d m. ⊎_elim (λ t. absurd (let z : suc k ≡ 0 = one (suc k) d (omega arith) t in omega arith)) (λ f. f) (true_or_false (eq_by_cmp id_cmp q (get_or ys k d).id)))))
+      (find_none ys q (λ k d m. ⊎_elim (λ t. absurd (let z : suc k ≡ 0 = one (suc k) d (omega arith) t in omega arith)) (λ f. f)
+      (true_or_false (eq_by_cmp id_cmp q (get_or ys k d).id)))))
     where
       here : (b : Bool) → eq_by_cmp id_cmp q y.id ≡ true → find id_cmp q (filter_map (entry_of ids parents) ys) ≡ None
-          → find id_cmp q (cons_option (cond b (Some (y.id, held_of ids parents y)) None) (filter_map (entry_of ids parents) ys)) ≡ cond b (Some (held_of ids parents y)) None
+          → find id_cmp q (cons_option (cond b (Some (y.id, held_of ids parents y)) None) (filter_map (entry_of ids parents) ys))
+          ≡ cond b (Some (held_of ids parents y)) None
       here true t r = ap (λ v. cond v (Some (held_of ids parents y)) (find id_cmp q (filter_map (entry_of ids parents) ys))) t
       here false t r = r
   find_node (y ∷ ys) q (suc n) x l at e one =
-      here y.is_found (⊎_elim (λ t. absurd (let z : 0 ≡ suc n = one 0 y (omega arith) t in omega arith)) (λ f. f) (true_or_false (eq_by_cmp id_cmp q y.id)))
+      here y.is_found (⊎_elim (λ t. absurd (let z : 0 ≡ suc n = one 0 y (omega arith) t in omega arith)) (λ f. f)
+      (true_or_false (eq_by_cmp id_cmp q y.id)))
       (find_node ys q n x (omega arith) at e (λ k d m t. let z : suc k ≡ suc n = one (suc k) d (omega arith) t in omega arith))
     where
       here : (b : Bool) → eq_by_cmp id_cmp q y.id ≡ false → find id_cmp q (filter_map (entry_of ids parents) ys) ≡ shown_node ids parents x
-          → find id_cmp q (cons_option (cond b (Some (y.id, held_of ids parents y)) None) (filter_map (entry_of ids parents) ys)) ≡ shown_node ids parents x
+          → find id_cmp q (cons_option (cond b (Some (y.id, held_of ids parents y)) None) (filter_map (entry_of ids parents) ys))
+          ≡ shown_node ids parents x
       here true f r = ap (λ v. cond v (Some (held_of ids parents y)) (find id_cmp q (filter_map (entry_of ids parents) ys))) f ∙ r
       here false f r = r
 
@@ -76,7 +84,8 @@ node_same (x ∷ xs) (suc n) d e l = node_same xs n d e (omega arith)
 abbrev pub held_by : List ObjectId → List ℕ → List Node → Commits
 held_by ids parents nodes = finite.from_entries (filter_map (entry_of ids parents) nodes)
 
-module _ (ids : List ObjectId) (parents : List ℕ) (nodes : List Node) (numbers : List (ObjectId × ℕ)) (w : IsNumbered (ids_of nodes) numbers) where
+module _ (ids : List ObjectId) (parents : List ℕ) (nodes : List Node) (numbers : List (ObjectId × ℕ))
+    (w : IsNumbered (ids_of nodes) numbers) where
   -- an id with no number isn't held
   pub get_unnumbered : (q : ObjectId) → number_at numbers q ≡ None → finite.get (held_by ids parents nodes) q ≡ None
   get_unnumbered q none = get-from_entries ids_total _ q ∙ find_none ids parents nodes q (λ k d l. ⊎_elim
@@ -87,7 +96,8 @@ module _ (ids : List ObjectId) (parents : List ℕ) (nodes : List Node) (numbers
       (λ f. f) (true_or_false (eq_by_cmp id_cmp q (get_or nodes k d).id)))
 
   -- one with a number is held as its node says
-  pub get_numbered : (q : ObjectId) (n : ℕ) → number_at numbers q ≡ Some n → (x : Node) → x ≡ get_or nodes n x → finite.get (held_by ids parents nodes) q ≡ shown_node ids parents x
+  pub get_numbered : (q : ObjectId) (n : ℕ) → number_at numbers q ≡ Some n → (x : Node) → x ≡ get_or nodes n x
+      → finite.get (held_by ids parents nodes) q ≡ shown_node ids parents x
   get_numbered q n some x at =
       let here : (n < length (ids_of nodes)) × (id_at (ids_of nodes) n ≡ q) = w.named q n some in
       let l : n < length nodes = omega (arith, here.0, length_ids nodes) in
@@ -101,19 +111,24 @@ module _ (ids : List ObjectId) (parents : List ℕ) (nodes : List Node) (numbers
 
 module _ (nodes : List Node) (parents : List ℕ) (numbers : List (ObjectId × ℕ)) (w : IsNumbered (ids_of nodes) numbers) where
   -- the commit of a number is held as its node says
-  pub held_at : (n : ℕ) → n < length (ids_of nodes) → (x : Node) → x ≡ get_or nodes n x → finite.get (held_in nodes parents) (id_at (ids_of nodes) n) ≡ shown_node (ids_of nodes) parents x
+  pub held_at : (n : ℕ) → n < length (ids_of nodes) → (x : Node) → x ≡ get_or nodes n x
+      → finite.get (held_in nodes parents) (id_at (ids_of nodes) n) ≡ shown_node (ids_of nodes) parents x
   held_at n l x at = get_numbered (ids_of nodes) parents nodes numbers w (id_at (ids_of nodes) n) n (w.numbered n l) x at
 
   -- its parents are those of its node
-  pub parents_at_node : (n : ℕ) → n < length (ids_of nodes) → (x : Node) → x ≡ get_or nodes n x → ids_at (ids_of nodes) (parent_numbers_of parents x) ≡ parents_in (held_in nodes parents) (id_at (ids_of nodes) n)
-  parents_at_node n l x at = here x.is_found ∙ ap (λ o. unwrap_or (option_map (λ (h : HeldCommit). h.parents) o) []) (sym (held_at n l x at))
+  pub parents_at_node : (n : ℕ) → n < length (ids_of nodes) → (x : Node) → x ≡ get_or nodes n x
+      → ids_at (ids_of nodes) (parent_numbers_of parents x) ≡ parents_in (held_in nodes parents) (id_at (ids_of nodes) n)
+  parents_at_node n l x at = here x.is_found
+      ∙ ap (λ o. unwrap_or (option_map (λ (h : HeldCommit). h.parents) o) []) (sym (held_at n l x at))
     where
-      here : (b : Bool) → ids_at (ids_of nodes) (cond b (range_of parents x) []) ≡ unwrap_or (option_map (λ (h : HeldCommit). h.parents) (cond b (Some (held_of (ids_of nodes) parents x)) None)) []
+      here : (b : Bool) → ids_at (ids_of nodes) (cond b (range_of parents x) [])
+          ≡ unwrap_or (option_map (λ (h : HeldCommit). h.parents) (cond b (Some (held_of (ids_of nodes) parents x)) None)) []
       here true = refl
       here false = refl
 
   -- an id that is looked for and has a number
-  pub some_number : (o : Option ℕ) (q : ObjectId) → o ≡ number_at numbers q → IfSome o (λ n. (n < length (ids_of nodes)) × (id_at (ids_of nodes) n ≡ q))
+  pub some_number : (o : Option ℕ) (q : ObjectId) → o ≡ number_at numbers q
+      → IfSome o (λ n. (n < length (ids_of nodes)) × (id_at (ids_of nodes) n ≡ q))
   some_number None q e = tt
   some_number (Some n) q e = w.named q n (sym e)
 
@@ -132,7 +147,8 @@ named_node ids parents x h = here x.is_found
 
 -- two numbers are equal or aren't
 nat_cases : (k n : ℕ) → (k ≡ n) ⊎ (k ≡ n → ⊥)
-nat_cases k n = ⊎_elim (λ a. inr (λ e. omega arith)) (λ a. ⊎_elim (λ b. inr (λ e. omega arith)) (λ b. inl (omega arith)) (cases_lt n k)) (cases_lt k n)
+nat_cases k n = ⊎_elim (λ a. inr (λ e. omega arith)) (λ a. ⊎_elim (λ b. inr (λ e. omega arith)) (λ b. inl (omega arith)) (cases_lt n k))
+    (cases_lt k n)
 
 -- a node that is written is there
 set_here : (nodes : List Node) (n : ℕ) (x d : Node) → n < length nodes → get_or (set nodes n x) n d ≡ x
@@ -149,12 +165,14 @@ set_other (y ∷ ys) (suc n) zero x d a = refl
 set_other (y ∷ ys) (suc n) (suc k) x d a = set_other ys n k x d (λ e. a (ap suc e))
 
 -- a node that is written keeps its id
-pub ids_set : (nodes : List Node) (n : ℕ) (x : Node) → n < length nodes → x.id ≡ id_at (ids_of nodes) n → ids_of (set nodes n x) ≡ ids_of nodes
+pub ids_set : (nodes : List Node) (n : ℕ) (x : Node) → n < length nodes → x.id ≡ id_at (ids_of nodes) n
+    → ids_of (set nodes n x) ≡ ids_of nodes
 ids_set [] n x l e = absurd (omega arith)
 ids_set (y ∷ ys) zero x l e = ap (λ i. i ∷ ids_of ys) e
 ids_set (y ∷ ys) (suc n) x l e = ap (λ is. y.id ∷ is) (ids_set ys n x (omega arith) e)
 
-module _ (nodes : List Node) (parents : List ℕ) (numbers : List (ObjectId × ℕ)) (w : IsNumbered (ids_of nodes) numbers) (q : ObjectId) (n : ℕ) (some : number_at numbers q ≡ Some n) (x : Node) (own : x.id ≡ q) where
+module _ (nodes : List Node) (parents : List ℕ) (numbers : List (ObjectId × ℕ)) (w : IsNumbered (ids_of nodes) numbers) (q : ObjectId)
+    (n : ℕ) (some : number_at numbers q ≡ Some n) (x : Node) (own : x.id ≡ q) where
   -- the number names a node
   place : n < length nodes
   place = (let h : n < length (ids_of nodes) = (w.named q n some).0 in omega (arith, length_ids nodes))
@@ -176,36 +194,48 @@ module _ (nodes : List Node) (parents : List ℕ) (numbers : List (ObjectId × �
   }
 
   -- to write the node of an id is to put what it says
-  pub held_set : x.is_found ≡ true → held_in (set nodes n x) parents ≡ finite.insert (held_in nodes parents) q (held_of (ids_of nodes) parents x)
-  held_set found = ap (λ is. held_by is parents (set nodes n x)) ids_kept ∙ same_map ids_total ids_exact _ _ (λ p. at p (number_at numbers p) refl)
+  pub held_set : x.is_found ≡ true → held_in (set nodes n x) parents ≡ finite.insert (held_in nodes parents) q
+      (held_of (ids_of nodes) parents x)
+  held_set found = ap (λ is. held_by is parents (set nodes n x)) ids_kept
+      ∙ same_map ids_total ids_exact _ _ (λ p. at p (number_at numbers p) refl)
     where
-      apart : (p : ObjectId) → (number_at numbers p ≡ Some n → ⊥) → finite.get (finite.insert (held_in nodes parents) q (held_of (ids_of nodes) parents x)) p ≡ finite.get (held_in nodes parents) p
-      apart p never = get_insert_other (held_in nodes parents) q _ p (⊎_elim (λ t. absurd (never (ap (number_at numbers) (same_from p q t) ∙ some))) (λ f. f) (true_or_false (eq_by_cmp id_cmp p q)))
+      apart : (p : ObjectId) → (number_at numbers p ≡ Some n → ⊥) → finite.get
+          (finite.insert (held_in nodes parents) q (held_of (ids_of nodes) parents x)) p ≡ finite.get (held_in nodes parents) p
+      apart p never = get_insert_other (held_in nodes parents) q _ p (⊎_elim
+          (λ t. absurd (never (ap (number_at numbers) (same_from p q t) ∙ some))) (λ f. f) (true_or_false (eq_by_cmp id_cmp p q)))
 
-      at : (p : ObjectId) (o : Option ℕ) → number_at numbers p ≡ o → finite.get (held_by (ids_of nodes) parents (set nodes n x)) p ≡ finite.get (finite.insert (held_in nodes parents) q (held_of (ids_of nodes) parents x)) p
+      at : (p : ObjectId) (o : Option ℕ) → number_at numbers p ≡ o → finite.get (held_by (ids_of nodes) parents (set nodes n x)) p
+          ≡ finite.get (finite.insert (held_in nodes parents) q (held_of (ids_of nodes) parents x)) p
       at p None e = get_unnumbered (ids_of nodes) parents (set nodes n x) numbers numbered_set p e
-          ∙ sym (apart p (λ s. (let c : ◌≡◌ {A = Option ℕ} None (Some n) = sym e ∙ s in cc)) ∙ get_unnumbered (ids_of nodes) parents nodes numbers w p e)
+          ∙ sym (apart p (λ s. (let c : ◌≡◌ {A = Option ℕ} None (Some n) = sym e ∙ s in cc))
+          ∙ get_unnumbered (ids_of nodes) parents nodes numbers w p e)
       at p (Some k) e = ⊎_elim
           (λ s.
           let here : number_at numbers p ≡ Some n = e ∙ ap Some s in
           let one : p ≡ q = sym (w.named p n here).1 ∙ (w.named q n some).1 in
-          get_numbered (ids_of nodes) parents (set nodes n x) numbers numbered_set p n here x (sym (set_here nodes n x x place)) ∙ ap (λ b. cond b (Some (held_of (ids_of nodes) parents x)) None) found
-          ∙ sym (ap (finite.get (finite.insert (held_in nodes parents) q (held_of (ids_of nodes) parents x))) one ∙ get_insert_same (held_in nodes parents) q _))
+          get_numbered (ids_of nodes) parents (set nodes n x) numbers numbered_set p n here x (sym (set_here nodes n x x place))
+          ∙ ap (λ b. cond b (Some (held_of (ids_of nodes) parents x)) None) found
+          ∙ sym (ap (finite.get (finite.insert (held_in nodes parents) q (held_of (ids_of nodes) parents x))) one
+          ∙ get_insert_same (held_in nodes parents) q _))
           (λ s.
           let y : Node = get_or nodes k x in
           let l : k < length nodes = (let h : k < length (ids_of nodes) = (w.named p k e).0 in omega (arith, length_ids nodes)) in
-          get_numbered (ids_of nodes) parents (set nodes n x) numbers numbered_set p k e y (sym (set_other nodes n k x y s ∙ node_same nodes k y x l))
-          ∙ sym (apart p (λ t. s (let z : Some k ≡ Some n = sym e ∙ t in cc)) ∙ get_numbered (ids_of nodes) parents nodes numbers w p k e y (node_same nodes k x y l)))
+          get_numbered (ids_of nodes) parents (set nodes n x) numbers numbered_set p k e y
+          (sym (set_other nodes n k x y s ∙ node_same nodes k y x l))
+          ∙ sym (apart p (λ t. s (let z : Some k ≡ Some n = sym e ∙ t in cc))
+          ∙ get_numbered (ids_of nodes) parents nodes numbers w p k e y (node_same nodes k x y l)))
           (nat_cases k n)
 
 -- a node with other marks
 abbrev pub with_marks : Node → Flags → Node
 with_marks y f = record { id = y.id; time = y.time; flags = f; is_found = y.is_found; first = y.first; end = y.end }
 
-module _ (nodes : List Node) (parents : List ℕ) (numbers : List (ObjectId × ℕ)) (w : IsNumbered (ids_of nodes) numbers) (q : ObjectId) (n : ℕ) (some : number_at numbers q ≡ Some n) (y : Node) (at : y ≡ get_or nodes n y) where
+module _ (nodes : List Node) (parents : List ℕ) (numbers : List (ObjectId × ℕ)) (w : IsNumbered (ids_of nodes) numbers) (q : ObjectId)
+    (n : ℕ) (some : number_at numbers q ≡ Some n) (y : Node) (at : y ≡ get_or nodes n y) where
   -- the node has the id
   own_id : y.id ≡ q
-  own_id = (let h = w.named q n some in let l : n < length nodes = omega (arith, h.0, length_ids nodes) in ap (λ (z : Node). z.id) at ∙ sym (id_of_node nodes n y l) ∙ h.1)
+  own_id = (let h = w.named q n some in let l : n < length nodes = omega (arith, h.0, length_ids nodes) in ap (λ (z : Node). z.id) at
+      ∙ sym (id_of_node nodes n y l) ∙ h.1)
 
   -- the table stays one
   pub table_marks : IsTable nodes numbers parents → (f : Flags) → IsTable (set nodes n (with_marks y f)) numbers parents
@@ -218,11 +248,14 @@ module _ (nodes : List Node) (parents : List ℕ) (numbers : List (ObjectId × �
   ids_marks f = ids_kept nodes parents numbers w q n some (with_marks y f) own_id
 
   -- to write a node with more marks is to add them to its commit
-  pub held_marks : y.is_found ≡ true → (flags f : Flags) → f.0 ≡ bit_or y.flags.0 flags.0 → held_in (set nodes n (with_marks y f)) parents ≡ flagged (held_in nodes parents) q flags
+  pub held_marks : y.is_found ≡ true → (flags f : Flags) → f.0 ≡ bit_or y.flags.0 flags.0
+      → held_in (set nodes n (with_marks y f)) parents ≡ flagged (held_in nodes parents) q flags
   held_marks found flags f e =
       held_set nodes parents numbers w q n some (with_marks y f) own_id found
-      ∙ ap (λ (b : ℕ). finite.insert (held_in nodes parents) q (record { time = y.time; parents = parents_of (ids_of nodes) parents y; flags = record { 0 = b } })) e
-      ∙ sym (flagged_held (held_in nodes parents) q flags (held_of (ids_of nodes) parents y) (get_numbered (ids_of nodes) parents nodes numbers w q n some y at ∙ ap (λ b. cond b (Some (held_of (ids_of nodes) parents y)) None) found))
+      ∙ ap (λ (b : ℕ). finite.insert (held_in nodes parents) q
+      (record { time = y.time; parents = parents_of (ids_of nodes) parents y; flags = record { 0 = b } })) e
+      ∙ sym (flagged_held (held_in nodes parents) q flags (held_of (ids_of nodes) parents y) (get_numbered
+      (ids_of nodes) parents nodes numbers w q n some y at ∙ ap (λ b. cond b (Some (held_of (ids_of nodes) parents y)) None) found))
 
 -- no id has two numbers
 pub one_to_one : (ids : List ObjectId) (numbers : List (ObjectId × ℕ)) → IsNumbered ids numbers → IsOneToOne ids

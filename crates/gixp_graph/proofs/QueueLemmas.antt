@@ -21,7 +21,8 @@ use Rattle.gixp_graph.specs.Queue.{Entry, entry_at, entries_in, IsFilled, AllFil
 -- the first two parts of three change places
 turn : (a b c : List Entry) → IsPermutation (a ++ (b ++ c)) (b ++ (a ++ c))
 turn a b c = subst (λ l. IsPermutation l (b ++ (a ++ c))) (append_assoc a b c)
-    (subst (λ l. IsPermutation ((a ++ b) ++ c) l) (append_assoc b a c) (IsPermutation-append_left c (a ++ b) (b ++ a) (IsPermutation-append_comm a b)))
+    (subst (λ l. IsPermutation ((a ++ b) ++ c) l) (append_assoc b a c)
+    (IsPermutation-append_left c (a ++ b) (b ++ a) (IsPermutation-append_comm a b)))
 
 -- times that tie
 tied : (o : Ordering) → is_eq o ≡ true → o ≡ Equal
@@ -35,13 +36,18 @@ pub entries_remove : (es : List (ℤ × Vec ℕ Global)) (t : ℤ) (list : Vec �
 entries_remove [] t list e = cc
 entries_remove (x ∷ xs) t list e = at (λ h. entries_remove xs t list h) (is_eq (int_cmp t x.0)) refl e
   where
-    at : (lookup (is_at (int_cmp t)) xs ≡ Some list → IsPermutation (entries_in xs) (map (entry_at t) list.items ++ entries_in (remove_entry (is_at (int_cmp t)) xs))) → (b : Bool) → is_eq (int_cmp t x.0) ≡ b → cond b (Some x.1) (lookup (is_at (int_cmp t)) xs) ≡ Some list
-        → IsPermutation (map (entry_at x.0) x.1.items ++ entries_in xs) (map (entry_at t) list.items ++ entries_in (cond b xs (x ∷ remove_entry (is_at (int_cmp t)) xs)))
+    at : (lookup (is_at (int_cmp t)) xs ≡ Some list
+        → IsPermutation (entries_in xs) (map (entry_at t) list.items ++ entries_in (remove_entry (is_at (int_cmp t)) xs))) → (b : Bool)
+        → is_eq (int_cmp t x.0) ≡ b → cond b (Some x.1) (lookup (is_at (int_cmp t)) xs) ≡ Some list
+        → IsPermutation (map (entry_at x.0) x.1.items ++ entries_in xs)
+        (map (entry_at t) list.items ++ entries_in (cond b xs (x ∷ remove_entry (is_at (int_cmp t)) xs)))
     at rest true s e =
         let time : t ≡ x.0 = exact_signed t x.0 (tied (int_cmp t x.0) s) in
         let same : x.1 ≡ list = cc in
-        subst (λ (v : Vec ℕ Global). IsPermutation (map (entry_at x.0) x.1.items ++ entries_in xs) (map (entry_at t) v.items ++ entries_in xs)) same
-        (subst (λ z. IsPermutation (map (entry_at x.0) x.1.items ++ entries_in xs) (map (entry_at z) x.1.items ++ entries_in xs)) (sym time) (IsPermutation-refl (map (entry_at x.0) x.1.items ++ entries_in xs)))
+        subst (λ (v : Vec ℕ Global). IsPermutation (map (entry_at x.0) x.1.items ++ entries_in xs)
+        (map (entry_at t) v.items ++ entries_in xs)) same
+        (subst (λ z. IsPermutation (map (entry_at x.0) x.1.items ++ entries_in xs) (map (entry_at z) x.1.items ++ entries_in xs))
+        (sym time) (IsPermutation-refl (map (entry_at x.0) x.1.items ++ entries_in xs)))
     at rest false s e = IsPermutation-trans _ _ _ (IsPermutation-append_right (map (entry_at x.0) x.1.items) _ _ (rest e))
         (turn (map (entry_at x.0) x.1.items) (map (entry_at t) list.items) (entries_in (remove_entry (is_at (int_cmp t)) xs)))
 
@@ -51,8 +57,10 @@ pub entries_insert : (es : List (ℤ × Vec ℕ Global)) (t : ℤ) (list : Vec �
 entries_insert [] t list e = IsPermutation-refl (map (entry_at t) list.items ++ [])
 entries_insert (x ∷ xs) t list e = at (λ h. entries_insert xs t list h) (int_cmp t x.0) e
   where
-    at : (lookup (is_at (int_cmp t)) xs ≡ None → IsPermutation (map (entry_at t) list.items ++ entries_in xs) (entries_in (insert_entry int_cmp xs t list))) → (o : Ordering) → cond (is_eq o) (Some x.1) (lookup (is_at (int_cmp t)) xs) ≡ None
-        → IsPermutation (map (entry_at t) list.items ++ (map (entry_at x.0) x.1.items ++ entries_in xs)) (entries_in (match_ordering o ((t, list) ∷ x ∷ xs) ((x.0, list) ∷ xs) (x ∷ insert_entry int_cmp xs t list)))
+    at : (lookup (is_at (int_cmp t)) xs ≡ None → IsPermutation (map (entry_at t) list.items ++ entries_in xs) (entries_in
+        (insert_entry int_cmp xs t list))) → (o : Ordering) → cond (is_eq o) (Some x.1) (lookup (is_at (int_cmp t)) xs) ≡ None
+        → IsPermutation (map (entry_at t) list.items ++ (map (entry_at x.0) x.1.items ++ entries_in xs))
+        (entries_in (match_ordering o ((t, list) ∷ x ∷ xs) ((x.0, list) ∷ xs) (x ∷ insert_entry int_cmp xs t list)))
     at rest Less e = IsPermutation-refl (map (entry_at t) list.items ++ (map (entry_at x.0) x.1.items ++ entries_in xs))
     at rest Equal e = absurd (let c : ◌≡◌ {A = Option (Vec ℕ Global)} (Some x.1) None = e in cc)
     at rest Greater e = IsPermutation-trans _ _ _ (turn (map (entry_at t) list.items) (map (entry_at x.0) x.1.items) (entries_in xs))
@@ -65,10 +73,12 @@ less_le a b Equal h e = cc
 less_le a b Greater h e = cc
 
 -- no entry is newer than the keys are
-pub newest_all : (es : List (ℤ × Vec ℕ Global)) (t : ℤ) → ByRecursion (λ k. int_cmp k t ≡ Less) (map (λ (e : ℤ × Vec ℕ Global). e.0) es) → All (λ (w : Entry). w.time ≤ℤ t) (entries_in es)
+pub newest_all : (es : List (ℤ × Vec ℕ Global)) (t : ℤ) → ByRecursion (λ k. int_cmp k t ≡ Less) (map (λ (e : ℤ × Vec ℕ Global). e.0) es)
+    → All (λ (w : Entry). w.time ≤ℤ t) (entries_in es)
 newest_all [] t h = All-nil (λ (w : Entry). w.time ≤ℤ t)
 newest_all (x ∷ xs) t h = All-append (λ (w : Entry). w.time ≤ℤ t) (map (entry_at x.0) x.1.items) (entries_in xs)
-    (All-map (λ (w : Entry). w.time ≤ℤ t) (entry_at x.0) x.1.items (λ k d l. less_le x.0 t (int_cmp x.0 t) (int_ranked x.0 t (int_cmp x.0 t) refl) h.0))
+    (All-map (λ (w : Entry). w.time ≤ℤ t) (entry_at x.0) x.1.items
+    (λ k d l. less_le x.0 t (int_cmp x.0 t) (int_ranked x.0 t (int_cmp x.0 t) refl) h.0))
     (newest_all xs t h.1)
 
 -- a map of one element more
@@ -77,11 +87,14 @@ map_push f [] y = refl
 map_push f (x ∷ xs) y = ap (λ l. f x ∷ l) (map_push f xs y)
 
 -- one number goes in
-pub entries_push : (es rest : List (ℤ × Vec ℕ Global)) (t : ℤ) (n : ℕ) (old : List ℕ) (list : Vec ℕ Global) → IsPermutation (entries_in es) (map (entry_at t) old ++ entries_in rest) → list.items ≡ old ++ n ∷ [] → lookup (is_at (int_cmp t)) rest ≡ None
+pub entries_push : (es rest : List (ℤ × Vec ℕ Global)) (t : ℤ) (n : ℕ) (old : List ℕ) (list : Vec ℕ Global) → IsPermutation
+    (entries_in es) (map (entry_at t) old ++ entries_in rest) → list.items ≡ old ++ n ∷ [] → lookup (is_at (int_cmp t)) rest ≡ None
     → IsPermutation (entry_at t n ∷ entries_in es) (entries_in (insert_entry int_cmp rest t list))
 entries_push es rest t n old list perm items none = IsPermutation-trans _ _ _ (IsPermutation-cons (entry_at t n) _ _ perm)
     (IsPermutation-trans _ _ _ (IsPermutation-sym _ _ (IsPermutation-middle (map (entry_at t) old) (entry_at t n) (entries_in rest)))
-    (subst (λ l. IsPermutation l (entries_in (insert_entry int_cmp rest t list))) (ap (λ l. l ++ entries_in rest) (ap (map (entry_at t)) items ∙ map_push (entry_at t) old n) ∙ append_assoc (map (entry_at t) old) (entry_at t n ∷ []) (entries_in rest)) (entries_insert rest t list none)))
+    (subst (λ l. IsPermutation l (entries_in (insert_entry int_cmp rest t list)))
+    (ap (λ l. l ++ entries_in rest) (ap (map (entry_at t)) items ∙ map_push (entry_at t) old n)
+    ∙ append_assoc (map (entry_at t) old) (entry_at t n ∷ []) (entries_in rest)) (entries_insert rest t list none)))
 
 -- ---- each time has a number
 
@@ -95,11 +108,13 @@ filled_remove test (x ∷ xs) h = at (test x.0) (filled_remove test xs h.1)
     at false r = (h.0, r)
 
 -- or put in
-pub filled_insert : (es : List (ℤ × Vec ℕ Global)) (t : ℤ) (list : Vec ℕ Global) → AllFilled es → 0 < length list.items → AllFilled (insert_entry int_cmp es t list)
+pub filled_insert : (es : List (ℤ × Vec ℕ Global)) (t : ℤ) (list : Vec ℕ Global) → AllFilled es → 0 < length list.items
+    → AllFilled (insert_entry int_cmp es t list)
 filled_insert [] t list h l = (l, tt)
 filled_insert (x ∷ xs) t list h l = at (int_cmp t x.0) (filled_insert xs t list h.1 l)
   where
-    at : (o : Ordering) → AllFilled (insert_entry int_cmp xs t list) → AllFilled (match_ordering o ((t, list) ∷ x ∷ xs) ((x.0, list) ∷ xs) (x ∷ insert_entry int_cmp xs t list))
+    at : (o : Ordering) → AllFilled (insert_entry int_cmp xs t list)
+        → AllFilled (match_ordering o ((t, list) ∷ x ∷ xs) ((x.0, list) ∷ xs) (x ∷ insert_entry int_cmp xs t list))
     at Less r = (l, h)
     at Equal r = (l, h.1)
     at Greater r = (h.0, r)

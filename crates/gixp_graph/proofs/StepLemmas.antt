@@ -20,7 +20,8 @@ use Rattle.gixp_graph.proofs.VisitedLemmas.{or_true}
 use Rattle.gixp_graph.proofs.MarkLemmas.{same_id, get_insert_same, get_insert_other, true_or_false, is_complete-completed}
 
 -- an id that is looked for is complete, where its commit is found
-pub due_complete : (read : ObjectId → Option Commit) (ids : List ObjectId) (cutoff : Option ℤ) (id : ObjectId) → IsDue read ids cutoff id → IsSome (read id) → IsComplete read ids cutoff id
+pub due_complete : (read : ObjectId → Option Commit) (ids : List ObjectId) (cutoff : Option ℤ) (id : ObjectId)
+    → IsDue read ids cutoff id → IsSome (read id) → IsComplete read ids cutoff id
 due_complete read ids cutoff id (IsDue.tip c) f = IsComplete.tip c f
 due_complete read ids cutoff id (IsDue.parent k r l t i) f = IsComplete.parent k r l t i f
 
@@ -31,16 +32,19 @@ new_at : (o : Option HeldCommit) (h : HeldCommit) → if_unmarked o ≡ Some h �
 new_at None h e = cc
 new_at (Some k) h e = at (is_complete k) refl e
   where
-    at : (b : Bool) → is_complete k ≡ b → cond b None (Some k) ≡ Some h → (◌≡◌ {A = Option HeldCommit} (Some k) (Some h)) × (is_complete h ≡ false)
+    at : (b : Bool) → is_complete k ≡ b → cond b None (Some k) ≡ Some h → (◌≡◌ {A = Option HeldCommit} (Some k) (Some h))
+        × (is_complete h ≡ false)
     at true p e = cc
     at false p e = (e, ap is_complete (sym (let s : k ≡ h = cc in s)) ∙ p)
 
 -- a commit that is new is found, and isn't marked
-pub found_from_new : (g : GraphData) (id : ObjectId) (h : HeldCommit) → new_in g id ≡ Some h → (found_in g id ≡ Some h) × (is_complete h ≡ false)
+pub found_from_new : (g : GraphData) (id : ObjectId) (h : HeldCommit) → new_in g id ≡ Some h → (found_in g id ≡ Some h)
+    × (is_complete h ≡ false)
 found_from_new g id h e = new_at (found_in g id) h e
 
 -- what has no mark where it is found has none where it is held
-unmarked_at : (o : Option HeldCommit) (p : Option HeldCommit) (h : HeldCommit) → option_or o p ≡ Some h → is_complete h ≡ false → option_map_or is_complete o false ≡ false
+unmarked_at : (o : Option HeldCommit) (p : Option HeldCommit) (h : HeldCommit) → option_or o p ≡ Some h → is_complete h ≡ false
+    → option_map_or is_complete o false ≡ false
 unmarked_at None p h e u = refl
 unmarked_at (Some k) p h e u = ap is_complete (let s : k ≡ h = cc in s) ∙ u
 
@@ -56,7 +60,8 @@ full_at true h e = refl
 full_at false h e = cc
 
 -- a commit that is found and isn't new is marked
-old_at : (o : Option HeldCommit) (p : Option Commit) → if_unmarked (option_or o (option_map unmarked p)) ≡ None → IsSome (option_map as_read (option_or o (option_map unmarked p))) → option_map_or is_complete o false ≡ true
+old_at : (o : Option HeldCommit) (p : Option Commit) → if_unmarked (option_or o (option_map unmarked p)) ≡ None
+    → IsSome (option_map as_read (option_or o (option_map unmarked p))) → option_map_or is_complete o false ≡ true
 old_at (Some h) p e s = full_at (is_complete h) h e
 old_at None None e s = cc
 old_at None (Some c) e s = absurd (let n : ◌≡◌ {A = Option HeldCommit} (Some (unmarked c)) None = e in cc)
@@ -79,7 +84,8 @@ module _ (g : GraphData) (held : Commits) (only : OnlyMarks g held) where
   -- each commit reads as before
   pub reads : (q : ObjectId) → commit_in (graph_of g.objects held) q ≡ commit_in g q
   reads q = ⊎_elim (λ e. ap (option_map as_read) (reads_same q e))
-      (λ n. ap (λ o. option_map as_read (option_or o (option_map unmarked (commit_at g.objects q)))) n.2 ∙ sym (ap (option_map as_read) (found_from_new g q n.0 n.1).0)) (only q)
+      (λ n. ap (λ o. option_map as_read (option_or o (option_map unmarked (commit_at g.objects q)))) n.2
+      ∙ sym (ap (option_map as_read) (found_from_new g q n.0 n.1).0)) (only q)
 
   -- a commit that is new among those held was new before
   pub new_before : (id : ObjectId) (h : HeldCommit) → new_in (graph_of g.objects held) id ≡ Some h → new_in g id ≡ Some h
@@ -96,27 +102,33 @@ pub marked_here : (held : Commits) (id : ObjectId) (h : HeldCommit) → is_marke
 marked_here held id h = ap (λ o. option_map_or is_complete o false) (get_insert_same held id (completed h)) ∙ is_complete-completed h
 
 -- other commits keep their marks
-pub marked_apart : (held : Commits) (id : ObjectId) (h : HeldCommit) (q : ObjectId) → eq_by_cmp id_cmp q id ≡ false → is_marked (finite.insert held id (completed h)) q ≡ is_marked held q
+pub marked_apart : (held : Commits) (id : ObjectId) (h : HeldCommit) (q : ObjectId) → eq_by_cmp id_cmp q id ≡ false
+    → is_marked (finite.insert held id (completed h)) q ≡ is_marked held q
 marked_apart held id h q e = ap (λ o. option_map_or is_complete o false) (get_insert_other held id (completed h) q e)
 
 -- no mark is lost
-pub marked_still : (held : Commits) (id : ObjectId) (h : HeldCommit) (q : ObjectId) → is_marked held q ≡ true → is_marked (finite.insert held id (completed h)) q ≡ true
+pub marked_still : (held : Commits) (id : ObjectId) (h : HeldCommit) (q : ObjectId) → is_marked held q ≡ true
+    → is_marked (finite.insert held id (completed h)) q ≡ true
 marked_still held id h q m = ⊎_elim
     (λ e. subst (λ x. is_marked (finite.insert held id (completed h)) x ≡ true) (sym (same_from q id e)) (marked_here held id h))
     (λ e. marked_apart held id h q e ∙ m) (true_or_false (eq_by_cmp id_cmp q id))
 
 -- a new commit that is written with the mark is just a mark more
-pub only_marks_insert : (g : GraphData) (held : Commits) → OnlyMarks g held → (id : ObjectId) (h : HeldCommit) → new_in (graph_of g.objects held) id ≡ Some h → OnlyMarks g (finite.insert held id (completed h))
+pub only_marks_insert : (g : GraphData) (held : Commits) → OnlyMarks g held → (id : ObjectId) (h : HeldCommit)
+    → new_in (graph_of g.objects held) id ≡ Some h → OnlyMarks g (finite.insert held id (completed h))
 only_marks_insert g held only id h new q = ⊎_elim
-    (λ e. subst (λ x. (finite.get (finite.insert held id (completed h)) x ≡ finite.get g.held x) ⊎ ((k : HeldCommit) × (new_in g x ≡ Some k) × (finite.get (finite.insert held id (completed h)) x ≡ Some (completed k)))) (sym (same_from q id e))
+    (λ e. subst (λ x. (finite.get (finite.insert held id (completed h)) x ≡ finite.get g.held x) ⊎ ((k : HeldCommit)
+    × (new_in g x ≡ Some k) × (finite.get (finite.insert held id (completed h)) x ≡ Some (completed k)))) (sym (same_from q id e))
     (inr (h, new_before g held only id h new, get_insert_same held id (completed h))))
-    (λ e. subst (λ o. (o ≡ finite.get g.held q) ⊎ ((k : HeldCommit) × (new_in g q ≡ Some k) × (o ≡ Some (completed k)))) (sym (get_insert_other held id (completed h) q e)) (only q))
+    (λ e. subst (λ o. (o ≡ finite.get g.held q) ⊎ ((k : HeldCommit) × (new_in g q ≡ Some k) × (o ≡ Some (completed k))))
+    (sym (get_insert_other held id (completed h) q e)) (only q))
     (true_or_false (eq_by_cmp id_cmp q id))
 
 -- ---- a walk, with one commit more
 
 -- and is due
-pub marking_insert : (g : GraphData) (ids : List ObjectId) (cutoff : Option ℤ) (held : Commits) → IsMarking g ids cutoff held → (id : ObjectId) (h : HeldCommit) → new_in (graph_of g.objects held) id ≡ Some h → IsComplete (commit_in g) ids cutoff id
+pub marking_insert : (g : GraphData) (ids : List ObjectId) (cutoff : Option ℤ) (held : Commits) → IsMarking g ids cutoff held
+    → (id : ObjectId) (h : HeldCommit) → new_in (graph_of g.objects held) id ≡ Some h → IsComplete (commit_in g) ids cutoff id
     → IsMarking g ids cutoff (finite.insert held id (completed h))
 marking_insert g ids cutoff held w id h new due = record {
   only_marks = only_marks_insert g held w.only_marks id h new;
@@ -126,18 +138,21 @@ marking_insert g ids cutoff held w id h new due = record {
 }
 
 -- an id that is new is found
-pub found_if_new : (g : GraphData) (held : Commits) → OnlyMarks g held → (id : ObjectId) (h : HeldCommit) → new_in (graph_of g.objects held) id ≡ Some h → commit_in g id ≡ Some (as_read h)
+pub found_if_new : (g : GraphData) (held : Commits) → OnlyMarks g held → (id : ObjectId) (h : HeldCommit)
+    → new_in (graph_of g.objects held) id ≡ Some h → commit_in g id ≡ Some (as_read h)
 found_if_new g held only id h new = ap (option_map as_read) (found_from_new g id h (new_before g held only id h new)).0
 
 -- who waits after a push
-pub waits_pushed : (x : Waiting) (old new : List Waiting) → IsPermutation (x ∷ old) new → (q : ObjectId) → waits new q ≡ (eq_by_cmp id_cmp q x.id || waits old q)
+pub waits_pushed : (x : Waiting) (old new : List Waiting) → IsPermutation (x ∷ old) new → (q : ObjectId)
+    → waits new q ≡ (eq_by_cmp id_cmp q x.id || waits old q)
 waits_pushed x old new p q = sym (list_any-IsPermutation (λ (y : Waiting). eq_by_cmp id_cmp q y.id) (x ∷ old) new p)
 
 -- ---- a step, as the code makes it
 
 module _ (held : Commits) (objects : Objects) (id : ObjectId) (held' : Commits) where
   -- the same, by what is new
-  keeps_at : (o : Option HeldCommit) → held' ≡ put held id (option_map completed o) → (q : ObjectId) → is_marked held q ≡ true → is_marked held' q ≡ true
+  keeps_at : (o : Option HeldCommit) → held' ≡ put held id (option_map completed o) → (q : ObjectId) → is_marked held q ≡ true
+      → is_marked held' q ≡ true
   keeps_at None m q t = subst (λ m. is_marked m q ≡ true) (sym m) t
   keeps_at (Some h) m q t = subst (λ m. is_marked m q ≡ true) (sym m) (marked_still held id h q t)
 
@@ -151,7 +166,8 @@ module _ (g : GraphData) (held : Commits) (objects : Objects) (same : objects �
   new_same o e = ap (λ m. new_in (graph_of m held) id) (sym same) ∙ e
 
   -- the same, by what is new
-  only_at : OnlyMarks g held → (o : Option HeldCommit) → new_in (graph_of objects held) id ≡ o → held' ≡ put held id (option_map completed o) → OnlyMarks g held'
+  only_at : OnlyMarks g held → (o : Option HeldCommit) → new_in (graph_of objects held) id ≡ o
+      → held' ≡ put held id (option_map completed o) → OnlyMarks g held'
   only_at only None e m = subst (OnlyMarks g) (sym m) only
   only_at only (Some h) e m = subst (OnlyMarks g) (sym m) (only_marks_insert g held only id h (new_same (Some h) e))
 
@@ -160,7 +176,8 @@ module _ (g : GraphData) (held : Commits) (objects : Objects) (same : objects �
   step_only only m = only_at only (new_in (graph_of objects held) id) refl m
 
   -- the same, by what is new
-  marks_at : OnlyMarks g held → (o : Option HeldCommit) → new_in (graph_of objects held) id ≡ o → held' ≡ put held id (option_map completed o) → IsSome (commit_in g id) → is_marked held' id ≡ true
+  marks_at : OnlyMarks g held → (o : Option HeldCommit) → new_in (graph_of objects held) id ≡ o
+      → held' ≡ put held id (option_map completed o) → IsSome (commit_in g id) → is_marked held' id ≡ true
   marks_at only None e m s = subst (λ m. is_marked m id ≡ true) (sym m) (marked_if_old g held only id (new_same None e) s)
   marks_at only (Some h) e m s = subst (λ m. is_marked m id ≡ true) (sym m) (marked_here held id h)
 
@@ -168,32 +185,42 @@ module _ (g : GraphData) (held : Commits) (objects : Objects) (same : objects �
   pub step_marks : OnlyMarks g held → held' ≡ marked_found (graph_of objects held) id → IsSome (commit_in g id) → is_marked held' id ≡ true
   step_marks only m s = marks_at only (new_in (graph_of objects held) id) refl m s
 
-module _ (g : GraphData) (ids : List ObjectId) (cutoff : Option ℤ) (held : Commits) (objects : Objects) (same : objects ≡ g.objects) (id : ObjectId) (held' : Commits) where
+module _ (g : GraphData) (ids : List ObjectId) (cutoff : Option ℤ) (held : Commits) (objects : Objects) (same : objects ≡ g.objects)
+    (id : ObjectId) (held' : Commits) where
   -- what is new and found is due
-  due_new : OnlyMarks g held → (IsSome (commit_in g id) → IsComplete (commit_in g) ids cutoff id) → (h : HeldCommit) → new_in (graph_of objects held) id ≡ Some h → IsComplete (commit_in g) ids cutoff id
+  due_new : OnlyMarks g held → (IsSome (commit_in g id) → IsComplete (commit_in g) ids cutoff id) → (h : HeldCommit)
+      → new_in (graph_of objects held) id ≡ Some h → IsComplete (commit_in g) ids cutoff id
   due_new only due h e = due (ap is_some (found_if_new g held only id h (new_same g held objects same id held' (Some h) e)))
 
   -- the same where the step was made, by what is new
-  marking_at : IsMarking g ids cutoff held → (IsSome (commit_in g id) → IsComplete (commit_in g) ids cutoff id) → (o : Option HeldCommit) → new_in (graph_of objects held) id ≡ o → held' ≡ put held id (option_map completed o) → IsMarking g ids cutoff held'
+  marking_at : IsMarking g ids cutoff held → (IsSome (commit_in g id) → IsComplete (commit_in g) ids cutoff id)
+      → (o : Option HeldCommit) → new_in (graph_of objects held) id ≡ o → held' ≡ put held id (option_map completed o)
+      → IsMarking g ids cutoff held'
   marking_at w due None e m = subst (IsMarking g ids cutoff) (sym m) w
   marking_at w due (Some h) e m = subst (IsMarking g ids cutoff) (sym m)
       (marking_insert g ids cutoff held w id h (new_same g held objects same id held' (Some h) e) (due_new w.only_marks due h e))
 
   -- also where the step was refused
-  pub marking_step : IsMarking g ids cutoff held → (IsSome (commit_in g id) → IsComplete (commit_in g) ids cutoff id) → (held' ≡ held) ⊎ (held' ≡ marked_found (graph_of objects held) id) → IsMarking g ids cutoff held'
-  marking_step w due c = ⊎_elim (λ e. subst (IsMarking g ids cutoff) (sym e) w) (λ e. marking_at w due (new_in (graph_of objects held) id) refl e) c
+  pub marking_step : IsMarking g ids cutoff held → (IsSome (commit_in g id) → IsComplete (commit_in g) ids cutoff id) → (held' ≡ held)
+      ⊎ (held' ≡ marked_found (graph_of objects held) id) → IsMarking g ids cutoff held'
+  marking_step w due c =
+      ⊎_elim (λ e. subst (IsMarking g ids cutoff) (sym e) w) (λ e. marking_at w due (new_in (graph_of objects held) id) refl e) c
 
 -- others that wait change nothing
-pub queues_more : (o : Option HeldCommit) (id : ObjectId) (others old new : List Waiting) → Queues o id old new → Queues o id (others ++ old) (others ++ new)
+pub queues_more : (o : Option HeldCommit) (id : ObjectId) (others old new : List Waiting) → Queues o id old new
+    → Queues o id (others ++ old) (others ++ new)
 queues_more None id others old new q = ap (λ l. others ++ l) q
-queues_more (Some h) id others old new q = IsPermutation-trans _ _ _ (IsPermutation-sym _ _ (IsPermutation-middle others (record { time = h.time; id = id }) old)) (IsPermutation-append_right others _ _ q)
+queues_more (Some h) id others old new q = IsPermutation-trans _ _ _ (IsPermutation-sym _ _
+    (IsPermutation-middle others (record { time = h.time; id = id }) old)) (IsPermutation-append_right others _ _ q)
 
 -- ---- a visit
 
 -- others that wait don't change it
-pub visits_beside : (objects : Objects) (id : ObjectId) (others : List Waiting) (old new : Walk) → Visits objects id old new → Visits objects id (beside others old) (beside others new)
+pub visits_beside : (objects : Objects) (id : ObjectId) (others : List Waiting) (old new : Walk) → Visits objects id old new
+    → Visits objects id (beside others old) (beside others new)
 visits_beside objects id others old new (Visits.again v h q w) = Visits.again v h q (ap (λ l. others ++ l) w)
-visits_beside objects id others old new (Visits.first v h q w) = Visits.first v h q (queues_more (found_in (graph_of objects old.held) id) id others old.waiting new.waiting w)
+visits_beside objects id others old new (Visits.first v h q w) =
+    Visits.first v h q (queues_more (found_in (graph_of objects old.held) id) id others old.waiting new.waiting w)
 
 -- the id was visited
 pub visit_visited : (objects : Objects) (id : ObjectId) (old new : Walk) → Visits objects id old new → new.visited id ≡ true
@@ -201,7 +228,8 @@ visit_visited objects id old new (Visits.again v h q w) = q id ∙ v
 visit_visited objects id old new (Visits.first v h q w) = q id ∙ ap (λ b. b || old.visited id) (same_id id)
 
 -- and so were those before
-pub visit_keeps : (objects : Objects) (id : ObjectId) (old new : Walk) → Visits objects id old new → (q : ObjectId) → old.visited q ≡ true → new.visited q ≡ true
+pub visit_keeps : (objects : Objects) (id : ObjectId) (old new : Walk) → Visits objects id old new → (q : ObjectId)
+    → old.visited q ≡ true → new.visited q ≡ true
 visit_keeps objects id old new (Visits.again v h q w) x t = q x ∙ t
 visit_keeps objects id old new (Visits.first v h q w) x t = q x ∙ or_true (eq_by_cmp id_cmp x id) (old.visited x) t
 
@@ -212,15 +240,19 @@ module _ (g : GraphData) (objects : Objects) (same : objects ≡ g.objects) (id 
   visit_only (Visits.first v h q w) only = step_only g old.held objects same id new.held only h
 
   -- what is found is what the graph reads
-  pub visit_reads : OnlyMarks g old.held → (o : Option HeldCommit) → found_in (graph_of objects old.held) id ≡ o → commit_in g id ≡ option_map as_read o
-  visit_reads only o e = sym (reads g old.held only id) ∙ ap (λ m. commit_in (graph_of m old.held) id) (sym same) ∙ ap (option_map as_read) e
+  pub visit_reads : OnlyMarks g old.held → (o : Option HeldCommit) → found_in (graph_of objects old.held) id ≡ o
+      → commit_in g id ≡ option_map as_read o
+  visit_reads only o e = sym (reads g old.held only id) ∙ ap (λ m. commit_in (graph_of m old.held) id) (sym same)
+      ∙ ap (option_map as_read) e
 
   module _ (ids : List ObjectId) (cutoff : Option ℤ) (due : IsDue (commit_in g) ids cutoff id) (walk : IsWalk g ids cutoff old) where
     -- the id was visited before
-    walk_again : new.held ≡ old.held → ((q : ObjectId) → new.visited q ≡ old.visited q) → new.waiting ≡ old.waiting → IsWalk g ids cutoff new
+    walk_again : new.held ≡ old.held → ((q : ObjectId) → new.visited q ≡ old.visited q) → new.waiting ≡ old.waiting
+        → IsWalk g ids cutoff new
     walk_again h q w = record {
       marking = subst (IsMarking g ids cutoff) (sym h) walk.marking;
-      queued = subst (λ m. All (IsQueued g ids cutoff m) new.waiting) (sym h) (subst (All (IsQueued g ids cutoff old.held)) (sym w) walk.queued);
+      queued = subst (λ m. All (IsQueued g ids cutoff m) new.waiting) (sym h)
+          (subst (All (IsQueued g ids cutoff old.held)) (sym w) walk.queued);
       marked = λ x t s. subst (λ m. is_marked m x ≡ true) (sym h) (walk.marked x (sym (q x) ∙ t) s);
       closed = λ x t s. ⊎_elim
           (λ a. inl (ap (λ l. waits l x) w ∙ a))
@@ -228,10 +260,12 @@ module _ (g : GraphData) (objects : Objects) (same : objects ≡ g.objects) (id 
           (walk.closed x (sym (q x) ∙ t) s);
     }
 
-    module _ (h : new.held ≡ marked_found (graph_of objects old.held) id) (adds : (q : ObjectId) → new.visited q ≡ (eq_by_cmp id_cmp q id || old.visited q)) where
+    module _ (h : new.held ≡ marked_found (graph_of objects old.held) id)
+        (adds : (q : ObjectId) → new.visited q ≡ (eq_by_cmp id_cmp q id || old.visited q)) where
       -- what was marked is complete
       first_marking : IsMarking g ids cutoff new.held
-      first_marking = marking_step g ids cutoff old.held objects same id new.held walk.marking (due_complete (commit_in g) ids cutoff id due) (inr h)
+      first_marking = marking_step g ids cutoff old.held objects same id new.held walk.marking
+          (due_complete (commit_in g) ids cutoff id due) (inr h)
 
       -- what waited still does
       first_queued : (x : Waiting) → IsQueued g ids cutoff old.held x → IsQueued g ids cutoff new.held x
@@ -242,22 +276,28 @@ module _ (g : GraphData) (objects : Objects) (same : objects ≡ g.objects) (id 
       first_marked x t s = ⊎_elim
           (λ e.
           let one : x ≡ id = same_from x id e in
-          subst (λ y. is_marked new.held y ≡ true) (sym one) (step_marks g old.held objects same id new.held walk.marking.only_marks h (subst (λ y. IsSome (commit_in g y)) one s)))
+          subst (λ y. is_marked new.held y ≡ true) (sym one)
+          (step_marks g old.held objects same id new.held walk.marking.only_marks h (subst (λ y. IsSome (commit_in g y)) one s)))
           (λ e. step_keeps old.held objects id new.held h x (walk.marked x e s))
           (or_cases (eq_by_cmp id_cmp x id) (old.visited x) (sym (adds x) ∙ t))
 
       -- one that was visited before waits as it did, or its parents were visited
-      first_closed : (x : ObjectId) → old.visited x ≡ true → IsSome (commit_in g x) → (waits old.waiting x ≡ true) ⊎ IsExpanded g cutoff new.visited x
-      first_closed x e s = ⊎_elim (λ a. inl a) (λ a. inr (λ c least p r l b i. adds p ∙ or_true (eq_by_cmp id_cmp p id) (old.visited p) (a c least p r l b i))) (walk.closed x e s)
+      first_closed : (x : ObjectId) → old.visited x ≡ true → IsSome (commit_in g x) → (waits old.waiting x ≡ true)
+          ⊎ IsExpanded g cutoff new.visited x
+      first_closed x e s = ⊎_elim (λ a. inl a) (λ a.
+          inr (λ c least p r l b i. adds p ∙ or_true (eq_by_cmp id_cmp p id) (old.visited p) (a c least p r l b i))) (walk.closed x e s)
 
       -- the walk goes on, by what is found
-      walk_first : (o : Option HeldCommit) → found_in (graph_of objects old.held) id ≡ o → Queues o id old.waiting new.waiting → IsWalk g ids cutoff new
+      walk_first : (o : Option HeldCommit) → found_in (graph_of objects old.held) id ≡ o → Queues o id old.waiting new.waiting
+          → IsWalk g ids cutoff new
       walk_first None e w = record {
         marking = first_marking;
-        queued = subst (All (IsQueued g ids cutoff new.held)) (sym w) (All-weaker (IsQueued g ids cutoff old.held) (IsQueued g ids cutoff new.held) first_queued old.waiting walk.queued);
+        queued = subst (All (IsQueued g ids cutoff new.held)) (sym w)
+            (All-weaker (IsQueued g ids cutoff old.held) (IsQueued g ids cutoff new.held) first_queued old.waiting walk.queued);
         marked = first_marked;
         closed = λ x t s. ⊎_elim
-            (λ a. absurd (let n : ◌≡◌ {A = Bool} false true = sym (ap (λ y. is_some (commit_in g y)) (same_from x id a) ∙ ap is_some (visit_reads walk.marking.only_marks None e)) ∙ s in cc))
+            (λ a. absurd (let n : ◌≡◌ {A = Bool} false true = sym (ap (λ y. is_some (commit_in g y)) (same_from x id a)
+            ∙ ap is_some (visit_reads walk.marking.only_marks None e)) ∙ s in cc))
             (λ a. ⊎_elim (λ b. inl (ap (λ l. waits l x) w ∙ b)) (λ b. inr b) (first_closed x a s))
             (or_cases (eq_by_cmp id_cmp x id) (old.visited x) (sym (adds x) ∙ t));
       }
@@ -273,11 +313,13 @@ module _ (g : GraphData) (objects : Objects) (same : objects ≡ g.objects) (id 
           } in
           record {
             marking = first_marking;
-            queued = All-permutation P (x ∷ old.waiting) new.waiting w (All-cons P x old.waiting item (All-weaker (IsQueued g ids cutoff old.held) P first_queued old.waiting walk.queued));
+            queued = All-permutation P (x ∷ old.waiting) new.waiting w
+                (All-cons P x old.waiting item (All-weaker (IsQueued g ids cutoff old.held) P first_queued old.waiting walk.queued));
             marked = first_marked;
             closed = λ y t s. ⊎_elim
                 (λ a. inl (waits_pushed x old.waiting new.waiting w y ∙ ap (λ b. b || waits old.waiting y) a))
-                (λ a. ⊎_elim (λ b. inl (waits_pushed x old.waiting new.waiting w y ∙ or_true (eq_by_cmp id_cmp y id) (waits old.waiting y) b)) (λ b. inr b) (first_closed y a s))
+                (λ a. ⊎_elim (λ b. inl (waits_pushed x old.waiting new.waiting w y
+                ∙ or_true (eq_by_cmp id_cmp y id) (waits old.waiting y) b)) (λ b. inr b) (first_closed y a s))
                 (or_cases (eq_by_cmp id_cmp y id) (old.visited y) (sym (adds y) ∙ t));
           }
 

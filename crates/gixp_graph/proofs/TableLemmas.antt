@@ -26,7 +26,8 @@ ids_push ids [] n = refl
 ids_push ids (m ∷ ms) n = ap (λ is. id_at ids m ∷ is) (ids_push ids ms n)
 
 -- the id of a number in a list
-pub ids_get : (ids : List ObjectId) (numbers : List ℕ) (k : ℕ) (d : ObjectId) (e : ℕ) → k < length numbers → get_or (ids_at ids numbers) k d ≡ id_at ids (get_or numbers k e)
+pub ids_get : (ids : List ObjectId) (numbers : List ℕ) (k : ℕ) (d : ObjectId) (e : ℕ) → k < length numbers
+    → get_or (ids_at ids numbers) k d ≡ id_at ids (get_or numbers k e)
 ids_get ids [] k d e l = absurd (omega arith)
 ids_get ids (m ∷ ms) zero d e l = refl
 ids_get ids (m ∷ ms) (suc k) d e l = ids_get ids ms k d e (omega arith)

@@ -32,14 +32,18 @@ same_test false true f h = h refl
 same_test false false f h = refl
 
 -- the id of a number that was visited was
-pub visited_at : (ids : List ObjectId) (bits : List Bool) (n : ℕ) → n < length ids → has bits n ≡ true → is_visited ids bits (id_at ids n) ≡ true
+pub visited_at : (ids : List ObjectId) (bits : List Bool) (n : ℕ) → n < length ids → has bits n ≡ true
+    → is_visited ids bits (id_at ids n) ≡ true
 visited_at [] bits n l e = absurd (omega arith)
 visited_at (i ∷ is) [] n l e = cc
-visited_at (i ∷ is) (b ∷ bs) zero l e = ap (λ x. (x && eq_by_cmp id_cmp i i) || is_visited is bs i) e ∙ ap (λ x. x || is_visited is bs i) (same_id i)
-visited_at (i ∷ is) (b ∷ bs) (suc n) l e = or_true (b && eq_by_cmp id_cmp (id_at is n) i) (is_visited is bs (id_at is n)) (visited_at is bs n (omega arith) e)
+visited_at (i ∷ is) (b ∷ bs) zero l e = ap (λ x. (x && eq_by_cmp id_cmp i i) || is_visited is bs i) e
+    ∙ ap (λ x. x || is_visited is bs i) (same_id i)
+visited_at (i ∷ is) (b ∷ bs) (suc n) l e = or_true (b && eq_by_cmp id_cmp (id_at is n) i) (is_visited is bs (id_at is n))
+    (visited_at is bs n (omega arith) e)
 
 -- an id that was visited has a number that was
-visited_by : (ids : List ObjectId) (bits : List Bool) (q : ObjectId) → is_visited ids bits q ≡ true → (n : ℕ) × (n < length ids) × (has bits n ≡ true) × (id_at ids n ≡ q)
+visited_by : (ids : List ObjectId) (bits : List Bool) (q : ObjectId) → is_visited ids bits q ≡ true → (n : ℕ) × (n < length ids)
+    × (has bits n ≡ true) × (id_at ids n ≡ q)
 visited_by [] bits q e = cc
 visited_by (i ∷ is) [] q e = cc
 visited_by (i ∷ is) (b ∷ bs) q e = ⊎_elim
@@ -53,7 +57,8 @@ none_visited [] q = refl
 none_visited (i ∷ is) q = refl
 
 -- the id of a number was visited just where the number was
-pub visited_here : (ids : List ObjectId) (bits : List Bool) (n : ℕ) (b : Bool) → AllVisitedNamed ids bits → IsOneToOne ids → n < length ids → has bits n ≡ b → is_visited ids bits (id_at ids n) ≡ b
+pub visited_here : (ids : List ObjectId) (bits : List Bool) (n : ℕ) (b : Bool) → AllVisitedNamed ids bits → IsOneToOne ids
+    → n < length ids → has bits n ≡ b → is_visited ids bits (id_at ids n) ≡ b
 visited_here ids bits n true named once l e = visited_at ids bits n l e
 visited_here ids bits n false named once l e = ⊎_elim
     (λ t.
@@ -103,14 +108,17 @@ module _ (ids ids' : List ObjectId) (kept : KeepsNumbers ids ids') (bits : List 
         or_left (eq_by_cmp id_cmp q (id_at ids number)) (is_visited ids bits q) (subst (λ i. eq_by_cmp id_cmp q i ≡ true) own (same_id q)))
         (λ a.
         let m : v.0 < length ids = named v.0 a in
-        or_true (eq_by_cmp id_cmp q (id_at ids number)) (is_visited ids bits q) (subst (λ i. is_visited ids bits i ≡ true) (sym (kept v.0 m).1 ∙ v.3) (visited_at ids bits v.0 m a)))
+        or_true (eq_by_cmp id_cmp q (id_at ids number)) (is_visited ids bits q)
+        (subst (λ i. is_visited ids bits i ≡ true) (sym (kept v.0 m).1 ∙ v.3) (visited_at ids bits v.0 m a)))
         (or_cases (v.0 == number) (has bits v.0) (sym (more v.0) ∙ v.2)))
         (λ t. ⊎_elim
-        (λ a. let k = kept number l in subst (λ i. is_visited ids' bits' i ≡ true) (k.1 ∙ sym (same_from q (id_at ids number) a)) (visited_at ids' bits' number k.0 has_new))
+        (λ a. let k = kept number l in subst (λ i. is_visited ids' bits' i ≡ true) (k.1 ∙ sym (same_from q (id_at ids number) a))
+        (visited_at ids' bits' number k.0 has_new))
         (λ a.
         let v = visited_by ids bits q a in
         let k = kept v.0 v.1 in
-        subst (λ i. is_visited ids' bits' i ≡ true) (k.1 ∙ v.3) (visited_at ids' bits' v.0 k.0 (more v.0 ∙ or_true (v.0 == number) (has bits v.0) v.2)))
+        subst (λ i. is_visited ids' bits' i ≡ true) (k.1 ∙ v.3)
+        (visited_at ids' bits' v.0 k.0 (more v.0 ∙ or_true (v.0 == number) (has bits v.0) v.2)))
         (or_cases (eq_by_cmp id_cmp q (id_at ids number)) (is_visited ids bits q) t))
 
 -- an id that was visited before adds nothing

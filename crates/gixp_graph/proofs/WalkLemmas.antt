@@ -32,7 +32,8 @@ abbrev pub stands : Commits → (ObjectId → Bool) → List Waiting → Walk
 stands held visited waiting = record { held = held; visited = visited; waiting = waiting }
 
 -- and a walk where none was visited and nothing waits
-pub walk_start : (g : GraphData) (ids : List ObjectId) (cutoff : Option ℤ) (visited : ObjectId → Bool) → ((q : ObjectId) → visited q ≡ false) → IsWalk g ids cutoff (stands g.held visited [])
+pub walk_start : (g : GraphData) (ids : List ObjectId) (cutoff : Option ℤ) (visited : ObjectId → Bool)
+    → ((q : ObjectId) → visited q ≡ false) → IsWalk g ids cutoff (stands g.held visited [])
 walk_start g ids cutoff visited none = record {
   marking = marking_start g ids cutoff;
   queued = All-nil (IsQueued g ids cutoff g.held);
@@ -41,38 +42,47 @@ walk_start g ids cutoff visited none = record {
 }
 
 -- the order in which they wait is free
-pub walk_permuted : (g : GraphData) (ids : List ObjectId) (cutoff : Option ℤ) (held : Commits) (visited : ObjectId → Bool) (queue queue' : List Waiting) → IsWalk g ids cutoff (stands held visited queue) → IsPermutation queue queue' → IsWalk g ids cutoff (stands held visited queue')
+pub walk_permuted : (g : GraphData) (ids : List ObjectId) (cutoff : Option ℤ) (held : Commits) (visited : ObjectId → Bool)
+    (queue queue' : List Waiting) → IsWalk g ids cutoff (stands held visited queue) → IsPermutation queue queue'
+    → IsWalk g ids cutoff (stands held visited queue')
 walk_permuted g ids cutoff held visited queue queue' w p = record {
   marking = w.marking;
   queued = All-permutation (IsQueued g ids cutoff held) queue queue' p w.queued;
   marked = w.marked;
-  closed = λ q t s. ⊎_elim (λ d. inl (sym (list_any-IsPermutation (λ (y : Waiting). eq_by_cmp id_cmp q y.id) queue queue' p) ∙ d)) (λ d. inr d) (w.closed q t s);
+  closed = λ q t s. ⊎_elim (λ d. inl (sym (list_any-IsPermutation (λ (y : Waiting). eq_by_cmp id_cmp q y.id) queue queue' p) ∙ d))
+      (λ d. inr d) (w.closed q t s);
 }
 
 -- a commit that is complete is found
-complete_found : (read : ObjectId → Option Commit) (ids : List ObjectId) (cutoff : Option ℤ) (q : ObjectId) → IsComplete read ids cutoff q → IsSome (read q)
+complete_found : (read : ObjectId → Option Commit) (ids : List ObjectId) (cutoff : Option ℤ) (q : ObjectId)
+    → IsComplete read ids cutoff q → IsSome (read q)
 complete_found read ids cutoff q (IsComplete.tip i f) = f
 complete_found read ids cutoff q (IsComplete.parent k r l t i f) = f
 
 module _ (g : GraphData) (ids : List ObjectId) (cutoff : Option ℤ) (held : Commits) (visited : ObjectId → Bool) where
   -- a commit whose parents were visited need not wait
-  pub walk_seen : (x : Waiting) (queue : List Waiting) → IsWalk g ids cutoff (stands held visited (x ∷ queue)) → IsExpanded g cutoff visited x.id → IsWalk g ids cutoff (stands held visited queue)
+  pub walk_seen : (x : Waiting) (queue : List Waiting) → IsWalk g ids cutoff (stands held visited (x ∷ queue))
+      → IsExpanded g cutoff visited x.id → IsWalk g ids cutoff (stands held visited queue)
   walk_seen x queue w e = record {
     marking = w.marking;
     queued = All-tail (IsQueued g ids cutoff held) x queue w.queued;
     marked = w.marked;
     closed = λ q t s. ⊎_elim
-        (λ d. ⊎_elim (λ a. inr (subst (IsExpanded g cutoff visited) (sym (same_from q x.id a)) e)) (λ a. inl a) (or_cases (eq_by_cmp id_cmp q x.id) (waits queue q) d))
+        (λ d. ⊎_elim (λ a. inr (subst (IsExpanded g cutoff visited) (sym (same_from q x.id a)) e)) (λ a. inl a)
+        (or_cases (eq_by_cmp id_cmp q x.id) (waits queue q) d))
         (λ d. inr d) (w.closed q t s);
   }
 
   -- nor need several
-  pub walk_dropped : (others queue : List Waiting) → IsWalk g ids cutoff (stands held visited (others ++ queue)) → All (λ (x : Waiting). IsExpanded g cutoff visited x.id) others → IsWalk g ids cutoff (stands held visited queue)
+  pub walk_dropped : (others queue : List Waiting) → IsWalk g ids cutoff (stands held visited (others ++ queue))
+      → All (λ (x : Waiting). IsExpanded g cutoff visited x.id) others → IsWalk g ids cutoff (stands held visited queue)
   walk_dropped [] queue w h = w
   walk_dropped (x ∷ xs) queue w h =
-      walk_dropped xs queue (walk_seen x (xs ++ queue) w (All-head (λ (x : Waiting). IsExpanded g cutoff visited x.id) x xs h)) (All-tail (λ (x : Waiting). IsExpanded g cutoff visited x.id) x xs h)
+      walk_dropped xs queue (walk_seen x (xs ++ queue) w (All-head (λ (x : Waiting). IsExpanded g cutoff visited x.id) x xs h))
+      (All-tail (λ (x : Waiting). IsExpanded g cutoff visited x.id) x xs h)
 
-  module _ (queue : List Waiting) (w : IsWalk g ids cutoff (stands held visited queue)) (rest : All (λ (x : Waiting). IsExpanded g cutoff visited x.id) queue) (tips : AllVisited visited ids) where
+  module _ (queue : List Waiting) (w : IsWalk g ids cutoff (stands held visited queue))
+      (rest : All (λ (x : Waiting). IsExpanded g cutoff visited x.id) queue) (tips : AllVisited visited ids) where
     -- nothing waits any more
     all_seen : IsWalk g ids cutoff (stands held visited [])
     all_seen = walk_dropped queue [] (subst (λ l. IsWalk g ids cutoff (stands held visited l)) (sym (append-nil queue)) w) rest
@@ -97,8 +107,10 @@ record IsOpened (g : GraphData) (x : Waiting) (parents : List ObjectId) : Type 0
   pub parents_are : commit.parents ≡ parents
 
 -- the same, by what is held
-opened_at : (g : GraphData) (x : Waiting) (o : Option HeldCommit) → option_map_or is_complete o false ≡ true → option_map as_read (option_or o (option_map unmarked (commit_at g.objects x.id))) ≡ commit_in g x.id
-    → option_map (λ (c : Commit). c.time) (commit_in g x.id) ≡ Some x.time → IsOpened g x (unwrap_or (option_map (λ (h : HeldCommit). h.parents) o) [])
+opened_at : (g : GraphData) (x : Waiting) (o : Option HeldCommit) → option_map_or is_complete o false ≡ true
+    → option_map as_read (option_or o (option_map unmarked (commit_at g.objects x.id))) ≡ commit_in g x.id
+    → option_map (λ (c : Commit). c.time) (commit_in g x.id) ≡ Some x.time
+    → IsOpened g x (unwrap_or (option_map (λ (h : HeldCommit). h.parents) o) [])
 opened_at g x None m r t = cc
 opened_at g x (Some h) m r t = record {
   commit = as_read h;
@@ -108,24 +120,31 @@ opened_at g x (Some h) m r t = record {
 }
 
 -- the commit of one that waits
-opened : (g : GraphData) (ids : List ObjectId) (cutoff : Option ℤ) (held : Commits) → OnlyMarks g held → (x : Waiting) → IsQueued g ids cutoff held x → (parents : List ObjectId) → parents ≡ unwrap_or (option_map (λ (h : HeldCommit). h.parents) (finite.get held x.id)) [] → IsOpened g x parents
-opened g ids cutoff held only x k parents e = subst (IsOpened g x) (sym e) (opened_at g x (finite.get held x.id) k.marked (reads g held only x.id) k.timed)
+opened : (g : GraphData) (ids : List ObjectId) (cutoff : Option ℤ) (held : Commits) → OnlyMarks g held → (x : Waiting)
+    → IsQueued g ids cutoff held x → (parents : List ObjectId)
+    → parents ≡ unwrap_or (option_map (λ (h : HeldCommit). h.parents) (finite.get held x.id)) [] → IsOpened g x parents
+opened g ids cutoff held only x k parents e =
+    subst (IsOpened g x) (sym e) (opened_at g x (finite.get held x.id) k.marked (reads g held only x.id) k.timed)
 
 -- its parents are looked for
-due_parent : (g : GraphData) (ids : List ObjectId) (cutoff : Option ℤ) (x : Waiting) → IsComplete (commit_in g) ids cutoff x.id → (parents : List ObjectId) → IsOpened g x parents → (least : ℤ) → cutoff ≡ Some least → least ≤ℤ x.time
+due_parent : (g : GraphData) (ids : List ObjectId) (cutoff : Option ℤ) (x : Waiting) → IsComplete (commit_in g) ids cutoff x.id
+    → (parents : List ObjectId) → IsOpened g x parents → (least : ℤ) → cutoff ≡ Some least → least ≤ℤ x.time
     → (p : ObjectId) → Contains parents p → IsDue (commit_in g) ids cutoff p
 due_parent g ids cutoff x k parents o least l t p i =
     IsDue.parent k o.reads l (subst (λ (z : ℤ). least ≤ℤ z) (sym o.time) t) (subst (λ ps. Contains ps p) (sym o.parents_are) i)
 
 -- all parents were visited
-expanded_all : (g : GraphData) (cutoff : Option ℤ) (visited : ObjectId → Bool) (x : Waiting) (parents : List ObjectId) → IsOpened g x parents → AllVisited visited parents → IsExpanded g cutoff visited x.id
+expanded_all : (g : GraphData) (cutoff : Option ℤ) (visited : ObjectId → Bool) (x : Waiting) (parents : List ObjectId)
+    → IsOpened g x parents → AllVisited visited parents → IsExpanded g cutoff visited x.id
 expanded_all g cutoff visited x parents o all c least p r l t i =
     let e : o.commit ≡ c = (let s : Some o.commit ≡ Some c = sym o.reads ∙ r in cc) in
     let j : Contains parents p = subst (λ ps. Contains ps p) (ap (λ (c : Commit). c.parents) (sym e) ∙ o.parents_are) i in
     All-contains (λ q. visited q ≡ true) parents p all j
 
 -- a commit before the cutoff has no parents that have to be visited
-pub expanded_before : (g : GraphData) (ids : List ObjectId) (cutoff : Option ℤ) (held : Commits) (visited : ObjectId → Bool) (x : Waiting) → IsQueued g ids cutoff held x → (least : ℤ) → cutoff ≡ Some least → x.time <ℤ least → IsExpanded g cutoff visited x.id
+pub expanded_before : (g : GraphData) (ids : List ObjectId) (cutoff : Option ℤ) (held : Commits) (visited : ObjectId → Bool)
+    (x : Waiting) → IsQueued g ids cutoff held x → (least : ℤ) → cutoff ≡ Some least → x.time <ℤ least
+    → IsExpanded g cutoff visited x.id
 expanded_before g ids cutoff held visited x k least l b c most p r m t i =
     let same : most ≡ least = (let s : Some most ≡ Some least = sym m ∙ l in cc) in
     let time : c.time ≡ x.time = (let s : Some c.time ≡ Some x.time = ap (option_map (λ (c : Commit). c.time)) (sym r) ∙ k.timed in cc) in
@@ -144,21 +163,26 @@ pub all_right : {X : Type 0} (P : X → Type 0) (xs ys : List X) → All P (xs +
 all_right P [] ys h = h
 all_right P (x ∷ xs) ys h = all_right P xs ys (All-tail P x (xs ++ ys) h)
 
-module _ (g : GraphData) (ids : List ObjectId) (cutoff : Option ℤ) (names : List ObjectId) (t : ℤ) (held : Commits) (only : OnlyMarks g held) where
+module _ (g : GraphData) (ids : List ObjectId) (cutoff : Option ℤ) (names : List ObjectId) (t : ℤ) (held : Commits)
+    (only : OnlyMarks g held) where
   -- where they are queued and their time is at least the cutoff, their parents are looked for
-  pub due_parents : (least : ℤ) → cutoff ≡ Some least → least ≤ℤ t → (numbers : List ℕ) → All (IsQueued g ids cutoff held) (waiting_in names (map (entry_at t) numbers)) → AreDue g ids cutoff (flat_map (parents_in held) (ids_at names numbers))
+  pub due_parents : (least : ℤ) → cutoff ≡ Some least → least ≤ℤ t → (numbers : List ℕ) → All (IsQueued g ids cutoff held)
+      (waiting_in names (map (entry_at t) numbers)) → AreDue g ids cutoff (flat_map (parents_in held) (ids_at names numbers))
   due_parents least l b [] q = All-nil (IsDue (commit_in g) ids cutoff)
   due_parents least l b (n ∷ ns) q =
       let x : Waiting = record { time = t; id = id_at names n } in
       let first : IsQueued g ids cutoff held x = All-head (IsQueued g ids cutoff held) x (waiting_in names (map (entry_at t) ns)) q in
       let ps : List ObjectId = parents_in held x.id in
       All-append (IsDue (commit_in g) ids cutoff) ps (flat_map (parents_in held) (ids_at names ns))
-      (λ k d i. due_parent g ids cutoff x first.complete ps (opened g ids cutoff held only x first ps refl) least l b _ (Contains-get_or ps k d i))
+      (λ k d i. due_parent g ids cutoff x first.complete ps (opened g ids cutoff held only x first ps refl) least l b _
+      (Contains-get_or ps k d i))
       (due_parents least l b ns (All-tail (IsQueued g ids cutoff held) x (waiting_in names (map (entry_at t) ns)) q))
 
   -- once those were visited, they need not wait
-  pub expanded_each : (visited : ObjectId → Bool) (numbers : List ℕ) → All (IsQueued g ids cutoff held) (waiting_in names (map (entry_at t) numbers))
-      → AllVisited visited (flat_map (parents_in held) (ids_at names numbers)) → All (λ (x : Waiting). IsExpanded g cutoff visited x.id) (waiting_in names (map (entry_at t) numbers))
+  pub expanded_each : (visited : ObjectId → Bool) (numbers : List ℕ)
+      → All (IsQueued g ids cutoff held) (waiting_in names (map (entry_at t) numbers))
+      → AllVisited visited (flat_map (parents_in held) (ids_at names numbers))
+      → All (λ (x : Waiting). IsExpanded g cutoff visited x.id) (waiting_in names (map (entry_at t) numbers))
   expanded_each visited [] q m = All-nil (λ (x : Waiting). IsExpanded g cutoff visited x.id)
   expanded_each visited (n ∷ ns) q m =
       let x : Waiting = record { time = t; id = id_at names n } in
@@ -166,16 +190,21 @@ module _ (g : GraphData) (ids : List ObjectId) (cutoff : Option ℤ) (names : Li
       let ps : List ObjectId = parents_in held x.id in
       let P : ObjectId → Type 0 = λ id. visited id ≡ true in
       All-cons (λ (x : Waiting). IsExpanded g cutoff visited x.id) x (waiting_in names (map (entry_at t) ns))
-      (expanded_all g cutoff visited x ps (opened g ids cutoff held only x first ps refl) (all_left P ps (flat_map (parents_in held) (ids_at names ns)) m))
-      (expanded_each visited ns (All-tail (IsQueued g ids cutoff held) x (waiting_in names (map (entry_at t) ns)) q) (all_right P ps (flat_map (parents_in held) (ids_at names ns)) m))
+      (expanded_all g cutoff visited x ps (opened g ids cutoff held only x first ps refl)
+      (all_left P ps (flat_map (parents_in held) (ids_at names ns)) m))
+      (expanded_each visited ns (All-tail (IsQueued g ids cutoff held) x (waiting_in names (map (entry_at t) ns)) q)
+      (all_right P ps (flat_map (parents_in held) (ids_at names ns)) m))
 
 -- commits whose times are before the cutoff have no parents that have to be visited
-pub expanded_older : (g : GraphData) (ids : List ObjectId) (cutoff : Option ℤ) (held : Commits) (visited : ObjectId → Bool) (t least : ℤ) → cutoff ≡ Some least → t <ℤ least → (queue : List Waiting) → All (λ (x : Waiting). x.time ≤ℤ t) queue → All (IsQueued g ids cutoff held) queue
+pub expanded_older : (g : GraphData) (ids : List ObjectId) (cutoff : Option ℤ) (held : Commits) (visited : ObjectId → Bool)
+    (t least : ℤ) → cutoff ≡ Some least → t <ℤ least → (queue : List Waiting) → All (λ (x : Waiting). x.time ≤ℤ t) queue
+    → All (IsQueued g ids cutoff held) queue
     → All (λ (x : Waiting). IsExpanded g cutoff visited x.id) queue
 expanded_older g ids cutoff held visited t least l b queue u a k d i =
     let no_newer = u k d i in
     expanded_before g ids cutoff held visited _ (a k d i) least l (omega (arith, ints))
 
 -- with no cutoff none has
-pub expanded_never : (g : GraphData) (cutoff : Option ℤ) (visited : ObjectId → Bool) (queue : List Waiting) → cutoff ≡ None → All (λ (x : Waiting). IsExpanded g cutoff visited x.id) queue
+pub expanded_never : (g : GraphData) (cutoff : Option ℤ) (visited : ObjectId → Bool) (queue : List Waiting) → cutoff ≡ None
+    → All (λ (x : Waiting). IsExpanded g cutoff visited x.id) queue
 expanded_never g cutoff visited queue none k d i c least p r l t j = cc

@@ -21,7 +21,8 @@ count_le p q h [] = omega arith
 count_le p q h (x ∷ xs) = omega (arith, count_le p q h xs, one_at (p x) (q x) (h x))
 
 -- one that no longer passes is one less
-pub count_lt : (p q : ObjectId → Bool) → ((x : ObjectId) → q x ≡ true → p x ≡ true) → (id : ObjectId) → p id ≡ true → q id ≡ false → (xs : List ObjectId) → list_any (eq_by_cmp id_cmp id) xs ≡ true → count q xs + 1 ≤ count p xs
+pub count_lt : (p q : ObjectId → Bool) → ((x : ObjectId) → q x ≡ true → p x ≡ true) → (id : ObjectId) → p id ≡ true → q id ≡ false
+    → (xs : List ObjectId) → list_any (eq_by_cmp id_cmp id) xs ≡ true → count q xs + 1 ≤ count p xs
 count_lt p q h id a b [] w = cc
 count_lt p q h id a b (x ∷ xs) w = ⊎_elim
     (λ e.

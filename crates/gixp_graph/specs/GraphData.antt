@@ -19,7 +19,8 @@ pub record HeldCommit : Type 0 where
 
 -- a commit held is stored as the tuple of its fields
 abbrev pub coded_held : Coded HeldCommit
-coded_held = code_by (ℤ × (List ObjectId × ℕ)) (coded× coded_ℤ (coded× (coded_list coded_id) coded_ℕ)) (λ h. (h.time, (h.parents, h.flags.0))) (λ p. record { time = p.0; parents = p.1.0; flags = record { 0 = p.1.1 } }) (λ _. refl)
+coded_held = code_by (ℤ × (List ObjectId × ℕ)) (coded× coded_ℤ (coded× (coded_list coded_id) coded_ℕ))
+    (λ h. (h.time, (h.parents, h.flags.0))) (λ p. record { time = p.0; parents = p.1.0; flags = record { 0 = p.1.1 } }) (λ _. refl)
 
 -- the commits that a graph holds, by their ids
 abbrev pub Commits : Type 0
@@ -30,7 +31,8 @@ pub record GraphData : Type 0 where
   pub objects : Objects
   pub held : Commits
 
--- what a contract sees of a graph: its commits, how many calls of its objects have failed, the ids that they were asked for, and what refused calls told
+-- what a contract sees of a graph: its commits, how many calls of its objects have failed, the ids that they were asked for, and what
+-- refused calls told
 pub record GraphValue : Type 0 where
   pub graph : GraphData
   pub failures : ℕ
@@ -40,8 +42,15 @@ pub record GraphValue : Type 0 where
 -- a graph is stored as its two maps, the count and the lists
 abbrev pub coded_graph : Coded GraphValue
 coded_graph =
-    code_by (Objects × (Commits × (ℕ × (List ObjectId × Written ObjectError)))) (coded× (finite.code coded_id coded_object) (coded× (finite.code coded_id coded_held) (coded× coded_ℕ (coded× (coded_list coded_id) coded_refusals))))
-    (λ g. (g.graph.objects, (g.graph.held, (g.failures, (g.asked, g.refusals))))) (λ p. record { graph = record { objects = p.0; held = p.1.0 }; failures = p.1.1.0; asked = p.1.1.1.0; refusals = p.1.1.1.1 }) (λ _. refl)
+    code_by (Objects × (Commits × (ℕ × (List ObjectId × Written ObjectError)))) (coded× (finite.code coded_id coded_object)
+    (coded× (finite.code coded_id coded_held) (coded× coded_ℕ (coded× (coded_list coded_id) coded_refusals))))
+    (λ g. (g.graph.objects, (g.graph.held, (g.failures, (g.asked, g.refusals))))) (λ p. record {
+      graph =
+          record { objects = p.0; held = p.1.0 };
+      failures = p.1.1.0;
+      asked = p.1.1.1.0;
+      refusals = p.1.1.1.1;
+    }) (λ _. refl)
 
 -- a graph of these objects and commits
 abbrev pub graph_of : Objects → Commits → GraphData
@@ -127,4 +136,5 @@ marked_found g id = put g.held id (option_map completed (new_in g id))
 
 -- each commit is held as before, or was found without the mark COMPLETE and is now held with it
 abbrev pub OnlyMarks : GraphData → Commits → Type 0
-OnlyMarks g new = (id : ObjectId) → (finite.get new id ≡ finite.get g.held id) ⊎ ((h : HeldCommit) × (new_in g id ≡ Some h) × (finite.get new id ≡ Some (completed h)))
+OnlyMarks g new = (id : ObjectId) → (finite.get new id ≡ finite.get g.held id)
+    ⊎ ((h : HeldCommit) × (new_in g id ≡ Some h) × (finite.get new id ≡ Some (completed h)))

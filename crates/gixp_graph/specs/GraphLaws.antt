@@ -48,7 +48,8 @@ put_same m id h is = same_map ids_total ids_exact _ _ (λ q. get-insert ids_tota
 -- ---- graphs that hold nothing but what their objects have
 
 -- the same, by what is held
-reads_at : (o : Option HeldCommit) (p : Option Commit) → ((h : HeldCommit) → o ≡ Some h → p ≡ Some (as_read h)) → option_map as_read (option_or o (option_map unmarked p)) ≡ p
+reads_at : (o : Option HeldCommit) (p : Option Commit) → ((h : HeldCommit) → o ≡ Some h → p ≡ Some (as_read h))
+    → option_map as_read (option_or o (option_map unmarked p)) ≡ p
 reads_at None None f = refl
 reads_at None (Some c) f = refl
 reads_at (Some h) p f = sym (f h refl)
@@ -69,12 +70,15 @@ faithful_time g f id = times_at (found_in g id) ∙ ap (option_map (λ (c : Comm
 -- ---- look-ups
 
 -- the same, by what is held and what the objects have
-marked_at : (g : GraphData) (id q : ObjectId) (o : Option HeldCommit) (p : Option Commit) → finite.get g.held id ≡ o → is_marked (put g.held id (option_or o (option_map unmarked p))) q ≡ is_marked g.held q
+marked_at : (g : GraphData) (id q : ObjectId) (o : Option HeldCommit) (p : Option Commit) → finite.get g.held id ≡ o
+    → is_marked (put g.held id (option_or o (option_map unmarked p))) q ≡ is_marked g.held q
 marked_at g id q (Some h) p is = ap (λ m. is_marked m q) (put_same g.held id h is)
 marked_at g id q None None is = refl
-marked_at g id q None (Some c) is = ap (λ o. option_map_or is_complete o false) (get-insert ids_total g.held id (unmarked c) q) ∙ at (eq_by_cmp id_cmp q id) refl
+marked_at g id q None (Some c) is = ap (λ o. option_map_or is_complete o false) (get-insert ids_total g.held id (unmarked c) q)
+    ∙ at (eq_by_cmp id_cmp q id) refl
   where
-    at : (b : Bool) → eq_by_cmp id_cmp q id ≡ b → option_map_or is_complete (cond b (Some (unmarked c)) (finite.get g.held q)) false ≡ is_marked g.held q
+    at : (b : Bool) → eq_by_cmp id_cmp q id ≡ b → option_map_or is_complete (cond b (Some (unmarked c)) (finite.get g.held q)) false
+        ≡ is_marked g.held q
     at true e = sym (ap (is_marked g.held) (same_from q id e) ∙ ap (λ o. option_map_or is_complete o false) is)
     at false e = refl
 
@@ -83,12 +87,14 @@ pub marked_looked_up : (g : GraphData) (id q : ObjectId) → is_marked (looked_u
 marked_looked_up g id q = marked_at g id q (finite.get g.held id) (commit_at g.objects id) refl
 
 -- the same as the next, by what is held and what the objects have
-held_at : (g : GraphData) (id q : ObjectId) (o : Option HeldCommit) (p : Option Commit) → finite.get g.held id ≡ o → IsSome (finite.get (put g.held id (option_or o (option_map unmarked p))) q) → IsSome (finite.get g.held q) ⊎ (q ≡ id)
+held_at : (g : GraphData) (id q : ObjectId) (o : Option HeldCommit) (p : Option Commit) → finite.get g.held id ≡ o
+    → IsSome (finite.get (put g.held id (option_or o (option_map unmarked p))) q) → IsSome (finite.get g.held q) ⊎ (q ≡ id)
 held_at g id q (Some h) p is f = inl (subst (λ m. IsSome (finite.get m q)) (put_same g.held id h is) f)
 held_at g id q None None is f = inl f
 held_at g id q None (Some c) is f = at (eq_by_cmp id_cmp q id) refl (subst IsSome (get-insert ids_total g.held id (unmarked c) q) f)
   where
-    at : (b : Bool) → eq_by_cmp id_cmp q id ≡ b → IsSome (cond b (Some (unmarked c)) (finite.get g.held q)) → IsSome (finite.get g.held q) ⊎ (q ≡ id)
+    at : (b : Bool) → eq_by_cmp id_cmp q id ≡ b → IsSome (cond b (Some (unmarked c)) (finite.get g.held q))
+        → IsSome (finite.get g.held q) ⊎ (q ≡ id)
     at true e f = inr (same_from q id e)
     at false e f = inl f
 
@@ -99,6 +105,7 @@ held_looked_up g id q f = held_at g id q (finite.get g.held id) (commit_at g.obj
 -- ---- runs
 
 -- one call more
-pub run_more : {N : Type 0} (call : Call N) (ids : List ObjectId) (id : ObjectId) (n m k : N) (g h i : GraphData) → IsRun call ids n g m h → call m h id k i → IsRun call (ids ++ id ∷ []) n g k i
+pub run_more : {N : Type 0} (call : Call N) (ids : List ObjectId) (id : ObjectId) (n m k : N) (g h i : GraphData)
+    → IsRun call ids n g m h → call m h id k i → IsRun call (ids ++ id ∷ []) n g k i
 run_more call [] id n m k g h i r c = (k, i, subst (λ x. call x g id k i) r.0 (subst (λ x. call m x id k i) r.1 c), (refl, refl))
 run_more call (x ∷ xs) id n m k g h i r c = (r.0, r.1, r.2, run_more call xs id r.0 m k r.1 h i r.3 c)

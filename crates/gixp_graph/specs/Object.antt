@@ -70,8 +70,10 @@ coded_kind = code_by ℕ coded_ℕ kind_number kind_numbered kind_numbered-kind_
 
 -- a commit is stored as the pair of its fields
 abbrev pub coded_commit : Coded Commit
-coded_commit = code_by (ℤ × List ObjectId) (coded× coded_ℤ (coded_list coded_id)) (λ c. (c.time, c.parents)) (λ p. record { time = p.0; parents = p.1 }) (λ _. refl)
+coded_commit = code_by (ℤ × List ObjectId) (coded× coded_ℤ (coded_list coded_id)) (λ c. (c.time, c.parents))
+    (λ p. record { time = p.0; parents = p.1 }) (λ _. refl)
 
 -- an object is stored as the pair of its fields
 abbrev pub coded_object : Coded Object
-coded_object = code_by (Option ObjectKind × Option Commit) (coded× (coded_option coded_kind) (coded_option coded_commit)) (λ o. (o.kind, o.commit)) (λ p. record { kind = p.0; commit = p.1 }) (λ _. refl)
+coded_object = code_by (Option ObjectKind × Option Commit) (coded× (coded_option coded_kind) (coded_option coded_commit))
+    (λ o. (o.kind, o.commit)) (λ p. record { kind = p.0; commit = p.1 }) (λ _. refl)

@@ -16,7 +16,8 @@ entry_at t n = record { time = t; number = n }
 
 -- a list of entries is stored as a list of pairs
 abbrev pub coded_entries : Coded (List Entry)
-coded_entries = coded_list (code_by (ℤ × ℕ) (coded× coded_ℤ coded_ℕ) (λ e. (e.time, e.number)) (λ p. record { time = p.0; number = p.1 }) (λ _. refl))
+coded_entries = coded_list (code_by (ℤ × ℕ) (coded× coded_ℤ coded_ℕ) (λ e. (e.time, e.number))
+    (λ p. record { time = p.0; number = p.1 }) (λ _. refl))
 
 -- all entries of a map from times to numbers
 abbrev pub entries_in : List (ℤ × Vec ℕ Global) → List Entry

@@ -38,4 +38,6 @@ error_of_parts-error_parts Memory = refl
 
 -- the errors are stored as their parts
 abbrev pub coded_refusals : Coded (Written ObjectError)
-coded_refusals = coded_option (coded_list (code_by (Option (Option ErrorKind)) (coded_option (coded_option coded_error_kind)) error_parts error_of_parts error_of_parts-error_parts))
+coded_refusals =
+    coded_option (coded_list (code_by (Option (Option ErrorKind))
+    (coded_option (coded_option coded_error_kind)) error_parts error_of_parts error_of_parts-error_parts))

@@ -13,7 +13,8 @@ pub record Table : Type 0 where
 
 -- a table is stored as the pair of its fields
 abbrev pub coded_table : Coded Table
-coded_table = code_by (Commits × List ObjectId) (coded× (finite.code coded_id coded_held) (coded_list coded_id)) (λ t. (t.held, t.ids)) (λ p. record { held = p.0; ids = p.1 }) (λ _. refl)
+coded_table = code_by (Commits × List ObjectId) (coded× (finite.code coded_id coded_held) (coded_list coded_id)) (λ t. (t.held, t.ids))
+    (λ p. record { held = p.0; ids = p.1 }) (λ _. refl)
 
 -- the id of a number
 abbrev pub id_at : List ObjectId → ℕ → ObjectId

@@ -22,7 +22,8 @@ pub record Walk : Type 0 where
 
 -- by a table of commits, a set of numbers and a queue
 abbrev pub walk_of : Table → List Bool → List Entry → Walk
-walk_of commits visited queue = record { held = commits.held; visited = is_visited commits.ids visited; waiting = waiting_in commits.ids queue }
+walk_of commits visited queue =
+    record { held = commits.held; visited = is_visited commits.ids visited; waiting = waiting_in commits.ids queue }
 
 -- with others that wait
 abbrev pub beside : List Waiting → Walk → Walk
@@ -34,7 +35,8 @@ waits queue id = list_any (λ (x : Waiting). eq_by_cmp id_cmp id x.id) queue
 
 -- the parents of a commit were visited, where they have to be
 abbrev pub IsExpanded : GraphData → Option ℤ → (ObjectId → Bool) → ObjectId → Type 0
-IsExpanded g cutoff visited id = (c : Commit) (least : ℤ) (p : ObjectId) → commit_in g id ≡ Some c → cutoff ≡ Some least → least ≤ℤ c.time → Contains c.parents p → visited p ≡ true
+IsExpanded g cutoff visited id = (c : Commit) (least : ℤ) (p : ObjectId) → commit_in g id ≡ Some c → cutoff ≡ Some least
+    → least ≤ℤ c.time → Contains c.parents p → visited p ≡ true
 
 -- what was marked is complete, and nothing else changed
 pub record IsMarking (g : GraphData) (ids : List ObjectId) (cutoff : Option ℤ) (held : Commits) : Type 0 where
@@ -52,7 +54,8 @@ pub record IsWalk (g : GraphData) (ids : List ObjectId) (cutoff : Option ℤ) (w
   pub marking : IsMarking g ids cutoff w.held
   pub queued : All (IsQueued g ids cutoff w.held) w.waiting
   pub marked : (id : ObjectId) → w.visited id ≡ true → IsSome (commit_in g id) → is_marked w.held id ≡ true
-  pub closed : (id : ObjectId) → w.visited id ≡ true → IsSome (commit_in g id) → (waits w.waiting id ≡ true) ⊎ IsExpanded g cutoff w.visited id
+  pub closed : (id : ObjectId) → w.visited id ≡ true → IsSome (commit_in g id) → (waits w.waiting id ≡ true)
+      ⊎ IsExpanded g cutoff w.visited id
 
 -- each of these ids is looked for
 abbrev pub AreDue : GraphData → List ObjectId → Option ℤ → List ObjectId → Type 0
@@ -77,20 +80,25 @@ left g visited = count (λ q. not (visited q)) (all_ids g)
 
 -- the id was visited before, and nothing changes; or its commit is marked and waits, where it is found
 pub data Visits (objects : Objects) (id : ObjectId) (old new : Walk) : Type 0 where
-  again : old.visited id ≡ true → new.held ≡ old.held → ((q : ObjectId) → new.visited q ≡ old.visited q) → new.waiting ≡ old.waiting → Visits objects id old new
-  first : old.visited id ≡ false → new.held ≡ marked_found (graph_of objects old.held) id → ((q : ObjectId) → new.visited q ≡ (eq_by_cmp id_cmp q id || old.visited q)) → Queues (found_in (graph_of objects old.held) id) id old.waiting new.waiting
+  again : old.visited id ≡ true → new.held ≡ old.held → ((q : ObjectId) → new.visited q ≡ old.visited q) → new.waiting ≡ old.waiting
+      → Visits objects id old new
+  first : old.visited id ≡ false → new.held ≡ marked_found (graph_of objects old.held) id → ((q : ObjectId) → new.visited q
+      ≡ (eq_by_cmp id_cmp q id || old.visited q)) → Queues (found_in (graph_of objects old.held) id) id old.waiting new.waiting
       → Visits objects id old new
 
 -- to visit some of these ids marks nothing that isn't complete
 abbrev pub VisitsSome : Objects → List ObjectId → Commits → Commits → Type 0
-VisitsSome objects wanted old new = (g : GraphData) (ids : List ObjectId) (cutoff : Option ℤ) → objects ≡ g.objects → AreDue g ids cutoff wanted → IsMarking g ids cutoff old → IsMarking g ids cutoff new
+VisitsSome objects wanted old new = (g : GraphData) (ids : List ObjectId) (cutoff : Option ℤ) → objects ≡ g.objects
+    → AreDue g ids cutoff wanted → IsMarking g ids cutoff old → IsMarking g ids cutoff new
 
 -- to visit all of them keeps a walk, also beside others that wait; each commit that then waits is paid for
 pub record VisitsEach (objects : Objects) (wanted : List ObjectId) (old new : Walk) : Type 0 where
-  pub walk : (g : GraphData) (ids : List ObjectId) (cutoff : Option ℤ) (others : List Waiting) → objects ≡ g.objects → AreDue g ids cutoff wanted → IsWalk g ids cutoff (beside others old) → IsWalk g ids cutoff (beside others new)
+  pub walk : (g : GraphData) (ids : List ObjectId) (cutoff : Option ℤ) (others : List Waiting) → objects ≡ g.objects
+      → AreDue g ids cutoff wanted → IsWalk g ids cutoff (beside others old) → IsWalk g ids cutoff (beside others new)
   pub visited : AllVisited new.visited wanted
   pub keeps : (id : ObjectId) → old.visited id ≡ true → new.visited id ≡ true
-  pub less : (g : GraphData) → objects ≡ g.objects → OnlyMarks g old.held → OnlyMarks g new.held × (left g new.visited + length new.waiting ≤ left g old.visited + length old.waiting)
+  pub less : (g : GraphData) → objects ≡ g.objects → OnlyMarks g old.held → OnlyMarks g new.held
+      × (left g new.visited + length new.waiting ≤ left g old.visited + length old.waiting)
 
 -- ---- which ids a walk asks for
 
@@ -104,14 +112,17 @@ AsksDue g ids cutoff start asked = AsksEach (λ q. (finite.get g.held q ≡ None
 
 -- and that were visited since
 abbrev pub HasAsked : GraphData → List ObjectId → Option ℤ → List ObjectId → (ObjectId → Bool) → List ObjectId → Type 0
-HasAsked g ids cutoff start visited asked = AsksEach (λ q. (visited q ≡ true) × (finite.get g.held q ≡ None) × IsDue (commit_in g) ids cutoff q) start asked
+HasAsked g ids cutoff start visited asked =
+    AsksEach (λ q. (visited q ≡ true) × (finite.get g.held q ≡ None) × IsDue (commit_in g) ids cutoff q) start asked
 
 -- to visit all of some ids asks for no more
 abbrev pub AsksAll : Objects → List ObjectId → Walk → Walk → List ObjectId → List ObjectId → Type 0
 AsksAll objects wanted old new before after =
-    (g : GraphData) (ids : List ObjectId) (cutoff : Option ℤ) (start : List ObjectId) → objects ≡ g.objects → AreDue g ids cutoff wanted → OnlyMarks g old.held → HasAsked g ids cutoff start old.visited before → HasAsked g ids cutoff start new.visited after
+    (g : GraphData) (ids : List ObjectId) (cutoff : Option ℤ) (start : List ObjectId) → objects ≡ g.objects → AreDue g ids cutoff wanted
+    → OnlyMarks g old.held → HasAsked g ids cutoff start old.visited before → HasAsked g ids cutoff start new.visited after
 
 -- nor does it where it was refused
 abbrev pub AsksSome : Objects → List ObjectId → Walk → List ObjectId → List ObjectId → Type 0
 AsksSome objects wanted old before after =
-    (g : GraphData) (ids : List ObjectId) (cutoff : Option ℤ) (start : List ObjectId) → objects ≡ g.objects → AreDue g ids cutoff wanted → OnlyMarks g old.held → HasAsked g ids cutoff start old.visited before → AsksDue g ids cutoff start after
+    (g : GraphData) (ids : List ObjectId) (cutoff : Option ℤ) (start : List ObjectId) → objects ≡ g.objects → AreDue g ids cutoff wanted
+    → OnlyMarks g old.held → HasAsked g ids cutoff start old.visited before → AsksDue g ids cutoff start after

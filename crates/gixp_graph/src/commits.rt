@@ -209,7 +209,8 @@ impl Commits {
     /// Holds the commit of a number with no marks.
     fn hold(&mut self, number: usize, time: i64, parents: &[ObjectId]) -> Result<(), AllocError>
         requires { number < length self.old.ids }
-        ensures ok { OnOk result (self.new.held ≡ finite.insert self.old.held (id_at self.old.ids number) (record { time = time; parents = parents.now; flags = record { 0 = 0 } })) }
+        ensures ok { OnOk result (self.new.held ≡ finite.insert self.old.held (id_at self.old.ids number)
+            (record { time = time; parents = parents.now; flags = record { 0 = 0 } })) }
         ensures err { OnErr result (self.new.held ≡ self.old.held) }
         ensures kept { KeepsNumbers self.old.ids self.new.ids }
     {
@@ -239,7 +240,8 @@ impl Commits {
         objects: &mut O,
         id: &ObjectId,
     ) -> Result<Option<(i64, Flags)>, ObjectError>
-        ensures found { IfOk result (λ found. found ≡ option_map shown (found_in (graph_of (O.contents objects.old) self.old.held) id.now)) }
+        ensures found { IfOk result (λ found. found
+            ≡ option_map shown (found_in (graph_of (O.contents objects.old) self.old.held) id.now)) }
         ensures ok { OnOk result (self.new.held ≡ looked_up (graph_of (O.contents objects.old) self.old.held) id.now) }
         ensures err { OnErr result (self.new.held ≡ self.old.held) }
         ensures asked { AsksWhere (finite.get self.old.held id.now ≡ None) id.now (O.asked objects.old) (O.asked objects.new) }
@@ -275,12 +277,14 @@ impl Commits {
         number: usize,
     ) -> Result<Option<(i64, Flags)>, ObjectError>
         requires { number < length self.old.ids }
-        ensures found { IfOk result (λ found. found ≡ option_map shown (found_in (graph_of (O.contents objects.old) self.old.held) (id_at self.old.ids number))) }
+        ensures found { IfOk result (λ found. found
+            ≡ option_map shown (found_in (graph_of (O.contents objects.old) self.old.held) (id_at self.old.ids number))) }
         ensures once { IsOneToOne self.old.ids }
         ensures ok { OnOk result (self.new.held ≡ looked_up (graph_of (O.contents objects.old) self.old.held) (id_at self.old.ids number)) }
         ensures err { OnErr result (self.new.held ≡ self.old.held) }
         ensures kept { KeepsNumbers self.old.ids self.new.ids }
-        ensures asked { AsksWhere (finite.get self.old.held (id_at self.old.ids number) ≡ None) (id_at self.old.ids number) (O.asked objects.old) (O.asked objects.new) }
+        ensures asked { AsksWhere (finite.get self.old.held (id_at self.old.ids number) ≡ None) (id_at self.old.ids number)
+            (O.asked objects.old) (O.asked objects.new) }
         ensures contents { O.contents objects.new ≡ O.contents objects.old }
         ensures unrefused { OnOk result (O.refusals objects.new ≡ O.refusals objects.old) }
         ensures refused { IfErr result (λ e. TellsRefusal e (O.refusals objects.old) (O.refusals objects.new)) }
@@ -324,7 +328,8 @@ impl Commits {
     pub fn parent_numbers(&self, alloc: Global, numbers: &[usize]) -> Result<Vec<usize>, AllocError>
         requires { AllNamed self.now.ids numbers.now }
         ensures named { IfOk result (λ parents. AllNamed self.now.ids parents.items) }
-        ensures parents { IfOk result (λ parents. ids_at self.now.ids parents.items ≡ flat_map (parents_in self.now.held) (ids_at self.now.ids numbers.now)) }
+        ensures parents { IfOk result (λ parents. ids_at self.now.ids parents.items ≡ flat_map (parents_in self.now.held)
+            (ids_at self.now.ids numbers.now)) }
     {
         let mut all = Vec::new(alloc);
         for &number in numbers {

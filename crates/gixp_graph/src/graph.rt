@@ -34,7 +34,12 @@ impl<O: Objects> Model for Graph<O> {
 
     ghost coded = { coded_graph };
 
-    ghost view = { λ a. record { graph = graph_of (O.contents a.objects) a.commits.held; failures = O.failures a.objects; asked = O.asked a.objects; refusals = O.refusals a.objects } };
+    ghost view = { λ a. record {
+      graph = graph_of (O.contents a.objects) a.commits.held;
+      failures = O.failures a.objects;
+      asked = O.asked a.objects;
+      refusals = O.refusals a.objects;
+    } };
 
     ghost invariant = { λ a. IsFaithful (graph_of (O.contents a.objects) a.commits.held) };
 }
@@ -123,22 +128,27 @@ impl<O: Objects> Graph<O> {
         cutoff: Option<i64>,
     ) -> Result<(), ObjectError>
         // Just what was marked before and the least such set is marked.
-        ensures complete { OnOk result ((id : ObjectId) → IsTrue (is_marked self.new.graph.held id) ↔ (IsTrue (is_marked self.old.graph.held id) ⊎ IsComplete (commit_at self.old.graph.objects) ids.now cutoff id)) }
+        ensures complete { OnOk result ((id : ObjectId) → IsTrue (is_marked self.new.graph.held id)
+            ↔ (IsTrue (is_marked self.old.graph.held id) ⊎ IsComplete (commit_at self.old.graph.objects) ids.now cutoff id)) }
 
         // Each complete commit is held, the ids that are found among them.
-        ensures reads { OnOk result ((id : ObjectId) → IsComplete (commit_at self.old.graph.objects) ids.now cutoff id → IsSome (finite.get self.new.graph.held id)) }
+        ensures reads { OnOk result ((id : ObjectId) → IsComplete (commit_at self.old.graph.objects) ids.now cutoff id
+            → IsSome (finite.get self.new.graph.held id)) }
 
         // Also after a refusal, only complete commits are held that weren't before.
-        ensures held { (id : ObjectId) → IsSome (finite.get self.new.graph.held id) → IsSome (finite.get self.old.graph.held id) ⊎ IsComplete (commit_at self.old.graph.objects) ids.now cutoff id }
+        ensures held { (id : ObjectId) → IsSome (finite.get self.new.graph.held id) → IsSome (finite.get self.old.graph.held id)
+            ⊎ IsComplete (commit_at self.old.graph.objects) ids.now cutoff id }
 
         // Nor is another mark changed, and what was marked is complete.
         ensures only_marks { OnlyMarks self.old.graph self.new.graph.held }
-        ensures sound { (id : ObjectId) → IsTrue (is_marked self.new.graph.held id) → IsTrue (is_marked self.old.graph.held id) ⊎ IsComplete (commit_at self.old.graph.objects) ids.now cutoff id }
+        ensures sound { (id : ObjectId) → IsTrue (is_marked self.new.graph.held id) → IsTrue (is_marked self.old.graph.held id)
+            ⊎ IsComplete (commit_at self.old.graph.objects) ids.now cutoff id }
         ensures objects { self.new.graph.objects ≡ self.old.graph.objects }
 
         // No commit is read twice, and none but those that aren't held and that may be complete: of the
         // ids, and of the parents of each complete commit from the cutoff on.
-        ensures asked { AsksEach (λ id. (finite.get self.old.graph.held id ≡ None) × IsDue (commit_at self.old.graph.objects) ids.now cutoff id) self.old.asked self.new.asked }
+        ensures asked { AsksEach (λ id. (finite.get self.old.graph.held id ≡ None)
+            × IsDue (commit_at self.old.graph.objects) ids.now cutoff id) self.old.asked self.new.asked }
 
         // The error is that of the objects, or an allocation failed and they were refused nothing.
         ensures unrefused { OnOk result (self.new.refusals ≡ self.old.refusals) }

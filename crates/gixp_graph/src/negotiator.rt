@@ -69,7 +69,8 @@ pub trait Negotiator {
         ensures objects { graph.new.graph.objects ≡ graph.old.graph.objects }
         ensures failures { calls.failures self.old ≤ calls.failures self.new }
         ensures graph_failures { graph.old.failures ≤ graph.new.failures }
-        ensures failed { IfErr result (IsRefusal (calls.failures self.old) (calls.failures self.new) graph.old.failures graph.new.failures) };
+        ensures failed { IfErr result (IsRefusal (calls.failures self.old)
+            (calls.failures self.new) graph.old.failures graph.new.failures) };
 
     /// Adds a commit to begin from.
     ///
@@ -86,7 +87,8 @@ pub trait Negotiator {
         ensures objects { graph.new.graph.objects ≡ graph.old.graph.objects }
         ensures failures { calls.failures self.old ≤ calls.failures self.new }
         ensures graph_failures { graph.old.failures ≤ graph.new.failures }
-        ensures failed { IfErr result (IsRefusal (calls.failures self.old) (calls.failures self.new) graph.old.failures graph.new.failures) };
+        ensures failed { IfErr result (IsRefusal (calls.failures self.old)
+            (calls.failures self.new) graph.old.failures graph.new.failures) };
 
     /// Tells it of a have that the server has too.
     ///
@@ -104,7 +106,8 @@ pub trait Negotiator {
         ensures objects { graph.new.graph.objects ≡ graph.old.graph.objects }
         ensures failures { calls.failures self.old ≤ calls.failures self.new }
         ensures graph_failures { graph.old.failures ≤ graph.new.failures }
-        ensures failed { IfErr result (IsRefusal (calls.failures self.old) (calls.failures self.new) graph.old.failures graph.new.failures) };
+        ensures failed { IfErr result (IsRefusal (calls.failures self.old)
+            (calls.failures self.new) graph.old.failures graph.new.failures) };
 
     /// The next commit to offer, none where it has no more.
     ///
@@ -115,20 +118,25 @@ pub trait Negotiator {
         &mut self,
         graph: &mut Graph<O>,
     ) -> Option<Result<ObjectId, NegotiatorError>>
-        ensures offered { IfSome result (λ have. IfOk have (λ id. calls.offers self.old graph.old.graph (Some id) self.new graph.new.graph)) }
+        ensures offered { IfSome result (λ have.
+            IfOk have (λ id. calls.offers self.old graph.old.graph (Some id) self.new graph.new.graph)) }
         ensures none { IfNone result (calls.offers self.old graph.old.graph None self.new graph.new.graph) }
         ensures fails { IfSome result (λ have. IfErr have (λ e. calls.offering_fails self.old graph.old.graph e self.new graph.new.graph)) }
         ensures objects { graph.new.graph.objects ≡ graph.old.graph.objects }
         ensures failures { calls.failures self.old ≤ calls.failures self.new }
         ensures graph_failures { graph.old.failures ≤ graph.new.failures }
-        ensures failed { IfSome result (λ have. IfErr have (IsRefusal (calls.failures self.old) (calls.failures self.new) graph.old.failures graph.new.failures)) };
+        ensures failed { IfSome result (λ have. IfErr have
+            (IsRefusal (calls.failures self.old) (calls.failures self.new) graph.old.failures graph.new.failures)) };
 
     /// Each offer lowers the count.
-    ghost offer_lowers: { (n : Self) (g : GraphData) (id : ObjectId) (m : Self) (h : GraphData) → calls.offers n g (Some id) m h → calls.count m h < calls.count n g };
+    ghost offer_lowers: { (n : Self) (g : GraphData) (id : ObjectId) (m : Self) (h : GraphData) → calls.offers n g (Some id) m h
+        → calls.count m h < calls.count n g };
 
     /// Where there is no offer, it isn't raised.
-    ghost none_keeps: { (n : Self) (g : GraphData) (m : Self) (h : GraphData) → calls.offers n g None m h → calls.count m h ≤ calls.count n g };
+    ghost none_keeps: { (n : Self) (g : GraphData) (m : Self) (h : GraphData) → calls.offers n g None m h
+        → calls.count m h ≤ calls.count n g };
 
     /// Nor is it by what the server has.
-    ghost learning_keeps: { (n : Self) (g : GraphData) (id : ObjectId) (m : Self) (h : GraphData) → calls.learns n g id m h → calls.count m h ≤ calls.count n g };
+    ghost learning_keeps: { (n : Self) (g : GraphData) (id : ObjectId) (m : Self) (h : GraphData) → calls.learns n g id m h
+        → calls.count m h ≤ calls.count n g };
 }

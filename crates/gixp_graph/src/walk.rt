@@ -30,11 +30,14 @@ fn mark_found<O: Objects>(
     number: usize,
 ) -> Result<Option<i64>, ObjectError>
     requires { number < length commits.old.ids }
-    ensures time { IfOk result (λ time. time ≡ option_map (λ (h : HeldCommit). h.time) (found_in (graph_of (O.contents objects.old) commits.old.held) (id_at commits.old.ids number))) }
-    ensures ok { OnOk result (commits.new.held ≡ marked_found (graph_of (O.contents objects.old) commits.old.held) (id_at commits.old.ids number)) }
+    ensures time { IfOk result (λ time. time ≡ option_map (λ (h : HeldCommit). h.time)
+        (found_in (graph_of (O.contents objects.old) commits.old.held) (id_at commits.old.ids number))) }
+    ensures ok { OnOk result (commits.new.held ≡ marked_found (graph_of (O.contents objects.old) commits.old.held)
+        (id_at commits.old.ids number)) }
     ensures err { OnErr result (commits.new.held ≡ commits.old.held) }
     ensures once { IsOneToOne commits.old.ids }
-    ensures asked { AsksWhere (finite.get commits.old.held (id_at commits.old.ids number) ≡ None) (id_at commits.old.ids number) (O.asked objects.old) (O.asked objects.new) }
+    ensures asked { AsksWhere (finite.get commits.old.held (id_at commits.old.ids number) ≡ None) (id_at commits.old.ids number)
+        (O.asked objects.old) (O.asked objects.new) }
     ensures kept { KeepsNumbers commits.old.ids commits.new.ids }
     ensures contents { O.contents objects.new ≡ O.contents objects.old }
     ensures unrefused { OnOk result (O.refusals objects.new ≡ O.refusals objects.old) }
@@ -64,11 +67,14 @@ fn visit<O: Objects>(
     requires named { number < length commits.old.ids }
     requires visited_named { AllVisitedNamed commits.old.ids visited.old }
     requires queue_named { AllQueuedNamed commits.old.ids queue.old }
-    ensures visits { OnOk result (Visits (O.contents objects.old) (id_at commits.old.ids number) (walk_of commits.old visited.old queue.old) (walk_of commits.new visited.new queue.new)) }
+    ensures visits { OnOk result (Visits (O.contents objects.old) (id_at commits.old.ids number)
+        (walk_of commits.old visited.old queue.old) (walk_of commits.new visited.new queue.new)) }
     ensures visited_named { OnOk result (AllVisitedNamed commits.new.ids visited.new) }
     ensures queue_named { OnOk result (AllQueuedNamed commits.new.ids queue.new) }
-    ensures asked { AsksWhere (IsUnread (walk_of commits.old visited.old queue.old) (id_at commits.old.ids number)) (id_at commits.old.ids number) (O.asked objects.old) (O.asked objects.new) }
-    ensures err { OnErr result ((commits.new.held ≡ commits.old.held) ⊎ (commits.new.held ≡ marked_found (graph_of (O.contents objects.old) commits.old.held) (id_at commits.old.ids number))) }
+    ensures asked { AsksWhere (IsUnread (walk_of commits.old visited.old queue.old) (id_at commits.old.ids number))
+        (id_at commits.old.ids number) (O.asked objects.old) (O.asked objects.new) }
+    ensures err { OnErr result ((commits.new.held ≡ commits.old.held)
+        ⊎ (commits.new.held ≡ marked_found (graph_of (O.contents objects.old) commits.old.held) (id_at commits.old.ids number))) }
     ensures kept { KeepsNumbers commits.old.ids commits.new.ids }
     ensures contents { O.contents objects.new ≡ O.contents objects.old }
     ensures unrefused { OnOk result (O.refusals objects.new ≡ O.refusals objects.old) }
@@ -102,11 +108,15 @@ fn visit_each<O: Objects>(
     requires named { AllNamed commits.old.ids numbers.now }
     requires visited_named { AllVisitedNamed commits.old.ids visited.old }
     requires queue_named { AllQueuedNamed commits.old.ids queue.old }
-    ensures each { OnOk result (VisitsEach (O.contents objects.old) (ids_at commits.old.ids numbers.now) (walk_of commits.old visited.old queue.old) (walk_of commits.new visited.new queue.new)) }
+    ensures each { OnOk result (VisitsEach (O.contents objects.old) (ids_at commits.old.ids numbers.now)
+        (walk_of commits.old visited.old queue.old) (walk_of commits.new visited.new queue.new)) }
     ensures visited_named { OnOk result (AllVisitedNamed commits.new.ids visited.new) }
     ensures queue_named { OnOk result (AllQueuedNamed commits.new.ids queue.new) }
-    ensures asked { OnOk result (AsksAll (O.contents objects.old) (ids_at commits.old.ids numbers.now) (walk_of commits.old visited.old queue.old) (walk_of commits.new visited.new queue.new) (O.asked objects.old) (O.asked objects.new)) }
-    ensures asked_some { OnErr result (AsksSome (O.contents objects.old) (ids_at commits.old.ids numbers.now) (walk_of commits.old visited.old queue.old) (O.asked objects.old) (O.asked objects.new)) }
+    ensures asked { OnOk result (AsksAll (O.contents objects.old) (ids_at commits.old.ids numbers.now)
+        (walk_of commits.old visited.old queue.old) (walk_of commits.new visited.new queue.new) (O.asked objects.old)
+        (O.asked objects.new)) }
+    ensures asked_some { OnErr result (AsksSome (O.contents objects.old) (ids_at commits.old.ids numbers.now)
+        (walk_of commits.old visited.old queue.old) (O.asked objects.old) (O.asked objects.new)) }
     ensures some { VisitsSome (O.contents objects.old) (ids_at commits.old.ids numbers.now) commits.old.held commits.new.held }
     ensures kept { KeepsNumbers commits.old.ids commits.new.ids }
     ensures contents { O.contents objects.new ≡ O.contents objects.old }
@@ -136,9 +146,12 @@ pub(crate) fn mark_complete<O: Objects>(
     cutoff: Option<i64>,
 ) -> Result<(), ObjectError>
     ensures only_marks { OnlyMarks (graph_of (O.contents objects.old) commits.old.held) commits.new.held }
-    ensures sound { (id : ObjectId) → IsTrue (is_marked commits.new.held id) → IsTrue (is_marked commits.old.held id) ⊎ IsComplete (commit_in (graph_of (O.contents objects.old) commits.old.held)) ids.now cutoff id }
-    ensures complete { OnOk result ((id : ObjectId) → IsComplete (commit_in (graph_of (O.contents objects.old) commits.old.held)) ids.now cutoff id → IsTrue (is_marked commits.new.held id)) }
-    ensures asked { AsksDue (graph_of (O.contents objects.old) commits.old.held) ids.now cutoff (O.asked objects.old) (O.asked objects.new) }
+    ensures sound { (id : ObjectId) → IsTrue (is_marked commits.new.held id) → IsTrue (is_marked commits.old.held id)
+        ⊎ IsComplete (commit_in (graph_of (O.contents objects.old) commits.old.held)) ids.now cutoff id }
+    ensures complete { OnOk result ((id : ObjectId) → IsComplete
+        (commit_in (graph_of (O.contents objects.old) commits.old.held)) ids.now cutoff id → IsTrue (is_marked commits.new.held id)) }
+    ensures asked { AsksDue (graph_of (O.contents objects.old) commits.old.held) ids.now cutoff (O.asked objects.old)
+        (O.asked objects.new) }
     ensures contents { O.contents objects.new ≡ O.contents objects.old }
     ensures unrefused { OnOk result (O.refusals objects.new ≡ O.refusals objects.old) }
     ensures refused { IfErr result (λ e. TellsRefusal e (O.refusals objects.old) (O.refusals objects.new)) }

@@ -30,12 +30,14 @@ abbrev pub stored_at : List (ObjectId × StoredObject) → ObjectId → Option S
 stored_at stored id = lookup (is_at (id_cmp id)) stored
 
 -- what is found among the objects is what is stored
-find_map : (es : List (ObjectId × StoredObject)) (q : ObjectId) → find id_cmp q (map (λ (e : ObjectId × StoredObject). (e.0, object_of e.1)) es) ≡ option_map object_of (stored_at es q)
+find_map : (es : List (ObjectId × StoredObject)) (q : ObjectId)
+    → find id_cmp q (map (λ (e : ObjectId × StoredObject). (e.0, object_of e.1)) es) ≡ option_map object_of (stored_at es q)
 find_map [] q = refl
 find_map (e ∷ es) q = at (eq_by_cmp id_cmp q e.0) (find_map es q)
   where
     at : (b : Bool) → find id_cmp q (map (λ (e : ObjectId × StoredObject). (e.0, object_of e.1)) es) ≡ option_map object_of (stored_at es q)
-        → cond b (Some (object_of e.1)) (find id_cmp q (map (λ (e : ObjectId × StoredObject). (e.0, object_of e.1)) es)) ≡ option_map object_of (cond b (Some e.1) (stored_at es q))
+        → cond b (Some (object_of e.1)) (find id_cmp q (map (λ (e : ObjectId × StoredObject). (e.0, object_of e.1)) es))
+        ≡ option_map object_of (cond b (Some e.1) (stored_at es q))
     at true r = refl
     at false r = r
 
@@ -84,12 +86,14 @@ abbrev NamedId : Type 0
 NamedId = Vec ℕ Global × ObjectId
 
 -- what is found among the refs is what the name holds
-find_named : (es : List NamedId) (q : List ℕ) → find (slice_cmp nat_cmp) q (map (λ (e : NamedId). (e.0.items, e.1)) es) ≡ lookup (is_at (λ (k : Vec ℕ Global). slice_cmp nat_cmp q k.items)) es
+find_named : (es : List NamedId) (q : List ℕ) → find (slice_cmp nat_cmp) q (map (λ (e : NamedId). (e.0.items, e.1)) es)
+    ≡ lookup (is_at (λ (k : Vec ℕ Global). slice_cmp nat_cmp q k.items)) es
 find_named [] q = refl
 find_named (e ∷ es) q = ap (cond (eq_by_cmp (slice_cmp nat_cmp) q e.0.items) (Some e.1)) (find_named es q)
 
 -- the id that a name holds
-pub named : (es : List NamedId) (q : List ℕ) → finite.get (refs_of es) q ≡ lookup (is_at (λ (k : Vec ℕ Global). slice_cmp nat_cmp q k.items)) es
+pub named : (es : List NamedId) (q : List ℕ)
+    → finite.get (refs_of es) q ≡ lookup (is_at (λ (k : Vec ℕ Global). slice_cmp nat_cmp q k.items)) es
 named es q = get-from_entries nat_list_cmp_total (map (λ (e : NamedId). (e.0.items, e.1)) es) q ∙ find_named es q
 
 -- ---- what is filled
@@ -98,19 +102,27 @@ named es q = get-from_entries nat_list_cmp_total (map (λ (e : NamedId). (e.0.it
 same_sides : (q id : ObjectId) (b : Bool) → eq_by_cmp id_cmp q id ≡ b → is_at (id_cmp id) q ≡ b
 same_sides q id true e = subst (λ k. eq_by_cmp id_cmp id k ≡ true) (sym (same_from q id e)) (same_id id)
 same_sides q id false e = ⊎_elim
-    (λ t. absurd (let two : eq_by_cmp id_cmp q id ≡ true = subst (λ k. eq_by_cmp id_cmp q k ≡ true) (sym (same_from id q t)) (same_id q) in let clash : true ≡ false = sym two ∙ e in cc))
+    (λ t. absurd (let two : eq_by_cmp id_cmp q id ≡ true =
+    subst (λ k. eq_by_cmp id_cmp q k ≡ true) (sym (same_from id q t)) (same_id q) in let clash : true ≡ false = sym two ∙ e in cc))
     (λ f. f) (true_or_false (eq_by_cmp id_cmp id q))
 
 -- what is stored under an id is put among the objects
-pub objects_put : (es fs : List (ObjectId × StoredObject)) (id : ObjectId) (s : StoredObject) → ((q : ObjectId) → stored_at fs q ≡ cond (is_at (id_cmp id) q) (Some s) (stored_at es q))
+pub objects_put : (es fs : List (ObjectId × StoredObject)) (id : ObjectId) (s : StoredObject)
+    → ((q : ObjectId) → stored_at fs q ≡ cond (is_at (id_cmp id) q) (Some s) (stored_at es q))
     → objects_of fs ≡ finite.insert (objects_of es) id (object_of s)
-objects_put es fs id s h = same_map ids_total ids_exact _ _ (λ q. get_stored fs q ∙ ap (option_map object_of) (h q) ∙ at q (true_or_false (eq_by_cmp id_cmp q id)))
+objects_put es fs id s h = same_map ids_total ids_exact _ _ (λ q. get_stored fs q ∙ ap (option_map object_of) (h q)
+    ∙ at q (true_or_false (eq_by_cmp id_cmp q id)))
   where
-    here : (q : ObjectId) (b : Bool) → is_at (id_cmp id) q ≡ b → eq_by_cmp id_cmp q id ≡ b → option_map object_of (cond (is_at (id_cmp id) q) (Some s) (stored_at es q)) ≡ finite.get (finite.insert (objects_of es) id (object_of s)) q
-    here q true e f = ap (λ b. option_map object_of (cond b (Some s) (stored_at es q))) e ∙ sym (get-insert ids_total (objects_of es) id (object_of s) q ∙ ap (λ b. cond b (Some (object_of s)) (finite.get (objects_of es) q)) f)
-    here q false e f = ap (λ b. option_map object_of (cond b (Some s) (stored_at es q))) e ∙ sym (get_stored es q) ∙ sym (get-insert ids_total (objects_of es) id (object_of s) q ∙ ap (λ b. cond b (Some (object_of s)) (finite.get (objects_of es) q)) f)
+    here : (q : ObjectId) (b : Bool) → is_at (id_cmp id) q ≡ b → eq_by_cmp id_cmp q id ≡ b → option_map object_of
+        (cond (is_at (id_cmp id) q) (Some s) (stored_at es q)) ≡ finite.get (finite.insert (objects_of es) id (object_of s)) q
+    here q true e f = ap (λ b. option_map object_of (cond b (Some s) (stored_at es q))) e ∙ sym (get-insert ids_total (objects_of es) id
+        (object_of s) q ∙ ap (λ b. cond b (Some (object_of s)) (finite.get (objects_of es) q)) f)
+    here q false e f = ap (λ b. option_map object_of (cond b (Some s) (stored_at es q))) e ∙ sym (get_stored es q)
+        ∙ sym (get-insert ids_total (objects_of es) id (object_of s) q
+        ∙ ap (λ b. cond b (Some (object_of s)) (finite.get (objects_of es) q)) f)
 
-    at : (q : ObjectId) → (eq_by_cmp id_cmp q id ≡ true) ⊎ (eq_by_cmp id_cmp q id ≡ false) → option_map object_of (cond (is_at (id_cmp id) q) (Some s) (stored_at es q)) ≡ finite.get (finite.insert (objects_of es) id (object_of s)) q
+    at : (q : ObjectId) → (eq_by_cmp id_cmp q id ≡ true) ⊎ (eq_by_cmp id_cmp q id ≡ false) → option_map object_of
+        (cond (is_at (id_cmp id) q) (Some s) (stored_at es q)) ≡ finite.get (finite.insert (objects_of es) id (object_of s)) q
     at q (inl t) = here q true (same_sides q id true t) t
     at q (inr f) = here q false (same_sides q id false f) f
 
@@ -120,29 +132,36 @@ abbrev StoredName : Type 0
 StoredName = Vec ℕ Global × StoredRef
 
 -- a ref is put among those that are stored
-pub refs_put : (es : List StoredName) (name : Vec ℕ Global) (s : StoredRef) → map named_ref (insert_entry name_cmp es name s) ≡ with_ref (map named_ref es) (named_ref (name, s))
+pub refs_put : (es : List StoredName) (name : Vec ℕ Global) (s : StoredRef) → map named_ref (insert_entry name_cmp es name s)
+    ≡ with_ref (map named_ref es) (named_ref (name, s))
 refs_put [] name s = refl
 refs_put (e ∷ es) name s = at (slice_cmp nat_cmp name.items e.0.items) refl (refs_put es name s)
   where
-    at : (o : Ordering) → slice_cmp nat_cmp name.items e.0.items ≡ o → map named_ref (insert_entry name_cmp es name s) ≡ with_ref (map named_ref es) (named_ref (name, s))
+    at : (o : Ordering) → slice_cmp nat_cmp name.items e.0.items ≡ o → map named_ref (insert_entry name_cmp es name s)
+        ≡ with_ref (map named_ref es) (named_ref (name, s))
         → map named_ref (match_ordering o ((name, s) ∷ e ∷ es) ((e.0, s) ∷ es) (e ∷ insert_entry name_cmp es name s))
-        ≡ match_ordering o (named_ref (name, s) ∷ named_ref e ∷ map named_ref es) (named_ref (name, s) ∷ map named_ref es) (named_ref e ∷ with_ref (map named_ref es) (named_ref (name, s)))
+        ≡ match_ordering o (named_ref (name, s) ∷ named_ref e ∷ map named_ref es) (named_ref (name, s) ∷ map named_ref es)
+        (named_ref e ∷ with_ref (map named_ref es) (named_ref (name, s)))
     at Less h r = refl
     at Equal h r = ap (λ n. record { name = n; id = s.id; peeled = s.peeled } ∷ map named_ref es) (sym (exact_bytes name.items e.0.items h))
     at Greater h r = ap (λ rs. named_ref e ∷ rs) r
 
 -- what is found among the refs is what is stored under the name
-find_held : (es : List StoredName) (q : List ℕ) → find (slice_cmp nat_cmp) q (map (λ (r : PeeledRef). (r.name, r.id)) (map named_ref es)) ≡ option_map (λ (s : StoredRef). s.id) (lookup (is_at (λ (k : Vec ℕ Global). slice_cmp nat_cmp q k.items)) es)
+find_held : (es : List StoredName) (q : List ℕ) → find (slice_cmp nat_cmp) q (map (λ (r : PeeledRef). (r.name, r.id))
+    (map named_ref es)) ≡ option_map (λ (s : StoredRef). s.id) (lookup (is_at (λ (k : Vec ℕ Global). slice_cmp nat_cmp q k.items)) es)
 find_held [] q = refl
 find_held (e ∷ es) q = at (eq_by_cmp (slice_cmp nat_cmp) q e.0.items) (find_held es q)
   where
-    at : (b : Bool) → find (slice_cmp nat_cmp) q (map (λ (r : PeeledRef). (r.name, r.id)) (map named_ref es)) ≡ option_map (λ (s : StoredRef). s.id) (lookup (is_at (λ (k : Vec ℕ Global). slice_cmp nat_cmp q k.items)) es)
-        → cond b (Some e.1.id) (find (slice_cmp nat_cmp) q (map (λ (r : PeeledRef). (r.name, r.id)) (map named_ref es))) ≡ option_map (λ (s : StoredRef). s.id) (cond b (Some e.1) (lookup (is_at (λ (k : Vec ℕ Global). slice_cmp nat_cmp q k.items)) es))
+    at : (b : Bool) → find (slice_cmp nat_cmp) q (map (λ (r : PeeledRef). (r.name, r.id)) (map named_ref es))
+        ≡ option_map (λ (s : StoredRef). s.id) (lookup (is_at (λ (k : Vec ℕ Global). slice_cmp nat_cmp q k.items)) es)
+        → cond b (Some e.1.id) (find (slice_cmp nat_cmp) q (map (λ (r : PeeledRef). (r.name, r.id)) (map named_ref es))) ≡ option_map
+        (λ (s : StoredRef). s.id) (cond b (Some e.1) (lookup (is_at (λ (k : Vec ℕ Global). slice_cmp nat_cmp q k.items)) es))
     at true h = refl
     at false h = h
 
 -- the id that a name holds
-pub held_stored : (es : List StoredName) (q : List ℕ) → ref_named (map named_ref es) q ≡ option_map (λ (s : StoredRef). s.id) (lookup (is_at (λ (k : Vec ℕ Global). slice_cmp nat_cmp q k.items)) es)
+pub held_stored : (es : List StoredName) (q : List ℕ) → ref_named (map named_ref es) q ≡ option_map (λ (s : StoredRef). s.id)
+    (lookup (is_at (λ (k : Vec ℕ Global). slice_cmp nat_cmp q k.items)) es)
 held_stored es q = get-from_entries nat_list_cmp_total (map (λ (r : PeeledRef). (r.name, r.id)) (map named_ref es)) q ∙ find_held es q
 
 -- the id of what is stored

@@ -24,7 +24,8 @@ with_commit objects id c = finite.insert objects id (record { kind = Some IsComm
 
 -- an object of a kind, unless there is one of that id
 abbrev pub with_kind : Objects → ObjectId → ObjectKind → Objects
-with_kind objects id kind = if finite.contains_key objects id then objects else finite.insert objects id (record { kind = Some kind; commit = None })
+with_kind objects id kind = if finite.contains_key objects id then objects
+    else finite.insert objects id (record { kind = Some kind; commit = None })
 
 -- a ref, its id, and that of the object which is no tag that it leads to
 pub record PeeledRef : Type 0 where
@@ -34,7 +35,8 @@ pub record PeeledRef : Type 0 where
 
 -- refs are stored as the tuples of their fields
 abbrev pub coded_refs : Coded (List PeeledRef)
-coded_refs = coded_list (code_by (List ℕ × (ObjectId × ObjectId)) (coded× (coded_list coded_ℕ) (coded× coded_id coded_id)) (λ r. (r.name, (r.id, r.peeled))) (λ p. record { name = p.0; id = p.1.0; peeled = p.1.1 }) (λ _. refl))
+coded_refs = coded_list (code_by (List ℕ × (ObjectId × ObjectId)) (coded× (coded_list coded_ℕ) (coded× coded_id coded_id))
+    (λ r. (r.name, (r.id, r.peeled))) (λ p. record { name = p.0; id = p.1.0; peeled = p.1.1 }) (λ _. refl))
 
 -- a ref among those in the order of their names; one of the same name goes
 abbrev pub with_ref : List PeeledRef → PeeledRef → List PeeledRef
@@ -94,7 +96,8 @@ abbrev pub commit_of_words : List (List ℕ) → Option (ObjectId × Commit)
 commit_of_words [] = None
 commit_of_words (_ ∷ []) = None
 commit_of_words (time ∷ id ∷ parents) =
-    option_and_then (λ t. option_and_then (λ i. option_map (λ ps. (i, record { time = t; parents = ps })) (named_ids parents)) (named_id id)) (seconds time)
+    option_and_then (λ t. option_and_then (λ i. option_map (λ ps. (i, record { time = t; parents = ps })) (named_ids parents))
+    (named_id id)) (seconds time)
 
 -- an id and a kind
 abbrev pub kind_of_words : List (List ℕ) → Option (ObjectId × ObjectKind)

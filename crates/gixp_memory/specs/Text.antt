@@ -40,5 +40,6 @@ ReadsSome step old lines n new = after_lines step old (take n lines) ≡ Some ne
 -- all lines of a text are read; or those before the line of a number, which can't be read; or some of the first, where an allocation failed
 abbrev pub FillsByText : {S : Type 0} → (S → List ℕ → Option S) → S → List ℕ → S → Result (Unit {0}) TextError → Type 0
 FillsByText step old text new (Ok _) = after_lines step old (text_lines text) ≡ Some new
-FillsByText step old text new (Err (Line n)) = (0 < n) × ReadsSome step old (text_lines text) (n - 1) new × BeginsUnread step new (drop (n - 1) (text_lines text))
+FillsByText step old text new (Err (Line n)) = (0 < n) × ReadsSome step old (text_lines text) (n - 1) new
+    × BeginsUnread step new (drop (n - 1) (text_lines text))
 FillsByText step old text new (Err Memory) = (n : ℕ) × ReadsSome step old (text_lines text) n new

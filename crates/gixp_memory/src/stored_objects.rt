@@ -55,7 +55,8 @@ impl StoredObjects {
         kind: ObjectKind,
         commit: Option<CommitData>,
     ) -> Result<(), AllocError>
-        ensures ok { OnOk result (self.new ≡ finite.insert self.old id (record { kind = Some kind; commit = option_map commit_of commit })) }
+        ensures ok { OnOk result (self.new ≡ finite.insert self.old id
+            (record { kind = Some kind; commit = option_map commit_of commit })) }
         ensures err { OnErr result (self.new ≡ self.old) }
     {
         let object = StoredObject {

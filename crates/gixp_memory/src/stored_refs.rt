@@ -78,7 +78,8 @@ impl StoredRefs {
     // Adds a ref of a name, or what one leads to. Returns whether there is one.
     fn add_by(&mut self, alloc: Global, id: ObjectId, name: &[u8]) -> Result<bool, AllocError>
         ensures read { IfOk result (λ is_read. is_read ≡ true → ref_by self.old id name.now (peeled_name name.now) ≡ Some self.new) }
-        ensures unread { IfOk result (λ is_read. is_read ≡ false → (ref_by self.old id name.now (peeled_name name.now) ≡ None) × (self.new ≡ self.old)) }
+        ensures unread { IfOk result (λ is_read. is_read ≡ false → (ref_by self.old id name.now (peeled_name name.now) ≡ None)
+            × (self.new ≡ self.old)) }
         ensures err { OnErr result (self.new ≡ self.old) }
     {
         let Some(base) = peeled_name(name) else {

@@ -20,10 +20,12 @@ or_cond false true = refl
 or_cond false false = refl
 
 -- one id more
-pub index_more : (keys more ids : List ObjectId) (id : ObjectId) → IsIndex keys ids → ((q : ObjectId) → list_any (is_at (id_cmp q)) more ≡ cond (is_at (id_cmp id) q) true (list_any (is_at (id_cmp q)) keys)) → IsIndex more (ids ++ id ∷ [])
+pub index_more : (keys more ids : List ObjectId) (id : ObjectId) → IsIndex keys ids → ((q : ObjectId) → list_any (is_at (id_cmp q)) more
+    ≡ cond (is_at (id_cmp id) q) true (list_any (is_at (id_cmp q)) keys)) → IsIndex more (ids ++ id ∷ [])
 index_more keys more ids id i u q =
     u q ∙ (ap (λ b. cond b true (list_any (is_at (id_cmp q)) keys)) (same_at id q)
-    ∙ (ap (cond (is_same_id id q) true) (i q) ∙ (or_cond (is_same_id id q) (has_id ids q) ∙ sym (list_any-append (λ had. is_same_id had q) ids (id ∷ [])))))
+    ∙ (ap (cond (is_same_id id q) true) (i q)
+    ∙ (or_cond (is_same_id id q) (has_id ids q) ∙ sym (list_any-append (λ had. is_same_id had q) ids (id ∷ [])))))
 
 -- an id that is there, and one that isn't
 pub kept_there : (ids : List ObjectId) (id : ObjectId) → has_id ids id ≡ true → ids ≡ keeping ids id

@@ -16,7 +16,8 @@ use Rattle.gixp_negotiate.specs.Stopped.{IsNegotiate}
 use Rattle.gixp_negotiate.specs.Stores.{Listings, HasListed, RefusesToList, ListsFront, ListsUpTo, Lent, ListsBy}
 
 module _ {R : Type 0} (listings : Listings R) (d b : R) where
-  front_suc : (k : ℕ) (old mid : List R) → ListsFront listings k old mid → k < length mid → HasListed listings (get_or mid k d) b → ListsFront listings (suc k) old (set mid k b)
+  front_suc : (k : ℕ) (old mid : List R) → ListsFront listings k old mid → k < length mid → HasListed listings (get_or mid k d) b
+      → ListsFront listings (suc k) old (set mid k b)
   front_suc zero old [] f h l = absurd (omega arith)
   front_suc zero old (x ∷ mid) f h l = subst (λ o. ListsFront listings (suc zero) o (b ∷ mid)) f (l, refl)
   front_suc (suc k) [] mid f h l = absurd f
@@ -24,11 +25,14 @@ module _ {R : Type 0} (listings : Listings R) (d b : R) where
   front_suc (suc k) (a ∷ old) (x ∷ mid) f h l = (f.0, front_suc k old mid f.1 (omega arith) l)
 
   -- one store more
-  pub front_more : (k : ℕ) (old mid : List R) → ListsFront listings k old mid → k < length mid → HasListed listings (get_or mid k d) b → ListsFront listings (k + 1) old (set mid k b)
+  pub front_more : (k : ℕ) (old mid : List R) → ListsFront listings k old mid → k < length mid → HasListed listings (get_or mid k d) b
+      → ListsFront listings (k + 1) old (set mid k b)
   front_more k old mid f h l = subst (λ n. ListsFront listings n old (set mid k b)) (sym (add-one k)) (front_suc k old mid f h l)
 
   -- the store that was the last
-  pub up_to : {A : Type 0} (k : ℕ) (old mid : List R) (e : Error A) → ListsFront listings k old mid → k < length mid → RefusesToList listings (get_or mid k d) b e ⊎ (HasListed listings (get_or mid k d) b × (e ≡ Memory)) → ListsUpTo listings k old (set mid k b) e
+  pub up_to : {A : Type 0} (k : ℕ) (old mid : List R) (e : Error A) → ListsFront listings k old mid → k < length mid
+      → RefusesToList listings (get_or mid k d) b e ⊎ (HasListed listings (get_or mid k d) b × (e ≡ Memory))
+      → ListsUpTo listings k old (set mid k b) e
   up_to zero old [] e f h l = absurd (omega arith)
   up_to zero old (x ∷ mid) e f h l = subst (λ o. ListsUpTo listings zero o (b ∷ mid) e) f (l, refl)
   up_to (suc k) [] mid e f h l = absurd f
@@ -46,18 +50,22 @@ drop_suc zero xs = refl
 drop_suc (suc i) [] = refl
 drop_suc (suc i) (x ∷ xs) = drop_suc i xs
 
-pub behind_more : {R : Type 0} (stores old : List R) (i : ℕ) (b : R) → drop i stores ≡ drop i old → drop (i + 1) (set stores i b) ≡ drop (i + 1) old
-behind_more stores old i b e = subst (λ n. drop n (set stores i b) ≡ drop n old) (sym (add-one i)) (drop_set stores i b ∙ (drop_suc i stores ∙ (ap (drop 1) e ∙ sym (drop_suc i old))))
+pub behind_more : {R : Type 0} (stores old : List R) (i : ℕ) (b : R) → drop i stores ≡ drop i old
+    → drop (i + 1) (set stores i b) ≡ drop (i + 1) old
+behind_more stores old i b e = subst (λ n. drop n (set stores i b) ≡ drop n old) (sym (add-one i))
+    (drop_set stores i b ∙ (drop_suc i stores ∙ (ap (drop 1) e ∙ sym (drop_suc i old))))
 
 -- what one store more lists
-pub listed_more : {R : Type 0} (targets : R → List ObjectId) (stores : List R) (i : ℕ) (d b : R) (ids more new whole : List ObjectId) → i < length stores → ids ++ flat_map targets (drop i stores) ≡ whole → more ≡ targets (get_or stores i d) → new ≡ ids ++ more
+pub listed_more : {R : Type 0} (targets : R → List ObjectId) (stores : List R) (i : ℕ) (d b : R) (ids more new whole : List ObjectId)
+    → i < length stores → ids ++ flat_map targets (drop i stores) ≡ whole → more ≡ targets (get_or stores i d) → new ≡ ids ++ more
     → new ++ flat_map targets (drop (i + 1) (set stores i b)) ≡ whole
 listed_more targets stores i d b ids more new whole h kept em en =
     let rest = flat_map targets (drop (suc i) stores) in
     ap (λ n. new ++ flat_map targets (drop n (set stores i b))) (add-one i)
     ∙ (ap (λ xs. new ++ flat_map targets xs) (drop_set stores i b)
     ∙ (ap (λ xs. xs ++ rest) (en ∙ ap (λ m. ids ++ m) em)
-    ∙ (append_assoc ids (targets (get_or stores i d)) rest ∙ (ap (λ xs. ids ++ flat_map targets xs) (sym (drop-cons stores i d h)) ∙ kept))))
+    ∙ (append_assoc ids (targets (get_or stores i d)) rest
+    ∙ (ap (λ xs. ids ++ flat_map targets xs) (sym (drop-cons stores i d h)) ∙ kept))))
 
 -- where all is settled, or plain before, nothing is listed
 module _ {R A : Type 0} (listings : Listings R) (refs : R) (lent : Lent R A) where
@@ -67,22 +75,26 @@ module _ {R A : Type 0} (listings : Listings R) (refs : R) (lent : Lent R A) whe
   untouched (negotiate known) (inl e) = absurd (let n = e in cc)
   untouched (negotiate known) (inr e) = absurd (let n = e in cc)
 
-  pub settled_lists : (a : ActionValue) (stays changed unknown : Bool) → Some a ≡ settled stays changed unknown → ListsBy listings a refs lent refs lent
+  pub settled_lists : (a : ActionValue) (stays changed unknown : Bool) → Some a ≡ settled stays changed unknown
+      → ListsBy listings a refs lent refs lent
   settled_lists a true false unknown e = untouched a (inl cc)
   settled_lists a true true false e = untouched a (inr cc)
   settled_lists a true true true e = absurd (let n = e in cc)
   settled_lists a false changed unknown e = absurd (let n = e in cc)
 
-  early_at : (a : ActionValue) (b c : Bool) → Some a ≡ (if b then Some no_change else if c then Some skip else None) → ListsBy listings a refs lent refs lent
+  early_at : (a : ActionValue) (b c : Bool) → Some a ≡ (if b then Some no_change else if c then Some skip else None)
+      → ListsBy listings a refs lent refs lent
   early_at a true c e = untouched a (inl cc)
   early_at a false true e = untouched a (inr cc)
   early_at a false false e = absurd (let n = e in cc)
 
-  pub early_lists : (a : ActionValue) (shallow : Shallow) (ms : List Mapping) → Some a ≡ early shallow ms → ListsBy listings a refs lent refs lent
+  pub early_lists : (a : ActionValue) (shallow : Shallow) (ms : List Mapping) → Some a ≡ early shallow ms
+      → ListsBy listings a refs lent refs lent
   early_lists a shallow ms e = early_at a (has_none ms || is_deepen_zero shallow) (is_lone_unborn ms) e
 
 -- where nothing is settled, something is to be negotiated
-pub unsettled : (stays changed unknown ch un : Bool) (known : List Bool) → changed ≡ ch → unknown ≡ un → None ≡ settled stays changed unknown → IsNegotiate (settle stays ch un known)
+pub unsettled : (stays changed unknown ch un : Bool) (known : List Bool) → changed ≡ ch → unknown ≡ un
+    → None ≡ settled stays changed unknown → IsNegotiate (settle stays ch un known)
 unsettled stays changed unknown ch un known ec eu e = at stays ch un (e ∙ (ap (λ b. settled stays b unknown) ec ∙ ap (settled stays ch) eu))
   where
     at : (s c u : Bool) → None ≡ settled s c u → IsNegotiate (settle s c u known)

@@ -30,25 +30,36 @@ IsRoundRefusal calls n g m h e = IsNegotiatorRefusal (calls.failures n) (calls.f
 module _ {O R N G E : Type 0} where
   -- how far it is
   abbrev pub step_of : NegotiateContext O R N G E → Step N R E
-  step_of c = record { negotiator = c.negotiator.now; graph = c.graph.now.graph; refusals = c.graph.now.refusals; refs = c.refs.now; lent = lent_value c.alternates }
+  step_of c = record {
+    negotiator = c.negotiator.now;
+    graph = c.graph.now.graph;
+    refusals = c.graph.now.refusals;
+    refs = c.refs.now;
+    lent = lent_value c.alternates;
+  }
 
   -- what the refs lead to, and those of the repositories that lend objects
   abbrev pub tips_of : (R → List ObjectId) → NegotiateContext O R N G E → List ObjectId
   tips_of targets c = targets c.refs.now ++ listed targets c.alternates
 
   -- what is done for an action: the negotiator is told of what is complete and common
-  abbrev pub ActsIn : NegotiatorCalls N → (R → List ObjectId) → ActionValue → List ObjectId → NegotiateContext O R N G E → NegotiateContext O R N G E → Type 0
-  ActsIn calls targets action ids old new = Acts calls action old.negotiator.now old.graph.now.graph ids (tips_of targets old) new.negotiator.now new.graph.now.graph
+  abbrev pub ActsIn : NegotiatorCalls N → (R → List ObjectId) → ActionValue → List ObjectId → NegotiateContext O R N G E
+      → NegotiateContext O R N G E → Type 0
+  ActsIn calls targets action ids old new =
+      Acts calls action old.negotiator.now old.graph.now.graph ids (tips_of targets old) new.negotiator.now new.graph.now.graph
 
   -- the refs of all stores are listed where something is to be negotiated, and else untouched
   abbrev pub ListsIn : Listings R → ActionValue → NegotiateContext O R N G E → NegotiateContext O R N G E → Type 0
-  ListsIn listings action old new = ListsBy listings action old.refs.now (lent_value old.alternates) new.refs.now (lent_value new.alternates)
+  ListsIn listings action old new = ListsBy listings action old.refs.now (lent_value old.alternates) new.refs.now
+      (lent_value new.alternates)
 
   -- it keeps what all objects mean, the refs and what they lead to; failures are only counted up
-  abbrev pub KeepsStores : NegotiatorCalls N → (R → LocalRefs) → (R → List ObjectId) → (R → ℕ) → NegotiateContext O R N G E → NegotiateContext O R N G E → Type 0
+  abbrev pub KeepsStores : NegotiatorCalls N → (R → LocalRefs) → (R → List ObjectId) → (R → ℕ) → NegotiateContext O R N G E
+      → NegotiateContext O R N G E → Type 0
   KeepsStores calls refs targets failures old new =
       (new.objects.now ≡ old.objects.now) × KeepsObjects calls old.negotiator.now old.graph.now new.negotiator.now new.graph.now
-      × (refs new.refs.now ≡ refs old.refs.now) × (targets new.refs.now ≡ targets old.refs.now) × (failures old.refs.now ≤ failures new.refs.now)
+      × (refs new.refs.now ≡ refs old.refs.now) × (targets new.refs.now ≡ targets old.refs.now)
+      × (failures old.refs.now ≤ failures new.refs.now)
 
   -- the negotiator or the graph's objects refused a call, or the refs can't be listed, or those of the lending repositories
   abbrev pub IsStepRefusal : NegotiatorCalls N → (R → ℕ) → NegotiateContext O R N G E → NegotiateContext O R N G E → Error E → Type 0
@@ -57,12 +68,16 @@ module _ {O R N G E : Type 0} where
       ⊎ (IsRefsRefusal (failures old.refs.now) (failures new.refs.now) e ⊎ IsAlternatesRefusal failures old.alternates new.alternates e)
 
   -- what the refs call for where nothing is plain before, and what they call for at all
-  abbrev pub settled_by : (O → Objects) → (R → LocalRefs) → (Mapping → Bool) → Bool → List Mapping → NegotiateContext O R N G E → ActionValue
+  abbrev pub settled_by : (O → Objects) → (R → LocalRefs) → (Mapping → Bool) → Bool → List Mapping → NegotiateContext O R N G E
+      → ActionValue
   settled_by contents refs ignores stays ms c =
-      settle stays (any_changed ignores (refs c.refs.now) ms) (any_unknown ignores c.graph.now.graph.objects (contents c.objects.now) ms) (map (is_known c.graph.now.graph.objects (contents c.objects.now)) ms)
+      settle stays (any_changed ignores (refs c.refs.now) ms) (any_unknown ignores c.graph.now.graph.objects
+      (contents c.objects.now) ms) (map (is_known c.graph.now.graph.objects (contents c.objects.now)) ms)
 
-  abbrev pub decided_by : (O → Objects) → (R → LocalRefs) → (Mapping → Bool) → Shallow → List Mapping → NegotiateContext O R N G E → ActionValue
-  decided_by contents refs ignores shallow ms c = decision ignores c.graph.now.graph.objects (contents c.objects.now) (refs c.refs.now) shallow ms
+  abbrev pub decided_by : (O → Objects) → (R → LocalRefs) → (Mapping → Bool) → Shallow → List Mapping → NegotiateContext O R N G E
+      → ActionValue
+  decided_by contents refs ignores shallow ms c =
+      decision ignores c.graph.now.graph.objects (contents c.objects.now) (refs c.refs.now) shallow ms
 
   -- what a negotiation was made with beside its context stays
   abbrev pub KeepsOptions : Negotiation O R N G E → Negotiation O R N G E → Type 0

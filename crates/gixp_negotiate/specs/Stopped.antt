@@ -31,19 +31,28 @@ pub record WalksSome (g : GraphData) (ids : List ObjectId) (cutoff : Option ℤ)
   pub objects : h.objects ≡ g.objects
   pub only_marks : OnlyMarks g h.held
   pub sound : (id : ObjectId) → IsTrue (is_marked h.held id) → IsTrue (is_marked g.held id) ⊎ IsComplete (commit_at g.objects) ids cutoff id
-  pub held : (id : ObjectId) → IsSome (finite.get h.held id) → IsSome (finite.get g.held id) ⊎ IsComplete (commit_at g.objects) ids cutoff id
+  pub held : (id : ObjectId) → IsSome (finite.get h.held id) → IsSome (finite.get g.held id)
+      ⊎ IsComplete (commit_at g.objects) ids cutoff id
 
 -- an error of look-ups
 abbrev pub object_error : NegotiatorError → ObjectError
 object_error (Lookup x) = x
 object_error no_memory = Memory
 
--- how far the walk and the calls after it came, over ids and tips that were looked up, and why; the lists are what the objects' refused calls told before and after it
-pub data StopsTelling {N : Type 0} (calls : NegotiatorCalls N) (n : N) (g : GraphData) (refusals : Written ObjectError) (ids tips : List ObjectId) (cutoff : Option ℤ) (x : NegotiatorError) (m : N) (h : GraphData) (refusals' : Written ObjectError) : Type 0 where
-  at_looks : TellsRefusal (object_error x) refusals refusals' → m ≡ n → LooksAtSome tips g h → StopsTelling calls n g refusals ids tips cutoff x m h refusals'
-  at_walk : TellsRefusal (object_error x) refusals refusals' → m ≡ n → WalksSome (look_each tips g) tips cutoff h → StopsTelling calls n g refusals ids tips cutoff x m h refusals'
-  at_known : (walked : GraphData) → Walks (look_each tips g) tips cutoff walked → CallsSome calls.knows calls.knowing_fails (filter (is_marked walked.held) ids) n walked x m h → StopsTelling calls n g refusals ids tips cutoff x m h refusals'
-  at_tips : (walked told_graph : GraphData) → (told : N) → Walks (look_each tips g) tips cutoff walked → IsRun calls.knows (filter (is_marked walked.held) ids) n walked told told_graph → CallsSome calls.adds calls.adding_fails (tips_in g.objects tips) told told_graph x m h
+-- how far the walk and the calls after it came, over ids and tips that were looked up, and why; the lists are what the objects' refused
+-- calls told before and after it
+pub data StopsTelling {N : Type 0} (calls : NegotiatorCalls N) (n : N) (g : GraphData) (refusals : Written ObjectError)
+    (ids tips : List ObjectId) (cutoff : Option ℤ) (x : NegotiatorError) (m : N) (h : GraphData)
+    (refusals' : Written ObjectError) : Type 0 where
+  at_looks : TellsRefusal (object_error x) refusals refusals' → m ≡ n → LooksAtSome tips g h
+      → StopsTelling calls n g refusals ids tips cutoff x m h refusals'
+  at_walk : TellsRefusal (object_error x) refusals refusals' → m ≡ n → WalksSome (look_each tips g) tips cutoff h
+      → StopsTelling calls n g refusals ids tips cutoff x m h refusals'
+  at_known : (walked : GraphData) → Walks (look_each tips g) tips cutoff walked → CallsSome calls.knows calls.knowing_fails
+      (filter (is_marked walked.held) ids) n walked x m h → StopsTelling calls n g refusals ids tips cutoff x m h refusals'
+  at_tips : (walked told_graph : GraphData) → (told : N) → Walks (look_each tips g) tips cutoff walked
+      → IsRun calls.knows (filter (is_marked walked.held) ids) n walked told told_graph
+      → CallsSome calls.adds calls.adding_fails (tips_in g.objects tips) told told_graph x m h
       → StopsTelling calls n g refusals ids tips cutoff x m h refusals'
 
 -- something is to be negotiated
@@ -52,7 +61,8 @@ IsNegotiate (negotiate known) = ⊤
 IsNegotiate no_change = ⊥
 IsNegotiate skip = ⊥
 
--- what a first step is over: the negotiator, the graph, what its objects' refused calls told, the refs of the repository, and those of the repositories that lend to it
+-- what a first step is over: the negotiator, the graph, what its objects' refused calls told, the refs of the repository, and those of
+-- the repositories that lend to it
 pub record Step (N R A : Type 0) : Type 0 where
   pub negotiator : N
   pub graph : GraphData
@@ -60,17 +70,30 @@ pub record Step (N R A : Type 0) : Type 0 where
   pub refs : R
   pub lent : Lent R A
 
--- how far the whole came, and why it was refused: some of the mappings' commits were looked up; or all of them, something is to be negotiated, and the refs weren't listed; or those of the lending repositories, after them; or it came so far from there
-pub data Stops {N R A : Type 0} (calls : NegotiatorCalls N) (listings : Listings R) (Negotiates : Type 0) (ids tips : List ObjectId) (old : Step N R A) (e : Error A) (new : Step N R A) : Type 0 where
-  at_mappings : (x : ObjectError) → e ≡ from_object x → TellsRefusal x old.refusals new.refusals → new.negotiator ≡ old.negotiator → LooksAtSome ids old.graph new.graph → new.refs ≡ old.refs → new.lent ≡ old.lent → Stops calls listings Negotiates ids tips old e new
-  at_refs : Negotiates → RefusesToList listings old.refs new.refs e → new.negotiator ≡ old.negotiator → new.graph ≡ look_each ids old.graph → new.lent ≡ old.lent → Stops calls listings Negotiates ids tips old e new
-  at_lent : Negotiates → HasListed listings old.refs new.refs → RefusesLent listings old.lent new.lent e → new.negotiator ≡ old.negotiator → new.graph ≡ look_each ids old.graph → Stops calls listings Negotiates ids tips old e new
-  at_telling : Negotiates → HasListed listings old.refs new.refs → ListsLent listings old.lent new.lent → (x : NegotiatorError) → e ≡ from_negotiator x
-      → StopsTelling calls old.negotiator (look_each ids old.graph) old.refusals ids tips (cutoff_of old.graph.objects ids) x new.negotiator new.graph new.refusals → Stops calls listings Negotiates ids tips old e new
+-- how far the whole came, and why it was refused: some of the mappings' commits were looked up; or all of them, something is to be
+-- negotiated, and the refs weren't listed; or those of the lending repositories, after them; or it came so far from there
+pub data Stops {N R A : Type 0} (calls : NegotiatorCalls N) (listings : Listings R) (Negotiates : Type 0) (ids tips : List ObjectId)
+    (old : Step N R A) (e : Error A) (new : Step N R A) : Type 0 where
+  at_mappings : (x : ObjectError) → e ≡ from_object x → TellsRefusal x old.refusals new.refusals → new.negotiator ≡ old.negotiator
+      → LooksAtSome ids old.graph new.graph → new.refs ≡ old.refs → new.lent ≡ old.lent
+      → Stops calls listings Negotiates ids tips old e new
+  at_refs : Negotiates → RefusesToList listings old.refs new.refs e → new.negotiator ≡ old.negotiator
+      → new.graph ≡ look_each ids old.graph → new.lent ≡ old.lent → Stops calls listings Negotiates ids tips old e new
+  at_lent : Negotiates → HasListed listings old.refs new.refs → RefusesLent listings old.lent new.lent e
+      → new.negotiator ≡ old.negotiator → new.graph ≡ look_each ids old.graph → Stops calls listings Negotiates ids tips old e new
+  at_telling : Negotiates → HasListed listings old.refs new.refs → ListsLent listings old.lent new.lent → (x : NegotiatorError)
+      → e ≡ from_negotiator x
+      → StopsTelling calls old.negotiator (look_each ids old.graph) old.refusals ids tips
+      (cutoff_of old.graph.objects ids) x new.negotiator new.graph new.refusals → Stops calls listings Negotiates ids tips old e new
 
 -- the same once the ids were looked up
-pub data StopsAfterLookups {N R A : Type 0} (calls : NegotiatorCalls N) (listings : Listings R) (ids tips : List ObjectId) (cutoff : Option ℤ) (old : Step N R A) (e : Error A) (new : Step N R A) : Type 0 where
-  refs_refused : RefusesToList listings old.refs new.refs e → new.negotiator ≡ old.negotiator → new.graph ≡ old.graph → new.lent ≡ old.lent → StopsAfterLookups calls listings ids tips cutoff old e new
-  lent_refused : HasListed listings old.refs new.refs → RefusesLent listings old.lent new.lent e → new.negotiator ≡ old.negotiator → new.graph ≡ old.graph → StopsAfterLookups calls listings ids tips cutoff old e new
-  telling_stopped : HasListed listings old.refs new.refs → ListsLent listings old.lent new.lent → (x : NegotiatorError) → e ≡ from_negotiator x
-      → StopsTelling calls old.negotiator old.graph old.refusals ids tips cutoff x new.negotiator new.graph new.refusals → StopsAfterLookups calls listings ids tips cutoff old e new
+pub data StopsAfterLookups {N R A : Type 0} (calls : NegotiatorCalls N) (listings : Listings R) (ids tips : List ObjectId)
+    (cutoff : Option ℤ) (old : Step N R A) (e : Error A) (new : Step N R A) : Type 0 where
+  refs_refused : RefusesToList listings old.refs new.refs e → new.negotiator ≡ old.negotiator → new.graph ≡ old.graph
+      → new.lent ≡ old.lent → StopsAfterLookups calls listings ids tips cutoff old e new
+  lent_refused : HasListed listings old.refs new.refs → RefusesLent listings old.lent new.lent e → new.negotiator ≡ old.negotiator
+      → new.graph ≡ old.graph → StopsAfterLookups calls listings ids tips cutoff old e new
+  telling_stopped : HasListed listings old.refs new.refs → ListsLent listings old.lent new.lent → (x : NegotiatorError)
+      → e ≡ from_negotiator x
+      → StopsTelling calls old.negotiator old.graph old.refusals ids tips cutoff x new.negotiator new.graph new.refusals
+      → StopsAfterLookups calls listings ids tips cutoff old e new

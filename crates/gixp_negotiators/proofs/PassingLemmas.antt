@@ -27,23 +27,29 @@ not_true true b h f = absurd (true≢false (sym (h refl) ∙ f))
 not_true false b h f = refl
 
 -- a commit that lacked a mark still does, where none got it
-pub still_lacks : (mark : ℕ) (g h : GraphData) (id : ObjectId) → AddsNone mark g h → has_mark mark g.held id ≡ false → has_mark mark h.held id ≡ false
+pub still_lacks : (mark : ℕ) (g h : GraphData) (id : ObjectId) → AddsNone mark g h → has_mark mark g.held id ≡ false
+    → has_mark mark h.held id ≡ false
 still_lacks mark g h id adds lacks = not_true (has_mark mark h.held id) (has_mark mark g.held id) (adds id) lacks
 
 -- two ids are compared alike from both sides
 pub same_sides : (q id : ObjectId) (b : Bool) → eq_by_cmp id_cmp q id ≡ b → is_at (id_cmp id) q ≡ b
 same_sides q id true e = subst (λ k. eq_by_cmp id_cmp id k ≡ true) (sym (same_from q id e)) (same_id id)
-same_sides q id false e = not_true (eq_by_cmp id_cmp id q) (eq_by_cmp id_cmp q id) (λ t. subst (λ k. eq_by_cmp id_cmp q k ≡ true) (sym (same_from id q t)) (same_id q)) e
+same_sides q id false e = not_true (eq_by_cmp id_cmp id q) (eq_by_cmp id_cmp q id)
+    (λ t. subst (λ k. eq_by_cmp id_cmp q k ≡ true) (sym (same_from id q t)) (same_id q)) e
 
 -- a longer distance is kept
-pub raise_kept : (skips : Skipped) (id : ObjectId) (s : Skip) → nat_lt (skip_in skips id).whole s.whole ≡ false → HandsOne (Skips s) id skips skips
+pub raise_kept : (skips : Skipped) (id : ObjectId) (s : Skip) → nat_lt (skip_in skips id).whole s.whole ≡ false
+    → HandsOne (Skips s) id skips skips
 raise_kept skips id s e = (sym (ap (λ b. cond b s (skip_in skips id)) e), λ q n. refl)
 
 -- and a shorter one isn't
-pub raise_put : (old new : Skipped) (id : ObjectId) (s : Skip) → nat_lt (skip_in old id).whole s.whole ≡ true → ((q : ObjectId) → lookup (is_at (id_cmp q)) new ≡ cond (is_at (id_cmp id) q) (Some s) (lookup (is_at (id_cmp q)) old)) → HandsOne (Skips s) id old new
+pub raise_put : (old new : Skipped) (id : ObjectId) (s : Skip) → nat_lt (skip_in old id).whole s.whole ≡ true → ((q : ObjectId) → lookup
+    (is_at (id_cmp q)) new ≡ cond (is_at (id_cmp id) q) (Some s) (lookup (is_at (id_cmp q)) old)) → HandsOne (Skips s) id old new
 raise_put old new id s e h = (
-  ap (λ (o : Option Skip). unwrap_or o (skip_of 0 0)) (h id ∙ ap (λ b. cond b (Some s) (lookup (is_at (id_cmp id)) old)) (same_id id)) ∙ sym (ap (λ b. cond b s (skip_in old id)) e),
-  λ q n. ap (λ (o : Option Skip). unwrap_or o (skip_of 0 0)) (h q ∙ ap (λ b. cond b (Some s) (lookup (is_at (id_cmp q)) old)) (same_sides q id false n)),
+  ap (λ (o : Option Skip). unwrap_or o (skip_of 0 0)) (h id ∙ ap (λ b. cond b (Some s) (lookup (is_at (id_cmp id)) old)) (same_id id))
+      ∙ sym (ap (λ b. cond b s (skip_in old id)) e),
+  λ q n. ap (λ (o : Option Skip). unwrap_or o (skip_of 0 0))
+      (h q ∙ ap (λ b. cond b (Some s) (lookup (is_at (id_cmp q)) old)) (same_sides q id false n)),
 )
 
 -- ---- one commit, and some
@@ -60,20 +66,25 @@ one_among p q = at (eq_by_cmp id_cmp q p)
     at false = refl
 
 common_hands : (ids : List ObjectId) (h : GraphData) (old new : Skipped) → new ≡ old → Hands Common ids h old new
-common_hands ids h old new e = record { handed = λ s q is. absurd (let clash : Common ≡ Skips s = is in cc); others = λ q n. ap (λ skips. skip_in skips q) e }
+common_hands ids h old new e =
+    record { handed = λ s q is. absurd (let clash : Common ≡ Skips s = is in cc); others = λ q n. ap (λ skips. skip_in skips q) e }
 
 -- a commit that wasn't taken
-pub hands_one : (legacy : Legacy) (p : ObjectId) (h : GraphData) (old new : Skipped) → HandsOne legacy p old new → Hands legacy (p ∷ []) h old new
+pub hands_one : (legacy : Legacy) (p : ObjectId) (h : GraphData) (old new : Skipped) → HandsOne legacy p old new
+    → Hands legacy (p ∷ []) h old new
 hands_one Common p h old new e = common_hands (p ∷ []) h old new e
 hands_one (Skips t) p h old new e = record {
-  handed = λ s q is among lacks. let one : q ≡ p = same_from q p (sym (one_among p q) ∙ among) in let two : t ≡ s = cc in subst (λ k. skip_in new k ≡ longer (skip_in old k) s) (sym one) (subst (λ k. skip_in new p ≡ longer (skip_in old p) k) two e.0);
+  handed = λ s q is among lacks. let one : q ≡ p = same_from q p (sym (one_among p q) ∙ among) in let two : t ≡ s = cc in
+      subst (λ k. skip_in new k ≡ longer (skip_in old k) s) (sym one) (subst (λ k. skip_in new p ≡ longer (skip_in old p) k) two e.0);
   others = λ q n. e.1 q (sym (one_among p q) ∙ n);
 }
 
 -- and one that was
-pub hands_taken : (legacy : Legacy) (p : ObjectId) (h : GraphData) (old new : Skipped) → has_mark 16 h.held p ≡ true → new ≡ old → Hands legacy (p ∷ []) h old new
+pub hands_taken : (legacy : Legacy) (p : ObjectId) (h : GraphData) (old new : Skipped) → has_mark 16 h.held p ≡ true → new ≡ old
+    → Hands legacy (p ∷ []) h old new
 hands_taken legacy p h old new taken e = record {
-  handed = λ s q is among lacks. absurd (true≢false (sym taken ∙ subst (λ k. has_mark 16 h.held k ≡ false) (same_from q p (sym (one_among p q) ∙ among)) lacks));
+  handed = λ s q is among lacks. absurd (true≢false
+      (sym taken ∙ subst (λ k. has_mark 16 h.held k ≡ false) (same_from q p (sym (one_among p q) ∙ among)) lacks));
   others = λ q n. ap (λ skips. skip_in skips q) e;
 }
 
@@ -85,7 +96,8 @@ among_append : (xs : List ObjectId) (p q : ObjectId) → is_among (xs ++ p ∷ [
 among_append [] p q = refl
 among_append (x ∷ xs) p q = at (eq_by_cmp id_cmp q x) (among_append xs p q)
   where
-    at : (b : Bool) → is_among (xs ++ p ∷ []) q ≡ (is_among xs q || is_among (p ∷ []) q) → (b || is_among (xs ++ p ∷ []) q) ≡ ((b || is_among xs q) || is_among (p ∷ []) q)
+    at : (b : Bool) → is_among (xs ++ p ∷ []) q ≡ (is_among xs q || is_among (p ∷ []) q)
+        → (b || is_among (xs ++ p ∷ []) q) ≡ ((b || is_among xs q) || is_among (p ∷ []) q)
     at true h = refl
     at false h = h
 
@@ -102,9 +114,11 @@ twice s t = at (nat_lt s.whole t.whole) refl
     at false e = ap (λ c. cond c t s) e
 
 -- one commit more
-pub hands_more : (legacy : Legacy) (xs : List ObjectId) (p : ObjectId) (i h : GraphData) (old mid new : Skipped) → Grows i h → Hands legacy xs i old mid → Hands legacy (p ∷ []) h mid new → Hands legacy (xs ++ p ∷ []) h old new
+pub hands_more : (legacy : Legacy) (xs : List ObjectId) (p : ObjectId) (i h : GraphData) (old mid new : Skipped) → Grows i h
+    → Hands legacy xs i old mid → Hands legacy (p ∷ []) h mid new → Hands legacy (xs ++ p ∷ []) h old new
 hands_more legacy xs p i h old mid new w a b = record {
-  handed = λ s q is among lacks. at s q is lacks (not_true (has_mark 16 i.held q) (has_mark 16 h.held q) (w.marks 16 q) lacks) (is_among xs q) (is_among (p ∷ []) q) refl refl (sym (among_append xs p q) ∙ among);
+  handed = λ s q is among lacks. at s q is lacks (not_true (has_mark 16 i.held q) (has_mark 16 h.held q) (w.marks 16 q) lacks)
+      (is_among xs q) (is_among (p ∷ []) q) refl refl (sym (among_append xs p q) ∙ among);
   others = λ q n. both q (is_among xs q) (is_among (p ∷ []) q) refl refl (sym (among_append xs p q) ∙ n);
 }
   where
@@ -113,21 +127,28 @@ hands_more legacy xs p i h old mid new w a b = record {
     both q false true e f n = absurd (true≢false n)
     both q false false e f n = b.others q f ∙ a.others q e
 
-    at : (s : Skip) (q : ObjectId) → legacy ≡ Skips s → has_mark 16 h.held q ≡ false → has_mark 16 i.held q ≡ false → (x y : Bool) → is_among xs q ≡ x → is_among (p ∷ []) q ≡ y → (x || y) ≡ true → skip_in new q ≡ longer (skip_in old q) s
-    at s q is lacks lacked true true e f n = b.handed s q is f lacks ∙ ap (λ k. longer k s) (a.handed s q is e lacked) ∙ twice (skip_in old q) s
+    at : (s : Skip) (q : ObjectId) → legacy ≡ Skips s → has_mark 16 h.held q ≡ false → has_mark 16 i.held q ≡ false → (x y : Bool)
+        → is_among xs q ≡ x → is_among (p ∷ []) q ≡ y → (x || y) ≡ true → skip_in new q ≡ longer (skip_in old q) s
+    at s q is lacks lacked true true e f n = b.handed s q is f lacks ∙ ap (λ k. longer k s) (a.handed s q is e lacked)
+        ∙ twice (skip_in old q) s
     at s q is lacks lacked true false e f n = b.others q f ∙ a.handed s q is e lacked
     at s q is lacks lacked false true e f n = b.handed s q is f lacks ∙ ap (λ k. longer k s) (a.others q e)
     at s q is lacks lacked false false e f n = absurd (true≢false (sym n))
 
-pub hands_step : (legacy : Legacy) (ids : List ObjectId) (k : ℕ) (d : ObjectId) (i h : GraphData) (old mid new : Skipped) → k < length ids → Grows i h → Hands legacy (take k ids) i old mid → Hands legacy (get_or ids k d ∷ []) h mid new → Hands legacy (take (k + 1) ids) h old new
-hands_step legacy ids k d i h old mid new l w a b = subst (λ xs. Hands legacy xs h old new) (sym (take_more ids k d l)) (hands_more legacy (take k ids) (get_or ids k d) i h old mid new w a b)
+pub hands_step : (legacy : Legacy) (ids : List ObjectId) (k : ℕ) (d : ObjectId) (i h : GraphData) (old mid new : Skipped)
+    → k < length ids → Grows i h → Hands legacy (take k ids) i old mid → Hands legacy (get_or ids k d ∷ []) h mid new
+    → Hands legacy (take (k + 1) ids) h old new
+hands_step legacy ids k d i h old mid new l w a b = subst (λ xs. Hands legacy xs h old new) (sym (take_more ids k d l))
+    (hands_more legacy (take k ids) (get_or ids k d) i h old mid new w a b)
 
-pub hands_all : (legacy : Legacy) (ids : List ObjectId) (k : ℕ) (h : GraphData) (old new : Skipped) → length ids ≤ k → Hands legacy (take k ids) h old new → Hands legacy ids h old new
+pub hands_all : (legacy : Legacy) (ids : List ObjectId) (k : ℕ) (h : GraphData) (old new : Skipped) → length ids ≤ k
+    → Hands legacy (take k ids) h old new → Hands legacy ids h old new
 hands_all legacy ids k h old new l a = subst (λ xs. Hands legacy xs h old new) (take_all k ids l) a
 
 -- ---- a commit that is taken
 
-pub takes_none : (old : Skipped) (g h : GraphData) (id : ObjectId) → (IsSome (commit_at g.objects id) → has_mark 16 g.held id ≡ true) → Takes old g id false old h
+pub takes_none : (old : Skipped) (g h : GraphData) (id : ObjectId) → (IsSome (commit_at g.objects id) → has_mark 16 g.held id ≡ true)
+    → Takes old g id false old h
 takes_none old g h id spent = record {
   hands = λ there lacks. absurd (true≢false (sym (spent there) ∙ lacks));
   others = λ q n. refl;
@@ -136,26 +157,34 @@ takes_none old g h id spent = record {
 }
 
 -- what is handed on
-legacy_is : (legacy : Legacy) (s : Skip) → (0 < s.left → legacy ≡ Skips (skip_of s.whole (s.left - 1))) → (s.left ≡ 0 → legacy ≡ Skips (skip_of (distance_after s.whole) (distance_after s.whole))) → legacy ≡ Skips (handed_on s)
+legacy_is : (legacy : Legacy) (s : Skip) → (0 < s.left → legacy ≡ Skips (skip_of s.whole (s.left - 1)))
+    → (s.left ≡ 0 → legacy ≡ Skips (skip_of (distance_after s.whole) (distance_after s.whole))) → legacy ≡ Skips (handed_on s)
 legacy_is legacy s p r = at (nat_lt 0 s.left) refl
   where
-    at : (b : Bool) → nat_lt 0 s.left ≡ b → legacy ≡ Skips (cond b (skip_of s.whole (s.left - 1)) (skip_of (distance_after s.whole) (distance_after s.whole)))
+    at : (b : Bool) → nat_lt 0 s.left ≡ b → legacy
+        ≡ Skips (cond b (skip_of s.whole (s.left - 1)) (skip_of (distance_after s.whole) (distance_after s.whole)))
     at true e = p (ltb-true 0 s.left e)
     at false e = r (let k : s.left ≤ 0 = ltb-false 0 s.left e in omega arith)
 
-pub takes_some : (old new : Skipped) (g i h : GraphData) (id : ObjectId) (flags : Flags) (legacy : Legacy) (parents : List ObjectId) (s : Skip) (is_common offered : Bool)
-    → Claims 16 g i id flags → Grows i h → parents ≡ parents_in i.held id → s ≡ skip_in old id → Hands legacy parents h old new → is_common ≡ has_all 2 flags.0
+pub takes_some : (old new : Skipped) (g i h : GraphData) (id : ObjectId) (flags : Flags) (legacy : Legacy) (parents : List ObjectId)
+    (s : Skip) (is_common offered : Bool)
+    → Claims 16 g i id flags → Grows i h → parents ≡ parents_in i.held id → s ≡ skip_in old id → Hands legacy parents h old new
+    → is_common ≡ has_all 2 flags.0
     → (has_all 2 flags.0 ≡ false → has_all 4 flags.0 ≡ false → 0 < s.left → legacy ≡ Skips (skip_of s.whole (s.left - 1)))
-    → (has_all 2 flags.0 ≡ false → has_all 4 flags.0 ≡ false → s.left ≡ 0 → legacy ≡ Skips (skip_of (distance_after s.whole) (distance_after s.whole)))
-    → (is_common ≡ false → s.left ≡ 0 → offered ≡ true) → (any : Bool) → (0 < s.left → any ≡ true → offered ≡ false) → (any ≡ false → AllTaken h parents)
+    → (has_all 2 flags.0 ≡ false → has_all 4 flags.0 ≡ false → s.left ≡ 0
+    → legacy ≡ Skips (skip_of (distance_after s.whole) (distance_after s.whole)))
+    → (is_common ≡ false → s.left ≡ 0 → offered ≡ true) → (any : Bool) → (0 < s.left → any ≡ true → offered ≡ false)
+    → (any ≡ false → AllTaken h parents)
     → Takes old g id offered new h
 takes_some old new g i h id flags legacy parents s is_common offered k w ps ss hands common p r reached any early taken = record {
   hands = λ there lacks two four q among lacked.
       subst (λ t. skip_in new q ≡ longer (skip_in old q) (handed_on t)) ss
-      (hands.handed (handed_on s) q (legacy_is legacy s (p (lack 2 two) (lack 4 four)) (r (lack 2 two) (lack 4 four))) (ap (λ ids. is_among ids q) same ∙ among) lacked);
+      (hands.handed (handed_on s) q (legacy_is legacy s (p (lack 2 two) (lack 4 four)) (r (lack 2 two) (lack 4 four)))
+      (ap (λ ids. is_among ids q) same ∙ among) lacked);
   others = λ q n. hands.others q (ap (λ ids. is_among ids q) same ∙ n);
   reached = λ e. subst (λ (t : Skip). (t.left ≡ 0) ⊎ AllTaken h (parents_in h.held id)) ss (last e (nat_lt 0 s.left) any refl refl);
-  passed = λ there lacks not two. subst (λ (t : Skip). 0 < t.left) ss (some s.left (λ e. true≢false (sym (reached (common ∙ lack 2 two) e) ∙ not)));
+  passed = λ there lacks not two. subst (λ (t : Skip). 0 < t.left) ss
+      (some s.left (λ e. true≢false (sym (reached (common ∙ lack 2 two) e) ∙ not)));
 }
   where
     same : parents ≡ parents_in h.held id
@@ -173,7 +202,8 @@ takes_some old new g i h id flags legacy parents s is_common offered k w ps ss h
     some n f = omega (arith, f)
 
 -- a commit that was first
-pub taken_popped : (old before new : Skipped) (g h : GraphData) (id : ObjectId) (offered : Bool) {is : Bool} → before ≡ old → offered ≡ is → Takes before g id offered new h → Takes old g id is new h
+pub taken_popped : (old before new : Skipped) (g h : GraphData) (id : ObjectId) (offered : Bool) {is : Bool} → before ≡ old
+    → offered ≡ is → Takes before g id offered new h → Takes old g id is new h
 taken_popped old before new g h id offered {is} e f t = subst (λ b. Takes old g id b new h) f (subst (λ s. Takes s g id offered new h) e t)
 
 -- ---- a line that ends
@@ -187,8 +217,10 @@ neither_right true b e = absurd (true≢false e)
 neither_right false b e = e
 
 -- one more that was taken
-pub taken_more : (ids : List ObjectId) (k : ℕ) (d : ObjectId) (i h : GraphData) → k < length ids → Grows i h → AllTaken i (take k ids) → has_mark 16 h.held (get_or ids k d) ≡ true → AllTaken h (take (k + 1) ids)
-taken_more ids k d i h l w all one = All-more (λ p. has_mark 16 h.held p ≡ true) ids k d l (All-weaker (λ p. has_mark 16 i.held p ≡ true) (λ p. has_mark 16 h.held p ≡ true) (λ q m. w.marks 16 q m) (take k ids) all) one
+pub taken_more : (ids : List ObjectId) (k : ℕ) (d : ObjectId) (i h : GraphData) → k < length ids → Grows i h → AllTaken i (take k ids)
+    → has_mark 16 h.held (get_or ids k d) ≡ true → AllTaken h (take (k + 1) ids)
+taken_more ids k d i h l w all one = All-more (λ p. has_mark 16 h.held p ≡ true) ids k d l
+    (All-weaker (λ p. has_mark 16 i.held p ≡ true) (λ p. has_mark 16 h.held p ≡ true) (λ q m. w.marks 16 q m) (take k ids) all) one
 
 pub taken_all : (ids : List ObjectId) (k : ℕ) (h : GraphData) → length ids ≤ k → AllTaken h (take k ids) → AllTaken h ids
 taken_all ids k h l a = subst (AllTaken h) (take_all k ids l) a

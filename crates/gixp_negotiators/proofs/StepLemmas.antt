@@ -18,10 +18,12 @@ lacked true b k e = absurd (true≢false (sym (k refl) ∙ e))
 lacked false b k e = refl
 
 -- a mark that was lacked is added
-pub claims : (mark : ℕ) (g h k : GraphData) (id : ObjectId) (flags : Flags) → Grows g h → Grows h k → IsFoundWith h id flags → SeesNone g h → has_all mark flags.0 ≡ false → has_mark mark k.held id ≡ true → Claims mark g k id flags
+pub claims : (mark : ℕ) (g h k : GraphData) (id : ObjectId) (flags : Flags) → Grows g h → Grows h k → IsFoundWith h id flags
+    → SeesNone g h → has_all mark flags.0 ≡ false → has_mark mark k.held id ≡ true → Claims mark g k id flags
 claims mark g h k id flags v w f sees lacks has =
     let read : IsSome (commit_at g.objects id) = subst (λ o. IsSome (commit_at o id)) v.objects f.read in
-    let before : has_mark mark g.held id ≡ false = lacked (has_mark mark g.held id) (has_mark mark h.held id) (v.marks mark id) (f.marks mark ∙ lacks) in
+    let before : has_mark mark g.held id ≡ false = lacked (has_mark mark g.held id) (has_mark mark h.held id) (v.marks mark id)
+    (f.marks mark ∙ lacks) in
     record {
       read = read;
       held = w.held id f.held;
@@ -34,7 +36,8 @@ claims mark g h k id flags v w f sees lacks has =
     }
 
 -- a commit that was taken is offered, also after further steps
-pub offered : (g h k : GraphData) (id : ObjectId) (flags : Flags) → Claims 16 g h id flags → has_all 2 flags.0 ≡ false → Grows h k → All (IsMarkedIfThere 8 g k) (parents_in k.held id) → IsOffered g k id
+pub offered : (g h k : GraphData) (id : ObjectId) (flags : Flags) → Claims 16 g h id flags → has_all 2 flags.0 ≡ false → Grows h k
+    → All (IsMarkedIfThere 8 g k) (parents_in k.held id) → IsOffered g k id
 offered g h k id flags c lacks w parents = record {
   read = c.read;
   held = w.held id c.held;
@@ -65,13 +68,15 @@ any_err (Err e) p = p
 -- ---- parents that were seen
 
 -- one more of some that were seen
-pub marked_more : (g h k : GraphData) (xs : List ObjectId) (i : ℕ) (d : ObjectId) → i < length xs → Grows g h → Grows h k → All (IsMarkedIfThere 8 g h) (take i xs) → IsMarkedIfThere 8 h k (get_or xs i d) → All (IsMarkedIfThere 8 g k) (take (i + 1) xs)
+pub marked_more : (g h k : GraphData) (xs : List ObjectId) (i : ℕ) (d : ObjectId) → i < length xs → Grows g h → Grows h k
+    → All (IsMarkedIfThere 8 g h) (take i xs) → IsMarkedIfThere 8 h k (get_or xs i d) → All (IsMarkedIfThere 8 g k) (take (i + 1) xs)
 marked_more g h k xs i d lt v w all one = All-more (IsMarkedIfThere 8 g k) xs i d lt
     (All-weaker (IsMarkedIfThere 8 g h) (IsMarkedIfThere 8 g k) (λ q m s. w.marks 8 q (m s)) (take i xs) all)
     (λ s. one (subst (λ o. IsSome (commit_at o (get_or xs i d))) (sym v.objects) s))
 
 -- those of a commit
-pub parents_marked : (g h k : GraphData) (id : ObjectId) (xs : List ObjectId) → Grows g h → Grows h k → IsSome (finite.get h.held id) → xs ≡ parents_in h.held id → All (IsMarkedIfThere 8 h k) xs → All (IsMarkedIfThere 8 g k) (parents_in k.held id)
+pub parents_marked : (g h k : GraphData) (id : ObjectId) (xs : List ObjectId) → Grows g h → Grows h k → IsSome (finite.get h.held id)
+    → xs ≡ parents_in h.held id → All (IsMarkedIfThere 8 h k) xs → All (IsMarkedIfThere 8 g k) (parents_in k.held id)
 parents_marked g h k id xs v w held is all =
     subst (All (IsMarkedIfThere 8 g k)) (is ∙ sym (w.parents id held))
     (All-weaker (IsMarkedIfThere 8 h k) (IsMarkedIfThere 8 g k) (λ q m s. m (subst (λ o. IsSome (commit_at o q)) (sym v.objects) s)) xs all)

@@ -13,7 +13,8 @@ same_left : (g h : GraphData) → h ≡ g → left 16 h ≤ left 16 g
 same_left g h e = subst (λ k. left 16 k ≤ left 16 g) (sym e) (omega arith)
 
 -- an offer lowers what may be offered
-pub any_lowers : (n : AnyNegotiator) (g : GraphData) (id : ObjectId) (m : AnyNegotiator) (h : GraphData) → OffersByKind n g (Some id) m h → left 16 h < left 16 g
+pub any_lowers : (n : AnyNegotiator) (g : GraphData) (id : ObjectId) (m : AnyNegotiator) (h : GraphData)
+    → OffersByKind n g (Some id) m h → left 16 h < left 16 g
 any_lowers (any.Noop n) g id m h o = absurd (let e : ◌≡◌ {A = Option ObjectId} (Some id) None = o.0 in cc)
 any_lowers (any.Consecutive n) g id (any.Consecutive m) h o = offer_lowers g h id o.offers
 any_lowers (any.Consecutive n) g id (any.Noop m) h o = absurd o
@@ -33,7 +34,8 @@ any_keeps (any.Skipping n) g (any.Noop m) h o = absurd o
 any_keeps (any.Skipping n) g (any.Consecutive m) h o = absurd o
 
 -- nor does what it learns
-pub any_learns : (n : AnyNegotiator) (g : GraphData) (id : ObjectId) (m : AnyNegotiator) (h : GraphData) → LearnsByKind n g id m h → left 16 h ≤ left 16 g
+pub any_learns : (n : AnyNegotiator) (g : GraphData) (id : ObjectId) (m : AnyNegotiator) (h : GraphData) → LearnsByKind n g id m h
+    → left 16 h ≤ left 16 g
 any_learns (any.Noop n) g id m h o = same_left g h o.1
 any_learns (any.Consecutive n) g id (any.Consecutive m) h o = grows_left 16 g h o.grows
 any_learns (any.Consecutive n) g id (any.Noop m) h o = absurd o

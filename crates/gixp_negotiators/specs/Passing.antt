@@ -37,11 +37,13 @@ is_among ids q = list_any (λ p. eq_by_cmp id_cmp q p) ids
 -- a commit is handed a distance, where there is one, and keeps its own where that is longer; no other commit's is changed
 abbrev pub HandsOne : Legacy → ObjectId → Skipped → Skipped → Type 0
 HandsOne Common id old new = new ≡ old
-HandsOne (Skips s) id old new = (skip_in new id ≡ longer (skip_in old id) s) × ((q : ObjectId) → eq_by_cmp id_cmp q id ≡ false → skip_in new q ≡ skip_in old q)
+HandsOne (Skips s) id old new = (skip_in new id ≡ longer (skip_in old id) s)
+    × ((q : ObjectId) → eq_by_cmp id_cmp q id ≡ false → skip_in new q ≡ skip_in old q)
 
 -- so are those of some commits that weren't taken
 pub record Hands (legacy : Legacy) (ids : List ObjectId) (h : GraphData) (old new : Skipped) : Type 0 where
-  pub handed : (s : Skip) (q : ObjectId) → legacy ≡ Skips s → is_among ids q ≡ true → has_mark 16 h.held q ≡ false → skip_in new q ≡ longer (skip_in old q) s
+  pub handed : (s : Skip) (q : ObjectId) → legacy ≡ Skips s → is_among ids q ≡ true → has_mark 16 h.held q ≡ false
+      → skip_in new q ≡ longer (skip_in old q) s
   pub others : (q : ObjectId) → is_among ids q ≡ false → skip_in new q ≡ skip_in old q
 
 -- all of some commits were taken
@@ -53,15 +55,18 @@ AllTaken h ids = All (λ p. has_mark 16 h.held p ≡ true) ids
 -- whose parents were all taken; and it isn't only where some are left, or it is common
 pub record Takes (old : Skipped) (g : GraphData) (id : ObjectId) (is_offered : Bool) (new : Skipped) (h : GraphData) : Type 0 where
   pub hands : IsSome (commit_at g.objects id) → has_mark 16 g.held id ≡ false → has_mark 2 h.held id ≡ false → has_mark 4 h.held id ≡ false
-      → (p : ObjectId) → is_among (parents_in h.held id) p ≡ true → has_mark 16 h.held p ≡ false → skip_in new p ≡ longer (skip_in old p) (handed_on (skip_in old id))
+      → (p : ObjectId) → is_among (parents_in h.held id) p ≡ true → has_mark 16 h.held p ≡ false
+      → skip_in new p ≡ longer (skip_in old p) (handed_on (skip_in old id))
   pub others : (q : ObjectId) → is_among (parents_in h.held id) q ≡ false → skip_in new q ≡ skip_in old q
   pub reached : is_offered ≡ true → ((skip_in old id).left ≡ 0) ⊎ AllTaken h (parents_in h.held id)
-  pub passed : IsSome (commit_at g.objects id) → has_mark 16 g.held id ≡ false → is_offered ≡ false → has_mark 2 h.held id ≡ false → 0 < (skip_in old id).left
+  pub passed : IsSome (commit_at g.objects id) → has_mark 16 g.held id ≡ false → is_offered ≡ false → has_mark 2 h.held id ≡ false
+      → 0 < (skip_in old id).left
 
 -- some commits are taken one after another, and none of them is offered
 pub data TakesUnoffered (old : Skipped) (g : GraphData) : Skipped → GraphData → Type 0 where
   none : TakesUnoffered old g old g
-  one : {k new : Skipped} {i h : GraphData} {id : ObjectId} → TakesUnoffered old g k i → Takes k i id false new h → TakesUnoffered old g new h
+  one : {k new : Skipped} {i h : GraphData} {id : ObjectId} → TakesUnoffered old g k i → Takes k i id false new h
+      → TakesUnoffered old g new h
 
 -- a commit is offered, after some that aren't; or none is
 abbrev pub Distances : Skipped → GraphData → Option ObjectId → Skipped → GraphData → Type 0

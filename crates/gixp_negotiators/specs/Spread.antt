@@ -37,15 +37,18 @@ IsKnown g id = IsSome (commit_at g.objects id) → (has_mark 8 g.held id || has_
 
 -- the parents of each commit that was seen and became common are common
 abbrev pub Spreads : (GraphData → ObjectId → Bool) → GraphData → GraphData → Type 0
-Spreads kind g h = (id : ObjectId) → has_mark 8 g.held id ≡ true → has_mark 2 g.held id ≡ false → has_mark 2 h.held id ≡ true → HasCommonParents kind g h id
+Spreads kind g h = (id : ObjectId) → has_mark 8 g.held id ≡ true → has_mark 2 g.held id ≡ false → has_mark 2 h.held id ≡ true
+    → HasCommonParents kind g h id
 
 -- but for those of these commits
 abbrev pub SpreadsBut : (GraphData → ObjectId → Bool) → List ObjectId → GraphData → GraphData → Type 0
-SpreadsBut kind due g h = (id : ObjectId) → has_mark 8 g.held id ≡ true → has_mark 2 g.held id ≡ false → has_mark 2 h.held id ≡ true → Contains due id ⊎ HasCommonParents kind g h id
+SpreadsBut kind due g h = (id : ObjectId) → has_mark 8 g.held id ≡ true → has_mark 2 g.held id ≡ false → has_mark 2 h.held id ≡ true
+    → Contains due id ⊎ HasCommonParents kind g h id
 
 -- a step that may leave some due, by those that were due before
 unfoldable pub KeepsSpread : (GraphData → ObjectId → Bool) → List ObjectId → GraphData → List ObjectId → GraphData → Type 0
-KeepsSpread kind before g due h = (f : GraphData) (xs : List ObjectId) → Grows f g → SpreadsBut kind (xs ++ before) f g → SpreadsBut kind (xs ++ due) f h
+KeepsSpread kind before g due h = (f : GraphData) (xs : List ObjectId) → Grows f g → SpreadsBut kind (xs ++ before) f g
+    → SpreadsBut kind (xs ++ due) f h
 
 -- a step keeps it that what is common has spread
 unfoldable pub StaysSpread : (GraphData → ObjectId → Bool) → GraphData → GraphData → Type 0
@@ -78,7 +81,8 @@ AllRead unread g h = (id : ObjectId) → IsNewlyCommon g h id → contains id_cm
 -- the commits that a commit leads on to: itself, and the parents of each of them that was seen and wasn't common
 pub data LeadsTo (kind : GraphData → ObjectId → Bool) (g : GraphData) (id : ObjectId) : ObjectId → Type 0 where
   itself : LeadsTo kind g id id
-  parent : {child : ObjectId} {p : ObjectId} → LeadsTo kind g id child → has_mark 8 g.held child ≡ true → has_mark 2 g.held child ≡ false → Contains (parents_in g.held child) p → kind g p ≡ true → LeadsTo kind g id p
+  parent : {child : ObjectId} {p : ObjectId} → LeadsTo kind g id child → has_mark 8 g.held child ≡ true
+      → has_mark 2 g.held child ≡ false → Contains (parents_in g.held child) p → kind g p ≡ true → LeadsTo kind g id p
 
 -- what comes to be seen is common
 unfoldable pub SeesCommon : GraphData → GraphData → Type 0
@@ -86,7 +90,8 @@ SeesCommon g h = (id : ObjectId) → has_mark 8 h.held id ≡ true → (has_mark
 
 -- or is one of these
 unfoldable pub SeesAmong : List ObjectId → GraphData → GraphData → Type 0
-SeesAmong ids g h = (id : ObjectId) → has_mark 8 h.held id ≡ true → ((has_mark 8 g.held id || has_mark 2 h.held id) ≡ true) ⊎ Contains ids id
+SeesAmong ids g h = (id : ObjectId) → has_mark 8 h.held id ≡ true → ((has_mark 8 g.held id || has_mark 2 h.held id) ≡ true)
+    ⊎ Contains ids id
 
 -- what comes to be seen by a call is common, but for the parents of the commit that is offered, where no ref of the server is it
 abbrev pub FindsCommon : GraphData → Option ObjectId → GraphData → Type 0

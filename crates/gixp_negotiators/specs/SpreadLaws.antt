@@ -9,7 +9,8 @@ use Rattle.gixp_negotiators.specs.MarkLaws.{held_marked}
 use Rattle.gixp_negotiators.specs.Spread.{BecomesCommon, Spreads, StaysSpread, LeadsTo}
 
 -- where what is common spreads, all that a common commit leads on to are common
-pub ancestors_common : (kind : GraphData → ObjectId → Bool) (g h : GraphData) (id q : ObjectId) → Grows g h → Spreads kind g h → has_mark 2 h.held id ≡ true → LeadsTo kind g id q → has_mark 2 h.held q ≡ true
+pub ancestors_common : (kind : GraphData → ObjectId → Bool) (g h : GraphData) (id q : ObjectId) → Grows g h → Spreads kind g h
+    → has_mark 2 h.held id ≡ true → LeadsTo kind g id q → has_mark 2 h.held q ≡ true
 ancestors_common kind g h id q w s c LeadsTo.itself = c
 ancestors_common kind g h id q w s c (LeadsTo.parent {child = child} leads seen lacks is k) =
     All-contains (BecomesCommon kind g h) (parents_in h.held child) q (s child seen lacks (ancestors_common kind g h id child w s c leads))

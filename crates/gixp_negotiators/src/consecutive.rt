@@ -56,7 +56,8 @@ impl Consecutive {
     ) -> Result<(), NegotiatorError>
         requires { (marks.0 ≡ 8) ⊎ ((marks.0 ≡ 10) ⊎ (marks.0 ≡ 12)) }
         ensures keeps { OnOk result (Steps self.old graph.old.graph self.new graph.new.graph) }
-        ensures room { OnOk result (left 8 graph.new.graph + heap_len self.new.queue.waiting ≤ left 8 graph.old.graph + heap_len self.old.queue.waiting) }
+        ensures room { OnOk result (left 8 graph.new.graph + heap_len self.new.queue.waiting
+            ≤ left 8 graph.old.graph + heap_len self.old.queue.waiting) }
         ensures common { left 2 graph.new.graph ≤ left 2 graph.old.graph }
         ensures waits { OnOk result (IsMarkedIfThere 8 graph.old.graph graph.new.graph id.now) }
         ensures spreads { OnOk result (StaysSpread is_there graph.old.graph graph.new.graph) }
@@ -214,9 +215,11 @@ impl Consecutive {
     ) -> Result<(), NegotiatorError>
         ensures keeps { OnOk result (Steps self.old graph.old.graph self.new graph.new.graph) }
         ensures less { OnOk result (left 2 graph.new.graph + length due.new.items ≤ left 2 graph.old.graph + length due.old.items) }
-        ensures room { OnOk result (left 8 graph.new.graph + heap_len self.new.queue.waiting ≤ left 8 graph.old.graph + heap_len self.old.queue.waiting) }
+        ensures room { OnOk result (left 8 graph.new.graph + heap_len self.new.queue.waiting
+            ≤ left 8 graph.old.graph + heap_len self.old.queue.waiting) }
         ensures spreads { OnOk result (SpreadsFrom is_there id.now due.old.items graph.old.graph due.new.items graph.new.graph) }
-        ensures ancestors { OnOk result (has_mark 8 graph.old.graph.held id.now ≡ true → HasCommonParents is_there graph.old.graph graph.new.graph id.now) }
+        ensures ancestors { OnOk result (has_mark 8 graph.old.graph.held id.now ≡ true
+            → HasCommonParents is_there graph.old.graph graph.new.graph id.now) }
         ensures finds { OnOk result (IsKnown graph.old.graph id.now → SeesCommon graph.old.graph graph.new.graph) }
         ensures common { OnOk result (AllCommonAmong graph.old.graph due.old.items → AllCommonAmong graph.new.graph due.new.items) }
         ensures grows { Grows graph.old.graph graph.new.graph }
@@ -242,9 +245,11 @@ impl Consecutive {
         id: &ObjectId,
     ) -> Result<(), NegotiatorError>
         ensures keeps { OnOk result (Steps self.old graph.old.graph self.new graph.new.graph) }
-        ensures room { OnOk result (left 8 graph.new.graph + heap_len self.new.queue.waiting ≤ left 8 graph.old.graph + heap_len self.old.queue.waiting) }
+        ensures room { OnOk result (left 8 graph.new.graph + heap_len self.new.queue.waiting
+            ≤ left 8 graph.old.graph + heap_len self.old.queue.waiting) }
         ensures spreads { OnOk result (SpreadsAllFrom is_there id.now graph.old.graph graph.new.graph) }
-        ensures ancestors { OnOk result (has_mark 8 graph.old.graph.held id.now ≡ true → HasCommonParents is_there graph.old.graph graph.new.graph id.now) }
+        ensures ancestors { OnOk result (has_mark 8 graph.old.graph.held id.now ≡ true
+            → HasCommonParents is_there graph.old.graph graph.new.graph id.now) }
         ensures finds { OnOk result (IsKnown graph.old.graph id.now → SeesCommon graph.old.graph graph.new.graph) }
         ensures grows { Grows graph.old.graph graph.new.graph }
         ensures failures { graph.old.failures ≤ graph.new.failures }
@@ -265,9 +270,11 @@ impl Consecutive {
         id: &ObjectId,
     ) -> Result<(), NegotiatorError>
         ensures keeps { OnOk result (Steps self.old graph.old.graph self.new graph.new.graph) }
-        ensures room { OnOk result (left 8 graph.new.graph + heap_len self.new.queue.waiting ≤ left 8 graph.old.graph + heap_len self.old.queue.waiting) }
+        ensures room { OnOk result (left 8 graph.new.graph + heap_len self.new.queue.waiting
+            ≤ left 8 graph.old.graph + heap_len self.old.queue.waiting) }
         ensures spreads { OnOk result (StaysSpread is_there graph.old.graph graph.new.graph) }
-        ensures ancestors { OnOk result (WhereOpen graph.old.graph id.now (HasCommonParents is_there graph.old.graph graph.new.graph id.now)) }
+        ensures ancestors { OnOk result (WhereOpen graph.old.graph id.now
+            (HasCommonParents is_there graph.old.graph graph.new.graph id.now)) }
         ensures finds { OnOk result (IsKnown graph.old.graph id.now → SeesCommon graph.old.graph graph.new.graph) }
         ensures grows { Grows graph.old.graph graph.new.graph }
         ensures failures { graph.old.failures ≤ graph.new.failures }
@@ -311,7 +318,8 @@ impl Consecutive {
         is_common: bool,
     ) -> Result<(), NegotiatorError>
         ensures keeps { OnOk result (Steps self.old graph.old.graph self.new graph.new.graph) }
-        ensures room { OnOk result (left 8 graph.new.graph + heap_len self.new.queue.waiting ≤ left 8 graph.old.graph + heap_len self.old.queue.waiting) }
+        ensures room { OnOk result (left 8 graph.new.graph + heap_len self.new.queue.waiting
+            ≤ left 8 graph.old.graph + heap_len self.old.queue.waiting) }
         ensures waits { OnOk result (IsMarkedIfThere 8 graph.old.graph graph.new.graph parent.now) }
         ensures spreads { OnOk result (StaysSpread is_there graph.old.graph graph.new.graph) }
         ensures finds { IsTrue is_common → OnOk result (SeesCommon graph.old.graph graph.new.graph) }
@@ -337,7 +345,8 @@ impl Consecutive {
         is_common: bool,
     ) -> Result<(), NegotiatorError>
         ensures keeps { OnOk result (Steps self.old graph.old.graph self.new graph.new.graph) }
-        ensures room { OnOk result (left 8 graph.new.graph + heap_len self.new.queue.waiting ≤ left 8 graph.old.graph + heap_len self.old.queue.waiting) }
+        ensures room { OnOk result (left 8 graph.new.graph + heap_len self.new.queue.waiting
+            ≤ left 8 graph.old.graph + heap_len self.old.queue.waiting) }
         ensures waits { OnOk result (All (IsMarkedIfThere 8 graph.old.graph graph.new.graph) parents.now) }
         ensures spreads { OnOk result (StaysSpread is_there graph.old.graph graph.new.graph) }
         ensures finds { IsTrue is_common → OnOk result (SeesCommon graph.old.graph graph.new.graph) }
@@ -371,7 +380,8 @@ impl Consecutive {
     ) -> Result<bool, NegotiatorError>
         ensures keeps { OnOk result (StepsTaking first.now self.old graph.old.graph self.new graph.new.graph) }
         ensures offered { IfOk result (λ offered. IsTrue offered → IsOffered graph.old.graph graph.new.graph first.now.id) }
-        ensures room { OnOk result (left 8 graph.new.graph + heap_len self.new.queue.waiting ≤ left 8 graph.old.graph + heap_len self.old.queue.waiting) }
+        ensures room { OnOk result (left 8 graph.new.graph + heap_len self.new.queue.waiting
+            ≤ left 8 graph.old.graph + heap_len self.old.queue.waiting) }
         ensures spreads { OnOk result (StaysSpread is_there graph.old.graph graph.new.graph) }
         ensures passes { IfOk result (λ offered. offered ≡ false → SeesCommon graph.old.graph graph.new.graph) }
         ensures finds { IfOk result (λ offered. IsTrue offered → FindsCommon graph.old.graph (Some first.now.id) graph.new.graph) }
@@ -393,7 +403,8 @@ impl Consecutive {
     // The next that waits, unless all are common.
     fn pop(&mut self) -> Option<Waiting>
         ensures some { OnSome result (heap_len self.new.queue.waiting + 1 ≡ heap_len self.old.queue.waiting) }
-        ensures taken { IfSome result (λ first. IsPermutation (heap_items self.old.queue.waiting) (first ∷ heap_items self.new.queue.waiting)) }
+        ensures taken { IfSome result (λ first. IsPermutation (heap_items self.old.queue.waiting)
+            (first ∷ heap_items self.new.queue.waiting)) }
         ensures newest { IfSome result (IsNewest (heap_items self.new.queue.waiting)) }
         ensures none { IfNone result ((self.old.uncommon ≡ 0) ⊎ (heap_items self.old.queue.waiting ≡ [])) }
         ensures stays { IfNone result (heap_items self.new.queue.waiting ≡ heap_items self.old.queue.waiting) }
@@ -411,8 +422,10 @@ impl Consecutive {
         graph: &mut Graph<O>,
     ) -> Result<Option<ObjectId>, NegotiatorError>
         ensures offered { IfOk result (λ have. IfSome have (IsOffered graph.old.graph graph.new.graph)) }
-        ensures newest { IfOk result (λ have. IfSome have (λ id. IsNewestTimed (heap_items self.old.queue.waiting) graph.old.graph id (heap_items self.new.queue.waiting))) }
-        ensures none { IfOk result (λ have. IfNone have (Fits self.old.uncommon (heap_items self.old.queue.waiting) graph.old.graph → AllCommon graph.new.graph)) }
+        ensures newest { IfOk result (λ have. IfSome have
+            (λ id. IsNewestTimed (heap_items self.old.queue.waiting) graph.old.graph id (heap_items self.new.queue.waiting))) }
+        ensures none { IfOk result (λ have. IfNone have (Fits self.old.uncommon (heap_items self.old.queue.waiting) graph.old.graph
+            → AllCommon graph.new.graph)) }
         ensures keeps { OnOk result (Steps self.old graph.old.graph self.new graph.new.graph) }
         ensures spreads { OnOk result (StaysSpread is_there graph.old.graph graph.new.graph) }
         ensures finds { IfOk result (λ have. FindsCommon graph.old.graph have graph.new.graph) }
@@ -437,7 +450,8 @@ impl Consecutive {
         ensures keeps { OnOk result (Steps self.old graph.old.graph self.new graph.new.graph) }
         ensures waits { OnOk result (IsMarkedIfThere 8 graph.old.graph graph.new.graph id.now) }
         ensures spreads { OnOk result (StaysSpread is_there graph.old.graph graph.new.graph) }
-        ensures ancestors { OnOk result (WhereNew graph.old.graph id.now (HasCommonParents is_there graph.old.graph graph.new.graph id.now)) }
+        ensures ancestors { OnOk result (WhereNew graph.old.graph id.now
+            (HasCommonParents is_there graph.old.graph graph.new.graph id.now)) }
         ensures listed { OnOk result (IsListedIfNew graph.old.graph graph.new.graph id.now) }
         ensures grows { Grows graph.old.graph graph.new.graph }
         ensures failures { graph.old.failures ≤ graph.new.failures }

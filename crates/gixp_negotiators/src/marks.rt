@@ -80,9 +80,11 @@ pub(crate) fn claim<O: Objects>(
     ensures none { IfOk result (λ found. IfNone found (IsMarkedIfThere mark.0 graph.old.graph graph.new.graph id.now)) }
 
     // Where it isn't claimed, it wasn't seen, or had the mark.
-    ensures absent { IfOk result (λ found. IfNone found (SeesNone graph.old.graph graph.new.graph × IsMarkedIfSeen mark.0 graph.new.graph id.now)) }
+    ensures absent { IfOk result (λ found. IfNone found (SeesNone graph.old.graph graph.new.graph
+        × IsMarkedIfSeen mark.0 graph.new.graph id.now)) }
     ensures kept { IfOk result (λ found. IfNone found (SettlesNone graph.old.graph graph.new.graph)) }
-    ensures spent { mark.0 ≡ 16 → IfOk result (λ found. IfNone found (IsSome (commit_at graph.old.graph.objects id.now) → has_mark 16 graph.old.graph.held id.now ≡ true)) }
+    ensures spent { mark.0 ≡ 16 → IfOk result
+        (λ found. IfNone found (IsSome (commit_at graph.old.graph.objects id.now) → has_mark 16 graph.old.graph.held id.now ≡ true)) }
     ensures sees { bit_and marks.0 8 ≡ 0 → SeesNone graph.old.graph graph.new.graph }
     ensures sees_only { SeesOnly id.now graph.old.graph graph.new.graph }
     ensures settles { bit_and marks.0 2 ≡ 0 → SettlesNone graph.old.graph graph.new.graph }

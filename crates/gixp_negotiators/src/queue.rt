@@ -42,7 +42,8 @@ impl Queue {
     /// Adds a commit.
     pub fn push(&mut self, time: i64, id: ObjectId) -> Result<(), AllocError>
         ensures ok { OnOk result (heap_len self.new.waiting ≡ heap_len self.old.waiting + 1) }
-        ensures waits { OnOk result (IsPermutation (waiting_at time self.old.rank id ∷ heap_items self.old.waiting) (heap_items self.new.waiting)) }
+        ensures waits { OnOk result (IsPermutation (waiting_at time self.old.rank id ∷ heap_items self.old.waiting)
+            (heap_items self.new.waiting)) }
         ensures rank { OnOk result (self.new.rank + 1 ≡ self.old.rank) }
     {
         let rank = self.rank;

@@ -85,7 +85,8 @@ impl Skipping {
     ) -> Result<(), NegotiatorError>
         requires { (marks.0 ≡ 8) ⊎ (marks.0 ≡ 12) }
         ensures fits { OnOk result (FitsSkipping self.old graph.old.graph → FitsSkipping self.new graph.new.graph) }
-        ensures room { OnOk result (left 8 graph.new.graph + heap_len self.new.queue.waiting ≤ left 8 graph.old.graph + heap_len self.old.queue.waiting) }
+        ensures room { OnOk result (left 8 graph.new.graph + heap_len self.new.queue.waiting
+            ≤ left 8 graph.old.graph + heap_len self.old.queue.waiting) }
         ensures waits { OnOk result (IsMarkedIfThere 8 graph.old.graph graph.new.graph id.now) }
         ensures listed { OnOk result (bit_and marks.0 4 ≡ 4 → IsListedIfNew graph.old.graph graph.new.graph id.now) }
         ensures settles { SettlesNone graph.old.graph graph.new.graph }
@@ -161,7 +162,8 @@ impl Skipping {
         id: &ObjectId,
         due: &mut Vec<ObjectId>,
     ) -> Result<(), NegotiatorError>
-        ensures fits { OnOk result ((u : ℕ) (ws : List Waiting) → FitsOwing u ws graph.old.graph due.old.items → FitsOwing u ws graph.new.graph due.new.items) }
+        ensures fits { OnOk result ((u : ℕ) (ws : List Waiting) → FitsOwing u ws graph.old.graph due.old.items
+            → FitsOwing u ws graph.new.graph due.new.items) }
         ensures less { OnOk result (left 2 graph.new.graph + length due.new.items ≤ left 2 graph.old.graph + length due.old.items) }
         ensures seen { left 8 graph.new.graph ≤ left 8 graph.old.graph }
         ensures spreads { OnOk result (SpreadsFrom was_seen id.now due.old.items graph.old.graph due.new.items graph.new.graph) }
@@ -199,7 +201,8 @@ impl Skipping {
         ensures seen { left 8 graph.new.graph ≤ left 8 graph.old.graph }
         ensures queue { self.new.queue ≡ self.old.queue }
         ensures skips { self.new.skips ≡ self.old.skips }
-        ensures spreads { OnOk result (AllRead self.old.unread graph.old.graph graph.new.graph → Spreads was_seen graph.old.graph graph.new.graph) }
+        ensures spreads { OnOk result (AllRead self.old.unread graph.old.graph graph.new.graph
+            → Spreads was_seen graph.old.graph graph.new.graph) }
         ensures grows { Grows graph.old.graph graph.new.graph }
         ensures failures { graph.old.failures ≤ graph.new.failures }
         ensures failed { IfErr result (IsRefusal 0 0 graph.old.failures graph.new.failures) }
@@ -277,7 +280,8 @@ impl Skipping {
         legacy: Legacy,
     ) -> Result<bool, NegotiatorError>
         ensures fits { OnOk result (FitsSkipping self.old graph.old.graph → FitsSkipping self.new graph.new.graph) }
-        ensures room { OnOk result (left 8 graph.new.graph + heap_len self.new.queue.waiting ≤ left 8 graph.old.graph + heap_len self.old.queue.waiting) }
+        ensures room { OnOk result (left 8 graph.new.graph + heap_len self.new.queue.waiting
+            ≤ left 8 graph.old.graph + heap_len self.old.queue.waiting) }
         ensures waits { OnOk result (IsMarkedIfThere 8 graph.old.graph graph.new.graph parent.now) }
         ensures taken { IfOk result (λ waits. waits ≡ false → has_mark 16 graph.new.graph.held parent.now ≡ true) }
         ensures hands { OnOk result (Hands legacy (parent.now ∷ []) graph.new.graph self.old.skips.entries self.new.skips.entries) }
@@ -302,7 +306,8 @@ impl Skipping {
         legacy: Legacy,
     ) -> Result<bool, NegotiatorError>
         ensures fits { OnOk result (FitsSkipping self.old graph.old.graph → FitsSkipping self.new graph.new.graph) }
-        ensures room { OnOk result (left 8 graph.new.graph + heap_len self.new.queue.waiting ≤ left 8 graph.old.graph + heap_len self.old.queue.waiting) }
+        ensures room { OnOk result (left 8 graph.new.graph + heap_len self.new.queue.waiting
+            ≤ left 8 graph.old.graph + heap_len self.old.queue.waiting) }
         ensures waits { OnOk result (All (IsMarkedIfThere 8 graph.old.graph graph.new.graph) parents.now) }
         ensures taken { IfOk result (λ any. any ≡ false → AllTaken graph.new.graph parents.now) }
         ensures hands { OnOk result (Hands legacy parents.now graph.new.graph self.old.skips.entries self.new.skips.entries) }
@@ -327,8 +332,10 @@ impl Skipping {
     ) -> Result<bool, NegotiatorError>
         ensures fits { OnOk result (FitsTaking first.now self.old graph.old.graph → FitsSkipping self.new graph.new.graph) }
         ensures offered { IfOk result (λ offered. IsTrue offered → IsOffered graph.old.graph graph.new.graph first.now.id) }
-        ensures takes { IfOk result (λ offered. Takes self.old.skips.entries graph.old.graph first.now.id offered self.new.skips.entries graph.new.graph) }
-        ensures room { OnOk result (left 8 graph.new.graph + heap_len self.new.queue.waiting ≤ left 8 graph.old.graph + heap_len self.old.queue.waiting) }
+        ensures takes { IfOk result
+            (λ offered. Takes self.old.skips.entries graph.old.graph first.now.id offered self.new.skips.entries graph.new.graph) }
+        ensures room { OnOk result (left 8 graph.new.graph + heap_len self.new.queue.waiting
+            ≤ left 8 graph.old.graph + heap_len self.old.queue.waiting) }
         ensures queues { OnOk result (QueuesNew (heap_items self.old.queue.waiting) graph.old.graph (heap_items self.new.queue.waiting)) }
         ensures grows { Grows graph.old.graph graph.new.graph }
         ensures failures { graph.old.failures ≤ graph.new.failures }
@@ -349,7 +356,8 @@ impl Skipping {
     // The next that waits, unless all are common.
     fn pop(&mut self) -> Option<Waiting>
         ensures some { OnSome result (heap_len self.new.queue.waiting + 1 ≡ heap_len self.old.queue.waiting) }
-        ensures taken { IfSome result (λ first. IsPermutation (heap_items self.old.queue.waiting) (first ∷ heap_items self.new.queue.waiting)) }
+        ensures taken { IfSome result (λ first. IsPermutation (heap_items self.old.queue.waiting)
+            (first ∷ heap_items self.new.queue.waiting)) }
         ensures newest { IfSome result (IsNewest (heap_items self.new.queue.waiting)) }
         ensures none { IfNone result ((self.old.uncommon ≡ 0) ⊎ (heap_items self.old.queue.waiting ≡ [])) }
         ensures stays { IfNone result (heap_items self.new.queue.waiting ≡ heap_items self.old.queue.waiting) }
@@ -368,8 +376,10 @@ impl Skipping {
         graph: &mut Graph<O>,
     ) -> Result<Option<ObjectId>, NegotiatorError>
         ensures offered { IfOk result (λ have. IfSome have (IsOffered graph.old.graph graph.new.graph)) }
-        ensures newest { IfOk result (λ have. IfSome have (λ id. IsNewestIn (heap_items self.old.queue.waiting) graph.old.graph id (heap_items self.new.queue.waiting))) }
-        ensures distances { IfOk result (λ have. Distances self.old.skips.entries graph.old.graph have self.new.skips.entries graph.new.graph) }
+        ensures newest { IfOk result (λ have. IfSome have
+            (λ id. IsNewestIn (heap_items self.old.queue.waiting) graph.old.graph id (heap_items self.new.queue.waiting))) }
+        ensures distances { IfOk result (λ have.
+            Distances self.old.skips.entries graph.old.graph have self.new.skips.entries graph.new.graph) }
         ensures none { IfOk result (λ have. IfNone have (FitsSkipping self.old graph.old.graph → AllCommon graph.new.graph)) }
         ensures fits { OnOk result (FitsSkipping self.old graph.old.graph → FitsSkipping self.new graph.new.graph) }
         ensures queues { OnOk result (QueuesNew (heap_items self.old.queue.waiting) graph.old.graph (heap_items self.new.queue.waiting)) }
@@ -392,7 +402,8 @@ fn reach<O: Objects>(
     id: &ObjectId,
     due: &mut Vec<ObjectId>,
 ) -> Result<(), NegotiatorError>
-    ensures fits { OnOk result ((u : ℕ) (ws : List Waiting) → FitsOwing u ws graph.old.graph due.old.items → FitsOwing u ws graph.new.graph due.new.items) }
+    ensures fits { OnOk result ((u : ℕ) (ws : List Waiting) → FitsOwing u ws graph.old.graph due.old.items
+        → FitsOwing u ws graph.new.graph due.new.items) }
     ensures common { OnOk result (has_mark 8 graph.old.graph.held id.now ≡ true → has_mark 2 graph.new.graph.held id.now ≡ true) }
     ensures less { OnOk result (left 2 graph.new.graph + length due.new.items ≤ left 2 graph.old.graph + length due.old.items) }
     ensures seen { left 8 graph.new.graph ≤ left 8 graph.old.graph }
@@ -432,7 +443,8 @@ fn reach_all<O: Objects>(
     ids: &[ObjectId],
     due: &mut Vec<ObjectId>,
 ) -> Result<(), NegotiatorError>
-    ensures fits { OnOk result ((u : ℕ) (ws : List Waiting) → FitsOwing u ws graph.old.graph due.old.items → FitsOwing u ws graph.new.graph due.new.items) }
+    ensures fits { OnOk result ((u : ℕ) (ws : List Waiting) → FitsOwing u ws graph.old.graph due.old.items
+        → FitsOwing u ws graph.new.graph due.new.items) }
     ensures less { OnOk result (left 2 graph.new.graph + length due.new.items ≤ left 2 graph.old.graph + length due.old.items) }
     ensures seen { left 8 graph.new.graph ≤ left 8 graph.old.graph }
     ensures spreads { OnOk result (KeepsSpread was_seen due.old.items graph.old.graph due.new.items graph.new.graph) }
@@ -475,8 +487,10 @@ fn next_distance(whole: u32) -> u32
 fn legacy_of(flags: Flags, skip: Skip) -> Legacy
     ensures common { has_all 2 flags.0 ≡ true → result ≡ Common }
     ensures listed { has_all 4 flags.0 ≡ true → result ≡ Common }
-    ensures passes { has_all 2 flags.0 ≡ false → has_all 4 flags.0 ≡ false → 0 < skip.left → result ≡ Skips (skip_of skip.whole (skip.left - 1)) }
-    ensures grows { has_all 2 flags.0 ≡ false → has_all 4 flags.0 ≡ false → skip.left ≡ 0 → result ≡ Skips (skip_of (distance_after skip.whole) (distance_after skip.whole)) }
+    ensures passes { has_all 2 flags.0 ≡ false → has_all 4 flags.0 ≡ false → 0 < skip.left
+        → result ≡ Skips (skip_of skip.whole (skip.left - 1)) }
+    ensures grows { has_all 2 flags.0 ≡ false → has_all 4 flags.0 ≡ false → skip.left ≡ 0
+        → result ≡ Skips (skip_of (distance_after skip.whole) (distance_after skip.whole)) }
 {
     if has(flags, Flags(2)) || has(flags, Flags(4)) {
         return Legacy::Common;

@@ -32,7 +32,8 @@ no_refspec = refl
 a_refspec : session_of (line (codes "plan" ∷ codes "x" ∷ codes "y" ∷ [])) ≡ Some (codes "x", codes "y" ∷ [])
 a_refspec = refl
 
-an_empty_refspec : session_of (line (codes "plan" ∷ codes "x" ∷ codes "y" ∷ codes "" ∷ codes "z" ∷ [])) ≡ Some (codes "x", codes "y" ∷ codes "" ∷ codes "z" ∷ [])
+an_empty_refspec : session_of (line (codes "plan" ∷ codes "x" ∷ codes "y" ∷ codes "" ∷ codes "z" ∷ []))
+    ≡ Some (codes "x", codes "y" ∷ codes "" ∷ codes "z" ∷ [])
 an_empty_refspec = refl
 
 another_plan : session_of (line (codes "Plan" ∷ codes "x" ∷ codes "y" ∷ [])) ≡ None

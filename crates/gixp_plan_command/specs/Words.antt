@@ -9,5 +9,6 @@ file_of _ = None
 
 -- the folder and the refspecs of `plan DIR SPEC..` after the program's name, of which there is one at least
 abbrev pub session_of : List (List ℕ) → Option (List ℕ × List (List ℕ))
-session_of (program ∷ command ∷ folder ∷ spec ∷ specs) = if pointwise nat_eq command (codes "plan") then Some (folder, spec ∷ specs) else None
+session_of (program ∷ command ∷ folder ∷ spec ∷ specs) = if pointwise nat_eq command (codes "plan") then Some (folder, spec ∷ specs)
+    else None
 session_of _ = None

@@ -45,7 +45,8 @@ pub passed-none : (start end : Side) (x : CopyError) → PassesOver start (Err x
 passed-none start end (Write kind) h z = absurd h
 passed-none start end (Read e) h z =
     let r = h.5 in
-    sym r.copied.failures ∙ fails-none (side_reading r.now) (side_reading r.failed) r.refused.refusal r.refused.fails (ap (λ (s : Side). s.reading.failures) (sym r.taken) ∙ z)
+    sym r.copied.failures ∙ fails-none (side_reading r.now) (side_reading r.failed) r.refused.refusal r.refused.fails
+    (ap (λ (s : Side). s.reading.failures) (sym r.taken) ∙ z)
 
 -- without a counted failure a session ends as its steps do
 uncounted : (ran : Result Bool PlanRefusal) → end_counted 0 ran ≡ ran
@@ -97,16 +98,20 @@ module _ (bodies : List Body) (words : List (List ℕ)) where
   abbrev refusal_for : Discovery → List Spec → Option (List ℕ)
   refusal_for said specs = map_refusal said.capabilities specs (sought said specs (second_pieces bodies)).refs
 
-  planned-same : (said other : Discovery) (specs more : List Spec) → Planned said specs → Planned other more → (requests_for said specs ≡ requests_for other more) × (refusal_for said specs ≡ refusal_for other more)
+  planned-same : (said other : Discovery) (specs more : List Spec) → Planned said specs → Planned other more
+      → (requests_for said specs ≡ requests_for other more) × (refusal_for said specs ≡ refusal_for other more)
   planned-same said other specs more p q =
       let d : said ≡ other = same-said (discovery [] (first_pieces bodies)) said other p.discovered q.discovered in
       let s : specs ≡ more = same-read (specs_of words) specs more p.read q.read in
       (ap (λ x. requests_for x specs) d ∙ ap (requests_for other) s, ap (λ x. refusal_for x specs) d ∙ ap (refusal_for other) s)
 
-module _ {N I A S C P X : Type 0} (parties : Parties N I A S C P X) (basis : N → Basis) (haves : N → List ObjectId) (list : OffersList parties.negotiation_calls basis haves) (IsOne IsOther : RefMap → N → Type 0) (IsEmpty : S → Type 0)
+module _ {N I A S C P X : Type 0} (parties : Parties N I A S C P X) (basis : N → Basis) (haves : N → List ObjectId)
+    (list : OffersList parties.negotiation_calls basis haves) (IsOne IsOther : RefMap → N → Type 0) (IsEmpty : S → Type 0)
     (reads : (s : S) (ids : List ObjectId) (t : S) → IsEmpty s → parties.store_calls.reads s ids t → ids ≡ [])
-    (ids : List ObjectId) (same : (m k : RefMap) (n o : N) → IsOne m n → IsOther k o → LookAlike m.mappings.items k.mappings.items → SameBasis (basis n) (basis o) × (haves n ≡ ids) × (haves o ≡ ids))
-    (none : CountsNone parties.consumes) (refused_none : CountsRefused parties.consumes) (never : (i j : I) → parties.says i true j → ⊥) (bodies : List Body) (words : List (List ℕ)) where
+    (ids : List ObjectId) (same : (m k : RefMap) (n o : N) → IsOne m n → IsOther k o → LookAlike m.mappings.items k.mappings.items
+    → SameBasis (basis n) (basis o) × (haves n ≡ ids) × (haves o ≡ ids))
+    (none : CountsNone parties.consumes) (refused_none : CountsRefused parties.consumes) (never : (i j : I) → parties.says i true j → ⊥)
+    (bodies : List Body) (words : List (List ℕ)) where
   -- its fetch went a way
   record Fetched (IsOver : RefMap → N → Type 0) (course : Course) : Type 0 where
     sent : List (List ℕ)
@@ -115,7 +120,8 @@ module _ {N I A S C P X : Type 0} (parties : Parties N I A S C P X) (basis : N �
     negotiate : N
     over : IsOver made negotiate
     last : Reading
-    way : Way parties basis haves list IsEmpty reads none refused_none never mapped.handshake.server_protocol_version mapped.handshake.capabilities
+    way : Way parties basis haves list IsEmpty reads none refused_none never mapped.handshake.server_protocol_version
+        mapped.handshake.capabilities
         (bands mapped.handshake.server_protocol_version mapped.handshake.capabilities) negotiate mapped.behind last course.ended
     ends : last.held.sent ≡ course.sent
     maps : course.mapped ≡ Some made
@@ -123,19 +129,29 @@ module _ {N I A S C P X : Type 0} (parties : Parties N I A S C P X) (basis : N �
   -- how a session went, unless an allocation failed
   data Went (IsOver : RefMap → N → Type 0) (course : Course) : Type 0 where
     for_memory : EndsForMemory course.ended → Went IsOver course
-    at_greeting : {name : List ℕ} → discovery [] (first_pieces bodies) ≡ Err name → course.sent ≡ [] → course.mapped ≡ None → course.ended ≡ Err (refusal (codes "handshake") name) → Went IsOver course
-    at_map : {said : Discovery} {specs : List Spec} {name : List ℕ} → Planned bodies words said specs → refusal_for bodies words said specs ≡ Some name → course.sent ≡ requests_for bodies words said specs → course.mapped ≡ None
+    at_greeting : {name : List ℕ} → discovery [] (first_pieces bodies) ≡ Err name → course.sent ≡ [] → course.mapped ≡ None
+        → course.ended ≡ Err (refusal (codes "handshake") name) → Went IsOver course
+    at_map : {said : Discovery} {specs : List Spec} {name : List ℕ} → Planned bodies words said specs
+        → refusal_for bodies words said specs ≡ Some name → course.sent ≡ requests_for bodies words said specs → course.mapped ≡ None
         → course.ended ≡ Err (refusal (codes "refs") name) → Went IsOver course
-    to_fetch : {said : Discovery} {specs : List Spec} → Planned bodies words said specs → refusal_for bodies words said specs ≡ None → Fetched IsOver course → Went IsOver course
+    to_fetch : {said : Discovery} {specs : List Spec} → Planned bodies words said specs → refusal_for bodies words said specs ≡ None
+        → Fetched IsOver course → Went IsOver course
 
   module _ (IsOver : RefMap → N → Type 0) (course : Course) (g : GoesSteadily parties IsOver IsEmpty bodies words course) where
     ended-so : (ran : Result Bool PlanRefusal) → g.is_course.ran ≡ ran → course.ended ≡ ran
     ended-so ran q = g.is_course.ended ∙ ap (λ f. end_counted f g.is_course.ran) g.unfailed ∙ uncounted g.is_course.ran ∙ q
 
-    ungreeted-so : (e : HandshakeError) → GreetsWithoutAccount true (bodies_reading g.is_course.transport) g.is_course.last (Err e) → course.mapped ≡ None → course.ended ≡ Err (refusal (codes "handshake") (handshake_name e)) → Went IsOver course
+    ungreeted-so : (e : HandshakeError) → GreetsWithoutAccount true (bodies_reading g.is_course.transport) g.is_course.last (Err e)
+        → course.mapped ≡ None → course.ended ≡ Err (refusal (codes "handshake") (handshake_name e)) → Went IsOver course
     ungreeted-so e h m f =
         by (discovery [] (first_pieces bodies)) refl
-        (greetings-follow bodies (Err e) (record { transport = g.is_course.transport; last = g.is_course.last; over = g.is_course.over; greets = h; unfailed = g.unfailed }))
+        (greetings-follow bodies (Err e) (record {
+          transport = g.is_course.transport;
+          last = g.is_course.last;
+          over = g.is_course.over;
+          greets = h;
+          unfailed = g.unfailed;
+        }))
       where
         remembered : e ≡ handshake.Memory → Went IsOver course
         remembered q = for_memory (codes "handshake", f ∙ ap (λ x. ends_refused (refusal (codes "handshake") (handshake_name x))) q)
@@ -144,44 +160,80 @@ module _ {N I A S C P X : Type 0} (parties : Parties N I A S C P X) (basis : N �
         by (Ok said) q i = remembered i
         by (Err name) q (inr i) = remembered i
         by (Err name) q (inl i) =
-            at_greeting q (sym g.is_course.sent ∙ greeting-sent true (bodies_reading g.is_course.transport) g.is_course.last (Err e) refl h ∙ g.is_course.over.sent) m (f ∙ ap (λ x. ends_refused (refusal (codes "handshake") x)) i)
+            at_greeting q (sym g.is_course.sent ∙ greeting-sent true (bodies_reading g.is_course.transport) g.is_course.last
+            (Err e) refl h ∙ g.is_course.over.sent) m (f ∙ ap (λ x. ends_refused (refusal (codes "handshake") x)) i)
 
-    unmapped-so : (h : Handshake) (mid : Reading) (e : MapError) → GreetsWithoutAccount true (bodies_reading g.is_course.transport) mid (Ok h) → MapsRefs g.is_course.context h true mid g.is_course.last (Err e) → course.mapped ≡ None
+    unmapped-so : (h : Handshake) (mid : Reading) (e : MapError) → GreetsWithoutAccount true (bodies_reading g.is_course.transport) mid
+        (Ok h) → MapsRefs g.is_course.context h true mid g.is_course.last (Err e) → course.mapped ≡ None
         → course.ended ≡ Err (refusal (codes "refs") (map_name e)) → Went IsOver course
     unmapped-so h mid e k l m f =
-        by (planning bodies words (Err e) g.is_course.context g.is_course.transport h mid g.is_course.last g.is_course.read g.is_course.over k l (λ x q. g.unfailed)).plans
+        by (planning bodies words
+        (Err e) g.is_course.context g.is_course.transport h mid g.is_course.last g.is_course.read g.is_course.over k l
+        (λ x q. g.unfailed)).plans
       where
         by : Plans bodies words g.is_course.last.held.sent (Err e) → Went IsOver course
         by p = at p.ends
           where
-            at : ((refusal_for bodies words p.said p.specs ≡ Some (map_name e)) × (g.is_course.last.held.sent ≡ requests_for bodies words p.said p.specs)) ⊎ (e ≡ map.Memory) → Went IsOver course
+            at : ((refusal_for bodies words p.said p.specs ≡ Some (map_name e))
+                × (g.is_course.last.held.sent ≡ requests_for bodies words p.said p.specs)) ⊎ (e ≡ map.Memory) → Went IsOver course
             at (inr q) = for_memory (codes "refs", f ∙ ap (λ x. ends_refused (refusal (codes "refs") (map_name x))) q)
             at (inl q) = at_map (record { discovered = p.discovered; read = p.read }) q.0 (sym g.is_course.sent ∙ q.1) m f
 
-    fetched-so : (h : Handshake) (mid behind : Reading) (m : RefMap) (r : Result (Option Outcome) (FetchError A X)) → GreetsWithoutAccount true (bodies_reading g.is_course.transport) mid (Ok h)
-        → MapsRefs g.is_course.context h true mid behind (Ok m) → FetchesMapped parties (IsOver m) IsEmpty (without_refs h) behind g.is_course.last r → IsUndisturbed r → course.mapped ≡ Some m → course.ended ≡ end_of r
+    fetched-so : (h : Handshake) (mid behind : Reading) (m : RefMap) (r : Result (Option Outcome) (FetchError A X))
+        → GreetsWithoutAccount true (bodies_reading g.is_course.transport) mid (Ok h)
+        → MapsRefs g.is_course.context h true mid behind (Ok m) → FetchesMapped parties (IsOver m) IsEmpty
+        (without_refs h) behind g.is_course.last r → IsUndisturbed r → course.mapped ≡ Some m → course.ended ≡ end_of r
         → Went IsOver course
     fetched-so h mid behind m r k l t u p f =
         let mapped : IsMapped bodies words behind.held.sent m =
-        record { context = g.is_course.context; transport = g.is_course.transport; handshake = h; mid = mid; behind = behind; read = g.is_course.read; over = g.is_course.over; greets = k; maps = l; by_then = refl } in
-        at (goes-way parties basis haves list IsEmpty reads none refused_none never (IsOver m) (without_refs h) behind g.is_course.last (both-alike bodies words behind.held.sent behind.held.sent m m mapped mapped).alike.alone g.unfailed r u t)
+        record {
+          context = g.is_course.context;
+          transport = g.is_course.transport;
+          handshake = h;
+          mid = mid;
+          behind = behind;
+          read = g.is_course.read;
+          over = g.is_course.over;
+          greets = k;
+          maps = l;
+          by_then = refl;
+        } in
+        at (goes-way parties basis haves list IsEmpty reads none refused_none never (IsOver m) (without_refs h) behind g.is_course.last
+        (both-alike bodies words behind.held.sent behind.held.sent m m mapped mapped).alike.alone g.unfailed r u t)
       where
         plans : Plans bodies words behind.held.sent (Ok m)
-        plans = (planning bodies words (Ok m) g.is_course.context g.is_course.transport h mid behind g.is_course.read g.is_course.over k l (λ e q. absurd (made-or-refused m e q))).plans
+        plans =
+            (planning bodies words (Ok m) g.is_course.context g.is_course.transport h mid behind g.is_course.read g.is_course.over k l
+            (λ e q. absurd (made-or-refused m e q))).plans
 
         at : (r ≡ Err fetch.Memory)
-            ⊎ ((n : N) × IsOver m n × Way parties basis haves list IsEmpty reads none refused_none never h.server_protocol_version h.capabilities (bands h.server_protocol_version h.capabilities) n behind g.is_course.last (end_of r)) → Went IsOver course
+            ⊎ ((n : N) × IsOver m n
+            × Way parties basis haves list IsEmpty reads none refused_none never h.server_protocol_version h.capabilities
+            (bands h.server_protocol_version h.capabilities) n behind g.is_course.last (end_of r)) → Went IsOver course
         at (inl q) = for_memory (codes "fetch", f ∙ ap (λ (x : Result (Option Outcome) (FetchError A X)). end_of x) q)
         at (inr w) =
             to_fetch (record { discovered = plans.discovered; read = plans.read }) plans.ends.0
             (record {
               sent = behind.held.sent;
               made = m;
-              mapped = record { context = g.is_course.context; transport = g.is_course.transport; handshake = h; mid = mid; behind = behind; read = g.is_course.read; over = g.is_course.over; greets = k; maps = l; by_then = refl };
+              mapped = record {
+                context = g.is_course.context;
+                transport = g.is_course.transport;
+                handshake = h;
+                mid = mid;
+                behind = behind;
+                read = g.is_course.read;
+                over = g.is_course.over;
+                greets = k;
+                maps = l;
+                by_then = refl;
+              };
               negotiate = w.0;
               over = w.1;
               last = g.is_course.last;
-              way = subst (λ x. Way parties basis haves list IsEmpty reads none refused_none never h.server_protocol_version h.capabilities (bands h.server_protocol_version h.capabilities) w.0 behind g.is_course.last x) (sym f) w.2;
+              way =
+                  subst (λ x. Way parties basis haves list IsEmpty reads none refused_none never h.server_protocol_version
+                  h.capabilities (bands h.server_protocol_version h.capabilities) w.0 behind g.is_course.last x) (sym f) w.2;
               ends = g.is_course.sent;
               maps = p;
             })
@@ -190,7 +242,8 @@ module _ {N I A S C P X : Type 0} (parties : Parties N I A S C P X) (basis : N �
     went = by g.is_course.ran refl g.is_course.runs
       where
         by : (ran : Result Bool PlanRefusal) → g.is_course.ran ≡ ran
-            → Runs (λ m h from to r. FetchesMapped parties (IsOver m) IsEmpty h from to r × IsUndisturbed r) g.is_course.context true (bodies_reading g.is_course.transport) g.is_course.last course.mapped ran → Went IsOver course
+            → Runs (λ m h from to r. FetchesMapped parties (IsOver m) IsEmpty h from to r × IsUndisturbed r) g.is_course.context true
+            (bodies_reading g.is_course.transport) g.is_course.last course.mapped ran → Went IsOver course
         by ran q (ungreeted e h m f) = ungreeted-so e h m (ended-so ran q ∙ f)
         by ran q (unmapped h mid e k l m f) = unmapped-so h mid e k l m (ended-so ran q ∙ f)
         by ran q (fetched h mid behind m r k l t p f) = fetched-so h mid behind m r k l t.0 t.1 p (ended-so ran q ∙ f)
@@ -203,23 +256,31 @@ module _ {N I A S C P X : Type 0} (parties : Parties N I A S C P X) (basis : N �
     printed = p;
     ended = e;
     shown = λ q.
-        ap (λ x. requests_shown x ++ mapped_shown c.mapped ++ end_shown c.ended) s ∙ ap (λ t. requests_shown d.sent ++ t ++ end_shown c.ended) p ∙ ap (λ x. requests_shown d.sent ++ mapped_shown d.mapped ++ end_shown x) q;
+        ap (λ x. requests_shown x ++ mapped_shown c.mapped ++ end_shown c.ended) s ∙ ap (λ t. requests_shown d.sent ++ t
+        ++ end_shown c.ended) p ∙ ap (λ x. requests_shown d.sent ++ mapped_shown d.mapped ++ end_shown x) q;
   }
 
   fetched-alike : (c d : Course) → Fetched IsOne c → Fetched IsOther d → GoAlike c d
   fetched-alike c d x y =
-      let greet : SameGreeting x.mapped.mid y.mapped.mid x.mapped.handshake y.mapped.handshake = both-greet bodies words x.sent y.sent x.made y.made x.mapped y.mapped in
-      let maps : SameMap x.mapped.behind y.mapped.behind x.made y.made = both-alike bodies words x.sent y.sent x.made y.made x.mapped y.mapped in
+      let greet : SameGreeting x.mapped.mid y.mapped.mid x.mapped.handshake y.mapped.handshake =
+      both-greet bodies words x.sent y.sent x.made y.made x.mapped y.mapped in
+      let maps : SameMap x.mapped.behind y.mapped.behind x.made y.made =
+      both-alike bodies words x.sent y.sent x.made y.made x.mapped y.mapped in
       let base = same x.made y.made x.negotiate y.negotiate x.over y.over maps.mappings in
       let v = x.mapped.handshake.server_protocol_version in
-      let other : Way parties basis haves list IsEmpty reads none refused_none never v x.mapped.handshake.capabilities (bands v x.mapped.handshake.capabilities) y.negotiate y.mapped.behind y.last d.ended =
-      subst (λ w. Way parties basis haves list IsEmpty reads none refused_none never w x.mapped.handshake.capabilities (bands w x.mapped.handshake.capabilities) y.negotiate y.mapped.behind y.last d.ended) (sym greet.version)
-      (subst (λ k. Way parties basis haves list IsEmpty reads none refused_none never y.mapped.handshake.server_protocol_version k (bands y.mapped.handshake.server_protocol_version k) y.negotiate y.mapped.behind y.last d.ended)
+      let other : Way parties basis haves list IsEmpty reads none refused_none never v x.mapped.handshake.capabilities
+      (bands v x.mapped.handshake.capabilities) y.negotiate y.mapped.behind y.last d.ended =
+      subst (λ w. Way parties basis haves list IsEmpty reads none refused_none never w x.mapped.handshake.capabilities
+      (bands w x.mapped.handshake.capabilities) y.negotiate y.mapped.behind y.last d.ended) (sym greet.version)
+      (subst (λ k. Way parties basis haves list IsEmpty reads none refused_none never y.mapped.handshake.server_protocol_version k
+      (bands y.mapped.handshake.server_protocol_version k) y.negotiate y.mapped.behind y.last d.ended)
       (sym greet.capabilities) y.way) in
       let ends =
-      ways-alike parties basis haves list IsEmpty reads none refused_none never v x.mapped.handshake.capabilities x.negotiate y.negotiate x.mapped.behind y.mapped.behind x.last y.last base.0 (base.1 ∙ sym base.2)
+      ways-alike parties basis haves list IsEmpty reads none refused_none never v x.mapped.handshake.capabilities x.negotiate
+      y.negotiate x.mapped.behind y.mapped.behind x.last y.last base.0 (base.1 ∙ sym base.2)
       (hold-alike x.mapped.behind y.mapped.behind maps.alike) c.ended d.ended x.way other in
-      alike-by c d (sym x.ends ∙ ap (λ (z : TransportState). z.sent) ends.0 ∙ y.ends) (ap mapped_shown x.maps ∙ maps.shown ∙ sym (ap mapped_shown y.maps)) ends.1
+      alike-by c d (sym x.ends ∙ ap (λ (z : TransportState). z.sent) ends.0 ∙ y.ends)
+      (ap mapped_shown x.maps ∙ maps.shown ∙ sym (ap mapped_shown y.maps)) ends.1
 
   unmapped-alike : (c d : Course) → c.sent ≡ d.sent → c.mapped ≡ None → d.mapped ≡ None → c.ended ≡ d.ended → GoAlike c d
   unmapped-alike c d s m n e = alike-by c d s (ap mapped_shown (m ∙ sym n)) (inl e)
@@ -233,18 +294,24 @@ module _ {N I A S C P X : Type 0} (parties : Parties N I A S C P X) (basis : N �
   both-went c d (at_map p r s m e) (for_memory n) = inr (inl n)
   both-went c d (to_fetch p r x) (for_memory n) = inr (inl n)
   both-went c d (at_greeting {name} p s m e) (at_greeting {name = other} q t n f) =
-      inr (inr (unmapped-alike c d (s ∙ sym t) m n (e ∙ ap (λ x. ends_refused (refusal (codes "handshake") x)) (same-name (discovery [] (first_pieces bodies)) name other p q) ∙ sym f)))
-  both-went c d (at_greeting {name} p s m e) (at_map {said} q r t n f) = absurd (said-or-not (discovery [] (first_pieces bodies)) said name q.discovered p)
-  both-went c d (at_greeting {name} p s m e) (to_fetch {said} q r y) = absurd (said-or-not (discovery [] (first_pieces bodies)) said name q.discovered p)
-  both-went c d (at_map {said} p r s m e) (at_greeting {name} q t n f) = absurd (said-or-not (discovery [] (first_pieces bodies)) said name p.discovered q)
+      inr (inr (unmapped-alike c d (s ∙ sym t) m n (e ∙ ap (λ x. ends_refused (refusal (codes "handshake") x))
+      (same-name (discovery [] (first_pieces bodies)) name other p q) ∙ sym f)))
+  both-went c d (at_greeting {name} p s m e) (at_map {said} q r t n f) =
+      absurd (said-or-not (discovery [] (first_pieces bodies)) said name q.discovered p)
+  both-went c d (at_greeting {name} p s m e) (to_fetch {said} q r y) =
+      absurd (said-or-not (discovery [] (first_pieces bodies)) said name q.discovered p)
+  both-went c d (at_map {said} p r s m e) (at_greeting {name} q t n f) =
+      absurd (said-or-not (discovery [] (first_pieces bodies)) said name p.discovered q)
   both-went c d (at_map {said} {specs} {name} p r s m e) (at_map {said = other} {specs = more} {name = named} q k t n f) =
       let o = planned-same bodies words said other specs more p q in
       inr
       (inr (unmapped-alike c d (s ∙ o.0 ∙ sym t) m n
-      (e ∙ ap (λ x. ends_refused (refusal (codes "refs") x)) (same-some (refusal_for bodies words other more) name named (sym o.1 ∙ r) k) ∙ sym f)))
+      (e ∙ ap (λ x. ends_refused (refusal (codes "refs") x))
+      (same-some (refusal_for bodies words other more) name named (sym o.1 ∙ r) k) ∙ sym f)))
   both-went c d (at_map {said} {specs} {name} p r s m e) (to_fetch {said = other} {specs = more} q k y) =
       absurd (some-or-none (refusal_for bodies words other more) name (sym (planned-same bodies words said other specs more p q).1 ∙ r) k)
-  both-went c d (to_fetch {said} p r x) (at_greeting {name} q t n f) = absurd (said-or-not (discovery [] (first_pieces bodies)) said name p.discovered q)
+  both-went c d (to_fetch {said} p r x) (at_greeting {name} q t n f) =
+      absurd (said-or-not (discovery [] (first_pieces bodies)) said name p.discovered q)
   both-went c d (to_fetch {said} {specs} p r x) (at_map {said = other} {specs = more} {name} q k t n f) =
       absurd (some-or-none (refusal_for bodies words other more) name k (sym (planned-same bodies words said other specs more p q).1 ∙ r))
   both-went c d (to_fetch p r x) (to_fetch q k y) = inr (inr (fetched-alike c d x y))

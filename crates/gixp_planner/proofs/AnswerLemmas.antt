@@ -19,12 +19,14 @@ same-value : (x y : AnswerValue) (p q : Pieces) → whole x p ≡ whole y q → 
 same-value x y p q e = cc
 
 module _ (found : Pieces → Found) (under : Protocol) where
-  pub found-in : (old new : Reading) (p : Pieces) (x : AnswerValue) → old.to_come ≡ Some p → new.failures ≡ 0 → Answered found under old new x → (q : Pieces) × (found p ≡ whole x q)
+  pub found-in : (old new : Reading) (p : Pieces) (x : AnswerValue) → old.to_come ≡ Some p → new.failures ≡ 0
+      → Answered found under old new x → (q : Pieces) × (found p ≡ whole x q)
   found-in old new p x e z (inl r) = let a = if-known _ old.to_come p e r.answer in (a.0, a.2)
   found-in old new p x e z (inr b) = absurd (never-none old.failures new.failures b.failures z)
 
   -- of the same pieces the same answer
-  pub same-answer : (a b c d : Reading) (p : Pieces) (x y : AnswerValue) → a.to_come ≡ Some p → b.to_come ≡ Some p → c.failures ≡ 0 → d.failures ≡ 0 → Answered found under a c x → Answered found under b d y → x ≡ y
+  pub same-answer : (a b c d : Reading) (p : Pieces) (x y : AnswerValue) → a.to_come ≡ Some p → b.to_come ≡ Some p → c.failures ≡ 0
+      → d.failures ≡ 0 → Answered found under a c x → Answered found under b d y → x ≡ y
   same-answer a b c d p x y e f z w l r =
       let one = found-in a c p x e z l in
       let other = found-in b d p y f w r in
@@ -68,4 +70,5 @@ module _ (found : Pieces → Found) (under : Protocol) (banded : Bool) (old new 
   answered-version (inr b) = sym (view-version banded new) ∙ b.version
 
   pub answered-none : Answered found under (view banded old) (view banded new) x → new.failures ≡ 0 → old.failures ≡ 0
-  answered-none a z = sym (view-failures banded old) ∙ none-before found under (view banded old) (view banded new) x a (view-failures banded new ∙ z)
+  answered-none a z = sym (view-failures banded old)
+      ∙ none-before found under (view banded old) (view banded new) x a (view-failures banded new ∙ z)

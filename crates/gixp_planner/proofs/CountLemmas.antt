@@ -8,7 +8,8 @@ use Rattle.gixp_fetch.specs.Received.{Received}
 
 -- a consumer that takes a pack counts no failure
 abbrev pub CountsNone : {C P X : Type 0} → (C → Side → P → Result Bool X → C → Side → P → Type 0) → Type 0
-CountsNone {C = C} {P = P} consumes = (c : C) (s : Side) (p : P) (finished : Bool) (d : C) (t : Side) (q : P) → consumes c s p (Ok finished) d t q → t.reading.failures ≡ s.reading.failures
+CountsNone {C = C} {P = P} consumes = (c : C) (s : Side) (p : P) (finished : Bool) (d : C) (t : Side) (q : P)
+    → consumes c s p (Ok finished) d t q → t.reading.failures ≡ s.reading.failures
 
 finished-failures : (finished : Bool) (old new : Side) → Finishes finished old new → new.reading.failures ≡ old.reading.failures
 finished-failures true old new f = (f.drains refl).failures
@@ -21,6 +22,8 @@ back-failures s new b = at (is_begun s.place) refl
     at true e = (b.begun e).failures
     at false e = ap (λ (r : Reading). r.failures) (b.fresh e)
 
-pub received-failures : {C P X : Type 0} (consumes : C → Side → P → Result Bool X → C → Side → P → Type 0) → CountsNone consumes → (c : C) (from : Reading) (d : C) (new : Reading) (q : P) → Received consumes c from d new q
+pub received-failures : {C P X : Type 0} (consumes : C → Side → P → Result Bool X → C → Side → P → Type 0) → CountsNone consumes
+    → (c : C) (from : Reading) (d : C) (new : Reading) (q : P) → Received consumes c from d new q
     → new.failures ≡ from.failures
-received-failures consumes none c from d new q r = back-failures r.end new r.back ∙ finished-failures r.finished r.mid r.end r.finishes ∙ none c _ r.p r.finished d r.mid q r.consumed.took
+received-failures consumes none c from d new q r = back-failures r.end new r.back ∙ finished-failures r.finished r.mid r.end r.finishes
+    ∙ none c _ r.p r.finished d r.mid q r.consumed.took

@@ -50,16 +50,25 @@ record Said (accepted : List Protocol) (p : Pieces) (new : Reading) (found : Set
 heard : (old new : Reading) (found : SetServiceResponse) → Hears old new found → Said old.held.accepted (next_pieces old) new found
 heard old new found h =
     let v = if-known _ h.mid.to_come (next_pieces old) h.takes.to_come h.reads.value in
-    record { what = v.0; said = v.1; answers = v.2; version = h.reads.version ∙ v.2.version; accepts = ap (is_accepted old.held.accepted) v.2.version }
+    record {
+      what = v.0;
+      said = v.1;
+      answers = v.2;
+      version = h.reads.version ∙ v.2.version;
+      accepts = ap (is_accepted old.held.accepted) v.2.version;
+    }
 
 -- where its version is accepted, or isn't
-said-so : (accepted : List Protocol) (p : Pieces) (new : Reading) (found : SetServiceResponse) (s : Said accepted p new found) (ok : Bool) → is_accepted accepted found.actual_protocol ≡ ok
+said-so : (accepted : List Protocol) (p : Pieces) (new : Reading) (found : SetServiceResponse) (s : Said accepted p new found)
+    (ok : Bool) → is_accepted accepted found.actual_protocol ≡ ok
     → discovery accepted p ≡ by_acceptance ok s.what
 said-so accepted p new found s ok e = ap (by_advertisement accepted) s.said ∙ ap (λ b. by_acceptance b s.what) (sym s.accepts ∙ e)
 
 -- the lines that come next are those after what was said
-lines-said : (accepted : List Protocol) (p : Pieces) (new : Reading) (found : SetServiceResponse) (s : Said accepted p new found) → lines_from_stop s.what.stopped s.what.version s.what.rest ≡ lines_ahead new s.what.rest
-lines-said accepted p new found s = sym (ap (λ x. lines_from_stop x new.version s.what.rest) s.answers.stopped ∙ ap (λ v. lines_from_stop s.what.stopped v s.what.rest) s.version)
+lines-said : (accepted : List Protocol) (p : Pieces) (new : Reading) (found : SetServiceResponse) (s : Said accepted p new found)
+    → lines_from_stop s.what.stopped s.what.version s.what.rest ≡ lines_ahead new s.what.rest
+lines-said accepted p new found s = sym (ap (λ x. lines_from_stop x new.version s.what.rest) s.answers.stopped
+    ∙ ap (λ v. lines_from_stop s.what.stopped v s.what.rest) s.version)
 
 -- ---- a handshake that came to its refs
 
@@ -74,15 +83,21 @@ pub record Discovers (old new : Reading) (h : Handshake) : Type 0 where
 no-refs : (refs : List RefValue) → ◌≡◌ {A = Option (List RefValue)} (Some refs) None → ⊥
 no-refs refs e = cc e
 
-module _ (plain : Bool) (old new : Reading) (h : Handshake) (g : Greeted plain old new h) (s : Said old.held.accepted (next_pieces old) g.mid g.found) where
+module _ (plain : Bool) (old new : Reading) (h : Handshake) (g : Greeted plain old new h)
+    (s : Said old.held.accepted (next_pieces old) g.mid g.found) where
   held-then : g.mid.held ≡ record old.held { answers = later_answers old.held.answers }
   held-then = g.hears.reads.held ∙ g.hears.takes.held
 
-  discovers-by : (follow : Bool) → discovery old.held.accepted (next_pieces old) ≡ by_refs follow s.what → ReadsFirst follow g.found plain g.mid new (Ok h) → Discovers old new h
+  discovers-by : (follow : Bool) → discovery old.held.accepted (next_pieces old) ≡ by_refs follow s.what
+      → ReadsFirst follow g.found plain g.mid new (Ok h) → Discovers old new h
   discovers-by false e f = record {
     said = discovered s.what None;
     so = e;
-    has = record { version = g.version ∙ s.answers.version; capabilities = g.capabilities ∙ s.answers.capabilities; refs = ap values_of f.1 };
+    has = record {
+      version = g.version ∙ s.answers.version;
+      capabilities = g.capabilities ∙ s.answers.capabilities;
+      refs = ap values_of f.1;
+    };
     held = ap (λ (r : Reading). r.held) f.0 ∙ held-then;
     version = λ n. ap (λ (r : Reading). r.version) f.0 ∙ s.version;
   }
@@ -94,17 +109,23 @@ module _ (plain : Bool) (old new : Reading) (h : Handshake) (g : Greeted plain o
       record {
         said = discovered s.what (Some (map ref_value f.0.items));
         so = e ∙ ap (by_symrefs s.what) (ap symref_table (sym s.answers.capabilities) ∙ f.4.1) ∙ ap (with_refs s.what) values;
-        has = record { version = g.version ∙ s.answers.version; capabilities = g.capabilities ∙ s.answers.capabilities; refs = ap values_of f.2 };
+        has = record {
+          version = g.version ∙ s.answers.version;
+          capabilities = g.capabilities ∙ s.answers.capabilities;
+          refs = ap values_of f.2;
+        };
         held = reads.held ∙ held-then;
         version = λ n. absurd (no-refs (map ref_value f.0.items) n);
       }
 
-pub discovers : (plain : Bool) (old new : Reading) (h : Handshake) → old.held.persists ≡ false → GreetsWithoutAccount plain old new (Ok h) → Discovers old new h
+pub discovers : (plain : Bool) (old new : Reading) (h : Handshake) → old.held.persists ≡ false
+    → GreetsWithoutAccount plain old new (Ok h) → Discovers old new h
 discovers plain old new h alone greets =
     let g = greeted plain old new h alone greets in
     let s = heard old g.mid g.found g.hears in
     discovers-by plain old new h g s g.found.has_refs
-    (said-so old.held.accepted (next_pieces old) g.mid g.found s true g.accepted ∙ ap (λ b. by_refs b s.what) (sym s.answers.has_refs)) g.first
+    (said-so old.held.accepted (next_pieces old) g.mid g.found s true g.accepted
+    ∙ ap (λ b. by_refs b s.what) (sym s.answers.has_refs)) g.first
 
 -- ---- one that was refused
 
@@ -172,7 +193,8 @@ record Unsaid (p : Pieces) (c : client_error) : Type 0 where
   said : advertisement p ≡ Err (client_refusal c)
   caused : IsOfSaid c
 
-unsaid : (old new : Reading) (c : client_error) → new.failures ≡ 0 → HandshakesBy false UploadPack [] old new (Err c) → Unsaid (next_pieces old) c ⊎ (c ≡ client.Memory)
+unsaid : (old new : Reading) (c : client_error) → new.failures ≡ 0 → HandshakesBy false UploadPack [] old new (Err c)
+    → Unsaid (next_pieces old) c ⊎ (c ≡ client.Memory)
 unsaid old new c z (inl h) = absurd (never-none old.failures new.failures h.3.1 z)
 unsaid old new c z (inr h) = by_why h.3.why h.3.caused
   where
@@ -180,7 +202,11 @@ unsaid old new c z (inr h) = by_why h.3.why h.3.caused
         → (IsOfSaid c × (new.failures ≡ h.0.failures)) ⊎ IsFromDevice h.0 new c → Unsaid (next_pieces old) c ⊎ (c ≡ client.Memory)
     by_why (inr d) x = inr (from-device h.0 new c z d)
     by_why (inl w) (inr d) = inr (from-device h.0 new c z d)
-    by_why (inl w) (inl x) = inl (record { said = if-known (λ p. advertisement p ≡ Err (client_refusal c)) h.0.to_come (next_pieces old) h.1.to_come w.0; caused = x.0 })
+    by_why (inl w) (inl x) =
+        inl (record {
+          said = if-known (λ p. advertisement p ≡ Err (client_refusal c)) h.0.to_come (next_pieces old) h.1.to_come w.0;
+          caused = x.0;
+        })
 
 -- none of these says that an account is wanted
 wants-none : (kind : ErrorKind) → kind ≡ UnexpectedEof → is_denial kind ≡ false
@@ -204,7 +230,8 @@ memory-ends : (v : Result Discovery (List ℕ)) (e : handshake_error) → e ≡ 
 memory-ends (Ok said) e m = m
 memory-ends (Err name) e m = inr m
 
-named-ends : (v : Result Discovery (List ℕ)) (name : List ℕ) (e : handshake_error) → v ≡ Err name → (handshake_name e ≡ name) ⊎ (e ≡ handshake.Memory) → IsDiscovered v (Err e)
+named-ends : (v : Result Discovery (List ℕ)) (name : List ℕ) (e : handshake_error) → v ≡ Err name → (handshake_name e ≡ name)
+    ⊎ (e ≡ handshake.Memory) → IsDiscovered v (Err e)
 named-ends v name e q n = subst (λ w. IsDiscovered w (Err e)) (sym q) n
 
 abbrev err_opened : handshake_error → OpeningResult
@@ -216,50 +243,64 @@ err_shaken e = Err e
 err-same : (d e : handshake_error) → err_shaken d ≡ err_shaken e → d ≡ e
 err-same d e h = cc h
 
-module _ (old new : Reading) (e : handshake_error) (turns : List CredentialCall) (alone : old.held.persists ≡ false) (u : AreUnanswered turns) (z : new.failures ≡ 0) where
+module _ (old new : Reading) (e : handshake_error) (turns : List CredentialCall) (alone : old.held.persists ≡ false)
+    (u : AreUnanswered turns) (z : new.failures ≡ 0) where
   abbrev verdict : Result Discovery (List ℕ)
   verdict = discovery old.held.accepted (next_pieces old)
 
   -- in its refs
   module _ (mid : Reading) (found : SetServiceResponse) (s : Said old.held.accepted (next_pieces old) mid found) where
     unread-refs : (x : parse_error) (v : verdict ≡ Err (codes "ParseRefs")) → e ≡ from_parse x → IsDiscovered verdict (Err e)
-    unread-refs x v q = named-ends verdict (codes "ParseRefs") e v (subst (λ y. (handshake_name y ≡ codes "ParseRefs") ⊎ (y ≡ handshake.Memory)) (sym q) (named-parse x))
+    unread-refs x v q = named-ends verdict (codes "ParseRefs") e v
+        (subst (λ y. (handshake_name y ≡ codes "ParseRefs") ⊎ (y ≡ handshake.Memory)) (sym q) (named-parse x))
 
-    by-table : (t : Result (List Symref) RefsRefusal) → symref_table s.what.capabilities ≡ t → verdict ≡ by_symrefs s.what (symref_table s.what.capabilities) → (x : parse_error) → AnswersRefs symref_values t (Err x) → e ≡ from_parse x
+    by-table : (t : Result (List Symref) RefsRefusal) → symref_table s.what.capabilities ≡ t → verdict ≡ by_symrefs s.what
+        (symref_table s.what.capabilities) → (x : parse_error) → AnswersRefs symref_values t (Err x) → e ≡ from_parse x
         → IsDiscovered verdict (Err e)
     by-table (Ok t) q v x a f = memory-ends verdict e (f ∙ ap from_parse a)
     by-table (Err r) q v x a f = unread-refs x (v ∙ ap (by_symrefs s.what) q) f
 
-    by-lines : (t : List Symref) → verdict ≡ with_refs s.what (v1_refs t (lines_from_stop s.what.stopped s.what.version s.what.rest)) → (x : parse_error) → V1Fails t true mid new x → e ≡ from_parse x → IsDiscovered verdict (Err e)
+    by-lines : (t : List Symref) → verdict ≡ with_refs s.what (v1_refs t (lines_from_stop s.what.stopped s.what.version s.what.rest))
+        → (x : parse_error) → V1Fails t true mid new x → e ≡ from_parse x → IsDiscovered verdict (Err e)
     by-lines t v x (inr n) f = memory-ends verdict e (f ∙ ap from_parse n.error)
     by-lines t v x (inl (inl l)) f =
         unread-refs x
-        (v ∙ ap (with_refs s.what) (ap (v1_refs t) (lines-said old.held.accepted (next_pieces old) mid found s) ∙ if-known (λ p. v1_refs t (lines_ahead mid p) ≡ Err l.refusal) mid.to_come s.what.rest s.answers.rest l.first)) f
+        (v ∙ ap (with_refs s.what) (ap (v1_refs t) (lines-said old.held.accepted (next_pieces old) mid found s)
+        ∙ if-known (λ p. v1_refs t (lines_ahead mid p) ≡ Err l.refusal) mid.to_come s.what.rest s.answers.rest l.first)) f
     by-lines t v x (inl (inr (inl l))) f =
         unread-refs x
-        (v ∙ ap (with_refs s.what) (ap (v1_refs t) (lines-said old.held.accepted (next_pieces old) mid found s) ∙ if-known (λ p. v1_refs t (lines_ahead mid p) ≡ Err (refusal_from l.refusal)) mid.to_come s.what.rest s.answers.rest l.first)) f
-    by-lines t v x (inl (inr (inr (inl l)))) f = memory-ends verdict e (f ∙ ap from_parse (memory-read x (l.error ∙ outside l.now new l.refusal z l.failed (l.is_plain refl))))
+        (v ∙ ap (with_refs s.what) (ap (v1_refs t) (lines-said old.held.accepted (next_pieces old) mid found s) ∙ if-known
+        (λ p. v1_refs t (lines_ahead mid p) ≡ Err (refusal_from l.refusal)) mid.to_come s.what.rest s.answers.rest l.first)) f
+    by-lines t v x (inl (inr (inr (inl l)))) f =
+        memory-ends verdict e (f ∙ ap from_parse (memory-read x (l.error ∙ outside l.now new l.refusal z l.failed (l.is_plain refl))))
     by-lines t v x (inl (inr (inr (inr l)))) f = memory-ends verdict e (f ∙ ap from_parse l.error)
 
-    by-refusal : (x : parse_error) → AdvertisementFails found.capabilities true mid new x → verdict ≡ by_symrefs s.what (symref_table s.what.capabilities) → e ≡ from_parse x → IsDiscovered verdict (Err e)
+    by-refusal : (x : parse_error) → AdvertisementFails found.capabilities true mid new x
+        → verdict ≡ by_symrefs s.what (symref_table s.what.capabilities) → e ≡ from_parse x → IsDiscovered verdict (Err e)
     by-refusal x (inl a) v f =
         by-table (symref_table found.capabilities) (ap symref_table (sym s.answers.capabilities)) v x a.1 f
     by-refusal x (inr a) v f = by-lines a.0 (v ∙ ap (by_symrefs s.what) (ap symref_table (sym s.answers.capabilities) ∙ a.1)) x a.2 f
 
-    by-first : (follow : Bool) → verdict ≡ by_refs follow s.what → ReadsFirst follow found true mid new (Err e) → IsDiscovered verdict (Err e)
+    by-first : (follow : Bool) → verdict ≡ by_refs follow s.what → ReadsFirst follow found true mid new (Err e)
+        → IsDiscovered verdict (Err e)
     by-first false v f = absurd f
     by-first true v f = by-refusal f.0 f.1 v f.2
 
     -- or at its version
-    by-version : (ok : Bool) → is_accepted old.held.accepted found.actual_protocol ≡ ok → KeepsVersion ok found true mid new (Err e) → IsDiscovered verdict (Err e)
+    by-version : (ok : Bool) → is_accepted old.held.accepted found.actual_protocol ≡ ok → KeepsVersion ok found true mid new (Err e)
+        → IsDiscovered verdict (Err e)
     by-version true q k =
-        by-first found.has_refs (said-so old.held.accepted (next_pieces old) mid found s true q ∙ ap (λ b. by_refs b s.what) (sym s.answers.has_refs)) k.0
+        by-first found.has_refs (said-so old.held.accepted (next_pieces old) mid found s true q
+        ∙ ap (λ b. by_refs b s.what) (sym s.answers.has_refs)) k.0
     by-version false q k =
-        named-ends verdict (codes "TransportProtocolPolicyViolation") e (said-so old.held.accepted (next_pieces old) mid found s false q) (inl (ap handshake_name (err-same e _ k.1)))
+        named-ends verdict (codes "TransportProtocolPolicyViolation") e
+        (said-so old.held.accepted (next_pieces old) mid found s false q) (inl (ap handshake_name (err-same e _ k.1)))
 
   -- or before it
-  by-opening : (opened : OpeningResult) (d : handshake_error) (mid : Reading) → opened ≡ err_opened d → FinishesHandshake old.held.accepted opened true mid new (Err e) → (new ≡ mid) × (e ≡ d)
-  by-opening opened d mid q g = let h = subst (λ o. FinishesHandshake old.held.accepted o true mid new (Err e)) q g in (h.0, err-same e d h.1)
+  by-opening : (opened : OpeningResult) (d : handshake_error) (mid : Reading) → opened ≡ err_opened d
+      → FinishesHandshake old.held.accepted opened true mid new (Err e) → (new ≡ mid) × (e ≡ d)
+  by-opening opened d mid q g = let h = subst (λ o. FinishesHandshake old.held.accepted o true mid new (Err e)) q g in
+      (h.0, err-same e d h.1)
 
   module _ (opened : OpeningResult) (mid : Reading) (g : FinishesHandshake old.held.accepted opened true mid new (Err e)) where
     for-memory : opened ≡ err_opened handshake.Memory → IsDiscovered verdict (Err e)
@@ -272,19 +313,24 @@ module _ (old new : Reading) (e : handshake_error) (turns : List CredentialCall)
     unheard c (inr m) q = memory-ends verdict e (q ∙ ap from_client m)
 
     -- an account would be wanted for a failure that is counted
-    by-denial : (denied : Bool) (c : client_error) (now : Reading) → is_denied c ≡ denied → Handshakes UploadPack [] old now (Err c) → Denied denied c UploadPack [] now mid turns opened → IsDiscovered verdict (Err e)
+    by-denial : (denied : Bool) (c : client_error) (now : Reading) → is_denied c ≡ denied → Handshakes UploadPack [] old now (Err c)
+        → Denied denied c UploadPack [] now mid turns opened → IsDiscovered verdict (Err e)
     by-denial false c now q h d =
         let o = by-opening opened (from_client c) mid d.2 g in
-        unheard c (unsaid old now c (ap (λ (r : Reading). r.failures) (sym (o.0 ∙ d.1)) ∙ z) (subst (λ p. HandshakesBy p UploadPack [] old now (Err c)) alone h)) o.1
+        unheard c (unsaid old now c (ap (λ (r : Reading). r.failures) (sym (o.0 ∙ d.1)) ∙ z)
+        (subst (λ p. HandshakesBy p UploadPack [] old now (Err c)) alone h)) o.1
     by-denial true c now q h (inr n) = for-memory n.error
     by-denial true c now q h (inl l) =
         let answered = subst AreUnanswered l.all u in
-        let got : Got UploadPack [] (Ok None) now.held.url now mid l.later opened = subst (λ a. Got UploadPack [] a now.held.url now mid l.later opened) answered.0 l.got in
+        let got : Got UploadPack [] (Ok None) now.held.url now mid l.later opened =
+        subst (λ a. Got UploadPack [] a now.held.url now mid l.later opened) answered.0 l.got in
         let o = by-opening opened handshake.EmptyCredentials mid got.2 g in
-        let x = unsaid old now c (ap (λ (r : Reading). r.failures) (sym (o.0 ∙ got.1)) ∙ z) (subst (λ p. HandshakesBy p UploadPack [] old now (Err c)) alone h) in
+        let x = unsaid old now c (ap (λ (r : Reading). r.failures) (sym (o.0 ∙ got.1)) ∙ z)
+        (subst (λ p. HandshakesBy p UploadPack [] old now (Err c)) alone h) in
         absurd (true≢false (sym q ∙ not-denied c (next_pieces old) x))
 
-    by-call : (first : Result SetServiceResponse client_error) (now : Reading) → Handshakes UploadPack [] old now first → First first UploadPack [] now mid turns opened → IsDiscovered verdict (Err e)
+    by-call : (first : Result SetServiceResponse client_error) (now : Reading) → Handshakes UploadPack [] old now first
+        → First first UploadPack [] now mid turns opened → IsDiscovered verdict (Err e)
     by-call (Err c) now h f = by-denial (is_denied c) c now refl h f
     by-call (Ok found) now h f =
         let hears = hears-by UploadPack [] old.held.persists old now found alone h in
@@ -297,11 +343,14 @@ module _ (old new : Reading) (e : handshake_error) (turns : List CredentialCall)
     by-opens (inl o) = by-call o.0 o.1 o.2 o.3
 
 -- a handshake without an account that counts no failure ends as is discovered
-pub ends-discovered : (old new : Reading) (r : Result Handshake handshake_error) → old.held.persists ≡ false → new.failures ≡ 0 → GreetsWithoutAccount true old new r → IsDiscovered (discovery old.held.accepted (next_pieces old)) r
+pub ends-discovered : (old new : Reading) (r : Result Handshake handshake_error) → old.held.persists ≡ false → new.failures ≡ 0
+    → GreetsWithoutAccount true old new r → IsDiscovered (discovery old.held.accepted (next_pieces old)) r
 ends-discovered old new (Ok h) alone z g = let d = discovers true old new h alone g in subst (λ w. IsDiscovered w (Ok h)) (sym d.so) d.has
-ends-discovered old new (Err e) alone z g = by-opens old new e g.turns alone g.unanswered z g.shakes.opened g.shakes.mid g.shakes.goes_on g.shakes.opens
+ends-discovered old new (Err e) alone z g =
+    by-opens old new e g.turns alone g.unanswered z g.shakes.opened g.shakes.mid g.shakes.goes_on g.shakes.opens
 
 pub greetings-follow : GreetingsFollow
 greetings-follow bodies r x =
-    subst (λ (s : TransportState). IsDiscovered (discovery s.accepted (answer_pieces (first_answer s.answers))) r) (new-held bodies x.transport x.over)
+    subst (λ (s : TransportState). IsDiscovered (discovery s.accepted (answer_pieces (first_answer s.answers))) r)
+    (new-held bodies x.transport x.over)
     (ends-discovered (bodies_reading x.transport) x.last r refl x.unfailed x.greets)

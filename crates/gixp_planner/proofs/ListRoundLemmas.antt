@@ -18,18 +18,22 @@ run-stays : (ids : List ObjectId) (n : List ObjectId) (g : GraphData) (m : List 
 run-stays [] n g m h r = r.0
 run-stays (id ∷ ids) n g m h r = run-stays ids r.0 r.1 m h r.3 ∙ r.2.0
 
-run-offers : (ids : List ObjectId) (n : List ObjectId) (g : GraphData) (m : List ObjectId) (h : GraphData) → IsRun (offering offers_first) ids n g m h → n ≡ ids ++ m
+run-offers : (ids : List ObjectId) (n : List ObjectId) (g : GraphData) (m : List ObjectId) (h : GraphData)
+    → IsRun (offering offers_first) ids n g m h → n ≡ ids ++ m
 run-offers [] n g m h r = sym r.0
 run-offers (id ∷ ids) n g m h r = r.2.0 ∙ ap (λ l. id ∷ l) (run-offers ids r.0 r.1 m h r.3)
 
 -- what is decided leaves the list
-pub acts-stay : (action : ActionValue) (n : List ObjectId) (g : GraphData) (ids tips : List ObjectId) (m : List ObjectId) (h : GraphData) → Acts list_calls action n g ids tips m h → m ≡ n
+pub acts-stay : (action : ActionValue) (n : List ObjectId) (g : GraphData) (ids tips : List ObjectId) (m : List ObjectId)
+    (h : GraphData) → Acts list_calls action n g ids tips m h → m ≡ n
 acts-stay no_change n g ids tips m h a = a.0
 acts-stay skip n g ids tips m h a = a.0
-acts-stay (negotiate known) n g ids tips m h a = run-stays (tips_in g.objects tips) a.told a.told_graph m h a.added ∙ run-stays _ n a.walked a.told a.told_graph a.known
+acts-stay (negotiate known) n g ids tips m h a = run-stays (tips_in g.objects tips) a.told a.told_graph m h a.added
+    ∙ run-stays _ n a.walked a.told a.told_graph a.known
 
 -- the haves of a round are the first ids up to the window
-offered-first : (w : ℕ) (xs n : List ObjectId) (g : GraphData) (m : List ObjectId) (h : GraphData) → Offered offers_first n g w xs m h → (xs ≡ take w n) × (m ≡ drop w n)
+offered-first : (w : ℕ) (xs n : List ObjectId) (g : GraphData) (m : List ObjectId) (h : GraphData) → Offered offers_first n g w xs m h
+    → (xs ≡ take w n) × (m ≡ drop w n)
 offered-first w xs n g m h o =
     elim (cases_lt (length xs) w) [
       | inl l ↦ by_end (o.fewer l).0.0 (o.fewer l).0.1 (omega arith)
@@ -48,13 +52,15 @@ offered-first w xs n g m h o =
     by_window e f = (sym (take_at xs o.last w e) ∙ ap (take w) (sym split), f ∙ sym (drop_at xs o.last w e) ∙ ap (drop w) (sym split))
 
 -- a round by the list: its haves are the next ids
-pub record ListRound (n : List ObjectId) (s : Window) (a : ArgumentsValue) (p : Option AnswerValue) (done : Bool) (m : List ObjectId) (t : Window) (b : ArgumentsValue) : Type 0 where
+pub record ListRound (n : List ObjectId) (s : Window) (a : ArgumentsValue) (p : Option AnswerValue) (done : Bool) (m : List ObjectId)
+    (t : Window) (b : ArgumentsValue) : Type 0 where
   pub left : m ≡ drop s.haves_to_send n
   pub state : t ≡ advanced (is_any (commons_of p)) (length (take s.haves_to_send n)) (with_kept (commons_of p) s)
   pub asked : b ≡ asks_haves (kept_ids t.kept ++ take s.haves_to_send n) a
   pub last : done ≡ is_last t s.haves_to_send (length (take s.haves_to_send n))
 
-pub by-list : (n : List ObjectId) (g : GraphData) (s : Window) (a : ArgumentsValue) (p : Option AnswerValue) (r : Round) (done : Bool) (m : List ObjectId) (h : GraphData) (t : Window) (b : ArgumentsValue)
+pub by-list : (n : List ObjectId) (g : GraphData) (s : Window) (a : ArgumentsValue) (p : Option AnswerValue) (r : Round) (done : Bool)
+    (m : List ObjectId) (h : GraphData) (t : Window) (b : ArgumentsValue)
     → OneRound list_calls n g s a p r done m h t b → ListRound n s a p done m t b
 by-list n g s a p r done m h t b o =
     let told : o.told ≡ n = run-stays (commons_of p) n g o.told o.told_graph o.hears in
@@ -74,12 +80,14 @@ pub record SameRound (one other : Bool) (m l : List ObjectId) (t u : Window) (b 
   pub state : t ≡ u
   pub asked : b ≡ c
 
-pub same-round : (n o : List ObjectId) (s w : Window) (a e : ArgumentsValue) (p q : Option AnswerValue) (done other : Bool) (m l : List ObjectId) (t u : Window) (b c : ArgumentsValue) → n ≡ o → s ≡ w → a ≡ e → p ≡ q
+pub same-round : (n o : List ObjectId) (s w : Window) (a e : ArgumentsValue) (p q : Option AnswerValue) (done other : Bool)
+    (m l : List ObjectId) (t u : Window) (b c : ArgumentsValue) → n ≡ o → s ≡ w → a ≡ e → p ≡ q
     → ListRound n s a p done m t b → ListRound o w e q other l u c → SameRound done other m l t u b c
 same-round n o s w a e p q done other m l t u b c lists windows asked answers x z =
     let y : ListRound n s a p other l u c =
     subst (λ k. ListRound k s a p other l u c) (sym lists)
-    (subst (λ k. ListRound o k a p other l u c) (sym windows) (subst (λ k. ListRound o w k p other l u c) (sym asked) (subst (λ k. ListRound o w e k other l u c) (sym answers) z))) in
+    (subst (λ k. ListRound o k a p other l u c) (sym windows)
+    (subst (λ k. ListRound o w k p other l u c) (sym asked) (subst (λ k. ListRound o w e k other l u c) (sym answers) z))) in
     let state : t ≡ u = x.state ∙ sym y.state in
     record {
       done = x.last ∙ ap (λ (z : Window). is_last z s.haves_to_send (length (take s.haves_to_send n))) state ∙ sym y.last;

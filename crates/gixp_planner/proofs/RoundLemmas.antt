@@ -1,4 +1,5 @@
--- The rounds of two fetches whose negotiators offer the same list, and which count no failure: each sends the same, and takes the same answer.
+-- The rounds of two fetches whose negotiators offer the same list, and which count no failure: each sends the same, and takes the same
+-- answer.
 use Rattle.std.proofs.Common.{◌≡◌, Bool, true, false, not, List, [], ◌∷◌, ◌++◌, Option, Some, sym, ap, ◌∙◌, subst, true≢false}
 use Rattle.std.specs.Prelude.{ℕ}
 use Rattle.gixp_hash.specs.declared.object_id.ObjectId.{ObjectId}
@@ -40,9 +41,11 @@ record AsksAlike {N I : Type 0} (haves : N → List ObjectId) (t u : Turn N I) :
 
 module _ {N I A : Type 0} (m : Manner N I A) where
   -- at least one request comes after those before
-  pub asks-behind : (x : At N I) (rs : List Round) (us : List ShallowUpdate) (a : AnswerValue) (end : At N I) → x.reading.held.persists ≡ false → Packed m x rs us a end
+  pub asks-behind : (x : At N I) (rs : List Round) (us : List ShallowUpdate) (a : AnswerValue) (end : At N I)
+      → x.reading.held.persists ≡ false → Packed m x rs us a end
       → (first : List ℕ) × (later : List (List ℕ)) × (end.reading.held.sent ≡ x.reading.held.sent ++ first ∷ later)
-  asks-behind x rs us a end alone p = by_turns p.turns (ap (λ (z : At N I). z.reading.held.sent) p.stands ∙ (last_written m x p.before p.turns p.last p.run p.lasts).enters alone)
+  asks-behind x rs us a end alone p = by_turns p.turns (ap (λ (z : At N I). z.reading.held.sent) p.stands
+      ∙ (last_written m x p.before p.turns p.last p.run p.lasts).enters alone)
     where
       by_turns : (ts : List (Turn N I)) → end.reading.held.sent ≡ x.reading.held.sent ++ (requests_of ts ++ request_of p.last ∷ [])
           → (first : List ℕ) × (later : List (List ℕ)) × (end.reading.held.sent ≡ x.reading.held.sent ++ first ∷ later)
@@ -52,7 +55,8 @@ module _ {N I A : Type 0} (m : Manner N I A) where
   -- where none is counted at the end none was before
   pub turn-none : (x : At N I) (t : Turn N I) → Turns m x t → t.after.reading.failures ≡ 0 → x.reading.failures ≡ 0
   turn-none x t h z =
-      sym (sent-failures x.reading.held.persists x.reading t.sent _ h.sends.1) ∙ answered-none (answer_of m.version (flags t.done (not t.done))) m.version m.banded t.sent t.after.reading t.reply h.answer z
+      sym (sent-failures x.reading.held.persists x.reading t.sent _ h.sends.1)
+      ∙ answered-none (answer_of m.version (flags t.done (not t.done))) m.version m.banded t.sent t.after.reading t.reply h.answer z
 
   pub rounds-none : (ts : List (Turn N I)) (x b : At N I) → Rounds m x ts b → b.reading.failures ≡ 0 → x.reading.failures ≡ 0
   rounds-none [] x b r z = ap (λ (a : At N I). a.reading.failures) (sym r) ∙ z
@@ -61,7 +65,8 @@ module _ {N I A : Type 0} (m : Manner N I A) where
 -- ---- the rounds of two
 
 module _ {N I A : Type 0} (m : Manner N I A) (haves : N → List ObjectId)
-    (goes : (n : N) (s : Window) (a : ArgumentsValue) (p : Option AnswerValue) (r : Round) (done : Bool) (n' : N) (t : Window) (b : ArgumentsValue)
+    (goes : (n : N) (s : Window) (a : ArgumentsValue) (p : Option AnswerValue) (r : Round) (done : Bool) (n' : N) (t : Window)
+    (b : ArgumentsValue)
     → m.goes n s a p r done n' t b → ListRound (haves n) s a p done (haves n') t b) where
   asks-alike : (x y : At N I) (t u : Turn N I) → AtAlike haves x y → Turns m x t → Turns m y u → AsksAlike haves t u
   asks-alike x y t u s h k =
@@ -75,16 +80,22 @@ module _ {N I A : Type 0} (m : Manner N I A) (haves : N → List ObjectId)
         window = round.state;
         sent =
             sent-alike x.reading y.reading t.sent u.sent _ _ s.reading
-            (ap (λ (a : ArgumentsValue). texts_of (request a t.done)) round.asked ∙ ap (λ d. texts_of (request u.asked d)) round.done) h.sends.1 k.sends.1;
+            (ap (λ (a : ArgumentsValue). texts_of (request a t.done)) round.asked
+            ∙ ap (λ d. texts_of (request u.asked d)) round.done) h.sends.1 k.sends.1;
       }
 
-  same-reply : (t u : Turn N I) (x y : At N I) → AsksAlike haves t u → Turns m x t → Turns m y u → t.after.reading.failures ≡ 0 → u.after.reading.failures ≡ 0 → t.reply ≡ u.reply
+  same-reply : (t u : Turn N I) (x y : At N I) → AsksAlike haves t u → Turns m x t → Turns m y u → t.after.reading.failures ≡ 0
+      → u.after.reading.failures ≡ 0 → t.reply ≡ u.reply
   same-reply t u x y a h k z w =
-      same-answer (answer_of m.version (flags t.done (not t.done))) m.version (view m.banded t.sent) (view m.banded u.sent) (view m.banded t.after.reading) (view m.banded u.after.reading) (viewed m.banded a.sent.pieces) t.reply
-      u.reply (view-come m.banded t.sent a.sent.pieces a.sent.first) (view-come m.banded u.sent a.sent.pieces a.sent.second) (view-failures m.banded t.after.reading ∙ z) (view-failures m.banded u.after.reading ∙ w) h.answer
-      (subst (λ d. Answered (answer_of m.version (flags d (not d))) m.version (view m.banded u.sent) (view m.banded u.after.reading) u.reply) (sym a.done) k.answer)
+      same-answer (answer_of m.version (flags t.done (not t.done))) m.version (view m.banded t.sent) (view m.banded u.sent)
+      (view m.banded t.after.reading) (view m.banded u.after.reading) (viewed m.banded a.sent.pieces) t.reply
+      u.reply (view-come m.banded t.sent a.sent.pieces a.sent.first) (view-come m.banded u.sent a.sent.pieces a.sent.second)
+      (view-failures m.banded t.after.reading ∙ z) (view-failures m.banded u.after.reading ∙ w) h.answer
+      (subst (λ d. Answered (answer_of m.version (flags d (not d))) m.version (view m.banded u.sent)
+      (view m.banded u.after.reading) u.reply) (sym a.done) k.answer)
 
-  pub turns-alike : (x y : At N I) (t u : Turn N I) → AtAlike haves x y → Turns m x t → Turns m y u → t.after.reading.failures ≡ 0 → u.after.reading.failures ≡ 0 → (t.reply ≡ u.reply) × AtAlike haves t.after u.after
+  pub turns-alike : (x y : At N I) (t u : Turn N I) → AtAlike haves x y → Turns m x t → Turns m y u → t.after.reading.failures ≡ 0
+      → u.after.reading.failures ≡ 0 → (t.reply ≡ u.reply) × AtAlike haves t.after u.after
   turns-alike x y t u s h k z w =
       let a = asks-alike x y t u s h k in
       let reply = same-reply t u x y a h k z w in (
@@ -92,10 +103,12 @@ module _ {N I A : Type 0} (m : Manner N I A) (haves : N → List ObjectId)
         record {
           left = a.left;
           window = a.window;
-          asked = h.rest ∙ ap (λ (z : TransportState). sent_off z.persists t.asked) s.reading.held ∙ ap (sent_off y.reading.held.persists) a.asked ∙ sym k.rest;
+          asked = h.rest ∙ ap (λ (z : TransportState). sent_off z.persists t.asked) s.reading.held
+              ∙ ap (sent_off y.reading.held.persists) a.asked ∙ sym k.rest;
           previous = h.previous ∙ ap Some reply ∙ sym k.previous;
           reading = record {
-            version = answered-version _ m.version m.banded _ t.after.reading t.reply h.answer ∙ sym (answered-version _ m.version m.banded _ u.after.reading u.reply k.answer);
+            version = answered-version _ m.version m.banded _ t.after.reading t.reply h.answer
+                ∙ sym (answered-version _ m.version m.banded _ u.after.reading u.reply k.answer);
             held = h.held ∙ a.sent.held ∙ sym k.held;
             alone = ap (λ (z : TransportState). z.persists) h.held ∙ a.sent.alone;
           };
@@ -106,17 +119,23 @@ module _ {N I A : Type 0} (m : Manner N I A) (haves : N → List ObjectId)
   differ v w e p q = true≢false (sym p ∙ ap (λ (z : AnswerValue). z.pack) e ∙ q)
 
   -- the first pack comes after the same round of both
-  rounds-alike : (ts us : List (Turn N I)) (x y b c : At N I) (t u : Turn N I) → AtAlike haves x y → Rounds m x ts b → Turns m b t → t.reply.pack ≡ true → t.after.reading.failures ≡ 0 → Rounds m y us c → Turns m c u
+  rounds-alike : (ts us : List (Turn N I)) (x y b c : At N I) (t u : Turn N I) → AtAlike haves x y → Rounds m x ts b → Turns m b t
+      → t.reply.pack ≡ true → t.after.reading.failures ≡ 0 → Rounds m y us c → Turns m c u
       → u.reply.pack ≡ true → u.after.reading.failures ≡ 0 → AtAlike haves t.after u.after
-  rounds-alike [] [] x y b c t u s r h p z q k o w = (turns-alike x y t u s (subst (λ a. Turns m a t) r h) (subst (λ a. Turns m a u) q k) z w).1
+  rounds-alike [] [] x y b c t u s r h p z q k o w =
+      (turns-alike x y t u s (subst (λ a. Turns m a t) r h) (subst (λ a. Turns m a u) q k) z w).1
   rounds-alike [] (v ∷ us) x y b c t u s r h p z q k o w =
-      absurd (differ t.reply v.reply (turns-alike x y t v s (subst (λ a. Turns m a t) r h) q.0 z (rounds-none m us v.after c q.3 (turn-none m c u k w))).0 p q.2)
+      absurd (differ t.reply v.reply (turns-alike x y t v s (subst (λ a. Turns m a t) r h) q.0 z
+      (rounds-none m us v.after c q.3 (turn-none m c u k w))).0 p q.2)
   rounds-alike (v ∷ ts) [] x y b c t u s r h p z q k o w =
-      absurd (differ u.reply v.reply (sym (turns-alike x y v u s r.0 (subst (λ a. Turns m a u) q k) (rounds-none m ts v.after b r.3 (turn-none m b t h z)) w).0) o r.2)
+      absurd (differ u.reply v.reply (sym (turns-alike x y v u s r.0 (subst (λ a. Turns m a u) q k)
+      (rounds-none m ts v.after b r.3 (turn-none m b t h z)) w).0) o r.2)
   rounds-alike (l ∷ ts) (v ∷ us) x y b c t u s r h p z q k o w =
-      rounds-alike ts us l.after v.after b c t u (turns-alike x y l v s r.0 q.0 (rounds-none m ts l.after b r.3 (turn-none m b t h z)) (rounds-none m us v.after c q.3 (turn-none m c u k w))).1 r.3 h p z q.3 k o w
+      rounds-alike ts us l.after v.after b c t u (turns-alike x y l v s r.0 q.0 (rounds-none m ts l.after b r.3 (turn-none m b t h z))
+      (rounds-none m us v.after c q.3 (turn-none m c u k w))).1 r.3 h p z q.3 k o w
 
-  pub packed-alike : (x y : At N I) (rs qs : List Round) (us vs : List ShallowUpdate) (a b : AnswerValue) (end other : At N I) → AtAlike haves x y → Packed m x rs us a end → end.reading.failures ≡ 0 → Packed m y qs vs b other
+  pub packed-alike : (x y : At N I) (rs qs : List Round) (us vs : List ShallowUpdate) (a b : AnswerValue) (end other : At N I)
+      → AtAlike haves x y → Packed m x rs us a end → end.reading.failures ≡ 0 → Packed m y qs vs b other
       → other.reading.failures ≡ 0 → end.reading.held ≡ other.reading.held
   packed-alike x y rs qs us vs a b end other s p z q w =
       let one : p.last.after.reading.failures ≡ 0 = ap (λ (a : At N I). a.reading.failures) (sym p.stands) ∙ z in

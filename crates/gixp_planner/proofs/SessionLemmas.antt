@@ -30,7 +30,8 @@ use Rattle.gixp_planner.specs.Session.{planner_agent, AreUnanswered, GreetsWitho
 use Rattle.gixp_planner.specs.PlannedText.{IsCourse, Shows, IsOutcome}
 
 -- where each call answers that there is no account, all did
-pub unanswered : {A : Type 0} (asks : A → Action → CredentialAnswer → A → Type 0) → ((a : A) (x : Action) (r : CredentialAnswer) (b : A) → asks a x r b → r ≡ Ok None) → (old new : A) (turns : List CredentialCall)
+pub unanswered : {A : Type 0} (asks : A → Action → CredentialAnswer → A → Type 0)
+    → ((a : A) (x : Action) (r : CredentialAnswer) (b : A) → asks a x r b → r ≡ Ok None) → (old new : A) (turns : List CredentialCall)
     → MakesCredentialCalls asks old turns new → AreUnanswered turns
 unanswered asks h old new [] k = tt
 unanswered asks h old new (t ∷ ts) k = (h old t.action t.answer k.0 k.1, unanswered asks h k.0 new ts k.2)
@@ -46,9 +47,11 @@ call_of table agent shallow h = record {
   wishes = record { shallow = shallow; told = update_items h.v1_shallow_updates; reject = false };
 }
 
-module _ {N I A S C P X : Type 0} (parties : Parties N I A S C P X) (h : Handshake) (first : World N I S C) (r : Result (Option Outcome) (FetchError A X)) (last : World N I S C) (progress : P) where
+module _ {N I A S C P X : Type 0} (parties : Parties N I A S C P X) (h : Handshake) (first : World N I S C)
+    (r : Result (Option Outcome) (FetchError A X)) (last : World N I S C) (progress : P) where
   -- a fetch of the planner, by its table, its name and that the boundary stays
-  pub carries : (table : TableValue) (agent : FeatureValue) (shallow : ShallowValue) → table ≡ git_table → agent ≡ planner_agent → shallow ≡ no_change
+  pub carries : (table : TableValue) (agent : FeatureValue) (shallow : ShallowValue) → table ≡ git_table → agent ≡ planner_agent
+      → shallow ≡ no_change
       → Fetches parties (call_of table agent shallow h) first r last progress → Carries parties h first r last progress
   carries table agent shallow e f k it = record {
     fetched =
@@ -58,7 +61,8 @@ module _ {N I A S C P X : Type 0} (parties : Parties N I A S C P X) (h : Handsha
   }
 
   -- over a negotiation and a store that are so
-  pub fetches-over : (IsOver : N → Type 0) (IsEmpty : S → Type 0) (old new : Reading) → Carries parties h first r last progress → IsOver first.negotiate → IsEmpty first.store → first.locked ≡ false → first.reading ≡ old
+  pub fetches-over : (IsOver : N → Type 0) (IsEmpty : S → Type 0) (old new : Reading) → Carries parties h first r last progress
+      → IsOver first.negotiate → IsEmpty first.store → first.locked ≡ false → first.reading ≡ old
       → last.reading ≡ new → FetchesOver parties IsOver IsEmpty h old new r
   fetches-over IsOver IsEmpty old new it over empty unlocked begins ends = record {
     first = first;
@@ -74,14 +78,20 @@ module _ {N I A S C P X : Type 0} (parties : Parties N I A S C P X) (h : Handsha
 
 module _ {A X : Type 0} (Receives : RefMap → Handshake → Reading → Reading → Result (Option Outcome) (FetchError A X) → Type 0) where
   -- all three steps
-  pub ran : (context : Context) (plain : Bool) (old mid behind new : Reading) (h k : Handshake) (m : RefMap) (r : Result (Option Outcome) (FetchError A X)) (mapped : Option RefMap) (ended : Result Bool PlanRefusal)
-      → GreetsWithoutAccount plain old mid (Ok h) → MapsRefs context h plain mid behind (Ok m) → k ≡ without_refs h → Receives m k behind new r → mapped ≡ Some m → ended ≡ end_of r → Runs Receives context plain old new mapped ended
-  ran context plain old mid behind new h k m r mapped ended g l e f p q = fetched h mid behind m r g l (subst (λ x. Receives m x behind new r) e f) p q
+  pub ran : (context : Context) (plain : Bool) (old mid behind new : Reading) (h k : Handshake) (m : RefMap)
+      (r : Result (Option Outcome) (FetchError A X)) (mapped : Option RefMap) (ended : Result Bool PlanRefusal)
+      → GreetsWithoutAccount plain old mid (Ok h) → MapsRefs context h plain mid behind (Ok m) → k ≡ without_refs h
+      → Receives m k behind new r → mapped ≡ Some m → ended ≡ end_of r → Runs Receives context plain old new mapped ended
+  ran context plain old mid behind new h k m r mapped ended g l e f p q =
+      fetched h mid behind m r g l (subst (λ x. Receives m x behind new r) e f) p q
 
   -- a session over new bodies
-  pub is-course : (bodies : List Body) (specs : List (List ℕ)) (context : Context) (transport : Bodies) (last : Reading) (url : List ℕ) (versions : List Protocol) (requests : List (Vec ℕ Global)) (mapped : Option RefMap)
-      (failures : ℕ) (ran ended : Result Bool PlanError) → IsContext specs context → url ≡ [] → versions ≡ [] → IsNewBodies bodies url versions transport
-      → Runs Receives context true (bodies_reading transport) last mapped (ended_of ran) → failures ≡ last.failures → ended_of ended ≡ end_counted failures (ended_of ran) → map vec_items requests ≡ last.held.sent
+  pub is-course : (bodies : List Body) (specs : List (List ℕ)) (context : Context) (transport : Bodies) (last : Reading) (url : List ℕ)
+      (versions : List Protocol) (requests : List (Vec ℕ Global)) (mapped : Option RefMap)
+      (failures : ℕ) (ran ended : Result Bool PlanError) → IsContext specs context → url ≡ [] → versions ≡ []
+      → IsNewBodies bodies url versions transport
+      → Runs Receives context true (bodies_reading transport) last mapped (ended_of ran) → failures ≡ last.failures
+      → ended_of ended ≡ end_counted failures (ended_of ran) → map vec_items requests ≡ last.held.sent
       → IsCourse Receives bodies specs (course_of requests mapped ended)
   is-course bodies specs context transport last url versions requests mapped failures ran ended c e f n r l k s = record {
     context = context;
@@ -96,8 +106,10 @@ module _ {A X : Type 0} (Receives : RefMap → Handshake → Reading → Reading
   }
 
 -- its text, and its refusal
-pub shows : (old new : Option (List ℕ)) (requests : List (Vec ℕ Global)) (mapped : Option RefMap) (ended : Result Bool PlanError) (written r : Result (Unit {0}) PlanError)
-    → WritesPlan old new (course_shown (course_of requests mapped ended)) written → IsOutcome written ended r → Shows old new (course_of requests mapped ended) r
+pub shows : (old new : Option (List ℕ)) (requests : List (Vec ℕ Global)) (mapped : Option RefMap) (ended : Result Bool PlanError)
+    (written r : Result (Unit {0}) PlanError)
+    → WritesPlan old new (course_shown (course_of requests mapped ended)) written → IsOutcome written ended r
+    → Shows old new (course_of requests mapped ended) r
 shows old new requests mapped ended (Err e) r w o = subst (Shows old new (course_of requests mapped ended)) (sym o) (inr w)
 shows old new requests mapped (Err e) (Ok x) r w o = subst (Shows old new (course_of requests mapped (Err e))) (sym o) (inl (w, refl))
 shows old new requests mapped (Ok pack) (Ok x) r w o = subst (Shows old new (course_of requests mapped (Ok pack))) (sym o) (w, refl)

@@ -59,7 +59,8 @@ conflicted : (cs : List Conflict) → cs ≢ [] → by_conflicts cs ≡ Some (co
 conflicted [] n = absurd (n refl)
 conflicted (c ∷ cs) n = refl
 
-refused-as : (o : Option (List ℕ)) (specs : List Spec) (count : ℕ) (refs : List RefValue) (r : Result RefMap map_error) → AnswersBy o specs count refs r → IsRefusedAs (by_format o (conflicts specs (found_in specs refs))) r
+refused-as : (o : Option (List ℕ)) (specs : List Spec) (count : ℕ) (refs : List RefValue) (r : Result RefMap map_error)
+    → AnswersBy o specs count refs r → IsRefusedAs (by_format o (conflicts specs (found_in specs refs))) r
 refused-as None specs count refs (Ok m) h = ap by_conflicts h.0
 refused-as None specs count refs (Err (the_map.UnknownObjectFormat f)) h = absurd h
 refused-as None specs count refs (Err (the_map.MappingValidation v)) h = inl (conflicted (conflicts specs (found_in specs refs)) h.0)
@@ -81,7 +82,8 @@ record FindsNone (found : Sought) (old new : Reading) : Type 0 where
   refs_are : found.refs ≡ Err (codes "ListRefs")
   sent : new.held.sent ≡ old.held.sent ++ found.requests
 
-is-sought : (refusal : Option (List ℕ)) (requests sent : List (List ℕ)) (r : Result RefMap map_error) → IsRefusedAs refusal r → sent ≡ requests → IsSought refusal requests sent r
+is-sought : (refusal : Option (List ℕ)) (requests sent : List (List ℕ)) (r : Result RefMap map_error) → IsRefusedAs refusal r
+    → sent ≡ requests → IsSought refusal requests sent r
 is-sought refusal requests sent (Ok m) h s = (h, s)
 is-sought refusal requests sent (Err e) (inl h) s = inl (h, s)
 is-sought refusal requests sent (Err e) (inr h) s = inr h
@@ -100,11 +102,13 @@ list-named (list.ArgumentValidation e) = inl refl
 list-named list.Memory = inr refl
 
 -- a list that isn't in order, or is
-invalid : (o : Option ValidationRefusal) (x : validation_error) (l : Listing) (old : Reading) → AnswersRefusal o (Err x) → by_offer o l old.version (next_pieces old) ≡ unasked
+invalid : (o : Option ValidationRefusal) (x : validation_error) (l : Listing) (old : Reading) → AnswersRefusal o (Err x)
+    → by_offer o l old.version (next_pieces old) ≡ unasked
 invalid None x l old v = absurd v
 invalid (Some refusal) x l old v = refl
 
-valid : (o : Option ValidationRefusal) (l : Listing) (old : Reading) → AnswersRefusal o (Ok tt) → by_offer o l old.version (next_pieces old) ≡ by_size (listing_fits l) l old.version (next_pieces old)
+valid : (o : Option ValidationRefusal) (l : Listing) (old : Reading) → AnswersRefusal o (Ok tt)
+    → by_offer o l old.version (next_pieces old) ≡ by_size (listing_fits l) l old.version (next_pieces old)
 valid None l old v = refl
 valid (Some refusal) l old v = absurd v
 
@@ -133,7 +137,8 @@ module _ (l : Listing) (old : Reading) (alone : old.held.persists ≡ false) whe
   finds : (new : Reading) (refs : List Ref) → Listed l old new refs → Finds listed_so old new (map ref_value refs)
   finds new refs x =
       let a = asked x.mid x.valid x.sent in
-      let value : v2_refs (lines_of old.version (next_pieces old)) ≡ Ok (map ref_value refs) = ap v2_refs (sym a.ahead) ∙ if-known (λ p. v2_refs (lines_ahead x.mid p) ≡ Ok (map ref_value refs)) x.mid.to_come (next_pieces old) a.to_come x.read.value in
+      let value : v2_refs (lines_of old.version (next_pieces old)) ≡ Ok (map ref_value refs) = ap v2_refs (sym a.ahead) ∙ if-known
+      (λ p. v2_refs (lines_ahead x.mid p) ≡ Ok (map ref_value refs)) x.mid.to_come (next_pieces old) a.to_come x.read.value in
       record {
         refs_are = ap (λ (s : Sought). s.refs) a.so ∙ ap of_answer value;
         sent = ap (λ (h : TransportState). h.sent) x.held ∙ a.sent ∙ ap (λ (s : Sought). old.held.sent ++ s.requests) (sym a.so);
@@ -147,25 +152,29 @@ module _ (l : Listing) (old : Reading) (alone : old.held.persists ≡ false) whe
   }
 
   module _ (new : Reading) (z : new.failures ≡ 0) where
-    unsent-so : (x : client_error) → AnswersRefusal (listing_refusal l) (Ok tt) → SendsListing l old new (Err x) → FindsNone listed_so old new ⊎ (from_client x ≡ list.Memory)
+    unsent-so : (x : client_error) → AnswersRefusal (listing_refusal l) (Ok tt) → SendsListing l old new (Err x)
+        → FindsNone listed_so old new ⊎ (from_client x ≡ list.Memory)
     unsent-so (client.Io kind) v s =
         let f : FailsBy false old new (listing_text l) kind = subst (λ p. FailsBy p old new (listing_text l) kind) alone s.1 in
         absurd (never-none old.failures new.failures f.1.1 z)
     unsent-so (client.Read e) v s = absurd s
     unsent-so client.LineTooLong v s =
-        inl (stays new (valid (listing_refusal l) l old v ∙ ap (λ b. by_size b l old.version (next_pieces old)) s.0) (ap (λ (r : Reading). r.held.sent) s.1))
+        inl (stays new (valid (listing_refusal l) l old v ∙ ap (λ b. by_size b l old.version (next_pieces old)) s.0)
+        (ap (λ (r : Reading). r.held.sent) s.1))
     unsent-so client.AuthenticationUnsupported v s = absurd s
     unsent-so (client.UnsupportedProtocolVersion t) v s = absurd s
     unsent-so client.MissingDelimitingNullByte v s = absurd s
     unsent-so client.Memory v s = inr refl
 
     -- its answer is refused
-    unread-so : (mid : Reading) (a : Asked mid) (x : parse_error) → new.held ≡ mid.held → RefsFail true mid new x → FindsNone listed_so old new ⊎ (from_parse x ≡ list.Memory)
+    unread-so : (mid : Reading) (a : Asked mid) (x : parse_error) → new.held ≡ mid.held → RefsFail true mid new x
+        → FindsNone listed_so old new ⊎ (from_parse x ≡ list.Memory)
     unread-so mid a x h f = at f
       where
         none : (r : RefsRefusal) → IfSome mid.to_come (λ p. v2_refs (lines_ahead mid p) ≡ Err r) → FindsNone listed_so old new
         none r k =
-            let refused : v2_refs (lines_of old.version (next_pieces old)) ≡ Err r = ap v2_refs (sym a.ahead) ∙ if-known (λ p. v2_refs (lines_ahead mid p) ≡ Err r) mid.to_come (next_pieces old) a.to_come k in
+            let refused : v2_refs (lines_of old.version (next_pieces old)) ≡ Err r = ap v2_refs (sym a.ahead)
+            ∙ if-known (λ p. v2_refs (lines_ahead mid p) ≡ Err r) mid.to_come (next_pieces old) a.to_come k in
             record {
               refs_are = ap (λ (s : Sought). s.refs) a.so ∙ ap of_answer refused;
               sent = ap (λ (t : TransportState). t.sent) h ∙ a.sent ∙ ap (λ (s : Sought). old.held.sent ++ s.requests) (sym a.so);
@@ -180,7 +189,8 @@ module _ (l : Listing) (old : Reading) (alone : old.held.persists ≡ false) whe
     finds-none : (e : list_error) → Lists l true old new (Err e) → FindsNone listed_so old new ⊎ (e ≡ list.Memory)
     finds-none e (inl n) = at n.why
       where
-        at : ((y : validation_error) × AnswersRefusal (listing_refusal l) (Err y) × (e ≡ from_validation y)) ⊎ (e ≡ list.Memory) → FindsNone listed_so old new ⊎ (e ≡ list.Memory)
+        at : ((y : validation_error) × AnswersRefusal (listing_refusal l) (Err y) × (e ≡ from_validation y))
+            ⊎ (e ≡ list.Memory) → FindsNone listed_so old new ⊎ (e ≡ list.Memory)
         at (inl w) = inl (stays new (invalid (listing_refusal l) w.0 l old w.1) (ap (λ (r : Reading). r.held.sent) n.unsent))
         at (inr w) = inr w
     finds-none e (inr (inl n)) = at (unsent-so n.why.0 n.valid n.why.1)
@@ -204,13 +214,15 @@ module _ (caps : List CapabilityValue) (context : Context) (old new : Reading) (
   of-refs : (found : Sought) (refs : List Ref) → Finds found old new (map ref_value refs) → MakesMap caps context refs r → Ended found
   of-refs found refs f m =
       is-sought (map_refusal caps (all_specs context) found.refs) (old.held.sent ++ found.requests) new.held.sent r
-      (subst (λ x. IsRefusedAs (map_refusal caps (all_specs context) x) r) (sym f.refs_are) (refused-as (unknown_format caps) (all_specs context) (length context.fetch_refspecs.items) (map ref_value refs) r m.maps)) f.sent
+      (subst (λ x. IsRefusedAs (map_refusal caps (all_specs context) x) r) (sym f.refs_are) (refused-as (unknown_format caps)
+      (all_specs context) (length context.fetch_refspecs.items) (map ref_value refs) r m.maps)) f.sent
 
   abbrev err_mapped : map_error → Result RefMap map_error
   err_mapped e = Err e
 
   of-memory : (found : Sought) (e : map_error) → r ≡ err_mapped e → e ≡ the_map.Memory → Ended found
-  of-memory found e q m = subst (λ x. IsSought (map_refusal caps (all_specs context) found.refs) (old.held.sent ++ found.requests) new.held.sent x) (sym q) (inr m)
+  of-memory found e q m = subst (λ x. IsSought (map_refusal caps (all_specs context) found.refs)
+      (old.held.sent ++ found.requests) new.held.sent x) (sym q) (inr m)
 
   of-none : (found : Sought) (x : list_error) → r ≡ err_mapped (from_listing x) → FindsNone found old new ⊎ (x ≡ list.Memory) → Ended found
   of-none found x q (inr m) = of-memory found (from_listing x) q (list-memory x m)
@@ -223,7 +235,8 @@ module _ (caps : List CapabilityValue) (context : Context) (old new : Reading) (
           (inl (ap (map_refusal caps (all_specs context)) f.refs_are ∙ ap Some (sym n), f.sent))
 
   module _ (alone : old.held.persists ≡ false) (z : (e : map_error) → r ≡ err_mapped e → new.failures ≡ 0) where
-    of-list : (l : Listing) → l.capabilities ≡ caps → (listed : Result (Vec Ref Global) list_error) → Lists l true old new listed → ByList caps context listed r → Ended (by_offer (listing_refusal l) l old.version (next_pieces old))
+    of-list : (l : Listing) → l.capabilities ≡ caps → (listed : Result (Vec Ref Global) list_error) → Lists l true old new listed
+        → ByList caps context listed r → Ended (by_offer (listing_refusal l) l old.version (next_pieces old))
     of-list l is (Ok refs) x m = of-refs _ refs.items (finds l old alone new refs.items x) m
     of-list l is (Err e) x m = of-none _ e m (finds-none l old alone new (z (from_listing e) m) e x)
 
@@ -231,10 +244,13 @@ module _ (caps : List CapabilityValue) (context : Context) (old new : Reading) (
     first-refs : (refs : List RefValue) → new ≡ old → Finds (at_hand refs) old new refs
     first-refs refs e = record { refs_are = refl; sent = ap (λ (x : Reading). x.held.sent) e ∙ sym (append-nil old.held.sent) }
 
-    ended-by : (refs : Option (Vec Ref Global)) (prepared : Result ObtainRefMap map_error) → PreparesBy refs git_table true planner_agent context caps prepared → ObtainsBy prepared true old new r
+    ended-by : (refs : Option (Vec Ref Global)) (prepared : Result ObtainRefMap map_error)
+        → PreparesBy refs git_table true planner_agent context caps prepared → ObtainsBy prepared true old new r
         → Ended (by_arrival (values_of refs) (list_for caps (all_specs context)) old.version (next_pieces old))
-    ended-by (Some refs) (Err x) p o = of-refs _ refs.items (first-refs (map ref_value refs.items) o.0) (subst (λ y. MakesMap caps context refs.items y) (sym o.1) p)
-    ended-by (Some refs) (Ok (Existing m)) p o = of-refs _ refs.items (first-refs (map ref_value refs.items) o.0) (subst (λ y. MakesMap caps context refs.items y) (sym o.1) p)
+    ended-by (Some refs) (Err x) p o =
+        of-refs _ refs.items (first-refs (map ref_value refs.items) o.0) (subst (λ y. MakesMap caps context refs.items y) (sym o.1) p)
+    ended-by (Some refs) (Ok (Existing m)) p o =
+        of-refs _ refs.items (first-refs (map ref_value refs.items) o.0) (subst (λ y. MakesMap caps context refs.items y) (sym o.1) p)
     ended-by (Some refs) (Ok (LsRefsCommand command handed)) p o = absurd p
     ended-by None (Err x) p o = of-memory _ x o.1 p
     ended-by None (Ok (Existing m)) p o = absurd p
@@ -250,11 +266,13 @@ pub made-or-refused : (m : RefMap) (e : map_error) → ◌≡◌ {A = Result Ref
 made-or-refused m e q = cc
 
 module _ (context : Context) (h : Handshake) (old new : Reading) (alone : old.held.persists ≡ false) where
-  obtained-so : (r : Result RefMap map_error) → ((e : map_error) → r ≡ Err e → new.failures ≡ 0) → Obtains git_table planner_agent context h true old new r → Ended h.capabilities context old new r (sought_by context h old)
+  obtained-so : (r : Result RefMap map_error) → ((e : map_error) → r ≡ Err e → new.failures ≡ 0)
+      → Obtains git_table planner_agent context h true old new r → Ended h.capabilities context old new r (sought_by context h old)
   obtained-so r z o = ended-by h.capabilities context old new r alone z h.refs o.prepared o.prepares o.obtains
 
   -- a ref map ends as the refs say, unless a failure was counted
-  pub ends-sought : (r : Result RefMap map_error) → ((e : map_error) → r ≡ Err e → new.failures ≡ 0) → MapsRefs context h true old new r → Ended h.capabilities context old new r (sought_by context h old)
+  pub ends-sought : (r : Result RefMap map_error) → ((e : map_error) → r ≡ Err e → new.failures ≡ 0) → MapsRefs context h true old new r
+      → Ended h.capabilities context old new r (sought_by context h old)
   ends-sought (Ok m) z o = obtained-so (Ok o.0) (λ e q. absurd (made-or-refused o.0 e q)) o.1
   ends-sought (Err e) z (inl o) = obtained-so (Err e) z o
   ends-sought (Err e) z (inr m) = inr m.1
@@ -262,37 +280,47 @@ module _ (context : Context) (h : Handshake) (old new : Reading) (alone : old.he
 -- ---- over bodies
 
 -- what is said of the handshake is what was discovered
-by-discovery : (said : Discovery) (context : Context) (h : Handshake) (old : Reading) → HasDiscovered said h → (said.refs ≡ None → old.version ≡ said.version) → (p : Pieces)
+by-discovery : (said : Discovery) (context : Context) (h : Handshake) (old : Reading) → HasDiscovered said h
+    → (said.refs ≡ None → old.version ≡ said.version) → (p : Pieces)
     → by_arrival (values_of h.refs) (list_for h.capabilities (all_specs context)) old.version p ≡ sought said (all_specs context) p
 by-discovery said context h old has version p =
-    ap (λ c. by_arrival (values_of h.refs) (list_for c (all_specs context)) old.version p) has.capabilities ∙ ap (λ r. by_arrival r (list_for said.capabilities (all_specs context)) old.version p) has.refs ∙ at said.refs version
+    ap (λ c. by_arrival (values_of h.refs) (list_for c (all_specs context)) old.version p) has.capabilities
+    ∙ ap (λ r. by_arrival r (list_for said.capabilities (all_specs context)) old.version p) has.refs ∙ at said.refs version
   where
     at : (refs : Option (List RefValue)) → (refs ≡ None → old.version ≡ said.version)
-        → by_arrival refs (list_for said.capabilities (all_specs context)) old.version p ≡ by_arrival refs (list_for said.capabilities (all_specs context)) said.version p
+        → by_arrival refs (list_for said.capabilities (all_specs context)) old.version p
+        ≡ by_arrival refs (list_for said.capabilities (all_specs context)) said.version p
     at None v = ap (λ x. by_arrival None (list_for said.capabilities (all_specs context)) x p) (v refl)
     at (Some refs) v = refl
 
 -- the refspecs of a context that was read are those of the words
 words-read : (words : List (List ℕ)) (context : Context) → IsContext words context → specs_of words ≡ Ok (all_specs context)
-words-read words context i = i.specs ∙ ap Ok (sym (append-nil (map owned_value_of context.fetch_refspecs.items)) ∙ ap (λ (s : List RefSpec). map owned_value_of context.fetch_refspecs.items ++ map owned_value_of s) (sym i.extra))
+words-read words context i = i.specs ∙ ap Ok (sym (append-nil (map owned_value_of context.fetch_refspecs.items))
+    ∙ ap (λ (s : List RefSpec). map owned_value_of context.fetch_refspecs.items ++ map owned_value_of s) (sym i.extra))
 
 -- what a session over bodies that was greeted comes to with these refspecs
-pub record Planning (bodies : List Body) (words : List (List ℕ)) (sent : List (List ℕ)) (r : Result RefMap map_error) (mid : Reading) : Type 0 where
+pub record Planning (bodies : List Body) (words : List (List ℕ)) (sent : List (List ℕ)) (r : Result RefMap map_error)
+    (mid : Reading) : Type 0 where
   pub plans : Plans bodies words sent r
   pub alone : mid.held.persists ≡ false
 
-pub planning : (bodies : List Body) (words : List (List ℕ)) (r : Result RefMap map_error) (context : Context) (transport : Bodies) (h : Handshake) (mid last : Reading) → IsContext words context → IsNewBodies bodies [] [] transport
-    → GreetsWithoutAccount true (bodies_reading transport) mid (Ok h) → MapsRefs context h true mid last r → ((e : map_error) → r ≡ Err e → last.failures ≡ 0) → Planning bodies words last.held.sent r mid
+pub planning : (bodies : List Body) (words : List (List ℕ)) (r : Result RefMap map_error) (context : Context) (transport : Bodies)
+    (h : Handshake) (mid last : Reading) → IsContext words context → IsNewBodies bodies [] [] transport
+    → GreetsWithoutAccount true (bodies_reading transport) mid (Ok h) → MapsRefs context h true mid last r
+    → ((e : map_error) → r ≡ Err e → last.failures ≡ 0) → Planning bodies words last.held.sent r mid
 planning bodies words r context transport h mid last read over greets maps z =
     let old = bodies_reading transport in
     let are = new-held bodies transport over in
     let d = discovers true old mid h refl greets in
-    let said : discovery [] (first_pieces bodies) ≡ Ok d.said = subst (λ (s : TransportState). discovery s.accepted (answer_pieces (first_answer s.answers)) ≡ Ok d.said) are d.so in
-    let held : mid.held ≡ state (Some []) [] (later_answers (map answer_of bodies)) [] [] None = d.held ∙ ap (λ (s : TransportState). record s { answers = later_answers s.answers }) are in
+    let said : discovery [] (first_pieces bodies) ≡ Ok d.said =
+    subst (λ (s : TransportState). discovery s.accepted (answer_pieces (first_answer s.answers)) ≡ Ok d.said) are d.so in
+    let held : mid.held ≡ state (Some []) [] (later_answers (map answer_of bodies)) [] [] None = d.held
+    ∙ ap (λ (s : TransportState). record s { answers = later_answers s.answers }) are in
     let alone : mid.held.persists ≡ false = ap (λ (s : TransportState). s.persists) held in
     let ends = ends-sought context h mid last alone r z maps in
     let found : sought_by context h mid ≡ sought d.said (all_specs context) (second_pieces bodies) =
-    by-discovery d.said context h mid d.has d.version (next_pieces mid) ∙ ap (λ (s : TransportState). sought d.said (all_specs context) (answer_pieces (first_answer s.answers))) held in
+    by-discovery d.said context h mid d.has d.version (next_pieces mid)
+    ∙ ap (λ (s : TransportState). sought d.said (all_specs context) (answer_pieces (first_answer s.answers))) held in
     let so = sought d.said (all_specs context) (second_pieces bodies) in
     record {
       plans = record {
@@ -301,8 +329,10 @@ planning bodies words r context transport h mid last read over greets maps z =
         discovered = said;
         read = words-read words context read;
         ends =
-            subst (λ (s : TransportState). IsSought (map_refusal d.said.capabilities (all_specs context) so.refs) (s.sent ++ so.requests) last.held.sent r) held
-            (subst (λ (f : Sought). IsSought (map_refusal d.said.capabilities (all_specs context) f.refs) (mid.held.sent ++ f.requests) last.held.sent r) found
+            subst (λ (s : TransportState). IsSought (map_refusal d.said.capabilities (all_specs context) so.refs)
+            (s.sent ++ so.requests) last.held.sent r) held
+            (subst (λ (f : Sought). IsSought (map_refusal d.said.capabilities (all_specs context) f.refs)
+            (mid.held.sent ++ f.requests) last.held.sent r) found
             (subst (λ c. Ended c context mid last r (sought_by context h mid)) d.has.capabilities ends));
       };
       alone = alone;
@@ -310,4 +340,5 @@ planning bodies words r context transport h mid last read over greets maps z =
 
 pub maps-follow : RefMapsFollow
 maps-follow bodies words sent r x =
-    subst (λ s. Plans bodies words s r) x.by_then (planning bodies words r x.context x.transport x.handshake x.mid x.last x.read x.over x.greets x.maps (λ e q. x.unfailed)).plans
+    subst (λ s. Plans bodies words s r) x.by_then
+    (planning bodies words r x.context x.transport x.handshake x.mid x.last x.read x.over x.greets x.maps (λ e q. x.unfailed)).plans

@@ -44,7 +44,8 @@ module _ (name : List ℕ) (e : PlanError) (q : e.step.now ≡ name) (no-file : 
   not-unwritten (inr k) = other-step name (codes "file") (refusal_of e) q (ap (λ (r : PlanRefusal). r.step) k) no-file
 
   -- nor what is refused before there is a session
-  pub not-begun : (specs : List (List ℕ)) → (letter (codes "spec") ≡ letter name → ⊥) → RefusesSpecs specs e ⊎ IsPlanMemory (codes "file") e → ⊥
+  pub not-begun : (specs : List (List ℕ)) → (letter (codes "spec") ≡ letter name → ⊥) → RefusesSpecs specs e
+      ⊎ IsPlanMemory (codes "file") e → ⊥
   not-begun specs no-spec (inl (inl k)) = other-step name (codes "spec") (refusal_of e) q (ap (λ (r : PlanRefusal). r.step) k.2) no-spec
   not-begun specs no-spec (inl (inr k)) = other-step name (codes "spec") (refusal_of e) q (ap (λ (r : PlanRefusal). r.step) k) no-spec
   not-begun specs no-spec (inr k) = other-step name (codes "file") (refusal_of e) q (ap (λ (r : PlanRefusal). r.step) k) no-file

@@ -1,4 +1,5 @@
--- The rounds of two fetches whose negotiators offer the same list, refused ones too: each round has the same verdict, which is a function of what it asks for and of the answer to come, so they break off at the same round.
+-- The rounds of two fetches whose negotiators offer the same list, refused ones too: each round has the same verdict, which is a
+-- function of what it asks for and of the answer to come, so they break off at the same round.
 use Rattle.std.proofs.Common.{◌≡◌, ◌⊎◌, ℕ, Bool, true, false, not, List, [], ◌∷◌, ◌++◌, codes, Option, Some, Result, Ok, Err, IfSome, inl, inr, refl, sym, ap, ◌∙◌, subst}
 use Rattle.gixp_hash.specs.declared.object_id.ObjectId.{ObjectId}
 use Rattle.gixp_packetline.specs.declared.protocol.Protocol.{Protocol}
@@ -40,7 +41,8 @@ use Rattle.gixp_planner.proofs.RoundLemmas.{AtAlike, turn-none, rounds-none, tur
 
 -- ---- verdicts
 
--- what comes of a round: its request doesn't fit, its answer is refused, a pack comes, it was the last and none comes, or the next round does
+-- what comes of a round: its request doesn't fit, its answer is refused, a pack comes, it was the last and none comes, or the next
+-- round does
 pub data Verdict : Type 0 where
   too_long : Verdict
   unread : Verdict
@@ -63,7 +65,8 @@ by_fit false done found = too_long
 
 -- that of a round that asks for this, by what is held before it
 abbrev pub verdict : Protocol → Bool → TransportState → ArgumentsValue → Bool → Verdict
-verdict version banded held asked done = by_fit (request_fits asked done) done (answer_of version (flags done (not done)) (viewed banded (answer_pieces (first_answer held.answers))))
+verdict version banded held asked done = by_fit (request_fits asked done) done
+    (answer_of version (flags done (not done)) (viewed banded (answer_pieces (first_answer held.answers))))
 
 -- what is held after a request, unless it doesn't fit
 abbrev pub held_by : Verdict → TransportState → List ℕ → TransportState
@@ -95,7 +98,8 @@ module _ {A X : Type 0} where
   abbrev ended_as : FetchError A X → Result Bool PlanRefusal
   ended_as e = end_of {A = A} {X = X} (Err e)
 
-  named-response : (e : response_error) → (ended_as (of_response e) ≡ Err (refusal (codes "fetch") (codes "FetchResponse"))) ⊎ (◌≡◌ {A = FetchError A X} (of_response e) fetch.Memory)
+  named-response : (e : response_error) → (ended_as (of_response e) ≡ Err (refusal (codes "fetch") (codes "FetchResponse")))
+      ⊎ (◌≡◌ {A = FetchError A X} (of_response e) fetch.Memory)
   named-response (response.Io kind) = inl refl
   named-response (response.UploadPack m) = inl refl
   named-response (response.Transport c) = inl refl
@@ -106,7 +110,8 @@ module _ {A X : Type 0} where
   named-response response.Memory = inr refl
 
   -- what the side that knows the repository refuses
-  pub own-disturbs : (e : negotiate_error A) → IsOwn e → IsDisturbed {A = A} {X = X} (of_negotiate e) ⊎ (◌≡◌ {A = FetchError A X} (of_negotiate e) fetch.Memory)
+  pub own-disturbs : (e : negotiate_error A) → IsOwn e → IsDisturbed {A = A} {X = X} (of_negotiate e)
+      ⊎ (◌≡◌ {A = FetchError A X} (of_negotiate e) fetch.Memory)
   own-disturbs (negotiate.NegotiationFailed n) o = absurd o
   own-disturbs (negotiate.LookupCommitInGraph x) o = inl o
   own-disturbs negotiate.OpenPackedRefsBuffer o = inl o
@@ -139,7 +144,8 @@ interrupted-read (read.BadBand b) h = cc
 interrupted-read read.Interrupted h = tt
 interrupted-read read.Memory h = cc
 
-interrupted-response : (A X : Type 0) (e : response_error) → answer_refusal e ≡ reader_refusal interrupted → IsDisturbed {A = A} {X = X} (of_response e)
+interrupted-response : (A X : Type 0) (e : response_error) → answer_refusal e ≡ reader_refusal interrupted
+    → IsDisturbed {A = A} {X = X} (of_response e)
 interrupted-response A X (response.Io kind) h = cc
 interrupted-response A X (response.UploadPack m) h = cc
 interrupted-response A X (response.Transport c) h = cc
@@ -150,7 +156,8 @@ interrupted-response A X (response.Reader r) h = interrupted-read r h
 interrupted-response A X response.Memory h = cc
 
 -- what comes from outside and isn't counted: an allocation failure, or an interrupt
-outside-response : {A X : Type 0} (old new : Reading) (r : Refusal) (e : response_error) → new.failures ≡ 0 → IsOutside old new r → answer_refusal e ≡ from_reader r
+outside-response : {A X : Type 0} (old new : Reading) (r : Refusal) (e : response_error) → new.failures ≡ 0 → IsOutside old new r
+    → answer_refusal e ≡ from_reader r
     → IsDisturbed {A = A} {X = X} (of_response e) ⊎ (◌≡◌ {A = FetchError A X} (of_response e) fetch.Memory)
 outside-response old new r e z (inr b) h = absurd (never-none old.failures new.failures b.failures z)
 outside-response old new (io kind) e z (inl f) h = absurd (never-none old.failures new.failures f.fault.2 z)
@@ -191,25 +198,32 @@ module _ {N I A : Type 0} (m : Manner N I A) where
     pub last : Last before new ended
 
   -- a round that was answered
-  turn-verdict : (x : At N I) (t : Turn N I) → x.reading.held.persists ≡ false → Turns m x t → t.after.reading.failures ≡ 0 → verdict_at x t.asked t.done ≡ by_pack t.reply.pack t.done
+  turn-verdict : (x : At N I) (t : Turn N I) → x.reading.held.persists ≡ false → Turns m x t → t.after.reading.failures ≡ 0
+      → verdict_at x t.asked t.done ≡ by_pack t.reply.pack t.done
   turn-verdict x t alone h z =
-      let s : SentBy false x.reading t.sent (texts_of (request t.asked t.done)) = subst (λ p. SentBy p x.reading t.sent (texts_of (request t.asked t.done))) alone h.sends.1 in
-      let f = found-in (answer_of m.version (flags t.done (not t.done))) m.version (view m.banded t.sent) (view m.banded t.after.reading) (viewed m.banded (next_pieces x.reading)) t.reply
+      let s : SentBy false x.reading t.sent (texts_of (request t.asked t.done)) =
+      subst (λ p. SentBy p x.reading t.sent (texts_of (request t.asked t.done))) alone h.sends.1 in
+      let f = found-in (answer_of m.version (flags t.done (not t.done))) m.version (view m.banded t.sent)
+      (view m.banded t.after.reading) (viewed m.banded (next_pieces x.reading)) t.reply
       (view-come m.banded t.sent (next_pieces x.reading) s.0.to_come) (view-failures m.banded t.after.reading ∙ z) h.answer in
       ap (λ b. by_fit b t.done (found_at x t.done)) h.sends.0 ∙ ap (by_answer t.done) f.1
 
   -- what is held after one
-  turn-held : (x : At N I) (t : Turn N I) → x.reading.held.persists ≡ false → Turns m x t → t.after.reading.held ≡ held_by goes_on x.reading.held (texts_of (request t.asked t.done))
+  turn-held : (x : At N I) (t : Turn N I) → x.reading.held.persists ≡ false → Turns m x t
+      → t.after.reading.held ≡ held_by goes_on x.reading.held (texts_of (request t.asked t.done))
   turn-held x t alone h =
-      let s : SentBy false x.reading t.sent (texts_of (request t.asked t.done)) = subst (λ p. SentBy p x.reading t.sent (texts_of (request t.asked t.done))) alone h.sends.1 in
+      let s : SentBy false x.reading t.sent (texts_of (request t.asked t.done)) =
+      subst (λ p. SentBy p x.reading t.sent (texts_of (request t.asked t.done))) alone h.sends.1 in
       h.held ∙ s.0.held
 
-  held-answered : (pack done : Bool) (held : TransportState) (text : List ℕ) → held_by goes_on held text ≡ held_by (by_pack pack done) held text
+  held-answered : (pack done : Bool) (held : TransportState) (text : List ℕ)
+      → held_by goes_on held text ≡ held_by (by_pack pack done) held text
   held-answered true done held text = refl
   held-answered false true held text = refl
   held-answered false false held text = refl
 
-  pub last-turn : (x : At N I) (t : Turn N I) (new : Reading) (ended : Result Bool PlanRefusal) → x.reading.held.persists ≡ false → Turns m x t → t.after.reading.failures ≡ 0 → new.held ≡ t.after.reading.held
+  pub last-turn : (x : At N I) (t : Turn N I) (new : Reading) (ended : Result Bool PlanRefusal) → x.reading.held.persists ≡ false
+      → Turns m x t → t.after.reading.failures ≡ 0 → new.held ≡ t.after.reading.held
       → EndsBy (by_pack t.reply.pack t.done) ended → Last x new ended
   last-turn x t new ended alone h z e k =
       let v = turn-verdict x t alone h z in
@@ -222,17 +236,21 @@ module _ {N I A : Type 0} (m : Manner N I A) where
         asked = t.asked;
         negotiated = h.negotiated;
         none = turn-none m x t h z;
-        held = e ∙ turn-held x t alone h ∙ held-answered t.reply.pack t.done x.reading.held text ∙ ap (λ w. held_by w x.reading.held text) (sym v);
+        held = e ∙ turn-held x t alone h ∙ held-answered t.reply.pack t.done x.reading.held text
+            ∙ ap (λ w. held_by w x.reading.held text) (sym v);
         ends = subst (λ w. EndsBy w ended) (sym v) k;
       }
 
   -- a round that came to no answer
-  module _ {X : Type 0} (x : At N I) (alone : x.reading.held.persists ≡ false) (new : Reading) (z : new.failures ≡ 0) (e : FetchError A X) (undisturbed : IsDisturbed e → ⊥) (round : Round) (done : Bool) (next : N) (window : Window) (asked : ArgumentsValue)
+  module _ {X : Type 0} (x : At N I) (alone : x.reading.held.persists ≡ false) (new : Reading) (z : new.failures ≡ 0)
+      (e : FetchError A X) (undisturbed : IsDisturbed e → ⊥) (round : Round) (done : Bool) (next : N) (window : Window)
+      (asked : ArgumentsValue)
       (negotiated : m.goes x.negotiate x.window x.asked x.previous round done next window asked) where
     abbrev Stops : Type 0
     Stops = (e ≡ fetch.Memory) ⊎ Last x new (end_of {A = A} {X = X} (Err e))
 
-    last-by : (v : Verdict) → verdict_at x asked done ≡ v → x.reading.failures ≡ 0 → new.held ≡ held_by v x.reading.held (texts_of (request asked done)) → EndsBy v (end_of {A = A} {X = X} (Err e)) → Stops
+    last-by : (v : Verdict) → verdict_at x asked done ≡ v → x.reading.failures ≡ 0
+        → new.held ≡ held_by v x.reading.held (texts_of (request asked done)) → EndsBy v (end_of {A = A} {X = X} (Err e)) → Stops
     last-by v q none h k = inr (record {
       round = round;
       done = done;
@@ -248,41 +266,50 @@ module _ {N I A : Type 0} (m : Manner N I A) where
     -- its request wasn't sent
     at-client : (c : client_error) → SendsRound x.reading new asked done (Err c) → e ≡ of_client c → Stops
     at-client (client.Io kind) s g =
-        let f : FailsBy false x.reading new (texts_of (request asked done)) kind = subst (λ p. FailsBy p x.reading new (texts_of (request asked done)) kind) alone s.1 in
+        let f : FailsBy false x.reading new (texts_of (request asked done)) kind =
+        subst (λ p. FailsBy p x.reading new (texts_of (request asked done)) kind) alone s.1 in
         absurd (never-none x.reading.failures new.failures f.1.1 z)
     at-client client.LineTooLong s g =
-        last-by too_long (ap (λ b. by_fit b done (found_at x done)) s.0) (ap (λ (r : Reading). r.failures) (sym s.1) ∙ z) (ap (λ (r : Reading). r.held) s.1) (ap (λ (w : FetchError A X). end_of {A = A} {X = X} (Err w)) g)
+        last-by too_long (ap (λ b. by_fit b done (found_at x done)) s.0) (ap (λ (r : Reading). r.failures) (sym s.1) ∙ z)
+        (ap (λ (r : Reading). r.held) s.1) (ap (λ (w : FetchError A X). end_of {A = A} {X = X} (Err w)) g)
     at-client (client.Read r) s g = absurd s
     at-client client.AuthenticationUnsupported s g = absurd s
     at-client (client.UnsupportedProtocolVersion l) s g = absurd s
     at-client client.MissingDelimitingNullByte s g = absurd s
     at-client client.Memory s g = inl g
 
-    module _ (sent : Reading) (s : SendsRound x.reading sent asked done (Ok tt)) (error : response_error) (h : new.held ≡ sent.held) (g : e ≡ of_response error) where
+    module _ (sent : Reading) (s : SendsRound x.reading sent asked done (Ok tt)) (error : response_error) (h : new.held ≡ sent.held)
+        (g : e ≡ of_response error) where
       one-sent : SentBy false x.reading sent (texts_of (request asked done))
       one-sent = subst (λ p. SentBy p x.reading sent (texts_of (request asked done))) alone s.1
 
       by-name : (r : AnswerRefusal) → found_at x done ≡ refused r → sent.failures ≡ 0
-          → (end_of {A = A} {X = X} (Err (of_response error)) ≡ Err (refusal (codes "fetch") (codes "FetchResponse"))) ⊎ (◌≡◌ {A = FetchError A X} (of_response error) fetch.Memory) → Stops
+          → (end_of {A = A} {X = X} (Err (of_response error)) ≡ Err (refusal (codes "fetch") (codes "FetchResponse")))
+          ⊎ (◌≡◌ {A = FetchError A X} (of_response error) fetch.Memory) → Stops
       by-name r f q (inr n) = inl (g ∙ n)
       by-name r f q (inl n) =
-          last-by unread (ap (λ b. by_fit b done (found_at x done)) s.0 ∙ ap (by_answer done) f) (sym (sent-failures false x.reading sent (texts_of (request asked done)) one-sent) ∙ q) (h ∙ one-sent.0.held)
+          last-by unread (ap (λ b. by_fit b done (found_at x done)) s.0 ∙ ap (by_answer done) f)
+          (sym (sent-failures false x.reading sent (texts_of (request asked done)) one-sent) ∙ q) (h ∙ one-sent.0.held)
           (ap (λ (w : FetchError A X). end_of {A = A} {X = X} (Err w)) g ∙ n)
 
-      refused-so : (r : AnswerRefusal) → IfSome (view m.banded sent).to_come (λ p. answer_of m.version (flags done (not done)) p ≡ refused r) → (view m.banded new).failures ≡ (view m.banded sent).failures → Stops
+      refused-so : (r : AnswerRefusal) → IfSome (view m.banded sent).to_come (λ p. answer_of m.version (flags done (not done)) p
+          ≡ refused r) → (view m.banded new).failures ≡ (view m.banded sent).failures → Stops
       refused-so r k q =
           by-name r
-          (if-known (λ p. answer_of m.version (flags done (not done)) p ≡ refused r) (view m.banded sent).to_come (viewed m.banded (next_pieces x.reading)) (view-come m.banded sent (next_pieces x.reading) one-sent.0.to_come) k)
+          (if-known (λ p. answer_of m.version (flags done (not done)) p ≡ refused r) (view m.banded sent).to_come
+          (viewed m.banded (next_pieces x.reading)) (view-come m.banded sent (next_pieces x.reading) one-sent.0.to_come) k)
           (sym (view-failures m.banded sent) ∙ sym q ∙ view-failures m.banded new ∙ z) (named-response error)
 
       or-disturbed : IsDisturbed {A = A} {X = X} (of_response error) ⊎ (◌≡◌ {A = FetchError A X} (of_response error) fetch.Memory) → Stops
       or-disturbed (inl d) = absurd (undisturbed (subst (λ w. IsDisturbed w) (sym g) d))
       or-disturbed (inr n) = inl (g ∙ n)
 
-      at-response : AnswerFails (answer_of m.version (flags done (not done))) (view_plain m.banded m.plain) (view m.banded sent) (view m.banded new) error → Stops
+      at-response : AnswerFails (answer_of m.version (flags done (not done))) (view_plain m.banded m.plain) (view m.banded sent)
+          (view m.banded new) error → Stops
       at-response (inl l) = refused-so l.refusal l.first l.read.failures
       at-response (inr (inl l)) = refused-so (from_reader l.refusal) l.first (l.refused.failures ∙ l.read.failures)
-      at-response (inr (inr (inl l))) = or-disturbed (outside-response l.now (view m.banded new) l.refusal error (view-failures m.banded new ∙ z) l.failed l.error)
+      at-response (inr (inr (inl l))) =
+          or-disturbed (outside-response l.now (view m.banded new) l.refusal error (view-failures m.banded new ∙ z) l.failed l.error)
       at-response (inr (inr (inr l))) = inl (g ∙ ap of_response l.error)
 
     stops : Breaks m x asked done e new → Stops
@@ -293,14 +320,16 @@ module _ {N I A : Type 0} (m : Manner N I A) where
     stops (behind_answer sent s reply a h w) = inl w
 
   -- how rounds fail
-  module _ {X : Type 0} (never : (i j : I) → m.says i true j → ⊥) (x : At N I) (alone : x.reading.held.persists ≡ false) (new : Reading) (z : new.failures ≡ 0) (e : FetchError A X) (undisturbed : IsDisturbed e → ⊥) where
+  module _ {X : Type 0} (never : (i j : I) → m.says i true j → ⊥) (x : At N I) (alone : x.reading.held.persists ≡ false) (new : Reading)
+      (z : new.failures ≡ 0) (e : FetchError A X) (undisturbed : IsDisturbed e → ⊥) where
     abbrev pub RunStops : Type 0
     RunStops = (e ≡ fetch.Memory) ⊎ Ran x new (end_of {A = A} {X = X} (Err e))
 
     alone-then : (before : At N I) (turns : List (Turn N I)) → Rounds m x turns before → before.reading.held.persists ≡ false
     alone-then before turns run = (rounds_written m x before turns run).persists ∙ alone
 
-    ran-to : (turns : List (Turn N I)) (before : At N I) → Rounds m x turns before → (e ≡ fetch.Memory) ⊎ Last before new (end_of {A = A} {X = X} (Err e)) → RunStops
+    ran-to : (turns : List (Turn N I)) (before : At N I) → Rounds m x turns before → (e ≡ fetch.Memory)
+        ⊎ Last before new (end_of {A = A} {X = X} (Err e)) → RunStops
     ran-to turns before run (inl q) = inl q
     ran-to turns before run (inr l) = inr (record { turns = turns; before = before; run = run; last = l })
 
@@ -314,7 +343,8 @@ module _ {N I A : Type 0} (m : Manner N I A) where
     turn-fails : (turns : List (Turn N I)) (before : At N I) (next : N) → Rounds m x turns before → TurnFails m before e next new → RunStops
     turn-fails turns before next run (inl u) = own-stops u.error u.own u.gives
     turn-fails turns before next run (inr b) =
-        ran-to turns before run (stops before (alone-then before turns run) new z e undisturbed b.round b.done next b.window b.asked b.negotiated b.breaks)
+        ran-to turns before run
+        (stops before (alone-then before turns run) new z e undisturbed b.round b.done next b.window b.asked b.negotiated b.breaks)
 
     pub rounds-fail : (rounds : List Round) (next : N) (interrupt : I) → RoundsFail m x e rounds next new interrupt → RunStops
     rounds-fail rounds next interrupt (inr l) = turn-fails l.turns l.before next l.run l.refused
@@ -324,36 +354,48 @@ module _ {N I A : Type 0} (m : Manner N I A) where
         by-end (inl i) = absurd (never i.before.interrupt f.end.interrupt i.said)
         by-end (inr d) =
             let stands : new ≡ d.last.after.reading = f.reads ∙ ap (λ (a : At N I). a.reading) d.stands in
-            let at : by_pack d.last.reply.pack d.last.done ≡ lacks_pack = ap (λ p. by_pack p d.last.done) d.no_pack ∙ ap (by_pack false) d.done in
+            let at : by_pack d.last.reply.pack d.last.done ≡ lacks_pack = ap (λ p. by_pack p d.last.done) d.no_pack
+            ∙ ap (by_pack false) d.done in
             inr (record {
               turns = d.turns;
               before = d.before;
               run = d.run;
               last =
-                  last-turn d.before d.last new (end_of {A = A} {X = X} (Err e)) (alone-then d.before d.turns d.run) d.lasts (ap (λ (r : Reading). r.failures) (sym stands) ∙ z) (ap (λ (r : Reading). r.held) stands)
-                  (subst (λ w. EndsBy w (end_of {A = A} {X = X} (Err e))) (sym at) (ap (λ (w : FetchError A X). end_of {A = A} {X = X} (Err w)) f.gives));
+                  last-turn d.before d.last new (end_of {A = A} {X = X} (Err e)) (alone-then d.before d.turns d.run) d.lasts
+                  (ap (λ (r : Reading). r.failures) (sym stands) ∙ z) (ap (λ (r : Reading). r.held) stands)
+                  (subst (λ w. EndsBy w (end_of {A = A} {X = X} (Err e))) (sym at)
+                  (ap (λ (w : FetchError A X). end_of {A = A} {X = X} (Err w)) f.gives));
             })
 
 -- ---- the rounds of two
 
 module _ {N I A : Type 0} (m : Manner N I A) (haves : N → List ObjectId)
-    (goes : (n : N) (s : Window) (a : ArgumentsValue) (p : Option AnswerValue) (r : Round) (done : Bool) (n' : N) (t : Window) (b : ArgumentsValue)
+    (goes : (n : N) (s : Window) (a : ArgumentsValue) (p : Option AnswerValue) (r : Round) (done : Bool) (n' : N) (t : Window)
+    (b : ArgumentsValue)
     → m.goes n s a p r done n' t b → ListRound (haves n) s a p done (haves n') t b) where
-  same-asked : (x y : At N I) → AtAlike haves x y → (r q : Round) (c d : Bool) (n o : N) (v w : Window) (a b : ArgumentsValue) → m.goes x.negotiate x.window x.asked x.previous r c n v a
+  same-asked : (x y : At N I) → AtAlike haves x y → (r q : Round) (c d : Bool) (n o : N) (v w : Window) (a b : ArgumentsValue)
+      → m.goes x.negotiate x.window x.asked x.previous r c n v a
       → m.goes y.negotiate y.window y.asked y.previous q d o w b → SameRound c d (haves n) (haves o) v w a b
   same-asked x y s r q c d n o v w a b h k =
-      same-round _ _ _ _ _ _ _ _ _ _ _ _ _ _ _ _ s.left s.window s.asked s.previous (goes x.negotiate x.window x.asked x.previous r c n v a h) (goes y.negotiate y.window y.asked y.previous q d o w b k)
+      same-round _ _ _ _ _ _ _ _ _ _ _ _ _ _ _ _ s.left s.window s.asked s.previous
+      (goes x.negotiate x.window x.asked x.previous r c n v a h) (goes y.negotiate y.window y.asked y.previous q d o w b k)
 
-  verdicts-same : (x y : At N I) (a b : ArgumentsValue) (c d : Bool) → x.reading.held ≡ y.reading.held → a ≡ b → c ≡ d → verdict_at m x a c ≡ verdict_at m y b d
+  verdicts-same : (x y : At N I) (a b : ArgumentsValue) (c d : Bool) → x.reading.held ≡ y.reading.held → a ≡ b → c ≡ d
+      → verdict_at m x a c ≡ verdict_at m y b d
   verdicts-same x y a b c d h e f =
-      ap (λ (k : TransportState). verdict m.version m.banded k a c) h ∙ ap (λ (k : ArgumentsValue). verdict m.version m.banded y.reading.held k c) e ∙ ap (verdict m.version m.banded y.reading.held b) f
+      ap (λ (k : TransportState). verdict m.version m.banded k a c) h ∙ ap
+      (λ (k : ArgumentsValue). verdict m.version m.banded y.reading.held k c) e ∙ ap (verdict m.version m.banded y.reading.held b) f
 
   -- a last round goes no further where the other does
-  last-on : (x y : At N I) (new : Reading) (ended : Result Bool PlanRefusal) (u : Turn N I) → AtAlike haves x y → Last m x new ended → Turns m y u → u.done ≡ false → u.reply.pack ≡ false → u.after.reading.failures ≡ 0 → ⊥
+  last-on : (x y : At N I) (new : Reading) (ended : Result Bool PlanRefusal) (u : Turn N I) → AtAlike haves x y → Last m x new ended
+      → Turns m y u → u.done ≡ false → u.reply.pack ≡ false → u.after.reading.failures ≡ 0 → ⊥
   last-on x y new ended u s l k p q z =
-      let r = same-asked x y s l.round u.round l.done u.done l.next u.after.negotiate l.window u.after.window l.asked u.asked l.negotiated k.negotiated in
+      let r =
+      same-asked x y s l.round u.round l.done u.done l.next u.after.negotiate l.window u.after.window l.asked u.asked l.negotiated
+      k.negotiated in
       let alone : y.reading.held.persists ≡ false = ap (λ (h : TransportState). h.persists) (sym s.reading.held) ∙ s.reading.alone in
-      let v = verdicts-same x y l.asked u.asked l.done u.done s.reading.held r.asked r.done ∙ turn-verdict m y u alone k z ∙ ap (λ b. by_pack b u.done) q ∙ ap (by_pack false) p in
+      let v = verdicts-same x y l.asked u.asked l.done u.done s.reading.held r.asked r.done ∙ turn-verdict m y u alone k z
+      ∙ ap (λ b. by_pack b u.done) q ∙ ap (by_pack false) p in
       subst (λ w. EndsBy w ended) v l.ends
 
   -- two that went alike
@@ -361,21 +403,25 @@ module _ {N I A : Type 0} (m : Manner N I A) (haves : N → List ObjectId)
     pub held : new.held ≡ other.held
     pub ends : EndAlike e f
 
-  last-last : (x y : At N I) (new other : Reading) (e f : Result Bool PlanRefusal) → AtAlike haves x y → Last m x new e → Last m y other f → EndSame new other e f
+  last-last : (x y : At N I) (new other : Reading) (e f : Result Bool PlanRefusal) → AtAlike haves x y → Last m x new e
+      → Last m y other f → EndSame new other e f
   last-last x y new other e f s l k =
       let r = same-asked x y s l.round k.round l.done k.done l.next k.next l.window k.window l.asked k.asked l.negotiated k.negotiated in
       let v = verdicts-same x y l.asked k.asked l.done k.done s.reading.held r.asked r.done in
       record {
         held =
-            l.held ∙ ap (λ w. held_by w x.reading.held (texts_of (request l.asked l.done))) v ∙ ap (λ h. held_by (verdict_at m y k.asked k.done) h (texts_of (request l.asked l.done))) s.reading.held
+            l.held ∙ ap (λ w. held_by w x.reading.held (texts_of (request l.asked l.done))) v
+            ∙ ap (λ h. held_by (verdict_at m y k.asked k.done) h (texts_of (request l.asked l.done))) s.reading.held
             ∙ ap (λ (a : ArgumentsValue). held_by (verdict_at m y k.asked k.done) y.reading.held (texts_of (request a l.done))) r.asked
             ∙ ap (λ d. held_by (verdict_at m y k.asked k.done) y.reading.held (texts_of (request k.asked d))) r.done
             ∙ sym k.held;
         ends = ends-alike (verdict_at m y k.asked k.done) e f (subst (λ w. EndsBy w e) v l.ends) k.ends;
       }
 
-  runs-by : (ts us : List (Turn N I)) (x y b c : At N I) (new other : Reading) (e f : Result Bool PlanRefusal) → AtAlike haves x y → Rounds m x ts b → Last m b new e → Rounds m y us c → Last m c other f → EndSame new other e f
-  runs-by [] [] x y b c new other e f s r l q k = last-last x y new other e f s (subst (λ a. Last m a new e) r l) (subst (λ a. Last m a other f) q k)
+  runs-by : (ts us : List (Turn N I)) (x y b c : At N I) (new other : Reading) (e f : Result Bool PlanRefusal) → AtAlike haves x y
+      → Rounds m x ts b → Last m b new e → Rounds m y us c → Last m c other f → EndSame new other e f
+  runs-by [] [] x y b c new other e f s r l q k =
+      last-last x y new other e f s (subst (λ a. Last m a new e) r l) (subst (λ a. Last m a other f) q k)
   runs-by [] (v ∷ us) x y b c new other e f s r l q k =
       absurd (last-on x y new e v s (subst (λ a. Last m a new e) r l) q.0 q.1 q.2 (rounds-none m us v.after c q.3 k.none))
   runs-by (t ∷ ts) [] x y b c new other e f s r l q k =
@@ -387,11 +433,17 @@ module _ {N I A : Type 0} (m : Manner N I A) (haves : N → List ObjectId)
         window = sym w.window;
         asked = sym w.asked;
         previous = sym w.previous;
-        reading = record { version = sym w.reading.version; held = sym w.reading.held; alone = ap (λ (h : TransportState). h.persists) (sym w.reading.held) ∙ w.reading.alone };
+        reading = record {
+          version = sym w.reading.version;
+          held = sym w.reading.held;
+          alone = ap (λ (h : TransportState). h.persists) (sym w.reading.held) ∙ w.reading.alone;
+        };
       }
   runs-by (t ∷ ts) (v ∷ us) x y b c new other e f s r l q k =
-      runs-by ts us t.after v.after b c new other e f (turns-alike m haves goes x y t v s r.0 q.0 (rounds-none m ts t.after b r.3 l.none) (rounds-none m us v.after c q.3 k.none)).1 r.3 l q.3 k
+      runs-by ts us t.after v.after b c new other e f (turns-alike m haves goes x y t v s r.0 q.0
+      (rounds-none m ts t.after b r.3 l.none) (rounds-none m us v.after c q.3 k.none)).1 r.3 l q.3 k
 
   -- rounds of both break off alike
-  pub runs-alike : (x y : At N I) (new other : Reading) (e f : Result Bool PlanRefusal) → AtAlike haves x y → Ran m x new e → Ran m y other f → EndSame new other e f
+  pub runs-alike : (x y : At N I) (new other : Reading) (e f : Result Bool PlanRefusal) → AtAlike haves x y → Ran m x new e
+      → Ran m y other f → EndSame new other e f
   runs-alike x y new other e f s l k = runs-by l.turns k.turns x y l.before k.before new other e f s l.run l.last k.run k.last

@@ -45,13 +45,15 @@ pub record SameBasis (p q : Basis) : Type 0 where
 
 -- ---- lists of mappings that look alike
 
-any-alike : (f g : Mapping → Bool) → ((x y : Mapping) → seen x ≡ seen y → f x ≡ g y) → (xs ys : List Mapping) → LookAlike xs ys → list_any f xs ≡ list_any g ys
+any-alike : (f g : Mapping → Bool) → ((x y : Mapping) → seen x ≡ seen y → f x ≡ g y) → (xs ys : List Mapping) → LookAlike xs ys
+    → list_any f xs ≡ list_any g ys
 any-alike f g h [] [] s = refl
 any-alike f g h [] (y ∷ ys) s = absurd s
 any-alike f g h (x ∷ xs) [] s = absurd s
 any-alike f g h (x ∷ xs) (y ∷ ys) s = ap (λ b. b || list_any f xs) (h x y s.0) ∙ ap (λ b. g y || b) (any-alike f g h xs ys s.1)
 
-map-alike : (f : Mapping → Bool) → ((x y : Mapping) → seen x ≡ seen y → f x ≡ f y) → (xs ys : List Mapping) → LookAlike xs ys → map f xs ≡ map f ys
+map-alike : (f : Mapping → Bool) → ((x y : Mapping) → seen x ≡ seen y → f x ≡ f y) → (xs ys : List Mapping) → LookAlike xs ys
+    → map f xs ≡ map f ys
 map-alike f h [] [] s = refl
 map-alike f h [] (y ∷ ys) s = absurd s
 map-alike f h (x ∷ xs) [] s = absurd s
@@ -100,26 +102,35 @@ early_by none zero lone = if none || zero then Some no_change else if lone then 
 
 early-alike : (shallow : Shallow) (xs ys : List Mapping) → LookAlike xs ys → early shallow xs ≡ early shallow ys
 early-alike shallow xs ys s =
-    ap (λ b. early_by b (is_deepen_zero shallow) (is_lone_unborn xs)) (none-alike xs ys s) ∙ ap (λ b. early_by (has_none ys) (is_deepen_zero shallow) b) (lone-alike xs ys s)
+    ap (λ b. early_by b (is_deepen_zero shallow) (is_lone_unborn xs)) (none-alike xs ys s)
+    ∙ ap (λ b. early_by (has_none ys) (is_deepen_zero shallow) b) (lone-alike xs ys s)
 
-module _ (ignores others : Mapping → Bool) (counts : (x : Mapping) → ignores x ≡ false) (counts_too : (x : Mapping) → others x ≡ false) (xs ys : List Mapping) (s : LookAlike xs ys) where
+module _ (ignores others : Mapping → Bool) (counts : (x : Mapping) → ignores x ≡ false) (counts_too : (x : Mapping) → others x ≡ false)
+    (xs ys : List Mapping) (s : LookAlike xs ys) where
   changes-alike : (refs : LocalRefs) → any_changed ignores refs xs ≡ any_changed others refs ys
   changes-alike refs =
       any-alike (λ m. not (ignores m) && is_changed refs m) (λ m. not (others m) && is_changed refs m)
-      (λ x y e. counted (ignores x) (others y) (is_changed refs x) (is_changed refs y) (counts x) (counts_too y) (changed-alike refs x y e)) xs ys s
+      (λ x y e. counted (ignores x) (others y) (is_changed refs x) (is_changed refs y) (counts x) (counts_too y)
+      (changed-alike refs x y e)) xs ys s
 
   unknown-alike : (found existing : Objects) → any_unknown ignores found existing xs ≡ any_unknown others found existing ys
   unknown-alike found existing =
       any-alike (λ m. not (ignores m) && not (is_known found existing m)) (λ m. not (others m) && not (is_known found existing m))
-      (λ x y e. counted (ignores x) (others y) (not (is_known found existing x)) (not (is_known found existing y)) (counts x) (counts_too y) (ap not (known-alike found existing x y e))) xs ys s
+      (λ x y e. counted (ignores x) (others y) (not (is_known found existing x)) (not (is_known found existing y)) (counts x)
+      (counts_too y) (ap not (known-alike found existing x y e))) xs ys s
 
-  decision-alike : (found existing : Objects) (refs : LocalRefs) (shallow : Shallow) → decision ignores found existing refs shallow xs ≡ decision others found existing refs shallow ys
+  decision-alike : (found existing : Objects) (refs : LocalRefs) (shallow : Shallow) → decision ignores found existing refs shallow xs
+      ≡ decision others found existing refs shallow ys
   decision-alike found existing refs shallow =
       let stays = is_no_change shallow in
-      ap (λ e. decide e (settle stays (any_changed ignores refs xs) (any_unknown ignores found existing xs) (map (is_known found existing) xs))) (early-alike shallow xs ys s)
-      ∙ ap (λ c. decide (early shallow ys) (settle stays c (any_unknown ignores found existing xs) (map (is_known found existing) xs))) (changes-alike refs)
-      ∙ ap (λ u. decide (early shallow ys) (settle stays (any_changed others refs ys) u (map (is_known found existing) xs))) (unknown-alike found existing)
-      ∙ ap (λ k. decide (early shallow ys) (settle stays (any_changed others refs ys) (any_unknown others found existing ys) k)) (map-alike (is_known found existing) (known-alike found existing) xs ys s)
+      ap (λ e. decide e (settle stays (any_changed ignores refs xs) (any_unknown ignores found existing xs)
+      (map (is_known found existing) xs))) (early-alike shallow xs ys s)
+      ∙ ap (λ c. decide (early shallow ys) (settle stays c (any_unknown ignores found existing xs) (map (is_known found existing) xs)))
+      (changes-alike refs)
+      ∙ ap (λ u. decide (early shallow ys) (settle stays (any_changed others refs ys) u (map (is_known found existing) xs)))
+      (unknown-alike found existing)
+      ∙ ap (λ k. decide (early shallow ys) (settle stays (any_changed others refs ys) (any_unknown others found existing ys) k))
+      (map-alike (is_known found existing) (known-alike found existing) xs ys s)
 
 pub decided-alike : (p q : Basis) → SameBasis p q → decided p ≡ decided q
 decided-alike p q s =
@@ -131,24 +142,28 @@ decided-alike p q s =
 
 -- ---- what is asked for
 
-wish-alike : (ignores others : Mapping → Bool) (existing : Objects) (by_name new_only : Bool) (x y : Mapping) (k : Bool) → ignores x ≡ false → others y ≡ false → seen x ≡ seen y
+wish-alike : (ignores others : Mapping → Bool) (existing : Objects) (by_name new_only : Bool) (x y : Mapping) (k : Bool)
+    → ignores x ≡ false → others y ≡ false → seen x ≡ seen y
     → wishes_of ignores existing by_name new_only x k ≡ wishes_of others existing by_name new_only y k
 wish-alike ignores others existing by_name new_only x y k c d e =
     ap (λ b. if b || (new_only && k) then [] else (wanted by_name (seen x).id (seen x).name ++ tag_have existing (seen x).id)) (c ∙ sym d)
     ∙ ap (λ (s : Seen). if others y || (new_only && k) then [] else (wanted by_name s.id s.name ++ tag_have existing s.id)) e
 
-wishes-alike : (ignores others : Mapping → Bool) → ((x : Mapping) → ignores x ≡ false) → ((x : Mapping) → others x ≡ false) → (existing : Objects) (by_name new_only : Bool) (xs ys : List Mapping) (known : List Bool)
+wishes-alike : (ignores others : Mapping → Bool) → ((x : Mapping) → ignores x ≡ false) → ((x : Mapping) → others x ≡ false)
+    → (existing : Objects) (by_name new_only : Bool) (xs ys : List Mapping) (known : List Bool)
     → LookAlike xs ys → wishes ignores existing by_name new_only xs known ≡ wishes others existing by_name new_only ys known
 wishes-alike ignores others c d existing by_name new_only [] [] known s = refl
 wishes-alike ignores others c d existing by_name new_only [] (y ∷ ys) known s = absurd s
 wishes-alike ignores others c d existing by_name new_only (x ∷ xs) [] known s = absurd s
 wishes-alike ignores others c d existing by_name new_only (x ∷ xs) (y ∷ ys) [] s = refl
 wishes-alike ignores others c d existing by_name new_only (x ∷ xs) (y ∷ ys) (k ∷ ks) s =
-    ap (λ w. w ++ wishes ignores existing by_name new_only xs ks) (wish-alike ignores others existing by_name new_only x y k (c x) (d y) s.0)
+    ap (λ w. w ++ wishes ignores existing by_name new_only xs ks)
+    (wish-alike ignores others existing by_name new_only x y k (c x) (d y) s.0)
     ∙ ap (λ w. wishes_of others existing by_name new_only y k ++ w) (wishes-alike ignores others c d existing by_name new_only xs ys ks s.1)
 
 pub asked-alike : (p q : Basis) (a : ArgumentsValue) (known : List Bool) → SameBasis p q → asked_for p a known ≡ asked_for q a known
 asked-alike p q a known s =
-    wishes-alike p.ignores q.ignores s.counts s.counts_too p.existing (can_use (codes "ref-in-want") a) (is_no_change p.shallow) p.mappings q.mappings known s.mappings
+    wishes-alike p.ignores q.ignores s.counts s.counts_too p.existing (can_use (codes "ref-in-want") a)
+    (is_no_change p.shallow) p.mappings q.mappings known s.mappings
     ∙ ap (λ o. wishes q.ignores o (can_use (codes "ref-in-want") a) (is_no_change p.shallow) q.mappings known) s.existing
     ∙ ap (λ l. wishes q.ignores q.existing (can_use (codes "ref-in-want") a) (is_no_change l) q.mappings known) s.shallow

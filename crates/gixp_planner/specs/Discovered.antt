@@ -1,4 +1,5 @@
--- What a handshake over recorded bodies comes to, as a function of the first of them (gitprotocol-pack, "Reference Discovery"; gitprotocol-v2, "Capability Advertisement").
+-- What a handshake over recorded bodies comes to, as a function of the first of them (gitprotocol-pack, "Reference Discovery";
+-- gitprotocol-v2, "Capability Advertisement").
 use Rattle.std.specs.Prelude.{ℕ, ◌≡◌, ◌⊎◌, Bool, true, false, List, [], map, codes, Option, Some, None, Vec, Result, Ok, Err}
 use Rattle.std.specs.Option.{option_map}
 use Rattle.std.specs.declared.alloc.Global.{Global}
@@ -91,4 +92,5 @@ pub record GreetsOver (bodies : List Body) (r : Result Handshake HandshakeError)
 
 -- how a handshake ends follows from the first body, but for memory
 abbrev pub GreetingsFollow : Type 0
-GreetingsFollow = (bodies : List Body) (r : Result Handshake HandshakeError) → GreetsOver bodies r → IsDiscovered (discovery [] (first_pieces bodies)) r
+GreetingsFollow = (bodies : List Body) (r : Result Handshake HandshakeError) → GreetsOver bodies r
+    → IsDiscovered (discovery [] (first_pieces bodies)) r

@@ -1,4 +1,5 @@
--- What follows from the bodies, the refspecs, the objects that are there and the haves: how a session ends, and all that it sends and writes.
+-- What follows from the bodies, the refspecs, the objects that are there and the haves: how a session ends, and all that it sends and
+-- writes.
 use Rattle.std.specs.Prelude.{ℕ, ◌≡◌, ◌⊎◌, ◌++◌, ◌∷◌, Bool, true, false, List, [], codes, Option, Result, Ok, Err, IsOk}
 use Rattle.std.specs.Io.KnownBytes.{Appends, Keeps}
 use Rattle.gixp_wire.specs.declared.bodies.Body.{Body}
@@ -33,24 +34,33 @@ pub record AreSame (bodies : List Body) (specs : List (List ℕ)) (c d : Course)
 -- a plan is refused for a refspec by the name of this error, or for memory
 abbrev pub RefusedForSpec : SpecError → Result (Unit {0}) PlanError → Type 0
 RefusedForSpec error (Ok x) = ⊥
-RefusedForSpec error (Err e) = (refusal_of e ≡ refusal (codes "spec") (spec_name error)) ⊎ IsPlanMemory (codes "spec") e ⊎ IsPlanMemory (codes "file") e
+RefusedForSpec error (Err e) = (refusal_of e ≡ refusal (codes "spec") (spec_name error)) ⊎ IsPlanMemory (codes "spec") e
+    ⊎ IsPlanMemory (codes "file") e
 
-module _ {N I A S C P X : Type 0} (parties : Parties N I A S C P X) (IsOver : RefMap → N → Type 0) (IsEmpty : S → Type 0) (bodies : List Body) (specs : List (List ℕ)) where
+module _ {N I A S C P X : Type 0} (parties : Parties N I A S C P X) (IsOver : RefMap → N → Type 0) (IsEmpty : S → Type 0)
+    (bodies : List Body) (specs : List (List ℕ)) where
   -- a session that came to its end, over a negotiation that is so
   abbrev pub EndsSession : Course → Type 0
-  EndsSession course = IsCourse (λ m h old new r. FetchesMapped parties (IsOver m) IsEmpty h old new r) bodies specs course × IsOk course.ended
+  EndsSession course = IsCourse (λ m h old new r. FetchesMapped parties (IsOver m) IsEmpty h old new r) bodies specs course
+      × IsOk course.ended
 
   -- one that is written whole
   abbrev pub IsWritten : Option (List ℕ) → Option (List ℕ) → Type 0
   IsWritten old new = PlannedText (λ m h from to r. FetchesMapped parties (IsOver m) IsEmpty h from to r) bodies specs old new (Ok tt)
 
-module _ {N I A S C P X : Type 0} (parties : Parties N I A S C P X) (IsOne IsOther : RefMap → N → Type 0) (IsEmpty : S → Type 0) (bodies : List Body) (specs : List (List ℕ)) where
-  -- sessions of both kinds that came to their ends are the same, and the same text is written of them; where a refspec is refused nothing is written, and each plan is refused so, or for memory; where a handshake is refused nothing is written
+module _ {N I A S C P X : Type 0} (parties : Parties N I A S C P X) (IsOne IsOther : RefMap → N → Type 0) (IsEmpty : S → Type 0)
+    (bodies : List Body) (specs : List (List ℕ)) where
+  -- sessions of both kinds that came to their ends are the same, and the same text is written of them; where a refspec is refused
+  -- nothing is written, and each plan is refused so, or for memory; where a handshake is refused nothing is written
   pub record Follow : Type 0 where
-    pub session : (c d : Course) → EndsSession parties IsOne IsEmpty bodies specs c → EndsSession parties IsOther IsEmpty bodies specs d → AreSame bodies specs c d
-    pub text : (old new from to : Option (List ℕ)) → IsWritten parties IsOne IsEmpty bodies specs old new → IsWritten parties IsOther IsEmpty bodies specs from to
+    pub session : (c d : Course) → EndsSession parties IsOne IsEmpty bodies specs c → EndsSession parties IsOther IsEmpty bodies specs d
+        → AreSame bodies specs c d
+    pub text : (old new from to : Option (List ℕ)) → IsWritten parties IsOne IsEmpty bodies specs old new
+        → IsWritten parties IsOther IsEmpty bodies specs from to
         → (written : List ℕ) × Appends old new written × Appends from to written
     pub no_specs : (error : SpecError) → specs_of specs ≡ Err error → (old new : Option (List ℕ)) (r : Result (Unit {0}) PlanError)
-        → PlannedText (λ m h from to x. FetchesMapped parties (IsOne m) IsEmpty h from to x) bodies specs old new r → Keeps old new × RefusedForSpec error r
+        → PlannedText (λ m h from to x. FetchesMapped parties (IsOne m) IsEmpty h from to x) bodies specs old new r → Keeps old new
+        × RefusedForSpec error r
     pub no_greeting : (e : PlanError) → e.step.now ≡ codes "handshake" → (old new : Option (List ℕ))
-        → PlannedText (λ m h from to x. FetchesMapped parties (IsOne m) IsEmpty h from to x) bodies specs old new (Err e) → Appends old new []
+        → PlannedText (λ m h from to x. FetchesMapped parties (IsOne m) IsEmpty h from to x) bodies specs old new (Err e)
+        → Appends old new []

@@ -32,4 +32,5 @@ bytes_of ids = map (λ (id : ObjectId). id.bytes) ids
 -- these are the ids of the text; or a line of it is none, or an allocation failed
 abbrev pub ReadsHaves : List ℕ → Result (Vec ObjectId Global) PlanError → Type 0
 ReadsHaves text (Ok ids) = ids_of (have_lines text) ≡ Some (bytes_of ids.items)
-ReadsHaves text (Err e) = ((refusal_of e ≡ refusal (codes "have") (codes "Decode")) × (ids_of (have_lines text) ≡ None)) ⊎ IsPlanMemory (codes "have") e
+ReadsHaves text (Err e) = ((refusal_of e ≡ refusal (codes "have") (codes "Decode")) × (ids_of (have_lines text) ≡ None))
+    ⊎ IsPlanMemory (codes "have") e

@@ -1,4 +1,5 @@
--- A session over recorded bodies up to its ref map: what it sent by then, and that this and what is printed of the ref map follow from the bodies and the refspecs.
+-- A session over recorded bodies up to its ref map: what it sent by then, and that this and what is printed of the ref map follow from
+-- the bodies and the refspecs.
 use Rattle.std.specs.Prelude.{ℕ, ◌≡◌, ◌++◌, Bool, true, List, [], codes, Option, Result, Ok, Err}
 use Rattle.std.specs.Io.KnownBytes.{Appends}
 use Rattle.gixp_wire.specs.declared.bodies.Body.{Body}
@@ -29,11 +30,13 @@ pub record IsMapped (bodies : List Body) (specs : List (List ℕ)) (sent : List 
 
 -- whatever objects, graph and negotiator two sessions had: up to the ref map they sent the same, and the same is printed of their ref maps
 abbrev pub MappingsFollow : Type 0
-MappingsFollow = (bodies : List Body) (specs : List (List ℕ)) (sent others : List (List ℕ)) (m n : RefMap) → IsMapped bodies specs sent m → IsMapped bodies specs others n
+MappingsFollow = (bodies : List Body) (specs : List (List ℕ)) (sent others : List (List ℕ)) (m n : RefMap)
+    → IsMapped bodies specs sent m → IsMapped bodies specs others n
     → (sent ≡ others) × (map_shown m ≡ map_shown n)
 
 -- the requests of a session, of which the first are those up to its ref map, then its mappings, and how it ended
-pub record ShowsMapped (bodies : List Body) (specs : List (List ℕ)) (old new : Option (List ℕ)) (ended : Result Bool PlanRefusal) : Type 0 where
+pub record ShowsMapped (bodies : List Body) (specs : List (List ℕ)) (old new : Option (List ℕ))
+    (ended : Result Bool PlanRefusal) : Type 0 where
   pub sent : List (List ℕ)
   pub made : RefMap
   pub mapped : IsMapped bodies specs sent made

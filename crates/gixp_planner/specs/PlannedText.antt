@@ -20,9 +20,11 @@ use Rattle.gixp_planner.specs.Session.{Runs, end_counted}
 -- the text of a session is written, and its refusal is the error; or a write failed after a beginning of it
 abbrev pub Shows : Option (List ℕ) → Option (List ℕ) → Course → Result (Unit {0}) PlanError → Type 0
 Shows old new course (Ok x) = Appends old new (course_shown course) × IsOk course.ended
-Shows old new course (Err e) = (Appends old new (course_shown course) × (course.ended ≡ Err (refusal_of e))) ⊎ (WritesBeginning old new (course_shown course) × IsUnwritten e)
+Shows old new course (Err e) = (Appends old new (course_shown course) × (course.ended ≡ Err (refusal_of e)))
+    ⊎ (WritesBeginning old new (course_shown course) × IsUnwritten e)
 
-module _ {A X : Type 0} (Receives : RefMap → Handshake → Reading → Reading → Result (Option Outcome) (FetchError A X) → Type 0) (bodies : List Body) (specs : List (List ℕ)) where
+module _ {A X : Type 0} (Receives : RefMap → Handshake → Reading → Reading → Result (Option Outcome) (FetchError A X) → Type 0)
+    (bodies : List Body) (specs : List (List ℕ)) where
   -- how far a session over these bodies came, by these refspecs; it came to its end only where nothing failed on the way
   pub record IsCourse (course : Course) : Type 0 where
     pub context : Context

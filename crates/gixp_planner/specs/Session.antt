@@ -44,8 +44,10 @@ IsWithoutRefs made m = (m ≡ record made { remote_refs = m.remote_refs }) × (m
 
 -- the ref map of the server, which is asked for the refspecs' prefixes
 abbrev pub MapsRefs : Context → Handshake → Bool → Reading → Reading → Result RefMap MapError → Type 0
-MapsRefs context h plain old new (Ok m) = (made : RefMap) × Obtains git_table planner_agent context h plain old new (Ok made) × IsWithoutRefs made m
-MapsRefs context h plain old new (Err e) = Obtains git_table planner_agent context h plain old new (Err e) ⊎ ((new ≡ old) × (e ≡ map.Memory))
+MapsRefs context h plain old new (Ok m) = (made : RefMap) × Obtains git_table planner_agent context h plain old new (Ok made)
+    × IsWithoutRefs made m
+MapsRefs context h plain old new (Err e) = Obtains git_table planner_agent context h plain old new (Err e)
+    ⊎ ((new ≡ old) × (e ≡ map.Memory))
 
 -- what a fetch is handed in: the boundary is to stay, and no tags come but those that are mapped
 abbrev pub planner_call : Handshake → FetchCall
@@ -59,11 +61,13 @@ planner_call h = record {
 }
 
 -- a fetch of the planner
-pub record Carries {N I A S C P X : Type 0} (parties : Parties N I A S C P X) (h : Handshake) (first : World N I S C) (r : Result (Option Outcome) (FetchError A X)) (last : World N I S C) (progress : P) : Type 0 where
+pub record Carries {N I A S C P X : Type 0} (parties : Parties N I A S C P X) (h : Handshake) (first : World N I S C)
+    (r : Result (Option Outcome) (FetchError A X)) (last : World N I S C) (progress : P) : Type 0 where
   pub fetched : Fetches parties (planner_call h) first r last progress
 
 -- a fetch over a negotiation and a store of the boundary that are so
-pub record FetchesOver {N I A S C P X : Type 0} (parties : Parties N I A S C P X) (IsOver : N → Type 0) (IsEmpty : S → Type 0) (h : Handshake) (old new : Reading) (r : Result (Option Outcome) (FetchError A X)) : Type 0 where
+pub record FetchesOver {N I A S C P X : Type 0} (parties : Parties N I A S C P X) (IsOver : N → Type 0) (IsEmpty : S → Type 0)
+    (h : Handshake) (old new : Reading) (r : Result (Option Outcome) (FetchError A X)) : Type 0 where
   pub first : World N I S C
   pub last : World N I S C
   pub progress : P
@@ -75,7 +79,8 @@ pub record FetchesOver {N I A S C P X : Type 0} (parties : Parties N I A S C P X
   pub fetched : Carries parties h first r last progress
 
 -- the same, or an allocation failed before it
-abbrev pub FetchesMapped : {N I A S C P X : Type 0} → Parties N I A S C P X → (N → Type 0) → (S → Type 0) → Handshake → Reading → Reading → Result (Option Outcome) (FetchError A X) → Type 0
+abbrev pub FetchesMapped : {N I A S C P X : Type 0} → Parties N I A S C P X → (N → Type 0) → (S → Type 0) → Handshake → Reading
+    → Reading → Result (Option Outcome) (FetchError A X) → Type 0
 FetchesMapped parties IsOver IsEmpty h old new r = FetchesOver parties IsOver IsEmpty h old new r ⊎ ((new ≡ old) × (r ≡ Err fetch.Memory))
 
 -- whether a pack came, or why the fetch was refused
@@ -89,11 +94,15 @@ abbrev pub end_counted : ℕ → Result Bool PlanRefusal → Result Bool PlanRef
 end_counted failures (Ok pack) = if failures == 0 then Ok pack else Err (refusal (codes "fetch") (codes "Io"))
 end_counted failures (Err e) = Err e
 
-module _ {A X : Type 0} (Receives : RefMap → Handshake → Reading → Reading → Result (Option Outcome) (FetchError A X) → Type 0) (context : Context) (plain : Bool) (old : Reading) where
+module _ {A X : Type 0} (Receives : RefMap → Handshake → Reading → Reading → Result (Option Outcome) (FetchError A X) → Type 0)
+    (context : Context) (plain : Bool) (old : Reading) where
   -- a session: its handshake was refused, or its ref map was, or what is mapped was fetched
   pub data Runs (new : Reading) (mapped : Option RefMap) (ended : Result Bool PlanRefusal) : Type 0 where
-    ungreeted : (e : HandshakeError) → GreetsWithoutAccount plain old new (Err e) → mapped ≡ None → ended ≡ Err (refusal (codes "handshake") (handshake_name e)) → Runs new mapped ended
-    unmapped : (h : Handshake) (mid : Reading) (e : MapError) → GreetsWithoutAccount plain old mid (Ok h) → MapsRefs context h plain mid new (Err e) → mapped ≡ None
+    ungreeted : (e : HandshakeError) → GreetsWithoutAccount plain old new (Err e) → mapped ≡ None
+        → ended ≡ Err (refusal (codes "handshake") (handshake_name e)) → Runs new mapped ended
+    unmapped : (h : Handshake) (mid : Reading) (e : MapError) → GreetsWithoutAccount plain old mid (Ok h)
+        → MapsRefs context h plain mid new (Err e) → mapped ≡ None
         → ended ≡ Err (refusal (codes "refs") (map_name e)) → Runs new mapped ended
-    fetched : (h : Handshake) (mid behind : Reading) (m : RefMap) (r : Result (Option Outcome) (FetchError A X)) → GreetsWithoutAccount plain old mid (Ok h) → MapsRefs context h plain mid behind (Ok m)
+    fetched : (h : Handshake) (mid behind : Reading) (m : RefMap) (r : Result (Option Outcome) (FetchError A X))
+        → GreetsWithoutAccount plain old mid (Ok h) → MapsRefs context h plain mid behind (Ok m)
         → Receives m (without_refs h) behind new r → mapped ≡ Some m → ended ≡ end_of r → Runs new mapped ended

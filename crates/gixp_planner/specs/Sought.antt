@@ -1,4 +1,5 @@
--- What a ref map over recorded bodies is made of, as a function of what the server said, the refspecs and the answer to its list: the requests for it, and the refs or the name by which it is refused (gitprotocol-v2, "ls-refs"; git-fetch, "<refspec>").
+-- What a ref map over recorded bodies is made of, as a function of what the server said, the refspecs and the answer to its list: the
+-- requests for it, and the refs or the name by which it is refused (gitprotocol-v2, "ls-refs"; git-fetch, "<refspec>").
 use Rattle.std.specs.Prelude.{ℕ, ◌≡◌, ◌⊎◌, Bool, true, false, List, [], ◌∷◌, map, codes, Option, Some, None, Result, Ok, Err}
 use Rattle.gixp_packetline.specs.declared.protocol.Protocol.{Protocol}
 use Rattle.gixp_packetline.specs.Pieces.{Pieces}
@@ -113,8 +114,10 @@ pub record Plans (bodies : List Body) (words : List (List ℕ)) (sent : List (Li
   pub specs : List Spec
   pub discovered : discovery [] (first_pieces bodies) ≡ Ok said
   pub read : specs_of words ≡ Ok specs
-  pub ends : IsSought (map_refusal said.capabilities specs (sought said specs (second_pieces bodies)).refs) (sought said specs (second_pieces bodies)).requests sent r
+  pub ends : IsSought (map_refusal said.capabilities specs (sought said specs (second_pieces bodies)).refs)
+      (sought said specs (second_pieces bodies)).requests sent r
 
 -- whether there is a ref map, why not, and what is sent for it follow from the bodies and the refspecs, but for memory
 abbrev pub RefMapsFollow : Type 0
-RefMapsFollow = (bodies : List Body) (words : List (List ℕ)) (sent : List (List ℕ)) (r : Result RefMap MapError) → MapsOver bodies words sent r → Plans bodies words sent r
+RefMapsFollow = (bodies : List Body) (words : List (List ℕ)) (sent : List (List ℕ)) (r : Result RefMap MapError)
+    → MapsOver bodies words sent r → Plans bodies words sent r

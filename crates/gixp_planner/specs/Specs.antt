@@ -20,7 +20,8 @@ specs_of (text ∷ texts) = with_spec (spec_of text) (specs_of texts)
 
 -- a refusal of the texts, or an allocation failure
 abbrev pub RefusesSpecs : List (List ℕ) → PlanError → Type 0
-RefusesSpecs texts e = ((error : SpecError) × (specs_of texts ≡ Err error) × (refusal_of e ≡ refusal (codes "spec") (spec_name error))) ⊎ IsPlanMemory (codes "spec") e
+RefusesSpecs texts e = ((error : SpecError) × (specs_of texts ≡ Err error) × (refusal_of e ≡ refusal (codes "spec") (spec_name error)))
+    ⊎ IsPlanMemory (codes "spec") e
 
 -- the refspecs of the texts, and no others
 pub record IsContext (texts : List (List ℕ)) (context : Context) : Type 0 where
@@ -34,4 +35,5 @@ ReadsSpecs texts (Err e) = RefusesSpecs texts e
 -- the same of one text
 abbrev pub ReadsSpec : List ℕ → Result RefSpec PlanError → Type 0
 ReadsSpec text (Ok s) = spec_of text ≡ Ok (owned_value_of s)
-ReadsSpec text (Err e) = ((error : SpecError) × (spec_of text ≡ Err error) × (refusal_of e ≡ refusal (codes "spec") (spec_name error))) ⊎ IsPlanMemory (codes "spec") e
+ReadsSpec text (Err e) = ((error : SpecError) × (spec_of text ≡ Err error) × (refusal_of e ≡ refusal (codes "spec") (spec_name error)))
+    ⊎ IsPlanMemory (codes "spec") e

@@ -55,7 +55,8 @@ name_shown None = codes "-"
 -- a mapping: what is taken, its name, and the local name
 abbrev pub mapping_shown : Mapping → List ℕ
 mapping_shown m =
-    joined (codes "map " ∷ id_shown (source_id m.remote) ∷ codes " " ∷ name_shown (source_name m.remote) ∷ codes " " ∷ name_shown (option_map bstring_bytes m.local) ∷ codes "\n" ∷ [])
+    joined (codes "map " ∷ id_shown (source_id m.remote) ∷ codes " " ∷ name_shown (source_name m.remote) ∷ codes " "
+    ∷ name_shown (option_map bstring_bytes m.local) ∷ codes "\n" ∷ [])
 
 abbrev pub removed_shown : Removed → List ℕ
 removed_shown r = joined (codes "fix " ∷ name_shown r.name ∷ codes " " ∷ r.spec ∷ codes "\n" ∷ [])

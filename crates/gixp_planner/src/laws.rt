@@ -48,8 +48,12 @@ pub fn texts_follow_bodies<'a, O: Objects + 'a, G: Objects + 'a>()
         → O.contents objects ≡ O.contents others → graph.graph.objects ≡ another.graph.objects
         → Follow
         (parties_of ⟦<Negotiation<'a, O, NoRefs, HaveList, G, AllocError> as Negotiate>⟧.calls ⟦<ShallowMemory as ShallowStore>⟧.calls ⟦<NeverInterrupt as Interrupt>⟧.says ⟦<ReadToEnd as ConsumePack<Discard>>⟧.consumes true)
-        (λ m n. (n.context.objects.now ≡ objects) × (n.context.graph.now ≡ graph) × (n.context.negotiator.now ≡ haves) × (n.ref_map.now ≡ m) × (n.shallow.now ≡ Shallow.NoChange) × (n.tags ≡ Tags.None) × IfOk n.context.alternates (λ a. a.now ≡ []) × IsOk n.context.alternates)
-        (λ m n. (n.context.objects.now ≡ others) × (n.context.graph.now ≡ another) × (n.context.negotiator.now ≡ haves) × (n.ref_map.now ≡ m) × (n.shallow.now ≡ Shallow.NoChange) × (n.tags ≡ Tags.None) × IfOk n.context.alternates (λ a. a.now ≡ []) × IsOk n.context.alternates)
+        (λ m n. (n.context.objects.now ≡ objects) × (n.context.graph.now ≡ graph) × (n.context.negotiator.now ≡ haves)
+        × (n.ref_map.now ≡ m) × (n.shallow.now ≡ Shallow.NoChange) × (n.tags ≡ Tags.None)
+        × IfOk n.context.alternates (λ a. a.now ≡ []) × IsOk n.context.alternates)
+        (λ m n. (n.context.objects.now ≡ others) × (n.context.graph.now ≡ another) × (n.context.negotiator.now ≡ haves)
+        × (n.ref_map.now ≡ m) × (n.shallow.now ≡ Shallow.NoChange) × (n.tags ≡ Tags.None)
+        × IfOk n.context.alternates (λ a. a.now ≡ []) × IsOk n.context.alternates)
         (λ s. (s.ids.items ≡ []) × (s.locked ≡ false))
         bodies specs }
 {}
@@ -66,8 +70,12 @@ pub fn courses_follow_bodies<'a, O: Objects + 'a, G: Objects + 'a>()
         → O.contents objects ≡ O.contents others → graph.graph.objects ≡ another.graph.objects
         → CoursesFollow
         (parties_of ⟦<Negotiation<'a, O, NoRefs, HaveList, G, AllocError> as Negotiate>⟧.calls ⟦<ShallowMemory as ShallowStore>⟧.calls ⟦<NeverInterrupt as Interrupt>⟧.says ⟦<ReadToEnd as ConsumePack<Discard>>⟧.consumes true)
-        (λ m n. (n.context.objects.now ≡ objects) × (n.context.graph.now ≡ graph) × (n.context.negotiator.now ≡ haves) × (n.ref_map.now ≡ m) × (n.shallow.now ≡ Shallow.NoChange) × (n.tags ≡ Tags.None) × IfOk n.context.alternates (λ a. a.now ≡ []) × IsOk n.context.alternates)
-        (λ m n. (n.context.objects.now ≡ others) × (n.context.graph.now ≡ another) × (n.context.negotiator.now ≡ haves) × (n.ref_map.now ≡ m) × (n.shallow.now ≡ Shallow.NoChange) × (n.tags ≡ Tags.None) × IfOk n.context.alternates (λ a. a.now ≡ []) × IsOk n.context.alternates)
+        (λ m n. (n.context.objects.now ≡ objects) × (n.context.graph.now ≡ graph) × (n.context.negotiator.now ≡ haves)
+        × (n.ref_map.now ≡ m) × (n.shallow.now ≡ Shallow.NoChange) × (n.tags ≡ Tags.None)
+        × IfOk n.context.alternates (λ a. a.now ≡ []) × IsOk n.context.alternates)
+        (λ m n. (n.context.objects.now ≡ others) × (n.context.graph.now ≡ another) × (n.context.negotiator.now ≡ haves)
+        × (n.ref_map.now ≡ m) × (n.shallow.now ≡ Shallow.NoChange) × (n.tags ≡ Tags.None)
+        × IfOk n.context.alternates (λ a. a.now ≡ []) × IsOk n.context.alternates)
         (λ s. (s.ids.items ≡ []) × (s.locked ≡ false))
         bodies specs }
 {}

@@ -256,7 +256,8 @@ pub(crate) fn write_course<W: Write>(
     mapped: &Option<RefMap>,
     ended: &Result<bool, PlanError>,
 ) -> Result<(), PlanError>
-    ensures { WritesPlan (W.contents writer.old) (W.contents writer.new) (course_shown (course_of requests.now mapped.now ended.now)) result }
+    ensures { WritesPlan (W.contents writer.old) (W.contents writer.new)
+        (course_shown (course_of requests.now mapped.now ended.now)) result }
 {
     match course_text(alloc, requests, mapped, ended) {
         Ok(text) => write_whole(writer, &text),

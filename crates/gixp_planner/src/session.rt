@@ -134,7 +134,9 @@ fn fetch_mapped<'a, O: Objects, G: Objects, N: Negotiator, T: Transport>(
 ) -> Result<Option<Outcome>, fetch::Error<AllocError, CopyError>>
     ensures { FetchesMapped
         (parties_of ⟦<Negotiation<'a, O, NoRefs, N, G, AllocError> as Negotiate>⟧.calls ⟦<ShallowMemory as ShallowStore>⟧.calls ⟦<NeverInterrupt as Interrupt>⟧.says ⟦<ReadToEnd as ConsumePack<Discard>>⟧.consumes T.is_plain)
-        (λ n. (n.context.objects.now ≡ objects.now) × (n.context.graph.now ≡ graph.old) × (n.context.negotiator.now ≡ negotiator.old) × (n.ref_map.now ≡ map.now) × (n.shallow.now ≡ Shallow.NoChange) × (n.tags ≡ Tags.None) × IfOk n.context.alternates (λ a. a.now ≡ []) × IsOk n.context.alternates)
+        (λ n. (n.context.objects.now ≡ objects.now) × (n.context.graph.now ≡ graph.old) × (n.context.negotiator.now ≡ negotiator.old)
+        × (n.ref_map.now ≡ map.now) × (n.shallow.now ≡ Shallow.NoChange) × (n.tags ≡ Tags.None)
+        × IfOk n.context.alternates (λ a. a.now ≡ []) × IsOk n.context.alternates)
         (λ s. (s.ids.items ≡ []) × (s.locked ≡ false)) handshake.old (T.reading transport.old) (T.reading transport.new) result }
 {
     let agent = agent_feature(alloc)?;
@@ -203,7 +205,9 @@ pub(crate) fn run<'a, O: Objects, G: Objects, N: Negotiator, T: Transport>(
     ensures { Runs
         (λ m h old new r. FetchesMapped
         (parties_of ⟦<Negotiation<'a, O, NoRefs, N, G, AllocError> as Negotiate>⟧.calls ⟦<ShallowMemory as ShallowStore>⟧.calls ⟦<NeverInterrupt as Interrupt>⟧.says ⟦<ReadToEnd as ConsumePack<Discard>>⟧.consumes T.is_plain)
-        (λ n. (n.context.objects.now ≡ objects.now) × (n.context.graph.now ≡ graph.old) × (n.context.negotiator.now ≡ negotiator.old) × (n.ref_map.now ≡ m) × (n.shallow.now ≡ Shallow.NoChange) × (n.tags ≡ Tags.None) × IfOk n.context.alternates (λ a. a.now ≡ []) × IsOk n.context.alternates)
+        (λ n. (n.context.objects.now ≡ objects.now) × (n.context.graph.now ≡ graph.old) × (n.context.negotiator.now ≡ negotiator.old)
+        × (n.ref_map.now ≡ m) × (n.shallow.now ≡ Shallow.NoChange) × (n.tags ≡ Tags.None)
+        × IfOk n.context.alternates (λ a. a.now ≡ []) × IsOk n.context.alternates)
         (λ s. (s.ids.items ≡ []) × (s.locked ≡ false)) h old new r)
         context T.is_plain (T.reading transport.old) (T.reading transport.new) result.mapped (ended_of result.ended) }
 {

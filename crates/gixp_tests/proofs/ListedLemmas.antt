@@ -14,12 +14,14 @@ use Rattle.gixp_tests.specs.Listed.{object_of, objects_of, listed_at}
 use Rattle.gixp_graph.specs.GraphLaws.{ids_total}
 
 -- what is found among the objects is found in the list
-find_map : (es : List (ObjectId × CommitData)) (q : ObjectId) → find id_cmp q (map (λ (e : ObjectId × CommitData). (e.0, object_of e.1)) es) ≡ option_map object_of (listed_at es q)
+find_map : (es : List (ObjectId × CommitData)) (q : ObjectId)
+    → find id_cmp q (map (λ (e : ObjectId × CommitData). (e.0, object_of e.1)) es) ≡ option_map object_of (listed_at es q)
 find_map [] q = refl
 find_map (e ∷ es) q = at (eq_by_cmp id_cmp q e.0) (find_map es q)
   where
     at : (b : Bool) → find id_cmp q (map (λ (e : ObjectId × CommitData). (e.0, object_of e.1)) es) ≡ option_map object_of (listed_at es q)
-        → cond b (Some (object_of e.1)) (find id_cmp q (map (λ (e : ObjectId × CommitData). (e.0, object_of e.1)) es)) ≡ option_map object_of (cond b (Some e.1) (listed_at es q))
+        → cond b (Some (object_of e.1)) (find id_cmp q (map (λ (e : ObjectId × CommitData). (e.0, object_of e.1)) es))
+        ≡ option_map object_of (cond b (Some e.1) (listed_at es q))
     at true r = refl
     at false r = r
 
@@ -42,7 +44,8 @@ kind_here None = refl
 kind_here (Some c) = refl
 
 -- its kind is that of a commit
-pub kind_listed : (es : List (ObjectId × CommitData)) (q : ObjectId) → kind_at (objects_of es) q ≡ option_map (λ _. IsCommit) (listed_at es q)
+pub kind_listed : (es : List (ObjectId × CommitData)) (q : ObjectId)
+    → kind_at (objects_of es) q ≡ option_map (λ _. IsCommit) (listed_at es q)
 kind_listed es q = ap (option_and_then (λ (x : Object). x.kind)) (get_listed es q) ∙ kind_here (listed_at es q)
 
 -- and that it is there
@@ -63,7 +66,8 @@ some_listed es q = ap is_some (commit_listed es q) ∙ at (listed_at es q)
     at (Some c) = refl
 
 -- then its id is among those listed
-pub any_listed : (es : List (ObjectId × CommitData)) (q : ObjectId) → is_some (listed_at es q) ≡ list_any (eq_by_cmp id_cmp q) (map (λ (e : ObjectId × CommitData). e.0) es)
+pub any_listed : (es : List (ObjectId × CommitData)) (q : ObjectId)
+    → is_some (listed_at es q) ≡ list_any (eq_by_cmp id_cmp q) (map (λ (e : ObjectId × CommitData). e.0) es)
 any_listed [] q = refl
 any_listed (e ∷ es) q = at (eq_by_cmp id_cmp q e.0) (any_listed es q)
   where

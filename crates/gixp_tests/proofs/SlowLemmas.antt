@@ -20,18 +20,26 @@ use Rattle.gixp_graph.specs.CountLaws.{count_lt}
 use Rattle.gixp_graph.specs.GraphLaws.{ids_total, same_from}
 
 -- where no commit is missing, all that is complete is known
-pub closed_complete : (read : ObjectId → Option Commit) (tips : List ObjectId) (cutoff : Option ℤ) (known : List ObjectId) → IsClosed read tips cutoff known → (id : ObjectId) → IsComplete read tips cutoff id → Contains known id
-closed_complete read tips cutoff known k id (IsComplete.tip i f) = All-contains (λ p. IsSome (read p) → Contains known p) tips id k.tips_known i f
+pub closed_complete : (read : ObjectId → Option Commit) (tips : List ObjectId) (cutoff : Option ℤ) (known : List ObjectId)
+    → IsClosed read tips cutoff known → (id : ObjectId) → IsComplete read tips cutoff id → Contains known id
+closed_complete read tips cutoff known k id (IsComplete.tip i f) =
+    All-contains (λ p. IsSome (read p) → Contains known p) tips id k.tips_known i f
 closed_complete read tips cutoff known k q (IsComplete.parent {id} {p} {c} {least} d r l t i f) =
-    All-contains (λ x. IsSome (read x) → Contains known x) c.parents p (All-contains (λ q. (c : Commit) → read q ≡ Some c → least ≤ℤ c.time → AreKnown read known c.parents) known id (k.parents_known least l) (closed_complete read tips cutoff known k id d) c r t) i f
+    All-contains (λ x. IsSome (read x) → Contains known x) c.parents p
+    (All-contains (λ q. (c : Commit) → read q ≡ Some c → least ≤ℤ c.time → AreKnown read known c.parents) known id
+    (k.parents_known least l) (closed_complete read tips cutoff known k id d) c r t) i f
 
 -- a parent of a known commit from the cutoff on
-pub missing_parent : (read : ObjectId → Option Commit) (tips : List ObjectId) (least : ℤ) (known : List ObjectId) (id p : ObjectId) (c : Commit) → Contains known id → read id ≡ Some c → least ≤ℤ c.time → Contains c.parents p → IsSome (read p) → ¬ (Contains known p)
+pub missing_parent : (read : ObjectId → Option Commit) (tips : List ObjectId) (least : ℤ) (known : List ObjectId) (id p : ObjectId)
+    (c : Commit) → Contains known id → read id ≡ Some c → least ≤ℤ c.time → Contains c.parents p → IsSome (read p)
+    → ¬ (Contains known p)
     → IsMissingCommit read tips (Some least) known p
-missing_parent read tips least known id p c i r t j f n = (f, n, λ all. IsComplete.parent (All-contains (IsComplete read tips (Some least)) known id all i) r refl t j f)
+missing_parent read tips least known id p c i r t j f n =
+    (f, n, λ all. IsComplete.parent (All-contains (IsComplete read tips (Some least)) known id all i) r refl t j f)
 
 -- a tip
-pub missing_tip : (read : ObjectId → Option Commit) (tips : List ObjectId) (cutoff : Option ℤ) (known : List ObjectId) (id : ObjectId) → Contains tips id → IsSome (read id) → ¬ (Contains known id) → IsMissingCommit read tips cutoff known id
+pub missing_tip : (read : ObjectId → Option Commit) (tips : List ObjectId) (cutoff : Option ℤ) (known : List ObjectId) (id : ObjectId)
+    → Contains tips id → IsSome (read id) → ¬ (Contains known id) → IsMissingCommit read tips cutoff known id
 missing_tip read tips cutoff known id i f n = (f, n, λ _. IsComplete.tip i f)
 
 -- ---- how many are left
@@ -75,8 +83,10 @@ fewer_left ids x q h = at (holds ids q) refl
     at false e = ap not e
 
 -- one that is added is one less to add
-pub added_less : (all known : List ObjectId) (id : ObjectId) → holds all id ≡ true → ¬ (Contains known id) → count (λ q. not (holds (known ++ id ∷ []) q)) all + 1 ≤ count (λ q. not (holds known q)) all
-added_less all known id here n = count_lt (λ q. not (holds known q)) (λ q. not (holds (known ++ id ∷ []) q)) (fewer_left known id) id (ap not (not_held known id n)) (ap not (any_last known id)) all here
+pub added_less : (all known : List ObjectId) (id : ObjectId) → holds all id ≡ true → ¬ (Contains known id)
+    → count (λ q. not (holds (known ++ id ∷ []) q)) all + 1 ≤ count (λ q. not (holds known q)) all
+added_less all known id here n = count_lt (λ q. not (holds known q)) (λ q. not (holds (known ++ id ∷ []) q)) (fewer_left known id) id
+    (ap not (not_held known id n)) (ap not (any_last known id)) all here
 
 -- ---- tests
 
@@ -96,14 +106,16 @@ if_none None P Q f p = f p
 if_none (Some x) P Q f p = tt
 
 -- a commit whose time is before the cutoff
-pub none_before : (read : ObjectId → Option Commit) (least : ℤ) (known : List ObjectId) (id : ObjectId) (c : Commit) → read id ≡ Some c → c.time <ℤ least → ParentsAreKnown read least known id
+pub none_before : (read : ObjectId → Option Commit) (least : ℤ) (known : List ObjectId) (id : ObjectId) (c : Commit) → read id ≡ Some c
+    → c.time <ℤ least → ParentsAreKnown read least known id
 none_before read least known id c r b d e t =
     let same : c ≡ d = (let s : Some c ≡ Some d = sym r ∙ e in cc) in
     let u : least ≤ℤ c.time = subst (λ (x : Commit). least ≤ℤ x.time) (sym same) t in
     absurd (omega (arith, ints))
 
 -- one whose parents are known
-pub parents_known : (read : ObjectId → Option Commit) (least : ℤ) (known : List ObjectId) (id : ObjectId) (c : Commit) → read id ≡ Some c → AreKnown read known c.parents → ParentsAreKnown read least known id
+pub parents_known : (read : ObjectId → Option Commit) (least : ℤ) (known : List ObjectId) (id : ObjectId) (c : Commit)
+    → read id ≡ Some c → AreKnown read known c.parents → ParentsAreKnown read least known id
 parents_known read least known id c r k d e t =
     let same : c ≡ d = (let s : Some c ≡ Some d = sym r ∙ e in cc) in
     subst (λ (x : Commit). AreKnown read known x.parents) same k

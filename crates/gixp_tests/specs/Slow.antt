@@ -10,7 +10,8 @@ AreKnown read known ids = All (λ id. IsSome (read id) → Contains known id) id
 
 -- a commit that is found, isn't known, and is complete if the known ones are
 abbrev pub IsMissingCommit : (ObjectId → Option Commit) → List ObjectId → Option ℤ → List ObjectId → ObjectId → Type 0
-IsMissingCommit read tips cutoff known id = IsSome (read id) × ¬ (Contains known id) × (All (IsComplete read tips cutoff) known → IsComplete read tips cutoff id)
+IsMissingCommit read tips cutoff known id = IsSome (read id) × ¬ (Contains known id)
+    × (All (IsComplete read tips cutoff) known → IsComplete read tips cutoff id)
 
 -- the parents of a commit from the cutoff on are known, those that are found
 abbrev pub ParentsAreKnown : (ObjectId → Option Commit) → ℤ → List ObjectId → ObjectId → Type 0

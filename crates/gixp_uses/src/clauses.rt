@@ -29,7 +29,8 @@ pub fn marked_complete<O: Objects>(
     tips: &[ObjectId],
     cutoff: i64,
 ) -> Result<(), ObjectError>
-    ensures { OnOk result ((id : ObjectId) → IsComplete (commit_at graph.old.graph.objects) tips.now (Some cutoff) id → IsSome (finite.get graph.new.graph.held id)) }
+    ensures { OnOk result ((id : ObjectId) → IsComplete (commit_at graph.old.graph.objects) tips.now (Some cutoff) id
+        → IsSome (finite.get graph.new.graph.held id)) }
 {
     graph.mark_complete(tips, Some(cutoff))
 }

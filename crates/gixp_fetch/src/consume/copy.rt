@@ -70,7 +70,8 @@ impl<W: Write> CopyPack<W> {
         &mut self,
         reader: &mut WithSidebands<'_, T, Q, I>,
     ) -> Result<(), CopyError>
-        ensures { Copies (W.contents self.old.writer) (side T.reading reader.old) result (W.contents self.new.writer) (side T.reading reader.new) }
+        ensures { Copies (W.contents self.old.writer) (side T.reading reader.old) result (W.contents self.new.writer)
+            (side T.reading reader.new) }
     {
         'pieces: loop {
             match reader.fill() {

@@ -33,7 +33,8 @@ fn unknown(
     known: &[ObjectId],
     ids: &[ObjectId],
 ) -> Option<ObjectId>
-    ensures some { IfSome result (λ id. Contains ids.now id × IsSome (commit_at (objects_of commits.now.entries) id) × ¬ (Contains known.now id)) }
+    ensures some { IfSome result (λ id. Contains ids.now id × IsSome (commit_at (objects_of commits.now.entries) id)
+        × ¬ (Contains known.now id)) }
     ensures none { IfNone result (AreKnown (commit_at (objects_of commits.now.entries)) known.now ids.now) }
 {
     for id in ids {
@@ -51,7 +52,8 @@ fn unknown_parent_of(
     cutoff: i64,
     id: &ObjectId,
 ) -> Option<ObjectId>
-    ensures some { IfSome result (λ p. Contains known.now id.now → (tips : List ObjectId) → IsMissingCommit (commit_at (objects_of commits.now.entries)) tips (Some cutoff) known.now p) }
+    ensures some { IfSome result (λ p. Contains known.now id.now → (tips : List ObjectId)
+        → IsMissingCommit (commit_at (objects_of commits.now.entries)) tips (Some cutoff) known.now p) }
     ensures none { IfNone result (ParentsAreKnown (commit_at (objects_of commits.now.entries)) cutoff known.now id.now) }
 {
     match commits.get(id) {
@@ -72,7 +74,8 @@ fn unknown_parent(
     known: &[ObjectId],
     cutoff: i64,
 ) -> Option<ObjectId>
-    ensures some { IfSome result (λ p. (tips : List ObjectId) → IsMissingCommit (commit_at (objects_of commits.now.entries)) tips (Some cutoff) known.now p) }
+    ensures some { IfSome result (λ p. (tips : List ObjectId)
+        → IsMissingCommit (commit_at (objects_of commits.now.entries)) tips (Some cutoff) known.now p) }
     ensures none { IfNone result (All (ParentsAreKnown (commit_at (objects_of commits.now.entries)) cutoff known.now) known.now) }
 {
     for id in known {
@@ -109,7 +112,8 @@ pub(crate) fn complete(
     tips: &[ObjectId],
     cutoff: Option<i64>,
 ) -> Result<Vec<ObjectId>, AllocError>
-    ensures { IfOk result (λ ids. (id : ObjectId) → Contains ids.items id ↔ IsComplete (commit_at (objects_of commits.now.entries)) tips.now cutoff id) }
+    ensures { IfOk result (λ ids. (id : ObjectId) → Contains ids.items id
+        ↔ IsComplete (commit_at (objects_of commits.now.entries)) tips.now cutoff id) }
 {
     let mut known = Vec::new(alloc);
     while let Some(id) = missing(commits, known.as_slice(), tips, cutoff) {

@@ -16,5 +16,7 @@ returns g c = record {
   refused_refs = refs_refused;
   refused_advertisements = advertisements_refused;
   maps = maps_are_of_all;
-  run = λ plain call context start made old result new progress run. promised _ _ _ g.met.N.NegotiatesMap.follows g.met.N.PaysForHaves.lawful g.met.N.PaysForHaves.wide call context start made old result new progress run;
+  run = λ plain call context start made old result new progress run.
+      promised _ _ _ g.met.N.NegotiatesMap.follows g.met.N.PaysForHaves.lawful g.met.N.PaysForHaves.wide call context start made old
+      result new progress run;
 }

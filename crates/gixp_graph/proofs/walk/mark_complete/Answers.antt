@@ -19,22 +19,26 @@ use Rattle.gixp_graph.proofs.walk.mark_complete.Goals as goal
 pub returns-in_err-visit_each-clause-only_marks : goal.returns-in_err-visit_each-clause-only_marks
 returns-in_err-visit_each-clause-only_marks g c =
     let start : GraphData = graph_of (g.O.Objects.contents c.args.objects.now) c.args.commits.now.held in
-    (tips_marking start c.args.ids.now c.args.cutoff _ refl _ (ap (ids_at c.numbers.new.self.ids) c.as_slice.ensures.value ∙ c.in-Ok.ensures.named.1) c.numbers.new.self.held _ c.numbers.ensures.held c.visit_each.ensures.some).only_marks
+    (tips_marking start c.args.ids.now c.args.cutoff _ refl _ (ap (ids_at c.numbers.new.self.ids) c.as_slice.ensures.value
+    ∙ c.in-Ok.ensures.named.1) c.numbers.new.self.held _ c.numbers.ensures.held c.visit_each.ensures.some).only_marks
 
 pub returns-in_err-visit_each-clause-sound : goal.returns-in_err-visit_each-clause-sound
 returns-in_err-visit_each-clause-sound g c =
     let start : GraphData = graph_of (g.O.Objects.contents c.args.objects.now) c.args.commits.now.held in
-    (tips_marking start c.args.ids.now c.args.cutoff _ refl _ (ap (ids_at c.numbers.new.self.ids) c.as_slice.ensures.value ∙ c.in-Ok.ensures.named.1) c.numbers.new.self.held _ c.numbers.ensures.held c.visit_each.ensures.some).sound
+    (tips_marking start c.args.ids.now c.args.cutoff _ refl _ (ap (ids_at c.numbers.new.self.ids) c.as_slice.ensures.value
+    ∙ c.in-Ok.ensures.named.1) c.numbers.new.self.held _ c.numbers.ensures.held c.visit_each.ensures.some).sound
 
 pub returns-in_default-cutoff-clause-only_marks : goal.returns-in_default-cutoff-clause-only_marks
 returns-in_default-cutoff-clause-only_marks g c =
     let start : GraphData = graph_of (g.O.Objects.contents c.args.objects.now) c.args.commits.now.held in
-    (tips_marking start c.args.ids.now c.args.cutoff _ refl _ (ap (ids_at c.numbers.new.self.ids) c.as_slice.ensures.value ∙ c.in-Ok.ensures.named.1) c.numbers.new.self.held _ c.numbers.ensures.held c.visit_each.ensures.some).only_marks
+    (tips_marking start c.args.ids.now c.args.cutoff _ refl _ (ap (ids_at c.numbers.new.self.ids) c.as_slice.ensures.value
+    ∙ c.in-Ok.ensures.named.1) c.numbers.new.self.held _ c.numbers.ensures.held c.visit_each.ensures.some).only_marks
 
 pub returns-in_default-cutoff-clause-sound : goal.returns-in_default-cutoff-clause-sound
 returns-in_default-cutoff-clause-sound g c =
     let start : GraphData = graph_of (g.O.Objects.contents c.args.objects.now) c.args.commits.now.held in
-    (tips_marking start c.args.ids.now c.args.cutoff _ refl _ (ap (ids_at c.numbers.new.self.ids) c.as_slice.ensures.value ∙ c.in-Ok.ensures.named.1) c.numbers.new.self.held _ c.numbers.ensures.held c.visit_each.ensures.some).sound
+    (tips_marking start c.args.ids.now c.args.cutoff _ refl _ (ap (ids_at c.numbers.new.self.ids) c.as_slice.ensures.value
+    ∙ c.in-Ok.ensures.named.1) c.numbers.new.self.held _ c.numbers.ensures.held c.visit_each.ensures.some).sound
 
 pub returns-in_default-cutoff-clause-complete : goal.returns-in_default-cutoff-clause-complete
 returns-in_default-cutoff-clause-complete g c =
@@ -42,7 +46,8 @@ returns-in_default-cutoff-clause-complete g c =
     let are = ap (ids_at c.numbers.new.self.ids) c.as_slice.ensures.value ∙ c.in-Ok.ensures.named.1 in
     let new : Walk = walk_of c.visit_each.new.commits c.visit_each.new.visited c.visit_each.new.queue in
     complete_marked start c.args.ids.now c.args.cutoff new.held new.visited new.waiting
-    (tips_walk start c.args.ids.now c.args.cutoff _ refl _ are c.numbers.new.self _ _ new c.numbers.ensures.held c.new-visited.ensures c.new-queue.ensures c.in_ok-visit_each.ensures.each)
+    (tips_walk start c.args.ids.now c.args.cutoff _ refl _ are c.numbers.new.self _ _ new c.numbers.ensures.held c.new-visited.ensures
+    c.new-queue.ensures c.in_ok-visit_each.ensures.each)
     (expanded_never start c.args.cutoff new.visited new.waiting c.in_default-cutoff.is)
     (subst (AllVisited new.visited) are c.in_ok-visit_each.ensures.each.visited)
 
@@ -59,8 +64,12 @@ loop-time-init g c =
       cut = c.in-Some.is ∙ ap (λ (z : ℤ). Some z) (sym (to_z-of_z w64 c.in-Some.cutoff fits));
       visited_named = c.in_ok-visit_each.ensures.visited_named;
       queue_named = c.in_ok-visit_each.ensures.queue_named;
-      walk = tips_walk start c.args.ids.now c.args.cutoff _ refl _ are c.numbers.new.self _ _ new c.numbers.ensures.held c.new-visited.ensures c.new-queue.ensures c.in_ok-visit_each.ensures.each;
-      asked = tips_asked start c.args.ids.now c.args.cutoff _ refl _ are c.numbers.new.self c.new-visited.result new c.numbers.ensures.held _ _ c.in_ok-visit_each.ensures.asked;
+      walk =
+          tips_walk start c.args.ids.now c.args.cutoff _ refl _ are c.numbers.new.self _ _ new c.numbers.ensures.held
+          c.new-visited.ensures c.new-queue.ensures c.in_ok-visit_each.ensures.each;
+      asked =
+          tips_asked start c.args.ids.now c.args.cutoff _ refl _ are c.numbers.new.self c.new-visited.result new c.numbers.ensures.held
+          _ _ c.in_ok-visit_each.ensures.asked;
       tips = subst (AllVisited new.visited) are c.in_ok-visit_each.ensures.each.visited;
     }
 
@@ -75,20 +84,23 @@ returns-then-time-cutoff-clause-complete g c =
     let before : t <ℤ to_z w64 (of_z w64 c.in-Some.cutoff) = grind (arith, ints, c.if-time-cutoff.true) in
     complete_marked start c.args.ids.now c.args.cutoff at.held at.visited at.waiting v.walk
     (expanded_older start c.args.ids.now c.args.cutoff at.held at.visited t _ v.cut before at.waiting
-    (older_waiting c.loop-time.commits.ids t c.loop-time.queue (older_all t c.in-Some-pop_newest.newest.items c.loop-time.queue c.pop_newest.new.self p.taken p.newest)) v.walk.queued)
+    (older_waiting c.loop-time.commits.ids t c.loop-time.queue
+    (older_all t c.in-Some-pop_newest.newest.items c.loop-time.queue c.pop_newest.new.self p.taken p.newest)) v.walk.queued)
     v.tips
 
 pub parent_numbers-requires : goal.parent_numbers-requires
 parent_numbers-requires g c =
     let v = c.loop-time.invariant in
     subst (AllNamed c.loop-time.commits.ids) (sym c.as_slice-in-Some-pop_newest.ensures.value)
-    (named_taken c.loop-time.commits.ids c.in-Some-pop_newest.time c.in-Some-pop_newest.newest.items c.loop-time.queue c.pop_newest.new.self c.in-Some-pop_newest.ensures.taken v.queue_named)
+    (named_taken c.loop-time.commits.ids c.in-Some-pop_newest.time c.in-Some-pop_newest.newest.items c.loop-time.queue
+    c.pop_newest.new.self c.in-Some-pop_newest.ensures.taken v.queue_named)
 
 pub visit_each-requires-in-Some-pop_newest-clause-queue_named :
     goal.visit_each-requires-in-Some-pop_newest-clause-queue_named
 visit_each-requires-in-Some-pop_newest-clause-queue_named g c =
     let v = c.loop-time.invariant in
-    named_rest c.loop-time.commits.ids c.in-Some-pop_newest.time c.in-Some-pop_newest.newest.items c.loop-time.queue c.pop_newest.new.self c.in-Some-pop_newest.ensures.taken v.queue_named
+    named_rest c.loop-time.commits.ids c.in-Some-pop_newest.time c.in-Some-pop_newest.newest.items c.loop-time.queue
+    c.pop_newest.new.self c.in-Some-pop_newest.ensures.taken v.queue_named
 
 pub returns-in_err-visit_each-2-clause-only_marks :
     goal.returns-in_err-visit_each-2-clause-only_marks
@@ -102,10 +114,13 @@ returns-in_err-visit_each-2-clause-only_marks g c =
     let fits : SFits w64 t = search rules in
     let late : to_z w64 (of_z w64 c.in-Some.cutoff) ≤ℤ t = grind (arith, ints, c.if-time-cutoff.false) in
     let are : ids_at ids c.as_slice-in-Some-pop_newest-2.result.now ≡ flat_map (parents_in held) (ids_at ids newest) =
-    ap (ids_at ids) c.as_slice-in-Some-pop_newest-2.ensures.value ∙ c.in-Ok-parent_numbers.ensures.parents ∙ ap (λ ns. flat_map (parents_in held) (ids_at ids ns)) c.as_slice-in-Some-pop_newest.ensures.value in
+    ap (ids_at ids) c.as_slice-in-Some-pop_newest-2.ensures.value ∙ c.in-Ok-parent_numbers.ensures.parents
+    ∙ ap (λ ns. flat_map (parents_in held) (ids_at ids ns)) c.as_slice-in-Some-pop_newest.ensures.value in
     let due : AreDue start c.args.ids.now c.args.cutoff (ids_at ids c.as_slice-in-Some-pop_newest-2.result.now) =
     subst (AreDue start c.args.ids.now c.args.cutoff) (sym are)
-    (newest_due start c.args.ids.now c.args.cutoff held (is_visited ids c.loop-time.visited) ids t newest c.loop-time.queue c.pop_newest.new.self c.in-Some-pop_newest.ensures.taken v.walk _ v.cut late) in
+    (newest_due start c.args.ids.now c.args.cutoff held
+    (is_visited ids c.loop-time.visited) ids t newest c.loop-time.queue c.pop_newest.new.self c.in-Some-pop_newest.ensures.taken
+    v.walk _ v.cut late) in
     (c.visit_each-in-Some-pop_newest.ensures.some start c.args.ids.now c.args.cutoff v.same due v.walk.marking).only_marks
 
 pub returns-in_err-visit_each-2-clause-sound : goal.returns-in_err-visit_each-2-clause-sound
@@ -119,10 +134,13 @@ returns-in_err-visit_each-2-clause-sound g c =
     let fits : SFits w64 t = search rules in
     let late : to_z w64 (of_z w64 c.in-Some.cutoff) ≤ℤ t = grind (arith, ints, c.if-time-cutoff.false) in
     let are : ids_at ids c.as_slice-in-Some-pop_newest-2.result.now ≡ flat_map (parents_in held) (ids_at ids newest) =
-    ap (ids_at ids) c.as_slice-in-Some-pop_newest-2.ensures.value ∙ c.in-Ok-parent_numbers.ensures.parents ∙ ap (λ ns. flat_map (parents_in held) (ids_at ids ns)) c.as_slice-in-Some-pop_newest.ensures.value in
+    ap (ids_at ids) c.as_slice-in-Some-pop_newest-2.ensures.value ∙ c.in-Ok-parent_numbers.ensures.parents
+    ∙ ap (λ ns. flat_map (parents_in held) (ids_at ids ns)) c.as_slice-in-Some-pop_newest.ensures.value in
     let due : AreDue start c.args.ids.now c.args.cutoff (ids_at ids c.as_slice-in-Some-pop_newest-2.result.now) =
     subst (AreDue start c.args.ids.now c.args.cutoff) (sym are)
-    (newest_due start c.args.ids.now c.args.cutoff held (is_visited ids c.loop-time.visited) ids t newest c.loop-time.queue c.pop_newest.new.self c.in-Some-pop_newest.ensures.taken v.walk _ v.cut late) in
+    (newest_due start c.args.ids.now c.args.cutoff held
+    (is_visited ids c.loop-time.visited) ids t newest c.loop-time.queue c.pop_newest.new.self c.in-Some-pop_newest.ensures.taken
+    v.walk _ v.cut late) in
     (c.visit_each-in-Some-pop_newest.ensures.some start c.args.ids.now c.args.cutoff v.same due v.walk.marking).sound
 
 pub loop-time-smaller : goal.loop-time-smaller
@@ -132,11 +150,18 @@ loop-time-smaller g c =
     let ids = c.loop-time.commits.ids in
     let held = c.loop-time.commits.held in
     let newest = c.in-Some-pop_newest.newest.items in
-    let new : Walk = walk_of c.visit_each-in-Some-pop_newest.new.commits c.visit_each-in-Some-pop_newest.new.visited c.visit_each-in-Some-pop_newest.new.queue in
+    let new : Walk =
+    walk_of c.visit_each-in-Some-pop_newest.new.commits c.visit_each-in-Some-pop_newest.new.visited
+    c.visit_each-in-Some-pop_newest.new.queue in
     let are : ids_at ids c.as_slice-in-Some-pop_newest-2.result.now ≡ flat_map (parents_in held) (ids_at ids newest) =
-    ap (ids_at ids) c.as_slice-in-Some-pop_newest-2.ensures.value ∙ c.in-Ok-parent_numbers.ensures.parents ∙ ap (λ ns. flat_map (parents_in held) (ids_at ids ns)) c.as_slice-in-Some-pop_newest.ensures.value in
-    let less = newest_left start c.args.ids.now c.args.cutoff held (is_visited ids c.loop-time.visited) ids c.in-Some-pop_newest.time newest c.loop-time.queue c.pop_newest.new.self c.in-Some-pop_newest.ensures.taken v.walk _ v.same _ are
-    new c.in_ok-visit_each-2.ensures.each c.visit_each-in-Some-pop_newest.new.queue c.visit_each-in-Some-pop_newest.new.commits.ids refl c.in-Some-pop_newest.ensures.filled in
+    ap (ids_at ids) c.as_slice-in-Some-pop_newest-2.ensures.value ∙ c.in-Ok-parent_numbers.ensures.parents
+    ∙ ap (λ ns. flat_map (parents_in held) (ids_at ids ns)) c.as_slice-in-Some-pop_newest.ensures.value in
+    let less =
+    newest_left start c.args.ids.now c.args.cutoff held
+    (is_visited ids c.loop-time.visited) ids c.in-Some-pop_newest.time newest c.loop-time.queue c.pop_newest.new.self
+    c.in-Some-pop_newest.ensures.taken v.walk _ v.same _ are
+    new c.in_ok-visit_each-2.ensures.each c.visit_each-in-Some-pop_newest.new.queue c.visit_each-in-Some-pop_newest.new.commits.ids refl
+    c.in-Some-pop_newest.ensures.filled in
     omega (arith, less)
 
 pub loop-time-preserved : goal.loop-time-preserved
@@ -148,14 +173,18 @@ loop-time-preserved g c =
     let held = c.loop-time.commits.held in
     let visited = is_visited ids c.loop-time.visited in
     let newest = c.in-Some-pop_newest.newest.items in
-    let new : Walk = walk_of c.visit_each-in-Some-pop_newest.new.commits c.visit_each-in-Some-pop_newest.new.visited c.visit_each-in-Some-pop_newest.new.queue in
+    let new : Walk =
+    walk_of c.visit_each-in-Some-pop_newest.new.commits c.visit_each-in-Some-pop_newest.new.visited
+    c.visit_each-in-Some-pop_newest.new.queue in
     let fits : SFits w64 t = search rules in
     let late : to_z w64 (of_z w64 c.in-Some.cutoff) ≤ℤ t = grind (arith, ints, c.if-time-cutoff.false) in
     let are : ids_at ids c.as_slice-in-Some-pop_newest-2.result.now ≡ flat_map (parents_in held) (ids_at ids newest) =
-    ap (ids_at ids) c.as_slice-in-Some-pop_newest-2.ensures.value ∙ c.in-Ok-parent_numbers.ensures.parents ∙ ap (λ ns. flat_map (parents_in held) (ids_at ids ns)) c.as_slice-in-Some-pop_newest.ensures.value in
+    ap (ids_at ids) c.as_slice-in-Some-pop_newest-2.ensures.value ∙ c.in-Ok-parent_numbers.ensures.parents
+    ∙ ap (λ ns. flat_map (parents_in held) (ids_at ids ns)) c.as_slice-in-Some-pop_newest.ensures.value in
     let due : AreDue start c.args.ids.now c.args.cutoff (ids_at ids c.as_slice-in-Some-pop_newest-2.result.now) =
     subst (AreDue start c.args.ids.now c.args.cutoff) (sym are)
-    (newest_due start c.args.ids.now c.args.cutoff held visited ids t newest c.loop-time.queue c.pop_newest.new.self c.in-Some-pop_newest.ensures.taken v.walk _ v.cut late) in
+    (newest_due start c.args.ids.now c.args.cutoff held visited ids t newest c.loop-time.queue c.pop_newest.new.self
+    c.in-Some-pop_newest.ensures.taken v.walk _ v.cut late) in
     let e = c.visit_each-in-Some-pop_newest.ensures in
     let each = c.in_ok-visit_each-2.ensures.each in
     record {
@@ -165,7 +194,9 @@ loop-time-preserved g c =
       cut = v.cut;
       visited_named = c.in_ok-visit_each-2.ensures.visited_named;
       queue_named = c.in_ok-visit_each-2.ensures.queue_named;
-      walk = newest_walk start c.args.ids.now c.args.cutoff held visited ids t newest c.loop-time.queue c.pop_newest.new.self c.in-Some-pop_newest.ensures.taken v.walk _ v.same _ are new each due;
+      walk =
+          newest_walk start c.args.ids.now c.args.cutoff held visited ids t newest c.loop-time.queue c.pop_newest.new.self
+          c.in-Some-pop_newest.ensures.taken v.walk _ v.same _ are new each due;
       asked = c.in_ok-visit_each-2.ensures.asked start c.args.ids.now c.args.cutoff _ v.same due v.walk.marking.only_marks v.asked;
       tips = still_visited _ _ c.args.ids.now _ new each v.tips;
     }
@@ -175,7 +206,8 @@ returns-clause-complete g c =
     let start : GraphData = graph_of (g.O.Objects.contents c.args.objects.now) c.args.commits.now.held in
     let v = c.loop-time.invariant in
     complete_marked start c.args.ids.now c.args.cutoff c.loop-time.commits.held (is_visited c.loop-time.commits.ids c.loop-time.visited) []
-    (subst (λ q. IsWalk start c.args.ids.now c.args.cutoff (walk_of c.loop-time.commits c.loop-time.visited q)) c.in_default-pop_newest.ensures.none v.walk)
+    (subst (λ q. IsWalk start c.args.ids.now c.args.cutoff
+    (walk_of c.loop-time.commits c.loop-time.visited q)) c.in_default-pop_newest.ensures.none v.walk)
     (λ k d l. absurd (omega arith)) v.tips
 
 -- ---- which ids were asked for
@@ -186,14 +218,18 @@ returns-in_default-clause-asked g c = asks_none _ _
 pub returns-in_err-visit_each-clause-asked : goal.returns-in_err-visit_each-clause-asked
 returns-in_err-visit_each-clause-asked g c =
     let start : GraphData = graph_of (g.O.Objects.contents c.args.objects.now) c.args.commits.now.held in
-    tips_asked_some start c.args.ids.now c.args.cutoff _ refl _ (ap (ids_at c.numbers.new.self.ids) c.as_slice.ensures.value ∙ c.in-Ok.ensures.named.1) c.numbers.new.self c.new-visited.result c.numbers.ensures.held _ _ c.in_err-visit_each.ensures.asked_some
+    tips_asked_some start c.args.ids.now c.args.cutoff _ refl _ (ap (ids_at c.numbers.new.self.ids) c.as_slice.ensures.value
+    ∙ c.in-Ok.ensures.named.1) c.numbers.new.self c.new-visited.result c.numbers.ensures.held _ _
+    c.in_err-visit_each.ensures.asked_some
 
 pub returns-in_default-cutoff-clause-asked : goal.returns-in_default-cutoff-clause-asked
 returns-in_default-cutoff-clause-asked g c =
     let start : GraphData = graph_of (g.O.Objects.contents c.args.objects.now) c.args.commits.now.held in
     let are = ap (ids_at c.numbers.new.self.ids) c.as_slice.ensures.value ∙ c.in-Ok.ensures.named.1 in
     let new : Walk = walk_of c.visit_each.new.commits c.visit_each.new.visited c.visit_each.new.queue in
-    asked_due start c.args.ids.now c.args.cutoff _ new.visited _ (tips_asked start c.args.ids.now c.args.cutoff _ refl _ are c.numbers.new.self c.new-visited.result new c.numbers.ensures.held _ _ c.in_ok-visit_each.ensures.asked)
+    asked_due start c.args.ids.now c.args.cutoff _ new.visited _
+    (tips_asked start c.args.ids.now c.args.cutoff _ refl _ are c.numbers.new.self c.new-visited.result new c.numbers.ensures.held _
+    _ c.in_ok-visit_each.ensures.asked)
 
 pub returns-then-time-cutoff-clause-asked : goal.returns-then-time-cutoff-clause-asked
 returns-then-time-cutoff-clause-asked g c = asked_due _ _ _ _ _ _ c.loop-time.invariant.asked
@@ -213,10 +249,13 @@ returns-in_err-visit_each-2-clause-asked g c =
     let fits : SFits w64 t = search rules in
     let late : to_z w64 (of_z w64 c.in-Some.cutoff) ≤ℤ t = grind (arith, ints, c.if-time-cutoff.false) in
     let are : ids_at ids c.as_slice-in-Some-pop_newest-2.result.now ≡ flat_map (parents_in held) (ids_at ids newest) =
-    ap (ids_at ids) c.as_slice-in-Some-pop_newest-2.ensures.value ∙ c.in-Ok-parent_numbers.ensures.parents ∙ ap (λ ns. flat_map (parents_in held) (ids_at ids ns)) c.as_slice-in-Some-pop_newest.ensures.value in
+    ap (ids_at ids) c.as_slice-in-Some-pop_newest-2.ensures.value ∙ c.in-Ok-parent_numbers.ensures.parents
+    ∙ ap (λ ns. flat_map (parents_in held) (ids_at ids ns)) c.as_slice-in-Some-pop_newest.ensures.value in
     let due : AreDue start c.args.ids.now c.args.cutoff (ids_at ids c.as_slice-in-Some-pop_newest-2.result.now) =
     subst (AreDue start c.args.ids.now c.args.cutoff) (sym are)
-    (newest_due start c.args.ids.now c.args.cutoff held (is_visited ids c.loop-time.visited) ids t newest c.loop-time.queue c.pop_newest.new.self c.in-Some-pop_newest.ensures.taken v.walk _ v.cut late) in
+    (newest_due start c.args.ids.now c.args.cutoff held
+    (is_visited ids c.loop-time.visited) ids t newest c.loop-time.queue c.pop_newest.new.self c.in-Some-pop_newest.ensures.taken
+    v.walk _ v.cut late) in
     c.in_err-visit_each-2.ensures.asked_some start c.args.ids.now c.args.cutoff _ v.same due v.walk.marking.only_marks v.asked
 
 pub returns-clause-asked : goal.returns-clause-asked

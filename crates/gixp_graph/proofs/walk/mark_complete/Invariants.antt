@@ -18,10 +18,12 @@ invariant-loop-time g l =
       visited_named : AllVisitedNamed l.commits.ids l.visited;
       queue_named : AllQueuedNamed l.commits.ids l.queue;
       walk : IsWalk start l.ids l.fn.cutoff (walk_of l.commits l.visited l.queue);
-      asked : HasAsked start l.ids l.fn.cutoff (g.O.Objects.asked l.fn.objects) (is_visited l.commits.ids l.visited) (g.O.Objects.asked l.objects);
+      asked : HasAsked start l.ids l.fn.cutoff (g.O.Objects.asked l.fn.objects) (is_visited l.commits.ids l.visited)
+          (g.O.Objects.asked l.objects);
       tips : AllVisited (is_visited l.commits.ids l.visited) l.ids;
     }
 
 -- the commits that weren't visited, and those that wait
 abbrev pub decreases-loop-time : goal.decreases-loop-time
-decreases-loop-time g l = left (graph_of (g.O.Objects.contents l.fn.objects) l.fn.commits.held) (is_visited l.commits.ids l.visited) + length l.queue
+decreases-loop-time g l =
+    left (graph_of (g.O.Objects.contents l.fn.objects) l.fn.commits.held) (is_visited l.commits.ids l.visited) + length l.queue

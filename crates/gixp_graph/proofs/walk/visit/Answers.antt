@@ -16,9 +16,13 @@ pub returns-in-Ok-false-clause-visits : goal.returns-in-Ok-false-clause-visits
 returns-in-Ok-false-clause-visits g c =
     let ids = c.args.commits.now.ids in
     let here : has c.args.visited.now c.args.number ≡ true = c.in-Ok-false.ensures.new ∙ ap not c.in-Ok-false.field-0-test in
-    let seen : is_visited ids c.args.visited.now (id_at ids c.args.number) ≡ true = visited_at ids c.args.visited.now c.args.number c.requires.named here in
+    let seen : is_visited ids c.args.visited.now (id_at ids c.args.number) ≡ true =
+    visited_at ids c.args.visited.now c.args.number c.requires.named here in
     Visits.again seen refl
-    (λ q. visited_more ids ids (λ n l. (l, refl)) c.args.visited.now c.requires.visited_named c.insert.new.self c.args.number c.requires.named c.in-Ok-false.ensures.ok q
+    (λ q. visited_more ids ids (λ n l. (
+      l,
+      refl,
+    )) c.args.visited.now c.requires.visited_named c.insert.new.self c.args.number c.requires.named c.in-Ok-false.ensures.ok q
     ∙ visited_again (is_visited ids c.args.visited.now) (id_at ids c.args.number) q seen)
     refl
 
@@ -30,8 +34,10 @@ returns-in_default-clause-visits g c =
     Visits.first
     (visited_here ids c.args.visited.now c.args.number false c.requires.visited_named c.mark_found.ensures.once c.requires.named here)
     c.in_ok-time.ensures.ok
-    (visited_more ids new c.mark_found.ensures.kept c.args.visited.now c.requires.visited_named c.insert.new.self c.args.number c.requires.named c.in-Ok-true.ensures.ok)
-    (queues_none ids new c.mark_found.ensures.kept _ c.args.number c.args.queue.now (none_timed _ (sym c.in_default.is ∙ c.in_ok-time.ensures.time)) c.requires.queue_named)
+    (visited_more ids new c.mark_found.ensures.kept c.args.visited.now c.requires.visited_named c.insert.new.self c.args.number
+    c.requires.named c.in-Ok-true.ensures.ok)
+    (queues_none ids new c.mark_found.ensures.kept _ c.args.number c.args.queue.now
+    (none_timed _ (sym c.in_default.is ∙ c.in_ok-time.ensures.time)) c.requires.queue_named)
 
 pub returns-in-Ok-clause-visits : goal.returns-in-Ok-clause-visits
 returns-in-Ok-clause-visits g c =
@@ -43,11 +49,15 @@ returns-in-Ok-clause-visits g c =
     Visits.first
     (visited_here ids c.args.visited.now c.args.number false c.requires.visited_named c.mark_found.ensures.once c.requires.named here)
     c.in_ok-time.ensures.ok
-    (visited_more ids new c.mark_found.ensures.kept c.args.visited.now c.requires.visited_named c.insert.new.self c.args.number c.requires.named c.in-Ok-true.ensures.ok)
-    (queues_one ids new c.mark_found.ensures.kept _ found.0 _ c.args.number c.args.queue.now c.push.new.self found.1 found.2 c.requires.named c.requires.queue_named (rw (to_z-of_z w64 c.in-Some.time fits) at c.in-Ok.ensures))
+    (visited_more ids new c.mark_found.ensures.kept c.args.visited.now c.requires.visited_named c.insert.new.self c.args.number
+    c.requires.named c.in-Ok-true.ensures.ok)
+    (queues_one ids new c.mark_found.ensures.kept _ found.0 _ c.args.number c.args.queue.now c.push.new.self found.1 found.2
+    c.requires.named c.requires.queue_named (rw (to_z-of_z w64 c.in-Some.time fits) at c.in-Ok.ensures))
 
 pub returns-in-Ok-clause-queue_named : goal.returns-in-Ok-clause-queue_named
-returns-in-Ok-clause-queue_named g c = named_one c.args.commits.now.ids c.mark_found.new.commits.ids c.mark_found.ensures.kept _ c.args.number c.args.queue.now c.push.new.self c.requires.named c.requires.queue_named c.in-Ok.ensures
+returns-in-Ok-clause-queue_named g c =
+    named_one c.args.commits.now.ids c.mark_found.new.commits.ids c.mark_found.ensures.kept _ c.args.number c.args.queue.now
+    c.push.new.self c.requires.named c.requires.queue_named c.in-Ok.ensures
 
 -- ---- which ids were asked for
 
@@ -56,25 +66,33 @@ returns-in_err-time-clause-asked g c =
     let ids = c.args.commits.now.ids in
     let w : Walk = walk_of c.args.commits.now c.args.visited.now c.args.queue.now in
     let here : has c.args.visited.now c.args.number ≡ false = c.in-Ok-true.ensures.new ∙ ap not c.in-Ok-true.field-0-test in
-    asks_unread w (id_at ids c.args.number) _ _ (visited_here ids c.args.visited.now c.args.number false c.requires.visited_named c.mark_found.ensures.once c.requires.named here) c.mark_found.ensures.asked
+    asks_unread w (id_at ids c.args.number) _ _
+    (visited_here ids c.args.visited.now c.args.number false c.requires.visited_named c.mark_found.ensures.once c.requires.named
+    here) c.mark_found.ensures.asked
 
 pub returns-in_default-clause-asked : goal.returns-in_default-clause-asked
 returns-in_default-clause-asked g c =
     let ids = c.args.commits.now.ids in
     let w : Walk = walk_of c.args.commits.now c.args.visited.now c.args.queue.now in
     let here : has c.args.visited.now c.args.number ≡ false = c.in-Ok-true.ensures.new ∙ ap not c.in-Ok-true.field-0-test in
-    asks_unread w (id_at ids c.args.number) _ _ (visited_here ids c.args.visited.now c.args.number false c.requires.visited_named c.mark_found.ensures.once c.requires.named here) c.mark_found.ensures.asked
+    asks_unread w (id_at ids c.args.number) _ _
+    (visited_here ids c.args.visited.now c.args.number false c.requires.visited_named c.mark_found.ensures.once c.requires.named
+    here) c.mark_found.ensures.asked
 
 pub returns-in-Ok-clause-asked : goal.returns-in-Ok-clause-asked
 returns-in-Ok-clause-asked g c =
     let ids = c.args.commits.now.ids in
     let w : Walk = walk_of c.args.commits.now c.args.visited.now c.args.queue.now in
     let here : has c.args.visited.now c.args.number ≡ false = c.in-Ok-true.ensures.new ∙ ap not c.in-Ok-true.field-0-test in
-    asks_unread w (id_at ids c.args.number) _ _ (visited_here ids c.args.visited.now c.args.number false c.requires.visited_named c.mark_found.ensures.once c.requires.named here) c.mark_found.ensures.asked
+    asks_unread w (id_at ids c.args.number) _ _
+    (visited_here ids c.args.visited.now c.args.number false c.requires.visited_named c.mark_found.ensures.once c.requires.named
+    here) c.mark_found.ensures.asked
 
 pub returns-in-Err-push-clause-asked : goal.returns-in-Err-push-clause-asked
 returns-in-Err-push-clause-asked g c =
     let ids = c.args.commits.now.ids in
     let w : Walk = walk_of c.args.commits.now c.args.visited.now c.args.queue.now in
     let here : has c.args.visited.now c.args.number ≡ false = c.in-Ok-true.ensures.new ∙ ap not c.in-Ok-true.field-0-test in
-    asks_unread w (id_at ids c.args.number) _ _ (visited_here ids c.args.visited.now c.args.number false c.requires.visited_named c.mark_found.ensures.once c.requires.named here) c.mark_found.ensures.asked
+    asks_unread w (id_at ids c.args.number) _ _
+    (visited_here ids c.args.visited.now c.args.number false c.requires.visited_named c.mark_found.ensures.once c.requires.named
+    here) c.mark_found.ensures.asked

@@ -20,11 +20,16 @@ returns-in_err-visit-clause-some g c =
     let ids = c.args.commits.now.ids in
     let k = c.loop-number.number-index in
     let n : ℕ = get_or c.args.numbers.now k 0 in
-    let less : k < length (ids_at ids c.args.numbers.now) = (let l : k < length c.args.numbers.now = c.loop-number-test.true in omega (arith, ids_length ids c.args.numbers.now)) in
-    let name : id_at c.loop-number.commits.ids n ≡ get_or (ids_at ids c.args.numbers.now) k (record { bytes = [] }) = (v.kept n (c.requires.named k 0 c.loop-number-test.true)).1 ∙ sym (ids_get ids c.args.numbers.now k _ 0 c.loop-number-test.true) in
-    some_more objects (ids_at ids c.args.numbers.now) c.args.commits.now.held c.loop-number.commits.held c.visit.new.commits.held v.some k (record { bytes = [] }) less
-    (subst (λ id. (c.visit.new.commits.held ≡ c.loop-number.commits.held) ⊎ (c.visit.new.commits.held ≡ marked_found (graph_of objects c.loop-number.commits.held) id)) name
-    (subst (λ m. (c.visit.new.commits.held ≡ c.loop-number.commits.held) ⊎ (c.visit.new.commits.held ≡ marked_found (graph_of m c.loop-number.commits.held) (id_at c.loop-number.commits.ids n))) v.same c.in_err-visit.ensures.err))
+    let less : k < length (ids_at ids c.args.numbers.now) =
+    (let l : k < length c.args.numbers.now = c.loop-number-test.true in omega (arith, ids_length ids c.args.numbers.now)) in
+    let name : id_at c.loop-number.commits.ids n ≡ get_or (ids_at ids c.args.numbers.now) k (record { bytes = [] }) = (v.kept n
+    (c.requires.named k 0 c.loop-number-test.true)).1 ∙ sym (ids_get ids c.args.numbers.now k _ 0 c.loop-number-test.true) in
+    some_more objects (ids_at ids c.args.numbers.now) c.args.commits.now.held c.loop-number.commits.held c.visit.new.commits.held v.some
+    k (record { bytes = [] }) less
+    (subst (λ id. (c.visit.new.commits.held ≡ c.loop-number.commits.held)
+    ⊎ (c.visit.new.commits.held ≡ marked_found (graph_of objects c.loop-number.commits.held) id)) name
+    (subst (λ m. (c.visit.new.commits.held ≡ c.loop-number.commits.held) ⊎ (c.visit.new.commits.held
+    ≡ marked_found (graph_of m c.loop-number.commits.held) (id_at c.loop-number.commits.ids n))) v.same c.in_err-visit.ensures.err))
 
 pub returns-in_err-visit-clause-asked_some : goal.returns-in_err-visit-clause-asked_some
 returns-in_err-visit-clause-asked_some g c =
@@ -37,13 +42,18 @@ returns-in_err-visit-clause-asked_some g c =
     let n : ℕ = get_or c.args.numbers.now k 0 in
     let all : List ObjectId = ids_at ids c.args.numbers.now in
     let part : ids_at ids (take k c.args.numbers.now) ≡ take k all = sym (take-map (id_at ids) k c.args.numbers.now) in
-    let less : k < length all = (let l : k < length c.args.numbers.now = c.loop-number-test.true in omega (arith, ids_length ids c.args.numbers.now)) in
-    let name : id_at c.loop-number.commits.ids n ≡ get_or all k (record { bytes = [] }) = (v.kept n (c.requires.named k 0 c.loop-number-test.true)).1 ∙ sym (ids_get ids c.args.numbers.now k _ 0 c.loop-number-test.true) in
+    let less : k < length all =
+    (let l : k < length c.args.numbers.now = c.loop-number-test.true in omega (arith, ids_length ids c.args.numbers.now)) in
+    let name : id_at c.loop-number.commits.ids n ≡ get_or all k (record { bytes = [] }) = (v.kept n
+    (c.requires.named k 0 c.loop-number-test.true)).1 ∙ sym (ids_get ids c.args.numbers.now k _ 0 c.loop-number-test.true) in
     any_err c.from_residual.result _
-    (asked_some objects all k (record { bytes = [] }) less old mid (g.O.Objects.asked c.args.objects.now) (g.O.Objects.asked c.loop-number.objects) (g.O.Objects.asked c.visit.new.objects)
+    (asked_some objects all k (record { bytes = [] }) less old mid (g.O.Objects.asked c.args.objects.now)
+    (g.O.Objects.asked c.loop-number.objects) (g.O.Objects.asked c.visit.new.objects)
     (subst (λ is. VisitsEach objects is old mid) part v.each)
-    (subst (λ i. AsksWhere (IsUnread mid i) i (g.O.Objects.asked c.loop-number.objects) (g.O.Objects.asked c.visit.new.objects)) name c.visit.ensures.asked)
-    (subst (λ is. AsksAll objects is old mid (g.O.Objects.asked c.args.objects.now) (g.O.Objects.asked c.loop-number.objects)) part v.asked))
+    (subst (λ i. AsksWhere (IsUnread mid i) i (g.O.Objects.asked c.loop-number.objects)
+    (g.O.Objects.asked c.visit.new.objects)) name c.visit.ensures.asked)
+    (subst (λ is. AsksAll objects is old mid (g.O.Objects.asked c.args.objects.now)
+    (g.O.Objects.asked c.loop-number.objects)) part v.asked))
 
 pub loop-number-init : goal.loop-number-init
 loop-number-init g c = record {
@@ -54,7 +64,8 @@ loop-number-init g c = record {
   visited_named = c.requires.visited_named;
   queue_named = c.requires.queue_named;
   each = each_none (g.O.Objects.contents c.args.objects.now) (walk_of c.args.commits.now c.args.visited.now c.args.queue.now);
-  asked = asked_none (g.O.Objects.contents c.args.objects.now) (walk_of c.args.commits.now c.args.visited.now c.args.queue.now) (g.O.Objects.asked c.args.objects.now);
+  asked = asked_none (g.O.Objects.contents c.args.objects.now) (walk_of c.args.commits.now c.args.visited.now c.args.queue.now)
+      (g.O.Objects.asked c.args.objects.now);
   some = λ h ids cutoff same due w. w;
 }
 
@@ -70,9 +81,11 @@ loop-number-preserved g c =
     let k = c.loop-number.number-index in
     let n : ℕ = get_or c.args.numbers.now k 0 in
     let id : ObjectId = id_at ids n in
-    let less : k < length (ids_at ids c.args.numbers.now) = (let l : k < length c.args.numbers.now = c.loop-number-test.true in omega (arith, ids_length ids c.args.numbers.now)) in
+    let less : k < length (ids_at ids c.args.numbers.now) =
+    (let l : k < length c.args.numbers.now = c.loop-number-test.true in omega (arith, ids_length ids c.args.numbers.now)) in
     let name : id_at c.loop-number.commits.ids n ≡ id = (v.kept n (c.requires.named k 0 c.loop-number-test.true)).1 in
-    let visits : Visits objects id mid new = subst (λ i. Visits objects i mid new) name (subst (λ m. Visits m (id_at c.loop-number.commits.ids n) mid new) v.same e.visits) in
+    let visits : Visits objects id mid new = subst (λ i. Visits objects i mid new) name
+    (subst (λ m. Visits m (id_at c.loop-number.commits.ids n) mid new) v.same e.visits) in
     record {
       same = e.contents ∙ v.same;
       refusals = e.unrefused ∙ v.refusals;
@@ -81,19 +94,29 @@ loop-number-preserved g c =
       visited_named = e.visited_named;
       queue_named = e.queue_named;
       asked = subst (λ is. AsksAll objects is old new (g.O.Objects.asked c.args.objects.now) (g.O.Objects.asked c.visit.new.objects))
-          (sym (ids_push ids (take k c.args.numbers.now) n) ∙ ap (ids_at ids) (sym (take_more c.args.numbers.now k 0 c.loop-number-test.true)))
+          (sym (ids_push ids (take k c.args.numbers.now) n)
+          ∙ ap (ids_at ids) (sym (take_more c.args.numbers.now k 0 c.loop-number-test.true)))
           (asked_more objects (ids_at ids (take k c.args.numbers.now)) old mid new id _ _ _ v.each visits
-          (subst (λ i. AsksWhere (IsUnread mid i) i (g.O.Objects.asked c.loop-number.objects) (g.O.Objects.asked c.visit.new.objects)) name e.asked) v.asked);
+          (subst (λ i. AsksWhere (IsUnread mid i) i (g.O.Objects.asked c.loop-number.objects)
+          (g.O.Objects.asked c.visit.new.objects)) name e.asked) v.asked);
       each = subst (λ is. VisitsEach objects is old new)
-          (sym (ids_push ids (take k c.args.numbers.now) n) ∙ ap (ids_at ids) (sym (take_more c.args.numbers.now k 0 c.loop-number-test.true)))
+          (sym (ids_push ids (take k c.args.numbers.now) n)
+          ∙ ap (ids_at ids) (sym (take_more c.args.numbers.now k 0 c.loop-number-test.true)))
           (each_more objects (ids_at ids (take k c.args.numbers.now)) old mid new id v.each visits);
-      some = some_more objects (ids_at ids c.args.numbers.now) c.args.commits.now.held c.loop-number.commits.held c.visit.new.commits.held v.some k (record { bytes = [] }) less
-          (subst (λ i. (c.visit.new.commits.held ≡ c.loop-number.commits.held) ⊎ (c.visit.new.commits.held ≡ marked_found (graph_of objects c.loop-number.commits.held) i)) (sym (ids_get ids c.args.numbers.now k _ 0 c.loop-number-test.true)) (some_visit objects id mid new visits));
+      some =
+          some_more objects (ids_at ids c.args.numbers.now) c.args.commits.now.held c.loop-number.commits.held c.visit.new.commits.held
+          v.some k (record { bytes = [] }) less
+          (subst (λ i. (c.visit.new.commits.held ≡ c.loop-number.commits.held)
+          ⊎ (c.visit.new.commits.held ≡ marked_found (graph_of objects c.loop-number.commits.held) i))
+          (sym (ids_get ids c.args.numbers.now k _ 0 c.loop-number-test.true)) (some_visit objects id mid new visits));
     }
 
 pub returns-clause-asked : goal.returns-clause-asked
 returns-clause-asked g c =
     let v = c.loop-number.invariant in
     subst
-    (λ ns. AsksAll (g.O.Objects.contents c.args.objects.now) (ids_at c.args.commits.now.ids ns) (walk_of c.args.commits.now c.args.visited.now c.args.queue.now) (walk_of c.loop-number.commits c.loop-number.visited c.loop-number.queue) (g.O.Objects.asked c.args.objects.now) (g.O.Objects.asked c.loop-number.objects))
+    (λ ns. AsksAll (g.O.Objects.contents c.args.objects.now) (ids_at c.args.commits.now.ids ns)
+    (walk_of c.args.commits.now c.args.visited.now c.args.queue.now)
+    (walk_of c.loop-number.commits c.loop-number.visited c.loop-number.queue) (g.O.Objects.asked c.args.objects.now)
+    (g.O.Objects.asked c.loop-number.objects))
     (take_all c.loop-number.number-index c.args.numbers.now c.loop-number-test.false) v.asked

@@ -15,7 +15,10 @@ invariant-loop-number g l = record {
   kept : KeepsNumbers l.fn.commits.ids l.commits.ids;
   visited_named : AllVisitedNamed l.commits.ids l.visited;
   queue_named : AllQueuedNamed l.commits.ids l.queue;
-  each : VisitsEach (g.O.Objects.contents l.fn.objects) (ids_at l.fn.commits.ids (take l.number-index l.numbers)) (walk_of l.fn.commits l.fn.visited l.fn.queue) (walk_of l.commits l.visited l.queue);
-  asked : AsksAll (g.O.Objects.contents l.fn.objects) (ids_at l.fn.commits.ids (take l.number-index l.numbers)) (walk_of l.fn.commits l.fn.visited l.fn.queue) (walk_of l.commits l.visited l.queue) (g.O.Objects.asked l.fn.objects) (g.O.Objects.asked l.objects);
+  each : VisitsEach (g.O.Objects.contents l.fn.objects) (ids_at l.fn.commits.ids (take l.number-index l.numbers))
+      (walk_of l.fn.commits l.fn.visited l.fn.queue) (walk_of l.commits l.visited l.queue);
+  asked : AsksAll (g.O.Objects.contents l.fn.objects) (ids_at l.fn.commits.ids (take l.number-index l.numbers))
+      (walk_of l.fn.commits l.fn.visited l.fn.queue) (walk_of l.commits l.visited l.queue) (g.O.Objects.asked l.fn.objects)
+      (g.O.Objects.asked l.objects);
   some : VisitsSome (g.O.Objects.contents l.fn.objects) (ids_at l.fn.commits.ids l.numbers) l.fn.commits.held l.commits.held;
 }

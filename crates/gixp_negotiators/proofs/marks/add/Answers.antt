@@ -7,25 +7,33 @@ use Rattle.gixp_negotiators.proofs.GrowLemmas.{grows_flagged, has_flagged, only_
 use Rattle.gixp_negotiators.proofs.marks.add.Goals as goal
 
 pub returns-clause-grows : goal.returns-clause-grows
-returns-clause-grows g c = subst (Grows c.args.graph.now.graph) (sym c.insert_flags.ensures.flagged) (grows_flagged c.args.graph.now.graph c.args.id.now c.args.marks c.requires)
+returns-clause-grows g c = subst (Grows c.args.graph.now.graph) (sym c.insert_flags.ensures.flagged)
+    (grows_flagged c.args.graph.now.graph c.args.id.now c.args.marks c.requires)
 
 pub returns-clause-sees : goal.returns-clause-sees
-returns-clause-sees g c apart = subst (SeesNone c.args.graph.now.graph) (sym c.insert_flags.ensures.flagged) (none_flagged 8 c.args.graph.now.graph c.args.id.now c.args.marks apart)
+returns-clause-sees g c apart = subst (SeesNone c.args.graph.now.graph) (sym c.insert_flags.ensures.flagged)
+    (none_flagged 8 c.args.graph.now.graph c.args.id.now c.args.marks apart)
 
 pub returns-clause-sees_only : goal.returns-clause-sees_only
-returns-clause-sees_only g c = subst (SeesOnly c.args.id.now c.args.graph.now.graph) (sym c.insert_flags.ensures.flagged) (only_flagged 8 c.args.graph.now.graph c.args.id.now c.args.marks)
+returns-clause-sees_only g c = subst (SeesOnly c.args.id.now c.args.graph.now.graph) (sym c.insert_flags.ensures.flagged)
+    (only_flagged 8 c.args.graph.now.graph c.args.id.now c.args.marks)
 
 pub returns-clause-marked : goal.returns-clause-marked
-returns-clause-marked g c s = subst (λ (k : GraphData). has_mark c.args.marks.0 k.held c.args.id.now ≡ true) (sym c.insert_flags.ensures.flagged) (has_flagged c.args.graph.now.graph.held c.args.id.now c.args.marks s)
+returns-clause-marked g c s = subst (λ (k : GraphData). has_mark c.args.marks.0 k.held c.args.id.now ≡ true)
+    (sym c.insert_flags.ensures.flagged) (has_flagged c.args.graph.now.graph.held c.args.id.now c.args.marks s)
 
 pub returns-clause-seen : goal.returns-clause-seen
-returns-clause-seen g c = grows_left 8 c.args.graph.now.graph c.insert_flags.new.self.graph (subst (Grows c.args.graph.now.graph) (sym c.insert_flags.ensures.flagged) (grows_flagged c.args.graph.now.graph c.args.id.now c.args.marks c.requires))
+returns-clause-seen g c = grows_left 8 c.args.graph.now.graph c.insert_flags.new.self.graph (subst (Grows c.args.graph.now.graph)
+    (sym c.insert_flags.ensures.flagged) (grows_flagged c.args.graph.now.graph c.args.id.now c.args.marks c.requires))
 
 pub returns-clause-common : goal.returns-clause-common
-returns-clause-common g c = grows_left 2 c.args.graph.now.graph c.insert_flags.new.self.graph (subst (Grows c.args.graph.now.graph) (sym c.insert_flags.ensures.flagged) (grows_flagged c.args.graph.now.graph c.args.id.now c.args.marks c.requires))
+returns-clause-common g c = grows_left 2 c.args.graph.now.graph c.insert_flags.new.self.graph (subst (Grows c.args.graph.now.graph)
+    (sym c.insert_flags.ensures.flagged) (grows_flagged c.args.graph.now.graph c.args.id.now c.args.marks c.requires))
 
 pub returns-clause-settles : goal.returns-clause-settles
-returns-clause-settles g c apart = subst (SettlesNone c.args.graph.now.graph) (sym c.insert_flags.ensures.flagged) (none_flagged 2 c.args.graph.now.graph c.args.id.now c.args.marks apart)
+returns-clause-settles g c apart = subst (SettlesNone c.args.graph.now.graph) (sym c.insert_flags.ensures.flagged)
+    (none_flagged 2 c.args.graph.now.graph c.args.id.now c.args.marks apart)
 
 pub returns-clause-settles_only : goal.returns-clause-settles_only
-returns-clause-settles_only g c = subst (SettlesOnly c.args.id.now c.args.graph.now.graph) (sym c.insert_flags.ensures.flagged) (only_flagged 2 c.args.graph.now.graph c.args.id.now c.args.marks)
+returns-clause-settles_only g c = subst (SettlesOnly c.args.id.now c.args.graph.now.graph) (sym c.insert_flags.ensures.flagged)
+    (only_flagged 2 c.args.graph.now.graph c.args.id.now c.args.marks)

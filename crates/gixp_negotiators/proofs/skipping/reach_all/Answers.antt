@@ -7,14 +7,26 @@ use Rattle.gixp_negotiators.proofs.GrowLemmas.{grows_none, grows_on}
 use Rattle.gixp_negotiators.proofs.skipping.reach_all.Goals as goal
 
 pub loop-id-init : goal.loop-id-init
-loop-id-init g c = record { fits = λ u ws f. f; spreads = kept_none was_seen stays_seen _ _; newly = λ f v all. all; common = All-nil _; less = omega arith; seen = omega arith; grows = grows_none _; failures = omega arith }
+loop-id-init g c = record {
+  fits = λ u ws f. f;
+  spreads = kept_none was_seen stays_seen _ _;
+  newly = λ f v all. all;
+  common = All-nil _;
+  less = omega arith;
+  seen = omega arith;
+  grows = grows_none _;
+  failures = omega arith;
+}
 
 pub loop-id-preserved : goal.loop-id-preserved
 loop-id-preserved g c = record {
   fits = λ u ws f. c.in_ok-reach.ensures.fits u ws (c.loop-id.invariant.fits u ws f);
   spreads = kept_on was_seen stays_seen _ _ _ _ _ _ c.loop-id.invariant.grows c.loop-id.invariant.spreads c.in_ok-reach.ensures.spreads;
   newly = λ f v all. c.in_ok-reach.ensures.newly f (grows_on _ _ _ v c.loop-id.invariant.grows) (c.loop-id.invariant.newly f v all);
-  common = common_more was_seen stays_seen c.args.graph.now.graph c.loop-id.graph.graph c.reach.new.graph.graph c.args.ids.now c.loop-id.id-index _ c.loop-id-test.true c.loop-id.invariant.grows c.reach.ensures.grows c.loop-id.invariant.common c.in_ok-reach.ensures.common;
+  common =
+      common_more was_seen stays_seen c.args.graph.now.graph c.loop-id.graph.graph c.reach.new.graph.graph c.args.ids.now
+      c.loop-id.id-index _ c.loop-id-test.true c.loop-id.invariant.grows c.reach.ensures.grows c.loop-id.invariant.common
+      c.in_ok-reach.ensures.common;
   less = omega (arith, c.loop-id.invariant.less, c.in_ok-reach.ensures.less);
   seen = omega (arith, c.loop-id.invariant.seen, c.reach.ensures.seen);
   grows = grows_on _ _ _ c.loop-id.invariant.grows c.reach.ensures.grows;

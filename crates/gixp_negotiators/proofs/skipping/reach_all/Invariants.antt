@@ -12,7 +12,8 @@ abbrev pub invariant-loop-id : goal.invariant-loop-id
 invariant-loop-id g l = record {
   fits : (u : ℕ) (ws : List Waiting) → FitsOwing u ws l.fn.graph.graph l.fn.due.items → FitsOwing u ws l.graph.graph l.due.items;
   spreads : KeepsSpread was_seen l.fn.due.items l.fn.graph.graph l.due.items l.graph.graph;
-  newly : (f : GraphData) → Grows f l.fn.graph.graph → All (IsNewlyCommon f l.fn.graph.graph) l.fn.due.items → All (IsNewlyCommon f l.graph.graph) l.due.items;
+  newly : (f : GraphData) → Grows f l.fn.graph.graph → All (IsNewlyCommon f l.fn.graph.graph) l.fn.due.items
+      → All (IsNewlyCommon f l.graph.graph) l.due.items;
   common : All (BecomesCommon was_seen l.fn.graph.graph l.graph.graph) (take l.id-index l.ids);
   less : left 2 l.graph.graph + length l.due.items ≤ left 2 l.fn.graph.graph + length l.fn.due.items;
   seen : left 8 l.graph.graph ≤ left 8 l.fn.graph.graph;

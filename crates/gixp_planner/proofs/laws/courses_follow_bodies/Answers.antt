@@ -9,16 +9,25 @@ pub returns : goal.returns
 returns g c = λ bodies specs haves objects others graph another e f.
     courses-follow _ (basis_of g.O.Objects.contents) (λ n. n.context.negotiator.now)
     (record {
-      marks = λ n action m h.
-          (h.0, acts-stay action n.context.negotiator.now n.context.graph.now.graph _ _ m.context.negotiator.now m.context.graph.now.graph h.1, asked-still g.O.Objects.contents n m h.4 h.5 h.6 h.7);
+      marks = λ n action m h. (
+        h.0,
+        acts-stay action n.context.negotiator.now n.context.graph.now.graph _ _ m.context.negotiator.now
+            m.context.graph.now.graph h.1,
+        asked-still g.O.Objects.contents n m h.4 h.5 h.6 h.7,
+      );
       adds = λ n known a any b m h. (h.0, h.1);
-      goes = λ n s a p r done m t b h. by-list n.context.negotiator.now n.context.graph.now.graph s a p r done m.context.negotiator.now m.context.graph.now.graph t b h.0;
+      goes =
+          λ n s a p r done m t b h.
+          by-list n.context.negotiator.now n.context.graph.now.graph s a p r done m.context.negotiator.now m.context.graph.now.graph t b
+          h.0;
     })
     _ _ _ (λ s ids t empty read. read.0 ∙ empty.0) haves
     (λ m k n o l r alike. (
-      same-basis g.O.Objects.contents n o m k (ap g.O.Objects.contents l.0 ∙ e ∙ sym (ap g.O.Objects.contents r.0)) (ap (λ (v : GraphValue). v.graph.objects) l.1 ∙ f ∙ sym (ap (λ (v : GraphValue). v.graph.objects) r.1))
+      same-basis g.O.Objects.contents n o m k (ap g.O.Objects.contents l.0 ∙ e ∙ sym (ap g.O.Objects.contents r.0))
+          (ap (λ (v : GraphValue). v.graph.objects) l.1 ∙ f ∙ sym (ap (λ (v : GraphValue). v.graph.objects) r.1))
           l.3 r.3 (l.4 ∙ sym r.4) l.5 r.5 alike,
       l.2,
       r.2,
     ))
-    (λ c s p finished d t q takes. takes.1.1.failures) (λ c s p x d t q refuses z. passed-none s t x refuses z) (λ i j says. true≢false says) bodies specs
+    (λ c s p finished d t q takes. takes.1.1.failures) (λ c s p x d t q refuses z. passed-none s t x refuses z)
+    (λ i j says. true≢false says) bodies specs

@@ -6,4 +6,5 @@ use Rattle.gixp_planner.proofs.print.append_packet_lines.Goals as goal
 pub lines-preserved : goal.lines-preserved
 lines-preserved c =
     let split = rw c.in-Ok-Some.field-0-is at c.in-Ok-Some.ensures in
-    frames-more _ _ _ _ c.in-Ok-Some.behind.now _ _ (frame_of c.in-Ok-Some.line) c.lines.invariant split.0 (ap (λ t. 62 ∷ 32 ∷ (t ++ 10 ∷ [])) c.content.ensures) c.in_ok-append-in-Ok-Some.ensures
+    frames-more _ _ _ _ c.in-Ok-Some.behind.now _ _ (frame_of c.in-Ok-Some.line) c.lines.invariant split.0
+    (ap (λ t. 62 ∷ 32 ∷ (t ++ 10 ∷ [])) c.content.ensures) c.in_ok-append-in-Ok-Some.ensures

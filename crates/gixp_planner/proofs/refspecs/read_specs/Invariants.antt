@@ -5,4 +5,5 @@ use Rattle.gixp_planner.proofs.ListLemmas.{SpecsSoFar}
 use Rattle.gixp_planner.proofs.refspecs.read_specs.Given as goal
 
 abbrev pub invariant-loop-text : goal.invariant-loop-text
-invariant-loop-text l = SpecsSoFar (map bstring_bytes l.texts) (map bstring_bytes (drop l.text-index l.texts)) (map owned_value_of l.specs.items)
+invariant-loop-text l = SpecsSoFar (map bstring_bytes l.texts) (map bstring_bytes (drop l.text-index l.texts))
+    (map owned_value_of l.specs.items)

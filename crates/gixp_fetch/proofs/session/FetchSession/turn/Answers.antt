@@ -24,7 +24,9 @@ returns-in_err-response-clause-err g c =
       done = c.in_ok-round.done;
       window = c.one_round.new.state;
       negotiated = c.in_ok-round.ensures.went;
-      breaks = at_answer (g.T.ExtendedBufRead.reading c.send.new.transport) c.in_ok-send.ensures.sent c.in_err-response.field-0.0 c.in_err-response.ensures.read c.in_err-response.ensures.held refl;
+      breaks =
+          at_answer (g.T.ExtendedBufRead.reading c.send.new.transport) c.in_ok-send.ensures.sent c.in_err-response.field-0.0
+          c.in_err-response.ensures.read c.in_err-response.ensures.held refl;
     }))
 
 pub returns-in_err-extend_from_slice-clause-err : goal.returns-in_err-extend_from_slice-clause-err
@@ -36,7 +38,9 @@ returns-in_err-extend_from_slice-clause-err g c =
       done = c.in_ok-round.done;
       window = c.one_round.new.state;
       negotiated = c.in_ok-round.ensures.went;
-      breaks = behind_answer (g.T.ExtendedBufRead.reading c.send.new.transport) c.in_ok-send.ensures.sent c.in_ok-response.response c.in_ok-response.ensures.read c.in_ok-response.ensures.held refl;
+      breaks =
+          behind_answer (g.T.ExtendedBufRead.reading c.send.new.transport) c.in_ok-send.ensures.sent c.in_ok-response.response
+          c.in_ok-response.ensures.read c.in_ok-response.ensures.held refl;
     }))
 
 pub returns-clause-ok : goal.returns-clause-ok

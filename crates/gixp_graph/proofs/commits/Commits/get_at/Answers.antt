@@ -11,12 +11,22 @@ pub returns-then-node-clause-value : goal.returns-then-node-clause-value
 returns-then-node-clause-value c =
     let fits : SFits w64 c.index-node.result.now.time = search rules in
     let l : c.args.number < length (ids_of c.self.inside.nodes.items) = rw (← c.self.view_is) at c.requires in
-    rw (← c.self.view_is) (rw (held_at c.self.inside.nodes.items c.self.inside.parents.items _ c.self.invariant.numbering c.args.number l c.index-node.result.now c.index-node.ensures, c.if-node.true) (grind (arith, to_z-of_z)))
+    rw (← c.self.view_is)
+    (rw (
+      held_at c.self.inside.nodes.items c.self.inside.parents.items _ c.self.invariant.numbering c.args.number l
+          c.index-node.result.now c.index-node.ensures,
+      c.if-node.true,
+    ) (grind (arith, to_z-of_z)))
 
 pub returns-else-node-clause-value : goal.returns-else-node-clause-value
 returns-else-node-clause-value c =
     let l : c.args.number < length (ids_of c.self.inside.nodes.items) = rw (← c.self.view_is) at c.requires in
-    rw (← c.self.view_is) (rw (held_at c.self.inside.nodes.items c.self.inside.parents.items _ c.self.invariant.numbering c.args.number l c.index-node.result.now c.index-node.ensures, c.if-node.false) refl)
+    rw (← c.self.view_is)
+    (rw (
+      held_at c.self.inside.nodes.items c.self.inside.parents.items _ c.self.invariant.numbering c.args.number l
+          c.index-node.result.now c.index-node.ensures,
+      c.if-node.false,
+    ) refl)
 
 pub returns-then-node-clause-once : goal.returns-then-node-clause-once
 returns-then-node-clause-once c = rw (← c.self.view_is) (one_to_one (ids_of c.self.inside.nodes.items) _ c.self.invariant.numbering)

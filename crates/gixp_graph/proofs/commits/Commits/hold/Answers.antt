@@ -18,37 +18,63 @@ use Rattle.gixp_graph.proofs.commits.Commits.hold.Goals as goal
 pub returns-in_err-parent-clause-err : goal.returns-in_err-parent-clause-err
 returns-in_err-parent-clause-err c =
     let v = c.loop-id.invariant in
-    any_err c.from_residual.result _ (held_number c.loop-id.self-inside.nodes.items c.number_of.new.nodes.items _ c.number_of.ensures.grown c.loop-id.self-inside.numbers.entries c.loop-id.self-inside.parents.items v.table ∙ v.same)
+    any_err c.from_residual.result _
+    (held_number c.loop-id.self-inside.nodes.items c.number_of.new.nodes.items _ c.number_of.ensures.grown
+    c.loop-id.self-inside.numbers.entries c.loop-id.self-inside.parents.items v.table ∙ v.same)
 
 pub returns-in_err-parent-clause-kept : goal.returns-in_err-parent-clause-kept
-returns-in_err-parent-clause-kept c = kept_trans c.args.self.now.ids (ids_of c.loop-id.self-inside.nodes.items) (ids_of c.number_of.new.nodes.items) c.loop-id.invariant.kept (kept_number c.loop-id.self-inside.nodes.items c.number_of.new.nodes.items _ c.number_of.ensures.grown)
+returns-in_err-parent-clause-kept c =
+    kept_trans c.args.self.now.ids (ids_of c.loop-id.self-inside.nodes.items)
+    (ids_of c.number_of.new.nodes.items) c.loop-id.invariant.kept
+    (kept_number c.loop-id.self-inside.nodes.items c.number_of.new.nodes.items _ c.number_of.ensures.grown)
 
 pub invariant_of-self-in_err-push : goal.invariant_of-self-in_err-push
 invariant_of-self-in_err-push c =
     let v = c.loop-id.invariant in
-    rw c.in_err-push.ensures.items (table_number c.loop-id.self-inside.nodes.items c.number_of.new.nodes.items _ c.number_of.ensures.grown c.loop-id.self-inside.numbers.entries c.number_of.new.numbers.entries c.loop-id.self-inside.parents.items v.table c.number_of.ensures.numbered)
+    rw c.in_err-push.ensures.items
+    (table_number c.loop-id.self-inside.nodes.items c.number_of.new.nodes.items _ c.number_of.ensures.grown
+    c.loop-id.self-inside.numbers.entries c.number_of.new.numbers.entries c.loop-id.self-inside.parents.items v.table
+    c.number_of.ensures.numbered)
 
 pub returns-in_err-push-clause-err : goal.returns-in_err-push-clause-err
 returns-in_err-push-clause-err c =
     let v = c.loop-id.invariant in
-    any_err c.from_residual-in_err-push.result _ (rw c.in_err-push.ensures.items (held_number c.loop-id.self-inside.nodes.items c.number_of.new.nodes.items _ c.number_of.ensures.grown c.loop-id.self-inside.numbers.entries c.loop-id.self-inside.parents.items v.table ∙ v.same))
+    any_err c.from_residual-in_err-push.result _
+    (rw c.in_err-push.ensures.items
+    (held_number c.loop-id.self-inside.nodes.items c.number_of.new.nodes.items _ c.number_of.ensures.grown
+    c.loop-id.self-inside.numbers.entries c.loop-id.self-inside.parents.items v.table ∙ v.same))
 
 pub returns-in_err-push-clause-kept : goal.returns-in_err-push-clause-kept
-returns-in_err-push-clause-kept c = kept_trans c.args.self.now.ids (ids_of c.loop-id.self-inside.nodes.items) (ids_of c.number_of.new.nodes.items) c.loop-id.invariant.kept (kept_number c.loop-id.self-inside.nodes.items c.number_of.new.nodes.items _ c.number_of.ensures.grown)
+returns-in_err-push-clause-kept c =
+    kept_trans c.args.self.now.ids (ids_of c.loop-id.self-inside.nodes.items)
+    (ids_of c.number_of.new.nodes.items) c.loop-id.invariant.kept
+    (kept_number c.loop-id.self-inside.nodes.items c.number_of.new.nodes.items _ c.number_of.ensures.grown)
 
 pub loop-id-preserved : goal.loop-id-preserved
 loop-id-preserved c =
     let v = c.loop-id.invariant in
     let t : IsTable c.number_of.new.nodes.items c.number_of.new.numbers.entries c.loop-id.self-inside.parents.items =
-    table_number c.loop-id.self-inside.nodes.items c.number_of.new.nodes.items _ c.number_of.ensures.grown c.loop-id.self-inside.numbers.entries c.number_of.new.numbers.entries c.loop-id.self-inside.parents.items v.table c.number_of.ensures.numbered in
+    table_number c.loop-id.self-inside.nodes.items c.number_of.new.nodes.items _ c.number_of.ensures.grown
+    c.loop-id.self-inside.numbers.entries c.number_of.new.numbers.entries c.loop-id.self-inside.parents.items v.table
+    c.number_of.ensures.numbered in
     rw c.in_ok-push.ensures.items (record {
-      table = table_push c.number_of.new.nodes.items c.number_of.new.numbers.entries c.loop-id.self-inside.parents.items t c.in_ok-parent.parent (t.numbering.named _ _ c.in_ok-parent.ensures.named).0;
-      same = held_push c.number_of.new.nodes.items c.number_of.new.numbers.entries c.loop-id.self-inside.parents.items t c.in_ok-parent.parent
-          ∙ held_number c.loop-id.self-inside.nodes.items c.number_of.new.nodes.items _ c.number_of.ensures.grown c.loop-id.self-inside.numbers.entries c.loop-id.self-inside.parents.items v.table ∙ v.same;
-      kept = kept_trans c.args.self.now.ids (ids_of c.loop-id.self-inside.nodes.items) (ids_of c.number_of.new.nodes.items) v.kept (kept_number c.loop-id.self-inside.nodes.items c.number_of.new.nodes.items _ c.number_of.ensures.grown);
-      within = (let w : c.len-first.result ≤ length c.loop-id.self-inside.parents.items = v.within in omega (arith, length-append c.loop-id.self-inside.parents.items (c.in_ok-parent.parent ∷ [])));
-      written = written_more c.loop-id.self-inside.nodes.items c.number_of.new.nodes.items _ c.number_of.ensures.grown c.number_of.new.numbers.entries c.number_of.ensures.numbered c.in_ok-parent.parent c.in_ok-parent.ensures.named
-          c.loop-id.self-inside.parents.items v.table.names c.len-first.result v.within c.args.parents.now c.loop-id.id-index _ c.loop-id-test.true refl v.written;
+      table =
+          table_push c.number_of.new.nodes.items c.number_of.new.numbers.entries c.loop-id.self-inside.parents.items t
+          c.in_ok-parent.parent (t.numbering.named _ _ c.in_ok-parent.ensures.named).0;
+      same =
+          held_push c.number_of.new.nodes.items c.number_of.new.numbers.entries c.loop-id.self-inside.parents.items t
+          c.in_ok-parent.parent
+          ∙ held_number c.loop-id.self-inside.nodes.items c.number_of.new.nodes.items _ c.number_of.ensures.grown
+          c.loop-id.self-inside.numbers.entries c.loop-id.self-inside.parents.items v.table ∙ v.same;
+      kept = kept_trans c.args.self.now.ids (ids_of c.loop-id.self-inside.nodes.items) (ids_of c.number_of.new.nodes.items) v.kept
+          (kept_number c.loop-id.self-inside.nodes.items c.number_of.new.nodes.items _ c.number_of.ensures.grown);
+      within = (let w : c.len-first.result ≤ length c.loop-id.self-inside.parents.items = v.within in
+          omega (arith, length-append c.loop-id.self-inside.parents.items (c.in_ok-parent.parent ∷ [])));
+      written =
+          written_more c.loop-id.self-inside.nodes.items c.number_of.new.nodes.items _ c.number_of.ensures.grown
+          c.number_of.new.numbers.entries c.number_of.ensures.numbered c.in_ok-parent.parent c.in_ok-parent.ensures.named
+          c.loop-id.self-inside.parents.items v.table.names c.len-first.result v.within c.args.parents.now c.loop-id.id-index _
+          c.loop-id-test.true refl v.written;
     })
 
 pub index-requires : goal.index-requires
@@ -69,9 +95,12 @@ invariant_of-self-2 c =
     let nodes = c.loop-id.self-inside.nodes.items in
     let l : c.args.number < length (ids_of nodes) = (v.kept c.args.number c.requires).0 in
     let m : c.args.number < length nodes = omega (arith, length_ids nodes) in
-    let own : c.index.result.now.id ≡ id_at (ids_of nodes) c.args.number = ap (λ (x : Node). x.id) c.index.ensures ∙ sym (id_of_node nodes c.args.number _ m) in
-    table_set nodes c.loop-id.self-inside.parents.items c.loop-id.self-inside.numbers.entries v.table.numbering (id_at (ids_of nodes) c.args.number) c.args.number (v.table.numbering.numbered c.args.number l) _ own v.table
-    (let w : c.len-first.result ≤ length c.loop-id.self-inside.parents.items = v.within in let e : c.len-end.result ≡ length c.loop-id.self-inside.parents.items = omega (arith, c.loop-id.self-inside.parents.ok.0) in (omega arith, omega arith))
+    let own : c.index.result.now.id ≡ id_at (ids_of nodes) c.args.number = ap (λ (x : Node). x.id) c.index.ensures
+    ∙ sym (id_of_node nodes c.args.number _ m) in
+    table_set nodes c.loop-id.self-inside.parents.items c.loop-id.self-inside.numbers.entries v.table.numbering
+    (id_at (ids_of nodes) c.args.number) c.args.number (v.table.numbering.numbered c.args.number l) _ own v.table
+    (let w : c.len-first.result ≤ length c.loop-id.self-inside.parents.items = v.within in let e : c.len-end.result
+    ≡ length c.loop-id.self-inside.parents.items = omega (arith, c.loop-id.self-inside.parents.ok.0) in (omega arith, omega arith))
 
 pub returns-clause-ok : goal.returns-clause-ok
 returns-clause-ok c =
@@ -80,14 +109,24 @@ returns-clause-ok c =
     let parents = c.loop-id.self-inside.parents.items in
     let l : c.args.number < length (ids_of nodes) = (v.kept c.args.number c.requires).0 in
     let m : c.args.number < length nodes = omega (arith, length_ids nodes) in
-    let own : c.index.result.now.id ≡ id_at (ids_of nodes) c.args.number = ap (λ (x : Node). x.id) c.index.ensures ∙ sym (id_of_node nodes c.args.number _ m) in
-    let h : HeldCommit = record { time = to_z w64 (of_z w64 c.args.time); parents = ids_at (ids_of nodes) (take (c.len-end.result - c.len-first.result) (drop c.len-first.result parents)); flags = record { 0 = 0 } } in
-    held_set nodes parents c.loop-id.self-inside.numbers.entries v.table.numbering (id_at (ids_of nodes) c.args.number) c.args.number (v.table.numbering.numbered c.args.number l) _ own refl
+    let own : c.index.result.now.id ≡ id_at (ids_of nodes) c.args.number = ap (λ (x : Node). x.id) c.index.ensures
+    ∙ sym (id_of_node nodes c.args.number _ m) in
+    let h : HeldCommit = record {
+      time = to_z w64 (of_z w64 c.args.time);
+      parents = ids_at (ids_of nodes)
+          (take (c.len-end.result - c.len-first.result) (drop c.len-first.result parents));
+      flags = record { 0 = 0 };
+    } in
+    held_set nodes parents c.loop-id.self-inside.numbers.entries v.table.numbering (id_at (ids_of nodes) c.args.number) c.args.number
+    (v.table.numbering.numbered c.args.number l) _ own refl
     ∙ ap (λ m. finite.insert m (id_at (ids_of nodes) c.args.number) h) v.same
     ∙ ap (λ (i : ObjectId). finite.insert c.args.self.now.held i h) (v.kept c.args.number c.requires).1
-    ∙ ap (λ (z : ℤ). finite.insert c.args.self.now.held (id_at c.args.self.now.ids c.args.number) (record { time = z; parents = h.parents; flags = record { 0 = 0 } })) (to_z-of_z w64 c.args.time c.ranges.time)
-    ∙ ap (λ ps. finite.insert c.args.self.now.held (id_at c.args.self.now.ids c.args.number) (record { time = c.args.time; parents = ps; flags = record { 0 = 0 } }))
-    (written_all (ids_of nodes) parents c.len-first.result c.len-end.result (omega (arith, c.loop-id.self-inside.parents.ok.0)) c.args.parents.now c.loop-id.id-index c.loop-id-test.false v.written)
+    ∙ ap (λ (z : ℤ). finite.insert c.args.self.now.held (id_at c.args.self.now.ids c.args.number)
+    (record { time = z; parents = h.parents; flags = record { 0 = 0 } })) (to_z-of_z w64 c.args.time c.ranges.time)
+    ∙ ap (λ ps. finite.insert c.args.self.now.held (id_at c.args.self.now.ids c.args.number)
+    (record { time = c.args.time; parents = ps; flags = record { 0 = 0 } }))
+    (written_all (ids_of nodes) parents c.len-first.result c.len-end.result
+    (omega (arith, c.loop-id.self-inside.parents.ok.0)) c.args.parents.now c.loop-id.id-index c.loop-id-test.false v.written)
 
 pub returns-clause-kept : goal.returns-clause-kept
 returns-clause-kept c =
@@ -95,5 +134,7 @@ returns-clause-kept c =
     let nodes = c.loop-id.self-inside.nodes.items in
     let l : c.args.number < length (ids_of nodes) = (v.kept c.args.number c.requires).0 in
     let m : c.args.number < length nodes = omega (arith, length_ids nodes) in
-    let own : c.index.result.now.id ≡ id_at (ids_of nodes) c.args.number = ap (λ (x : Node). x.id) c.index.ensures ∙ sym (id_of_node nodes c.args.number _ m) in
-    kept_same _ _ _ (ids_kept nodes c.loop-id.self-inside.parents.items c.loop-id.self-inside.numbers.entries v.table.numbering (id_at (ids_of nodes) c.args.number) c.args.number (v.table.numbering.numbered c.args.number l) _ own) v.kept
+    let own : c.index.result.now.id ≡ id_at (ids_of nodes) c.args.number = ap (λ (x : Node). x.id) c.index.ensures
+    ∙ sym (id_of_node nodes c.args.number _ m) in
+    kept_same _ _ _ (ids_kept nodes c.loop-id.self-inside.parents.items c.loop-id.self-inside.numbers.entries v.table.numbering
+    (id_at (ids_of nodes) c.args.number) c.args.number (v.table.numbering.numbered c.args.number l) _ own) v.kept

@@ -8,7 +8,9 @@ use Rattle.gixp_graph.proofs.graph.Graph.mark_complete.Goals as goal
 pub returns-clause-complete : goal.returns-clause-complete
 returns-clause-complete g c =
     let start : GraphData = graph_of (g.O.Objects.contents c.self.inside.objects) c.self.inside.commits.held in
-    rw (← c.self.view_is) (on_ok_weaker c.mark_complete.result (λ all. complete_exact start _ _ _ c.mark_complete.ensures.sound c.self.invariant c.mark_complete.ensures.only_marks all) c.mark_complete.ensures.complete)
+    rw (← c.self.view_is) (on_ok_weaker c.mark_complete.result
+    (λ all. complete_exact start _ _ _ c.mark_complete.ensures.sound c.self.invariant c.mark_complete.ensures.only_marks all)
+    c.mark_complete.ensures.complete)
 
 pub returns-clause-sound : goal.returns-clause-sound
 returns-clause-sound g c =
@@ -23,7 +25,8 @@ returns-clause-held g c =
 pub returns-clause-reads : goal.returns-clause-reads
 returns-clause-reads g c =
     let start : GraphData = graph_of (g.O.Objects.contents c.self.inside.objects) c.self.inside.commits.held in
-    rw (← c.self.view_is) (on_ok_weaker c.mark_complete.result (λ all. reads_exact start _ _ _ c.self.invariant all) c.mark_complete.ensures.complete)
+    rw (← c.self.view_is) (on_ok_weaker c.mark_complete.result
+    (λ all. reads_exact start _ _ _ c.self.invariant all) c.mark_complete.ensures.complete)
 
 pub returns-clause-asked : goal.returns-clause-asked
 returns-clause-asked g c =

@@ -8,4 +8,5 @@ use Rattle.gixp_graph.proofs.QueueLemmas.{newest_all}
 use Rattle.gixp_graph.proofs.queue.TimeQueue.pop_newest.Goals as goal
 
 pub returns-clause-newest : goal.returns-clause-newest
-returns-clause-newest c = IfSome_then c.pop_last.result c.pop_last.ensures.all_below (λ p h. newest_all c.pop_last.new.self.entries p.0 (recursion_from_All (λ k. int_cmp k p.0 ≡ Less) _ h))
+returns-clause-newest c = IfSome_then c.pop_last.result c.pop_last.ensures.all_below
+    (λ p h. newest_all c.pop_last.new.self.entries p.0 (recursion_from_All (λ k. int_cmp k p.0 ≡ Less) _ h))

@@ -9,4 +9,5 @@ pub returns-in-None-clause-found : goal.returns-in-None-clause-found
 returns-in-None-clause-found c = ap commit_in c.in-None.ensures.value ∙ sym (commit_stored c.args.self.now.objects.entries c.args.id.now)
 
 pub returns-clause-found : goal.returns-clause-found
-returns-clause-found c = subst (λ found. IfOk c.copied.result (λ copy. option_map commit_of copy ≡ found)) (ap commit_in c.in-Some.ensures.value ∙ sym (commit_stored c.args.self.now.objects.entries c.args.id.now)) c.copied.ensures.found
+returns-clause-found c = subst (λ found. IfOk c.copied.result (λ copy. option_map commit_of copy ≡ found))
+    (ap commit_in c.in-Some.ensures.value ∙ sym (commit_stored c.args.self.now.objects.entries c.args.id.now)) c.copied.ensures.found

@@ -13,11 +13,13 @@ use Rattle.gixp_memory.proofs.refs.MemoryRefsRefStore.find.Goals as goal
 pub returns-in-Some : goal.returns-in-Some
 returns-in-Some c =
     c.in-Some.ensures.value
-    ∙ ap (λ (q : List ℕ). lookup (is_at (λ (k : Vec ℕ Global). slice_cmp nat_cmp q k.items)) c.args.self.now.names.entries) c.as_bytes.ensures
+    ∙ ap (λ (q : List ℕ). lookup
+    (is_at (λ (k : Vec ℕ Global). slice_cmp nat_cmp q k.items)) c.args.self.now.names.entries) c.as_bytes.ensures
     ∙ sym (named c.args.self.now.names.entries (bstr_bytes c.args.name))
 
 pub returns-in-None : goal.returns-in-None
 returns-in-None c =
     c.in-None.ensures.value
-    ∙ ap (λ (q : List ℕ). lookup (is_at (λ (k : Vec ℕ Global). slice_cmp nat_cmp q k.items)) c.args.self.now.names.entries) c.as_bytes.ensures
+    ∙ ap (λ (q : List ℕ). lookup
+    (is_at (λ (k : Vec ℕ Global). slice_cmp nat_cmp q k.items)) c.args.self.now.names.entries) c.as_bytes.ensures
     ∙ sym (named c.args.self.now.names.entries (bstr_bytes c.args.name))

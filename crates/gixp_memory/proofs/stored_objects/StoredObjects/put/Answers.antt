@@ -9,4 +9,5 @@ use Rattle.gixp_memory.proofs.stored_objects.StoredObjects.put.Goals as goal
 pub returns-in-Ok-clause-ok : goal.returns-in-Ok-clause-ok
 returns-in-Ok-clause-ok c =
     objects_put c.self.inside.objects.entries c.insert.new.self.entries c.args.id _ c.in-Ok.ensures.updates.0
-    ∙ ap (λ (m : Objects). finite.insert m c.args.id (record { kind = Some c.args.kind; commit = option_map commit_of c.args.commit })) c.self.view_is
+    ∙ ap (λ (m : Objects). finite.insert m c.args.id
+    (record { kind = Some c.args.kind; commit = option_map commit_of c.args.commit })) c.self.view_is

@@ -9,8 +9,13 @@ use Rattle.gixp_negotiate.proofs.negotiate.mark.add_tips.Goals as goal
 
 pub loop-id-preserved : goal.loop-id-preserved
 loop-id-preserved g c = record {
-  run = subst (λ ids. IsRun g.N.Negotiator.calls.adds ids c.args.negotiator.now c.args.graph.now.graph c.add_tip.new.self c.add_tip.new.graph.graph) (sym (take_more c.args.ids.now c.loop-id.id-index (record { bytes = [] }) c.loop-id-test.true))
-      (run_more g.N.Negotiator.calls.adds (take c.loop-id.id-index c.args.ids.now) (get_or c.args.ids.now c.loop-id.id-index (record { bytes = [] })) c.args.negotiator.now c.loop-id.negotiator c.add_tip.new.self c.args.graph.now.graph c.loop-id.graph.graph c.add_tip.new.graph.graph
+  run =
+      subst (λ ids. IsRun g.N.Negotiator.calls.adds ids c.args.negotiator.now c.args.graph.now.graph c.add_tip.new.self
+      c.add_tip.new.graph.graph) (sym (take_more c.args.ids.now c.loop-id.id-index (record { bytes = [] }) c.loop-id-test.true))
+      (run_more g.N.Negotiator.calls.adds (take c.loop-id.id-index c.args.ids.now)
+      (get_or c.args.ids.now c.loop-id.id-index
+      (record { bytes = [] })) c.args.negotiator.now c.loop-id.negotiator c.add_tip.new.self c.args.graph.now.graph
+      c.loop-id.graph.graph c.add_tip.new.graph.graph
       c.loop-id.invariant.run c.in_ok-add_tip.ensures.added);
   objects = c.add_tip.ensures.objects ∙ c.loop-id.invariant.objects;
   failures = omega (arith, c.add_tip.ensures.failures, c.loop-id.invariant.failures);
@@ -18,4 +23,7 @@ loop-id-preserved g c = record {
 }
 
 pub returns-in_err-add_tip-clause-stopped : goal.returns-in_err-add_tip-clause-stopped
-returns-in_err-add_tip-clause-stopped g c = let p = err_from_is_err_and c.from_residual.result c.from_residual.ensures.1 in rw (p.1, p.2) (calls_some g.N.Negotiator.calls.adds g.N.Negotiator.calls.adding_fails c.args.ids.now c.loop-id.id-index (record { bytes = [] }) c.args.negotiator.now c.args.graph.now.graph c.loop-id.negotiator c.loop-id.graph.graph _ c.add_tip.new.self c.add_tip.new.graph.graph c.loop-id-test.true c.loop-id.invariant.run c.in_err-add_tip.ensures.fails)
+returns-in_err-add_tip-clause-stopped g c = let p = err_from_is_err_and c.from_residual.result c.from_residual.ensures.1 in
+    rw (p.1, p.2) (calls_some g.N.Negotiator.calls.adds g.N.Negotiator.calls.adding_fails c.args.ids.now c.loop-id.id-index
+    (record { bytes = [] }) c.args.negotiator.now c.args.graph.now.graph c.loop-id.negotiator c.loop-id.graph.graph _ c.add_tip.new.self
+    c.add_tip.new.graph.graph c.loop-id-test.true c.loop-id.invariant.run c.in_err-add_tip.ensures.fails)

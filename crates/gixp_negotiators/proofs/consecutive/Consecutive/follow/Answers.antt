@@ -11,11 +11,15 @@ use Rattle.gixp_negotiators.proofs.SeeLemmas.{sees_on}
 use Rattle.gixp_negotiators.proofs.consecutive.Consecutive.follow.Goals as goal
 
 pub returns-then-is_common-clause-keeps : goal.returns-then-is_common-clause-keeps
-returns-then-is_common-clause-keeps g c = timed_on _ _ _ _ _ _ _ _ _ c.push.ensures.grows c.in_ok-push.ensures.keeps c.in_ok-mark_ancestors.ensures.keeps
+returns-then-is_common-clause-keeps g c =
+    timed_on _ _ _ _ _ _ _ _ _ c.push.ensures.grows c.in_ok-push.ensures.keeps c.in_ok-mark_ancestors.ensures.keeps
 
 pub returns-then-is_common-clause-spreads : goal.returns-then-is_common-clause-spreads
-returns-then-is_common-clause-spreads g c = stays_on is_there stays_there _ _ _ c.push.ensures.grows c.in_ok-push.ensures.spreads c.in_ok-mark_ancestors.ensures.spreads
+returns-then-is_common-clause-spreads g c =
+    stays_on is_there stays_there _ _ _ c.push.ensures.grows c.in_ok-push.ensures.spreads c.in_ok-mark_ancestors.ensures.spreads
 
 pub returns-then-is_common-clause-finds : goal.returns-then-is_common-clause-finds
 returns-then-is_common-clause-finds g c t = sees_on _ _ _ c.mark_ancestors.ensures.grows (c.in_ok-push.ensures.finds refl)
-    (c.in_ok-mark_ancestors.ensures.finds (λ s. or_left (has_mark 8 c.push.new.graph.graph.held c.args.parent.now) (has_mark 2 c.push.new.graph.graph.held c.args.parent.now) (c.in_ok-push.ensures.waits (subst (λ (o : Objects). IsSome (commit_at o c.args.parent.now)) c.push.ensures.grows.objects s))))
+    (c.in_ok-mark_ancestors.ensures.finds (λ s. or_left (has_mark 8 c.push.new.graph.graph.held c.args.parent.now)
+    (has_mark 2 c.push.new.graph.graph.held c.args.parent.now)
+    (c.in_ok-push.ensures.waits (subst (λ (o : Objects). IsSome (commit_at o c.args.parent.now)) c.push.ensures.grows.objects s))))

@@ -10,16 +10,31 @@ use Rattle.gixp_negotiators.proofs.SeeLemmas.{sees_same, sees_on, among_none, am
 use Rattle.gixp_negotiators.proofs.consecutive.Consecutive.follow_all.Goals as goal
 
 pub loop-parent-init : goal.loop-parent-init
-loop-parent-init g c = record { keeps = timed_none _ _ _; spreads = stays_none is_there stays_there _; room = omega arith; waits = All-nil _; finds = λ t. sees_same _ _ (λ id s. s); others = λ f. among_none _ _ _ (sees_same _ _ (λ id s. s)); grows = grows_none _; failures = omega arith }
+loop-parent-init g c =
+    record {
+      keeps = timed_none _ _ _;
+      spreads = stays_none is_there stays_there _;
+      room = omega arith;
+      waits = All-nil _;
+      finds = λ t. sees_same _ _ (λ id s. s);
+      others = λ f. among_none _ _ _ (sees_same _ _ (λ id s. s));
+      grows = grows_none _;
+      failures = omega arith;
+    }
 
 pub loop-parent-preserved : goal.loop-parent-preserved
 loop-parent-preserved g c = record {
   keeps = timed_on _ _ _ _ _ _ _ _ _ c.loop-parent.invariant.grows c.loop-parent.invariant.keeps c.in_ok-follow.ensures.keeps;
   room = omega (arith, c.loop-parent.invariant.room, c.in_ok-follow.ensures.room);
-  spreads = stays_on is_there stays_there _ _ _ c.loop-parent.invariant.grows c.loop-parent.invariant.spreads c.in_ok-follow.ensures.spreads;
-  waits = marked_more c.args.graph.now.graph c.loop-parent.graph.graph c.follow.new.graph.graph c.args.parents.now c.loop-parent.parent-index _ c.loop-parent-test.true c.loop-parent.invariant.grows c.follow.ensures.grows c.loop-parent.invariant.waits c.in_ok-follow.ensures.waits;
+  spreads =
+      stays_on is_there stays_there _ _ _ c.loop-parent.invariant.grows c.loop-parent.invariant.spreads c.in_ok-follow.ensures.spreads;
+  waits =
+      marked_more c.args.graph.now.graph c.loop-parent.graph.graph c.follow.new.graph.graph c.args.parents.now
+      c.loop-parent.parent-index _ c.loop-parent-test.true c.loop-parent.invariant.grows c.follow.ensures.grows
+      c.loop-parent.invariant.waits c.in_ok-follow.ensures.waits;
   finds = λ t. sees_on _ _ _ c.follow.ensures.grows (c.loop-parent.invariant.finds t) (c.in_ok-follow.ensures.finds t);
-  others = λ f. among_on _ _ _ _ c.follow.ensures.grows (c.loop-parent.invariant.others f) (among_one c.args.parents.now c.loop-parent.parent-index _ _ _ c.loop-parent-test.true (c.in_ok-follow.ensures.others f));
+  others = λ f. among_on _ _ _ _ c.follow.ensures.grows (c.loop-parent.invariant.others f)
+      (among_one c.args.parents.now c.loop-parent.parent-index _ _ _ c.loop-parent-test.true (c.in_ok-follow.ensures.others f));
   grows = grows_on _ _ _ c.loop-parent.invariant.grows c.follow.ensures.grows;
   failures = omega (arith, c.loop-parent.invariant.failures, c.follow.ensures.failures);
 }

@@ -9,7 +9,8 @@ use Rattle.gixp_negotiators.proofs.consecutive.Consecutive.follow_all.Given as g
 
 abbrev pub invariant-loop-parent : goal.invariant-loop-parent
 invariant-loop-parent g l = record {
-  keeps : KeepsTimed l.fn.self.uncommon (heap_items l.fn.self.queue.waiting) l.fn.graph.graph l.self.uncommon (heap_items l.self.queue.waiting) l.graph.graph;
+  keeps : KeepsTimed l.fn.self.uncommon (heap_items l.fn.self.queue.waiting) l.fn.graph.graph l.self.uncommon
+      (heap_items l.self.queue.waiting) l.graph.graph;
   room : left 8 l.graph.graph + heap_len l.self.queue.waiting ≤ left 8 l.fn.graph.graph + heap_len l.fn.self.queue.waiting;
   waits : All (IsMarkedIfThere 8 l.fn.graph.graph l.graph.graph) (take l.parent-index l.parents);
   spreads : StaysSpread is_there l.fn.graph.graph l.graph.graph;

@@ -19,7 +19,8 @@ pub returns-clause-grows : goal.returns-clause-grows
 returns-clause-grows g c = grows_on _ _ _ c.look.ensures.grows c.spread_all.ensures.grows
 
 pub returns-clause-keeps : goal.returns-clause-keeps
-returns-clause-keeps g c = timed_on _ _ _ _ _ _ _ _ _ c.look.ensures.grows (timed_grown _ _ _ _ c.look.ensures.grows c.look.ensures.sees) c.in_ok-spread_all.ensures.keeps
+returns-clause-keeps g c = timed_on _ _ _ _ _ _ _ _ _ c.look.ensures.grows
+    (timed_grown _ _ _ _ c.look.ensures.grows c.look.ensures.sees) c.in_ok-spread_all.ensures.keeps
 
 pub returns-then-has-clause-keeps : goal.returns-then-has-clause-keeps
 returns-then-has-clause-keeps g c = timed_grown _ _ _ _ c.look.ensures.grows c.look.ensures.sees
@@ -31,7 +32,9 @@ pub returns-then-has-clause-spreads : goal.returns-then-has-clause-spreads
 returns-then-has-clause-spreads g c = stays_grown is_there stays_there _ _ c.look.ensures.grows c.look.ensures.settles
 
 pub returns-clause-spreads : goal.returns-clause-spreads
-returns-clause-spreads g c = stays_through is_there stays_there c.args.id.now _ _ _ c.look.ensures.grows c.look.ensures.settles c.in_ok-spread_all.ensures.spreads
+returns-clause-spreads g c =
+    stays_through is_there stays_there c.args.id.now _ _ _ c.look.ensures.grows c.look.ensures.settles
+    c.in_ok-spread_all.ensures.spreads
 
 pub returns-in_default-clause-finds : goal.returns-in_default-clause-finds
 returns-in_default-clause-finds g c near = sees_same _ _ c.look.ensures.sees
@@ -41,7 +44,10 @@ returns-then-has-clause-finds g c near = sees_same _ _ c.look.ensures.sees
 
 pub returns-clause-finds : goal.returns-clause-finds
 returns-clause-finds g c near = sees_on _ _ _ c.spread_all.ensures.grows (sees_same _ _ c.look.ensures.sees)
-    (c.in_ok-spread_all.ensures.finds (λ s. near_on c.args.graph.now.graph c.look.new.graph.graph c.args.id.now c.look.ensures.grows (near (subst (λ (o : Objects). IsSome (commit_at o c.args.id.now)) c.look.ensures.grows.objects s))))
+    (c.in_ok-spread_all.ensures.finds (λ s. near_on c.args.graph.now.graph c.look.new.graph.graph c.args.id.now c.look.ensures.grows
+    (near (subst (λ (o : Objects). IsSome (commit_at o c.args.id.now)) c.look.ensures.grows.objects s))))
 
 pub returns-clause-ancestors : goal.returns-clause-ancestors
-returns-clause-ancestors g c seen lacks = common_since is_there stays_there c.args.graph.now.graph c.look.new.graph.graph c.spread_all.new.graph.graph c.args.id.now c.look.ensures.grows (c.in_ok-spread_all.ensures.ancestors (c.look.ensures.grows.marks 8 c.args.id.now seen))
+returns-clause-ancestors g c seen lacks =
+    common_since is_there stays_there c.args.graph.now.graph c.look.new.graph.graph c.spread_all.new.graph.graph c.args.id.now
+    c.look.ensures.grows (c.in_ok-spread_all.ensures.ancestors (c.look.ensures.grows.marks 8 c.args.id.now seen))

@@ -18,7 +18,10 @@ pub returns-clause-common : goal.returns-clause-common
 returns-clause-common g c s = c.spread_all.ensures.grows.marks 2 c.args.id.now (c.in_ok-settle.ensures.marked s)
 
 pub returns-clause-spreads : goal.returns-clause-spreads
-returns-clause-spreads g c = stays_settled is_there stays_there c.args.id.now _ _ _ c.settle.ensures.grows c.settle.ensures.settles_only c.in_ok-spread_all.ensures.spreads
+returns-clause-spreads g c =
+    stays_settled is_there stays_there c.args.id.now _ _ _ c.settle.ensures.grows c.settle.ensures.settles_only
+    c.in_ok-spread_all.ensures.spreads
 
 pub returns-then-not-branch-clause-spreads : goal.returns-then-not-branch-clause-spreads
-returns-then-not-branch-clause-spreads g c = stays_grown is_there stays_there _ _ c.settle.ensures.grows (c.in_ok-settle.ensures.kept c.if-not-branch.true)
+returns-then-not-branch-clause-spreads g c =
+    stays_grown is_there stays_there _ _ c.settle.ensures.grows (c.in_ok-settle.ensures.kept c.if-not-branch.true)

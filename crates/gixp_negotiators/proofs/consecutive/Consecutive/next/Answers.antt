@@ -11,12 +11,19 @@ use Rattle.gixp_negotiators.proofs.SeeLemmas.{sees_same, sees_on, finds_since}
 use Rattle.gixp_negotiators.proofs.consecutive.Consecutive.next.Goals as goal
 
 pub loop-first-init : goal.loop-first-init
-loop-first-init g c = record { keeps = timed_none _ _ _; spreads = stays_none is_there stays_there _; finds = sees_same _ _ (λ id s. s); grows = grows_none _; failures = omega arith }
+loop-first-init g c = record {
+  keeps = timed_none _ _ _;
+  spreads = stays_none is_there stays_there _;
+  finds = sees_same _ _ (λ id s. s);
+  grows = grows_none _;
+  failures = omega arith;
+}
 
 pub loop-first-preserved : goal.loop-first-preserved
 loop-first-preserved g c = record {
   keeps = timed_on _ _ _ _ _ _ _ _ _ c.loop-first.invariant.grows c.loop-first.invariant.keeps
-      (timed_on _ _ _ _ _ _ _ _ _ (grows_none _) (timed_popped c.loop-first.self.uncommon _ _ _ c.in-Some.first c.in-Some.ensures.taken) (rw c.pop.ensures.uncommon at c.in_ok-take.ensures.keeps));
+      (timed_on _ _ _ _ _ _ _ _ _ (grows_none _) (timed_popped c.loop-first.self.uncommon _ _ _ c.in-Some.first c.in-Some.ensures.taken)
+      (rw c.pop.ensures.uncommon at c.in_ok-take.ensures.keeps));
   spreads = stays_on is_there stays_there _ _ _ c.loop-first.invariant.grows c.loop-first.invariant.spreads c.in_ok-take.ensures.spreads;
   finds = sees_on _ _ _ c.take.ensures.grows c.loop-first.invariant.finds (c.in_ok-take.ensures.passes c.if-branch.false);
   grows = grows_on _ _ _ c.loop-first.invariant.grows c.take.ensures.grows;
@@ -24,18 +31,24 @@ loop-first-preserved g c = record {
 }
 
 pub returns-then-branch-clause-offered : goal.returns-then-branch-clause-offered
-returns-then-branch-clause-offered g c = offered_since c.args.graph.now.graph c.loop-first.graph.graph c.take.new.graph.graph c.in-Some.first.id c.loop-first.invariant.grows (c.in_ok-take.ensures.offered c.if-branch.true)
+returns-then-branch-clause-offered g c =
+    offered_since c.args.graph.now.graph c.loop-first.graph.graph c.take.new.graph.graph c.in-Some.first.id c.loop-first.invariant.grows
+    (c.in_ok-take.ensures.offered c.if-branch.true)
 
 pub returns-then-branch-clause-keeps : goal.returns-then-branch-clause-keeps
 returns-then-branch-clause-keeps g c = timed_on _ _ _ _ _ _ _ _ _ c.loop-first.invariant.grows c.loop-first.invariant.keeps
-    (timed_on _ _ _ _ _ _ _ _ _ (grows_none _) (timed_popped c.loop-first.self.uncommon _ _ _ c.in-Some.first c.in-Some.ensures.taken) (rw c.pop.ensures.uncommon at c.in_ok-take.ensures.keeps))
+    (timed_on _ _ _ _ _ _ _ _ _ (grows_none _) (timed_popped c.loop-first.self.uncommon _ _ _ c.in-Some.first c.in-Some.ensures.taken)
+    (rw c.pop.ensures.uncommon at c.in_ok-take.ensures.keeps))
 
 pub returns-then-branch-clause-newest : goal.returns-then-branch-clause-newest
-returns-then-branch-clause-newest g c timed = newest_at c.args.graph.now.graph c.loop-first.graph.graph _ _ _ c.in-Some.first c.loop-first.invariant.grows (c.loop-first.invariant.keeps.timed timed) c.in-Some.ensures.taken c.in-Some.ensures.newest c.in_ok-take.ensures.keeps.keeps.order
+returns-then-branch-clause-newest g c timed =
+    newest_at c.args.graph.now.graph c.loop-first.graph.graph _ _ _ c.in-Some.first c.loop-first.invariant.grows
+    (c.loop-first.invariant.keeps.timed timed) c.in-Some.ensures.taken c.in-Some.ensures.newest c.in_ok-take.ensures.keeps.keeps.order
 
 pub returns-clause-none : goal.returns-clause-none
 returns-clause-none g c f = ⊎_elim
-    (λ e. none_open (heap_items c.loop-first.self.queue.waiting) c.loop-first.graph.graph (subst (λ u. Fits u (heap_items c.loop-first.self.queue.waiting) c.loop-first.graph.graph) e (c.loop-first.invariant.keeps.keeps.fits f)))
+    (λ e. none_open (heap_items c.loop-first.self.queue.waiting) c.loop-first.graph.graph (subst (λ u.
+    Fits u (heap_items c.loop-first.self.queue.waiting) c.loop-first.graph.graph) e (c.loop-first.invariant.keeps.keeps.fits f)))
     (λ e. none_waits _ _ _ e (c.loop-first.invariant.keeps.keeps.fits f))
     (rw c.in_default.is at c.pop.ensures.none)
 
@@ -43,7 +56,10 @@ pub returns-clause-keeps : goal.returns-clause-keeps
 returns-clause-keeps g c = rw (c.pop.ensures.uncommon, rw c.in_default.is at c.pop.ensures.stays) c.loop-first.invariant.keeps
 
 pub returns-then-branch-clause-spreads : goal.returns-then-branch-clause-spreads
-returns-then-branch-clause-spreads g c = stays_on is_there stays_there _ _ _ c.loop-first.invariant.grows c.loop-first.invariant.spreads c.in_ok-take.ensures.spreads
+returns-then-branch-clause-spreads g c =
+    stays_on is_there stays_there _ _ _ c.loop-first.invariant.grows c.loop-first.invariant.spreads c.in_ok-take.ensures.spreads
 
 pub returns-then-branch-clause-finds : goal.returns-then-branch-clause-finds
-returns-then-branch-clause-finds g c = finds_since _ _ _ c.in-Some.first.id c.loop-first.invariant.grows c.take.ensures.grows c.loop-first.invariant.finds (c.in_ok-take.ensures.finds c.if-branch.true)
+returns-then-branch-clause-finds g c =
+    finds_since _ _ _ c.in-Some.first.id c.loop-first.invariant.grows c.take.ensures.grows c.loop-first.invariant.finds
+    (c.in_ok-take.ensures.finds c.if-branch.true)

@@ -8,7 +8,8 @@ use Rattle.gixp_negotiators.proofs.consecutive.Consecutive.next.Given as goal
 
 abbrev pub invariant-loop-first : goal.invariant-loop-first
 invariant-loop-first g l = record {
-  keeps : KeepsTimed l.fn.self.uncommon (heap_items l.fn.self.queue.waiting) l.fn.graph.graph l.self.uncommon (heap_items l.self.queue.waiting) l.graph.graph;
+  keeps : KeepsTimed l.fn.self.uncommon (heap_items l.fn.self.queue.waiting) l.fn.graph.graph l.self.uncommon
+      (heap_items l.self.queue.waiting) l.graph.graph;
   spreads : StaysSpread is_there l.fn.graph.graph l.graph.graph;
   finds : SeesCommon l.fn.graph.graph l.graph.graph;
   grows : Grows l.fn.graph.graph l.graph.graph;

@@ -8,13 +8,28 @@ use Rattle.gixp_negotiators.proofs.SpreadLemmas.{stays_there, common_more, kept_
 use Rattle.gixp_negotiators.proofs.consecutive.Consecutive.reach_all.Goals as goal
 
 pub loop-id-init : goal.loop-id-init
-loop-id-init g c = record { keeps = timed_none _ _ _; spreads = kept_none is_there stays_there _ _; marked = All-nil _; sees = λ id s. s; common = λ all. all; less = omega arith; seen = omega arith; queue = refl; grows = grows_none _; failures = omega arith }
+loop-id-init g c = record {
+  keeps = timed_none _ _ _;
+  spreads = kept_none is_there stays_there _ _;
+  marked = All-nil _;
+  sees =
+      λ id s. s;
+  common = λ all. all;
+  less = omega arith;
+  seen = omega arith;
+  queue = refl;
+  grows = grows_none _;
+  failures = omega arith;
+}
 
 pub loop-id-preserved : goal.loop-id-preserved
 loop-id-preserved g c = record {
   keeps = timed_on _ _ _ _ _ _ _ _ _ c.loop-id.invariant.grows c.loop-id.invariant.keeps c.in_ok-reach.ensures.keeps;
   spreads = kept_on is_there stays_there _ _ _ _ _ _ c.loop-id.invariant.grows c.loop-id.invariant.spreads c.in_ok-reach.ensures.spreads;
-  marked = common_more is_there stays_there c.args.graph.now.graph c.loop-id.graph.graph c.reach.new.graph.graph c.args.ids.now c.loop-id.id-index _ c.loop-id-test.true c.loop-id.invariant.grows c.reach.ensures.grows c.loop-id.invariant.marked c.in_ok-reach.ensures.marked;
+  marked =
+      common_more is_there stays_there c.args.graph.now.graph c.loop-id.graph.graph c.reach.new.graph.graph c.args.ids.now
+      c.loop-id.id-index _ c.loop-id-test.true c.loop-id.invariant.grows c.reach.ensures.grows c.loop-id.invariant.marked
+      c.in_ok-reach.ensures.marked;
   less = omega (arith, c.loop-id.invariant.less, c.in_ok-reach.ensures.less);
   seen = omega (arith, c.loop-id.invariant.seen, c.reach.ensures.seen);
   queue = c.reach.ensures.queue ∙ c.loop-id.invariant.queue;

@@ -9,14 +9,16 @@ use Rattle.gixp_negotiators.proofs.consecutive.Consecutive.reach_all.Given as go
 
 abbrev pub invariant-loop-id : goal.invariant-loop-id
 invariant-loop-id g l = record {
-  keeps : KeepsTimed l.fn.self.uncommon (heap_items l.fn.self.queue.waiting) l.fn.graph.graph l.self.uncommon (heap_items l.self.queue.waiting) l.graph.graph;
+  keeps : KeepsTimed l.fn.self.uncommon (heap_items l.fn.self.queue.waiting) l.fn.graph.graph l.self.uncommon
+      (heap_items l.self.queue.waiting) l.graph.graph;
   less : left 2 l.graph.graph + length l.due.items ≤ left 2 l.fn.graph.graph + length l.fn.due.items;
   seen : left 8 l.graph.graph ≤ left 8 l.fn.graph.graph;
   queue : l.self.queue ≡ l.fn.self.queue;
   spreads : KeepsSpread is_there l.fn.due.items l.fn.graph.graph l.due.items l.graph.graph;
   marked : All (IsMarkedIfThere 2 l.fn.graph.graph l.graph.graph) (take l.id-index l.ids);
   sees : SeesNone l.fn.graph.graph l.graph.graph;
-  common : All (λ q. has_mark 2 l.fn.graph.graph.held q ≡ true) l.fn.due.items → All (λ q. has_mark 2 l.graph.graph.held q ≡ true) l.due.items;
+  common : All (λ q. has_mark 2 l.fn.graph.graph.held q ≡ true) l.fn.due.items
+      → All (λ q. has_mark 2 l.graph.graph.held q ≡ true) l.due.items;
   grows : Grows l.fn.graph.graph l.graph.graph;
   failures : l.fn.graph.failures ≤ l.graph.failures;
 }

@@ -14,38 +14,50 @@ pub returns-in_default-clause-keeps : goal.returns-in_default-clause-keeps
 returns-in_default-clause-keeps g c = timed_grown _ _ _ _ c.look.ensures.grows c.look.ensures.sees
 
 pub returns-clause-keeps : goal.returns-clause-keeps
-returns-clause-keeps g c = timed_on _ _ _ _ _ _ _ _ _ c.look.ensures.grows (timed_grown _ _ _ _ c.look.ensures.grows c.look.ensures.sees) c.in_ok-reach_all.ensures.keeps
+returns-clause-keeps g c = timed_on _ _ _ _ _ _ _ _ _ c.look.ensures.grows
+    (timed_grown _ _ _ _ c.look.ensures.grows c.look.ensures.sees) c.in_ok-reach_all.ensures.keeps
 
 pub returns-then-not-has-clause-keeps : goal.returns-then-not-has-clause-keeps
-returns-then-not-has-clause-keeps g c = timed_on _ _ _ _ _ _ _ _ _ c.look.ensures.grows (timed_grown _ _ _ _ c.look.ensures.grows c.look.ensures.sees) c.in_ok-push.ensures.keeps
+returns-then-not-has-clause-keeps g c = timed_on _ _ _ _ _ _ _ _ _ c.look.ensures.grows
+    (timed_grown _ _ _ _ c.look.ensures.grows c.look.ensures.sees) c.in_ok-push.ensures.keeps
 
 pub returns-in_default-clause-spreads : goal.returns-in_default-clause-spreads
-returns-in_default-clause-spreads g c = from_unseen is_there stays_there c.args.id.now _ _ _ c.look.ensures.grows c.look.ensures.settles (rw c.in_default.is at c.in_ok-flags.ensures.absent)
+returns-in_default-clause-spreads g c = from_unseen is_there stays_there c.args.id.now _ _ _ c.look.ensures.grows c.look.ensures.settles
+    (rw c.in_default.is at c.in_ok-flags.ensures.absent)
 
 pub returns-in_default-clause-finds : goal.returns-in_default-clause-finds
 returns-in_default-clause-finds g c near = sees_same _ _ c.look.ensures.sees
 
 pub returns-clause-finds : goal.returns-clause-finds
-returns-clause-finds g c near = sees_on _ _ _ c.reach_all.ensures.grows (sees_same _ _ c.look.ensures.sees) (sees_same _ _ c.reach_all.ensures.sees)
+returns-clause-finds g c near = sees_on _ _ _ c.reach_all.ensures.grows (sees_same _ _ c.look.ensures.sees)
+    (sees_same _ _ c.reach_all.ensures.sees)
 
 pub returns-clause-spreads : goal.returns-clause-spreads
 returns-clause-spreads g c = from_parents is_there stays_there c.args.id.now _ _ _ _ _ c.look.ensures.grows c.look.ensures.settles
-    (λ seen. parents_common is_there stays_there _ _ c.args.id.now c.deref.result.now c.reach_all.ensures.grows seen (c.deref.ensures.value ∙ c.in_ok-parents.ensures.parents) c.in_ok-reach_all.ensures.marked)
+    (λ seen. parents_common is_there stays_there _ _ c.args.id.now c.deref.result.now c.reach_all.ensures.grows seen
+    (c.deref.ensures.value ∙ c.in_ok-parents.ensures.parents) c.in_ok-reach_all.ensures.marked)
     c.in_ok-reach_all.ensures.spreads
 
 pub returns-clause-ancestors : goal.returns-clause-ancestors
-returns-clause-ancestors g c seen = common_since is_there stays_there c.args.graph.now.graph c.look.new.graph.graph c.reach_all.new.graph.graph c.args.id.now c.look.ensures.grows
-    (parents_common is_there stays_there _ _ c.args.id.now c.deref.result.now c.reach_all.ensures.grows (c.look.ensures.grows.marks 8 c.args.id.now seen) (c.deref.ensures.value ∙ c.in_ok-parents.ensures.parents) c.in_ok-reach_all.ensures.marked)
+returns-clause-ancestors g c seen =
+    common_since is_there stays_there c.args.graph.now.graph c.look.new.graph.graph c.reach_all.new.graph.graph c.args.id.now
+    c.look.ensures.grows
+    (parents_common is_there stays_there _ _ c.args.id.now c.deref.result.now c.reach_all.ensures.grows
+    (c.look.ensures.grows.marks 8 c.args.id.now seen)
+    (c.deref.ensures.value ∙ c.in_ok-parents.ensures.parents) c.in_ok-reach_all.ensures.marked)
 
 pub returns-then-not-has-clause-spreads : goal.returns-then-not-has-clause-spreads
 returns-then-not-has-clause-spreads g c =
     let f : IsFoundWith c.look.new.graph.graph c.args.id.now c.in-Some.flags = rw c.in-Some.is at c.in_ok-flags.ensures.found in
-    from_pushed is_there stays_there c.args.id.now _ _ _ _ c.look.ensures.grows c.look.ensures.settles c.push.ensures.grows (c.push.ensures.settles refl) (f.marks 8 ∙ sym c.has.ensures ∙ c.if-not-has.true)
+    from_pushed is_there stays_there c.args.id.now _ _ _ _ c.look.ensures.grows c.look.ensures.settles c.push.ensures.grows
+    (c.push.ensures.settles refl) (f.marks 8 ∙ sym c.has.ensures ∙ c.if-not-has.true)
 
 pub returns-then-not-has-clause-finds : goal.returns-then-not-has-clause-finds
 returns-then-not-has-clause-finds g c near =
     let f : IsFoundWith c.look.new.graph.graph c.args.id.now c.in-Some.flags = rw c.in-Some.is at c.in_ok-flags.ensures.found in
     let unseen : has_mark 8 c.look.new.graph.graph.held c.args.id.now ≡ false = f.marks 8 ∙ sym c.has.ensures ∙ c.if-not-has.true in
     sees_on _ _ _ c.push.ensures.grows (sees_same _ _ c.look.ensures.sees) (sees_one _ _ c.args.id.now c.push.ensures.sees_only
-    (or_right (has_mark 8 c.look.new.graph.graph.held c.args.id.now) (has_mark 2 c.push.new.graph.graph.held c.args.id.now) (c.push.ensures.grows.marks 2 c.args.id.now
-    (near_unseen c.args.graph.now.graph c.look.new.graph.graph c.args.id.now c.look.ensures.grows unseen (near (subst (λ (o : Objects). IsSome (commit_at o c.args.id.now)) c.look.ensures.grows.objects f.read))))))
+    (or_right (has_mark 8 c.look.new.graph.graph.held c.args.id.now) (has_mark 2 c.push.new.graph.graph.held c.args.id.now)
+    (c.push.ensures.grows.marks 2 c.args.id.now
+    (near_unseen c.args.graph.now.graph c.look.new.graph.graph c.args.id.now c.look.ensures.grows unseen
+    (near (subst (λ (o : Objects). IsSome (commit_at o c.args.id.now)) c.look.ensures.grows.objects f.read))))))

@@ -18,7 +18,8 @@ loop-next-init g c = record {
   spreads = from_first is_there c.args.id.now _ _ _ _ c.new-due.ensures.items c.in_ok-spread.ensures.spreads;
   ancestors = c.in_ok-spread.ensures.ancestors;
   finds = c.in_ok-spread.ensures.finds;
-  common = c.in_ok-spread.ensures.common (All-same (λ q. has_mark 2 c.args.graph.now.graph.held q ≡ true) _ [] c.new-due.ensures.items (All-nil (λ q. has_mark 2 c.args.graph.now.graph.held q ≡ true)));
+  common = c.in_ok-spread.ensures.common (All-same (λ q. has_mark 2 c.args.graph.now.graph.held q ≡ true) _ [] c.new-due.ensures.items
+      (All-nil (λ q. has_mark 2 c.args.graph.now.graph.held q ≡ true)));
   grows = c.spread.ensures.grows;
   failures = c.spread.ensures.failures;
 }
@@ -26,19 +27,28 @@ loop-next-init g c = record {
 pub loop-next-preserved : goal.loop-next-preserved
 loop-next-preserved g c =
     let is : c.loop-next.due.items ≡ c.pop.new.self.items ++ c.in-Some.next ∷ [] = rw c.in-Some.is at c.pop.ensures.items in
-    let both = common_popped c.loop-next.graph.graph c.loop-next.due.items c.pop.new.self.items c.in-Some.next is c.loop-next.invariant.common in
+    let both =
+    common_popped c.loop-next.graph.graph c.loop-next.due.items c.pop.new.self.items c.in-Some.next is
+    c.loop-next.invariant.common in
     record {
       keeps = timed_on _ _ _ _ _ _ _ _ _ c.loop-next.invariant.grows c.loop-next.invariant.keeps c.in_ok-spread-2.ensures.keeps;
       room = omega (arith, c.loop-next.invariant.room, c.in_ok-spread-2.ensures.room);
-      spreads = from_next is_there stays_there c.args.id.now c.in-Some.next _ _ _ _ _ _ c.loop-next.invariant.grows is c.in_ok-spread-2.ensures.spreads c.loop-next.invariant.spreads;
-      ancestors = λ seen. common_on is_there stays_there c.args.graph.now.graph c.loop-next.graph.graph c.spread-in-Some.new.graph.graph c.args.id.now c.spread-in-Some.ensures.grows
-          (held_marked c.loop-next.graph.graph c.args.id.now 8 (c.loop-next.invariant.grows.marks 8 c.args.id.now seen)) (c.loop-next.invariant.ancestors seen);
+      spreads =
+          from_next is_there stays_there c.args.id.now c.in-Some.next _ _ _ _ _ _ c.loop-next.invariant.grows is
+          c.in_ok-spread-2.ensures.spreads c.loop-next.invariant.spreads;
+      ancestors =
+          λ seen. common_on is_there stays_there c.args.graph.now.graph c.loop-next.graph.graph c.spread-in-Some.new.graph.graph
+          c.args.id.now c.spread-in-Some.ensures.grows
+          (held_marked c.loop-next.graph.graph c.args.id.now 8 (c.loop-next.invariant.grows.marks 8 c.args.id.now seen))
+          (c.loop-next.invariant.ancestors seen);
       finds = λ near. sees_on _ _ _ c.spread-in-Some.ensures.grows (c.loop-next.invariant.finds near)
-          (c.in_ok-spread-2.ensures.finds (λ s. or_right (has_mark 8 c.loop-next.graph.graph.held c.in-Some.next) (has_mark 2 c.loop-next.graph.graph.held c.in-Some.next) both.0));
+          (c.in_ok-spread-2.ensures.finds (λ s. or_right (has_mark 8 c.loop-next.graph.graph.held c.in-Some.next)
+          (has_mark 2 c.loop-next.graph.graph.held c.in-Some.next) both.0));
       common = c.in_ok-spread-2.ensures.common both.1;
       grows = grows_on _ _ _ c.loop-next.invariant.grows c.spread-in-Some.ensures.grows;
       failures = omega (arith, c.loop-next.invariant.failures, c.spread-in-Some.ensures.failures);
     }
 
 pub returns-clause-spreads : goal.returns-clause-spreads
-returns-clause-spreads g c = from_all is_there stays_there c.args.id.now c.loop-next.due.items _ _ (search rules) c.loop-next.invariant.spreads
+returns-clause-spreads g c =
+    from_all is_there stays_there c.args.id.now c.loop-next.due.items _ _ (search rules) c.loop-next.invariant.spreads

@@ -10,11 +10,14 @@ use Rattle.gixp_negotiators.proofs.consecutive.Consecutive.spread_all.Given as g
 
 abbrev pub invariant-loop-next : goal.invariant-loop-next
 invariant-loop-next g l = record {
-  keeps : KeepsTimed l.fn.self.uncommon (heap_items l.fn.self.queue.waiting) l.fn.graph.graph l.self.uncommon (heap_items l.self.queue.waiting) l.graph.graph;
+  keeps : KeepsTimed l.fn.self.uncommon (heap_items l.fn.self.queue.waiting) l.fn.graph.graph l.self.uncommon
+      (heap_items l.self.queue.waiting) l.graph.graph;
   room : left 8 l.graph.graph + heap_len l.self.queue.waiting ≤ left 8 l.fn.graph.graph + heap_len l.fn.self.queue.waiting;
   spreads : SpreadsFrom is_there l.fn.id [] l.fn.graph.graph l.due.items l.graph.graph;
   ancestors : has_mark 8 l.fn.graph.graph.held l.fn.id ≡ true → HasCommonParents is_there l.fn.graph.graph l.graph.graph l.fn.id;
-  finds : (IsSome (commit_at l.fn.graph.graph.objects l.fn.id) → (has_mark 8 l.fn.graph.graph.held l.fn.id || has_mark 2 l.fn.graph.graph.held l.fn.id) ≡ true) → SeesCommon l.fn.graph.graph l.graph.graph;
+  finds : (IsSome (commit_at l.fn.graph.graph.objects l.fn.id)
+      → (has_mark 8 l.fn.graph.graph.held l.fn.id || has_mark 2 l.fn.graph.graph.held l.fn.id) ≡ true)
+      → SeesCommon l.fn.graph.graph l.graph.graph;
   common : All (λ q. has_mark 2 l.graph.graph.held q ≡ true) l.due.items;
   grows : Grows l.fn.graph.graph l.graph.graph;
   failures : l.fn.graph.failures ≤ l.graph.failures;

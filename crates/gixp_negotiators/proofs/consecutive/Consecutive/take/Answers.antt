@@ -12,39 +12,53 @@ use Rattle.gixp_negotiators.proofs.SeeLemmas.{sees_same, sees_on, finds_taken, s
 use Rattle.gixp_negotiators.proofs.consecutive.Consecutive.take.Goals as goal
 
 pub returns-in_default-clause-keeps : goal.returns-in_default-clause-keeps
-returns-in_default-clause-keeps g c = timed_taken _ _ _ _ _ c.args.first.now c.claim.ensures.grows (rw c.in_default.is at c.in_ok-flags.ensures.absent).0 (rw c.in_default.is at c.in_ok-flags.ensures.absent).1 (omega arith)
+returns-in_default-clause-keeps g c = timed_taken _ _ _ _ _ c.args.first.now c.claim.ensures.grows
+    (rw c.in_default.is at c.in_ok-flags.ensures.absent).0 (rw c.in_default.is at c.in_ok-flags.ensures.absent).1 (omega arith)
 
 pub returns-clause-keeps : goal.returns-clause-keeps
 returns-clause-keeps g c =
-    let k : Claims 16 c.args.graph.now.graph c.claim.new.graph.graph c.args.first.now.id c.in-Some.flags = rw c.in-Some.is at c.in_ok-flags.ensures.claimed in
+    let k : Claims 16 c.args.graph.now.graph c.claim.new.graph.graph c.args.first.now.id c.in-Some.flags =
+    rw c.in-Some.is at c.in_ok-flags.ensures.claimed in
     let le : c.args.self.now.uncommon ≤ c.release.new.self.uncommon + open_one c.args.graph.now.graph.held c.args.first.now.id =
-    released _ _ _ _ c.has-is_common.result (λ e. k.lacks 2 (sym c.has-is_common.ensures ∙ e)) c.release.ensures.common c.release.ensures.open
+    released _ _ _ _ c.has-is_common.result (λ e.
+    k.lacks 2 (sym c.has-is_common.ensures ∙ e)) c.release.ensures.common c.release.ensures.open
     in
-    timed_on _ _ _ _ _ _ _ _ _ c.claim.ensures.grows (timed_taken _ _ _ _ _ c.args.first.now c.claim.ensures.grows (c.claim.ensures.sees refl) (λ s. k.after) le) (rw c.release.ensures.queue at c.in_ok-follow_all.ensures.keeps)
+    timed_on _ _ _ _ _ _ _ _ _ c.claim.ensures.grows (timed_taken _ _ _ _ _ c.args.first.now c.claim.ensures.grows
+    (c.claim.ensures.sees refl) (λ s. k.after) le) (rw c.release.ensures.queue at c.in_ok-follow_all.ensures.keeps)
 
 pub returns-clause-offered : goal.returns-clause-offered
 returns-clause-offered g c t =
-    let k : Claims 16 c.args.graph.now.graph c.claim.new.graph.graph c.args.first.now.id c.in-Some.flags = rw c.in-Some.is at c.in_ok-flags.ensures.claimed in
+    let k : Claims 16 c.args.graph.now.graph c.claim.new.graph.graph c.args.first.now.id c.in-Some.flags =
+    rw c.in-Some.is at c.in_ok-flags.ensures.claimed in
     let lacks : has_all 2 c.in-Some.flags.0 ≡ false = sym c.has-is_common.ensures ∙ not_true c.has-is_common.result t in
-    offered c.args.graph.now.graph c.claim.new.graph.graph c.follow_all.new.graph.graph c.args.first.now.id c.in-Some.flags k lacks c.follow_all.ensures.grows
-    (parents_marked c.args.graph.now.graph c.claim.new.graph.graph c.follow_all.new.graph.graph c.args.first.now.id c.deref.result.now c.claim.ensures.grows c.follow_all.ensures.grows k.held (c.deref.ensures.value ∙ c.in_ok-parents.ensures.parents) c.in_ok-follow_all.ensures.waits)
+    offered c.args.graph.now.graph c.claim.new.graph.graph c.follow_all.new.graph.graph c.args.first.now.id c.in-Some.flags k lacks
+    c.follow_all.ensures.grows
+    (parents_marked c.args.graph.now.graph c.claim.new.graph.graph c.follow_all.new.graph.graph c.args.first.now.id c.deref.result.now
+    c.claim.ensures.grows c.follow_all.ensures.grows k.held
+    (c.deref.ensures.value ∙ c.in_ok-parents.ensures.parents) c.in_ok-follow_all.ensures.waits)
 
 pub returns-in_default-clause-spreads : goal.returns-in_default-clause-spreads
-returns-in_default-clause-spreads g c = stays_grown is_there stays_there _ _ c.claim.ensures.grows (rw c.in_default.is at c.in_ok-flags.ensures.kept)
+returns-in_default-clause-spreads g c =
+    stays_grown is_there stays_there _ _ c.claim.ensures.grows (rw c.in_default.is at c.in_ok-flags.ensures.kept)
 
 pub returns-clause-spreads : goal.returns-clause-spreads
-returns-clause-spreads g c = stays_on is_there stays_there _ _ _ c.claim.ensures.grows (stays_grown is_there stays_there _ _ c.claim.ensures.grows (c.claim.ensures.settles refl)) c.in_ok-follow_all.ensures.spreads
+returns-clause-spreads g c = stays_on is_there stays_there _ _ _ c.claim.ensures.grows
+    (stays_grown is_there stays_there _ _ c.claim.ensures.grows (c.claim.ensures.settles refl)) c.in_ok-follow_all.ensures.spreads
 
 pub returns-in_default-clause-passes : goal.returns-in_default-clause-passes
 returns-in_default-clause-passes g c f = sees_same _ _ (rw c.in_default.is at c.in_ok-flags.ensures.absent).0
 
 pub returns-clause-passes : goal.returns-clause-passes
-returns-clause-passes g c f = sees_on _ _ _ c.follow_all.ensures.grows (sees_same _ _ (c.claim.ensures.sees refl)) (c.in_ok-follow_all.ensures.finds (c.is_shared-spreads.ensures ∙ shared_common c.has-is_common.result (has_all 2 c.in-Some.flags.0) (has_all 4 c.in-Some.flags.0) c.has-is_common.ensures f))
+returns-clause-passes g c f = sees_on _ _ _ c.follow_all.ensures.grows (sees_same _ _ (c.claim.ensures.sees refl))
+    (c.in_ok-follow_all.ensures.finds (c.is_shared-spreads.ensures
+    ∙ shared_common c.has-is_common.result (has_all 2 c.in-Some.flags.0) (has_all 4 c.in-Some.flags.0) c.has-is_common.ensures f))
 
 pub returns-clause-finds : goal.returns-clause-finds
 returns-clause-finds g c t =
-    let k : Claims 16 c.args.graph.now.graph c.claim.new.graph.graph c.args.first.now.id c.in-Some.flags = rw c.in-Some.is at c.in_ok-flags.ensures.claimed in
-    finds_taken c.args.graph.now.graph c.claim.new.graph.graph c.follow_all.new.graph.graph c.args.first.now.id c.deref.result.now c.is_shared-spreads.result c.follow_all.ensures.grows (c.claim.ensures.sees refl)
+    let k : Claims 16 c.args.graph.now.graph c.claim.new.graph.graph c.args.first.now.id c.in-Some.flags =
+    rw c.in-Some.is at c.in_ok-flags.ensures.claimed in
+    finds_taken c.args.graph.now.graph c.claim.new.graph.graph c.follow_all.new.graph.graph c.args.first.now.id c.deref.result.now
+    c.is_shared-spreads.result c.follow_all.ensures.grows (c.claim.ensures.sees refl)
     (λ e. k.lacks 4 (or_parts (has_all 2 c.in-Some.flags.0) (has_all 4 c.in-Some.flags.0) (sym c.is_shared-spreads.ensures ∙ e)).1)
     (c.deref.ensures.value ∙ c.in_ok-parents.ensures.parents ∙ sym (c.follow_all.ensures.grows.parents c.args.first.now.id k.held))
     c.in_ok-follow_all.ensures.finds c.in_ok-follow_all.ensures.others

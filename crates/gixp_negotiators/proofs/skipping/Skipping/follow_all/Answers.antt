@@ -8,17 +8,36 @@ use Rattle.gixp_negotiators.proofs.StepLemmas.{marked_more}
 use Rattle.gixp_negotiators.proofs.skipping.Skipping.follow_all.Goals as goal
 
 pub loop-parent-init : goal.loop-parent-init
-loop-parent-init g c = record { fits = λ f. f; queues = queues_same _ _ _ refl; room = omega arith; waits = All-nil _; taken = λ e. All-nil _; hands = hands_none c.args.legacy c.args.graph.now.graph c.args.self.now.skips.entries; grows = grows_none _; failures = omega arith }
+loop-parent-init g c =
+    record {
+      fits = λ f. f;
+      queues = queues_same _ _ _ refl;
+      room = omega arith;
+      waits = All-nil _;
+      taken = λ e. All-nil _;
+      hands =
+          hands_none c.args.legacy c.args.graph.now.graph c.args.self.now.skips.entries;
+      grows = grows_none _;
+      failures = omega arith;
+    }
 
 pub loop-parent-preserved : goal.loop-parent-preserved
 loop-parent-preserved g c = record {
   fits = λ f. c.in_ok-waits.ensures.fits (c.loop-parent.invariant.fits f);
   room = omega (arith, c.loop-parent.invariant.room, c.in_ok-waits.ensures.room);
-  waits = marked_more c.args.graph.now.graph c.loop-parent.graph.graph c.follow.new.graph.graph c.args.parents.now c.loop-parent.parent-index _ c.loop-parent-test.true c.loop-parent.invariant.grows c.follow.ensures.grows c.loop-parent.invariant.waits c.in_ok-waits.ensures.waits;
+  waits =
+      marked_more c.args.graph.now.graph c.loop-parent.graph.graph c.follow.new.graph.graph c.args.parents.now
+      c.loop-parent.parent-index _ c.loop-parent-test.true c.loop-parent.invariant.grows c.follow.ensures.grows
+      c.loop-parent.invariant.waits c.in_ok-waits.ensures.waits;
   queues = queues_on _ _ _ _ _ c.loop-parent.invariant.grows c.loop-parent.invariant.queues c.in_ok-waits.ensures.queues;
-  taken = λ e. taken_more c.args.parents.now c.loop-parent.parent-index _ c.loop-parent.graph.graph c.follow.new.graph.graph c.loop-parent-test.true c.follow.ensures.grows
-      (c.loop-parent.invariant.taken (neither_left c.loop-parent.any c.in_ok-waits.waits e)) (c.in_ok-waits.ensures.taken (neither_right c.loop-parent.any c.in_ok-waits.waits e));
-  hands = hands_step c.args.legacy c.args.parents.now c.loop-parent.parent-index _ c.loop-parent.graph.graph c.follow.new.graph.graph c.args.self.now.skips.entries c.loop-parent.self.skips.entries c.follow.new.self.skips.entries
+  taken =
+      λ e. taken_more c.args.parents.now c.loop-parent.parent-index _ c.loop-parent.graph.graph c.follow.new.graph.graph
+      c.loop-parent-test.true c.follow.ensures.grows
+      (c.loop-parent.invariant.taken (neither_left c.loop-parent.any c.in_ok-waits.waits e))
+      (c.in_ok-waits.ensures.taken (neither_right c.loop-parent.any c.in_ok-waits.waits e));
+  hands =
+      hands_step c.args.legacy c.args.parents.now c.loop-parent.parent-index _ c.loop-parent.graph.graph c.follow.new.graph.graph
+      c.args.self.now.skips.entries c.loop-parent.self.skips.entries c.follow.new.self.skips.entries
       c.loop-parent-test.true c.follow.ensures.grows c.loop-parent.invariant.hands c.in_ok-waits.ensures.hands;
   grows = grows_on _ _ _ c.loop-parent.invariant.grows c.follow.ensures.grows;
   failures = omega (arith, c.loop-parent.invariant.failures, c.follow.ensures.failures);
@@ -28,7 +47,10 @@ pub returns-in_err-waits-clause-grows : goal.returns-in_err-waits-clause-grows
 returns-in_err-waits-clause-grows g c = grows_on _ _ _ c.loop-parent.invariant.grows c.follow.ensures.grows
 
 pub returns-clause-hands : goal.returns-clause-hands
-returns-clause-hands g c = hands_all c.args.legacy c.args.parents.now c.loop-parent.parent-index c.loop-parent.graph.graph c.args.self.now.skips.entries c.loop-parent.self.skips.entries c.loop-parent-test.false c.loop-parent.invariant.hands
+returns-clause-hands g c =
+    hands_all c.args.legacy c.args.parents.now c.loop-parent.parent-index c.loop-parent.graph.graph c.args.self.now.skips.entries
+    c.loop-parent.self.skips.entries c.loop-parent-test.false c.loop-parent.invariant.hands
 
 pub returns-clause-taken : goal.returns-clause-taken
-returns-clause-taken g c e = taken_all c.args.parents.now c.loop-parent.parent-index c.loop-parent.graph.graph c.loop-parent-test.false (c.loop-parent.invariant.taken e)
+returns-clause-taken g c e = taken_all c.args.parents.now c.loop-parent.parent-index c.loop-parent.graph.graph c.loop-parent-test.false
+    (c.loop-parent.invariant.taken e)

@@ -9,7 +9,8 @@ use Rattle.gixp_negotiators.proofs.skipping.Skipping.follow_all.Given as goal
 
 abbrev pub invariant-loop-parent : goal.invariant-loop-parent
 invariant-loop-parent g l = record {
-  fits : Fits l.fn.self.uncommon (heap_items l.fn.self.queue.waiting) l.fn.graph.graph → Fits l.self.uncommon (heap_items l.self.queue.waiting) l.graph.graph;
+  fits : Fits l.fn.self.uncommon (heap_items l.fn.self.queue.waiting) l.fn.graph.graph
+      → Fits l.self.uncommon (heap_items l.self.queue.waiting) l.graph.graph;
   room : left 8 l.graph.graph + heap_len l.self.queue.waiting ≤ left 8 l.fn.graph.graph + heap_len l.fn.self.queue.waiting;
   waits : All (IsMarkedIfThere 8 l.fn.graph.graph l.graph.graph) (take l.parent-index l.parents);
   queues : QueuesNew (heap_items l.fn.self.queue.waiting) l.fn.graph.graph (heap_items l.self.queue.waiting);

@@ -9,7 +9,8 @@ use Rattle.gixp_negotiators.proofs.skipping.Skipping.mark_common.Given as goal
 
 abbrev pub invariant-loop-next : goal.invariant-loop-next
 invariant-loop-next g l = record {
-  fits : Fits l.fn.self.uncommon (heap_items l.fn.self.queue.waiting) l.fn.graph.graph → FitsOwing l.self.uncommon (heap_items l.fn.self.queue.waiting) l.graph.graph l.due.items;
+  fits : Fits l.fn.self.uncommon (heap_items l.fn.self.queue.waiting) l.fn.graph.graph
+      → FitsOwing l.self.uncommon (heap_items l.fn.self.queue.waiting) l.graph.graph l.due.items;
   common : has_mark 8 l.fn.graph.graph.held l.fn.id ≡ true → has_mark 2 l.graph.graph.held l.fn.id ≡ true;
   spreads : SpreadsBut was_seen l.due.items l.fn.graph.graph l.graph.graph;
   newly : All (IsNewlyCommon l.fn.graph.graph l.graph.graph) l.due.items;

@@ -10,26 +10,39 @@ use Rattle.gixp_negotiators.proofs.FitLemmas.{queues_same, queues_on, queues_tak
 use Rattle.gixp_negotiators.proofs.skipping.Skipping.next.Goals as goal
 
 pub loop-first-init : goal.loop-first-init
-loop-first-init g c = record { fits = λ f. f; queues = queues_same _ _ _ refl; passes = TakesUnoffered.none; grows = grows_none _; failures = omega arith }
+loop-first-init g c = record {
+  fits = λ f. f;
+  queues = queues_same _ _ _ refl;
+  passes = TakesUnoffered.none;
+  grows = grows_none _;
+  failures = omega arith;
+}
 
 pub loop-first-preserved : goal.loop-first-preserved
 loop-first-preserved g c = record {
-  fits = λ f. (rw c.pop.ensures.uncommon at c.in_ok-take.ensures.fits) (fits_popped _ _ _ _ c.in-Some.first c.in-Some.ensures.taken (c.loop-first.invariant.fits f));
-  queues = queues_on _ _ _ _ _ c.loop-first.invariant.grows c.loop-first.invariant.queues (queues_on _ _ _ _ _ (grows_none _) (queues_taken _ _ _ c.in-Some.first c.in-Some.ensures.taken) c.in_ok-take.ensures.queues);
-  passes = TakesUnoffered.one c.loop-first.invariant.passes (taken_popped _ _ _ _ _ _ _ (ap (λ m. m.entries) c.pop.ensures.skips) c.if-branch.false c.in_ok-take.ensures.takes);
+  fits = λ f. (rw c.pop.ensures.uncommon at c.in_ok-take.ensures.fits)
+      (fits_popped _ _ _ _ c.in-Some.first c.in-Some.ensures.taken (c.loop-first.invariant.fits f));
+  queues = queues_on _ _ _ _ _ c.loop-first.invariant.grows c.loop-first.invariant.queues
+      (queues_on _ _ _ _ _ (grows_none _) (queues_taken _ _ _ c.in-Some.first c.in-Some.ensures.taken) c.in_ok-take.ensures.queues);
+  passes = TakesUnoffered.one c.loop-first.invariant.passes
+      (taken_popped _ _ _ _ _ _ _ (ap (λ m. m.entries) c.pop.ensures.skips) c.if-branch.false c.in_ok-take.ensures.takes);
   grows = grows_on _ _ _ c.loop-first.invariant.grows c.take.ensures.grows;
   failures = omega (arith, c.loop-first.invariant.failures, c.take.ensures.failures);
 }
 
 pub returns-then-branch-clause-offered : goal.returns-then-branch-clause-offered
-returns-then-branch-clause-offered g c = offered_since c.args.graph.now.graph c.loop-first.graph.graph c.take.new.graph.graph c.in-Some.first.id c.loop-first.invariant.grows (c.in_ok-take.ensures.offered c.if-branch.true)
+returns-then-branch-clause-offered g c =
+    offered_since c.args.graph.now.graph c.loop-first.graph.graph c.take.new.graph.graph c.in-Some.first.id c.loop-first.invariant.grows
+    (c.in_ok-take.ensures.offered c.if-branch.true)
 
 pub returns-then-branch-clause-fits : goal.returns-then-branch-clause-fits
-returns-then-branch-clause-fits g c f = (rw c.pop.ensures.uncommon at c.in_ok-take.ensures.fits) (fits_popped _ _ _ _ c.in-Some.first c.in-Some.ensures.taken (c.loop-first.invariant.fits f))
+returns-then-branch-clause-fits g c f = (rw c.pop.ensures.uncommon at c.in_ok-take.ensures.fits)
+    (fits_popped _ _ _ _ c.in-Some.first c.in-Some.ensures.taken (c.loop-first.invariant.fits f))
 
 pub returns-clause-none : goal.returns-clause-none
 returns-clause-none g c f = ⊎_elim
-    (λ e. none_open (heap_items c.loop-first.self.queue.waiting) c.loop-first.graph.graph (subst (λ u. Fits u (heap_items c.loop-first.self.queue.waiting) c.loop-first.graph.graph) e (c.loop-first.invariant.fits f)))
+    (λ e. none_open (heap_items c.loop-first.self.queue.waiting) c.loop-first.graph.graph
+    (subst (λ u. Fits u (heap_items c.loop-first.self.queue.waiting) c.loop-first.graph.graph) e (c.loop-first.invariant.fits f)))
     (λ e. none_waits _ _ _ e (c.loop-first.invariant.fits f))
     (rw c.in_default.is at c.pop.ensures.none)
 
@@ -37,16 +50,26 @@ pub returns-clause-fits : goal.returns-clause-fits
 returns-clause-fits g c f = rw (c.pop.ensures.uncommon, rw c.in_default.is at c.pop.ensures.stays) (c.loop-first.invariant.fits f)
 
 pub returns-then-branch-clause-newest : goal.returns-then-branch-clause-newest
-returns-then-branch-clause-newest g c = newest_in _ _ _ _ _ _ c.in-Some.first c.loop-first.invariant.grows c.loop-first.invariant.queues c.in-Some.ensures.taken c.in-Some.ensures.newest c.in_ok-take.ensures.queues
+returns-then-branch-clause-newest g c =
+    newest_in _ _ _ _ _ _ c.in-Some.first c.loop-first.invariant.grows c.loop-first.invariant.queues c.in-Some.ensures.taken
+    c.in-Some.ensures.newest c.in_ok-take.ensures.queues
 
 pub returns-then-branch-clause-queues : goal.returns-then-branch-clause-queues
-returns-then-branch-clause-queues g c = queues_on _ _ _ _ _ c.loop-first.invariant.grows c.loop-first.invariant.queues (queues_on _ _ _ _ _ (grows_none _) (queues_taken _ _ _ c.in-Some.first c.in-Some.ensures.taken) c.in_ok-take.ensures.queues)
+returns-then-branch-clause-queues g c = queues_on _ _ _ _ _ c.loop-first.invariant.grows c.loop-first.invariant.queues
+    (queues_on _ _ _ _ _ (grows_none _) (queues_taken _ _ _ c.in-Some.first c.in-Some.ensures.taken) c.in_ok-take.ensures.queues)
 
 pub returns-clause-queues : goal.returns-clause-queues
 returns-clause-queues g c = rw (rw c.in_default.is at c.pop.ensures.stays) c.loop-first.invariant.queues
 
 pub returns-then-branch-clause-distances : goal.returns-then-branch-clause-distances
-returns-then-branch-clause-distances g c = (c.loop-first.self.skips.entries, c.loop-first.graph.graph, c.loop-first.invariant.passes, taken_popped _ _ _ _ _ _ _ (ap (λ m. m.entries) c.pop.ensures.skips) c.if-branch.true c.in_ok-take.ensures.takes)
+returns-then-branch-clause-distances g c = (
+  c.loop-first.self.skips.entries,
+  c.loop-first.graph.graph,
+  c.loop-first.invariant.passes,
+  taken_popped _ _ _ _ _ _ _ (ap (λ m. m.entries) c.pop.ensures.skips) c.if-branch.true c.in_ok-take.ensures.takes,
+)
 
 pub returns-clause-distances : goal.returns-clause-distances
-returns-clause-distances g c = subst (λ (s : Skipped). TakesUnoffered c.args.self.now.skips.entries c.args.graph.now.graph s c.loop-first.graph.graph) (sym (ap (λ m. m.entries) c.pop.ensures.skips)) c.loop-first.invariant.passes
+returns-clause-distances g c =
+    subst (λ (s : Skipped). TakesUnoffered c.args.self.now.skips.entries c.args.graph.now.graph s c.loop-first.graph.graph)
+    (sym (ap (λ m. m.entries) c.pop.ensures.skips)) c.loop-first.invariant.passes

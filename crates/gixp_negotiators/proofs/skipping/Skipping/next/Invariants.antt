@@ -8,7 +8,8 @@ use Rattle.gixp_negotiators.proofs.skipping.Skipping.next.Given as goal
 
 abbrev pub invariant-loop-first : goal.invariant-loop-first
 invariant-loop-first g l = record {
-  fits : Fits l.fn.self.uncommon (heap_items l.fn.self.queue.waiting) l.fn.graph.graph → Fits l.self.uncommon (heap_items l.self.queue.waiting) l.graph.graph;
+  fits : Fits l.fn.self.uncommon (heap_items l.fn.self.queue.waiting) l.fn.graph.graph
+      → Fits l.self.uncommon (heap_items l.self.queue.waiting) l.graph.graph;
   queues : QueuesNew (heap_items l.fn.self.queue.waiting) l.fn.graph.graph (heap_items l.self.queue.waiting);
   passes : TakesUnoffered l.fn.self.skips.entries l.fn.graph.graph l.self.skips.entries l.graph.graph;
   grows : Grows l.fn.graph.graph l.graph.graph;

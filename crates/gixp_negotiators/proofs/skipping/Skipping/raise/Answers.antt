@@ -8,8 +8,10 @@ use Rattle.gixp_negotiators.proofs.skipping.Skipping.raise.Goals as goal
 
 pub returns-then-skip_of-skip-clause-hands : goal.returns-then-skip_of-skip-clause-hands
 returns-then-skip_of-skip-clause-hands c = raise_kept c.args.self.now.skips.entries c.args.id.now c.args.skip
-    (subst (λ (s : Skip). nat_lt s.whole c.args.skip.whole ≡ false) c.skip_of.ensures (le-ltb c.skip_of.result.whole c.args.skip.whole c.if-skip_of-skip.true))
+    (subst (λ (s : Skip). nat_lt s.whole c.args.skip.whole ≡ false) c.skip_of.ensures
+    (le-ltb c.skip_of.result.whole c.args.skip.whole c.if-skip_of-skip.true))
 
 pub returns-in-Ok-clause-hands : goal.returns-in-Ok-clause-hands
 returns-in-Ok-clause-hands c = raise_put c.args.self.now.skips.entries c.insert.new.self.entries c.args.id.now c.args.skip
-    (subst (λ (s : Skip). nat_lt s.whole c.args.skip.whole ≡ true) c.skip_of.ensures (lt-ltb c.skip_of.result.whole c.args.skip.whole c.if-skip_of-skip.false)) c.in-Ok.ensures.updates.0
+    (subst (λ (s : Skip). nat_lt s.whole c.args.skip.whole ≡ true) c.skip_of.ensures
+    (lt-ltb c.skip_of.result.whole c.args.skip.whole c.if-skip_of-skip.false)) c.in-Ok.ensures.updates.0

@@ -7,5 +7,6 @@ use Rattle.gixp_negotiators.proofs.skipping.Skipping.spread.Goals as goal
 
 pub returns-clause-spreads : goal.returns-clause-spreads
 returns-clause-spreads g c = from_parents was_seen stays_seen c.args.id.now _ _ c.args.graph.now.graph _ _ (grows_none _) (λ q s. s)
-    (λ seen. parents_common was_seen stays_seen _ _ c.args.id.now c.deref.result.now c.reach_all.ensures.grows seen (c.deref.ensures.value ∙ c.in_ok-parents.ensures.parents) c.in_ok-reach_all.ensures.common)
+    (λ seen. parents_common was_seen stays_seen _ _ c.args.id.now c.deref.result.now c.reach_all.ensures.grows seen
+    (c.deref.ensures.value ∙ c.in_ok-parents.ensures.parents) c.in_ok-reach_all.ensures.common)
     c.in_ok-reach_all.ensures.spreads

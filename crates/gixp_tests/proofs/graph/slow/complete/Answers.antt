@@ -22,7 +22,10 @@ loop-id-smaller c =
 
 pub returns : goal.returns
 returns c id = (
-  λ i. All-contains (IsComplete (commit_at (objects_of c.args.commits.now.entries)) c.args.tips.now c.args.cutoff) c.loop-id.known.items id c.loop-id.invariant i,
+  λ i. All-contains (IsComplete (commit_at
+      (objects_of c.args.commits.now.entries)) c.args.tips.now c.args.cutoff) c.loop-id.known.items id c.loop-id.invariant i,
   λ k. closed_complete (commit_at (objects_of c.args.commits.now.entries)) c.args.tips.now c.args.cutoff c.loop-id.known.items
-      (subst (IsClosed (commit_at (objects_of c.args.commits.now.entries)) c.args.tips.now c.args.cutoff) c.as_slice.ensures.value c.in_default.ensures.none) id k,
+      (subst (IsClosed (commit_at
+      (objects_of c.args.commits.now.entries)) c.args.tips.now c.args.cutoff) c.as_slice.ensures.value c.in_default.ensures.none) id
+      k,
 )

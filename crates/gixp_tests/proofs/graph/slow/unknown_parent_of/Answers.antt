@@ -17,21 +17,27 @@ pub returns-then-commit-cutoff-clause-none : goal.returns-then-commit-cutoff-cla
 returns-then-commit-cutoff-clause-none c =
     let fits : SFits w64 c.in-Some.commit.now.time = search rules in
     let before : c.in-Some.commit.now.time <ℤ c.args.cutoff = grind (arith, ints, c.if-commit-cutoff.true, c.ranges.cutoff) in
-    none_before (commit_at (objects_of c.args.commits.now.entries)) c.args.cutoff c.args.known.now c.args.id.now (commit_of c.in-Some.commit.now)
+    none_before (commit_at (objects_of c.args.commits.now.entries)) c.args.cutoff c.args.known.now c.args.id.now
+    (commit_of c.in-Some.commit.now)
     (commit_listed c.args.commits.now.entries c.args.id.now ∙ ap (option_map commit_of) (sym c.in-Some.ensures.value)) before
 
 pub returns-else-commit-cutoff-clause-some : goal.returns-else-commit-cutoff-clause-some
 returns-else-commit-cutoff-clause-some c =
     let fits : SFits w64 c.in-Some.commit.now.time = search rules in
     let late : c.args.cutoff ≤ℤ c.in-Some.commit.now.time = grind (arith, ints, c.if-commit-cutoff.false, c.ranges.cutoff) in
-    IfSome_then c.unknown.result c.unknown.ensures.some (λ p h i tips. missing_parent (commit_at (objects_of c.args.commits.now.entries)) tips c.args.cutoff c.args.known.now c.args.id.now p (commit_of c.in-Some.commit.now) i
-    (commit_listed c.args.commits.now.entries c.args.id.now ∙ ap (option_map commit_of) (sym c.in-Some.ensures.value)) late (subst (λ ps. Contains ps p) c.as_slice.ensures.value h.0) h.1 h.2)
+    IfSome_then c.unknown.result c.unknown.ensures.some (λ p h i tips. missing_parent (commit_at
+    (objects_of c.args.commits.now.entries)) tips c.args.cutoff c.args.known.now c.args.id.now p (commit_of c.in-Some.commit.now) i
+    (commit_listed c.args.commits.now.entries c.args.id.now ∙ ap (option_map commit_of) (sym c.in-Some.ensures.value)) late
+    (subst (λ ps. Contains ps p) c.as_slice.ensures.value h.0) h.1 h.2)
 
 pub returns-else-commit-cutoff-clause-none : goal.returns-else-commit-cutoff-clause-none
 returns-else-commit-cutoff-clause-none c =
-    if_none c.unknown.result _ _ (λ k. parents_known (commit_at (objects_of c.args.commits.now.entries)) c.args.cutoff c.args.known.now c.args.id.now (commit_of c.in-Some.commit.now)
+    if_none c.unknown.result _ _ (λ k. parents_known (commit_at
+    (objects_of c.args.commits.now.entries)) c.args.cutoff c.args.known.now c.args.id.now (commit_of c.in-Some.commit.now)
     (commit_listed c.args.commits.now.entries c.args.id.now ∙ ap (option_map commit_of) (sym c.in-Some.ensures.value))
-    (subst (AreKnown (commit_at (objects_of c.args.commits.now.entries)) c.args.known.now) c.as_slice.ensures.value k)) c.unknown.ensures.none
+    (subst (AreKnown (commit_at
+    (objects_of c.args.commits.now.entries)) c.args.known.now) c.as_slice.ensures.value k)) c.unknown.ensures.none
 
 pub returns-in-None-clause-none : goal.returns-in-None-clause-none
-returns-in-None-clause-none c d e t = absurd (let n = ap (option_map commit_of) c.in-None.ensures.value ∙ sym (commit_listed c.args.commits.now.entries c.args.id.now) ∙ e in cc)
+returns-in-None-clause-none c d e t = absurd (let n = ap (option_map commit_of) c.in-None.ensures.value
+    ∙ sym (commit_listed c.args.commits.now.entries c.args.id.now) ∙ e in cc)

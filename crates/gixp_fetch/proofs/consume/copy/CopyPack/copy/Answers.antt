@@ -6,15 +6,21 @@ pub pieces-init : goal.pieces-init
 pieces-init g c = ([], copied_none _ _)
 
 pub returns-in-Ok-false : goal.returns-in-Ok-false
-returns-in-Ok-false g c = copied_all _ _ _ _ _ c.pieces.invariant.0 c.pieces.invariant.1 (rw c.in-Ok-false.field-0-test at c.in-Ok-false.ensures.fills)
+returns-in-Ok-false g c =
+    copied_all _ _ _ _ _ c.pieces.invariant.0 c.pieces.invariant.1 (rw c.in-Ok-false.field-0-test at c.in-Ok-false.ensures.fills)
 
 pub pieces-preserved : goal.pieces-preserved
 pieces-preserved g c =
-    copied_piece _ _ _ _ _ (rw c.in-Ok-true.field-0-test at c.in-Ok-true.ensures.fills) c.consume.ensures.content c.buffer-piece.ensures refl _ _ _ _ c.pieces.invariant.0 c.pieces.invariant.1
+    copied_piece _ _ _ _ _
+    (rw c.in-Ok-true.field-0-test at c.in-Ok-true.ensures.fills) c.consume.ensures.content c.buffer-piece.ensures refl _ _ _ _
+    c.pieces.invariant.0 c.pieces.invariant.1
     c.in-Ok.ensures.bytes
 
 pub returns-in-Err : goal.returns-in-Err
-returns-in-Err g c = copied_refused _ _ _ _ _ _ c.pieces.invariant.0 c.in-Err.e _ c.pieces.invariant.1 c.in-Err.ensures.fills c.read_error.ensures.taken c.read_error.ensures.side
+returns-in-Err g c =
+    copied_refused _ _ _ _ _ _ c.pieces.invariant.0 c.in-Err.e _ c.pieces.invariant.1 c.in-Err.ensures.fills c.read_error.ensures.taken
+    c.read_error.ensures.side
 
 pub returns-in-Err-write_all : goal.returns-in-Err-write_all
-returns-in-Err-write_all g c = copied_unwritten _ _ _ _ _ c.pieces.invariant.0 c.pieces.invariant.1 (rw c.in-Ok-true.field-0-test at c.in-Ok-true.ensures.fills)
+returns-in-Err-write_all g c =
+    copied_unwritten _ _ _ _ _ c.pieces.invariant.0 c.pieces.invariant.1 (rw c.in-Ok-true.field-0-test at c.in-Ok-true.ensures.fills)

@@ -12,7 +12,11 @@ returns-in-Ok-false g c =
 
 pub pieces-preserved : goal.pieces-preserved
 pieces-preserved g c =
-    passed_piece _ _ _ _ _ (rw c.in-Ok-true.field-0-test at c.in-Ok-true.ensures.fills) c.consume.ensures.content c.buffer-count.ensures refl _ _ c.pieces.invariant.1
+    passed_piece _ _ _ _ _
+    (rw c.in-Ok-true.field-0-test at c.in-Ok-true.ensures.fills) c.consume.ensures.content c.buffer-count.ensures refl _ _
+    c.pieces.invariant.1
 
 pub returns-in-Err : goal.returns-in-Err
-returns-in-Err g c = copied_refused _ _ _ _ _ _ c.pieces.invariant.0 c.in-Err.e _ c.pieces.invariant.1 c.in-Err.ensures.fills c.read_error.ensures.taken c.read_error.ensures.side
+returns-in-Err g c =
+    copied_refused _ _ _ _ _ _ c.pieces.invariant.0 c.in-Err.e _ c.pieces.invariant.1 c.in-Err.ensures.fills c.read_error.ensures.taken
+    c.read_error.ensures.side

@@ -5,7 +5,8 @@ use Rattle.gixp_fetch.specs.Consume.{Copied}
 use Rattle.gixp_fetch.proofs.consume.copy.ReadToEndConsumePack.consume_pack.Given as goal
 
 abbrev pub invariant-pieces : goal.invariant-pieces
-invariant-pieces g l = (read : List ℕ) × Copied None (side g.T.ExtendedBufRead.reading l.fn.reader) read None (side g.T.ExtendedBufRead.reading l.reader)
+invariant-pieces g l = (read : List ℕ) × Copied None (side g.T.ExtendedBufRead.reading l.fn.reader) read None
+    (side g.T.ExtendedBufRead.reading l.reader)
 
 abbrev pub decreases-pieces : goal.decreases-pieces
 decreases-pieces g l = content_bound (side g.T.ExtendedBufRead.reading l.reader)

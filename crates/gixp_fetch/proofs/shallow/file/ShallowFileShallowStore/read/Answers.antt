@@ -5,4 +5,7 @@ use Rattle.gixp_fetch.proofs.shallow.file.ShallowFileShallowStore.read.Goals as 
 
 pub returns-in-NotFound-clause-read : goal.returns-in-NotFound-clause-read
 unfolding IsStrictlySortedBy
-returns-in-NotFound-clause-read g c = (subst (IsStrictlySortedBy id_cmp) (sym c.new.ensures.items) tt, record { held = refl; kept = record { path = refl; lock_path = refl }; failures = refl })
+returns-in-NotFound-clause-read g c = (
+  subst (IsStrictlySortedBy id_cmp) (sym c.new.ensures.items) tt,
+  record { held = refl; kept = record { path = refl; lock_path = refl }; failures = refl },
+)

@@ -16,4 +16,5 @@ returns-in-Ok-clause-found c =
     ∙ ap (option_map commit_of) c.in-Some.ensures.value ∙ sym (commit_listed c.args.self.now.commits.entries c.args.id.now)
 
 pub returns-in-None-clause-found : goal.returns-in-None-clause-found
-returns-in-None-clause-found c = ap (option_map commit_of) c.in-None.ensures.value ∙ sym (commit_listed c.args.self.now.commits.entries c.args.id.now)
+returns-in-None-clause-found c = ap (option_map commit_of) c.in-None.ensures.value
+    ∙ sym (commit_listed c.args.self.now.commits.entries c.args.id.now)

@@ -7,7 +7,9 @@ use Rattle.gixp_tests.proofs.ListedLemmas.{kind_listed}
 use Rattle.gixp_tests.proofs.graph.repository.RepositoryObjects.kind.Goals as goal
 
 pub returns-in-Some : goal.returns-in-Some
-returns-in-Some c = ap (option_map (λ (_ : CommitData). Commit)) c.in-Some.ensures.value ∙ sym (kind_listed c.args.self.now.commits.entries c.args.id.now)
+returns-in-Some c = ap (option_map (λ (_ : CommitData). Commit)) c.in-Some.ensures.value
+    ∙ sym (kind_listed c.args.self.now.commits.entries c.args.id.now)
 
 pub returns-in-None : goal.returns-in-None
-returns-in-None c = ap (option_map (λ (_ : CommitData). Commit)) c.in-None.ensures.value ∙ sym (kind_listed c.args.self.now.commits.entries c.args.id.now)
+returns-in-None c = ap (option_map (λ (_ : CommitData). Commit)) c.in-None.ensures.value
+    ∙ sym (kind_listed c.args.self.now.commits.entries c.args.id.now)
