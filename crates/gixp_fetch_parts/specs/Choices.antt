@@ -1,5 +1,5 @@
 -- What the options of a command line ask for.
-use Rattle.std.specs.Prelude.{◌≡◌, ℕ, Bool, true, false, is_some, if◌then◌else◌, List, [], ◌∷◌, map, codes, Option, Some, None, IfSome, Ok}
+use Rattle.std.specs.Prelude.{◌≡◌, ℕ, Bool, true, false, is_some, if◌then◌else◌, List, map, codes, Option, Some, None, IfSome, Ok}
 use Rattle.std.specs.Option.{option_map}
 use Rattle.std.specs.Str.{bytes_eq}
 use Rattle.std.specs.Str.Parse.{ParsesUnsigned}
@@ -16,7 +16,6 @@ use Rattle.gixp_fetch_parts.specs.declared.options.Haves.TheVariants.{By, InOrde
 use Rattle.gixp_fetch_parts.specs.declared.options.Files.{Files}
 use Rattle.gixp_fetch_parts.specs.declared.options.Output.{Output}
 use Rattle.gixp_fetch_parts.specs.declared.options.Wish.{Wish}
-use Rattle.gixp_fetch_parts.specs.declared.options.Task.TheVariants.{Help, Version, List as ListRefs, Fetch}
 use Rattle.gixp_fetch_parts.specs.Words.{value_in}
 use Rattle.gixp_fetch_parts.specs.LineOf.{LineParts}
 

@@ -1,6 +1,7 @@
 -- The words of the command line: which are options, and which of them take a value.
-use Rattle.std.specs.Prelude.{ℕ, ◌==◌, ◌||◌, Bool, true, false, if◌then◌else◌, List, [], ◌∷◌, codes, Option, Some, None}
+use Rattle.std.specs.Prelude.{ℕ, ◌==◌, ◌&&◌, ◌||◌, Bool, false, if◌then◌else◌, List, [], ◌∷◌, codes, Option, Some, None}
 use Rattle.std.specs.Str.{bytes_eq}
+use Rattle.std.specs.List.{list_any, before_first, after_first}
 use Rattle.gixp_fetch_parts.specs.declared.line.Kind.{Kind}
 use Rattle.gixp_fetch_parts.specs.declared.line.Kind.TheVariants.{Flag, TakesValue, End, Operand, Unknown}
 
@@ -24,6 +25,12 @@ is_of_fetch word =
 -- whether the word after an option is its value
 abbrev pub takes_value : List ℕ → Bool
 takes_value word = is_of_server word || is_of_repository word || is_of_fetch word
+
+-- an option and its value in one word: an equals sign (61) stands between them
+abbrev pub joined_setting : List ℕ → Option (List ℕ × List ℕ)
+joined_setting word =
+    if list_any (λ b. b == 61) word && takes_value (before_first (λ b. b == 61) word)
+    then Some (before_first (λ b. b == 61) word, after_first (λ b. b == 61) word) else None
 
 -- a dash, and more
 abbrev pub is_dashed : List ℕ → Bool
