@@ -311,17 +311,28 @@ def dies(name, t, server, conversation):
         t.check(f"{name} at {place} of {whole}", status == 1 and len(err.splitlines()) == 1 and not left, f"{status} {err} {left}")
 
 
+def pack_places(conversation):
+    """Where the bytes of the pack stand in what a server of version 2 says: those of band 1."""
+    at, places = conversation.index(b"packfile\n") + len(b"packfile\n"), []
+    while conversation[at:at + 4] != b"0000":
+        size = int(conversation[at:at + 4], 16)
+        if conversation[at + 4] == 1:
+            places += range(at + 5, at + size)
+        at += size
+    return places
+
+
 def spoiled(name, t, server, conversation):
     """A pack with one byte changed."""
-    start = conversation.index(b"PACK")
-    for place in (start, start + 7, start + 13, len(conversation) - 10):
+    places = pack_places(conversation)
+    for number in (0, 7, 13, len(places) - 10):
         bad = bytearray(conversation)
-        bad[place] ^= 0x40
+        bad[places[number]] ^= 0x40
         said = t.folder("said")
         said.write_bytes(bytes(bad))
         status, out, err, room = pack(t, f'cat "{said}"; exec > /dev/null; cat > /dev/null')
         left = [path.name for path in room.iterdir() if path.name not in ("from", "to")]
-        t.check(f"{name} at {place - start}", status == 1 and not left, f"{status} {err} {left}")
+        t.check(f"{name} at {number}", status == 1 and not left, f"{status} {err} {left}")
 
 
 def frame(text):
