@@ -1,7 +1,7 @@
 #!/usr/bin/env python3
 """Clones and fetches real repositories by the program gixp_fetch_pack, beside git.
 
-Usage: live.py [--program PATH] [--keep FOLDER] [--only WORD]
+Usage: live.py [--program PATH] [--keep FOLDER] [--only WORD] [--jobs N]
 
 PATH is the program, else what `rt run` left in crates/gixp_fetch_pack/out. The remote helper beside its crate is tried with it.
 Repositories are made on the spot: empty ones, one commit, 2,000 commits with merges, equal and backward dates, annotated and
@@ -12,6 +12,8 @@ die, that send errors or nonsense, and one that freezes: an error, and nothing l
 Prints a line for each that failed, and `N passed, M failed`. Ends with 1 where one failed. git is needed.
 """
 import argparse
+import concurrent.futures
+import itertools
 import os
 import pathlib
 import random
@@ -31,9 +33,14 @@ TIMEOUT = 60
 
 
 class Tester:
-    def __init__(self, room, program, only):
+    """Tries a case in a folder of its own; the one with jobs begins all others, and counts what they found."""
+
+    def __init__(self, room, program, only=None, jobs=None):
         self.room, self.program, self.only = room, program, only
-        self.passed, self.failed, self.made = 0, 0, 0
+        self.passed, self.failed, self.made = 0, 0, itertools.count(1)
+        self.pool = concurrent.futures.ThreadPoolExecutor(jobs) if jobs else None
+        self.cases = []
+        room.mkdir(parents=True, exist_ok=True)
         tools = room / "tools"
         tools.mkdir()
         shutil.copy(CRATE / "git-remote-gixp", tools / "git-remote-gixp")
@@ -62,8 +69,7 @@ class Tester:
         return out
 
     def folder(self, name):
-        self.made += 1
-        return self.room / f"{self.made:03d}-{name}"
+        return self.room / f"{next(self.made):03d}-{name}"
 
     def check(self, name, holds, told=""):
         if holds:
@@ -73,12 +79,23 @@ class Tester:
             print(f"FAILED {name}: {str(told).strip()[:600]}")
 
     def case(self, name, action, *words):
-        if self.only and self.only not in name:
-            return
-        try:
-            action(name, *words)
-        except (RuntimeError, OSError, subprocess.SubprocessError) as e:
-            self.check(name, False, e)
+        """Begins a case, which gets a tester of its own."""
+        if not self.only or self.only in name:
+            self.cases.append(self.pool.submit(one_case, Tester(self.folder("case"), self.program), name, action, words))
+
+    def finish(self):
+        """Waits for all cases, and counts them."""
+        for done in self.cases:
+            one = done.result()
+            self.passed, self.failed = self.passed + one.passed, self.failed + one.failed
+
+
+def one_case(t, name, action, words):
+    try:
+        action(name, t, *words)
+    except (RuntimeError, OSError, subprocess.SubprocessError) as e:
+        t.check(name, False, e)
+    return t
 
 
 # Repositories
@@ -215,6 +232,10 @@ def reports(name, t, server):
     t.check(f"{name}: its size", any(line.startswith(f"pack {size} ") for line in lines), out)
     status, out, err, room = pack(t, command, specs=["refs/heads/nowhere"])
     t.check(f"{name}: no such ref", status == 1 and "couldn't find remote ref refs/heads/nowhere" in err and not (room / "pack").exists(), err)
+    status, out, err, room = pack(t, command, specs=[REAL_SPEC, "refs/heads/nowhere:refs/x/y"])
+    t.check(f"{name}: no such ref beside others", status == 1 and "couldn't find remote ref refs/heads/nowhere\n" in err and not (room / "pack").exists(), err)
+    status, out, err, room = pack(t, command, specs=["refs/nowhere/*:refs/x/*"])
+    t.check(f"{name}: a pattern that nothing matches", status == 0 and out.splitlines()[-1:] == ["nothing"] and not (room / "pack").exists(), err)
     status, out, err, room = pack(t, command, specs=["a:b:c"])
     t.check(f"{name}: no refspec", status == 1 and not (room / "pack").exists(), err)
     room = t.folder("locked")
@@ -226,13 +247,38 @@ def reports(name, t, server):
     t.check(f"{name}: a lock that is held", status == 1 and (room / "pack.lock").exists() and not (room / "pack").exists(), err)
 
 
+def modes(name, t, server):
+    """What becomes of local refs, by the texts of a repository that has all commits."""
+    main, old, side, tag = (t.git("rev-parse", ref, at=server).strip() for ref in ("main", "main~3", "side", "v1"))
+    texts = t.folder("texts")
+    texts.mkdir()
+    (texts / "commits").write_text(t.git("rev-list", "--all", "--date-order", "--timestamp", "--parents", at=server))
+    (texts / "objects").write_text(f"{tag} tag\n")
+    held = {"refs/x/same": main, "refs/x/forward": old, "refs/x/back": main, "refs/x/forced": main, "refs/tags/v1": main}
+    (texts / "refs").write_text("".join(f"{id} {ref}\n" for ref, id in sorted(held.items())))
+    specs = ["refs/heads/main:refs/x/same", "refs/heads/main:refs/x/forward", "refs/heads/main:refs/x/new", "refs/heads/side:refs/x/back", "+refs/heads/side:refs/x/forced",
+             "refs/tags/v1:refs/tags/v1", "refs/heads/main"]
+    wanted = [f"same map {main} refs/heads/main refs/x/same", f"fast-forward map {main} refs/heads/main refs/x/forward", f"new map {main} refs/heads/main refs/x/new",
+              f"refused map {side} refs/heads/side refs/x/back", f"forced map {side} refs/heads/side refs/x/forced", f"refused map {tag} refs/tags/v1 refs/tags/v1",
+              f"map {main} refs/heads/main -"]
+    named = ["--refs", texts / "refs", f"--commits={texts / 'commits'}", f"--objects={texts / 'objects'}"]
+    status, out, err, room = pack(t, f'git upload-pack "{server}"', *named, specs=specs)
+    t.check(f"{name}: of commits that are known", status == 0 and sorted(out.splitlines()[:len(wanted)]) == sorted(wanted), out + err)
+    status, out, err, room = pack(t, f'git upload-pack "{server}"', "--refs", texts / "refs", specs=specs)
+    lines = out.splitlines()
+    known = [line for line in wanted if line.split()[0] in ("same", "new", "map")]
+    unknown = [line.split(" ", 1)[1] for line in wanted if line.split()[0] not in ("same", "new", "map")]
+    t.check(f"{name}: of refs alone", status == 0 and sorted(lines[:len(wanted)]) == sorted(known + unknown), out + err)
+
+
 def words(name, t):
     for given, wanted in (
         (["--help"], 0), (["-V"], 0), ([], 2), (["a", "b"], 2), (["a", "b", "c"], 2), (["--nothing", "a", "b", "c", "d"], 2),
         (["--depth"], 2), (["--depth", "0", "--shallow", "s", "a", "b", "c", "d"], 2), (["--depth", "x", "a", "b", "c", "d"], 2),
         (["--depth", "1", "a", "b", "c", "d"], 2), (["--version", "3", "a", "b", "c", "d"], 2), (["--tags", "some", "a", "b", "c", "d"], 2),
         (["--depth", "1", "--since", "5", "--shallow", "s", "a", "b", "c", "d"], 2), (["--list", "a"], 2), (["--list", "a", "b", "c"], 2),
-        (["/nowhere/a", "/nowhere/b", "c", "d"], 1), (["--refs", "/nowhere/r", "a", "b", "c", "d"], 1),
+        (["/nowhere/a", "/nowhere/b", "c", "d"], 1), (["--refs", "/nowhere/r", "a", "b", "c", "d"], 1), (["--refs=/nowhere/r", "a", "b", "c", "d"], 1),
+        (["--depth=0", "--shallow=s", "a", "b", "c", "d"], 2), (["--version=3", "a", "b", "c", "d"], 2), (["--quiet=yes", "a", "b", "c", "d"], 2), (["--nothing=1", "a", "b", "c", "d"], 2),
     ):
         status, out, err = t.run(t.program, *given)
         told = bool(out) if wanted == 0 else len(err.splitlines()) == 1
@@ -265,17 +311,28 @@ def dies(name, t, server, conversation):
         t.check(f"{name} at {place} of {whole}", status == 1 and len(err.splitlines()) == 1 and not left, f"{status} {err} {left}")
 
 
+def pack_places(conversation):
+    """Where the bytes of the pack stand in what a server of version 2 says: those of band 1."""
+    at, places = conversation.index(b"packfile\n") + len(b"packfile\n"), []
+    while conversation[at:at + 4] != b"0000":
+        size = int(conversation[at:at + 4], 16)
+        if conversation[at + 4] == 1:
+            places += range(at + 5, at + size)
+        at += size
+    return places
+
+
 def spoiled(name, t, server, conversation):
     """A pack with one byte changed."""
-    start = conversation.index(b"PACK")
-    for place in (start, start + 7, start + 13, len(conversation) - 10):
+    places = pack_places(conversation)
+    for number in (0, 7, 13, len(places) - 10):
         bad = bytearray(conversation)
-        bad[place] ^= 0x40
+        bad[places[number]] ^= 0x40
         said = t.folder("said")
         said.write_bytes(bytes(bad))
         status, out, err, room = pack(t, f'cat "{said}"; exec > /dev/null; cat > /dev/null')
         left = [path.name for path in room.iterdir() if path.name not in ("from", "to")]
-        t.check(f"{name} at {place - start}", status == 1 and not left, f"{status} {err} {left}")
+        t.check(f"{name} at {number}", status == 1 and not left, f"{status} {err} {left}")
 
 
 def frame(text):
@@ -379,12 +436,12 @@ def try_clones(t):
     t.git("clone", "-q", "--bare", "--depth", "5", f"file://{large}", small_shallow)
     for version in VERSIONS:
         for kind, server in (("an empty repository", empty), ("one commit", one), ("2,000 commits", large), ("hidden refs", hidden), ("a shallow repository", small_shallow)):
-            t.case(f"clone of {kind}, version {version}", clones, t, server, version)
-            t.case(f"ls-remote of {kind}, version {version}", lists, t, server, version)
+            t.case(f"clone of {kind}, version {version}", clones, server, version)
+            t.case(f"ls-remote of {kind}, version {version}", lists, server, version)
         for option in (["--depth", "1"], ["--depth", "3", "--no-single-branch"], ["--shallow-since=1700000900"], ["--shallow-exclude=v1"], ["--bare"], ["--mirror"], ["--no-tags"],
                        ["--single-branch", "--branch", "side"], ["--branch", "v1"]):
-            t.case(f"clone {' '.join(option)}, version {version}", clones, t, large, version, *option)
-    t.case("clone --reject-shallow of a shallow repository", clones, t, small_shallow, "2", "--reject-shallow")
+            t.case(f"clone {' '.join(option)}, version {version}", clones, large, version, *option)
+    t.case("clone --reject-shallow of a shallow repository", clones, small_shallow, "2", "--reject-shallow")
 
 
 def try_fetches(t):
@@ -411,19 +468,19 @@ def try_fetches(t):
             ("all tags", ["--tags"], after(grown(3), git("tag", "-a", "-m", "x", "new", "main~1"), git("tag", "other", "side~1"))),
             ("no tags", ["--no-tags"], after(grown(3), git("tag", "-a", "-m", "x", "new", "main~1"))),
         ):
-            t.case(f"fetch of {name}, version {version}", fetches, t, small, words, version, change)
+            t.case(f"fetch of {name}, version {version}", fetches, small, words, version, change)
         for name, cloned, words in (
             ("--depth 3", ["--depth", "1"], ["--depth", "3"]), ("--deepen 2", ["--depth", "2"], ["--deepen", "2"]), ("--unshallow", ["--depth", "2"], ["--unshallow"]),
             ("--shallow-since", ["--depth", "1"], ["--shallow-since=1700000900"]), ("--shallow-exclude", ["--depth", "1"], ["--shallow-exclude=light"]),
             ("--depth 2 of a whole clone", [], ["--depth", "2"]), ("a new commit into a shallow clone", ["--depth", "2"], []),
         ):
-            t.case(f"fetch {name}, version {version}", fetches, t, small, words, version, grown(2), cloned)
-    t.case("fetch of 2,000 new commits", fetches, t, small, [], "2", grown(2000))
+            t.case(f"fetch {name}, version {version}", fetches, small, words, version, grown(2), cloned)
+    t.case("fetch of 2,000 new commits", fetches, small, [], "2", grown(2000))
     for spec in ("refs/heads/main:refs/x/main", "+refs/heads/*:refs/x/*", "main:x", "+refs/heads/s*:refs/x/s*", "HEAD:refs/x/head", "refs/tags/v1:refs/x/v1", "side", "refs/heads/*:refs/x/*"):
-        t.case(f"fetch origin {spec}", fetches, t, small, ["origin", spec], "2", grown(2))
-    t.case("fetch of refspecs with one that is left out", fetches, t, small, ["origin", "+refs/heads/*:refs/x/*", "^refs/heads/side"], "2", grown(2))
-    t.case("fetch of a ref that isn't there", fetches, t, small, ["origin", "nowhere"], "2")
-    t.case("fetch of a fast-forward alone", fetches, t, small, ["origin", "main:refs/remotes/origin/main"], "2", grown(3, back=4))
+        t.case(f"fetch origin {spec}", fetches, small, ["origin", spec], "2", grown(2))
+    t.case("fetch of refspecs with one that is left out", fetches, small, ["origin", "+refs/heads/*:refs/x/*", "^refs/heads/side"], "2", grown(2))
+    t.case("fetch of a ref that isn't there", fetches, small, ["origin", "nowhere"], "2")
+    t.case("fetch of a fast-forward alone", fetches, small, ["origin", "main:refs/remotes/origin/main"], "2", grown(3, back=4))
 
 
 def has_tip_alone(name, t):
@@ -451,7 +508,7 @@ def many_haves(name, t, version):
     for negotiator in ("consecutive", "skipping", "list"):
         copy = t.folder("copy")
         shutil.copytree(by_us, copy)
-        second = t.run("git", "fetch", "-q", at=copy, more={"GIXP_VERSION": version, "GIXP_NEGOTIATOR": negotiator})
+        second = t.run("git", "fetch", "-q", at=copy, more={"GIXP_VERSION": version, "GIXP_NEGOTIATOR": negotiator, "GIXP_COMMITS": "16384"})
         t.check(f"{name}, {negotiator}", second[0] == 0 and is_clean(t, copy)[0] and state(t, copy)[0] == state(t, by_git)[0], second[2])
 
 
@@ -460,31 +517,33 @@ def main():
     parser.add_argument("--program", type=pathlib.Path, default=CRATE / "out" / "gixp_fetch_pack")
     parser.add_argument("--keep", type=pathlib.Path, help="a folder for all that is made, which stays")
     parser.add_argument("--only", help="only what has this word in its name")
+    parser.add_argument("--jobs", type=int, default=os.cpu_count(), help="how many cases at once")
     given = parser.parse_args()
     program = given.program.resolve()
     if not os.access(program, os.X_OK):
         sys.exit(f"no program {program}: `rt run` in crates/gixp_fetch_pack builds it")
     with tempfile.TemporaryDirectory() as temporary:
         room = (given.keep or pathlib.Path(temporary) / "room").resolve()
-        room.mkdir(parents=True)
-        t = Tester(room, program, given.only)
+        t = Tester(room, program, given.only, given.jobs)
         began = time.time()
         try_clones(t)
         try_fetches(t)
-        t.case("fetch by a client that has a tip alone", has_tip_alone, t)
+        t.case("fetch by a client that has a tip alone", has_tip_alone)
         for version in ("0", "2"):
-            t.case(f"6,000 haves in vain and 6,000 in common, version {version}", many_haves, t, version)
-        t.case("over git daemon", over_daemon, t, make(t, "served", 40, tags=True))
-        t.case("over ssh", over_ssh, t, make(t, "served", 10))
-        t.case("a server that freezes", frozen, t, None)
-        t.case("words", words, t)
+            t.case(f"6,000 haves in vain and 6,000 in common, version {version}", many_haves, version)
+        t.case("over git daemon", over_daemon, make(t, "served", 40, tags=True))
+        t.case("over ssh", over_ssh, make(t, "served", 10))
+        t.case("a server that freezes", frozen, None)
+        t.case("words", words)
         server = make(t, "server", 30, tags=True)
-        t.case("texts", texts, t, server)
-        t.case("reports", reports, t, server)
-        t.case("errors", refuses, t, server)
+        t.case("texts", texts, server)
+        t.case("reports", reports, server)
+        t.case("what becomes of refs", modes, server)
+        t.case("errors", refuses, server)
         conversation = recorded(t, server)
-        t.case("a server that dies", dies, t, server, conversation)
-        t.case("a pack with a byte changed", spoiled, t, server, conversation)
+        t.case("a server that dies", dies, server, conversation)
+        t.case("a pack with a byte changed", spoiled, server, conversation)
+        t.finish()
         print(f"{t.passed} passed, {t.failed} failed")
         print(f"{time.time() - began:.0f} s", file=sys.stderr)
         sys.exit(1 if t.failed else 0)

@@ -1,5 +1,6 @@
 //! Why the program ends with an error, and the sentence that says so.
 use bstr::BString;
+use gix_protocol::fetch::refs::update;
 use gix_protocol::transport::ServerMessage;
 use std::alloc::{AllocError, AllocFailed, Global};
 use std::fmt;
@@ -12,6 +13,7 @@ pub(crate) enum Step {
     Refspec,
     Handshake,
     Listing,
+    Update,
     Fetch,
 }
 
@@ -21,6 +23,7 @@ impl Display for Step {
             Step::Refspec => f.write_str("reading a refspec"),
             Step::Handshake => f.write_str("the handshake"),
             Step::Listing => f.write_str("listing the refs"),
+            Step::Update => f.write_str("comparing the local refs"),
             Step::Fetch => f.write_str("the fetch"),
         }
     }
@@ -47,7 +50,7 @@ pub(crate) enum Failure {
     },
     /// A ref that is asked for isn't there.
     Missing {
-        spec: BString,
+        name: BString,
     },
     /// Standard input or output, or the words of the command line.
     Io(ErrorKind),
@@ -111,10 +114,13 @@ impl Failure {
         }
     }
 
-    /// No ref matches a refspec that needs one.
-    pub(crate) fn of_missing(alloc: Global, spec: &[u8]) -> Failure {
-        match BString::from_slice(alloc, spec) {
-            Ok(spec) => Failure::Missing { spec },
+    /// It can't be said what becomes of the local refs.
+    pub(crate) fn of_update(alloc: Global, error: update::Error) -> Failure {
+        if error == update::Error::Memory {
+            return Failure::Memory;
+        }
+        match format!(in alloc; "{error}") {
+            Ok(why) => Failure::of_text(alloc, Step::Update, why.as_str()),
             Err(_) => Failure::Memory,
         }
     }
@@ -148,7 +154,7 @@ impl Display for Failure {
             } => write!(f, "{step} failed: {why}; the server said: {said}"),
             Failure::File { path, kind } => write!(f, "{path}: {kind:?}"),
             Failure::Line { path, line } => write!(f, "{path}: line {line} isn't readable"),
-            Failure::Missing { spec } => write!(f, "couldn't find remote ref {spec}"),
+            Failure::Missing { name } => write!(f, "couldn't find remote ref {name}"),
             Failure::Io(kind) => write!(f, "standard input or output: {kind:?}"),
             Failure::Memory => write!(f, "out of memory"),
         }

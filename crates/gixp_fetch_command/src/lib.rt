@@ -17,12 +17,12 @@ use crate::repository::{Repository, write_boundary};
 use crate::session::{Asked, Session, Sink, connect};
 use crate::shown::Shown;
 use crate::usage::{USAGE, VERSION, print_refusal};
-use gix_protocol::fetch::negotiate::HaveList;
+use gix_protocol::fetch::negotiate::{Graph, HaveList, Shared};
 use gix_protocol::fetch::{Outcome, RefMap, ShallowMemory};
 use gix_protocol::transport::{Connection, ObjectId, Transport};
 use gixp_fetch_parts::{
-    Haves, OptionError, Options, Output, PackFile, PackPlace, Server, Task, Wish, fetch_report,
-    listing,
+    Change, Haves, OptionError, Options, Output, PackFile, PackPlace, Server, Task, Wish, changes,
+    fetch_report, listing, missing_name,
 };
 use gixp_pack::PackSummary;
 use std::alloc::Global;
@@ -210,10 +210,11 @@ fn fetch(rt: &HostRuntime, options: &Options<'_>, wish: &Wish<'_>) -> Result<(),
     let mut shown = shown_of(rt, &options.output);
     let mut session = Session::open(alloc, transport, options.server.agent, &mut shown)?;
     let map = session.map(wish, &mut shown)?;
-    if map.is_missing_required_mapping() {
+    if let Some(name) = missing_name(alloc, &map)? {
         session.end(false);
-        return Err(missing(alloc, wish));
+        return Err(Failure::Missing { name });
     }
+    let changes = changes_in(alloc, &map, &repository, options, wish)?;
     let asked = Asked { map: &map, wish };
     let pack = take_pack(
         rt,
@@ -223,14 +224,36 @@ fn fetch(rt: &HostRuntime, options: &Options<'_>, wish: &Wish<'_>) -> Result<(),
         options,
         &mut shown,
     )?;
-    tell(rt, &options.output, &fetch_report(alloc, &map, pack)?)
+    tell(
+        rt,
+        &options.output,
+        &fetch_report(alloc, &map, &changes, pack)?,
+    )
 }
 
-// Which ref isn't there.
-fn missing(alloc: Global, wish: &Wish<'_>) -> Failure {
-    match wish.specs.first() {
-        Some(spec) => Failure::of_missing(alloc, spec.as_bstr().as_bytes()),
-        None => Failure::of_missing(alloc, b""),
+// What becomes of the local refs, where those that are there are known.
+fn changes_in(
+    alloc: Global,
+    map: &RefMap,
+    repository: &Repository,
+    options: &Options<'_>,
+    wish: &Wish<'_>,
+) -> Result<Vec<Option<Change>>, Failure> {
+    if options.files.refs.is_none() {
+        return Ok(Vec::new(alloc));
+    }
+    let objects = Shared::new(&repository.objects);
+    let mut graph = Graph::new(alloc, Shared::new(&repository.objects));
+    match changes(
+        alloc,
+        map,
+        &repository.refs,
+        &objects,
+        &mut graph,
+        wish.tags,
+    ) {
+        Ok(found) => Ok(found),
+        Err(e) => Err(Failure::of_update(alloc, e)),
     }
 }
 

@@ -9,14 +9,14 @@ pub(crate) const USAGE: &str = "usage: gixp_fetch_pack [OPTION..] FROM TO PACK S
        gixp_fetch_pack --list [OPTION..] FROM TO
 
 Fetches from the server that is read at FROM and written to at TO; a dash is standard input or output.
-The pack goes to PACK, and the report to standard output.
+The pack goes to PACK, and the report to standard output. A value may be joined to its option: --depth=1.
 
   --version 0|1|2        the version of the protocol that is asked for (2)
   --path PATH            the path of the repository, for a server of git://
   --host HOST            its host
   --agent NAME           the name of this client
   --refs FILE            the refs, as `git show-ref -d` lists them
-  --commits FILE         the commits, as `git rev-list --all --date-order --timestamp --parents` lists them
+  --commits FILE         the commits, as `git rev-list --all --timestamp --parents` lists them
   --objects FILE         objects that refs lead to, each line with an id and a kind
   --shallow FILE         the shallow boundary; a new one goes to FILE.new
   --depth N              so many commits from each ref on
@@ -34,7 +34,9 @@ The pack goes to PACK, and the report to standard output.
   --quiet                tell errors alone
   --help, -V             this text, the version
 
-The status is 0, 1 where something was refused, or 2 where the words are none of these.
+The report has a line `map ID NAME LOCAL` for each ref of a SPEC and `tag ID NAME LOCAL` for each tag beside them. Where the
+texts tell it, new, fast-forward, forced, same or refused comes first: what becomes of the ref LOCAL.
+The status is 0, 1 where something was refused or a ref isn't there, or 2 where the words are none of these.
 ";
 
 /// Says why a command line is refused.

@@ -1,5 +1,5 @@
 -- What the options of a command line ask for.
-use Rattle.std.specs.Prelude.{◌≡◌, ℕ, Bool, true, false, is_some, if◌then◌else◌, List, [], ◌∷◌, map, codes, Option, Some, None, IfSome, Ok}
+use Rattle.std.specs.Prelude.{◌≡◌, ℕ, Bool, true, false, is_some, if◌then◌else◌, List, map, codes, Option, Some, None, IfSome, Ok}
 use Rattle.std.specs.Option.{option_map}
 use Rattle.std.specs.Str.{bytes_eq}
 use Rattle.std.specs.Str.Parse.{ParsesUnsigned}
@@ -16,7 +16,6 @@ use Rattle.gixp_fetch_parts.specs.declared.options.Haves.TheVariants.{By, InOrde
 use Rattle.gixp_fetch_parts.specs.declared.options.Files.{Files}
 use Rattle.gixp_fetch_parts.specs.declared.options.Output.{Output}
 use Rattle.gixp_fetch_parts.specs.declared.options.Wish.{Wish}
-use Rattle.gixp_fetch_parts.specs.declared.options.Task.TheVariants.{Help, Version, List as ListRefs, Fetch}
 use Rattle.gixp_fetch_parts.specs.Words.{value_in}
 use Rattle.gixp_fetch_parts.specs.LineOf.{LineParts}
 
@@ -58,10 +57,8 @@ IsNumber word number = ParsesUnsigned {E = Unit {0}} 32 10 word (Ok number)
 -- how much of the history is asked for: all of it, or so many commits, or so many more
 pub record AsksHistory (line : LineParts) (wanted : ShallowValue) : Type 0 where
   pub unshallow : has line (codes "--unshallow") ≡ true → wanted ≡ at_remote 2147483647
-  pub depth : has line (codes "--unshallow") ≡ false
-      → IfSome (value line (codes "--depth")) (λ word. (n : ℕ) × IsNumber word n × (wanted ≡ at_remote n))
-  pub deepen : has line (codes "--unshallow") ≡ false → has line (codes "--depth") ≡ false
-      → IfSome (value line (codes "--deepen")) (λ word. (n : ℕ) × IsNumber word n × (wanted ≡ deepens n))
+  pub depth : has line (codes "--unshallow") ≡ false → IfSome (value line (codes "--depth")) (λ word. (n : ℕ) × IsNumber word n × (wanted ≡ at_remote n))
+  pub deepen : has line (codes "--unshallow") ≡ false → has line (codes "--depth") ≡ false → IfSome (value line (codes "--deepen")) (λ word. (n : ℕ) × IsNumber word n × (wanted ≡ deepens n))
 
 -- the texts of the repository
 pub record AsksFiles (line : LineParts) (files : Files) : Type 0 where

@@ -1,5 +1,7 @@
 pub mod Words
 pub mod LineOf
 pub mod PackCopied
+pub mod Changes
 pub mod Told
+pub mod Missing
 pub mod Choices

@@ -1,5 +1,5 @@
 -- A command line, taken apart: the options with their values, and the operands. After `--` each word is an operand.
-use Rattle.std.specs.Prelude.{◌≡◌, ℕ, ⊤, List, [], ◌∷◌, ◌++◌, map, Result, Ok, Err}
+use Rattle.std.specs.Prelude.{◌≡◌, ℕ, ⊤, List, [], ◌∷◌, ◌++◌, map, Option, Some, None, Result, Ok, Err}
 use Rattle.gixp_fetch_parts.specs.declared.line.Line.{Line}
 use Rattle.gixp_fetch_parts.specs.declared.line.Setting.{Setting}
 use Rattle.gixp_fetch_parts.specs.declared.line.Next.{Next}
@@ -8,7 +8,7 @@ use Rattle.gixp_fetch_parts.specs.declared.line.LineError.{LineError}
 use Rattle.gixp_fetch_parts.specs.declared.line.LineError.TheVariants.{Unknown as UnknownOption, NoValue, Memory}
 use Rattle.gixp_fetch_parts.specs.declared.line.Kind.{Kind}
 use Rattle.gixp_fetch_parts.specs.declared.line.Kind.TheVariants.{Flag, TakesValue, End, Operand, Unknown}
-use Rattle.gixp_fetch_parts.specs.Words.{kind_of}
+use Rattle.gixp_fetch_parts.specs.Words.{kind_of, joined_setting}
 
 -- options with their values, and operands
 pub record LineParts : Type 0 where
@@ -44,9 +44,13 @@ taken_as End line word = Ok (record { line = line; next = operand })
 taken_as Operand line word = Ok (record { line = with_operand line word; next = any })
 taken_as Unknown line word = Err (unknown word)
 
--- a word that may be an option
+-- a word that may be an option, with its value where that is joined to it
+abbrev pub taken_joined : Option (List ℕ × List ℕ) → LineParts → List ℕ → Result Parting LineFault
+taken_joined (Some s) line word = Ok (record { line = with_setting line s.0 s.1; next = any })
+taken_joined None line word = taken_as (kind_of word) line word
+
 abbrev pub taken_any : LineParts → List ℕ → Result Parting LineFault
-taken_any line word = taken_as (kind_of word) line word
+taken_any line word = taken_joined (joined_setting word) line word
 
 -- the next word
 abbrev pub taken : LineParts → NextWord → List ℕ → Result Parting LineFault

@@ -1,7 +1,8 @@
 -- What is told of a fetch, and of the refs of a server, a line each.
-use Rattle.std.specs.Prelude.{ℕ, Bool, if◌then◌else◌, List, [], ◌∷◌, ◌++◌, flat_map, codes, Option, Some, None}
+use Rattle.std.specs.Prelude.{ℕ, if◌then◌else◌, List, [], ◌∷◌, ◌++◌, flat_map, codes, Option, Some, None}
 use Rattle.std.specs.Fmt.{decimal}
 use Rattle.std.specs.Option.{option_map}
+use Rattle.std.specs.List.{enumerate_from}
 use Rattle.std.specs.Str.{bytes_eq}
 use Rattle.bstr.specs.Owned.{bstring_bytes}
 use Rattle.gixp_hash.specs.Hex.{encode_lower}
@@ -17,6 +18,9 @@ use Rattle.gixp_refmap.specs.Mapping.{source_id, source_name}
 use Rattle.gixp_refs.specs.declared.handshake.Ref.{Ref}
 use Rattle.gixp_refs.specs.Ref.{RefValue, peeled, direct, symbolic, unborn, ref_value}
 use Rattle.gixp_pack.specs.declared.check.PackSummary.{PackSummary}
+use Rattle.gixp_fetch_parts.specs.declared.change.Change.{Change}
+use Rattle.gixp_fetch_parts.specs.declared.change.Change.TheVariants.{New, FastForward, Forced, Same, Refused}
+use Rattle.gixp_fetch_parts.specs.Changes.{change_in}
 
 -- texts one after the other
 abbrev pub together : List (List ℕ) → List ℕ
@@ -36,11 +40,26 @@ abbrev pub name_told : Option (List ℕ) → List ℕ
 name_told (Some name) = name
 name_told None = codes "-"
 
--- a mapping: what is taken, its name, and the local name
-abbrev pub mapping_told : Mapping → List ℕ
-mapping_told m =
-    together (word_told m.spec_index ∷ id_told (source_id m.remote) ∷ codes " " ∷ name_told (source_name m.remote) ∷ codes " "
-    ∷ name_told (option_map bstring_bytes m.local) ∷ codes "\n" ∷ [])
+-- what becomes of a local ref, where it is known
+abbrev pub change_told : Option Change → List ℕ
+change_told (Some New) = codes "new "
+change_told (Some FastForward) = codes "fast-forward "
+change_told (Some Forced) = codes "forced "
+change_told (Some Same) = codes "same "
+change_told (Some Refused) = codes "refused "
+change_told None = []
+
+-- a mapping: what becomes of its local ref, what is taken, its name, and the local name
+abbrev pub mapping_told : Option Change → Mapping → List ℕ
+mapping_told change m =
+    change_told change ++ together (word_told m.spec_index ∷ id_told (source_id m.remote) ∷ codes " " ∷ name_told (source_name m.remote) ∷ codes " " ∷ name_told (option_map bstring_bytes m.local) ∷ codes "\n" ∷ [])
+
+-- the mappings, with the changes at their places
+abbrev pub numbered_told : List (Option Change) → ℕ × Mapping → List ℕ
+numbered_told changes p = mapping_told (change_in changes p.0) p.1
+
+abbrev pub mappings_told : List (Option Change) → List Mapping → List ℕ
+mappings_told changes ms = flat_map (numbered_told changes) (enumerate_from 0 ms)
 
 abbrev pub removed_told : Removed → List ℕ
 removed_told r = together (codes "fix " ∷ name_told r.name ∷ codes " " ∷ r.spec ∷ codes "\n" ∷ [])
@@ -68,9 +87,8 @@ abbrev pub default_of_ref : Ref → List ℕ
 default_of_ref found = default_told (ref_value found)
 
 -- the mappings, those that were taken out, what `HEAD` leads to, and the pack
-abbrev pub fetch_told : RefMap → Option PackSummary → List ℕ
-fetch_told m pack = flat_map mapping_told m.mappings.items
-    ++ (flat_map fix_told m.fixes.items ++ (flat_map default_of_ref m.remote_refs.items ++ end_told pack))
+abbrev pub fetch_told : RefMap → List (Option Change) → Option PackSummary → List ℕ
+fetch_told m changes pack = mappings_told changes m.mappings.items ++ (flat_map fix_told m.fixes.items ++ (flat_map default_of_ref m.remote_refs.items ++ end_told pack))
 
 -- an id with a name (git-ls-remote)
 abbrev pub id_line : (id name : List ℕ) → List ℕ

@@ -1,33 +1,36 @@
 -- The words of the command line: which are options, and which of them take a value.
-use Rattle.std.specs.Prelude.{ℕ, ◌==◌, ◌||◌, Bool, true, false, if◌then◌else◌, List, [], ◌∷◌, codes, Option, Some, None}
+use Rattle.std.specs.Prelude.{ℕ, ◌==◌, ◌&&◌, ◌||◌, Bool, false, if◌then◌else◌, List, [], ◌∷◌, codes, Option, Some, None}
 use Rattle.std.specs.Str.{bytes_eq}
+use Rattle.std.specs.List.{list_any, before_first, after_first}
 use Rattle.gixp_fetch_parts.specs.declared.line.Kind.{Kind}
 use Rattle.gixp_fetch_parts.specs.declared.line.Kind.TheVariants.{Flag, TakesValue, End, Operand, Unknown}
 
 -- whether an option takes no value
 abbrev pub is_flag : List ℕ → Bool
 is_flag word =
-    bytes_eq word (codes "--list") || bytes_eq word (codes "--unshallow") || bytes_eq word (codes "--reject-shallow") || bytes_eq word
-    (codes "--quiet")
+    bytes_eq word (codes "--list") || bytes_eq word (codes "--unshallow") || bytes_eq word (codes "--reject-shallow") || bytes_eq word (codes "--quiet")
     || bytes_eq word (codes "--progress") || bytes_eq word (codes "--help") || bytes_eq word (codes "-V")
 
 abbrev pub is_of_server : List ℕ → Bool
-is_of_server word = bytes_eq word (codes "--version") || bytes_eq word (codes "--path") || bytes_eq word
-    (codes "--host") || bytes_eq word (codes "--agent")
+is_of_server word = bytes_eq word (codes "--version") || bytes_eq word (codes "--path") || bytes_eq word (codes "--host") || bytes_eq word (codes "--agent")
 
 abbrev pub is_of_repository : List ℕ → Bool
-is_of_repository word = bytes_eq word (codes "--refs") || bytes_eq word (codes "--commits") || bytes_eq word
-    (codes "--objects") || bytes_eq word (codes "--shallow")
+is_of_repository word = bytes_eq word (codes "--refs") || bytes_eq word (codes "--commits") || bytes_eq word (codes "--objects") || bytes_eq word (codes "--shallow")
 
 abbrev pub is_of_fetch : List ℕ → Bool
 is_of_fetch word =
-    bytes_eq word (codes "--depth") || bytes_eq word (codes "--deepen") || bytes_eq word (codes "--since") || bytes_eq word
-    (codes "--exclude")
+    bytes_eq word (codes "--depth") || bytes_eq word (codes "--deepen") || bytes_eq word (codes "--since") || bytes_eq word (codes "--exclude")
     || bytes_eq word (codes "--tags") || bytes_eq word (codes "--negotiator") || bytes_eq word (codes "--report")
 
 -- whether the word after an option is its value
 abbrev pub takes_value : List ℕ → Bool
 takes_value word = is_of_server word || is_of_repository word || is_of_fetch word
+
+-- an option and its value in one word: an equals sign (61) stands between them
+abbrev pub joined_setting : List ℕ → Option (List ℕ × List ℕ)
+joined_setting word =
+    if list_any (λ b. b == 61) word && takes_value (before_first (λ b. b == 61) word)
+    then Some (before_first (λ b. b == 61) word, after_first (λ b. b == 61) word) else None
 
 -- a dash, and more
 abbrev pub is_dashed : List ℕ → Bool

@@ -3,8 +3,8 @@ ghost use Rattle.std.specs.Prelude.{◌≡◌, [], is_some, string_bytes, map};
 ghost use Rattle.std.specs.Option.{option_map};
 ghost use Rattle.gixp_fetch_parts.specs.declared.line.LineError.TheVariants.{Memory};
 ghost use Rattle.gixp_fetch_parts.specs.Words.{is_flag, is_of_server, is_of_repository, is_of_fetch, takes_value};
-ghost use Rattle.gixp_fetch_parts.specs.Words.{is_dashed, kind_of, value_in};
-ghost use Rattle.gixp_fetch_parts.specs.LineOf.{line_value, next_value, line_of, taken, taken_any, TakesWord, TakesApart};
+ghost use Rattle.gixp_fetch_parts.specs.Words.{joined_setting, is_dashed, kind_of, value_in};
+ghost use Rattle.gixp_fetch_parts.specs.LineOf.{line_value, next_value, line_of, taken, taken_any, taken_as, TakesWord, TakesApart};
 
 use std::alloc::{AllocError, AllocFailed, Global};
 
@@ -114,6 +114,22 @@ fn is_of_fetch(word: &str) -> bool
         || word == "--report"
 }
 
+// An option and its value, where a word has both: an equals sign stands between them.
+fn joined_setting(word: &str) -> Option<(&str, &str)>
+    ensures { option_map (λ s. (s.0.now, s.1.now)) result ≡ joined_setting word.now }
+{
+    match word.split_once('=') {
+        Some((name, value)) => {
+            if takes_value(name) {
+                Some((name, value))
+            } else {
+                None
+            }
+        }
+        None => None,
+    }
+}
+
 // Whether a word begins as an option: a dash, and more.
 fn is_dashed(word: &str) -> bool
     ensures { result ≡ is_dashed word.now }
@@ -192,6 +208,19 @@ impl<'a> Line<'a> {
     // The same of a word that may be an option.
     fn take_any(&mut self, word: &'a str) -> Result<Next<'a>, LineError<'a>>
         ensures { TakesWord (taken_any (line_value self.old) word.now) (line_value self.new) result }
+    {
+        match joined_setting(word) {
+            Some((name, value)) => {
+                self.settings.push(Setting { name, value })?;
+                Ok(Next::Any)
+            }
+            None => self.take_whole(word),
+        }
+    }
+
+    // The same of a word with no value joined to it.
+    fn take_whole(&mut self, word: &'a str) -> Result<Next<'a>, LineError<'a>>
+        ensures { TakesWord (taken_as (kind_of word.now) (line_value self.old) word.now) (line_value self.new) result }
     {
         match kind_of(word) {
             Kind::Flag => {

@@ -4,9 +4,11 @@ ghost use Rattle.std.specs.Option.{option_map};
 ghost use Rattle.bstr.specs.Owned.{bstring_bytes};
 ghost use Rattle.gixp_refmap.specs.Mapping.{source_name};
 ghost use Rattle.gixp_refs.specs.ParseError.{object_of};
-ghost use Rattle.gixp_fetch_parts.specs.Told.{word_told, name_told, mapping_told, fix_told, head_told, default_of_ref, end_told, fetch_told};
+ghost use Rattle.gixp_fetch_parts.specs.Changes.{change_in};
+ghost use Rattle.gixp_fetch_parts.specs.Told.{change_told, word_told, name_told, mapping_told, mappings_told, fix_told, head_told, default_of_ref, end_told, fetch_told};
 ghost use Rattle.gixp_fetch_parts.specs.Told.{id_line, peeled_line, target_line, tagged_lines, ref_lines};
 
+use crate::change::{Change, change_in};
 use bstr::BString;
 use gixp_hash::ObjectId;
 use gixp_matching::match_group::validate::Fix;
@@ -49,7 +51,22 @@ fn local_name(local: &Option<BString>) -> &[u8]
     }
 }
 
-// What begins the line of a mapping: that it is of a refspec, or of a tag that may follow.
+// What begins the line of a mapping: what becomes of its local ref, where that is known.
+#[inline(always)]
+fn word_of_change(change: Option<Change>) -> &'static [u8]
+    ensures { result.now ≡ change_told change }
+{
+    match change {
+        Some(Change::New) => b"new ",
+        Some(Change::FastForward) => b"fast-forward ",
+        Some(Change::Forced) => b"forced ",
+        Some(Change::Same) => b"same ",
+        Some(Change::Refused) => b"refused ",
+        None => b"",
+    }
+}
+
+// What comes next: that it is of a refspec, or of a tag that may follow.
 #[inline(always)]
 fn word_of(index: &SpecIndex) -> &[u8]
     ensures { result.now ≡ word_told index.now }
@@ -60,11 +77,22 @@ fn word_of(index: &SpecIndex) -> &[u8]
     }
 }
 
-// A mapping.
-#[inline(always)]
-fn append_mapping(text: &mut Vec<u8>, mapping: &Mapping) -> Result<(), AllocError>
-    ensures { OnOk result (text.new.items ≡ text.old.items ++ mapping_told mapping.now) }
+// What becomes of a local ref, where that is known.
+fn append_change(text: &mut Vec<u8>, change: Option<Change>) -> Result<(), AllocError>
+    ensures { OnOk result (text.new.items ≡ text.old.items ++ change_told change) }
 {
+    text.extend_from_slice(word_of_change(change))
+}
+
+// A mapping.
+fn append_mapping(
+    text: &mut Vec<u8>,
+    change: Option<Change>,
+    mapping: &Mapping,
+) -> Result<(), AllocError>
+    ensures { OnOk result (text.new.items ≡ text.old.items ++ mapping_told change mapping.now) }
+{
+    append_change(text, change)?;
     let word = word_of(&mapping.spec_index);
     let name = remote_name(&mapping.remote);
     let local = local_name(&mapping.local);
@@ -75,11 +103,15 @@ fn append_mapping(text: &mut Vec<u8>, mapping: &Mapping) -> Result<(), AllocErro
 }
 
 // The mappings.
-fn append_mappings(text: &mut Vec<u8>, mappings: &[Mapping]) -> Result<(), AllocError>
-    ensures { OnOk result (text.new.items ≡ text.old.items ++ flat_map mapping_told mappings.now) }
+fn append_mappings(
+    text: &mut Vec<u8>,
+    changes: &[Option<Change>],
+    mappings: &[Mapping],
+) -> Result<(), AllocError>
+    ensures { OnOk result (text.new.items ≡ text.old.items ++ mappings_told changes.now mappings.now) }
 {
-    for mapping in mappings {
-        append_mapping(text, mapping)?;
+    'mappings: for (index, mapping) in mappings.iter().enumerate() {
+        append_mapping(text, change_in(changes, index), mapping)?;
     }
     Ok(())
 }
@@ -164,12 +196,18 @@ fn append_end(
     )
 }
 
-/// What is told of a fetch: its mappings, those that were taken out, what `HEAD` of the server leads to, and the pack.
-pub fn report(alloc: Global, map: &RefMap, pack: Option<PackSummary>) -> Result<Vec<u8>, AllocError>
-    ensures { IfOk result (λ text. text.items ≡ fetch_told map.now pack) }
+/// What is told of a fetch: its mappings, each after what becomes of its local ref where that is known, those that were taken
+/// out, what `HEAD` of the server leads to, and the pack.
+pub fn report(
+    alloc: Global,
+    map: &RefMap,
+    changes: &[Option<Change>],
+    pack: Option<PackSummary>,
+) -> Result<Vec<u8>, AllocError>
+    ensures { IfOk result (λ text. text.items ≡ fetch_told map.now changes.now pack) }
 {
     let mut text = Vec::new(alloc);
-    append_mappings(&mut text, &map.mappings)?;
+    append_mappings(&mut text, changes, &map.mappings)?;
     append_fixes(&mut text, &map.fixes)?;
     append_defaults(&mut text, &map.remote_refs)?;
     append_end(alloc, &mut text, pack)?;

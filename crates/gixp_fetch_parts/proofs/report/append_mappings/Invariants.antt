@@ -1,8 +1,8 @@
-use Rattle.std.proofs.Common.{flat_map, drop}
-use Rattle.gixp_fetch_parts.specs.Told.{mapping_told}
-use Rattle.gixp_fetch_parts.proofs.TextLemmas.{Partly}
+-- What was told, and what is to come.
+use Rattle.std.proofs.Common.{◌≡◌, ◌++◌, flat_map, drop}
+use Rattle.std.specs.List.{enumerate_from}
+use Rattle.gixp_fetch_parts.specs.Told.{numbered_told, mappings_told}
 use Rattle.gixp_fetch_parts.proofs.report.append_mappings.Given as goal
 
-abbrev pub invariant-loop-mapping : goal.invariant-loop-mapping
-invariant-loop-mapping l = Partly l.fn.text.items l.text.items (flat_map mapping_told (drop l.mapping-index l.mappings))
-    (flat_map mapping_told l.fn.mappings)
+abbrev pub invariant-mappings : goal.invariant-mappings
+invariant-mappings l = l.text.items ++ flat_map (numbered_told l.changes) (enumerate_from l.index (drop l.index l.mappings)) ≡ l.fn.text.items ++ mappings_told l.changes l.mappings
