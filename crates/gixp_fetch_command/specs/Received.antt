@@ -21,7 +21,8 @@ came_leaves start end h = (h.0, record { content = h.1.content }, h.1.held)
 nothing_passes : (s : Side) → Passes s s []
 nothing_passes s = at s.reading.to_come
   where
-    at : (o : Option Pieces) → IfSome o (λ p. IsFirstOf s p → (q : Pieces) × (o ≡ Some q) × IsFirstOf s q × (side_content s p ≡ [] ++ side_content s q))
+    at : (o : Option Pieces) → IfSome o (λ p. IsFirstOf s p → (q : Pieces) × (o ≡ Some q) × IsFirstOf s q
+        × (side_content s p ≡ [] ++ side_content s q))
     at None = tt
     at (Some p) = λ f. (p, refl, f, refl)
 
@@ -48,11 +49,15 @@ module _ {P W : Type 0} (begins : P → W → P → Type 0) (gives_up : P → W 
   ReceivesPack p start (Err (Begin kind)) whole q end = (whole ≡ None) × (q ≡ p) × (end ≡ start)
   ReceivesPack p start (Err (Stream e)) whole q end = (whole ≡ None) × TakenAway p start e q end
 
-  pub receives_owes : (p q : P) (start end : Side) (r : Result Bool ReceiveError) (whole : Option (Whole W)) → ReceivesPack p start r whole q end → LeavesEnd start end
-  receives_owes p q start end (Ok finished) (Some whole) h = came_leaves start end (copies_pack_reads (contents h.1.first) (contents whole.writer) start end (Ok whole.summary) h.1.copied)
+  pub receives_owes : (p q : P) (start end : Side) (r : Result Bool ReceiveError) (whole : Option (Whole W))
+      → ReceivesPack p start r whole q end → LeavesEnd start end
+  receives_owes p q start end (Ok finished) (Some whole) h =
+      came_leaves start end (copies_pack_reads (contents h.1.first) (contents whole.writer) start end (Ok whole.summary) h.1.copied)
   receives_owes p q start end (Ok finished) None h = absurd h
-  receives_owes p q start end (Err (Begin kind)) whole h = subst (λ (s : Side). LeavesEnd start s) (sym h.2) ([], record { content = nothing_passes start }, refl)
-  receives_owes p q start end (Err (Stream e)) whole h = came_leaves start end (copies_pack_reads (contents h.1.first) (contents h.1.last) start end (Err e) h.1.copied)
+  receives_owes p q start end (Err (Begin kind)) whole h =
+      subst (λ (s : Side). LeavesEnd start s) (sym h.2) ([], record { content = nothing_passes start }, refl)
+  receives_owes p q start end (Err (Stream e)) whole h =
+      came_leaves start end (copies_pack_reads (contents h.1.first) (contents h.1.last) start end (Err e) h.1.copied)
 
 -- a pack that was held whole is kept, and told of; where none was, nothing is done
 abbrev pub KeepsHeld : {P W : Type 0} → (P → W → P → Type 0) → Option (Whole W) → P → Option PackSummary → P → Type 0

@@ -74,5 +74,6 @@ impl<N: Negotiate> Negotiate for Windowed<N> {
             .one_round(state, arguments, previous_response)
     }
 
-    ghost goes_on = { λ w s a p r v t b h o. N.goes_on w.negotiation (capped w.most s) a p r v.negotiation t b (capped_some s.haves_to_send w.most h w.some) o.0 };
+    ghost goes_on = { λ w s a p r v t b h o. N.goes_on w.negotiation (capped w.most s) a p r v.negotiation t b
+        (capped_some s.haves_to_send w.most h w.some) o.0 };
 }

@@ -39,12 +39,15 @@ pub refused_word : (line new : LineParts) (next : NextWord) (word : List ℕ) (w
     → TakesWord (taken line next word) new (Err e) → TakesApart (line_from line next (word ∷ words)) (Err e)
 refused_word line new next word words e = at (taken line next word)
   where
-    at : (r : Result Parting LineFault) → TakesWord r new (Err e) → TakesApart (elim r [ Err e ↦ Err e | Ok p ↦ line_from p.line p.next words ]) (Err e)
+    at : (r : Result Parting LineFault) → TakesWord r new (Err e)
+        → TakesApart (elim r [ Err e ↦ Err e | Ok p ↦ line_from p.line p.next words ]) (Err e)
     at (Ok p) h = forgets (line_from p.line p.next words) e h
     at (Err fault) h = h
 
 -- one option more of a line
 pub value_more : (settings : List Setting) (i : ℕ) (d : Setting) (name : List ℕ) → i < length settings
     → value_in (map setting_value (take (i + 1) settings)) name
-    ≡ later (value_in (map setting_value (take i settings)) name) (if bytes_eq (get_or settings i d).name.now name then Some (get_or settings i d).value.now else None)
-value_more settings i d name h = rw (take_more settings i d h, map-append) (value_in-append (map setting_value (take i settings)) (setting_value (get_or settings i d)) name)
+    ≡ later (value_in (map setting_value (take i settings)) name)
+    (if bytes_eq (get_or settings i d).name.now name then Some (get_or settings i d).value.now else None)
+value_more settings i d name h = rw (take_more settings i d h, map-append)
+    (value_in-append (map setting_value (take i settings)) (setting_value (get_or settings i d)) name)

@@ -13,7 +13,8 @@ use Rattle.gixp_fetch_parts.specs.PackCopied.{CameNext, CopiedNext, CopiedAll}
 passes_none : (s : Side) → Passes s s []
 passes_none s = at s.reading.to_come
   where
-    at : (o : Option Pieces) → IfSome o (λ p. IsFirstOf s p → (q : Pieces) × (o ≡ Some q) × IsFirstOf s q × (side_content s p ≡ [] ++ side_content s q))
+    at : (o : Option Pieces) → IfSome o (λ p. IsFirstOf s p → (q : Pieces) × (o ≡ Some q) × IsFirstOf s q
+        × (side_content s p ≡ [] ++ side_content s q))
     at None = tt
     at (Some p) = λ f. (p, refl, f, refl)
 
@@ -22,31 +23,45 @@ passes_more a b c xs ys h k = at a.reading.to_come b.reading.to_come h k
   where
     at : (o n : Option Pieces)
         → IfSome o (λ p. IsFirstOf a p → (q : Pieces) × (n ≡ Some q) × IsFirstOf b q × (side_content a p ≡ xs ++ side_content b q))
-        → IfSome n (λ p. IsFirstOf b p → (q : Pieces) × (c.reading.to_come ≡ Some q) × IsFirstOf c q × (side_content b p ≡ ys ++ side_content c q))
-        → IfSome o (λ p. IsFirstOf a p → (q : Pieces) × (c.reading.to_come ≡ Some q) × IsFirstOf c q × (side_content a p ≡ (xs ++ ys) ++ side_content c q))
+        → IfSome n (λ p. IsFirstOf b p → (q : Pieces) × (c.reading.to_come ≡ Some q) × IsFirstOf c q
+        × (side_content b p ≡ ys ++ side_content c q))
+        → IfSome o (λ p. IsFirstOf a p → (q : Pieces) × (c.reading.to_come ≡ Some q) × IsFirstOf c q
+        × (side_content a p ≡ (xs ++ ys) ++ side_content c q))
     at None n x y = tt
     at (Some p) None x y = λ f. let e = (x f).1 in cc
     at (Some p) (Some r) x y = λ f.
         let u = x f in
         let same : r ≡ u.0 = cc in
-        let v = y (subst (λ z. IsFirstOf b z) (sym same) u.2) in
-        (v.0, v.1, v.2, u.3 ∙ (ap (λ z. xs ++ side_content b z) (sym same) ∙ (ap (λ z. xs ++ z) v.3 ∙ sym (append_assoc xs ys (side_content c v.0)))))
+        let v = y (subst (λ z. IsFirstOf b z) (sym same) u.2) in (
+          v.0,
+          v.1,
+          v.2,
+          u.3 ∙ (ap (λ z. xs ++ side_content b z) (sym same)
+              ∙ (ap (λ z. xs ++ z) v.3 ∙ sym (append_assoc xs ys (side_content c v.0)))),
+        )
 
 pub copied_none : (w : Option (List ℕ)) (s : Side) → CopiedNext w s [] w s
 copied_none w s = record { came = record { content = passes_none s; held = refl }; written = Appends-nil w }
 
-came_more : (start now end : Side) (read more : List ℕ) → CameNext start read now → Passes now end more → (side_reading end).held ≡ (side_reading now).held → CameNext start (read ++ more) end
+came_more : (start now end : Side) (read more : List ℕ) → CameNext start read now → Passes now end more
+    → (side_reading end).held ≡ (side_reading now).held → CameNext start (read ++ more) end
 came_more start now end read more h p e = record { content = passes_more start now end read more h.content p; held = e ∙ h.held }
 
-module _ (now mid next : Side) (piece : List ℕ) (n : ℕ) (s : ShowsContent now mid) (r : ReadsBytes mid next (take n (shown mid.place mid.reading))) (e : piece ≡ shown mid.place mid.reading) (l : n ≡ length piece) where
+module _ (now mid next : Side) (piece : List ℕ) (n : ℕ) (s : ShowsContent now mid) (r : ReadsBytes mid next
+    (take n (shown mid.place mid.reading))) (e : piece ≡ shown mid.place mid.reading) (l : n ≡ length piece) where
   whole_piece : take n (shown mid.place mid.reading) ≡ piece
   whole_piece = ap (λ x. take n x) (sym e) ∙ take_all n piece (omega (arith, l))
 
   -- a piece that was lent is written and returned
-  pub copied_piece : (old w w' : Option (List ℕ)) (start : Side) (read : List ℕ) → CopiedNext old start read w now → Appends w w' piece → CopiedNext old start (read ++ piece) w' next
+  pub copied_piece : (old w w' : Option (List ℕ)) (start : Side) (read : List ℕ) → CopiedNext old start read w now → Appends w w' piece
+      → CopiedNext old start (read ++ piece) w' next
   copied_piece old w w' start read h a =
       let whole = subst (λ x. ReadsBytes mid next x) whole_piece r in
-      record { came = came_more start now next read piece h.came (passes_more now mid next [] piece s.content whole.content) (r.held ∙ s.held); written = Appends-trans old w w' read piece h.written a }
+      record {
+        came = came_more start now next read piece h.came (passes_more now mid next [] piece s.content whole.content)
+            (r.held ∙ s.held);
+        written = Appends-trans old w w' read piece h.written a;
+      }
 
   -- and fewer bytes may still come
   pub falls : content_bound next < content_bound now
@@ -67,7 +82,8 @@ fails_held old new e (inr (inl h)) = h.stays.held
 fails_held old new e (inr (inr h)) = h.held
 
 -- all was copied
-pub copied_all : (old w : Option (List ℕ)) (start now end : Side) (read : List ℕ) → CopiedNext old start read w now → EndsContent now end → CopiedAll old start read w end
+pub copied_all : (old w : Option (List ℕ)) (start now end : Side) (read : List ℕ) → CopiedNext old start read w now
+    → EndsContent now end → CopiedAll old start read w end
 copied_all old w start now end read h t = record {
   copied = record {
     came = record {
@@ -79,7 +95,8 @@ copied_all old w start now end read h t = record {
   all = at start.reading.to_come now.reading.to_come h.came.content t.content;
 }
   where
-    at : (o n : Option Pieces) → IfSome o (λ p. IsFirstOf start p → (q : Pieces) × (n ≡ Some q) × IsFirstOf now q × (side_content start p ≡ read ++ side_content now q))
+    at : (o n : Option Pieces) → IfSome o (λ p. IsFirstOf start p → (q : Pieces) × (n ≡ Some q) × IsFirstOf now q
+        × (side_content start p ≡ read ++ side_content now q))
         → IfSome n (λ q. side_content now q ≡ []) → IfSome o (λ p. IsFirstOf start p → side_content start p ≡ read)
     at None n x y = tt
     at (Some p) None x y = λ f. let e = (x f).1 in cc
@@ -89,9 +106,15 @@ copied_all old w start now end read h t = record {
         u.3 ∙ (ap (λ z. read ++ side_content now z) same ∙ (ap (λ z. read ++ z) y ∙ append-nil read))
 
 -- a read was refused
-pub refused_read : (old w : Option (List ℕ)) (start now end : Side) (read : List ℕ) (e : io_error) → CopiedNext old start read w now → RefusesContent now end e → (more : List ℕ) × CameNext start more end
-refused_read old w start now end read e h t = (read ++ t.lost, came_more start now end read t.lost h.came t.rest (fails_held (side_reading now) (side_reading end) t.refusal t.fails))
+pub refused_read : (old w : Option (List ℕ)) (start now end : Side) (read : List ℕ) (e : io_error) → CopiedNext old start read w now
+    → RefusesContent now end e → (more : List ℕ) × CameNext start more end
+refused_read old w start now end read e h t = (
+  read
+      ++ t.lost,
+  came_more start now end read t.lost h.came t.rest (fails_held (side_reading now) (side_reading end) t.refusal t.fails),
+)
 
 -- what was lent is left
-pub lent_alone : (old w : Option (List ℕ)) (start now mid : Side) (read : List ℕ) → CopiedNext old start read w now → ShowsContent now mid → (more : List ℕ) × CameNext start more mid
+pub lent_alone : (old w : Option (List ℕ)) (start now mid : Side) (read : List ℕ) → CopiedNext old start read w now
+    → ShowsContent now mid → (more : List ℕ) × CameNext start more mid
 lent_alone old w start now mid read h s = (read ++ [], came_more start now mid read [] h.came s.content s.held)

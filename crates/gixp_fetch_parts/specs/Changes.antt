@@ -43,7 +43,8 @@ abbrev pub change_of : FinMap (slice_cmp nat_cmp) ObjectId → Mapping × Update
 change_of refs p = named_change refs (option_map bstring_bytes p.0.local) p.1.mode
 
 -- the changes of some mappings, in order
-pub record AreChanges (l : LocalSide) (tags : Tags) (explicit extra : List RefSpec) (ms : List Mapping) (changes : List (Option Change)) : Type 0 where
+pub record AreChanges (l : LocalSide) (tags : Tags) (explicit extra : List RefSpec) (ms : List Mapping)
+    (changes : List (Option Change)) : Type 0 where
   pub updates : List Update
   pub are : AreUpdates l tags explicit extra ms updates
   pub words : changes ≡ map (change_of l.refs) (zip ms updates)

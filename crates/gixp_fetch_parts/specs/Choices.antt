@@ -57,8 +57,10 @@ IsNumber word number = ParsesUnsigned {E = Unit {0}} 32 10 word (Ok number)
 -- how much of the history is asked for: all of it, or so many commits, or so many more
 pub record AsksHistory (line : LineParts) (wanted : ShallowValue) : Type 0 where
   pub unshallow : has line (codes "--unshallow") ≡ true → wanted ≡ at_remote 2147483647
-  pub depth : has line (codes "--unshallow") ≡ false → IfSome (value line (codes "--depth")) (λ word. (n : ℕ) × IsNumber word n × (wanted ≡ at_remote n))
-  pub deepen : has line (codes "--unshallow") ≡ false → has line (codes "--depth") ≡ false → IfSome (value line (codes "--deepen")) (λ word. (n : ℕ) × IsNumber word n × (wanted ≡ deepens n))
+  pub depth : has line (codes "--unshallow") ≡ false
+      → IfSome (value line (codes "--depth")) (λ word. (n : ℕ) × IsNumber word n × (wanted ≡ at_remote n))
+  pub deepen : has line (codes "--unshallow") ≡ false → has line (codes "--depth") ≡ false
+      → IfSome (value line (codes "--deepen")) (λ word. (n : ℕ) × IsNumber word n × (wanted ≡ deepens n))
 
 -- the texts of the repository
 pub record AsksFiles (line : LineParts) (files : Files) : Type 0 where

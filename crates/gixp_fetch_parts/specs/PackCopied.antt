@@ -31,7 +31,8 @@ ChecksPack old start (Err (Write kind)) new end = (read : List ℕ) × CameNext 
 ChecksPack old start (Err Memory) new end = (read : List ℕ) × CameNext start read end
 
 -- in any case, some content was read
-pub copies_pack_reads : (old new : Option (List ℕ)) (start end : Side) (r : Result PackSummary StreamError) → ChecksPack old start r new end → (read : List ℕ) × CameNext start read end
+pub copies_pack_reads : (old new : Option (List ℕ)) (start end : Side) (r : Result PackSummary StreamError)
+    → ChecksPack old start r new end → (read : List ℕ) × CameNext start read end
 copies_pack_reads old new start end (Ok summary) h = (h.0, h.1.copied.came)
 copies_pack_reads old new start end (Err (Pack e)) h = (h.0, h.1.copied.came)
 copies_pack_reads old new start end (Err (Read kind)) h = h

@@ -52,7 +52,8 @@ change_told None = []
 -- a mapping: what becomes of its local ref, what is taken, its name, and the local name
 abbrev pub mapping_told : Option Change → Mapping → List ℕ
 mapping_told change m =
-    change_told change ++ together (word_told m.spec_index ∷ id_told (source_id m.remote) ∷ codes " " ∷ name_told (source_name m.remote) ∷ codes " " ∷ name_told (option_map bstring_bytes m.local) ∷ codes "\n" ∷ [])
+    change_told change ++ together (word_told m.spec_index ∷ id_told (source_id m.remote) ∷ codes " " ∷ name_told (source_name m.remote)
+    ∷ codes " " ∷ name_told (option_map bstring_bytes m.local) ∷ codes "\n" ∷ [])
 
 -- the mappings, with the changes at their places
 abbrev pub numbered_told : List (Option Change) → ℕ × Mapping → List ℕ
@@ -88,7 +89,8 @@ default_of_ref found = default_told (ref_value found)
 
 -- the mappings, those that were taken out, what `HEAD` leads to, and the pack
 abbrev pub fetch_told : RefMap → List (Option Change) → Option PackSummary → List ℕ
-fetch_told m changes pack = mappings_told changes m.mappings.items ++ (flat_map fix_told m.fixes.items ++ (flat_map default_of_ref m.remote_refs.items ++ end_told pack))
+fetch_told m changes pack = mappings_told changes m.mappings.items
+    ++ (flat_map fix_told m.fixes.items ++ (flat_map default_of_ref m.remote_refs.items ++ end_told pack))
 
 -- an id with a name (git-ls-remote)
 abbrev pub id_line : (id name : List ℕ) → List ℕ

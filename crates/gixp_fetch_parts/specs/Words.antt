@@ -8,18 +8,22 @@ use Rattle.gixp_fetch_parts.specs.declared.line.Kind.TheVariants.{Flag, TakesVal
 -- whether an option takes no value
 abbrev pub is_flag : List ℕ → Bool
 is_flag word =
-    bytes_eq word (codes "--list") || bytes_eq word (codes "--unshallow") || bytes_eq word (codes "--reject-shallow") || bytes_eq word (codes "--quiet")
+    bytes_eq word (codes "--list") || bytes_eq word (codes "--unshallow") || bytes_eq word (codes "--reject-shallow") || bytes_eq word
+    (codes "--quiet")
     || bytes_eq word (codes "--progress") || bytes_eq word (codes "--help") || bytes_eq word (codes "-V")
 
 abbrev pub is_of_server : List ℕ → Bool
-is_of_server word = bytes_eq word (codes "--version") || bytes_eq word (codes "--path") || bytes_eq word (codes "--host") || bytes_eq word (codes "--agent")
+is_of_server word = bytes_eq word (codes "--version") || bytes_eq word (codes "--path") || bytes_eq word
+    (codes "--host") || bytes_eq word (codes "--agent")
 
 abbrev pub is_of_repository : List ℕ → Bool
-is_of_repository word = bytes_eq word (codes "--refs") || bytes_eq word (codes "--commits") || bytes_eq word (codes "--objects") || bytes_eq word (codes "--shallow")
+is_of_repository word = bytes_eq word (codes "--refs") || bytes_eq word (codes "--commits") || bytes_eq word
+    (codes "--objects") || bytes_eq word (codes "--shallow")
 
 abbrev pub is_of_fetch : List ℕ → Bool
 is_of_fetch word =
-    bytes_eq word (codes "--depth") || bytes_eq word (codes "--deepen") || bytes_eq word (codes "--since") || bytes_eq word (codes "--exclude")
+    bytes_eq word (codes "--depth") || bytes_eq word (codes "--deepen") || bytes_eq word (codes "--since") || bytes_eq word
+    (codes "--exclude")
     || bytes_eq word (codes "--tags") || bytes_eq word (codes "--negotiator") || bytes_eq word (codes "--report")
 
 -- whether the word after an option is its value

@@ -22,10 +22,17 @@ module _ (m b : List ℕ) where
 
   count : length (m ++ b) - 20 ≡ length before + (length after - 20)
   unfolding before after
-  count = omega (arith, length-append m b, length-append (drop (length m - 20) m) b, length-drop (length m - 20) m, length-take-le (length m - 20) m (omega arith))
+  count = omega (
+    arith,
+    length-append m b,
+    length-append (drop (length m - 20) m) b,
+    length-drop (length m - 20) m,
+    length-take-le (length m - 20) m (omega arith),
+  )
 
   -- what is behind the last 20 bytes
-  pub hashed_more : take (length (m ++ b) - 20) (m ++ b) ≡ take (length m - 20) m ++ take (length (drop (length m - 20) m ++ b) - 20) (drop (length m - 20) m ++ b)
+  pub hashed_more : take (length (m ++ b) - 20) (m ++ b) ≡ take (length m - 20) m
+      ++ take (length (drop (length m - 20) m ++ b) - 20) (drop (length m - 20) m ++ b)
   unfolding before after whole count
   hashed_more = rw (count, whole) (take-append-add before after (length after - 20))
 
@@ -37,7 +44,8 @@ module _ (m b : List ℕ) where
   long h = rw (length-take-le 12 m h) (take-append-le 12 m b h ∙ sym (append-nil (take 12 m)))
 
   short : length m ≤ 12 → take 12 (m ++ b) ≡ take 12 m ++ take (12 - length (take 12 m)) b
-  short h = let e : 12 ≡ length m + (12 - length m) = omega arith in rw (take_all 12 m h) (ap (λ n. take n (m ++ b)) e ∙ take-append-add m b (12 - length m))
+  short h = let e : 12 ≡ length m + (12 - length m) = omega arith in
+      rw (take_all 12 m h) (ap (λ n. take n (m ++ b)) e ∙ take-append-add m b (12 - length m))
 
   pub header_more : take 12 (m ++ b) ≡ take 12 m ++ take (12 - length (take 12 m)) b
   header_more = elim (cases_lt (length m) 12) [ inl h ↦ short (omega arith) | inr h ↦ long h ]

@@ -29,7 +29,8 @@ has_trailer bytes = bytes_eq (sha1 (take (length bytes - 20) bytes)) (drop (leng
 -- what is told of a pack with this many objects, where its trailer holds
 abbrev pub sealed : List ℕ → Result ℕ PackError → Result PackSummary PackError
 sealed bytes (Err e) = Err e
-sealed bytes (Ok objects) = if has_trailer bytes then Ok (record { bytes = min (length bytes) (2 ^ 64 - 1); objects = objects }) else Err Checksum
+sealed bytes (Ok objects) = if has_trailer bytes then Ok (record { bytes = min (length bytes) (2 ^ 64 - 1); objects = objects })
+    else Err Checksum
 
 -- what is told of these bytes as a pack, or why they are none
 abbrev pub pack_of : List ℕ → Result PackSummary PackError

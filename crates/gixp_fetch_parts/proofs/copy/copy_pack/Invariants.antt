@@ -6,7 +6,8 @@ use Rattle.gixp_fetch_parts.specs.PackCopied.{CopiedNext}
 use Rattle.gixp_fetch_parts.proofs.copy.copy_pack.Given as goal
 
 abbrev pub invariant-pieces : goal.invariant-pieces
-invariant-pieces g l = (read : List ℕ) × CopiedNext (g.W.Write.contents l.fn.writer) (side g.T.ExtendedBufRead.reading l.fn.reader) read (g.W.Write.contents l.writer) (side g.T.ExtendedBufRead.reading l.reader)
+invariant-pieces g l = (read : List ℕ) × CopiedNext (g.W.Write.contents l.fn.writer) (side g.T.ExtendedBufRead.reading l.fn.reader) read
+    (g.W.Write.contents l.writer) (side g.T.ExtendedBufRead.reading l.reader)
     × HasTaken l.check read
 
 abbrev pub decreases-pieces : goal.decreases-pieces

@@ -8,7 +8,8 @@ lacks : (word : List ℕ) → position_or_len (λ b. b == 61) word ≡ length wo
 lacks [] h = refl
 lacks (x ∷ xs) h = go (x == 61) refl (lacks xs)
   where
-    go : (t : Bool) → (x == 61) ≡ t → (position_or_len (λ b. b == 61) xs ≡ length xs → list_any (λ b. b == 61) xs ≡ false) → list_any (λ b. b == 61) (x ∷ xs) ≡ false
+    go : (t : Bool) → (x == 61) ≡ t → (position_or_len (λ b. b == 61) xs ≡ length xs → list_any (λ b. b == 61) xs ≡ false)
+        → list_any (λ b. b == 61) (x ∷ xs) ≡ false
     go true e more = absurd (grind (arith, common_steps, e, h))
     go false e more = rw e (more (grind (arith, common_steps, e, h)))
 

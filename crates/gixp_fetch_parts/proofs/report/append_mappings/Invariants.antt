@@ -5,4 +5,5 @@ use Rattle.gixp_fetch_parts.specs.Told.{numbered_told, mappings_told}
 use Rattle.gixp_fetch_parts.proofs.report.append_mappings.Given as goal
 
 abbrev pub invariant-mappings : goal.invariant-mappings
-invariant-mappings l = l.text.items ++ flat_map (numbered_told l.changes) (enumerate_from l.index (drop l.index l.mappings)) ≡ l.fn.text.items ++ mappings_told l.changes l.mappings
+invariant-mappings l = l.text.items ++ flat_map (numbered_told l.changes) (enumerate_from l.index (drop l.index l.mappings))
+    ≡ l.fn.text.items ++ mappings_told l.changes l.mappings

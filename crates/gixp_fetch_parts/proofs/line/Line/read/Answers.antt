@@ -12,4 +12,5 @@ returns-in-Err c =
     let told = c.in-Err.ensures in
     let shown = rw (c.as_str.ensures.value, c.word-item.is) at told in
     rw (c.loop-word.invariant, left) (refused_word (line_value c.loop-word.line) (line_value c.take.new.self) (next_value c.loop-word.next)
-    (string_bytes (get_or c.args.words.now c.loop-word.word-index c.word-item.result)) (map string_bytes (drop (suc c.loop-word.word-index) c.args.words.now)) c.in-Err.e shown)
+    (string_bytes (get_or c.args.words.now c.loop-word.word-index c.word-item.result))
+    (map string_bytes (drop (suc c.loop-word.word-index) c.args.words.now)) c.in-Err.e shown)

@@ -4,4 +4,5 @@ use Rattle.gixp_fetch_parts.specs.LineOf.{line_value, next_value, line_from, lin
 use Rattle.gixp_fetch_parts.proofs.line.Line.read.Given as goal
 
 abbrev pub invariant-loop-word : goal.invariant-loop-word
-invariant-loop-word l = line_of (map string_bytes l.words) ≡ line_from (line_value l.line) (next_value l.next) (map string_bytes (drop l.word-index l.words))
+invariant-loop-word l = line_of (map string_bytes l.words) ≡ line_from (line_value l.line) (next_value l.next)
+    (map string_bytes (drop l.word-index l.words))
