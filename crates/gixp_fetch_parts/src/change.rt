@@ -103,7 +103,12 @@ pub fn changes<R: RefStore, O: Objects, P: Objects>(
     tags: Tags,
 ) -> Result<Vec<Option<Change>>, Error>
     ensures { IfOk result (λ changes. AreChanges
-        (record { refs = R.refs refs.now; objects = O.contents objects.now; commits = graph.old.graph.objects; is_checked_out = is_among [] })
+        (record {
+          refs = R.refs refs.now;
+          objects = O.contents objects.now;
+          commits = graph.old.graph.objects;
+          is_checked_out = is_among [];
+        })
         tags map.now.refspecs.items map.now.extra_refspecs.items map.now.mappings.items changes.items) }
 {
     let options = Options {

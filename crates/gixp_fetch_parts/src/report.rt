@@ -11,23 +11,13 @@ ghost use Rattle.gixp_fetch_parts.specs.Told.{id_line, peeled_line, target_line,
 use crate::change::{Change, change_in};
 use bstr::BString;
 use gixp_hash::ObjectId;
+use gixp_listing::append;
 use gixp_matching::match_group::validate::Fix;
 use gixp_pack::PackSummary;
 use gixp_refmap::RefMap;
 use gixp_refmap::refmap::{Mapping, Source, SpecIndex};
 use gixp_refs::handshake::Ref;
 use std::alloc::{AllocError, Global};
-
-// Appends texts, one after the other.
-#[inline(always)]
-fn append(text: &mut Vec<u8>, pieces: &[&[u8]]) -> Result<(), AllocError>
-    ensures { OnOk result (text.new.items ≡ text.old.items ++ flat_map (λ piece. piece.now) pieces.now) }
-{
-    for piece in pieces {
-        text.extend_from_slice(piece)?;
-    }
-    Ok(())
-}
 
 // The name of what is taken, or a dash.
 #[inline(always)]

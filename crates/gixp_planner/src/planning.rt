@@ -86,7 +86,8 @@ pub fn plan<'a, O: Objects, G: Objects, N: Negotiator, W: Write>(
 ) -> Result<(), PlanError>
     ensures text { PlannedText
         (λ m h old new r. FetchesMapped
-        (parties_of ⟦<Negotiation<'a, O, NoRefs, N, G, AllocError> as Negotiate>⟧.calls ⟦<ShallowMemory as ShallowStore>⟧.calls ⟦<NeverInterrupt as Interrupt>⟧.says ⟦<ReadToEnd as ConsumePack<Discard>>⟧.consumes true)
+        (parties_of ⟦<Negotiation<'a, O, NoRefs, N, G, AllocError> as Negotiate>⟧.calls ⟦<ShallowMemory as ShallowStore>⟧.calls
+        ⟦<NeverInterrupt as Interrupt>⟧.says ⟦<ReadToEnd as ConsumePack<Discard>>⟧.consumes true)
         (λ n. (n.context.objects.now ≡ objects.now) × (n.context.graph.now ≡ graph.old) × (n.context.negotiator.now ≡ negotiator.old)
         × (n.ref_map.now ≡ m) × (n.shallow.now ≡ Shallow.NoChange) × (n.tags ≡ Tags.None)
         × IfOk n.context.alternates (λ a. a.now ≡ []) × IsOk n.context.alternates)

@@ -93,11 +93,26 @@ fn fetch_over<N: Negotiate, T: Transport>(
     requires agent { feature_value agent ≡ planner_agent }
     requires stays { shallow.now ≡ Shallow.NoChange }
     ensures { Carries
-        (parties_of N.calls ⟦<ShallowMemory as ShallowStore>⟧.calls ⟦<NeverInterrupt as Interrupt>⟧.says ⟦<ReadToEnd as ConsumePack<Discard>>⟧.consumes T.is_plain)
+        (parties_of N.calls ⟦<ShallowMemory as ShallowStore>⟧.calls ⟦<NeverInterrupt as Interrupt>⟧.says
+        ⟦<ReadToEnd as ConsumePack<Discard>>⟧.consumes T.is_plain)
         handshake.old
-        (record { negotiate = negotiation.old; reading = T.reading transport.old; interrupt = never.old; store = boundary.old; locked = false; consumer = reader.old })
+        (record {
+          negotiate = negotiation.old;
+          reading = T.reading transport.old;
+          interrupt = never.old;
+          store = boundary.old;
+          locked = false;
+          consumer = reader.old;
+        })
         result
-        (record { negotiate = negotiation.new; reading = T.reading transport.new; interrupt = never.new; store = boundary.new; locked = false; consumer = reader.new }) quiet.new }
+        (record {
+          negotiate = negotiation.new;
+          reading = T.reading transport.new;
+          interrupt = never.new;
+          store = boundary.new;
+          locked = false;
+          consumer = reader.new;
+        }) quiet.new }
 {
     let context = fetch::Context {
         handshake,
@@ -133,7 +148,8 @@ fn fetch_mapped<'a, O: Objects, G: Objects, N: Negotiator, T: Transport>(
     transport: &mut T,
 ) -> Result<Option<Outcome>, fetch::Error<AllocError, CopyError>>
     ensures { FetchesMapped
-        (parties_of ⟦<Negotiation<'a, O, NoRefs, N, G, AllocError> as Negotiate>⟧.calls ⟦<ShallowMemory as ShallowStore>⟧.calls ⟦<NeverInterrupt as Interrupt>⟧.says ⟦<ReadToEnd as ConsumePack<Discard>>⟧.consumes T.is_plain)
+        (parties_of ⟦<Negotiation<'a, O, NoRefs, N, G, AllocError> as Negotiate>⟧.calls ⟦<ShallowMemory as ShallowStore>⟧.calls
+        ⟦<NeverInterrupt as Interrupt>⟧.says ⟦<ReadToEnd as ConsumePack<Discard>>⟧.consumes T.is_plain)
         (λ n. (n.context.objects.now ≡ objects.now) × (n.context.graph.now ≡ graph.old) × (n.context.negotiator.now ≡ negotiator.old)
         × (n.ref_map.now ≡ map.now) × (n.shallow.now ≡ Shallow.NoChange) × (n.tags ≡ Tags.None)
         × IfOk n.context.alternates (λ a. a.now ≡ []) × IsOk n.context.alternates)
@@ -204,7 +220,8 @@ pub(crate) fn run<'a, O: Objects, G: Objects, N: Negotiator, T: Transport>(
 ) -> Course
     ensures { Runs
         (λ m h old new r. FetchesMapped
-        (parties_of ⟦<Negotiation<'a, O, NoRefs, N, G, AllocError> as Negotiate>⟧.calls ⟦<ShallowMemory as ShallowStore>⟧.calls ⟦<NeverInterrupt as Interrupt>⟧.says ⟦<ReadToEnd as ConsumePack<Discard>>⟧.consumes T.is_plain)
+        (parties_of ⟦<Negotiation<'a, O, NoRefs, N, G, AllocError> as Negotiate>⟧.calls ⟦<ShallowMemory as ShallowStore>⟧.calls
+        ⟦<NeverInterrupt as Interrupt>⟧.says ⟦<ReadToEnd as ConsumePack<Discard>>⟧.consumes T.is_plain)
         (λ n. (n.context.objects.now ≡ objects.now) × (n.context.graph.now ≡ graph.old) × (n.context.negotiator.now ≡ negotiator.old)
         × (n.ref_map.now ≡ m) × (n.shallow.now ≡ Shallow.NoChange) × (n.tags ≡ Tags.None)
         × IfOk n.context.alternates (λ a. a.now ≡ []) × IsOk n.context.alternates)
