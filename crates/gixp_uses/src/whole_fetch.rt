@@ -206,7 +206,7 @@ pub fn fetch_from<R: Read + Drop, W: Write + Drop, F: Write>(
         &mut transport,
         pack,
     )?;
-    if fetched.outcome.is_none() {
+    if fetched.outcome.is_none() || shaken.server_protocol_version == Protocol::V2 {
         indicate_end_of_interaction(&mut transport)?;
     }
     Ok(fetched)
