@@ -65,6 +65,19 @@ pub record Carries {N I A S C P X : Type 0} (parties : Parties N I A S C P X) (h
     (r : Result (Option Outcome) (FetchError A X)) (last : World N I S C) (progress : P) : Type 0 where
   pub fetched : Fetches parties (planner_call h) first r last progress
 
+-- one that asks some interrupt and lends its pack to some consumer, with no lock before or after it
+pub record CarriesOn {N I A S C P X : Type 0} (parties : Parties N I A S C P X) (h : Handshake) (negotiate : N) (old : Reading)
+    (store : S) (r : Result (Option Outcome) (FetchError A X)) (negotiate' : N) (new : Reading) (store' : S) : Type 0 where
+  pub interrupt : I
+  pub consumer : C
+  pub interrupt' : I
+  pub consumer' : C
+  pub progress : P
+  pub carries : Carries parties h
+      (record { negotiate = negotiate; reading = old; interrupt = interrupt; store = store; locked = false; consumer = consumer }) r
+      (record { negotiate = negotiate'; reading = new; interrupt = interrupt'; store = store'; locked = false; consumer = consumer' })
+      progress
+
 -- a fetch over a negotiation and a store of the boundary that are so
 pub record FetchesOver {N I A S C P X : Type 0} (parties : Parties N I A S C P X) (IsOver : N → Type 0) (IsEmpty : S → Type 0)
     (h : Handshake) (old new : Reading) (r : Result (Option Outcome) (FetchError A X)) : Type 0 where

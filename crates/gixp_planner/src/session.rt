@@ -3,7 +3,7 @@ ghost use Rattle.std.specs.Prelude.{◌≡◌, [], true, false, Some, None, Ok, 
 ghost use Rattle.gixp_fetch.specs.Fetch.{parties_of};
 ghost use Rattle.gixp_requests.specs.Feature.{feature_value};
 ghost use Rattle.gixp_handshake.specs.Taken.{without_refs};
-ghost use Rattle.gixp_planner.specs.Session.{planner_agent, GreetsWithoutAccount, MapsRefs, Carries, FetchesMapped, Runs, end_of};
+ghost use Rattle.gixp_planner.specs.Session.{planner_agent, GreetsWithoutAccount, MapsRefs, CarriesOn, FetchesMapped, Runs, end_of};
 ghost use Rattle.gixp_planner.specs.Text.{ended_of};
 
 use crate::error::PlanError;
@@ -77,7 +77,7 @@ fn map_refs<T: Transport>(
     Ok(map)
 }
 
-// The fetch of what a negotiation asks for.
+// The fetch of what a negotiation asks for. The pack is read to its end.
 fn fetch_over<N: Negotiate, T: Transport>(
     alloc: Global,
     negotiation: &mut N,
@@ -86,34 +86,17 @@ fn fetch_over<N: Negotiate, T: Transport>(
     transport: &mut T,
     shallow: &Shallow,
     boundary: &mut ShallowMemory,
-    reader: &mut ReadToEnd,
-    quiet: &mut Discard,
-    never: &mut NeverInterrupt,
 ) -> Result<Option<Outcome>, fetch::Error<N::AlternatesError, CopyError>>
     requires agent { feature_value agent ≡ planner_agent }
     requires stays { shallow.now ≡ Shallow.NoChange }
-    ensures { Carries
+    ensures { CarriesOn
         (parties_of N.calls ⟦<ShallowMemory as ShallowStore>⟧.calls ⟦<NeverInterrupt as Interrupt>⟧.says
         ⟦<ReadToEnd as ConsumePack<Discard>>⟧.consumes T.is_plain)
-        handshake.old
-        (record {
-          negotiate = negotiation.old;
-          reading = T.reading transport.old;
-          interrupt = never.old;
-          store = boundary.old;
-          locked = false;
-          consumer = reader.old;
-        })
-        result
-        (record {
-          negotiate = negotiation.new;
-          reading = T.reading transport.new;
-          interrupt = never.new;
-          store = boundary.new;
-          locked = false;
-          consumer = reader.new;
-        }) quiet.new }
+        handshake.old negotiation.old (T.reading transport.old) boundary.old result negotiation.new (T.reading transport.new) boundary.new }
 {
+    let mut reader = ReadToEnd;
+    let mut quiet = Discard;
+    let mut never = NeverInterrupt;
     let context = fetch::Context {
         handshake,
         transport,
@@ -128,16 +111,16 @@ fn fetch_over<N: Negotiate, T: Transport>(
     fetch::fetch(
         alloc,
         negotiation,
-        reader,
-        quiet,
-        never,
+        &mut reader,
+        &mut quiet,
+        &mut never,
         agent,
         context,
         options,
     )
 }
 
-// The fetch of what is mapped. The pack is read to its end.
+// The fetch of what is mapped.
 fn fetch_mapped<'a, O: Objects, G: Objects, N: Negotiator, T: Transport>(
     alloc: Global,
     objects: &'a O,
@@ -168,9 +151,6 @@ fn fetch_mapped<'a, O: Objects, G: Objects, N: Negotiator, T: Transport>(
     };
     let mut negotiation = Negotiation::new(context, map, &shallow, Tags::None);
     let mut boundary = ShallowMemory::new(Vec::new(alloc));
-    let mut reader = ReadToEnd;
-    let mut quiet = Discard;
-    let mut never = NeverInterrupt;
     fetch_over(
         alloc,
         &mut negotiation,
@@ -179,9 +159,6 @@ fn fetch_mapped<'a, O: Objects, G: Objects, N: Negotiator, T: Transport>(
         transport,
         &shallow,
         &mut boundary,
-        &mut reader,
-        &mut quiet,
-        &mut never,
     )
 }
 

@@ -6,7 +6,7 @@ pub returns : goal.returns
 returns g c =
     let made = c.new-negotiation.ensures.context in
     inl
-    (fetches-over _ _ _ _ _ _ _ _ _ _ c.fetch_over.ensures (
+    (fetches-over _ _ _ _ _ _ _ _ _ _ c.fetch_over.ensures.carries (
       ap (λ x. x.objects.now) made,
       ap (λ x. x.graph.now) made,
       ap (λ x. x.negotiator.now) made,
