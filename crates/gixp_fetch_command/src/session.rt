@@ -114,29 +114,35 @@ fn opened(alternates: &mut [StoredRefs]) -> Result<&mut [StoredRefs], NoAlternat
     Ok(alternates)
 }
 
+// How a fetch names itself, and what it asks for.
+#[derive(Clone, Copy)]
+struct Request<'a> {
+    agent: &'a str,
+    wish: &'a Wish<'a>,
+}
+
 // The fetch of what a negotiation asks for.
 fn fetch_over<N: Negotiate, T: Transport, P: PackPlace, S: NestedProgress>(
     alloc: Global,
     negotiation: &mut N,
-    agent: &str,
+    request: Request<'_>,
     handshake: &mut Handshake,
     transport: &mut T,
-    wish: &Wish<'_>,
-    boundary: &mut ShallowMemory,
-    pack: &mut PackReceiver<P>,
+    sink: &mut Sink<P>,
     shown: &mut S,
 ) -> Result<Option<Outcome>, Failure>
 where
     S::SubProgress: Drop,
 {
-    let name = named(alloc, agent)?;
+    let name = named(alloc, request.agent)?;
     let context = Context {
         handshake,
         transport,
         table: &CommandTable::git(),
     };
+    let wish = request.wish;
     let options = Options {
-        shallow_file: boundary,
+        shallow_file: &mut sink.boundary,
         shallow: &wish.shallow,
         tags: wish.tags,
         reject_shallow_remote: wish.rejects_shallow,
@@ -144,7 +150,7 @@ where
     let result = fetch::fetch(
         alloc,
         negotiation,
-        pack,
+        &mut sink.pack,
         shown,
         &mut NeverInterrupt,
         name,
@@ -269,15 +275,17 @@ impl<'a, T: Transport> Session<'a, T> {
         let wish = asked.wish;
         let negotiation = Negotiation::new(context, asked.map, &wish.shallow, wish.tags);
         let mut windowed = Windowed::new(negotiation, self.most_haves());
+        let request = Request {
+            agent: self.agent,
+            wish,
+        };
         let result = fetch_over(
             alloc,
             &mut windowed,
-            self.agent,
+            request,
             &mut self.shaken,
             &mut self.transport,
-            wish,
-            &mut sink.boundary,
-            &mut sink.pack,
+            sink,
             shown,
         );
         drop(windowed);
