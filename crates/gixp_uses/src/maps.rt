@@ -4,7 +4,7 @@ use bstr::{BStr, BString};
 use gix_protocol::agent;
 use gix_protocol::command::CommandTable;
 use gix_protocol::fetch::RefMap;
-use gix_protocol::fetch::refmap::init::Context;
+use gix_protocol::fetch::refmap::init;
 use gix_protocol::handshake::{handshake, obtain};
 use gix_protocol::refspec::parse::{Operation, parse};
 use gix_protocol::transport::{Bodies, Body, Discard, Service};
@@ -28,7 +28,7 @@ pub fn mapped_branches(alloc: Global, answers: Vec<Body>) -> Result<RefMap> {
     )?;
     let mut fetch_refspecs = Vec::new(alloc);
     fetch_refspecs.push(branches.to_owned(alloc)?)?;
-    let specs = Context {
+    let specs = init::Context {
         fetch_refspecs,
         extra_refspecs: Vec::new(alloc),
     };
