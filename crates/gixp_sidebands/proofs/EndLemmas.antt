@@ -55,7 +55,7 @@ shown_keeps old new h = running old new h.running h.stopped h.version (at old.to
     at (Some p) k = (p, k.1, refl)
 
 -- the stop that comes next ends the lines
-ends_stop : (v : Protocol) (list : List Piece) (end : Refusal) (kind : MessageKind) (q : Pieces) → next_from v list end ≡ stops kind q
+pub ends_stop : (v : Protocol) (list : List Piece) (end : Refusal) (kind : MessageKind) (q : Pieces) → next_from v list end ≡ stops kind q
     → (lines_from v list end).ending ≡ stop kind q
 ends_stop v [] end kind q h = cc
 ends_stop v (line t ∷ ps) end kind q h = cc
@@ -73,7 +73,7 @@ ends_stop v (mark k ∷ ps) end kind q h = at (is_stop v k) h
     at false e = cc
 
 -- and so does a refusal
-ends_refused : (v : Protocol) (list : List Piece) (end x : Refusal) → next_from v list end ≡ refuses x
+pub ends_refused : (v : Protocol) (list : List Piece) (end x : Refusal) → next_from v list end ≡ refuses x
     → (lines_from v list end).ending ≡ refusal x
 ends_refused v [] end x h = let e : end ≡ x = cc in ap refusal e
 ends_refused v (line t ∷ ps) end x h = cc

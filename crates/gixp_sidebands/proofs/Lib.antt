@@ -3,4 +3,4 @@ mod BandLemmas
 mod ContentLemmas
 mod TellLemmas
 mod BandItemLemmas
-mod EndLemmas
+pub mod EndLemmas
