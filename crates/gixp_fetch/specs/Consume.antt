@@ -36,8 +36,8 @@ pub record WriteRefused (old : Option (List ℕ)) (start end : Side) : Type 0 wh
   pub copied : Copied old start read mid now
   pub shows : ShowsContent now end
 
--- all content up to the stop was copied, and the reader is at it; or a read was refused after some, of which the writer got all but what the failed read lost;
--- or the writer failed after some, with more at hand for it
+-- all content up to the stop was copied, and the reader is at it; or a read was refused after some, of which the writer got all but what
+-- the failed read lost; or the writer failed after some, with more at hand for it
 abbrev pub Copies : Option (List ℕ) → Side → Result (Unit {0}) CopyError → Option (List ℕ) → Side → Type 0
 Copies old start (Ok done) new end = (read : List ℕ) × Copied old start read new end
     × IfSome start.reading.to_come (λ p. IsFirstOf start p → side_content start p ≡ read) × IsSome end.reading.stopped

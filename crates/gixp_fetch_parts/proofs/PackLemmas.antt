@@ -1,5 +1,5 @@
 -- A pack that is copied piece by piece.
-use Rattle.std.proofs.Common.{◌≡◌, ℕ, ◌+◌, ◌≤◌, ◌<◌, List, [], ◌++◌, length, take, arith, refl, ap, sym, ◌∙◌, subst, Option, Some, None, inl, inr}
+use Rattle.std.proofs.Common.{◌≡◌, ℕ, ◌+◌, ◌-◌, ◌^◌, ◌≤◌, ◌<◌, List, [], ◌++◌, length, take, arith, refl, ap, sym, ◌∙◌, subst, Option, Some, None, inl, inr}
 use Rattle.std.proofs.lemmas.List.{append_assoc, append-nil, take_all}
 use Rattle.std.specs.Prelude.{IfSome}
 use Rattle.std.specs.Io.KnownBytes.{Appends}
@@ -7,7 +7,8 @@ use Rattle.std.proofs.KnownBytes.{Appends-nil, Appends-trans}
 use Rattle.std.specs.declared.io.Error.{Error as io_error}
 use Rattle.gixp_packetline.specs.Pieces.{Pieces, Refusal}
 use Rattle.gixp_packetline.specs.Reading.{Reading, AtStop, Fails}
-use Rattle.gixp_sidebands.specs.Bands.{Side, IsFirstOf, side_content, side_reading, shown, content_bound, Passes, ShowsContent, EndsContent, RefusesContent, ReadsBytes}
+use Rattle.gixp_sidebands.specs.Bands.{Side, IsFirstOf, side_content, side_reading, shown, content_bound, Passes, ShowsContent, EndsContent, RefusesContent, ReadsBytes, KeepsEndUncounted}
+use Rattle.gixp_sidebands.specs.Ends.{end-stays, end-joins}
 use Rattle.gixp_fetch_parts.specs.PackCopied.{CameNext, CopiedNext, CopiedAll}
 
 passes_none : (s : Side) → Passes s s []
@@ -41,11 +42,27 @@ passes_more a b c xs ys h k = at a.reading.to_come b.reading.to_come h k
         )
 
 pub copied_none : (w : Option (List ℕ)) (s : Side) → CopiedNext w s [] w s
-copied_none w s = record { came = record { content = passes_none s; held = refl }; written = Appends-nil w }
+copied_none w s = record {
+  came = record { content = passes_none s; ending = λ _. end-stays s.reading; held = refl };
+  failures = refl;
+  written = Appends-nil w;
+}
 
-came_more : (start now end : Side) (read more : List ℕ) → CameNext start read now → Passes now end more
-    → (side_reading end).held ≡ (side_reading now).held → CameNext start (read ++ more) end
-came_more start now end read more h p e = record { content = passes_more start now end read more h.content p; held = e ∙ h.held }
+-- the end is kept up to a reader that counted no failure, and then kept again
+ends_more : (start now end : Side) → KeepsEndUncounted start.reading now.reading → now.reading.failures ≡ start.reading.failures
+    → KeepsEndUncounted now.reading end.reading → KeepsEndUncounted start.reading end.reading
+ends_more start now end h s k u =
+    let few : now.reading.failures < 2 ^ 64 - 1 = subst (λ n. n < 2 ^ 64 - 1) (u.0 ∙ sym s) u.1 in
+    end-joins start.reading now.reading end.reading (h (s, few)) (k (u.0 ∙ sym s, u.1))
+
+came_more : (old w : Option (List ℕ)) (start now end : Side) (read more : List ℕ) → CopiedNext old start read w now
+    → Passes now end more → KeepsEndUncounted now.reading end.reading → (side_reading end).held ≡ (side_reading now).held
+    → CameNext start (read ++ more) end
+came_more old w start now end read more h p k e = record {
+  content = passes_more start now end read more h.came.content p;
+  ending = ends_more start now end h.came.ending h.failures k;
+  held = e ∙ h.came.held;
+}
 
 module _ (now mid next : Side) (piece : List ℕ) (n : ℕ) (s : ShowsContent now mid) (r : ReadsBytes mid next
     (take n (shown mid.place mid.reading))) (e : piece ≡ shown mid.place mid.reading) (l : n ≡ length piece) where
@@ -58,8 +75,9 @@ module _ (now mid next : Side) (piece : List ℕ) (n : ℕ) (s : ShowsContent no
   copied_piece old w w' start read h a =
       let whole = subst (λ x. ReadsBytes mid next x) whole_piece r in
       record {
-        came = came_more start now next read piece h.came (passes_more now mid next [] piece s.content whole.content)
-            (r.held ∙ s.held);
+        came = came_more old w start now next read piece h (passes_more now mid next [] piece s.content whole.content)
+            (λ _. end-joins now.reading mid.reading next.reading s.ending r.ending) (r.held ∙ s.held);
+        failures = r.failures ∙ s.failures ∙ h.failures;
         written = Appends-trans old w w' read piece h.written a;
       }
 
@@ -76,6 +94,10 @@ at_stop_held : (old new : Reading) → AtStop old new → new.held ≡ old.held
 at_stop_held old new (inl h) = h.stays.held
 at_stop_held old new (inr h) = h.1.held
 
+at_stop_failures : (old new : Reading) → AtStop old new → new.failures ≡ old.failures
+at_stop_failures old new (inl h) = h.failures
+at_stop_failures old new (inr h) = h.1.failures
+
 fails_held : (old new : Reading) (e : Refusal) → Fails old new e → new.held ≡ old.held
 fails_held old new e (inl h) = h.held
 fails_held old new e (inr (inl h)) = h.stays.held
@@ -88,8 +110,10 @@ copied_all old w start now end read h t = record {
   copied = record {
     came = record {
       content = subst (λ x. Passes start end x) (append-nil read) (passes_more start now end read [] h.came.content t.rest);
+      ending = ends_more start now end h.came.ending h.failures (λ _. t.ending);
       held = at_stop_held (side_reading now) (side_reading end) t.at_stop ∙ h.came.held;
     };
+    failures = at_stop_failures (side_reading now) (side_reading end) t.at_stop ∙ h.failures;
     written = h.written;
   };
   all = at start.reading.to_come now.reading.to_come h.came.content t.content;
@@ -111,10 +135,10 @@ pub refused_read : (old w : Option (List ℕ)) (start now end : Side) (read : Li
 refused_read old w start now end read e h t = (
   read
       ++ t.lost,
-  came_more start now end read t.lost h.came t.rest (fails_held (side_reading now) (side_reading end) t.refusal t.fails),
+  came_more old w start now end read t.lost h t.rest t.ending (fails_held (side_reading now) (side_reading end) t.refusal t.fails),
 )
 
 -- what was lent is left
 pub lent_alone : (old w : Option (List ℕ)) (start now mid : Side) (read : List ℕ) → CopiedNext old start read w now
     → ShowsContent now mid → (more : List ℕ) × CameNext start more mid
-lent_alone old w start now mid read h s = (read ++ [], came_more start now mid read [] h.came s.content s.held)
+lent_alone old w start now mid read h s = (read ++ [], came_more old w start now mid read [] h s.content (λ _. s.ending) s.held)

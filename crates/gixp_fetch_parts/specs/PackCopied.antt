@@ -1,20 +1,22 @@
 -- A pack that is copied into a writer and checked (gitprotocol-pack, "Packfile Data"; gitformat-pack).
 use Rattle.std.specs.Prelude.{◌≡◌, ℕ, List, Option, IfSome, Result, Ok, Err}
 use Rattle.std.specs.Io.KnownBytes.{Appends}
-use Rattle.gixp_sidebands.specs.Bands.{Side, IsFirstOf, side_content, side_reading, Passes}
+use Rattle.gixp_sidebands.specs.Bands.{Side, IsFirstOf, side_content, side_reading, Passes, KeepsEndUncounted}
 use Rattle.gixp_pack.specs.Pack.{pack_of}
 use Rattle.gixp_pack.specs.declared.check.PackSummary.{PackSummary}
 use Rattle.gixp_fetch_parts.specs.declared.copy.StreamError.{StreamError}
 use Rattle.gixp_fetch_parts.specs.declared.copy.StreamError.TheVariants.{Read, Write, Pack, Memory}
 
--- these bytes of content came next, and the rest is still to come
+-- these bytes of content came next, and the rest is still to come, with the end that it had unless a failure was counted
 pub record CameNext (start : Side) (read : List ℕ) (end : Side) : Type 0 where
   pub content : Passes start end read
+  pub ending : KeepsEndUncounted start.reading end.reading
   pub held : (side_reading end).held ≡ (side_reading start).held
 
--- these bytes of content came next, and a writer got them all
+-- these bytes of content came next, and a writer got them all; no read failed
 pub record CopiedNext (old : Option (List ℕ)) (start : Side) (read : List ℕ) (new : Option (List ℕ)) (end : Side) : Type 0 where
   pub came : CameNext start read end
+  pub failures : end.reading.failures ≡ start.reading.failures
   pub written : Appends old new read
 
 -- that was all content up to the stop
