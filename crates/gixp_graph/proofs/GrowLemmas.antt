@@ -1,5 +1,5 @@
 -- Nodes that are added.
-use Rattle.std.proofs.Common.{◌≡◌, ℕ, ◌+◌, ◌-◌, ◌<◌, ◌≤◌, ◌∙◌, cond, List, [], ◌∷◌, ◌++◌, map, length, get_or, take, drop, Option, Some, None, refl, sym, ap, subst, arith, ⊎_elim, ◌⊎◌, length-append, length-drop}
+use Rattle.std.proofs.Common.{◌≡◌, ℕ, ◌+◌, ◌-◌, ◌<◌, ◌≤◌, ◌∙◌, cond, List, [], ◌∷◌, ◌++◌, map, length, get_or, take, drop, Some, None, refl, sym, ap, subst, arith, ⊎_elim, ◌⊎◌, inl, inr, length-append, length-drop}
 use Rattle.std.proofs.Math.ListN.{get_or-append}
 use Rattle.std.proofs.Math.Seq.{get_or-append_seam}
 use Rattle.std.proofs.lemmas.List.{take-append-le, drop-append-le, take_more, take_all}
@@ -9,16 +9,14 @@ use Rattle.std.proofs.lemmas.List.Elements.{All-append, All-cons, All-nil, All-w
 use Rattle.std.proofs.lemmas.Bool.{cases_lt}
 use Rattle.std.specs.Prelude.{All}
 use Rattle.std.specs.List.{filter_map, cons_option, AllByRecursion as ByRecursion}
-use Rattle.std.specs.BTreeMap.{is_at}
-use Rattle.std.specs.Ordering.{eq_by_cmp}
 use Rattle.std.specs.FinMap as finite
 use Rattle.gixp_hash.specs.declared.object_id.ObjectId.{ObjectId}
 use Rattle.gixp_graph.specs.declared.commits.Node.{Node}
-use Rattle.gixp_hash.specs.ObjectId.{id_cmp}
+use Rattle.gixp_graph.specs.declared.numbers.Numbers.{Numbers}
+use Rattle.gixp_graph.specs.Slots.{IsNumbered, IsNew, IsReached}
+use Rattle.gixp_graph.specs.Visited.{IsOneToOne}
 use Rattle.gixp_graph.specs.Table.{id_at, ids_at, KeepsNumbers}
-use Rattle.gixp_graph.specs.Node.{ids_of, number_at, parents_of, entry_of, held_in, blank, IsInRange, IsNumbered, IsTable}
-use Rattle.gixp_graph.specs.GraphLaws.{same_from}
-use Rattle.gixp_graph.proofs.MarkLemmas.{same_id, true_or_false}
+use Rattle.gixp_graph.specs.Node.{ids_of, parents_of, entry_of, held_in, blank, IsInRange, IsTable}
 use Rattle.gixp_graph.proofs.NodeLemmas.{length_ids, held_by}
 
 -- a node more is an id more
@@ -28,49 +26,36 @@ ids_push (y ∷ ys) x = ap (λ is. y.id ∷ is) (ids_push ys x)
 
 -- ---- numbers
 
-module _ (ids : List ObjectId) (numbers numbers' : List (ObjectId × ℕ)) (id : ObjectId) (w : IsNumbered ids numbers)
-    (none : number_at numbers id ≡ None)
-    (put : (q : ObjectId) → number_at numbers' q ≡ cond (is_at (id_cmp id) q) (Some (length ids)) (number_at numbers q)) where
-  -- the new id has the new number
-  at_id : number_at numbers' id ≡ Some (length ids)
-  at_id = put id ∙ ap (λ b. cond b (Some (length ids)) (number_at numbers id)) (same_id id)
+-- the id of a number that there was
+old_id : (ids : List ObjectId) (id : ObjectId) (n : ℕ) → n < length ids → id_at (ids ++ id ∷ []) n ≡ id_at ids n
+old_id ids id n l = get_or-append ids (id ∷ []) (record { bytes = [] }) n l
 
-  -- the others keep theirs
-  at_other : (q : ObjectId) (o : Option ℕ) → number_at numbers q ≡ o → (o ≡ None → ⊥) → number_at numbers' q ≡ o
-  at_other q o e some = put q ∙ ⊎_elim
-      (λ t. absurd (some (sym e ∙ ap (number_at numbers) (sym (same_from id q t)) ∙ none)))
-      (λ f. ap (λ b. cond b (Some (length ids)) (number_at numbers q)) f ∙ e) (true_or_false (eq_by_cmp id_cmp id q))
+-- that of the new one
+new_id : (ids : List ObjectId) (id : ObjectId) (n : ℕ) → length ids ≡ n → id_at (ids ++ id ∷ []) n ≡ id
+new_id ids id n e = ap (id_at (ids ++ id ∷ [])) (sym e) ∙ get_or-append_seam ids id [] (record { bytes = [] })
+
+-- a number is an old one or the new one
+old_or_new : (ids : List ObjectId) (id : ObjectId) (n : ℕ) → n < length (ids ++ id ∷ []) → (n < length ids) ⊎ (length ids ≡ n)
+old_or_new ids id n l = ⊎_elim (λ less. inl less)
+    (λ more. let size : length (ids ++ id ∷ []) ≡ length ids + 1 = length-append ids (id ∷ []) in inr (omega (arith, l)))
+    (cases_lt n (length ids))
+
+module _ (ids : List ObjectId) (id : ObjectId) (new : IsNew ids id) where
+  -- a new id is none that has a number
+  pub once_push : IsOneToOne ids → IsOneToOne (ids ++ id ∷ [])
+  once_push w m n k l e = ⊎_elim
+      (λ a. ⊎_elim
+      (λ b. w m n a b (sym (old_id ids id m a) ∙ e ∙ old_id ids id n b))
+      (λ b. absurd (new m a (sym (old_id ids id m a) ∙ e ∙ new_id ids id n b))) (old_or_new ids id n l))
+      (λ a. ⊎_elim
+      (λ b. absurd (new n b (sym (old_id ids id n b) ∙ sym e ∙ new_id ids id m a)))
+      (λ b. sym a ∙ b) (old_or_new ids id n l)) (old_or_new ids id m k)
 
   -- the numbers stay numbers
-  pub numbered_push : IsNumbered (ids ++ id ∷ []) numbers'
-  numbered_push = record {
-    named = λ q n e. ⊎_elim
-        (λ t.
-        let one : id ≡ q = same_from id q t in
-        let last : Some (length ids) ≡ Some n = sym at_id ∙ ap (number_at numbers') one ∙ e in
-        let eq : length ids ≡ n = cc in (
-          (let l : length (ids ++ id ∷ []) ≡ length ids + 1 = length-append ids (id ∷ []) in omega arith),
-          ap (id_at (ids ++ id ∷ [])) (sym eq) ∙ get_or-append_seam ids id [] (record { bytes = [] }) ∙ one,
-        ))
-        (λ f.
-        let old : number_at numbers q ≡ Some n = sym (ap (λ b. cond b (Some (length ids)) (number_at numbers q)) f) ∙ sym (put q) ∙ e in
-        let h = w.named q n old in
-        let less : n < length ids = h.0 in (
-          (let l : length (ids ++ id ∷ []) ≡ length ids + 1 = length-append ids (id ∷ []) in omega arith),
-          get_or-append ids (id ∷ []) (record { bytes = [] }) n less ∙ h.1,
-        ))
-        (true_or_false (eq_by_cmp id_cmp id q));
-    numbered = λ n l. ⊎_elim
-        (λ less.
-        let same : id_at (ids ++ id ∷ []) n ≡ id_at ids n = get_or-append ids (id ∷ []) (record { bytes = [] }) n less in
-        ap (number_at numbers') same ∙ at_other (id_at ids n) (Some n) (w.numbered n less) (λ e. cc))
-        (λ more.
-        let size : length (ids ++ id ∷ []) ≡ length ids + 1 = length-append ids (id ∷ []) in
-        let eq : length ids ≡ n = omega arith in
-        ap (λ k. number_at numbers' (id_at (ids ++ id ∷ []) k)) (sym eq)
-        ∙ ap (number_at numbers') (get_or-append_seam ids id [] (record { bytes = [] })) ∙ at_id ∙ ap Some eq)
-        (cases_lt n (length ids));
-  }
+  pub numbered_push : (a : Numbers) → IsNumbered ids a → IsReached a id (length ids) → IsNumbered (ids ++ id ∷ []) a
+  numbered_push a w last n l = ⊎_elim
+      (λ less. subst (λ q. IsReached a q n) (sym (old_id ids id n less)) (w n less))
+      (λ e. subst (λ q. IsReached a q n) (sym (new_id ids id n e)) (subst (IsReached a id) e last)) (old_or_new ids id n l)
 
 -- ---- what is held stays so
 
@@ -119,7 +104,7 @@ blank_more : (ids : List ObjectId) (parents : List ℕ) (nodes : List Node) (id 
 blank_more ids parents [] id = refl
 blank_more ids parents (x ∷ xs) id = ap (cons_option (entry_of ids parents x)) (blank_more ids parents xs id)
 
-module _ (nodes : List Node) (numbers : List (ObjectId × ℕ)) (parents : List ℕ) (t : IsTable nodes numbers parents) where
+module _ (nodes : List Node) (numbers : Numbers) (parents : List ℕ) (t : IsTable nodes numbers parents) where
   -- a node for an id that wasn't looked up
   pub held_grow : (id : ObjectId) → held_in (nodes ++ blank id ∷ []) parents ≡ held_in nodes parents
   held_grow id = ap (λ es. finite.from_entries es) (blank_more (ids_of (nodes ++ blank id ∷ [])) parents nodes id)
@@ -128,10 +113,11 @@ module _ (nodes : List Node) (numbers : List (ObjectId × ℕ)) (parents : List 
       (λ k d l. parents_grow (ids_of nodes) id parents t.names (get_or nodes k d))
 
   -- the table stays one
-  pub table_grow : (id : ObjectId) (numbers' : List (ObjectId × ℕ)) → IsNumbered (ids_of (nodes ++ blank id ∷ [])) numbers'
-      → IsTable (nodes ++ blank id ∷ []) numbers' parents
-  table_grow id numbers' w = record {
+  pub table_grow : (id : ObjectId) (numbers' : Numbers) → IsOneToOne (ids_of (nodes ++ blank id ∷ []))
+      → IsNumbered (ids_of (nodes ++ blank id ∷ [])) numbers' → IsTable (nodes ++ blank id ∷ []) numbers' parents
+  table_grow id numbers' o w = record {
     numbering = w;
+    once = o;
     names = All-weaker (λ n. n < length (ids_of nodes)) (λ n. n < length (ids_of (nodes ++ blank id ∷ []))) (λ n l. (
         let a : length (ids_of (nodes ++ blank id ∷ [])) ≡ length (nodes ++ blank id ∷ []) = length_ids (nodes ++ blank id ∷ []) in
         let b : length (nodes ++ blank id ∷ []) ≡ length nodes + 1 = length-append nodes (blank id ∷ []) in
@@ -149,6 +135,7 @@ module _ (nodes : List Node) (numbers : List (ObjectId × ℕ)) (parents : List 
   pub table_push : (m : ℕ) → m < length (ids_of nodes) → IsTable nodes numbers (parents ++ m ∷ [])
   table_push m l = record {
     numbering = t.numbering;
+    once = t.once;
     names = All-append (λ n. n < length (ids_of nodes)) parents (m ∷ []) t.names
         (All-cons (λ n. n < length (ids_of nodes)) m [] l (All-nil (λ n. n < length (ids_of nodes))));
     ranged = All-weaker (IsInRange parents) (IsInRange (parents ++ m ∷ []))
@@ -159,20 +146,22 @@ module _ (nodes : List Node) (numbers : List (ObjectId × ℕ)) (parents : List 
 
 module _ (nodes nodes' : List Node) (id : ObjectId) (grown : (nodes' ≡ nodes) ⊎ (nodes' ≡ nodes ++ blank id ∷ [])) where
   -- leaves a table
-  pub table_number : (numbers numbers' : List (ObjectId × ℕ)) (parents : List ℕ) → IsTable nodes numbers parents
-      → IsNumbered (ids_of nodes') numbers' → IsTable nodes' numbers' parents
-  table_number numbers numbers' parents t w = ⊎_elim
+  pub table_number : (numbers numbers' : Numbers) (parents : List ℕ) → IsTable nodes numbers parents
+      → IsOneToOne (ids_of nodes') → IsNumbered (ids_of nodes') numbers' → IsTable nodes' numbers' parents
+  table_number numbers numbers' parents t o w = ⊎_elim
       (λ e. record {
         numbering = w;
+        once = o;
         names = subst (λ ns. All (λ n. n < length (ids_of ns)) parents) (sym e) t.names;
         ranged = subst (λ ns. All (IsInRange parents) ns) (sym e) t.ranged;
       })
       (λ e. subst (λ ns. IsTable ns numbers' parents) (sym e)
-      (table_grow nodes numbers parents t id numbers' (subst (λ ns. IsNumbered (ids_of ns) numbers') e w)))
+      (table_grow nodes numbers parents t id numbers' (subst (λ ns. IsOneToOne (ids_of ns)) e o)
+      (subst (λ ns. IsNumbered (ids_of ns) numbers') e w)))
       grown
 
   -- changes nothing that is held
-  pub held_number : (numbers : List (ObjectId × ℕ)) (parents : List ℕ) → IsTable nodes numbers parents
+  pub held_number : (numbers : Numbers) (parents : List ℕ) → IsTable nodes numbers parents
       → held_in nodes' parents ≡ held_in nodes parents
   held_number numbers parents t =
       ⊎_elim (λ e. ap (λ ns. held_in ns parents) e) (λ e. ap (λ ns. held_in ns parents) e ∙ held_grow nodes numbers parents t id) grown
@@ -209,17 +198,16 @@ map_push f (x ∷ xs) y = ap (λ is. f x ∷ is) (map_push f xs y)
 
 -- one parent more has a number
 pub written_more : (nodes nodes' : List Node) (id : ObjectId) → (nodes' ≡ nodes) ⊎ (nodes' ≡ nodes ++ blank id ∷ [])
-    → (numbers' : List (ObjectId × ℕ)) → IsNumbered (ids_of nodes') numbers' → (n : ℕ) → number_at numbers' id ≡ Some n
-    → (parents : List ℕ) → All (λ n. n < length (ids_of nodes)) parents → (first : ℕ) → first ≤ length parents
+    → (n : ℕ) → id_at (ids_of nodes') n ≡ id → (parents : List ℕ) → All (λ n. n < length (ids_of nodes)) parents → (first : ℕ) → first ≤ length parents
     → (ps : List ObjectId) (i : ℕ) (d : ObjectId) → i < length ps → id ≡ get_or ps i d
     → map (id_at (ids_of nodes)) (drop first parents) ≡ take i ps → map (id_at (ids_of nodes')) (drop first (parents ++ n ∷ []))
     ≡ take (i + 1) ps
-written_more nodes nodes' id grown numbers' w n some parents names first l ps i d m e h =
+written_more nodes nodes' id grown n some parents names first l ps i d m e h =
     ap (map (id_at (ids_of nodes'))) (drop-append-le first parents (n ∷ []) l)
     ∙ map_push (id_at (ids_of nodes')) (drop first parents) n
     ∙ ap (λ is. is ++ id_at (ids_of nodes') n ∷ [])
     (ids_number nodes nodes' id grown (drop first parents) (All-drop (λ n. n < length (ids_of nodes)) first parents names) ∙ h)
-    ∙ ap (λ x. take i ps ++ x ∷ []) ((w.named id n some).1 ∙ e)
+    ∙ ap (λ x. take i ps ++ x ∷ []) (some ∙ e)
     ∙ sym (take_more ps i d m)
 
 -- all parents have

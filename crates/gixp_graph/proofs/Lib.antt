@@ -9,6 +9,7 @@ pub mod MarkLemmas
 pub mod NewestLemmas
 pub mod NodeLemmas
 pub mod QueueLemmas
+pub mod SlotLemmas
 pub mod StepLemmas
 pub mod TableLemmas
 pub mod VisitedLemmas

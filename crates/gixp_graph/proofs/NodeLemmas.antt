@@ -1,6 +1,6 @@
 -- Commits as nodes, and as a finite map.
 use Rattle.std.proofs.Common.{◌≡◌, ℕ, ◌-◌, ◌<◌, ◌∙◌, drop, zero, suc, Bool, true, false, cond, List, [], ◌∷◌, length, get_or, set, Option, Some, None, refl, sym, ap, subst, arith, ⊎_elim, ◌⊎◌, inl, inr}
-use Rattle.std.specs.Prelude.{All, bit_or, IfSome, IfNone, option_map, unwrap_or}
+use Rattle.std.specs.Prelude.{All, bit_or, IfNone, option_map, unwrap_or}
 use Rattle.gixp_graph.specs.declared.flags.Flags.{Flags}
 use Rattle.std.specs.List.{filter_map, cons_option}
 use Rattle.std.specs.Ordering.{eq_by_cmp}
@@ -10,10 +10,12 @@ use Rattle.std.specs.FinMap as finite
 use Rattle.std.specs.FinMap.{find, get-from_entries, same_map}
 use Rattle.gixp_hash.specs.declared.object_id.ObjectId.{ObjectId}
 use Rattle.gixp_graph.specs.declared.commits.Node.{Node}
+use Rattle.gixp_graph.specs.declared.numbers.Numbers.{Numbers}
+use Rattle.gixp_graph.specs.Slots.{IsNumbered, IsNew}
 use Rattle.gixp_hash.specs.ObjectId.{id_cmp}
 use Rattle.gixp_graph.specs.GraphData.{HeldCommit, Commits, parents_in, flagged}
 use Rattle.gixp_graph.specs.Table.{id_at, ids_at, AllNamed}
-use Rattle.gixp_graph.specs.Node.{ids_of, number_at, range_of, parent_numbers_of, parents_of, held_of, entry_of, held_in, IsInRange, IsNumbered, IsTable}
+use Rattle.gixp_graph.specs.Node.{ids_of, range_of, parent_numbers_of, parents_of, held_of, entry_of, held_in, IsInRange, IsTable}
 use Rattle.gixp_graph.specs.Visited.{IsOneToOne}
 use Rattle.gixp_graph.specs.GraphLaws.{ids_exact, ids_total, same_from}
 use Rattle.gixp_graph.proofs.HeldLemmas.{flagged_held}
@@ -84,36 +86,35 @@ node_same (x ∷ xs) (suc n) d e l = node_same xs n d e (omega arith)
 abbrev pub held_by : List ObjectId → List ℕ → List Node → Commits
 held_by ids parents nodes = finite.from_entries (filter_map (entry_of ids parents) nodes)
 
-module _ (ids : List ObjectId) (parents : List ℕ) (nodes : List Node) (numbers : List (ObjectId × ℕ))
-    (w : IsNumbered (ids_of nodes) numbers) where
-  -- an id with no number isn't held
-  pub get_unnumbered : (q : ObjectId) → number_at numbers q ≡ None → finite.get (held_by ids parents nodes) q ≡ None
-  get_unnumbered q none = get-from_entries ids_total _ q ∙ find_none ids parents nodes q (λ k d l. ⊎_elim
-      (λ t. absurd (
-      let same : q ≡ id_at (ids_of nodes) k = same_from q (get_or nodes k d).id t ∙ sym (id_of_node nodes k d l) in
-      let some : number_at numbers q ≡ Some k = ap (number_at numbers) same ∙ w.numbered k (omega (arith, length_ids nodes)) in
-      let clash : ◌≡◌ {A = Option ℕ} None (Some k) = sym none ∙ some in cc))
-      (λ f. f) (true_or_false (eq_by_cmp id_cmp q (get_or nodes k d).id)))
+-- a number is that of an id
+abbrev pub Names : List ObjectId → ℕ → ObjectId → Type 0
+Names ids n q = (n < length ids) × (id_at ids n ≡ q)
 
+-- an id that no number names isn't held
+pub get_unnumbered : (ids : List ObjectId) (parents : List ℕ) (nodes : List Node) (q : ObjectId) → IsNew (ids_of nodes) q
+    → finite.get (held_by ids parents nodes) q ≡ None
+get_unnumbered ids parents nodes q new = get-from_entries ids_total _ q ∙ find_none ids parents nodes q (λ k d l. ⊎_elim
+    (λ t. absurd (new k (omega (arith, length_ids nodes)) (id_of_node nodes k d l ∙ sym (same_from q (get_or nodes k d).id t))))
+    (λ f. f) (true_or_false (eq_by_cmp id_cmp q (get_or nodes k d).id)))
+
+module _ (ids : List ObjectId) (parents : List ℕ) (nodes : List Node) (w : IsOneToOne (ids_of nodes)) where
   -- one with a number is held as its node says
-  pub get_numbered : (q : ObjectId) (n : ℕ) → number_at numbers q ≡ Some n → (x : Node) → x ≡ get_or nodes n x
+  pub get_numbered : (q : ObjectId) (n : ℕ) → Names (ids_of nodes) n q → (x : Node) → x ≡ get_or nodes n x
       → finite.get (held_by ids parents nodes) q ≡ shown_node ids parents x
-  get_numbered q n some x at =
-      let here : (n < length (ids_of nodes)) × (id_at (ids_of nodes) n ≡ q) = w.named q n some in
+  get_numbered q n here x at =
       let l : n < length nodes = omega (arith, here.0, length_ids nodes) in
       let own : q ≡ x.id = sym here.1 ∙ id_of_node nodes n x l ∙ ap (λ (z : Node). z.id) (sym at) in
       get-from_entries ids_total _ q ∙ find_node ids parents nodes q n x l (λ d. node_same nodes n d x l ∙ sym at)
       (subst (λ z. eq_by_cmp id_cmp q z ≡ true) own (same_id q))
       (λ k d m t.
       let same : q ≡ id_at (ids_of nodes) k = same_from q (get_or nodes k d).id t ∙ sym (id_of_node nodes k d m) in
-      let too : number_at numbers q ≡ Some k = ap (number_at numbers) same ∙ w.numbered k (omega (arith, length_ids nodes)) in
-      let eq : Some k ≡ Some n = sym too ∙ some in cc)
+      w k n (omega (arith, length_ids nodes)) here.0 (sym same ∙ sym here.1))
 
-module _ (nodes : List Node) (parents : List ℕ) (numbers : List (ObjectId × ℕ)) (w : IsNumbered (ids_of nodes) numbers) where
+module _ (nodes : List Node) (parents : List ℕ) (w : IsOneToOne (ids_of nodes)) where
   -- the commit of a number is held as its node says
   pub held_at : (n : ℕ) → n < length (ids_of nodes) → (x : Node) → x ≡ get_or nodes n x
       → finite.get (held_in nodes parents) (id_at (ids_of nodes) n) ≡ shown_node (ids_of nodes) parents x
-  held_at n l x at = get_numbered (ids_of nodes) parents nodes numbers w (id_at (ids_of nodes) n) n (w.numbered n l) x at
+  held_at n l x at = get_numbered (ids_of nodes) parents nodes w (id_at (ids_of nodes) n) n (l, refl) x at
 
   -- its parents are those of its node
   pub parents_at_node : (n : ℕ) → n < length (ids_of nodes) → (x : Node) → x ≡ get_or nodes n x
@@ -126,16 +127,11 @@ module _ (nodes : List Node) (parents : List ℕ) (numbers : List (ObjectId × �
       here true = refl
       here false = refl
 
-  -- an id that is looked for and has a number
-  pub some_number : (o : Option ℕ) (q : ObjectId) → o ≡ number_at numbers q
-      → IfSome o (λ n. (n < length (ids_of nodes)) × (id_at (ids_of nodes) n ≡ q))
-  some_number None q e = tt
-  some_number (Some n) q e = w.named q n (sym e)
-
-  -- and one that has none
-  pub no_number : (o : Option ℕ) (q : ObjectId) → o ≡ number_at numbers q → IfNone o (finite.get (held_in nodes parents) q ≡ None)
-  no_number None q e = get_unnumbered (ids_of nodes) parents nodes numbers w q (sym e)
-  no_number (Some n) q e = tt
+-- an id that is looked for and has no number isn't held
+pub no_number : (nodes : List Node) (parents : List ℕ) (o : Option ℕ) (q : ObjectId) → IfNone o (IsNew (ids_of nodes) q)
+    → IfNone o (finite.get (held_in nodes parents) q ≡ None)
+no_number nodes parents None q new = get_unnumbered (ids_of nodes) parents nodes q new
+no_number nodes parents (Some n) q new = tt
 
 -- the numbers of a node's parents name ids
 pub named_node : (ids : List ObjectId) (parents : List ℕ) (x : Node) → AllNamed ids parents → AllNamed ids (parent_numbers_of parents x)
@@ -145,8 +141,23 @@ named_node ids parents x h = here x.is_found
     here true = All-take (λ n. n < length ids) (x.end - x.first) (drop x.first parents) (All-drop (λ n. n < length ids) x.first parents h)
     here false = All-nil (λ n. n < length ids)
 
+-- an id has a number or has none
+pub named_or_new : (ids : List ObjectId) (q : ObjectId) → IsNew ids q ⊎ ((k : ℕ) × Names ids k q)
+named_or_new [] q = inl (λ k l e. omega (arith, l))
+named_or_new (i ∷ is) q = here (true_or_false (eq_by_cmp id_cmp i q)) (named_or_new is q)
+  where
+    none : (eq_by_cmp id_cmp i q ≡ false) → IsNew is q → IsNew (i ∷ is) q
+    none f new zero l e = (let t : eq_by_cmp id_cmp i q ≡ true = subst (λ z. eq_by_cmp id_cmp i z ≡ true) e (same_id i) in cc)
+    none f new (suc k) l e = new k (omega (arith, l)) e
+
+    here : (eq_by_cmp id_cmp i q ≡ true) ⊎ (eq_by_cmp id_cmp i q ≡ false) → IsNew is q ⊎ ((k : ℕ) × Names is k q)
+        → IsNew (i ∷ is) q ⊎ ((k : ℕ) × Names (i ∷ is) k q)
+    here (inl t) rest = inr (0, (omega arith, same_from i q t))
+    here (inr f) (inl new) = inl (none f new)
+    here (inr f) (inr (k, h)) = inr (suc k, (omega (arith, h.0), h.1))
+
 -- two numbers are equal or aren't
-nat_cases : (k n : ℕ) → (k ≡ n) ⊎ (k ≡ n → ⊥)
+pub nat_cases : (k n : ℕ) → (k ≡ n) ⊎ (k ≡ n → ⊥)
 nat_cases k n = ⊎_elim (λ a. inr (λ e. omega arith)) (λ a. ⊎_elim (λ b. inr (λ e. omega arith)) (λ b. inl (omega arith)) (cases_lt n k))
     (cases_lt k n)
 
@@ -171,24 +182,25 @@ ids_set [] n x l e = absurd (omega arith)
 ids_set (y ∷ ys) zero x l e = ap (λ i. i ∷ ids_of ys) e
 ids_set (y ∷ ys) (suc n) x l e = ap (λ is. y.id ∷ is) (ids_set ys n x (omega arith) e)
 
-module _ (nodes : List Node) (parents : List ℕ) (numbers : List (ObjectId × ℕ)) (w : IsNumbered (ids_of nodes) numbers) (q : ObjectId)
-    (n : ℕ) (some : number_at numbers q ≡ Some n) (x : Node) (own : x.id ≡ q) where
+module _ (nodes : List Node) (parents : List ℕ) (w : IsOneToOne (ids_of nodes)) (q : ObjectId) (n : ℕ) (some : Names (ids_of nodes) n q)
+    (x : Node) (own : x.id ≡ q) where
   -- the number names a node
   place : n < length nodes
-  place = (let h : n < length (ids_of nodes) = (w.named q n some).0 in omega (arith, length_ids nodes))
+  place = omega (arith, some.0, length_ids nodes)
 
   -- the ids stay
   pub ids_kept : ids_of (set nodes n x) ≡ ids_of nodes
-  ids_kept = ids_set nodes n x place (own ∙ sym (w.named q n some).1)
+  ids_kept = ids_set nodes n x place (own ∙ sym some.1)
 
-  -- the numbers stay
-  numbered_set : IsNumbered (ids_of (set nodes n x)) numbers
-  numbered_set = subst (λ is. IsNumbered is numbers) (sym ids_kept) w
+  -- each still has one number
+  once_set : IsOneToOne (ids_of (set nodes n x))
+  once_set = subst IsOneToOne (sym ids_kept) w
 
   -- the table stays one
-  pub table_set : IsTable nodes numbers parents → IsInRange parents x → IsTable (set nodes n x) numbers parents
-  table_set t r = record {
-    numbering = numbered_set;
+  pub table_set : (numbers : Numbers) → IsTable nodes numbers parents → IsInRange parents x → IsTable (set nodes n x) numbers parents
+  table_set numbers t r = record {
+    numbering = subst (λ is. IsNumbered is numbers) (sym ids_kept) t.numbering;
+    once = once_set;
     names = subst (λ is. All (λ m. m < length is) parents) (sym ids_kept) t.names;
     ranged = All-set (IsInRange parents) nodes n x r t.ranged;
   }
@@ -197,68 +209,62 @@ module _ (nodes : List Node) (parents : List ℕ) (numbers : List (ObjectId × �
   pub held_set : x.is_found ≡ true → held_in (set nodes n x) parents ≡ finite.insert (held_in nodes parents) q
       (held_of (ids_of nodes) parents x)
   held_set found = ap (λ is. held_by is parents (set nodes n x)) ids_kept
-      ∙ same_map ids_total ids_exact _ _ (λ p. at p (number_at numbers p) refl)
+      ∙ same_map ids_total ids_exact _ _ (λ p. at p (named_or_new (ids_of nodes) p))
     where
-      apart : (p : ObjectId) → (number_at numbers p ≡ Some n → ⊥) → finite.get
+      apart : (p : ObjectId) → (p ≡ q → ⊥) → finite.get
           (finite.insert (held_in nodes parents) q (held_of (ids_of nodes) parents x)) p ≡ finite.get (held_in nodes parents) p
       apart p never = get_insert_other (held_in nodes parents) q _ p (⊎_elim
-          (λ t. absurd (never (ap (number_at numbers) (same_from p q t) ∙ some))) (λ f. f) (true_or_false (eq_by_cmp id_cmp p q)))
+          (λ t. absurd (never (same_from p q t))) (λ f. f) (true_or_false (eq_by_cmp id_cmp p q)))
 
-      at : (p : ObjectId) (o : Option ℕ) → number_at numbers p ≡ o → finite.get (held_by (ids_of nodes) parents (set nodes n x)) p
+      at : (p : ObjectId) → IsNew (ids_of nodes) p ⊎ ((k : ℕ) × Names (ids_of nodes) k p)
+          → finite.get (held_by (ids_of nodes) parents (set nodes n x)) p
           ≡ finite.get (finite.insert (held_in nodes parents) q (held_of (ids_of nodes) parents x)) p
-      at p None e = get_unnumbered (ids_of nodes) parents (set nodes n x) numbers numbered_set p e
-          ∙ sym (apart p (λ s. (let c : ◌≡◌ {A = Option ℕ} None (Some n) = sym e ∙ s in cc))
-          ∙ get_unnumbered (ids_of nodes) parents nodes numbers w p e)
-      at p (Some k) e = ⊎_elim
+      at p (inl e) = get_unnumbered (ids_of nodes) parents (set nodes n x) p (subst (λ is. IsNew is p) (sym ids_kept) e)
+          ∙ sym (apart p (λ s. e n some.0 (some.1 ∙ sym s))
+          ∙ get_unnumbered (ids_of nodes) parents nodes p e)
+      at p (inr (k, h)) = ⊎_elim
           (λ s.
-          let here : number_at numbers p ≡ Some n = e ∙ ap Some s in
-          let one : p ≡ q = sym (w.named p n here).1 ∙ (w.named q n some).1 in
-          get_numbered (ids_of nodes) parents (set nodes n x) numbers numbered_set p n here x (sym (set_here nodes n x x place))
+          let one : p ≡ q = sym h.1 ∙ ap (id_at (ids_of nodes)) s ∙ some.1 in
+          get_numbered (ids_of nodes) parents (set nodes n x) once_set p n
+          (subst (λ is. Names is n p) (sym ids_kept) (some.0, some.1 ∙ sym one)) x (sym (set_here nodes n x x place))
           ∙ ap (λ b. cond b (Some (held_of (ids_of nodes) parents x)) None) found
           ∙ sym (ap (finite.get (finite.insert (held_in nodes parents) q (held_of (ids_of nodes) parents x))) one
           ∙ get_insert_same (held_in nodes parents) q _))
           (λ s.
           let y : Node = get_or nodes k x in
-          let l : k < length nodes = (let h : k < length (ids_of nodes) = (w.named p k e).0 in omega (arith, length_ids nodes)) in
-          get_numbered (ids_of nodes) parents (set nodes n x) numbers numbered_set p k e y
-          (sym (set_other nodes n k x y s ∙ node_same nodes k y x l))
-          ∙ sym (apart p (λ t. s (let z : Some k ≡ Some n = sym e ∙ t in cc))
-          ∙ get_numbered (ids_of nodes) parents nodes numbers w p k e y (node_same nodes k x y l)))
+          let m : k < length nodes = omega (arith, h.0, length_ids nodes) in
+          get_numbered (ids_of nodes) parents (set nodes n x) once_set p k (subst (λ is. Names is k p) (sym ids_kept) h) y
+          (sym (set_other nodes n k x y s ∙ node_same nodes k y x m))
+          ∙ sym (apart p (λ t. s (w k n h.0 some.0 (h.1 ∙ t ∙ sym some.1)))
+          ∙ get_numbered (ids_of nodes) parents nodes w p k h y (node_same nodes k x y m)))
           (nat_cases k n)
 
 -- a node with other marks
 abbrev pub with_marks : Node → Flags → Node
 with_marks y f = record { id = y.id; time = y.time; flags = f; is_found = y.is_found; first = y.first; end = y.end }
 
-module _ (nodes : List Node) (parents : List ℕ) (numbers : List (ObjectId × ℕ)) (w : IsNumbered (ids_of nodes) numbers) (q : ObjectId)
-    (n : ℕ) (some : number_at numbers q ≡ Some n) (y : Node) (at : y ≡ get_or nodes n y) where
+module _ (nodes : List Node) (parents : List ℕ) (w : IsOneToOne (ids_of nodes)) (q : ObjectId) (n : ℕ) (some : Names (ids_of nodes) n q)
+    (y : Node) (at : y ≡ get_or nodes n y) where
   -- the node has the id
   own_id : y.id ≡ q
-  own_id = (let h = w.named q n some in let l : n < length nodes = omega (arith, h.0, length_ids nodes) in ap (λ (z : Node). z.id) at
-      ∙ sym (id_of_node nodes n y l) ∙ h.1)
+  own_id = (let l : n < length nodes = omega (arith, some.0, length_ids nodes) in ap (λ (z : Node). z.id) at
+      ∙ sym (id_of_node nodes n y l) ∙ some.1)
 
   -- the table stays one
-  pub table_marks : IsTable nodes numbers parents → (f : Flags) → IsTable (set nodes n (with_marks y f)) numbers parents
-  table_marks t f = table_set nodes parents numbers w q n some (with_marks y f) own_id t
-      (let h = w.named q n some in let l : n < length nodes = omega (arith, h.0, length_ids nodes) in
-      subst (IsInRange parents) (sym at) (t.ranged n y l))
+  pub table_marks : (numbers : Numbers) → IsTable nodes numbers parents → (f : Flags) → IsTable (set nodes n (with_marks y f)) numbers parents
+  table_marks numbers t f = table_set nodes parents w q n some (with_marks y f) own_id numbers t
+      (let l : n < length nodes = omega (arith, some.0, length_ids nodes) in subst (IsInRange parents) (sym at) (t.ranged n y l))
 
   -- the ids stay
   pub ids_marks : (f : Flags) → ids_of (set nodes n (with_marks y f)) ≡ ids_of nodes
-  ids_marks f = ids_kept nodes parents numbers w q n some (with_marks y f) own_id
+  ids_marks f = ids_kept nodes parents w q n some (with_marks y f) own_id
 
   -- to write a node with more marks is to add them to its commit
   pub held_marks : y.is_found ≡ true → (flags f : Flags) → f.0 ≡ bit_or y.flags.0 flags.0
       → held_in (set nodes n (with_marks y f)) parents ≡ flagged (held_in nodes parents) q flags
   held_marks found flags f e =
-      held_set nodes parents numbers w q n some (with_marks y f) own_id found
+      held_set nodes parents w q n some (with_marks y f) own_id found
       ∙ ap (λ (b : ℕ). finite.insert (held_in nodes parents) q
       (record { time = y.time; parents = parents_of (ids_of nodes) parents y; flags = record { 0 = b } })) e
       ∙ sym (flagged_held (held_in nodes parents) q flags (held_of (ids_of nodes) parents y) (get_numbered
-      (ids_of nodes) parents nodes numbers w q n some y at ∙ ap (λ b. cond b (Some (held_of (ids_of nodes) parents y)) None) found))
-
--- no id has two numbers
-pub one_to_one : (ids : List ObjectId) (numbers : List (ObjectId × ℕ)) → IsNumbered ids numbers → IsOneToOne ids
-one_to_one ids numbers w m n a b e =
-    let same : ◌≡◌ {A = Option ℕ} (Some m) (Some n) = sym (w.numbered m a) ∙ ap (number_at numbers) e ∙ w.numbered n b in
-    cc
+      (ids_of nodes) parents nodes w q n some y at ∙ ap (λ b. cond b (Some (held_of (ids_of nodes) parents y)) None) found))

@@ -10,6 +10,7 @@ pub mod Object
 pub mod Queue
 pub mod Refusals
 pub mod Run
+pub mod Slots
 pub mod Table
 pub mod Visited
 pub mod Waiting

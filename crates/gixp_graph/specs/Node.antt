@@ -1,22 +1,18 @@
 -- Commits as numbered nodes.
-use Rattle.std.specs.Prelude.{◌≡◌, ℕ, ◌-◌, ◌<◌, ◌≤◌, List, Option, Some, None, map, take, drop, length, if◌then◌else◌, All, [], pos, false}
+use Rattle.std.specs.Prelude.{ℕ, ◌-◌, ◌≤◌, List, Option, Some, None, map, take, drop, length, if◌then◌else◌, All, [], pos, false}
 use Rattle.std.specs.List.{filter_map}
-use Rattle.std.specs.Map.{lookup}
-use Rattle.std.specs.BTreeMap.{is_at}
 use Rattle.std.specs.FinMap as finite
 use Rattle.gixp_hash.specs.declared.object_id.ObjectId.{ObjectId}
 use Rattle.gixp_graph.specs.declared.commits.Node.{Node}
-use Rattle.gixp_hash.specs.ObjectId.{id_cmp}
+use Rattle.gixp_graph.specs.declared.numbers.Numbers.{Numbers}
 use Rattle.gixp_graph.specs.GraphData.{HeldCommit, Commits}
-use Rattle.gixp_graph.specs.Table.{id_at, ids_at, AllNamed}
+use Rattle.gixp_graph.specs.Slots.{IsNumbered}
+use Rattle.gixp_graph.specs.Table.{ids_at, AllNamed}
+use Rattle.gixp_graph.specs.Visited.{IsOneToOne}
 
 -- the ids of the nodes, by number
 abbrev pub ids_of : List Node → List ObjectId
 ids_of nodes = map (λ (x : Node). x.id) nodes
-
--- the number of an id
-abbrev pub number_at : List (ObjectId × ℕ) → ObjectId → Option ℕ
-number_at numbers id = lookup (is_at (id_cmp id)) numbers
 
 -- a node's range is one of parents
 abbrev pub IsInRange : List ℕ → Node → Type 0
@@ -46,14 +42,10 @@ entry_of ids parents x = if x.is_found then Some (x.id, held_of ids parents x) e
 abbrev pub held_in : List Node → List ℕ → Commits
 held_in nodes parents = finite.from_entries (filter_map (entry_of (ids_of nodes) parents) nodes)
 
--- each id has one number, which the map has under it
-pub record IsNumbered (ids : List ObjectId) (numbers : List (ObjectId × ℕ)) : Type 0 where
-  pub named : (id : ObjectId) (n : ℕ) → number_at numbers id ≡ Some n → (n < length ids) × (id_at ids n ≡ id)
-  pub numbered : (n : ℕ) → n < length ids → number_at numbers (id_at ids n) ≡ Some n
-
--- the nodes are numbered, each parent's number names one, and each range is one
-pub record IsTable (nodes : List Node) (numbers : List (ObjectId × ℕ)) (parents : List ℕ) : Type 0 where
+-- the nodes are numbered, no id has two, each parent's number names one, and each range is one
+pub record IsTable (nodes : List Node) (numbers : Numbers) (parents : List ℕ) : Type 0 where
   pub numbering : IsNumbered (ids_of nodes) numbers
+  pub once : IsOneToOne (ids_of nodes)
   pub names : AllNamed (ids_of nodes) parents
   pub ranged : All (IsInRange parents) nodes
 

@@ -9,21 +9,21 @@ ghost use Rattle.gixp_graph.specs.Refusals.{TellsRefusal};
 ghost use Rattle.gixp_graph.specs.GraphData.{shown, graph_of, found_in, looked_up, flagged, parents_in};
 ghost use Rattle.gixp_graph.specs.Table.{id_at, ids_at, AllNamed, KeepsNumbers};
 ghost use Rattle.gixp_graph.specs.Visited.{IsOneToOne};
-ghost use Rattle.gixp_graph.specs.Node.{IsNumbered, ids_of, number_at, parent_numbers_of, IsInRange, blank};
+ghost use Rattle.gixp_graph.specs.Node.{ids_of, parent_numbers_of, IsInRange, blank};
+ghost use Rattle.gixp_graph.specs.Slots.{IsNumbered};
 
 use crate::flags::Flags;
+use crate::numbers::Numbers;
 use crate::objects::{ObjectError, Objects};
 use bitflags::Flags as _;
 use gixp_hash::ObjectId;
 use std::alloc::{AllocError, Global};
-use std::collections::BTreeMap;
-use std::collections::btree_map::Entry;
 use std::marker::Model;
 
 /// A commit, or the name of one that wasn't looked up.
 #[derive(Clone, Copy)]
 pub(crate) struct Node {
-    id: ObjectId,
+    pub id: ObjectId,
     flags: Flags,
     is_found: bool,
     time: i64,
@@ -34,33 +34,30 @@ pub(crate) struct Node {
 /// The number of an id, which gets one if it has none.
 fn number_of(
     nodes: &mut Vec<Node>,
-    numbers: &mut BTreeMap<ObjectId, usize>,
+    numbers: &mut Numbers,
     id: &ObjectId,
 ) -> Result<usize, AllocError>
-    requires { IsNumbered (ids_of nodes.old.items) numbers.old.entries }
-    ensures numbered { IsNumbered (ids_of nodes.new.items) numbers.new.entries }
-    ensures named { IfOk result (λ n. number_at numbers.new.entries id.now ≡ Some n) }
+    requires once { IsOneToOne (ids_of nodes.old.items) }
+    requires numbered { IsNumbered (ids_of nodes.old.items) numbers.old }
+    ensures once { IsOneToOne (ids_of nodes.new.items) }
+    ensures numbered { IsNumbered (ids_of nodes.new.items) numbers.new }
+    ensures named { IfOk result (λ n. (n < length (ids_of nodes.new.items)) × (id_at (ids_of nodes.new.items) n ≡ id.now)) }
     ensures grown { (nodes.new.items ≡ nodes.old.items) ⊎ (nodes.new.items ≡ nodes.old.items ++ blank id.now ∷ []) }
 {
-    let Ok(place) = numbers.entry(*id) else {
-        return Err(AllocError);
-    };
-    match place {
-        Entry::Occupied(taken) => Ok(*taken.get()),
-        Entry::Vacant(free) => {
-            let number = nodes.len();
-            nodes.push(Node {
-                id: *id,
-                flags: Flags(0),
-                is_found: false,
-                time: 0,
-                first: 0,
-                end: 0,
-            })?;
-            free.insert(number);
-            Ok(number)
-        }
+    if let Some(number) = numbers.find(nodes.as_slice(), id) {
+        return Ok(number);
     }
+    numbers.insert(nodes.as_slice(), id)?;
+    let number = nodes.len();
+    nodes.push(Node {
+        id: *id,
+        flags: Flags(0),
+        is_found: false,
+        time: 0,
+        first: 0,
+        end: 0,
+    })?;
+    Ok(number)
 }
 
 /// The numbers of a node's parents, none where it wasn't found.
@@ -91,7 +88,7 @@ fn ids_named(alloc: Global, nodes: &[Node], numbers: &[usize]) -> Result<Vec<Obj
 #[derive(Drop)]
 pub(crate) struct Commits {
     nodes: Vec<Node>,
-    numbers: BTreeMap<ObjectId, usize>,
+    numbers: Numbers,
     parents: Vec<usize>,
     // The number that was looked up last: its commit is often asked for next.
     last: usize,
@@ -110,7 +107,7 @@ impl Model for Commits {
 
     ghost view = { λ a. record { held = held_in a.nodes.items a.parents.items; ids = ids_of a.nodes.items } };
 
-    ghost invariant = { λ a. IsTable a.nodes.items a.numbers.entries a.parents.items };
+    ghost invariant = { λ a. IsTable a.nodes.items a.numbers a.parents.items };
 }
 
 impl Commits {
@@ -120,7 +117,7 @@ impl Commits {
     {
         Commits {
             nodes: Vec::new(alloc),
-            numbers: BTreeMap::new(alloc),
+            numbers: Numbers::new(alloc),
             parents: Vec::new(alloc),
             last: 0,
             parent: 0,
@@ -148,7 +145,7 @@ impl Commits {
         if self.names(self.parent, id) {
             return Some(self.parent);
         }
-        self.numbers.get(id).copied()
+        self.numbers.find(self.nodes.as_slice(), id)
     }
 
     /// The number of an id, which gets one if it has none.

@@ -5,6 +5,7 @@ mod commits;
 pub mod flags;
 pub mod graph;
 pub mod negotiator;
+mod numbers;
 pub mod objects;
 mod queue;
 pub mod refs;

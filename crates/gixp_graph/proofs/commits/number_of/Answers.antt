@@ -1,16 +1,20 @@
 -- An id that gets a number.
-use Rattle.std.proofs.Common.{◌≡◌, sym, length, arith}
+use Rattle.std.proofs.Common.{◌∙◌, sym, ap, length, subst, List}
+use Rattle.gixp_graph.specs.declared.commits.Node.{Node}
 use Rattle.gixp_graph.specs.Node.{ids_of}
+use Rattle.gixp_graph.specs.Slots.{IsNumbered, IsNew, IsReached}
 use Rattle.gixp_graph.proofs.NodeLemmas.{length_ids}
 use Rattle.gixp_graph.proofs.GrowLemmas.{numbered_push, ids_push}
 use Rattle.gixp_graph.proofs.commits.number_of.Goals as goal
 
-pub returns-in_ok-push-in-Vacant-clause-numbered : goal.returns-in_ok-push-in-Vacant-clause-numbered
-returns-in_ok-push-in-Vacant-clause-numbered c =
-    let size : length (ids_of c.args.nodes.now.items) ≡ c.len-number.result =
-    omega (arith, length_ids c.args.nodes.now.items, c.args.nodes.now.ok.0) in
-    let written = c.numbers-in-Vacant-2-1.given.1 (sym (rw c.in-Vacant.is at c.in-Ok.ensures.same_map)) in
-    let holds = rw c.in-Vacant.is at (c.in-Ok.ensures.update.0 c.len-number.result) in
-    rw c.in_ok-push-in-Vacant.ensures.items (rw ids_push
-    (numbered_push (ids_of c.args.nodes.now.items) c.args.numbers.now.entries _ c.args.id.now c.requires
-    (rw c.in-Vacant.is at c.in-Ok.ensures.found) (rw size (λ q. rw (written, c.insert.ensures.value) (holds.0 q)))))
+pub returns-clause-numbered : goal.returns-clause-numbered
+returns-clause-numbered c =
+    let nodes : List Node = c.args.nodes.now.items in
+    let new : IsNew (ids_of nodes) c.args.id.now =
+    subst (λ ns. IsNew (ids_of ns) c.args.id.now) c.as_slice.ensures.value c.in_default.ensures.none in
+    let numbered : IsNumbered (ids_of nodes) c.insert.new.self =
+    subst (λ ns. IsNumbered (ids_of ns) c.insert.new.self) c.as_slice-2.ensures.value c.insert.ensures.numbered in
+    let last : IsReached c.insert.new.self c.args.id.now (length (ids_of nodes)) =
+    subst (IsReached c.insert.new.self c.args.id.now) (ap (λ ns. length ns) c.as_slice-2.ensures.value ∙ sym (length_ids nodes))
+    c.in_ok-insert.ensures.reached in
+    rw c.in_ok-push.ensures.items (rw ids_push (numbered_push (ids_of nodes) c.args.id.now new c.insert.new.self numbered last))

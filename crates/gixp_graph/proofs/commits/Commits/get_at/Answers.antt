@@ -4,7 +4,7 @@ use Rattle.std.proofs.lemmas.Int.{to_z-of_z}
 use mir.Val.{SFits}
 use mir.Syntax.{w64}
 use Rattle.gixp_graph.specs.Node.{ids_of}
-use Rattle.gixp_graph.proofs.NodeLemmas.{held_at, one_to_one}
+use Rattle.gixp_graph.proofs.NodeLemmas.{held_at}
 use Rattle.gixp_graph.proofs.commits.Commits.get_at.Goals as goal
 
 pub returns-then-node-clause-value : goal.returns-then-node-clause-value
@@ -13,7 +13,7 @@ returns-then-node-clause-value c =
     let l : c.args.number < length (ids_of c.self.inside.nodes.items) = rw (← c.self.view_is) at c.requires in
     rw (← c.self.view_is)
     (rw (
-      held_at c.self.inside.nodes.items c.self.inside.parents.items _ c.self.invariant.numbering c.args.number l
+      held_at c.self.inside.nodes.items c.self.inside.parents.items c.self.invariant.once c.args.number l
           c.index-node.result.now c.index-node.ensures,
       c.if-node.true,
     ) (grind (arith, to_z-of_z)))
@@ -23,13 +23,13 @@ returns-else-node-clause-value c =
     let l : c.args.number < length (ids_of c.self.inside.nodes.items) = rw (← c.self.view_is) at c.requires in
     rw (← c.self.view_is)
     (rw (
-      held_at c.self.inside.nodes.items c.self.inside.parents.items _ c.self.invariant.numbering c.args.number l
+      held_at c.self.inside.nodes.items c.self.inside.parents.items c.self.invariant.once c.args.number l
           c.index-node.result.now c.index-node.ensures,
       c.if-node.false,
     ) refl)
 
 pub returns-then-node-clause-once : goal.returns-then-node-clause-once
-returns-then-node-clause-once c = rw (← c.self.view_is) (one_to_one (ids_of c.self.inside.nodes.items) _ c.self.invariant.numbering)
+returns-then-node-clause-once c = rw (← c.self.view_is) c.self.invariant.once
 
 pub returns-else-node-clause-once : goal.returns-else-node-clause-once
-returns-else-node-clause-once c = rw (← c.self.view_is) (one_to_one (ids_of c.self.inside.nodes.items) _ c.self.invariant.numbering)
+returns-else-node-clause-once c = rw (← c.self.view_is) c.self.invariant.once

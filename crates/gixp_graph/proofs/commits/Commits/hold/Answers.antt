@@ -20,7 +20,7 @@ returns-in_err-parent-clause-err c =
     let v = c.loop-id.invariant in
     any_err c.from_residual.result _
     (held_number c.loop-id.self-inside.nodes.items c.number_of.new.nodes.items _ c.number_of.ensures.grown
-    c.loop-id.self-inside.numbers.entries c.loop-id.self-inside.parents.items v.table ∙ v.same)
+    c.loop-id.self-inside.numbers c.loop-id.self-inside.parents.items v.table ∙ v.same)
 
 pub returns-in_err-parent-clause-kept : goal.returns-in_err-parent-clause-kept
 returns-in_err-parent-clause-kept c =
@@ -33,8 +33,8 @@ invariant_of-self-in_err-push c =
     let v = c.loop-id.invariant in
     rw c.in_err-push.ensures.items
     (table_number c.loop-id.self-inside.nodes.items c.number_of.new.nodes.items _ c.number_of.ensures.grown
-    c.loop-id.self-inside.numbers.entries c.number_of.new.numbers.entries c.loop-id.self-inside.parents.items v.table
-    c.number_of.ensures.numbered)
+    c.loop-id.self-inside.numbers c.number_of.new.numbers c.loop-id.self-inside.parents.items v.table
+    c.number_of.ensures.once c.number_of.ensures.numbered)
 
 pub returns-in_err-push-clause-err : goal.returns-in_err-push-clause-err
 returns-in_err-push-clause-err c =
@@ -42,7 +42,7 @@ returns-in_err-push-clause-err c =
     any_err c.from_residual-in_err-push.result _
     (rw c.in_err-push.ensures.items
     (held_number c.loop-id.self-inside.nodes.items c.number_of.new.nodes.items _ c.number_of.ensures.grown
-    c.loop-id.self-inside.numbers.entries c.loop-id.self-inside.parents.items v.table ∙ v.same))
+    c.loop-id.self-inside.numbers c.loop-id.self-inside.parents.items v.table ∙ v.same))
 
 pub returns-in_err-push-clause-kept : goal.returns-in_err-push-clause-kept
 returns-in_err-push-clause-kept c =
@@ -53,26 +53,26 @@ returns-in_err-push-clause-kept c =
 pub loop-id-preserved : goal.loop-id-preserved
 loop-id-preserved c =
     let v = c.loop-id.invariant in
-    let t : IsTable c.number_of.new.nodes.items c.number_of.new.numbers.entries c.loop-id.self-inside.parents.items =
+    let t : IsTable c.number_of.new.nodes.items c.number_of.new.numbers c.loop-id.self-inside.parents.items =
     table_number c.loop-id.self-inside.nodes.items c.number_of.new.nodes.items _ c.number_of.ensures.grown
-    c.loop-id.self-inside.numbers.entries c.number_of.new.numbers.entries c.loop-id.self-inside.parents.items v.table
-    c.number_of.ensures.numbered in
+    c.loop-id.self-inside.numbers c.number_of.new.numbers c.loop-id.self-inside.parents.items v.table
+    c.number_of.ensures.once c.number_of.ensures.numbered in
     rw c.in_ok-push.ensures.items (record {
       table =
-          table_push c.number_of.new.nodes.items c.number_of.new.numbers.entries c.loop-id.self-inside.parents.items t
-          c.in_ok-parent.parent (t.numbering.named _ _ c.in_ok-parent.ensures.named).0;
+          table_push c.number_of.new.nodes.items c.number_of.new.numbers c.loop-id.self-inside.parents.items t
+          c.in_ok-parent.parent c.in_ok-parent.ensures.named.0;
       same =
-          held_push c.number_of.new.nodes.items c.number_of.new.numbers.entries c.loop-id.self-inside.parents.items t
+          held_push c.number_of.new.nodes.items c.number_of.new.numbers c.loop-id.self-inside.parents.items t
           c.in_ok-parent.parent
           ∙ held_number c.loop-id.self-inside.nodes.items c.number_of.new.nodes.items _ c.number_of.ensures.grown
-          c.loop-id.self-inside.numbers.entries c.loop-id.self-inside.parents.items v.table ∙ v.same;
+          c.loop-id.self-inside.numbers c.loop-id.self-inside.parents.items v.table ∙ v.same;
       kept = kept_trans c.args.self.now.ids (ids_of c.loop-id.self-inside.nodes.items) (ids_of c.number_of.new.nodes.items) v.kept
           (kept_number c.loop-id.self-inside.nodes.items c.number_of.new.nodes.items _ c.number_of.ensures.grown);
       within = (let w : c.len-first.result ≤ length c.loop-id.self-inside.parents.items = v.within in
           omega (arith, length-append c.loop-id.self-inside.parents.items (c.in_ok-parent.parent ∷ [])));
       written =
           written_more c.loop-id.self-inside.nodes.items c.number_of.new.nodes.items _ c.number_of.ensures.grown
-          c.number_of.new.numbers.entries c.number_of.ensures.numbered c.in_ok-parent.parent c.in_ok-parent.ensures.named
+          c.in_ok-parent.parent c.in_ok-parent.ensures.named.1
           c.loop-id.self-inside.parents.items v.table.names c.len-first.result v.within c.args.parents.now c.loop-id.id-index _
           c.loop-id-test.true refl v.written;
     })
@@ -97,8 +97,8 @@ invariant_of-self-2 c =
     let m : c.args.number < length nodes = omega (arith, length_ids nodes) in
     let own : c.index.result.now.id ≡ id_at (ids_of nodes) c.args.number = ap (λ (x : Node). x.id) c.index.ensures
     ∙ sym (id_of_node nodes c.args.number _ m) in
-    table_set nodes c.loop-id.self-inside.parents.items c.loop-id.self-inside.numbers.entries v.table.numbering
-    (id_at (ids_of nodes) c.args.number) c.args.number (v.table.numbering.numbered c.args.number l) _ own v.table
+    table_set nodes c.loop-id.self-inside.parents.items v.table.once (id_at (ids_of nodes) c.args.number) c.args.number (l, refl) _ own
+    c.loop-id.self-inside.numbers v.table
     (let w : c.len-first.result ≤ length c.loop-id.self-inside.parents.items = v.within in let e : c.len-end.result
     ≡ length c.loop-id.self-inside.parents.items = omega (arith, c.loop-id.self-inside.parents.ok.0) in (omega arith, omega arith))
 
@@ -117,8 +117,8 @@ returns-clause-ok c =
           (take (c.len-end.result - c.len-first.result) (drop c.len-first.result parents));
       flags = record { 0 = 0 };
     } in
-    held_set nodes parents c.loop-id.self-inside.numbers.entries v.table.numbering (id_at (ids_of nodes) c.args.number) c.args.number
-    (v.table.numbering.numbered c.args.number l) _ own refl
+    held_set nodes parents v.table.once (id_at (ids_of nodes) c.args.number) c.args.number
+    (l, refl) _ own refl
     ∙ ap (λ m. finite.insert m (id_at (ids_of nodes) c.args.number) h) v.same
     ∙ ap (λ (i : ObjectId). finite.insert c.args.self.now.held i h) (v.kept c.args.number c.requires).1
     ∙ ap (λ (z : ℤ). finite.insert c.args.self.now.held (id_at c.args.self.now.ids c.args.number)
@@ -136,5 +136,5 @@ returns-clause-kept c =
     let m : c.args.number < length nodes = omega (arith, length_ids nodes) in
     let own : c.index.result.now.id ≡ id_at (ids_of nodes) c.args.number = ap (λ (x : Node). x.id) c.index.ensures
     ∙ sym (id_of_node nodes c.args.number _ m) in
-    kept_same _ _ _ (ids_kept nodes c.loop-id.self-inside.parents.items c.loop-id.self-inside.numbers.entries v.table.numbering
-    (id_at (ids_of nodes) c.args.number) c.args.number (v.table.numbering.numbered c.args.number l) _ own) v.kept
+    kept_same _ _ _ (ids_kept nodes c.loop-id.self-inside.parents.items v.table.once
+    (id_at (ids_of nodes) c.args.number) c.args.number (l, refl) _ own) v.kept

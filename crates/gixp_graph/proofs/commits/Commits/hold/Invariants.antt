@@ -7,7 +7,7 @@ use Rattle.gixp_graph.proofs.commits.Commits.hold.Given as goal
 -- what is held is as before, and the parents so far have numbers
 abbrev pub invariant-loop-id : goal.invariant-loop-id
 invariant-loop-id l = record {
-  table : IsTable l.self-inside.nodes.items l.self-inside.numbers.entries l.self-inside.parents.items;
+  table : IsTable l.self-inside.nodes.items l.self-inside.numbers l.self-inside.parents.items;
   same : held_in l.self-inside.nodes.items l.self-inside.parents.items ≡ l.fn.self.held;
   kept : KeepsNumbers l.fn.self.ids (ids_of l.self-inside.nodes.items);
   within : l.first ≤ length l.self-inside.parents.items;

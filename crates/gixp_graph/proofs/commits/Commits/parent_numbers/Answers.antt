@@ -26,7 +26,7 @@ loop-number-preserved c =
     let named : AllNamed ids more = rw (← c.self.view_is)
     (subst (AllNamed (ids_of nodes)) (sym is) (named_node (ids_of nodes) parents c.index.result.now c.self.invariant.names)) in
     let here : ids_at ids more ≡ parents_in c.args.self.now.held (id_at ids n) =
-    rw (← c.self.view_is) (ap (ids_at (ids_of nodes)) is ∙ parents_at_node nodes parents _ c.self.invariant.numbering n
+    rw (← c.self.view_is) (ap (ids_at (ids_of nodes)) is ∙ parents_at_node nodes parents c.self.invariant.once n
     (rw (← c.self.view_is) at (c.requires k 0 c.loop-number-test.true)) c.index.result.now c.index.ensures) in
     rw c.in_ok-extend_from_slice.ensures.items (record {
       named = All-append (λ m. m < length ids) old more v.named named;

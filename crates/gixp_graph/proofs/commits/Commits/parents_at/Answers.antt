@@ -14,6 +14,6 @@ returns c =
     ∙ ap (λ ns. ids_at (ids_of ns) c.parents_of-parents.result.now) c.as_slice-2.ensures.value
     ∙ ap (ids_at (ids_of c.self.inside.nodes.items))
     (c.parents_of-parents.ensures ∙ ap (λ ps. parent_numbers_of ps c.index.result.now) c.as_slice.ensures.value)
-    ∙ parents_at_node c.self.inside.nodes.items c.self.inside.parents.items _ c.self.invariant.numbering c.args.number l
+    ∙ parents_at_node c.self.inside.nodes.items c.self.inside.parents.items c.self.invariant.once c.args.number l
     c.index.result.now c.index.ensures
     ∙ ap (λ (t : Table). parents_in t.held (id_at t.ids c.args.number)) c.self.view_is) c.ids_named.ensures
