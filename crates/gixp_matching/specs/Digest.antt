@@ -1,15 +1,55 @@
 -- Numbers that tell most names apart, each a function of what is compared.
-use Rattle.std.specs.Prelude.{ℕ, ◌≡◌, ◌+◌, ◌*◌, ◌%◌, ◌^◌, Bool, true, List, map, Option, Some, None}
+use Rattle.std.specs.Prelude.{ℕ, ◌≡◌, ◌+◌, ◌*◌, ◌/◌, ◌%◌, ◌^◌, Bool, true, List, length, drop, map, Option, Some, None, bit_xor}
+use Rattle.std.specs.Int.{w64, rotate_left, from_le_bytes}
 use Rattle.std.specs.List.{fold}
+use Rattle.std.specs.Simd.{first_chunks}
+use Rattle.gixp_matching.specs.declared.match_group.digest.State.{State}
 use Rattle.gixp_matching.specs.Mappings.{Source, FullName, ObjectId}
 
 -- a number with one byte more
 abbrev pub step : ℕ → ℕ → ℕ
-step number byte = (number * 1099511628211 % 2 ^ 64 + byte) % 2 ^ 64
+step number byte = (number * 256 % 2 ^ 64 + byte) % 2 ^ 64
+
+-- a sum, and one of its parts turned and mixed with it
+unfoldable pub turned : ℕ → ℕ → ℕ → ℕ × ℕ
+turned x y count = ((x + y) % 2 ^ 64, bit_xor (rotate_left w64 y count) ((x + y) % 2 ^ 64))
+
+-- one round over four words
+unfoldable pub round : State → State
+round s =
+    let ab = turned s.a s.b 13 in
+    let cd = turned s.c s.d 16 in
+    let ad = turned (rotate_left w64 ab.0 32) cd.1 21 in
+    let cb = turned cd.0 ab.1 17 in
+    record { a = ad.0; b = cb.1; c = rotate_left w64 cb.0 32; d = ad.1 }
+
+-- after one word more
+unfoldable pub absorbed : State → ℕ → State
+absorbed s word =
+    let mixed = round (round (record { a = s.a; b = s.b; c = s.c; d = bit_xor s.d word })) in
+    record { a = bit_xor mixed.a word; b = mixed.b; c = mixed.c; d = mixed.d }
+
+-- after the eight bytes of a word more
+abbrev pub with_word : State → List ℕ → State
+with_word s word = absorbed s (from_le_bytes w64 word)
+
+-- after some bytes more
+unfoldable pub with_bytes : State → List ℕ → State
+with_bytes s bytes =
+    absorbed (fold with_word s (first_chunks 8 (length bytes / 8) bytes)) (fold step (length bytes) (drop (length bytes / 8 * 8) bytes))
+
+abbrev pub start : State
+start = record { a = 8317987319222330741; b = 7237128888997146477; c = 7816392313619706465; d = 8387220255154660723 }
+
+-- the number of a state
+unfoldable pub number_of : State → ℕ
+number_of s =
+    let last = round (round (round (round (record { a = s.a; b = s.b; c = bit_xor s.c 255; d = s.d })))) in
+    bit_xor (bit_xor (bit_xor last.a last.b) last.c) last.d
 
 -- of some bytes
 abbrev pub digest : List ℕ → ℕ
-digest bytes = fold step 0 bytes
+digest bytes = number_of (with_bytes start bytes)
 
 abbrev pub bytes_of : Source → List ℕ
 bytes_of (FullName name) = name
@@ -18,7 +58,7 @@ bytes_of (ObjectId id) = id
 -- of a source and a local name
 abbrev pub parts_digest : Source × Option (List ℕ) → ℕ
 parts_digest (source, None) = digest (bytes_of source)
-parts_digest (source, Some local) = fold step (digest (bytes_of source)) local
+parts_digest (source, Some local) = number_of (with_bytes (with_bytes start (bytes_of source)) local)
 
 -- numbers of these keys, equal ones of equal keys
 pub record AreDigests {K : Type 0} (eq : K → K → Bool) (keys : List K) (digests : List ℕ) : Type 0 where

@@ -82,8 +82,8 @@ fn flagged(
         .collect(alloc)
 }
 
-/// Of mappings with equal source and local name the first. Mostly no two are equal, which a sort of what is compared
-/// tells, and then none is moved.
+/// Of mappings with equal source and local name the first. Mostly no two are equal, which a sort of numbers of what is
+/// compared tells, and then none is moved.
 pub(crate) fn firsts(alloc: Global, mappings: Vec<Mapping>) -> Result<Vec<Mapping>, AllocError>
     ensures { IfOk result (λ kept. mapped_in kept ≡ firsts (mapped_in mappings)) }
 {

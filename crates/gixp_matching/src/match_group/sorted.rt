@@ -1,4 +1,4 @@
-//! Whether keys are all different, which a sort tells whatever a server chose as names.
+//! Whether keys are all different, which a sort of their numbers tells.
 ghost use Rattle.std.specs.Prelude.{◌≡◌, IsTrue, IfOk, length};
 ghost use Rattle.std.specs.List.{AllAdjacentBelow, IsDistinct};
 ghost use Rattle.std.specs.Ordering.{eq_by_cmp};
@@ -46,16 +46,12 @@ pub(crate) fn are_in_order<K: Ord>(keys: &[K]) -> bool
     is_rising(keys)
 }
 
-/// Whether no two keys are equal. Their numbers are put in order, which is quicker than with the keys; keys with one number
-/// are told apart by a sort of the keys.
+/// Whether no two keys are equal, as far as their numbers tell, which are put in order more quickly than the keys.
 pub(crate) fn are_distinct<K: Ord>(keys: Vec<K>, digests: Vec<u64>) -> Result<bool, AllocError>
 where
     K: Drop,
     requires { AreDigests (eq_by_cmp K.cmp) keys.items digests.items }
     ensures { IfOk result (λ d. IsTrue d → IsDistinct (eq_by_cmp K.cmp) keys.items) }
 {
-    if digests_differ(digests, &keys)? {
-        return Ok(true);
-    }
-    are_rising_sorted(keys)
+    digests_differ(digests, &keys)
 }
