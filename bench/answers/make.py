@@ -1,6 +1,8 @@
 #!/usr/bin/env python3
-"""make.py answer|refs COUNT: an answer of that many different `ACK` lines in front of a pack, or an
-advertisement of that many refs behind one of 3,000 symrefs, each ref named as the last of them."""
+"""make.py WHAT COUNT: `answer`, an answer of versions 0 and 1 of that many different `ACK` lines in front of a pack;
+`repeats`, the same with each id twice; `section`, the ids of `answer` under version 2; or `refs`, an advertisement of
+that many refs behind one of 3,000 symrefs, each ref named as the last of them."""
+import hashlib
 import sys
 
 
@@ -8,12 +10,23 @@ def frame(line):
     return b"%04x" % (len(line) + 4) + line
 
 
+def id_of(number):
+    return int.from_bytes(hashlib.sha1(b"%d" % number).digest(), "big")
+
+
 def main():
     what, count = sys.argv[1], int(sys.argv[2])
     out = sys.stdout.buffer
-    if what == "answer":
+    if what == "section":
+        out.write(frame(b"acknowledgments\n"))
         for number in range(count):
-            out.write(frame(b"ACK %040x common\n" % (number * 0x9E3779B97F4A7C15 % (1 << 160))))
+            out.write(frame(b"ACK %040x\n" % id_of(number)))
+        out.write(frame(b"ready\n") + b"0001" + frame(b"packfile\n"))
+        return
+    if what in ("answer", "repeats"):
+        different = count if what == "answer" else count // 2
+        for number in range(count):
+            out.write(frame(b"ACK %040x common\n" % id_of(number % different)))
         out.write(frame(b"PACK"))
         return
     symrefs = b" ".join(b"symref=refs/%05d:x" % number for number in range(3000))

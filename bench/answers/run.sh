@@ -22,13 +22,14 @@ cd "$room/crates/answers_bench"
 python3 "$here/make.py" answer 1000 > "$room/answer"
 rt run -- answer "$room/answer" > "$room/first" 2> "$room/log" || { cat "$room/log"; exit 1; }
 for count in 10000 100000 1000000; do
-    python3 "$here/make.py" answer "$count" > "$room/answer"
-    python3 "$here/make.py" refs "$count" > "$room/refs"
-    for what in answer refs; do
-        i=0
-        while [ "$i" -lt "$runs" ]; do
+    for what in answer repeats section refs; do
+        python3 "$here/make.py" "$what" "$count" > "$room/$what"
+    done
+    i=0
+    while [ "$i" -lt "$runs" ]; do
+        for what in answer repeats section refs; do
             ./out/answers_bench "$what" "$room/$what"
-            i=$((i + 1))
         done
+        i=$((i + 1))
     done
 done

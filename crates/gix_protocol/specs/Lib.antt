@@ -31,6 +31,7 @@ pub use Rattle.gixp_wire.specs.Named
 pub use Rattle.gixp_wire.specs.Greeting
 pub use Rattle.gixp_wire.specs.Handshake
 pub use Rattle.gixp_sidebands.specs.Bands
+pub use Rattle.gixp_sidebands.specs.Ends
 pub use Rattle.gixp_sidebands.specs.Telling
 pub use Rattle.gixp_sidebands.specs.SaidToGoOn
 pub use Rattle.gixp_sidebands.specs.Sidebands

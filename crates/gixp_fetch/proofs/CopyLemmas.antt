@@ -1,12 +1,14 @@
 -- A pack that is copied piece by piece.
-use Rattle.std.proofs.Common.{◌≡◌, ℕ, ◌+◌, ◌≤◌, ◌<◌, List, [], ◌++◌, length, take, arith, refl, ap, sym, ◌∙◌, subst, Option, Some, None, inl, inr}
+use Rattle.std.proofs.Common.{◌≡◌, ℕ, ◌+◌, ◌≤◌, ◌<◌, List, [], ◌++◌, length, take, arith, refl, ap, sym, ◌∙◌, subst, Option, Some, None, IsSome, inl, inr}
 use Rattle.std.proofs.lemmas.List.{append_assoc, append-nil, take_all}
 use Rattle.std.specs.Prelude.{IfSome}
 use Rattle.std.specs.Io.KnownBytes.{Appends}
+use Rattle.gixp_packetline.specs.declared.protocol.MessageKind.{MessageKind}
 use Rattle.gixp_packetline.specs.Pieces.{Pieces, Refusal}
 use Rattle.std.specs.declared.io.Error.{Error as io_error}
 use Rattle.gixp_packetline.specs.Reading.{Reading, AtStop, Fails}
 use Rattle.gixp_sidebands.specs.Bands.{Side, IsFirstOf, side_content, side_reading, shown, content_bound, Passes, ShowsContent, EndsContent, RefusesContent, ReadsBytes}
+use Rattle.gixp_sidebands.specs.Ends.{end-stays, end-joins}
 use Rattle.gixp_fetch.specs.Receive.{ReadsOn}
 use Rattle.gixp_fetch.specs.Consume.{Copied, ReadRefused, WriteRefused}
 use Rattle.gixp_fetch.proofs.SentLemmas.{appends_nil, appends_trans}
@@ -42,17 +44,23 @@ passes_more a b c xs ys h k = at a.reading.to_come b.reading.to_come h k
         )
 
 pub copied_none : (w : Option (List ℕ)) (s : Side) → Copied w s [] w s
-copied_none w s = record { reads = record { content = passes_none s }; failures = refl; held = refl; written = appends_nil w }
+copied_none w s = record {
+  content = passes_none s;
+  ending = end-stays s.reading;
+  failures = refl;
+  held = refl;
+  written = appends_nil w;
+}
 
 -- one piece more
 pub copied_more : (old w w' : Option (List ℕ)) (start now mid next : Side) (read piece : List ℕ) → Copied old start read w now
     → ShowsContent now mid → ReadsBytes mid next piece → Appends w w' piece
     → Copied old start (read ++ piece) w' next
 copied_more old w w' start now mid next read piece h s r a = record {
-  reads = record {
-    content = passes_more start now next read piece h.reads.content
-        (passes_more now mid next [] piece s.content r.content);
-  };
+  content = passes_more start now next read piece h.content
+      (passes_more now mid next [] piece s.content r.content);
+  ending = end-joins start.reading now.reading next.reading h.ending
+      (end-joins now.reading mid.reading next.reading s.ending r.ending);
   failures = r.failures ∙ s.failures ∙ h.failures;
   held = r.held ∙ (s.held ∙ h.held);
   written = appends_trans old w w' read piece h.written a;
@@ -61,6 +69,10 @@ copied_more old w w' start now mid next read piece h s r a = record {
 pub at_stop_held : (old new : Reading) → AtStop old new → new.held ≡ old.held
 at_stop_held old new (inl h) = h.stays.held
 at_stop_held old new (inr h) = h.1.held
+
+at_stop_stopped : (old new : Reading) → AtStop old new → IsSome new.stopped
+at_stop_stopped old new (inl h) = subst (λ (s : Option MessageKind). IsSome s) (sym h.stays.stopped) h.was
+at_stop_stopped old new (inr h) = subst (λ (s : Option MessageKind). IsSome s) (sym h.1.stopped) refl
 
 at_stop_failures : (old new : Reading) → AtStop old new → new.failures ≡ old.failures
 at_stop_failures old new (inl h) = h.failures
@@ -97,18 +109,18 @@ module _ (now mid next : Side) (piece : List ℕ) (n : ℕ) (s : ShowsContent no
 -- all was copied
 pub copied_all : (old w : Option (List ℕ)) (start now end : Side) (read : List ℕ) → Copied old start read w now → EndsContent now end
     → (whole : List ℕ) × Copied old start whole w end × IfSome start.reading.to_come (λ p. IsFirstOf start p → side_content start p ≡ whole)
+    × IsSome end.reading.stopped
 copied_all old w start now end read h t = (
   read,
   record {
-    reads = record {
-      content = subst (λ x. Passes start end x) (append-nil read)
-          (passes_more start now end read [] h.reads.content t.rest);
-    };
+    content = subst (λ x. Passes start end x) (append-nil read) (passes_more start now end read [] h.content t.rest);
+    ending = end-joins start.reading now.reading end.reading h.ending t.ending;
     failures = at_stop_failures (side_reading now) (side_reading end) t.at_stop ∙ h.failures;
     held = at_stop_held (side_reading now) (side_reading end) t.at_stop ∙ h.held;
     written = h.written;
   },
-  all start.reading.to_come now.reading.to_come h.reads.content t.content,
+  all start.reading.to_come now.reading.to_come h.content t.content,
+  at_stop_stopped (side_reading now) (side_reading end) t.at_stop,
 )
   where
     all : (o n : Option Pieces) → IfSome o (λ p. IsFirstOf start p → (q : Pieces) × (n ≡ Some q) × IsFirstOf now q
@@ -132,7 +144,10 @@ copied_refused old w start now failed end read e refusal h t is taken = (
   t.lost,
   h.written,
   subst (λ s. ReadsOn start s (read ++ t.lost)) (sym taken)
-      (record { content = passes_more start now failed read t.lost h.reads.content t.rest }),
+      (record {
+        content = passes_more start now failed read t.lost h.content t.rest;
+        ending = λ u. end-joins start.reading now.reading failed.reading h.ending (t.ending (u.0 ∙ sym h.failures, u.1));
+      }),
   ap (λ s. (side_reading s).held) taken ∙ (fails_held (side_reading now) (side_reading failed) t.refusal t.fails ∙ h.held),
   record {
     now = now;
@@ -150,7 +165,10 @@ pub copied_unwritten : (old w : Option (List ℕ)) (start now mid : Side) (read 
     → (read' : List ℕ) × ReadsOn start mid read' × ((side_reading mid).held ≡ (side_reading start).held) × WriteRefused old start mid
 copied_unwritten old w start now mid read h s = (
   read ++ [],
-  record { content = passes_more start now mid read [] h.reads.content s.content },
+  record {
+    content = passes_more start now mid read [] h.content s.content;
+    ending = λ _. end-joins start.reading now.reading mid.reading h.ending s.ending;
+  },
   s.held ∙ h.held,
   record { now = now; mid = w; read = read; copied = h; shows = s },
 )

@@ -1,17 +1,18 @@
 -- What consumers do that copy a pack, or pass over it (gitprotocol-pack, "Packfile Data").
-use Rattle.std.specs.Prelude.{◌≡◌, ℕ, Bool, true, List, ◌++◌, Option, None, IfSome, Result, Ok, Err}
+use Rattle.std.specs.Prelude.{◌≡◌, ℕ, Bool, true, List, ◌++◌, Option, None, IfSome, IsSome, Result, Ok, Err}
 use Rattle.std.specs.Io.KnownBytes.{Appends}
 use Rattle.std.specs.declared.io.Error.{Error as io_error}
 use Rattle.gixp_packetline.specs.Pieces.{Refusal}
 use Rattle.gixp_packetline.specs.Reading.{refusal_of}
-use Rattle.gixp_sidebands.specs.Bands.{Side, IsFirstOf, side_content, side_reading, ShowsContent, RefusesContent}
+use Rattle.gixp_sidebands.specs.Bands.{Side, IsFirstOf, side_content, side_reading, Passes, KeepsEnd, ShowsContent, RefusesContent}
 use Rattle.gixp_fetch.specs.declared.consume.copy.CopyError.{CopyError}
 use Rattle.gixp_fetch.specs.declared.consume.copy.CopyError.TheVariants.{Read, Write}
 use Rattle.gixp_fetch.specs.Receive.{ReadsOn}
 
--- these bytes of content were read, and this writer got them; no read failed
+-- these bytes of content were read, and this writer got them; no read failed, and what ends the content is what it was
 pub record Copied (old : Option (List ℕ)) (start : Side) (read : List ℕ) (new : Option (List ℕ)) (end : Side) : Type 0 where
-  pub reads : ReadsOn start end read
+  pub content : Passes start end read
+  pub ending : KeepsEnd start.reading end.reading
   pub failures : end.reading.failures ≡ start.reading.failures
   pub held : (side_reading end).held ≡ (side_reading start).held
   pub written : Appends old new read
@@ -35,11 +36,11 @@ pub record WriteRefused (old : Option (List ℕ)) (start end : Side) : Type 0 wh
   pub copied : Copied old start read mid now
   pub shows : ShowsContent now end
 
--- all content up to the stop was copied; or a read was refused after some, of which the writer got all but what the failed read lost;
+-- all content up to the stop was copied, and the reader is at it; or a read was refused after some, of which the writer got all but what the failed read lost;
 -- or the writer failed after some, with more at hand for it
 abbrev pub Copies : Option (List ℕ) → Side → Result (Unit {0}) CopyError → Option (List ℕ) → Side → Type 0
 Copies old start (Ok done) new end = (read : List ℕ) × Copied old start read new end
-    × IfSome start.reading.to_come (λ p. IsFirstOf start p → side_content start p ≡ read)
+    × IfSome start.reading.to_come (λ p. IsFirstOf start p → side_content start p ≡ read) × IsSome end.reading.stopped
 Copies old start (Err (Read e)) new end = (read : List ℕ) × (lost : List ℕ) × Appends old new read × ReadsOn start end (read ++ lost)
     × ((side_reading end).held ≡ (side_reading start).held)
     × ReadRefused old start read new end (refusal_of e)
@@ -60,7 +61,8 @@ PassesOver start (Ok finished) end = CopiesPack None start (Ok finished) None en
 -- what is left is an end of what was
 pub copies_owes : (old new : Option (List ℕ)) (start end : Side) (r : Result Bool CopyError) → CopiesPack old start r new end
     → (read : List ℕ) × ReadsOn start end read × ((side_reading end).held ≡ (side_reading start).held)
-copies_owes old new start end (Ok finished) h = (h.1.0, h.1.1.reads, h.1.1.held)
+copies_owes old new start end (Ok finished) h =
+    (h.1.0, record { content = h.1.1.content; ending = λ _. h.1.1.ending }, h.1.1.held)
 copies_owes old new start end (Err (Read e)) h = (h.0 ++ h.1, h.3, h.4)
 copies_owes old new start end (Err (Write kind)) h = (h.0, h.1, h.2)
 

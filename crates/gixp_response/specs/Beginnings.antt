@@ -1,14 +1,11 @@
 -- An answer under versions 0 and 1: the shortest beginning of what is to come that is one (gitprotocol-pack, "Packfile Negotiation";
 -- where it ends is this project's own rule).
-use Rattle.std.specs.Prelude.{◌≡◌, ℕ, Bool, true, false, not, ◌&&◌, if◌then◌else◌, List, [], ◌∷◌, ◌++◌, Option, Some, None}
+use Rattle.std.specs.Prelude.{ℕ, Bool, true, false, not, ◌&&◌, if◌then◌else◌, List, [], ◌∷◌, ◌++◌, Option, Some, None}
 use Rattle.std.specs.List.{list_any}
-use Rattle.std.specs.BTreeSet.{BTreeSet, contains}
 use Rattle.std.specs.Str.{is_utf8}
 use Rattle.std.specs.declared.io.ErrorKind.TheVariants.{UnexpectedEof}
-use Rattle.gixp_hash.specs.declared.object_id.ObjectId.{ObjectId}
 use Rattle.gixp_packetline.specs.declared.protocol.Protocol.{Protocol}
 use Rattle.gixp_packetline.specs.Items.{is_stop}
-use Rattle.gixp_hash.specs.ObjectId.{id_cmp}
 use Rattle.gixp_packetline.specs.Lines.{Next, gives, stops, refuses}
 use Rattle.gixp_packetline.specs.Pieces.{Refusal, io, Piece, line, mark, Pieces, no_pieces, unexpected_frame}
 use Rattle.gixp_capabilities.specs.Capabilities.{is_text}
@@ -109,10 +106,6 @@ is_common _ = false
 abbrev pub is_same_common : Acknowledgement → Acknowledgement → Bool
 is_same_common (Common a) (Common b) = is_text a.bytes b.bytes
 is_same_common _ _ = false
-
--- these are the commits that are named as common
-abbrev pub AreCommon : List Acknowledgement → BTreeSet ObjectId → Type 0
-AreCommon had ids = (id : ObjectId) → contains id_cmp ids id ≡ list_any (λ x. is_same_common x (Common id)) had
 
 -- a commit that is common already isn't named again
 abbrev pub with_acknowledgement : List Acknowledgement → Acknowledgement → List Acknowledgement

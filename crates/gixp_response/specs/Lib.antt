@@ -22,5 +22,6 @@ pub mod AnswerReading
 pub mod Features
 pub mod SectionGrammar
 pub mod BeginningGrammar
+pub mod Repeats
 pub mod Order
 pub mod AnswerMessage

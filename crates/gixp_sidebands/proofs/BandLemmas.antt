@@ -16,7 +16,7 @@ use Rattle.gixp_sidebands.specs.Bands.{band_of, is_content, band_refusal, IsPass
 use Rattle.gixp_sidebands.proofs.PieceLemmas.{mark_not_gives}
 
 -- what comes next in banded pieces, and then in their content
-unband_gives : (v : Protocol) (list : List Piece) (end : Refusal) (text : List ℕ) (q : Pieces) → next_from v list end ≡ gives text q
+pub unband_gives : (v : Protocol) (list : List Piece) (end : Refusal) (text : List ℕ) (q : Pieces) → next_from v list end ≡ gives text q
     → unband_from list end ≡ unband_line (band_of text) text (unband q)
 unband_gives v [] end text q h = cc
 unband_gives v (line t ∷ ps) end text q h =

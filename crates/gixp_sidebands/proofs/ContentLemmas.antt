@@ -17,6 +17,8 @@ use Rattle.std.specs.IoError.{error_kind}
 use Rattle.std.specs.declared.io.ErrorKind.TheVariants.{UnexpectedEof}
 use Rattle.std.specs.declared.io.Error.{Error as io_error}
 use Rattle.gixp_sidebands.specs.Bands.{band_of, is_content, unband_line, unband_from, unband, content_from, content_of, Message, messages_line, messages_from, messages_of, is_held, front_line, shown, content_left, messages_left, HandsOut, Side, side_reading, banded_reading, side_content, IsFirstOf, ShowsContent, EndsContent, ShowsFirst, ReadsBytes, RefusesContent, Passes, IsFirst, FillsContent, io_kind, place_after}
+use Rattle.gixp_sidebands.specs.Ends.{end-stays, end-joins}
+use Rattle.gixp_sidebands.proofs.EndLemmas.{stop_keeps_end, refusal_keeps_end, shown_keeps_end, taken_keeps_end}
 use Rattle.gixp_sidebands.proofs.PieceLemmas.{mark_not_gives}
 
 pub both_true : (a b : Bool) → (a && b) ≡ true → (a ≡ true) × (b ≡ true)
@@ -106,6 +108,7 @@ hands_part n k r held less =
     record {
       content = at r.to_come;
       messages = same r.to_come;
+      ending = end-stays r;
       stopped = refl;
       version = refl;
       failures = refl;
@@ -146,6 +149,7 @@ hands_all n k r new held more t =
     record {
       content = content r.to_come new.to_come new.stopped t.stopped t.next;
       messages = messages r.to_come new.to_come r.stopped new.stopped t.running t.stopped t.next;
+      ending = let h = holds_line n r held in taken_keeps_end r new h.content h.peeked t;
       stopped = t.stopped ∙ sym t.running;
       version = t.version;
       failures = t.failures;
@@ -229,6 +233,7 @@ shows_content_at : (old new : Side) → old.place ≡ None → new.place ≡ Som
 shows_content_at old new o n f held first h =
     record {
       content = rw (o, n) (content old.reading.to_come new.reading.to_come old.reading.stopped h.running first h.next);
+      ending = shown_keeps_end old.name new.name old.reading new.reading h;
       bound = rw (o, n) (let a = h.left in omega arith);
       some = rw n (let l = holds_line 0 new.reading (rw n at held) in omega (arith, length-drop 1 new.reading.line, l.more));
       version = h.version;
@@ -317,6 +322,7 @@ ends_content_at old new o n f h =
       content = none;
       rest = empty_passes old new o n none (stop_behind (banded_reading false old.name old.reading)
           (banded_reading false new.name new.reading) k);
+      ending = stop_keeps_end old new o n h;
       bound = rw (o, n) (let a = stop_left (banded_reading false old.name old.reading) (banded_reading false new.name new.reading) k in
           omega arith);
       place = n;
@@ -352,6 +358,7 @@ reads_bytes old mid new n rest buf buf' s h name fault r m b =
     ap (take n) b ∙ take-append-le n (take n rest) (drop n buf) (omega arith) ∙ take_all n (take n rest) (omega arith) ∙ ap (take n) r in (
       record {
         content = rw got (content old.reading.to_come mid.reading.to_come s.content h.content);
+        ending = end-joins old.reading mid.reading new.reading s.ending h.ending;
         bound = let a = h.bound in let c = s.bound in let l = ap length got in omega arith;
         version = h.version ∙ s.version;
         failures = h.failures ∙ s.failures;
@@ -476,6 +483,7 @@ refuses_by old new x e o n f k (inl h) =
       lost = [];
       rest = empty_passes old new o n (ends_at old new x o h)
           (refusal_behind (banded_reading false old.name old.reading) (banded_reading false new.name new.reading) x g);
+      ending = refusal_keeps_end old new o n x (inl h);
       bound = rw (o, n) (let a = g.left in omega arith);
       keeps = λ _. refl;
       ends = ends_at old new x o;
@@ -491,6 +499,7 @@ refuses_by old new x e o n f k (inr (inl h)) =
       place = n;
       lost = [];
       rest = fault_passes old new x o n g;
+      ending = refusal_keeps_end old new o n x (inr (inl h));
       bound = rw (o, n) (let a = g.stays.left in omega arith);
       keeps = λ _. refl;
       ends = ends_at old new x o;
@@ -506,6 +515,7 @@ refuses_by old new x e o n f k (inr (inr h)) =
       place = n;
       lost = lost_of old old.reading.to_come;
       rest = broken_passes old new x n g;
+      ending = refusal_keeps_end old new o n x (inr (inr h));
       bound = rw (o, n) (let a = g.left in omega arith);
       keeps = λ y. absurd (not_both (side_reading old) (side_reading new) x h.refusal y);
       ends = ends_at old new x o;

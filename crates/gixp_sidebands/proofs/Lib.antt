@@ -3,3 +3,4 @@ mod BandLemmas
 mod ContentLemmas
 mod TellLemmas
 mod BandItemLemmas
+pub mod EndLemmas

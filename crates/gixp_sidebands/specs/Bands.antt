@@ -1,5 +1,5 @@
 -- The bands of a stream: content, and what bands 2 and 3 tell (gitprotocol-pack, "Packfile Data").
-use Rattle.std.specs.Prelude.{◌≡◌, ℕ, ◌+◌, ◌-◌, ◌<◌, ◌≤◌, ◌⊎◌, ◌==◌, ◌&&◌, Bool, true, false, not, nat_lt, if◌then◌else◌, List, [], ◌∷◌, ◌++◌, length, drop, take, Option, Some, None, IfSome, Result, Ok, Err}
+use Rattle.std.specs.Prelude.{◌≡◌, ℕ, ◌+◌, ◌-◌, ◌^◌, ◌<◌, ◌≤◌, ◌⊎◌, ◌==◌, ◌&&◌, Bool, true, false, not, nat_lt, if◌then◌else◌, List, [], ◌∷◌, ◌++◌, length, drop, take, Option, Some, None, IfSome, Result, Ok, Err}
 use Rattle.std.specs.Option.{option_map}
 use Rattle.std.specs.Borrow.{GName, Bor}
 use Rattle.std.specs.Io.BufRead.{strip_last}
@@ -10,8 +10,9 @@ use Rattle.gixp_sidebands.specs.declared.sidebands.band.Band.{Band}
 use Rattle.gixp_sidebands.specs.declared.sidebands.band.Band.TheVariants.{Empty, Content, Text, Unknown}
 use Rattle.gixp_packetline.specs.Pieces.{Refusal, io, bad_band, interrupted, memory, Piece, line, mark, Pieces, no_pieces, with_piece}
 use Rattle.gixp_packetline.specs.Items.{Item, line_item, text_item, stop_item, Items}
+use Rattle.gixp_packetline.specs.Lines.{Ending}
 use Rattle.gixp_packetline.specs.declared.read.Error.{Error}
-use Rattle.gixp_packetline.specs.Reading.{Reading, AtStop, Refuses, Faults, Fails}
+use Rattle.gixp_packetline.specs.Reading.{Reading, AtStop, Refuses, Faults, Fails, lines_ahead}
 use Rattle.std.specs.IoError.{error_kind}
 use Rattle.std.specs.declared.io.Error.{Error as io_error}
 
@@ -142,6 +143,22 @@ abbrev pub KeepsMessages : Reading → Reading → Type 0
 KeepsMessages old new =
     IfSome old.to_come (λ p. (q : Pieces) × (new.to_come ≡ Some q) × (messages_left new.stopped q ≡ messages_left old.stopped p))
 
+-- what ends the content still to come: the next stop, with the content after it, or a refusal. It is the same from each place in a packet
+abbrev pub end_left : Reading → Pieces → Ending
+end_left r p = (lines_ahead r (unband p)).ending
+
+-- what ends the content still to come is what it was
+abbrev pub KeepsEnd : Reading → Reading → Type 0
+KeepsEnd old new = IfSome old.to_come (λ p. (q : Pieces) × (new.to_come ≡ Some q) × (end_left new q ≡ end_left old p))
+
+-- no failure was counted, and one would have been: there are fewer than can be counted
+abbrev pub IsUncounted : Reading → Reading → Type 0
+IsUncounted old new = (new.failures ≡ old.failures) × (new.failures < 2 ^ 64 - 1)
+
+-- the same, unless a failure was counted: a read that failed as at the end makes that the end
+abbrev pub KeepsEndUncounted : Reading → Reading → Type 0
+KeepsEndUncounted old new = IsUncounted old new → KeepsEnd old new
+
 -- what a reader of bands means, over what the reader below means and through a reference of this name. A packet that is begun counts as
 -- taken
 abbrev pub banded_reading : Bool → GName → Reading → Reading
@@ -163,6 +180,7 @@ pub record HandsOut (place : Option ℕ) (old : Reading) (bytes : List ℕ) (pla
       × (content_left place old.stopped p ≡ bytes ++ content_left place' new.stopped q))
   pub messages : IfSome old.to_come (λ p. (q : Pieces) × (new.to_come ≡ Some q)
       × (messages_left new.stopped q ≡ messages_left old.stopped p))
+  pub ending : KeepsEnd old new
   pub stopped : new.stopped ≡ old.stopped
   pub version : new.version ≡ old.version
   pub failures : new.failures ≡ old.failures
@@ -209,6 +227,7 @@ content_bound s = s.reading.left - handed s.place
 -- bytes of content are at hand
 pub record ShowsContent (old new : Side) : Type 0 where
   pub content : Passes old new []
+  pub ending : KeepsEnd old.reading new.reading
   pub some : 0 < length (shown new.place new.reading)
   pub version : new.reading.version ≡ old.reading.version
   pub failures : new.reading.failures ≡ old.reading.failures
@@ -222,6 +241,7 @@ pub record EndsContent (old new : Side) : Type 0 where
   pub at_stop : AtStop (side_reading old) (side_reading new)
   pub content : IfSome old.reading.to_come (λ p. side_content old p ≡ [])
   pub rest : Passes old new []
+  pub ending : KeepsEnd old.reading new.reading
   pub bound : content_bound new ≤ content_bound old
   pub place : new.place ≡ None
   pub fault : new.fault ≡ None
@@ -237,6 +257,7 @@ pub record RefusesContent (old new : Side) (e : io_error) : Type 0 where
   pub place : new.place ≡ None
   pub lost : List ℕ
   pub rest : Passes old new lost
+  pub ending : KeepsEndUncounted old.reading new.reading
   pub bound : content_bound new ≤ content_bound old
   pub keeps : Faults (side_reading old) (side_reading new) refusal → lost ≡ []
   pub ends : Refuses (side_reading old) (side_reading new) refusal → IfSome old.reading.to_come (λ p. side_content old p ≡ [])
@@ -265,6 +286,7 @@ ShowsFirst old new _ = Unit {0}
 -- these bytes of content were returned
 pub record ReadsBytes (old new : Side) (bytes : List ℕ) : Type 0 where
   pub content : Passes old new bytes
+  pub ending : KeepsEnd old.reading new.reading
   pub bound : length bytes + content_bound new ≤ content_bound old
   pub version : new.reading.version ≡ old.reading.version
   pub failures : new.reading.failures ≡ old.reading.failures

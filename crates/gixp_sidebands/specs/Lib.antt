@@ -4,6 +4,7 @@ pub use Rattle.gixp_packetline.specs.Lines
 pub use Rattle.gixp_packetline.specs.Pieces
 pub use Rattle.gixp_packetline.specs.Reading
 pub mod Bands
+pub mod Ends
 pub mod Telling
 pub mod SaidToGoOn
 pub mod Sidebands

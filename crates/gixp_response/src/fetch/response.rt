@@ -5,6 +5,7 @@ pub(crate) mod answer;
 mod beginnings;
 mod error;
 mod line;
+mod repeats;
 mod sections;
 
 pub use error::{Error, RequiredFeature};

@@ -1,9 +1,10 @@
 //! An answer to a fetch.
-ghost use Rattle.std.specs.Prelude.{◌≡◌, MatchResult, OnErr, OnOk, [], ◌∷◌, ◌++◌, map, true, false};
+ghost use Rattle.std.specs.Prelude.{◌≡◌, MatchResult, OnErr, OnOk, [], ◌∷◌, ◌++◌, ◌+◌, ◌≤◌, ◌<◌, Bool, List, length, take, drop, map, true, false};
 ghost use Rattle.std.specs.List.{list_any};
 ghost use Rattle.gixp_response.specs.AnswerLine.{wanted_value};
 ghost use Rattle.gixp_response.specs.Answer.{no_more, update_items};
 ghost use Rattle.gixp_response.specs.Beginnings.{expected};
+ghost use Rattle.gixp_response.specs.Repeats.{flagged};
 ghost use Rattle.gixp_response.specs.ResponseError.{UnlessAnswerInterrupted};
 ghost use Rattle.gixp_response.specs.AnswerReading.{answer_of, Answered, AnswerFails};
 ghost use Rattle.gixp_capabilities.specs.Capabilities.{is_text};
@@ -201,6 +202,14 @@ impl Response {
         Ok(())
     }
 
+    // Keeps the acknowledgements whose flag is true.
+    pub(crate) fn keep_flagged(&mut self, flags: &[bool])
+        requires { length flags.now ≡ length self.old.acknowledgements }
+        ensures { self.new ≡ record self.old { acknowledgements = flagged self.old.acknowledgements flags.now } }
+    {
+        keep_flagged(&mut self.acknowledgements, flags);
+    }
+
     pub(crate) fn push_shallow_update(&mut self, found: ShallowUpdate) -> Result<(), AllocError>
         ensures ok { OnOk result (self.new ≡ record self.old { shallow_updates = self.old.shallow_updates ++ found ∷ [] }) }
         ensures err { OnErr result (self.new ≡ self.old) }
@@ -225,6 +234,33 @@ impl Response {
         whole.has_pack = true;
         whole
     }
+}
+
+// Moves what has a flag down to those that were kept, and returns how many are kept then.
+fn keep_one(found: &mut Vec<Acknowledgement>, kept: usize, at: usize, flag: bool) -> usize
+    requires within { (kept ≤ at) × (at < length found.old.items) }
+    ensures within { result ≤ at + 1 }
+    ensures len { length found.new.items ≡ length found.old.items }
+    ensures kept { (flags : List Bool) → take result found.new.items ++ flagged (drop (at + 1) found.new.items) flags
+        ≡ take kept found.old.items ++ flagged (drop at found.old.items) (flag ∷ flags) }
+{
+    if !flag {
+        return kept;
+    }
+    found[kept] = found[at];
+    kept + 1
+}
+
+// Keeps what has a flag, with no allocation.
+fn keep_flagged(found: &mut Vec<Acknowledgement>, flags: &[bool])
+    requires { length flags.now ≡ length found.old.items }
+    ensures { found.new.items ≡ flagged found.old.items flags.now }
+{
+    let mut kept = 0;
+    'flags: for (at, flag) in flags.iter().enumerate() {
+        kept = keep_one(found, kept, at, *flag);
+    }
+    found.truncate(kept);
 }
 
 // Whether a feature of this name is among some.

@@ -2,8 +2,8 @@
 ghost use Rattle.std.specs.Prelude.{◌≡◌, ◌⊎◌, MatchResult, OnOk, Some, not, ◌&&◌, ◌||◌};
 ghost use Rattle.gixp_packetline.specs.Reading.{refusal_of};
 ghost use Rattle.gixp_packetline.specs.declared.protocol.Protocol.TheVariants.{V0, V1};
-ghost use Rattle.gixp_response.specs.Beginnings.{expected, is_at_end, is_ready, is_nak, line_item, item_said, said_with, acknowledged, AreCommon, v1_answer};
-ghost use Rattle.gixp_response.specs.declared.fetch.response.line.Acknowledgement.TheVariants.{Common};
+ghost use Rattle.gixp_response.specs.Beginnings.{expected, is_at_end, is_ready, is_nak, line_item, item_said, said_with, acknowledged, v1_answer};
+ghost use Rattle.gixp_response.specs.Repeats.{AreNoted, without_repeats};
 ghost use Rattle.gixp_response.specs.ResponseError.{UnlessAnswerInterrupted};
 ghost use Rattle.gixp_response.specs.AnswerReading.{Answered, AnswerFails};
 
@@ -12,11 +12,10 @@ use crate::fetch::response::error::Error;
 use crate::fetch::response::line::{
     Acknowledgement, ShallowUpdate, read_acknowledgement, read_shallow_update,
 };
+use crate::fetch::response::repeats::Repeats;
 use crate::fetch::response::sections::text_of;
-use gixp_hash::ObjectId;
 use gixp_packetline::{ExtendedBufRead, Protocol, read};
 use std::alloc::{AllocError, Global};
-use std::collections::BTreeSet;
 use std::io::ErrorKind;
 
 // What a line in front of the pack says.
@@ -60,7 +59,7 @@ pub(crate) fn read_beginning<R: ExtendedBufRead>(
 {
     reader.reset(version);
     let mut answer = Response::empty(alloc);
-    let mut commons = BTreeSet::new(alloc);
+    let mut repeats = Repeats::new(alloc);
     let mut came_ready = false;
     let mut behind_stop = false;
     loop {
@@ -68,7 +67,7 @@ pub(crate) fn read_beginning<R: ExtendedBufRead>(
             Ok(true) => {}
             Ok(false) => {
                 if behind_stop {
-                    return Ok(answer);
+                    return Ok(finished(answer, repeats));
                 }
                 behind_stop = true;
                 reader.reset(version);
@@ -76,21 +75,21 @@ pub(crate) fn read_beginning<R: ExtendedBufRead>(
             }
             Err(e) => {
                 if ends_answer(&e, behind_stop) {
-                    return Ok(answer);
+                    return Ok(finished(answer, repeats));
                 }
                 return Err(Error::from(e));
             }
         }
         let said = match read_said(reader.line()) {
             Some(said) => said,
-            None => return Ok(answer.with_pack()),
+            None => return Ok(finished(answer, repeats).with_pack()),
         };
         let _ = reader.next_line();
         behind_stop = false;
-        keep(&mut answer, &mut commons, said)?;
+        keep(&mut answer, &mut repeats, said)?;
         came_ready = ready_by(said, came_ready);
         if ends_by_nak(said, expects_pack, negotiates, came_ready) {
-            return Ok(answer);
+            return Ok(finished(answer, repeats));
         }
     }
 }
@@ -144,51 +143,38 @@ fn is_nak(said: Said) -> bool
     }
 }
 
-// Adds what a line says, unless it names a commit again.
-fn keep(
-    answer: &mut Response,
-    commons: &mut BTreeSet<ObjectId>,
-    said: Said,
-) -> Result<(), AllocError>
-    requires { AreCommon answer.old.acknowledgements commons.old }
-    ensures ok { OnOk result (answer.new ≡ said_with answer.old (item_said (Some said))) }
-    ensures common { OnOk result (AreCommon answer.new.acknowledgements commons.new) }
+// Adds what a line says, also where it names a commit again.
+fn keep(answer: &mut Response, repeats: &mut Repeats, said: Said) -> Result<(), AllocError>
+    requires { AreNoted answer.old.acknowledgements repeats.old }
+    ensures ok { OnOk result (without_repeats answer.new ≡ said_with (without_repeats answer.old) (item_said (Some said))) }
+    ensures noted { OnOk result (AreNoted answer.new.acknowledgements repeats.new) }
 {
     match said {
         Said::ShallowUpdate(found) => answer.push_shallow_update(found),
-        Said::Acknowledgement(found) => keep_acknowledgement(answer, commons, found),
+        Said::Acknowledgement(found) => keep_acknowledgement(answer, repeats, found),
     }
 }
 
 fn keep_acknowledgement(
     answer: &mut Response,
-    commons: &mut BTreeSet<ObjectId>,
+    repeats: &mut Repeats,
     found: Acknowledgement,
 ) -> Result<(), AllocError>
-    requires { AreCommon answer.old.acknowledgements commons.old }
-    ensures ok { OnOk result (answer.new ≡ said_with answer.old (acknowledged found)) }
-    ensures common { OnOk result (AreCommon answer.new.acknowledgements commons.new) }
+    requires { AreNoted answer.old.acknowledgements repeats.old }
+    ensures ok { OnOk result (without_repeats answer.new ≡ said_with (without_repeats answer.old) (acknowledged found)) }
+    ensures noted { OnOk result (AreNoted answer.new.acknowledgements repeats.new) }
 {
-    match found {
-        Acknowledgement::Common(id) => keep_common(answer, commons, id),
-        Acknowledgement::Ready => answer.push_acknowledgement(Acknowledgement::Ready),
-        Acknowledgement::Nak => answer.push_acknowledgement(Acknowledgement::Nak),
-    }
+    repeats.note(found)?;
+    answer.push_acknowledgement(found)
 }
 
-// Adds a commit in common, unless it was named before.
-fn keep_common(
-    answer: &mut Response,
-    commons: &mut BTreeSet<ObjectId>,
-    id: ObjectId,
-) -> Result<(), AllocError>
-    requires { AreCommon answer.old.acknowledgements commons.old }
-    ensures ok { OnOk result (answer.new ≡ said_with answer.old (acknowledged (Common id))) }
-    ensures common { OnOk result (AreCommon answer.new.acknowledgements commons.new) }
+// The answer, each commit in common at its first place alone.
+fn finished(answer: Response, repeats: Repeats) -> Response
+    requires { AreNoted answer.acknowledgements repeats }
+    ensures { result ≡ without_repeats answer }
 {
-    match commons.insert(id) {
-        Ok(true) => answer.push_acknowledgement(Acknowledgement::Common(id)),
-        Ok(false) => Ok(()),
-        Err(_) => Err(AllocError),
-    }
+    let flags = repeats.into_flags();
+    let mut answer = answer;
+    answer.keep_flagged(&flags);
+    answer
 }

@@ -6,9 +6,10 @@ pub pieces-init : goal.pieces-init
 pieces-init g c = ([], copied_none _ _)
 
 pub returns-in-Ok-false : goal.returns-in-Ok-false
-returns-in-Ok-false g c =
-    let h = copied_all _ _ _ _ _ c.pieces.invariant.0 c.pieces.invariant.1 (rw c.in-Ok-false.field-0-test at c.in-Ok-false.ensures.fills) in
-    (refl, (h.0, h.1, h.2))
+returns-in-Ok-false g c = (
+  refl,
+  copied_all _ _ _ _ _ c.pieces.invariant.0 c.pieces.invariant.1 (rw c.in-Ok-false.field-0-test at c.in-Ok-false.ensures.fills),
+)
 
 pub pieces-preserved : goal.pieces-preserved
 pieces-preserved g c =

@@ -3,14 +3,13 @@ use Rattle.std.proofs.lemmas.Result.{err_from_is_err_and}
 use Rattle.gixp_response.specs.declared.fetch.response.answer.Response.{Response}
 use Rattle.gixp_response.specs.Beginnings.{line_item}
 use Rattle.gixp_response.proofs.BeginningLemmas.{amid-start, amid-stop, amid-stops, amid-end, amid-fails, amid-pack, amid-line, amid-said, amid-nak, amid-memory}
-use Rattle.gixp_response.proofs.CommonLemmas.{none_common}
 use Rattle.gixp_response.proofs.InterruptLemmas.{peeked_goes, reader_refused}
 use Rattle.gixp_response.proofs.fetch.response.beginnings.read_beginning.Goals as goal
 
 pub loop-answer-init : goal.loop-answer-init
 loop-answer-init g c = (
   rw c.empty-answer.ensures (amid-start _ _ _ _ c.reset.ensures.reading),
-  rw c.empty-answer.ensures (none_common _ c.new-commons.ensures.empty),
+  rw c.empty-answer.ensures c.new-repeats.ensures,
   c.reset.ensures.goes_on,
 )
 
@@ -18,7 +17,7 @@ pub returns-then-behind_stop-clause-answers : goal.returns-then-behind_stop-clau
 returns-then-behind_stop-clause-answers g c =
     let k = rw c.in-Ok-false.field-0-test at c.in-Ok-false.ensures.peeks in
     let h = rw c.if-behind_stop.true at c.loop-answer.invariant.0 in
-    amid-stops _ c.requires _ _ _ _ _ _ h k
+    rw c.finished.ensures (amid-stops _ c.requires _ _ _ _ _ _ h k)
 
 pub loop-answer-preserved-in-Ok-false : goal.loop-answer-preserved-in-Ok-false
 loop-answer-preserved-in-Ok-false g c =
@@ -32,7 +31,8 @@ loop-answer-preserved-in-Ok-false g c =
 
 pub returns-then-ends_answer-clause-answers : goal.returns-then-ends_answer-clause-answers
 returns-then-ends_answer-clause-answers g c =
-    amid-end _ c.requires _ _ _ _ _ _ _ c.in-Err.e c.loop-answer.invariant.0 c.in-Err.ensures.peeks c.if-ends_answer.ensures
+    rw c.finished-then-ends_answer.ensures (amid-end _ c.requires _ _ _ _ _ _ _ c.in-Err.e c.loop-answer.invariant.0 c.in-Err.ensures.peeks
+    c.if-ends_answer.ensures)
 
 pub returns-in-Err-clause-answers : goal.returns-in-Err-clause-answers
 returns-in-Err-clause-answers g c =
@@ -42,7 +42,7 @@ returns-in-Err-clause-answers g c =
 pub returns-in-None-clause-answers : goal.returns-in-None-clause-answers
 returns-in-None-clause-answers g c =
     let k = rw c.in-Ok-true.field-0-test at c.in-Ok-true.ensures.peeks in
-    rw c.with_pack.ensures (amid-pack _ _ _ _ _ _ _ _ c.loop-answer.invariant.0 k
+    rw (c.with_pack.ensures, c.finished-in-None.ensures) (amid-pack _ _ _ _ _ _ _ _ c.loop-answer.invariant.0 k
     (ap line_item (sym c.line.ensures) ∙ sym c.in-None.ensures))
 
 pub returns-in_err-keep-clause-answers : goal.returns-in_err-keep-clause-answers
@@ -57,8 +57,8 @@ returns-then-ends_by_nak-clause-answers g c =
     let k = rw c.in-Ok-true.field-0-test at c.in-Ok-true.ensures.peeks in
     let t = amid-line _ _ _ _ _ c.in-Some.said _ _ _ _ _ c.loop-answer.invariant.0 k
     (c.in-Some.ensures ∙ ap line_item c.line.ensures) c.next_line.ensures.reads in
-    amid-nak _ c.requires _ _ _ _ _ _ c.in-Some.said _ _ _ c.loop-answer.invariant.0 t c.in_ok-keep.ensures.ok
-    c.ready_by-came_ready.ensures c.if-ends_by_nak.ensures
+    rw c.finished-then-ends_by_nak.ensures (amid-nak _ c.requires _ _ _ _ _ _ c.in-Some.said _ _ _ c.loop-answer.invariant.0 t c.in_ok-keep.ensures.ok
+    c.ready_by-came_ready.ensures c.if-ends_by_nak.ensures)
 
 pub loop-answer-preserved : goal.loop-answer-preserved
 loop-answer-preserved g c =
@@ -70,7 +70,7 @@ loop-answer-preserved g c =
     (peeked_goes _ _ _ _ k.peeked c.next_line.ensures.reads c.next_line.ensures.goes_on) in (
       amid-said _ _ _ _ _ _ _ c.in-Some.said _ _ _ c.loop-answer.invariant.0 t c.in_ok-keep.ensures.ok c.ready_by-came_ready.ensures
           c.if-ends_by_nak.ensures,
-      c.in_ok-keep.ensures.common,
+      c.in_ok-keep.ensures.noted,
       went,
     )
 

@@ -1,13 +1,14 @@
 use Rattle.std.proofs.Common.{◌+◌, ◌*◌, ℕ, Bool, true, false}
-use Rattle.gixp_response.specs.Beginnings.{expected, AreCommon}
+use Rattle.gixp_response.specs.Beginnings.{expected}
+use Rattle.gixp_response.specs.Repeats.{AreNoted, without_repeats}
 use Rattle.gixp_response.proofs.BeginningLemmas.{Amid}
 use Rattle.gixp_response.proofs.fetch.response.beginnings.read_beginning.Given as goal
 
 abbrev pub invariant-loop-answer : goal.invariant-loop-answer
 invariant-loop-answer g l =
-    Amid l.version (expected l.expects_pack l.negotiates) l.answer l.came_ready l.behind_stop (g.R.ExtendedBufRead.reading l.fn.reader)
+    Amid l.version (expected l.expects_pack l.negotiates) (without_repeats l.answer) l.came_ready l.behind_stop (g.R.ExtendedBufRead.reading l.fn.reader)
     (g.R.ExtendedBufRead.reading l.reader)
-    × AreCommon l.answer.acknowledgements l.commons
+    × AreNoted l.answer.acknowledgements l.repeats
     × g.R.ExtendedBufRead.goes_on l.fn.reader l.reader
 
 abbrev stops_left : Bool → ℕ

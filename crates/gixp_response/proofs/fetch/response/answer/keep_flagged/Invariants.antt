@@ -1,0 +1,9 @@
+-- What was kept, and what is left to be looked at, are what has a flag.
+use Rattle.std.proofs.Common.{◌≡◌, ◌≤◌, ◌++◌, length, take, drop}
+use Rattle.gixp_response.specs.Repeats.{flagged}
+use Rattle.gixp_response.proofs.fetch.response.answer.keep_flagged.Given as goal
+
+abbrev pub invariant-flags : goal.invariant-flags
+invariant-flags l =
+    (length l.found.items ≡ length l.fn.found.items) × (l.kept ≤ l.at)
+    × (take l.kept l.found.items ++ flagged (drop l.at l.found.items) (drop l.at l.flags) ≡ flagged l.fn.found.items l.flags)

@@ -1,0 +1,58 @@
+-- What is named more than once in a list, by the places where it stands.
+use Rattle.std.specs.Prelude.{◌≡◌, ℕ, ◌+◌, ◌==◌, nat_lt, Bool, true, false, ◌&&◌, if◌then◌else◌, List, [], ◌∷◌}
+use Rattle.std.specs.List.{list_any, fold, slice_set}
+use Rattle.std.specs.Ordering.{eq_by_cmp}
+use Rattle.std.specs.declared.cmp.Ordering.{Ordering}
+use Rattle.gixp_hash.specs.declared.object_id.ObjectId.{ObjectId}
+use Rattle.gixp_response.specs.declared.fetch.response.line.Acknowledgement.{Acknowledgement}
+use Rattle.gixp_response.specs.declared.fetch.response.line.Acknowledgement.TheVariants.{Common, Ready, Nak}
+use Rattle.gixp_response.specs.declared.fetch.response.repeats.Repeats.{Repeats}
+use Rattle.gixp_response.specs.Answer.{AnswerValue}
+use Rattle.gixp_response.specs.Beginnings.{with_acknowledgement}
+
+-- rows are keys, each with the place where it stands
+module _ {K : Type 0} (R : K → K → Ordering) where
+  -- whether the key stands before this place
+  abbrev pub is_before : List (K × ℕ) → K → ℕ → Bool
+  is_before rows key place = list_any (λ row. eq_by_cmp R row.0 key && nat_lt row.1 place) rows
+
+  -- whether the key of this place stands before it
+  abbrev pub is_repeat : List (K × ℕ) → ℕ → Bool
+  is_repeat rows place = list_any (λ row. (row.1 == place) && is_before rows row.0 place) rows
+
+  -- the flags without those of the places whose key is that of the row before them
+  abbrev pub marked_after : List Bool → K × ℕ → List (K × ℕ) → List Bool
+  marked_after flags last [] = flags
+  marked_after flags last (row ∷ rows) =
+      marked_after (if eq_by_cmp R last.0 row.0 then slice_set flags row.1 false else flags) row rows
+
+  abbrev pub marked : List Bool → List (K × ℕ) → List Bool
+  marked flags [] = flags
+  marked flags (row ∷ rows) = marked_after flags row rows
+
+-- what a test gives at each place of a list, from a place on
+abbrev pub tested_from : {A : Type 0} → (ℕ → Bool) → ℕ → List A → List Bool
+tested_from test n [] = []
+tested_from test n (x ∷ xs) = test n ∷ tested_from test (n + 1) xs
+
+-- what has a flag that is true
+abbrev pub flagged : {A : Type 0} → List A → List Bool → List A
+flagged [] flags = []
+flagged (x ∷ xs) [] = []
+flagged (x ∷ xs) (flag ∷ flags) = if flag then x ∷ flagged xs flags else flagged xs flags
+
+-- the commits that are named as common, each with the place of its acknowledgement, from a place on
+abbrev pub named_from : ℕ → List Acknowledgement → List (ObjectId × ℕ)
+named_from n [] = []
+named_from n (Common id ∷ more) = (id, n) ∷ named_from (n + 1) more
+named_from n (Ready ∷ more) = named_from (n + 1) more
+named_from n (Nak ∷ more) = named_from (n + 1) more
+
+-- all acknowledgements were noted, and none is marked yet
+pub record AreNoted (had : List Acknowledgement) (noted : Repeats) : Type 0 where
+  pub rows : noted.rows.items ≡ named_from 0 had
+  pub flags : noted.flags.items ≡ tested_from (λ place. true) 0 had
+
+-- an answer where each commit is named as common once
+abbrev pub without_repeats : AnswerValue → AnswerValue
+without_repeats answer = record answer { acknowledgements = fold with_acknowledgement [] answer.acknowledgements }
