@@ -181,8 +181,7 @@ fn fetch_by<T: Transport, C: ConsumePack<Discard, Error = CopyError>>(
     store: &mut ScriptedStore,
     transport: &mut T,
     consumer: &mut C,
-    report: &mut Report,
-) -> Result<(), AllocError> {
+) -> Result<Result<Option<Outcome>, Error<AllocError, CopyError>>, AllocError> {
     let mut refs = NoRefs;
     let mut negotiator = HaveList::new(mem::replace(&mut script.haves, Vec::new(alloc)));
     let mut graph = Graph::new(alloc, NoObjects);
@@ -196,13 +195,14 @@ fn fetch_by<T: Transport, C: ConsumePack<Discard, Error = CopyError>>(
             graph: &mut graph,
         };
     let mut negotiation = Negotiation::new(context, map, &script.shallow, script.tags);
-    let result = fetch(
+    let name = agent(alloc)?;
+    Ok(fetch(
         alloc,
         &mut negotiation,
         consumer,
         &mut Discard,
         &mut once,
-        agent(alloc)?,
+        name,
         Context {
             handshake: hands,
             transport,
@@ -214,8 +214,7 @@ fn fetch_by<T: Transport, C: ConsumePack<Discard, Error = CopyError>>(
             tags: script.tags,
             reject_shallow_remote: script.rejects,
         },
-    );
-    report_result(alloc, result, report)
+    ))
 }
 
 // The same, and the pack.
@@ -229,31 +228,14 @@ fn fetch_pack<T: Transport>(
     report: &mut Report,
 ) -> Result<(), AllocError> {
     if !script.copies {
-        let mut consumer = ReadToEnd;
-        return fetch_by(
-            alloc,
-            script,
-            hands,
-            map,
-            store,
-            transport,
-            &mut consumer,
-            report,
-        );
+        let fetched = fetch_by(alloc, script, hands, map, store, transport, &mut ReadToEnd)?;
+        return report_result(alloc, fetched, report);
     }
     let mut consumer = CopyPack {
         writer: Vec::new(alloc),
     };
-    fetch_by(
-        alloc,
-        script,
-        hands,
-        map,
-        store,
-        transport,
-        &mut consumer,
-        report,
-    )?;
+    let fetched = fetch_by(alloc, script, hands, map, store, transport, &mut consumer)?;
+    report_result(alloc, fetched, report)?;
     report.quote(&consumer.writer);
     report.word(" ");
     Ok(())

@@ -3,6 +3,7 @@
 
 mod clauses;
 mod fetches;
+mod local_refs;
 mod maps;
 mod mirror;
 mod refs;
@@ -11,8 +12,9 @@ mod whole_fetch;
 
 pub use clauses::{marked_complete, read_answer, read_pack, read_spec};
 pub use fetches::fetch_one;
+pub use local_refs::refs_to_write;
 pub use maps::mapped_branches;
 pub use mirror::{Change, MirrorRefs, plan_mirror};
 pub use refs::{recorded_refs, refs_of_bytes, refs_of_file};
 pub use remote_listing::{ls_remote, print_remote_refs, remote_refs};
-pub use whole_fetch::{Fetched, Repository, Wanted, fetch_from, refs_to_write};
+pub use whole_fetch::{Fetched, Repository, fetch_from};

@@ -1,4 +1,4 @@
-//! A whole fetch over a connection: the pack goes into a writer, and after that the local refs are to be written.
+//! A whole fetch over a connection: the pack goes into a writer.
 use anyhow::Result;
 use bstr::{BStr, BString};
 use gix_protocol::command::CommandTable;
@@ -7,8 +7,6 @@ use gix_protocol::fetch::negotiate::{
     StoredObjects, StoredRefs,
 };
 use gix_protocol::fetch::refmap::init;
-use gix_protocol::fetch::refs::Update;
-use gix_protocol::fetch::refs::update::{self, update};
 use gix_protocol::fetch::{
     Context, CopyPack, Options, Outcome, RefMap, Shallow, ShallowMemory, Tags, fetch,
 };
@@ -41,15 +39,6 @@ pub struct Fetched {
     pub boundary: ShallowMemory,
 }
 
-/// What is asked for.
-#[derive(Clone, Copy)]
-pub struct Wanted<'a> {
-    /// Refspecs, as for `git fetch`.
-    pub specs: &'a [&'a [u8]],
-    /// How much history.
-    pub shallow: &'a Shallow,
-}
-
 // The refspecs, and that of the tags which follow.
 fn specs_of(alloc: Global, texts: &[&[u8]]) -> Result<init::Context> {
     let mut fetch_refspecs = Vec::new(alloc);
@@ -65,18 +54,6 @@ fn specs_of(alloc: Global, texts: &[&[u8]]) -> Result<init::Context> {
         fetch_refspecs,
         extra_refspecs,
     })
-}
-
-// A handshake without an account.
-fn greet<T: Transport>(alloc: Global, transport: &mut T) -> Result<Handshake> {
-    Ok(handshake(
-        alloc,
-        transport,
-        Service::UploadPack,
-        |_| Ok(None),
-        Vec::new(alloc),
-        &mut Discard,
-    )?)
 }
 
 // Fetches what a negotiation asks for, and copies the pack into a writer.
@@ -161,7 +138,7 @@ fn lent(refs: &mut [StoredRefs]) -> Result<&mut [StoredRefs], NoAlternates> {
     Ok(refs)
 }
 
-/// Fetches from the server at these two streams, and writes the pack into a writer, which isn't flushed.
+/// Fetches by these refspecs from the server at two streams, and writes the pack into a writer, which isn't flushed.
 ///
 /// Where it fails, the writer may have a part of a pack, which is to be thrown away; the boundary and the refs are to stay
 /// as they are.
@@ -170,14 +147,22 @@ pub fn fetch_from<R: Read + Drop, W: Write + Drop, F: Write>(
     from: R,
     to: W,
     repository: Repository,
-    wanted: Wanted<'_>,
+    specs: &[&[u8]],
+    shallow: &Shallow,
     pack: &mut CopyPack<F>,
 ) -> Result<Fetched> {
-    let specs = specs_of(alloc, wanted.specs)?;
+    let specs = specs_of(alloc, specs)?;
     let url = BString::from(Vec::new(alloc));
     let accepted = Vec::new(alloc);
     let mut transport = Connection::new(alloc, from, to, url, Protocol::V2, accepted, None)?;
-    let mut shaken = greet(alloc, &mut transport)?;
+    let mut shaken = handshake(
+        alloc,
+        &mut transport,
+        Service::UploadPack,
+        |_| Ok(None),
+        Vec::new(alloc),
+        &mut Discard,
+    )?;
     let name = ("agent", Some(agent(alloc, "first/1.0")?));
     let table = CommandTable::git();
     let map = obtain(
@@ -201,7 +186,7 @@ pub fn fetch_from<R: Read + Drop, W: Write + Drop, F: Write>(
         alloc,
         repository,
         map,
-        wanted.shallow,
+        shallow,
         &mut shaken,
         &mut transport,
         pack,
@@ -210,28 +195,4 @@ pub fn fetch_from<R: Read + Drop, W: Write + Drop, F: Write>(
         indicate_end_of_interaction(&mut transport)?;
     }
     Ok(fetched)
-}
-
-/// What becomes of the local ref of each mapping, once the pack is in: the objects are those of the repository with all that
-/// came. Where it fails, no ref is to be written.
-pub fn refs_to_write(
-    alloc: Global,
-    fetched: &Fetched,
-    refs: &StoredRefs,
-    objects: &StoredObjects,
-) -> Result<Vec<Update>, update::Error> {
-    let mut graph = Graph::new(alloc, Shared::new(objects));
-    let options = update::Options {
-        tags: Tags::Included,
-        checked_out: &[],
-        most_commits: None,
-    };
-    update(
-        alloc,
-        &fetched.map,
-        refs,
-        &Shared::new(objects),
-        &mut graph,
-        &options,
-    )
 }

@@ -1,0 +1,31 @@
+//! After a fetch, which local refs are to be written.
+use crate::whole_fetch::Fetched;
+use gix_protocol::fetch::Tags;
+use gix_protocol::fetch::negotiate::{Graph, Shared, StoredObjects, StoredRefs};
+use gix_protocol::fetch::refs::Update;
+use gix_protocol::fetch::refs::update::{self, update};
+use std::alloc::Global;
+
+/// What becomes of the local ref of each mapping, once the pack is in: the objects are those of the repository with all that
+/// came. Where it fails, no ref is to be written.
+pub fn refs_to_write(
+    alloc: Global,
+    fetched: &Fetched,
+    refs: &StoredRefs,
+    objects: &StoredObjects,
+) -> Result<Vec<Update>, update::Error> {
+    let mut graph = Graph::new(alloc, Shared::new(objects));
+    let options = update::Options {
+        tags: Tags::Included,
+        checked_out: &[],
+        most_commits: None,
+    };
+    update(
+        alloc,
+        &fetched.map,
+        refs,
+        &Shared::new(objects),
+        &mut graph,
+        &options,
+    )
+}
