@@ -3,6 +3,7 @@ use Rattle.std.specs.Prelude.{◌≡◌, ℕ, Bool, true, List, [], ◌++◌, Op
 use Rattle.std.proofs.Common.{subst, sym}
 use Rattle.gix_protocol.specs.Pieces.{Pieces}
 use Rattle.gix_protocol.specs.Bands.{Side, IsFirstOf, side_content, side_reading, Passes}
+use Rattle.gix_protocol.specs.Ends.{end-stays}
 use Rattle.gix_protocol.specs.Receive.{ReadsOn}
 use Rattle.gixp_pack.specs.declared.check.PackSummary.{PackSummary}
 use Rattle.gixp_fetch_parts.specs.declared.copy.StreamError.{StreamError}
@@ -16,7 +17,7 @@ abbrev pub LeavesEnd : Side → Side → Type 0
 LeavesEnd start end = (read : List ℕ) × ReadsOn start end read × ((side_reading end).held ≡ (side_reading start).held)
 
 pub came_leaves : (start end : Side) → (read : List ℕ) × CameNext start read end → LeavesEnd start end
-came_leaves start end h = (h.0, record { content = h.1.content }, h.1.held)
+came_leaves start end h = (h.0, record { content = h.1.content; ending = h.1.ending }, h.1.held)
 
 nothing_passes : (s : Side) → Passes s s []
 nothing_passes s = at s.reading.to_come
@@ -55,7 +56,7 @@ module _ {P W : Type 0} (begins : P → W → P → Type 0) (gives_up : P → W 
       came_leaves start end (copies_pack_reads (contents h.1.first) (contents whole.writer) start end (Ok whole.summary) h.1.copied)
   receives_owes p q start end (Ok finished) None h = absurd h
   receives_owes p q start end (Err (Begin kind)) whole h =
-      subst (λ (s : Side). LeavesEnd start s) (sym h.2) ([], record { content = nothing_passes start }, refl)
+      subst (λ (s : Side). LeavesEnd start s) (sym h.2) ([], record { content = nothing_passes start; ending = λ _. end-stays start.reading }, refl)
   receives_owes p q start end (Err (Stream e)) whole h =
       came_leaves start end (copies_pack_reads (contents h.1.first) (contents h.1.last) start end (Err e) h.1.copied)
 

@@ -19,6 +19,8 @@ refusal_held old new e (inr (inr h)) = h.held
 -- one read takes some of the content, and nothing else of the transport
 pub reads_on : (old new : Side) (r : Result ℕ io_error) (buf : List ℕ) → ReadsContent old new r buf
     → (read : List ℕ) × ReadsOn old new read × ((side_reading new).held ≡ (side_reading old).held)
-reads_on old new (Ok n) buf (inl h) = (take n buf, record { content = h.0.content }, h.0.held)
-reads_on old new (Ok n) buf (inr h) = ([], record { content = h.1.rest }, stop_held (side_reading old) (side_reading new) h.1.at_stop)
-reads_on old new (Err e) buf h = (h.lost, record { content = h.rest }, refusal_held (side_reading old) (side_reading new) h.refusal h.fails)
+reads_on old new (Ok n) buf (inl h) = (take n buf, record { content = h.0.content; ending = λ _. h.0.ending }, h.0.held)
+reads_on old new (Ok n) buf (inr h) =
+    ([], record { content = h.1.rest; ending = λ _. h.1.ending }, stop_held (side_reading old) (side_reading new) h.1.at_stop)
+reads_on old new (Err e) buf h =
+    (h.lost, record { content = h.rest; ending = h.ending }, refusal_held (side_reading old) (side_reading new) h.refusal h.fails)

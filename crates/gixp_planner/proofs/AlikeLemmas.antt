@@ -18,10 +18,7 @@ use Rattle.gixp_fetch.specs.declared.error.Error.{Error as FetchError}
 use Rattle.gixp_fetch.specs.declared.error.Error.TheVariants as fetch
 use Rattle.gixp_fetch.specs.declared.options.Outcome.{Outcome}
 use Rattle.gixp_fetch.specs.declared.consume.copy.CopyError.{CopyError}
-use Rattle.gixp_fetch.specs.declared.consume.copy.CopyError.TheVariants.{Read, Write}
-use Rattle.gixp_fetch.specs.Consume.{PassesOver}
 use Rattle.gixp_fetch.specs.Fetch.{Parties}
-use Rattle.gixp_sidebands.specs.Bands.{Side, side_reading}
 use Rattle.gixp_planner.specs.Refusal.{PlanRefusal, refusal, handshake_name, map_name}
 use Rattle.gixp_planner.specs.Specs.{specs_of}
 use Rattle.gixp_planner.specs.Text.{Course, requests_shown, mapped_shown, end_shown}
@@ -29,7 +26,7 @@ use Rattle.gixp_planner.specs.Session.{GreetsWithoutAccount, MapsRefs, FetchesMa
 use Rattle.gixp_planner.specs.Mapped.{IsMapped}
 use Rattle.gixp_planner.specs.Discovered.{Discovery, discovery, IsDiscovered, first_pieces}
 use Rattle.gixp_planner.specs.Sought.{sought, map_refusal, second_pieces, Plans}
-use Rattle.gixp_planner.specs.Alike.{IsUndisturbed, EndsForMemory, EndAlike, GoAlike, GoesSteadily, CoursesFollow}
+use Rattle.gixp_planner.specs.Alike.{IsUndisturbed, EndsForMemory, GoAlike, GoesSteadily, CoursesFollow}
 use Rattle.gixp_planner.proofs.SeenLemmas.{LookAlike}
 use Rattle.gixp_planner.proofs.MappedLemmas.{hold-alike, SameGreeting, SameMap, both-greet, both-alike}
 use Rattle.gixp_planner.proofs.RefusedLemmas.{greeting-sent}
@@ -38,15 +35,8 @@ use Rattle.gixp_planner.proofs.CountLemmas.{CountsNone}
 use Rattle.gixp_planner.proofs.DiscoveredLemmas.{greetings-follow}
 use Rattle.gixp_planner.proofs.SoughtLemmas.{planning, made-or-refused}
 use Rattle.gixp_planner.proofs.FetchLemmas.{OffersList, bands}
-use Rattle.gixp_planner.proofs.RefusedFetchLemmas.{CountsRefused, fails-none, Way, goes-way, ways-alike}
-
--- a reader to the end of a pack that is refused counts what it was refused for
-pub passed-none : (start end : Side) (x : CopyError) → PassesOver start (Err x) end → end.reading.failures ≡ 0 → start.reading.failures ≡ 0
-passed-none start end (Write kind) h z = absurd h
-passed-none start end (Read e) h z =
-    let r = h.5 in
-    sym r.copied.failures ∙ fails-none (side_reading r.now) (side_reading r.failed) r.refused.refusal r.refused.fails
-    (ap (λ (s : Side). s.reading.failures) (sym r.taken) ∙ z)
+use Rattle.gixp_planner.proofs.RefusedFetchLemmas.{Way, goes-way, ways-alike}
+use Rattle.gixp_planner.proofs.PackEndLemmas.{FollowsPack}
 
 -- without a counted failure a session ends as its steps do
 uncounted : (ran : Result Bool PlanRefusal) → end_counted 0 ran ≡ ran
@@ -105,12 +95,12 @@ module _ (bodies : List Body) (words : List (List ℕ)) where
       let s : specs ≡ more = same-read (specs_of words) specs more p.read q.read in
       (ap (λ x. requests_for x specs) d ∙ ap (requests_for other) s, ap (λ x. refusal_for x specs) d ∙ ap (refusal_for other) s)
 
-module _ {N I A S C P X : Type 0} (parties : Parties N I A S C P X) (basis : N → Basis) (haves : N → List ObjectId)
+module _ {N I A S C P : Type 0} (parties : Parties N I A S C P CopyError) (basis : N → Basis) (haves : N → List ObjectId)
     (list : OffersList parties.negotiation_calls basis haves) (IsOne IsOther : RefMap → N → Type 0) (IsEmpty : S → Type 0)
     (reads : (s : S) (ids : List ObjectId) (t : S) → IsEmpty s → parties.store_calls.reads s ids t → ids ≡ [])
     (ids : List ObjectId) (same : (m k : RefMap) (n o : N) → IsOne m n → IsOther k o → LookAlike m.mappings.items k.mappings.items
     → SameBasis (basis n) (basis o) × (haves n ≡ ids) × (haves o ≡ ids))
-    (none : CountsNone parties.consumes) (refused_none : CountsRefused parties.consumes) (never : (i j : I) → parties.says i true j → ⊥)
+    (none : CountsNone parties.consumes) (follows : FollowsPack parties.consumes) (never : (i j : I) → parties.says i true j → ⊥)
     (bodies : List Body) (words : List (List ℕ)) where
   -- its fetch went a way
   record Fetched (IsOver : RefMap → N → Type 0) (course : Course) : Type 0 where
@@ -120,7 +110,7 @@ module _ {N I A S C P X : Type 0} (parties : Parties N I A S C P X) (basis : N �
     negotiate : N
     over : IsOver made negotiate
     last : Reading
-    way : Way parties basis haves list IsEmpty reads none refused_none never mapped.handshake.server_protocol_version
+    way : Way parties basis haves list IsEmpty reads none follows never mapped.handshake.server_protocol_version
         mapped.handshake.capabilities
         (bands mapped.handshake.server_protocol_version mapped.handshake.capabilities) negotiate mapped.behind last course.ended
     ends : last.held.sent ≡ course.sent
@@ -179,7 +169,7 @@ module _ {N I A S C P X : Type 0} (parties : Parties N I A S C P X) (basis : N �
             at (inr q) = for_memory (codes "refs", f ∙ ap (λ x. ends_refused (refusal (codes "refs") (map_name x))) q)
             at (inl q) = at_map (record { discovered = p.discovered; read = p.read }) q.0 (sym g.is_course.sent ∙ q.1) m f
 
-    fetched-so : (h : Handshake) (mid behind : Reading) (m : RefMap) (r : Result (Option Outcome) (FetchError A X))
+    fetched-so : (h : Handshake) (mid behind : Reading) (m : RefMap) (r : Result (Option Outcome) (FetchError A CopyError))
         → GreetsWithoutAccount true (bodies_reading g.is_course.transport) mid (Ok h)
         → MapsRefs g.is_course.context h true mid behind (Ok m) → FetchesMapped parties (IsOver m) IsEmpty
         (without_refs h) behind g.is_course.last r → IsUndisturbed r → course.mapped ≡ Some m → course.ended ≡ end_of r
@@ -198,7 +188,7 @@ module _ {N I A S C P X : Type 0} (parties : Parties N I A S C P X) (basis : N �
           maps = l;
           by_then = refl;
         } in
-        at (goes-way parties basis haves list IsEmpty reads none refused_none never (IsOver m) (without_refs h) behind g.is_course.last
+        at (goes-way parties basis haves list IsEmpty reads none follows never (IsOver m) (without_refs h) behind g.is_course.last
         (both-alike bodies words behind.held.sent behind.held.sent m m mapped mapped).alike.alone g.unfailed r u t)
       where
         plans : Plans bodies words behind.held.sent (Ok m)
@@ -208,9 +198,9 @@ module _ {N I A S C P X : Type 0} (parties : Parties N I A S C P X) (basis : N �
 
         at : (r ≡ Err fetch.Memory)
             ⊎ ((n : N) × IsOver m n
-            × Way parties basis haves list IsEmpty reads none refused_none never h.server_protocol_version h.capabilities
+            × Way parties basis haves list IsEmpty reads none follows never h.server_protocol_version h.capabilities
             (bands h.server_protocol_version h.capabilities) n behind g.is_course.last (end_of r)) → Went IsOver course
-        at (inl q) = for_memory (codes "fetch", f ∙ ap (λ (x : Result (Option Outcome) (FetchError A X)). end_of x) q)
+        at (inl q) = for_memory (codes "fetch", f ∙ ap (λ (x : Result (Option Outcome) (FetchError A CopyError)). end_of x) q)
         at (inr w) =
             to_fetch (record { discovered = plans.discovered; read = plans.read }) plans.ends.0
             (record {
@@ -232,7 +222,7 @@ module _ {N I A S C P X : Type 0} (parties : Parties N I A S C P X) (basis : N �
               over = w.1;
               last = g.is_course.last;
               way =
-                  subst (λ x. Way parties basis haves list IsEmpty reads none refused_none never h.server_protocol_version
+                  subst (λ x. Way parties basis haves list IsEmpty reads none follows never h.server_protocol_version
                   h.capabilities (bands h.server_protocol_version h.capabilities) w.0 behind g.is_course.last x) (sym f) w.2;
               ends = g.is_course.sent;
               maps = p;
@@ -250,14 +240,14 @@ module _ {N I A S C P X : Type 0} (parties : Parties N I A S C P X) (basis : N �
 
   -- ---- two sessions
 
-  alike-by : (c d : Course) → c.sent ≡ d.sent → mapped_shown c.mapped ≡ mapped_shown d.mapped → EndAlike c.ended d.ended → GoAlike c d
+  alike-by : (c d : Course) → c.sent ≡ d.sent → mapped_shown c.mapped ≡ mapped_shown d.mapped → c.ended ≡ d.ended → GoAlike c d
   alike-by c d s p e = record {
     sent = s;
     printed = p;
     ended = e;
-    shown = λ q.
+    shown =
         ap (λ x. requests_shown x ++ mapped_shown c.mapped ++ end_shown c.ended) s ∙ ap (λ t. requests_shown d.sent ++ t
-        ++ end_shown c.ended) p ∙ ap (λ x. requests_shown d.sent ++ mapped_shown d.mapped ++ end_shown x) q;
+        ++ end_shown c.ended) p ∙ ap (λ x. requests_shown d.sent ++ mapped_shown d.mapped ++ end_shown x) e;
   }
 
   fetched-alike : (c d : Course) → Fetched IsOne c → Fetched IsOther d → GoAlike c d
@@ -268,22 +258,22 @@ module _ {N I A S C P X : Type 0} (parties : Parties N I A S C P X) (basis : N �
       both-alike bodies words x.sent y.sent x.made y.made x.mapped y.mapped in
       let base = same x.made y.made x.negotiate y.negotiate x.over y.over maps.mappings in
       let v = x.mapped.handshake.server_protocol_version in
-      let other : Way parties basis haves list IsEmpty reads none refused_none never v x.mapped.handshake.capabilities
+      let other : Way parties basis haves list IsEmpty reads none follows never v x.mapped.handshake.capabilities
       (bands v x.mapped.handshake.capabilities) y.negotiate y.mapped.behind y.last d.ended =
-      subst (λ w. Way parties basis haves list IsEmpty reads none refused_none never w x.mapped.handshake.capabilities
+      subst (λ w. Way parties basis haves list IsEmpty reads none follows never w x.mapped.handshake.capabilities
       (bands w x.mapped.handshake.capabilities) y.negotiate y.mapped.behind y.last d.ended) (sym greet.version)
-      (subst (λ k. Way parties basis haves list IsEmpty reads none refused_none never y.mapped.handshake.server_protocol_version k
+      (subst (λ k. Way parties basis haves list IsEmpty reads none follows never y.mapped.handshake.server_protocol_version k
       (bands y.mapped.handshake.server_protocol_version k) y.negotiate y.mapped.behind y.last d.ended)
       (sym greet.capabilities) y.way) in
       let ends =
-      ways-alike parties basis haves list IsEmpty reads none refused_none never v x.mapped.handshake.capabilities x.negotiate
+      ways-alike parties basis haves list IsEmpty reads none follows never v x.mapped.handshake.capabilities x.negotiate
       y.negotiate x.mapped.behind y.mapped.behind x.last y.last base.0 (base.1 ∙ sym base.2)
       (hold-alike x.mapped.behind y.mapped.behind maps.alike) c.ended d.ended x.way other in
       alike-by c d (sym x.ends ∙ ap (λ (z : TransportState). z.sent) ends.0 ∙ y.ends)
       (ap mapped_shown x.maps ∙ maps.shown ∙ sym (ap mapped_shown y.maps)) ends.1
 
   unmapped-alike : (c d : Course) → c.sent ≡ d.sent → c.mapped ≡ None → d.mapped ≡ None → c.ended ≡ d.ended → GoAlike c d
-  unmapped-alike c d s m n e = alike-by c d s (ap mapped_shown (m ∙ sym n)) (inl e)
+  unmapped-alike c d s m n e = alike-by c d s (ap mapped_shown (m ∙ sym n)) e
 
   abbrev Either : Course → Course → Type 0
   Either c d = EndsForMemory c.ended ⊎ EndsForMemory d.ended ⊎ GoAlike c d

@@ -14,6 +14,7 @@ pub mod CountLemmas
 pub mod ListRoundLemmas
 pub mod RoundLemmas
 pub mod FetchLemmas
+pub mod PackEndLemmas
 pub mod VerdictLemmas
 pub mod RefusedFetchLemmas
 pub mod AlikeLemmas

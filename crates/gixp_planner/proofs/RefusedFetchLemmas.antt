@@ -1,12 +1,11 @@
 -- Two fetches of the planner over the same mappings, refused ones too, whose negotiators offer the same list: nothing is asked for, or
--- they break off at the same round, or both come to a pack.
+-- they break off at the same round, or both come to a pack, which both take or both don't.
 use Rattle.std.proofs.Common.{◌≡◌, ◌⊎◌, ℕ, Bool, true, false, not, List, [], ◌∷◌, ◌++◌, map, codes, Option, Some, None, Result, Ok, Err, inl, inr, refl, sym, ap, ◌∙◌, subst, arith}
 use Rattle.std.specs.Prelude.{if◌then◌else◌, ◌&&◌}
 use Rattle.gixp_hash.specs.declared.object_id.ObjectId.{ObjectId}
 use Rattle.gixp_packetline.specs.declared.protocol.Protocol.{Protocol}
 use Rattle.gixp_packetline.specs.declared.read.Error.{Error as read_error}
-use Rattle.gixp_packetline.specs.Pieces.{Refusal, io, decode, server, unexpected_frame, not_utf8, bad_band, interrupted, memory}
-use Rattle.gixp_packetline.specs.Reading.{Reading, Fails, IsFault, refusal_of}
+use Rattle.gixp_packetline.specs.Reading.{Reading, refusal_of}
 use Rattle.gixp_capabilities.specs.Capabilities.{CapabilityValue}
 use Rattle.gixp_sidebands.specs.Bands.{Side, side_reading}
 use Rattle.gixp_response.specs.declared.fetch.response.error.Error.{Error as response_error}
@@ -20,6 +19,7 @@ use Rattle.gixp_requests.specs.Arguments.{ArgumentsValue, can_use}
 use Rattle.gixp_handshake.specs.declared.handshake.read.Handshake.{Handshake}
 use Rattle.gixp_negotiate.specs.declared.negotiate.Round.{Round}
 use Rattle.gixp_negotiate.specs.Negotiate.{ActionValue}
+use Rattle.gixp_fetch.specs.declared.consume.copy.CopyError.{CopyError}
 use Rattle.gixp_fetch.specs.declared.error.Error.{Error as FetchError}
 use Rattle.gixp_fetch.specs.declared.error.Error.TheVariants as fetch
 use Rattle.gixp_fetch.specs.declared.options.Outcome.{Outcome}
@@ -38,63 +38,43 @@ use Rattle.gixp_fetch.proofs.SessionLemmas.{received_held, undelivered_held}
 use Rattle.gixp_fetch.proofs.SentLemmas.{rounds_written}
 use Rattle.gixp_planner.specs.Refusal.{PlanRefusal, refusal}
 use Rattle.gixp_planner.specs.Session.{planner_agent, planner_call, end_of, FetchesOver, FetchesMapped}
-use Rattle.gixp_planner.specs.Alike.{IsDisturbed, IsUndisturbed, EndsAtPack, EndAlike}
+use Rattle.gixp_planner.specs.Alike.{IsDisturbed, IsUndisturbed}
 use Rattle.gixp_planner.proofs.MappedLemmas.{HoldAlike, same-ok}
 use Rattle.gixp_planner.proofs.WantLemmas.{Basis, SameBasis}
-use Rattle.gixp_planner.proofs.AnswerLemmas.{never-none}
 use Rattle.gixp_planner.proofs.CountLemmas.{CountsNone, back-failures, received-failures}
 use Rattle.gixp_planner.proofs.FetchLemmas.{OffersList, readied-asks, first_asks, bands, start_of, Began, Rested, starts-alike, first-rests, other-rests}
+use Rattle.gixp_planner.proofs.PackEndLemmas.{EndsWithPack, pack-ended, FollowsPack, fails-none, taken-ends, refused-ends}
 use Rattle.gixp_planner.proofs.VerdictLemmas.{by_pack, EndsBy, Ran, last-turn, own-disturbs, rounds-fail, runs-alike}
 
 -- ---- what isn't counted
 
--- a refused pack that counts no failure was counted none before
-abbrev pub CountsRefused : {C P X : Type 0} → (C → Side → P → Result Bool X → C → Side → P → Type 0) → Type 0
-CountsRefused {C = C} {P = P} {X = X} consumes = (c : C) (s : Side) (p : P) (x : X) (d : C) (t : Side) (q : P)
-    → consumes c s p (Err x) d t q → t.reading.failures ≡ 0 → s.reading.failures ≡ 0
-
-fault-none : (old new : Reading) (e : Refusal) → IsFault old new e → new.failures ≡ 0 → old.failures ≡ 0
-fault-none old new (io kind) f z = absurd (never-none old.failures new.failures f.2 z)
-fault-none old new (decode x) f z = absurd f
-fault-none old new (server m) f z = absurd f
-fault-none old new unexpected_frame f z = absurd f
-fault-none old new not_utf8 f z = absurd f
-fault-none old new (bad_band b) f z = absurd f
-fault-none old new interrupted f z = sym f.1 ∙ z
-fault-none old new memory f z = sym f ∙ z
-
-pub fails-none : (old new : Reading) (e : Refusal) → Fails old new e → new.failures ≡ 0 → old.failures ≡ 0
-fails-none old new e (inl r) z = sym r.failures ∙ z
-fails-none old new e (inr (inl f)) z = fault-none old new e f.fault z
-fails-none old new e (inr (inr b)) z = absurd (never-none old.failures new.failures b.failures z)
-
-module _ {C P X : Type 0} (consumes : C → Side → P → Result Bool X → C → Side → P → Type 0) (none : CountsNone consumes)
-    (refused_none : CountsRefused consumes) where
+module _ {C P : Type 0} (consumes : C → Side → P → Result Bool CopyError → C → Side → P → Type 0) (none : CountsNone consumes)
+    (follows : FollowsPack consumes) where
   -- by the consumer, or by what comes after the pack
-  consumer-none : (c : C) (start : Side) (p : P) (x : X) (d : C) (end : Side) (q : P) → Consumed consumes c start p (Err x) d end q
+  consumer-none : (c : C) (start : Side) (p : P) (x : CopyError) (d : C) (end : Side) (q : P) → Consumed consumes c start p (Err x) d end q
       → end.reading.failures ≡ 0 → start.reading.failures ≡ 0
-  consumer-none c start p x d end q h z = refused_none c start p x d end q h.took z
+  consumer-none c start p x d end q h z = follows.counts c start p x d end q h.took z
 
   rest-none : (c : C) (start : Side) (p : P) (x : read_error) (d : C) (end : Side) (q : P) (mid : Side)
       → Consumed consumes c start p (Ok true) d mid q → DrainFails (side_reading mid) (side_reading end) x → end.reading.failures ≡ 0
       → start.reading.failures ≡ 0
   rest-none c start p x d end q mid h f z = sym (none c start p true d mid q h.took) ∙ sym f.passed.failures
-      ∙ fails-none f.now (side_reading end) (refusal_of x) f.refused z
+      ∙ (fails-none f.now (side_reading end) (refusal_of x) f.refused z).1
 
   -- of both, whatever the pack was refused for
-  pack-none : {A : Type 0} (c : C) (from : Reading) (e : FetchError A X) (d : C) (new : Reading) (q : P)
+  pack-none : {A : Type 0} (c : C) (from : Reading) (e : FetchError A CopyError) (d : C) (new : Reading) (q : P)
       (r : PackRefused consumes c from e d new q) → r.end.reading.failures ≡ 0 → from.failures ≡ 0
   pack-none c from e d new q r z = let h = r.fails in grind (arith, consumer-none, rest-none)
 
-  received-none : {A : Type 0} (c : C) (from : Reading) (e : FetchError A X) (d : C) (new : Reading) (q : P)
+  received-none : {A : Type 0} (c : C) (from : Reading) (e : FetchError A CopyError) (d : C) (new : Reading) (q : P)
       → ReceiveFails consumes c from e d new q → new.failures ≡ 0 → from.failures ≡ 0
   received-none c from e d new q (inl r) z = pack-none c from e d new q r (sym (back-failures r.end new r.back) ∙ z)
   received-none c from e d new q (inr m) z = ap (λ (r : Reading). r.failures) (sym m.2) ∙ z
 
 -- ---- errors
 
-module _ {A X : Type 0} where
-  abbrev Chance : FetchError A X → Type 0
+module _ {A : Type 0} where
+  abbrev Chance : FetchError A CopyError → Type 0
   Chance e = IsDisturbed e ⊎ (e ≡ fetch.Memory)
 
   locks-disturb : (e : ShallowError) → Chance (of_lock e)
@@ -115,29 +95,17 @@ module _ {A X : Type 0} where
   writes-disturb (shallow.Decode l) = inl tt
   writes-disturb shallow.Memory = inr refl
 
-  abbrev ended_as : FetchError A X → Result Bool PlanRefusal
-  ended_as e = end_of {A = A} {X = X} (Err e)
-
-  -- a pack was refused: by its consumer or after it, unless an allocation failed
-  module _ {C P : Type 0} (consumes : C → Side → P → Result Bool X → C → Side → P → Type 0) (c : C) (from : Reading) (d : C)
-      (new : Reading) (q : P) where
-    abbrev AtPack : FetchError A X → Type 0
-    AtPack e = EndsAtPack (ended_as e) ⊎ (e ≡ fetch.Memory)
-
-    at-pack-by : (e : FetchError A X) → PackRefused consumes c from e d new q → AtPack e
-    at-pack-by e r = let g = r.gives in grind arith
-
 -- a feature that is missing
-missing-named : (A X : Type 0) (name : List ℕ) (e : response_error) → Misses (Some name) (Err e)
-    → end_of {A = A} {X = X} (Err (of_response e)) ≡ Err (refusal (codes "fetch") (codes "FetchResponse"))
-missing-named A X name (response.Io kind) m = refl
-missing-named A X name (response.UploadPack s) m = refl
-missing-named A X name (response.Transport c) m = refl
-missing-named A X name (response.MissingServerCapability f) m = refl
-missing-named A X name (response.UnknownLineType l) m = refl
-missing-named A X name (response.UnknownSectionHeader h) m = refl
-missing-named A X name (response.Reader r) m = refl
-missing-named A X name response.Memory m = cc
+missing-named : (A : Type 0) (name : List ℕ) (e : response_error) → Misses (Some name) (Err e)
+    → end_of {A = A} {X = CopyError} (Err (of_response e)) ≡ Err (refusal (codes "fetch") (codes "FetchResponse"))
+missing-named A name (response.Io kind) m = refl
+missing-named A name (response.UploadPack s) m = refl
+missing-named A name (response.Transport c) m = refl
+missing-named A name (response.MissingServerCapability f) m = refl
+missing-named A name (response.UnknownLineType l) m = refl
+missing-named A name (response.UnknownSectionHeader h) m = refl
+missing-named A name (response.Reader r) m = refl
+missing-named A name response.Memory m = cc
 
 -- the names of features are those of their values
 names-of : (raw : List Feature) → feature_names raw ≡ map (λ (f : FeatureValue). f.name) (feature_values raw)
@@ -173,10 +141,10 @@ lacks-or-not o name e f = let q : some_name name ≡ None = sym e ∙ f in cc q
 
 -- ---- one fetch
 
-module _ {N I A S C P X : Type 0} (parties : Parties N I A S C P X) (basis : N → Basis) (haves : N → List ObjectId)
+module _ {N I A S C P : Type 0} (parties : Parties N I A S C P CopyError) (basis : N → Basis) (haves : N → List ObjectId)
     (list : OffersList parties.negotiation_calls basis haves) (IsEmpty : S → Type 0)
     (reads : (s : S) (ids : List ObjectId) (t : S) → IsEmpty s → parties.store_calls.reads s ids t → ids ≡ [])
-    (none : CountsNone parties.consumes) (refused_none : CountsRefused parties.consumes)
+    (none : CountsNone parties.consumes) (follows : FollowsPack parties.consumes)
     (never : (i j : I) → parties.says i true j → ⊥) where
   abbrev how : Protocol → Bool → Manner N I A
   how v banded = manner_of parties.negotiation_calls parties.says v banded parties.plain
@@ -216,7 +184,7 @@ module _ {N I A S C P X : Type 0} (parties : Parties N I A S C P X) (basis : N �
     packed-way : (ids : List ObjectId) (read : S) (action : ActionValue) (rounds : List Round) (updates : List ShallowUpdate)
         (reply : AnswerValue) (end : At N I) (new : Reading) (ended : Result Bool PlanRefusal)
         → Negotiated parties v banded wishes given old ids read action rounds updates reply end → end.reading.failures ≡ 0
-        → new.held ≡ end.reading.held → EndsAtPack ended → Way v caps banded old.negotiate old.reading new ended
+        → new.held ≡ end.reading.held → EndsWithPack end.reading ended → Way v caps banded old.negotiate old.reading new ended
     packed-way ids read action rounds updates reply end new ended g z h k =
         let p = g.packed in
         let m = how v banded in
@@ -231,14 +199,15 @@ module _ {N I A S C P X : Type 0} (parties : Parties N I A S C P X) (basis : N �
           last =
               last-turn m p.before p.last new ended there p.lasts (ap (λ (r : Reading). r.failures) (sym here) ∙ z)
               (h ∙ ap (λ (r : Reading). r.held) here)
-              (subst (λ b. EndsBy (by_pack b p.last.done) ended) (sym p.pack) k);
+              (λ x had. subst (λ b. EndsBy (by_pack b p.last.done x) ended) (sym p.pack)
+              (pack-ended p.last.after.reading x ended (had p.pack) (subst (λ (r : Reading). EndsWithPack r ended) here k)));
         })
 
-    module _ (new : World N I S C) (e : FetchError A X) (z : new.reading.failures ≡ 0) (undisturbed : IsDisturbed e → ⊥) where
+    module _ (new : World N I S C) (e : FetchError A CopyError) (z : new.reading.failures ≡ 0) (undisturbed : IsDisturbed e → ⊥) where
       abbrev WayOr : Type 0
-      WayOr = (e ≡ fetch.Memory) ⊎ Way v caps banded old.negotiate old.reading new.reading (end_of {A = A} {X = X} (Err e))
+      WayOr = (e ≡ fetch.Memory) ⊎ Way v caps banded old.negotiate old.reading new.reading (end_of {A = A} {X = CopyError} (Err e))
 
-      by-chance : (d : FetchError A X) → e ≡ d → Chance d → WayOr
+      by-chance : (d : FetchError A CopyError) → e ≡ d → Chance d → WayOr
       by-chance d g (inl c) = absurd (undisturbed (subst (λ w. IsDisturbed w) (sym g) c))
       by-chance d g (inr c) = inl (g ∙ c)
 
@@ -274,20 +243,21 @@ module _ {N I A S C P X : Type 0} (parties : Parties N I A S C P X) (basis : N �
       delivered-way ids read action rounds updates reply end progress g (at_pack h r) = by-pack r
         where
           stood : end.reading.failures ≡ 0
-          stood = received-none parties.consumes none refused_none old.consumer end.reading e new.consumer new.reading progress r z
+          stood = received-none parties.consumes none follows old.consumer end.reading e new.consumer new.reading progress r z
 
           kept : new.reading.held ≡ end.reading.held
           kept = undelivered_held parties.consumes old.consumer parties.store_calls ids
               (updates ++ told) false read old.locked end.reading e new.consumer new.store new.locked new.reading progress (at_pack h r)
 
-          named : EndsAtPack (end_of {A = A} {X = X} (Err e)) ⊎ (e ≡ fetch.Memory) → WayOr
+          named : EndsWithPack end.reading (end_of {A = A} {X = CopyError} (Err e)) ⊎ (e ≡ fetch.Memory) → WayOr
           named (inr m) = inl m
           named (inl k) =
-              inr (packed-way ids read action rounds updates reply end new.reading (end_of {A = A} {X = X} (Err e)) g stood kept k)
+              inr (packed-way ids read action rounds updates reply end new.reading (end_of {A = A} {X = CopyError} (Err e)) g stood kept k)
 
           by-pack : ReceiveFails parties.consumes old.consumer end.reading e new.consumer new.reading progress → WayOr
           by-pack (inr m) = inl m.0
-          by-pack (inl p) = named (at-pack-by parties.consumes old.consumer end.reading new.consumer new.reading progress e p)
+          by-pack (inl p) =
+              named (refused-ends parties.consumes follows old.consumer end.reading new.consumer new.reading progress e z undisturbed p)
 
       fails-way : (progress : P) → FetchFails parties v banded wishes given old e new progress → WayOr
       fails-way progress (unopened o n r) = unopened-way o
@@ -301,19 +271,19 @@ module _ {N I A S C P X : Type 0} (parties : Parties N I A S C P X) (basis : N �
           u.fails)
         where
           at : (e ≡ fetch.Memory) ⊎ Ran (how v banded) (start_of u.ready u.wanted old.reading old.interrupt) new.reading
-              (end_of {A = A} {X = X} (Err e)) → WayOr
+              (end_of {A = A} {X = CopyError} (Err e)) → WayOr
           at (inl m) = inl m
           at (inr w) = inr (runs has_all u.ready u.wanted old.interrupt (began-so u.ids new.store u.action u.ready u.wanted u.begun) w)
 
     -- by its result
-    ends-way : (new : World N I S C) (progress : P) (r : Result (Option Outcome) (FetchError A X)) → new.reading.failures ≡ 0
+    ends-way : (new : World N I S C) (progress : P) (r : Result (Option Outcome) (FetchError A CopyError)) → new.reading.failures ≡ 0
         → IsUndisturbed r → SessionEnds parties v banded wishes given old r new progress
         → (r ≡ Err fetch.Memory) ⊎ Way v caps banded old.negotiate old.reading new.reading (end_of r)
     ends-way new progress (Err e) z u s = at (fails-way new e z u progress s)
       where
-        at : (e ≡ fetch.Memory) ⊎ Way v caps banded old.negotiate old.reading new.reading (end_of {A = A} {X = X} (Err e))
-            → (◌≡◌ {A = Result (Option Outcome) (FetchError A X)} (Err e) (Err fetch.Memory))
-            ⊎ Way v caps banded old.negotiate old.reading new.reading (end_of {A = A} {X = X} (Err e))
+        at : (e ≡ fetch.Memory) ⊎ Way v caps banded old.negotiate old.reading new.reading (end_of {A = A} {X = CopyError} (Err e))
+            → (◌≡◌ {A = Result (Option Outcome) (FetchError A CopyError)} (Err e) (Err fetch.Memory))
+            ⊎ Way v caps banded old.negotiate old.reading new.reading (end_of {A = A} {X = CopyError} (Err e))
         at (inl m) = inl (ap Err m)
         at (inr w) = inr w
     ends-way new progress (Ok None) z u s =
@@ -329,7 +299,8 @@ module _ {N I A S C P X : Type 0} (parties : Parties N I A S C P X) (basis : N �
         inr
         (packed-way s.ids s.read _ out.negotiate.rounds.items s.updates s.reply s.end new.reading (Ok true) s.negotiated
         (sym (received-failures parties.consumes none old.consumer s.end.reading new.consumer new.reading progress d) ∙ z)
-        (received_held parties.consumes old.consumer s.end.reading new.consumer new.reading progress d) (inl refl))
+        (received_held parties.consumes old.consumer s.end.reading new.consumer new.reading progress d)
+        (taken-ends parties.consumes follows old.consumer s.end.reading new.consumer new.reading progress d))
 
   -- ---- a fetch of the planner
 
@@ -340,10 +311,10 @@ module _ {N I A S C P X : Type 0} (parties : Parties N I A S C P X) (basis : N �
     abbrev caps : List CapabilityValue
     caps = h.capabilities
 
-    abbrev AnyWay : Result (Option Outcome) (FetchError A X) → Type 0
+    abbrev AnyWay : Result (Option Outcome) (FetchError A CopyError) → Type 0
     AnyWay r = (r ≡ Err fetch.Memory) ⊎ ((n : N) × IsOver n × Way version caps (bands version caps) n old new (end_of r))
 
-    carried : (r : Result (Option Outcome) (FetchError A X)) → IsUndisturbed r → (f : FetchesOver parties IsOver IsEmpty h old new r)
+    carried : (r : Result (Option Outcome) (FetchError A CopyError)) → IsUndisturbed r → (f : FetchesOver parties IsOver IsEmpty h old new r)
         → CarriesOut parties (planner_call h) f.first r f.last f.progress → AnyWay r
     carried r u f c =
         at
@@ -368,11 +339,11 @@ module _ {N I A S C P X : Type 0} (parties : Parties N I A S C P X) (basis : N �
                   (subst (λ b. Way version caps b f.first.negotiate f.first.reading c.last.reading (end_of r)) c.prepared.bands w)),
             )
 
-    unstarted : (e : FetchError A X) → (IsDisturbed e → ⊥) → (f : FetchesOver parties IsOver IsEmpty h old new (Err e))
+    unstarted : (e : FetchError A CopyError) → (IsDisturbed e → ⊥) → (f : FetchesOver parties IsOver IsEmpty h old new (Err e))
         → StartFails parties (planner_call h) f.first e f.last → AnyWay (Err e)
     unstarted e u f (unlocked asked banded p l s) = at (locks-disturb l.error)
       where
-        at : Chance {A = A} {X = X} (of_lock l.error) → AnyWay (Err e)
+        at : Chance {A = A} (of_lock l.error) → AnyWay (Err e)
         at (inl d) = absurd (u (subst (λ w. IsDisturbed w) (sym l.gives) d))
         at (inr m) = inl (ap Err (l.gives ∙ m))
     unstarted e u f (unprepared (no_room m) s) = inl (ap Err m)
@@ -390,11 +361,11 @@ module _ {N I A S C P X : Type 0} (parties : Parties N I A S C P X) (basis : N �
             inr (
               f.first.negotiate,
               f.over,
-              lacks q stood (ap (λ (w : FetchError A X). end_of {A = A} {X = X} (Err w)) gives
-                  ∙ missing-named A X name error m),
+              lacks q stood (ap (λ (w : FetchError A CopyError). end_of {A = A} {X = CopyError} (Err w)) gives
+                  ∙ missing-named A name error m),
             )
 
-    pub goes-way : (r : Result (Option Outcome) (FetchError A X)) → IsUndisturbed r → FetchesMapped parties IsOver IsEmpty h old new r
+    pub goes-way : (r : Result (Option Outcome) (FetchError A CopyError)) → IsUndisturbed r → FetchesMapped parties IsOver IsEmpty h old new r
         → AnyWay r
     goes-way r u (inr n) = inl n.1
     goes-way (Ok o) u (inl f) = carried (Ok o) u f f.fetched.fetched
@@ -410,15 +381,15 @@ module _ {N I A S C P X : Type 0} (parties : Parties N I A S C P X) (basis : N �
   module _ (v : Protocol) (caps : List CapabilityValue) (n o : N) (a b c d : Reading) (basis_same : SameBasis (basis n) (basis o))
       (haves_same : haves n ≡ haves o) (hold : HoldAlike a b) (e f : Result Bool PlanRefusal) where
     abbrev Ends : Type 0
-    Ends = (c.held ≡ d.held) × EndAlike e f
+    Ends = (c.held ≡ d.held) × (e ≡ f)
 
     pub ways-alike : Way v caps (bands v caps) n a c e → Way v caps (bands v caps) o b d f → Ends
-    ways-alike (lacks p q r) (lacks s t u) = (q ∙ hold.held ∙ sym t, inl (r ∙ sym u))
+    ways-alike (lacks p q r) (lacks s t u) = (q ∙ hold.held ∙ sym t, r ∙ sym u)
     ways-alike (lacks {name} p q r) (rests s t u) = absurd (lacks-or-not (lacking v caps) name p s)
     ways-alike (lacks {name} p q r) (runs s t u w x y) = absurd (lacks-or-not (lacking v caps) name p s)
     ways-alike (rests p q r) (lacks {name} s t u) = absurd (lacks-or-not (lacking v caps) name s p)
     ways-alike (rests p q r) (rests s t u) =
-        (ap (λ (x : Reading). x.held) q.rests ∙ hold.held ∙ sym (ap (λ (x : Reading). x.held) t.rests), inl (r ∙ sym u))
+        (ap (λ (x : Reading). x.held) q.rests ∙ hold.held ∙ sym (ap (λ (x : Reading). x.held) t.rests), r ∙ sym u)
     ways-alike (rests p q r) (runs s t u w x y) =
         absurd (first-rests parties.negotiation_calls basis haves list v caps n o basis_same haves_same a b hold c t u q x)
     ways-alike (runs p ready wanted i l k) (lacks {name} s t u) = absurd (lacks-or-not (lacking v caps) name s p)

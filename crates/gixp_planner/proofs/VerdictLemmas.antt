@@ -6,7 +6,8 @@ use Rattle.gixp_packetline.specs.declared.protocol.Protocol.{Protocol}
 use Rattle.gixp_packetline.specs.declared.read.Error.{Error as read_error}
 use Rattle.gixp_packetline.specs.declared.read.Error.TheVariants as read
 use Rattle.gixp_packetline.specs.FrameText.{texts_of}
-use Rattle.gixp_packetline.specs.Pieces.{Refusal, io, decode, server, unexpected_frame, not_utf8, bad_band, interrupted, memory}
+use Rattle.gixp_packetline.specs.Lines.{Ending}
+use Rattle.gixp_packetline.specs.Pieces.{Refusal, io, decode, server, unexpected_frame, not_utf8, bad_band, interrupted, memory, Pieces}
 use Rattle.gixp_packetline.specs.Reading.{Reading, IsOutside, refusal_of}
 use Rattle.gixp_packetline.specs.TransportState.{TransportState}
 use Rattle.gixp_capabilities.specs.declared.client.Error.{Error as client_error}
@@ -24,6 +25,7 @@ use Rattle.gixp_negotiate.specs.declared.negotiate.Round.{Round}
 use Rattle.gixp_negotiate.specs.declared.negotiate.Error.{Error as negotiate_error}
 use Rattle.gixp_negotiate.specs.declared.negotiate.Error.TheVariants as negotiate
 use Rattle.gixp_negotiate.specs.Negotiate.{Window, IsOwn}
+use Rattle.gixp_fetch.specs.declared.consume.copy.CopyError.{CopyError}
 use Rattle.gixp_fetch.specs.declared.error.Error.{Error as FetchError}
 use Rattle.gixp_fetch.specs.declared.error.Error.TheVariants as fetch
 use Rattle.gixp_fetch.specs.FetchError.{of_response, of_client, of_negotiate}
@@ -32,47 +34,48 @@ use Rattle.gixp_fetch.specs.View.{view, view_plain}
 use Rattle.gixp_fetch.proofs.SentLemmas.{rounds_written}
 use Rattle.gixp_planner.specs.Refusal.{PlanRefusal, refusal}
 use Rattle.gixp_planner.specs.Session.{end_of}
-use Rattle.gixp_planner.specs.Alike.{IsDisturbed, IsInterrupted, EndsAtPack, EndAlike}
+use Rattle.gixp_planner.specs.Alike.{IsDisturbed, IsAnswerInterrupted}
 use Rattle.gixp_planner.proofs.MappedLemmas.{if-known}
 use Rattle.gixp_planner.proofs.DiscoveredLemmas.{next_pieces}
-use Rattle.gixp_planner.proofs.AnswerLemmas.{never-none, found-in, sent-failures, viewed, view-come, view-failures}
+use Rattle.gixp_planner.proofs.AnswerLemmas.{never-none, sent-failures, viewed, view-come, view-failures}
+use Rattle.gixp_planner.proofs.PackEndLemmas.{pack_end, pack_ended, EndIs, found-end}
 use Rattle.gixp_planner.proofs.ListRoundLemmas.{ListRound, SameRound, same-round}
 use Rattle.gixp_planner.proofs.RoundLemmas.{AtAlike, turn-none, rounds-none, turns-alike}
 
 -- ---- verdicts
 
--- what comes of a round: its request doesn't fit, its answer is refused, a pack comes, it was the last and none comes, or the next
--- round does
+-- what comes of a round: its request doesn't fit, its answer is refused, a pack with this end comes, it was the last and none comes, or
+-- the next round does
 pub data Verdict : Type 0 where
   too_long : Verdict
   unread : Verdict
-  packs : Verdict
+  packs : Ending → Verdict
   lacks_pack : Verdict
   goes_on : Verdict
 
-abbrev pub by_pack : (pack done : Bool) → Verdict
-by_pack true done = packs
-by_pack false true = lacks_pack
-by_pack false false = goes_on
+abbrev pub by_pack : (pack done : Bool) → Ending → Verdict
+by_pack true done end = packs end
+by_pack false true end = lacks_pack
+by_pack false false end = goes_on
 
-abbrev pub by_answer : Bool → Found → Verdict
-by_answer done (whole v rest) = by_pack v.pack done
-by_answer done (refused e) = unread
+abbrev pub by_answer : (Pieces → Ending) → Bool → Found → Verdict
+by_answer end_after done (whole v rest) = by_pack v.pack done (end_after rest)
+by_answer end_after done (refused e) = unread
 
-abbrev pub by_fit : Bool → Bool → Found → Verdict
-by_fit true done found = by_answer done found
-by_fit false done found = too_long
+abbrev pub by_fit : Bool → (Pieces → Ending) → Bool → Found → Verdict
+by_fit true end_after done found = by_answer end_after done found
+by_fit false end_after done found = too_long
 
 -- that of a round that asks for this, by what is held before it
 abbrev pub verdict : Protocol → Bool → TransportState → ArgumentsValue → Bool → Verdict
-verdict version banded held asked done = by_fit (request_fits asked done) done
+verdict version banded held asked done = by_fit (request_fits asked done) (pack_end banded version) done
     (answer_of version (flags done (not done)) (viewed banded (answer_pieces (first_answer held.answers))))
 
 -- what is held after a request, unless it doesn't fit
 abbrev pub held_by : Verdict → TransportState → List ℕ → TransportState
 held_by too_long held text = held
 held_by unread held text = record held { written = Some []; sent = held.sent ++ text ∷ []; answers = later_answers held.answers }
-held_by packs held text = record held { written = Some []; sent = held.sent ++ text ∷ []; answers = later_answers held.answers }
+held_by (packs end) held text = record held { written = Some []; sent = held.sent ++ text ∷ []; answers = later_answers held.answers }
 held_by lacks_pack held text = record held { written = Some []; sent = held.sent ++ text ∷ []; answers = later_answers held.answers }
 held_by goes_on held text = record held { written = Some []; sent = held.sent ++ text ∷ []; answers = later_answers held.answers }
 
@@ -80,26 +83,26 @@ held_by goes_on held text = record held { written = Some []; sent = held.sent ++
 abbrev pub EndsBy : Verdict → Result Bool PlanRefusal → Type 0
 EndsBy too_long ended = ended ≡ Err (refusal (codes "fetch") (codes "Client"))
 EndsBy unread ended = ended ≡ Err (refusal (codes "fetch") (codes "FetchResponse"))
-EndsBy packs ended = EndsAtPack ended
+EndsBy (packs end) ended = ended ≡ pack_ended end
 EndsBy lacks_pack ended = ended ≡ Err (refusal (codes "fetch") (codes "Negotiate"))
 EndsBy goes_on ended = ⊥
 
-ends-alike : (v : Verdict) (e f : Result Bool PlanRefusal) → EndsBy v e → EndsBy v f → EndAlike e f
-ends-alike too_long e f p q = inl (p ∙ sym q)
-ends-alike unread e f p q = inl (p ∙ sym q)
-ends-alike packs e f p q = inr (p, q)
-ends-alike lacks_pack e f p q = inl (p ∙ sym q)
+ends-alike : (v : Verdict) (e f : Result Bool PlanRefusal) → EndsBy v e → EndsBy v f → e ≡ f
+ends-alike too_long e f p q = p ∙ sym q
+ends-alike unread e f p q = p ∙ sym q
+ends-alike (packs end) e f p q = p ∙ sym q
+ends-alike lacks_pack e f p q = p ∙ sym q
 ends-alike goes_on e f p q = absurd p
 
 -- ---- errors
 
 -- the refusal of an answer, but for memory
-module _ {A X : Type 0} where
-  abbrev ended_as : FetchError A X → Result Bool PlanRefusal
-  ended_as e = end_of {A = A} {X = X} (Err e)
+module _ {A : Type 0} where
+  abbrev ended_as : FetchError A CopyError → Result Bool PlanRefusal
+  ended_as e = end_of {A = A} {X = CopyError} (Err e)
 
   named-response : (e : response_error) → (ended_as (of_response e) ≡ Err (refusal (codes "fetch") (codes "FetchResponse")))
-      ⊎ (◌≡◌ {A = FetchError A X} (of_response e) fetch.Memory)
+      ⊎ (◌≡◌ {A = FetchError A CopyError} (of_response e) fetch.Memory)
   named-response (response.Io kind) = inl refl
   named-response (response.UploadPack m) = inl refl
   named-response (response.Transport c) = inl refl
@@ -110,8 +113,8 @@ module _ {A X : Type 0} where
   named-response response.Memory = inr refl
 
   -- what the side that knows the repository refuses
-  pub own-disturbs : (e : negotiate_error A) → IsOwn e → IsDisturbed {A = A} {X = X} (of_negotiate e)
-      ⊎ (◌≡◌ {A = FetchError A X} (of_negotiate e) fetch.Memory)
+  pub own-disturbs : (e : negotiate_error A) → IsOwn e → IsDisturbed {A = A} (of_negotiate e)
+      ⊎ (◌≡◌ {A = FetchError A CopyError} (of_negotiate e) fetch.Memory)
   own-disturbs (negotiate.NegotiationFailed n) o = absurd o
   own-disturbs (negotiate.LookupCommitInGraph x) o = inl o
   own-disturbs negotiate.OpenPackedRefsBuffer o = inl o
@@ -134,7 +137,7 @@ memory-response response.Memory h = refl
 abbrev reader_refusal : Refusal → AnswerRefusal
 reader_refusal r = by_reader r
 
-interrupted-read : (r : read_error) → reader_refusal (refusal_of r) ≡ reader_refusal interrupted → IsInterrupted (response.Reader r)
+interrupted-read : (r : read_error) → reader_refusal (refusal_of r) ≡ reader_refusal interrupted → IsAnswerInterrupted (response.Reader r)
 interrupted-read (read.Io kind) h = cc
 interrupted-read (read.Decode e) h = cc
 interrupted-read (read.Server m) h = cc
@@ -144,21 +147,21 @@ interrupted-read (read.BadBand b) h = cc
 interrupted-read read.Interrupted h = tt
 interrupted-read read.Memory h = cc
 
-interrupted-response : (A X : Type 0) (e : response_error) → answer_refusal e ≡ reader_refusal interrupted
-    → IsDisturbed {A = A} {X = X} (of_response e)
-interrupted-response A X (response.Io kind) h = cc
-interrupted-response A X (response.UploadPack m) h = cc
-interrupted-response A X (response.Transport c) h = cc
-interrupted-response A X (response.MissingServerCapability f) h = cc
-interrupted-response A X (response.UnknownLineType l) h = cc
-interrupted-response A X (response.UnknownSectionHeader x) h = cc
-interrupted-response A X (response.Reader r) h = interrupted-read r h
-interrupted-response A X response.Memory h = cc
+interrupted-response : (A : Type 0) (e : response_error) → answer_refusal e ≡ reader_refusal interrupted
+    → IsDisturbed {A = A} (of_response e)
+interrupted-response A (response.Io kind) h = cc
+interrupted-response A (response.UploadPack m) h = cc
+interrupted-response A (response.Transport c) h = cc
+interrupted-response A (response.MissingServerCapability f) h = cc
+interrupted-response A (response.UnknownLineType l) h = cc
+interrupted-response A (response.UnknownSectionHeader x) h = cc
+interrupted-response A (response.Reader r) h = interrupted-read r h
+interrupted-response A response.Memory h = cc
 
 -- what comes from outside and isn't counted: an allocation failure, or an interrupt
-outside-response : {A X : Type 0} (old new : Reading) (r : Refusal) (e : response_error) → new.failures ≡ 0 → IsOutside old new r
+outside-response : {A : Type 0} (old new : Reading) (r : Refusal) (e : response_error) → new.failures ≡ 0 → IsOutside old new r
     → answer_refusal e ≡ from_reader r
-    → IsDisturbed {A = A} {X = X} (of_response e) ⊎ (◌≡◌ {A = FetchError A X} (of_response e) fetch.Memory)
+    → IsDisturbed {A = A} (of_response e) ⊎ (◌≡◌ {A = FetchError A CopyError} (of_response e) fetch.Memory)
 outside-response old new r e z (inr b) h = absurd (never-none old.failures new.failures b.failures z)
 outside-response old new (io kind) e z (inl f) h = absurd (never-none old.failures new.failures f.fault.2 z)
 outside-response old new (decode x) e z (inl f) h = absurd f.fault
@@ -166,7 +169,7 @@ outside-response old new (server m) e z (inl f) h = absurd f.fault
 outside-response old new unexpected_frame e z (inl f) h = absurd f.fault
 outside-response old new not_utf8 e z (inl f) h = absurd f.fault
 outside-response old new (bad_band b) e z (inl f) h = absurd f.fault
-outside-response {A} {X} old new interrupted e z (inl f) h = inl (interrupted-response A X e h)
+outside-response {A} old new interrupted e z (inl f) h = inl (interrupted-response A e h)
 outside-response old new memory e z (inl f) h = inr (ap of_response (memory-response e h))
 
 -- ---- the rounds of one fetch
@@ -174,6 +177,10 @@ outside-response old new memory e z (inl f) h = inr (ap of_response (memory-resp
 module _ {N I A : Type 0} (m : Manner N I A) where
   abbrev verdict_at : At N I → ArgumentsValue → Bool → Verdict
   verdict_at x asked done = verdict m.version m.banded x.reading.held asked done
+
+  -- what ends a pack after an answer
+  abbrev end_after : Pieces → Ending
+  end_after = pack_end m.banded m.version
 
   abbrev found_at : At N I → Bool → Found
   found_at x done = answer_of m.version (flags done (not done)) (viewed m.banded (next_pieces x.reading))
@@ -197,16 +204,19 @@ module _ {N I A : Type 0} (m : Manner N I A) where
     pub run : Rounds m x turns before
     pub last : Last before new ended
 
-  -- a round that was answered
+  -- a round that was answered, and what ends its pack, if it has one
   turn-verdict : (x : At N I) (t : Turn N I) → x.reading.held.persists ≡ false → Turns m x t → t.after.reading.failures ≡ 0
-      → verdict_at x t.asked t.done ≡ by_pack t.reply.pack t.done
+      → (end : Ending) × (verdict_at x t.asked t.done ≡ by_pack t.reply.pack t.done end)
+      × (t.reply.pack ≡ true → EndIs t.after.reading end)
   turn-verdict x t alone h z =
       let s : SentBy false x.reading t.sent (texts_of (request t.asked t.done)) =
       subst (λ p. SentBy p x.reading t.sent (texts_of (request t.asked t.done))) alone h.sends.1 in
-      let f = found-in (answer_of m.version (flags t.done (not t.done))) m.version (view m.banded t.sent)
-      (view m.banded t.after.reading) (viewed m.banded (next_pieces x.reading)) t.reply
-      (view-come m.banded t.sent (next_pieces x.reading) s.0.to_come) (view-failures m.banded t.after.reading ∙ z) h.answer in
-      ap (λ b. by_fit b t.done (found_at x t.done)) h.sends.0 ∙ ap (by_answer t.done) f.1
+      let f = found-end (answer_of m.version (flags t.done (not t.done))) m.version m.banded (view m.banded t.sent) t.after.reading
+      (viewed m.banded (next_pieces x.reading)) t.reply (view-come m.banded t.sent (next_pieces x.reading) s.0.to_come) z h.answer in (
+        end_after f.0,
+        ap (λ b. by_fit b end_after t.done (found_at x t.done)) h.sends.0 ∙ ap (by_answer end_after t.done) f.1,
+        f.2,
+      )
 
   -- what is held after one
   turn-held : (x : At N I) (t : Turn N I) → x.reading.held.persists ≡ false → Turns m x t
@@ -216,15 +226,16 @@ module _ {N I A : Type 0} (m : Manner N I A) where
       subst (λ p. SentBy p x.reading t.sent (texts_of (request t.asked t.done))) alone h.sends.1 in
       h.held ∙ s.0.held
 
-  held-answered : (pack done : Bool) (held : TransportState) (text : List ℕ)
-      → held_by goes_on held text ≡ held_by (by_pack pack done) held text
-  held-answered true done held text = refl
-  held-answered false true held text = refl
-  held-answered false false held text = refl
+  held-answered : (pack done : Bool) (end : Ending) (held : TransportState) (text : List ℕ)
+      → held_by goes_on held text ≡ held_by (by_pack pack done end) held text
+  held-answered true done end held text = refl
+  held-answered false true end held text = refl
+  held-answered false false end held text = refl
 
   pub last-turn : (x : At N I) (t : Turn N I) (new : Reading) (ended : Result Bool PlanRefusal) → x.reading.held.persists ≡ false
       → Turns m x t → t.after.reading.failures ≡ 0 → new.held ≡ t.after.reading.held
-      → EndsBy (by_pack t.reply.pack t.done) ended → Last x new ended
+      → ((end : Ending) → (t.reply.pack ≡ true → EndIs t.after.reading end) → EndsBy (by_pack t.reply.pack t.done end) ended)
+      → Last x new ended
   last-turn x t new ended alone h z e k =
       let v = turn-verdict x t alone h z in
       let text = texts_of (request t.asked t.done) in
@@ -236,21 +247,21 @@ module _ {N I A : Type 0} (m : Manner N I A) where
         asked = t.asked;
         negotiated = h.negotiated;
         none = turn-none m x t h z;
-        held = e ∙ turn-held x t alone h ∙ held-answered t.reply.pack t.done x.reading.held text
-            ∙ ap (λ w. held_by w x.reading.held text) (sym v);
-        ends = subst (λ w. EndsBy w ended) (sym v) k;
+        held = e ∙ turn-held x t alone h ∙ held-answered t.reply.pack t.done v.0 x.reading.held text
+            ∙ ap (λ w. held_by w x.reading.held text) (sym v.1);
+        ends = subst (λ w. EndsBy w ended) (sym v.1) (k v.0 v.2);
       }
 
   -- a round that came to no answer
-  module _ {X : Type 0} (x : At N I) (alone : x.reading.held.persists ≡ false) (new : Reading) (z : new.failures ≡ 0)
-      (e : FetchError A X) (undisturbed : IsDisturbed e → ⊥) (round : Round) (done : Bool) (next : N) (window : Window)
+  module _ (x : At N I) (alone : x.reading.held.persists ≡ false) (new : Reading) (z : new.failures ≡ 0)
+      (e : FetchError A CopyError) (undisturbed : IsDisturbed e → ⊥) (round : Round) (done : Bool) (next : N) (window : Window)
       (asked : ArgumentsValue)
       (negotiated : m.goes x.negotiate x.window x.asked x.previous round done next window asked) where
     abbrev Stops : Type 0
-    Stops = (e ≡ fetch.Memory) ⊎ Last x new (end_of {A = A} {X = X} (Err e))
+    Stops = (e ≡ fetch.Memory) ⊎ Last x new (end_of {A = A} {X = CopyError} (Err e))
 
     last-by : (v : Verdict) → verdict_at x asked done ≡ v → x.reading.failures ≡ 0
-        → new.held ≡ held_by v x.reading.held (texts_of (request asked done)) → EndsBy v (end_of {A = A} {X = X} (Err e)) → Stops
+        → new.held ≡ held_by v x.reading.held (texts_of (request asked done)) → EndsBy v (end_of {A = A} {X = CopyError} (Err e)) → Stops
     last-by v q none h k = inr (record {
       round = round;
       done = done;
@@ -260,7 +271,7 @@ module _ {N I A : Type 0} (m : Manner N I A) where
       negotiated = negotiated;
       none = none;
       held = h ∙ ap (λ w. held_by w x.reading.held (texts_of (request asked done))) (sym q);
-      ends = subst (λ w. EndsBy w (end_of {A = A} {X = X} (Err e))) (sym q) k;
+      ends = subst (λ w. EndsBy w (end_of {A = A} {X = CopyError} (Err e))) (sym q) k;
     })
 
     -- its request wasn't sent
@@ -270,8 +281,8 @@ module _ {N I A : Type 0} (m : Manner N I A) where
         subst (λ p. FailsBy p x.reading new (texts_of (request asked done)) kind) alone s.1 in
         absurd (never-none x.reading.failures new.failures f.1.1 z)
     at-client client.LineTooLong s g =
-        last-by too_long (ap (λ b. by_fit b done (found_at x done)) s.0) (ap (λ (r : Reading). r.failures) (sym s.1) ∙ z)
-        (ap (λ (r : Reading). r.held) s.1) (ap (λ (w : FetchError A X). end_of {A = A} {X = X} (Err w)) g)
+        last-by too_long (ap (λ b. by_fit b end_after done (found_at x done)) s.0) (ap (λ (r : Reading). r.failures) (sym s.1) ∙ z)
+        (ap (λ (r : Reading). r.held) s.1) (ap (λ (w : FetchError A CopyError). end_of {A = A} {X = CopyError} (Err w)) g)
     at-client (client.Read r) s g = absurd s
     at-client client.AuthenticationUnsupported s g = absurd s
     at-client (client.UnsupportedProtocolVersion l) s g = absurd s
@@ -284,13 +295,13 @@ module _ {N I A : Type 0} (m : Manner N I A) where
       one-sent = subst (λ p. SentBy p x.reading sent (texts_of (request asked done))) alone s.1
 
       by-name : (r : AnswerRefusal) → found_at x done ≡ refused r → sent.failures ≡ 0
-          → (end_of {A = A} {X = X} (Err (of_response error)) ≡ Err (refusal (codes "fetch") (codes "FetchResponse")))
-          ⊎ (◌≡◌ {A = FetchError A X} (of_response error) fetch.Memory) → Stops
+          → (end_of {A = A} {X = CopyError} (Err (of_response error)) ≡ Err (refusal (codes "fetch") (codes "FetchResponse")))
+          ⊎ (◌≡◌ {A = FetchError A CopyError} (of_response error) fetch.Memory) → Stops
       by-name r f q (inr n) = inl (g ∙ n)
       by-name r f q (inl n) =
-          last-by unread (ap (λ b. by_fit b done (found_at x done)) s.0 ∙ ap (by_answer done) f)
+          last-by unread (ap (λ b. by_fit b end_after done (found_at x done)) s.0 ∙ ap (by_answer end_after done) f)
           (sym (sent-failures false x.reading sent (texts_of (request asked done)) one-sent) ∙ q) (h ∙ one-sent.0.held)
-          (ap (λ (w : FetchError A X). end_of {A = A} {X = X} (Err w)) g ∙ n)
+          (ap (λ (w : FetchError A CopyError). end_of {A = A} {X = CopyError} (Err w)) g ∙ n)
 
       refused-so : (r : AnswerRefusal) → IfSome (view m.banded sent).to_come (λ p. answer_of m.version (flags done (not done)) p
           ≡ refused r) → (view m.banded new).failures ≡ (view m.banded sent).failures → Stops
@@ -300,7 +311,7 @@ module _ {N I A : Type 0} (m : Manner N I A) where
           (viewed m.banded (next_pieces x.reading)) (view-come m.banded sent (next_pieces x.reading) one-sent.0.to_come) k)
           (sym (view-failures m.banded sent) ∙ sym q ∙ view-failures m.banded new ∙ z) (named-response error)
 
-      or-disturbed : IsDisturbed {A = A} {X = X} (of_response error) ⊎ (◌≡◌ {A = FetchError A X} (of_response error) fetch.Memory) → Stops
+      or-disturbed : IsDisturbed {A = A} (of_response error) ⊎ (◌≡◌ {A = FetchError A CopyError} (of_response error) fetch.Memory) → Stops
       or-disturbed (inl d) = absurd (undisturbed (subst (λ w. IsDisturbed w) (sym g) d))
       or-disturbed (inr n) = inl (g ∙ n)
 
@@ -320,23 +331,23 @@ module _ {N I A : Type 0} (m : Manner N I A) where
     stops (behind_answer sent s reply a h w) = inl w
 
   -- how rounds fail
-  module _ {X : Type 0} (never : (i j : I) → m.says i true j → ⊥) (x : At N I) (alone : x.reading.held.persists ≡ false) (new : Reading)
-      (z : new.failures ≡ 0) (e : FetchError A X) (undisturbed : IsDisturbed e → ⊥) where
+  module _ (never : (i j : I) → m.says i true j → ⊥) (x : At N I) (alone : x.reading.held.persists ≡ false) (new : Reading)
+      (z : new.failures ≡ 0) (e : FetchError A CopyError) (undisturbed : IsDisturbed e → ⊥) where
     abbrev pub RunStops : Type 0
-    RunStops = (e ≡ fetch.Memory) ⊎ Ran x new (end_of {A = A} {X = X} (Err e))
+    RunStops = (e ≡ fetch.Memory) ⊎ Ran x new (end_of {A = A} {X = CopyError} (Err e))
 
     alone-then : (before : At N I) (turns : List (Turn N I)) → Rounds m x turns before → before.reading.held.persists ≡ false
     alone-then before turns run = (rounds_written m x before turns run).persists ∙ alone
 
     ran-to : (turns : List (Turn N I)) (before : At N I) → Rounds m x turns before → (e ≡ fetch.Memory)
-        ⊎ Last before new (end_of {A = A} {X = X} (Err e)) → RunStops
+        ⊎ Last before new (end_of {A = A} {X = CopyError} (Err e)) → RunStops
     ran-to turns before run (inl q) = inl q
     ran-to turns before run (inr l) = inr (record { turns = turns; before = before; run = run; last = l })
 
     own-stops : (error : negotiate_error A) → IsOwn error → e ≡ of_negotiate error → RunStops
     own-stops error own g = at (own-disturbs error own)
       where
-        at : IsDisturbed {A = A} {X = X} (of_negotiate error) ⊎ (◌≡◌ {A = FetchError A X} (of_negotiate error) fetch.Memory) → RunStops
+        at : IsDisturbed {A = A} (of_negotiate error) ⊎ (◌≡◌ {A = FetchError A CopyError} (of_negotiate error) fetch.Memory) → RunStops
         at (inl d) = absurd (undisturbed (subst (λ w. IsDisturbed w) (sym g) d))
         at (inr n) = inl (g ∙ n)
 
@@ -354,17 +365,17 @@ module _ {N I A : Type 0} (m : Manner N I A) where
         by-end (inl i) = absurd (never i.before.interrupt f.end.interrupt i.said)
         by-end (inr d) =
             let stands : new ≡ d.last.after.reading = f.reads ∙ ap (λ (a : At N I). a.reading) d.stands in
-            let at : by_pack d.last.reply.pack d.last.done ≡ lacks_pack = ap (λ p. by_pack p d.last.done) d.no_pack
-            ∙ ap (by_pack false) d.done in
+            let at : (end : Ending) → by_pack d.last.reply.pack d.last.done end ≡ lacks_pack =
+            λ end. ap (λ p. by_pack p d.last.done end) d.no_pack ∙ ap (λ b. by_pack false b end) d.done in
             inr (record {
               turns = d.turns;
               before = d.before;
               run = d.run;
               last =
-                  last-turn d.before d.last new (end_of {A = A} {X = X} (Err e)) (alone-then d.before d.turns d.run) d.lasts
+                  last-turn d.before d.last new (end_of {A = A} {X = CopyError} (Err e)) (alone-then d.before d.turns d.run) d.lasts
                   (ap (λ (r : Reading). r.failures) (sym stands) ∙ z) (ap (λ (r : Reading). r.held) stands)
-                  (subst (λ w. EndsBy w (end_of {A = A} {X = X} (Err e))) (sym at)
-                  (ap (λ (w : FetchError A X). end_of {A = A} {X = X} (Err w)) f.gives));
+                  (λ end had. subst (λ w. EndsBy w (end_of {A = A} {X = CopyError} (Err e))) (sym (at end))
+                  (ap (λ (w : FetchError A CopyError). end_of {A = A} {X = CopyError} (Err w)) f.gives));
             })
 
 -- ---- the rounds of two
@@ -394,14 +405,15 @@ module _ {N I A : Type 0} (m : Manner N I A) (haves : N → List ObjectId)
       same-asked x y s l.round u.round l.done u.done l.next u.after.negotiate l.window u.after.window l.asked u.asked l.negotiated
       k.negotiated in
       let alone : y.reading.held.persists ≡ false = ap (λ (h : TransportState). h.persists) (sym s.reading.held) ∙ s.reading.alone in
-      let v = verdicts-same x y l.asked u.asked l.done u.done s.reading.held r.asked r.done ∙ turn-verdict m y u alone k z
-      ∙ ap (λ b. by_pack b u.done) q ∙ ap (by_pack false) p in
+      let t = turn-verdict m y u alone k z in
+      let v = verdicts-same x y l.asked u.asked l.done u.done s.reading.held r.asked r.done ∙ t.1
+      ∙ ap (λ b. by_pack b u.done t.0) q ∙ ap (λ b. by_pack false b t.0) p in
       subst (λ w. EndsBy w ended) v l.ends
 
   -- two that went alike
   pub record EndSame (new other : Reading) (e f : Result Bool PlanRefusal) : Type 0 where
     pub held : new.held ≡ other.held
-    pub ends : EndAlike e f
+    pub ends : e ≡ f
 
   last-last : (x y : At N I) (new other : Reading) (e f : Result Bool PlanRefusal) → AtAlike haves x y → Last m x new e
       → Last m y other f → EndSame new other e f

@@ -61,8 +61,7 @@ pub fn texts_follow_bodies<'a, O: Objects + 'a, G: Objects + 'a>()
 
 /// With a [`HaveList`], two sessions over the same bodies, refspecs, objects and ids go alike, refused ones too: they send the
 /// same requests, the same is printed of their ref maps, and they end at the same step, with the same end there or by the same
-/// name, or both at a pack, of which it is left open whether it is taken whole. Where they have the same end,
-/// [`plan`](crate::plan) writes the same text.
+/// name. So [`plan`](crate::plan) writes the same text, of a pack too whether it was taken or refused.
 ///
 /// An allocation failure, a failure that the transport counted, one of the repository or its boundary, and an interrupt, of
 /// which there are none here, come from no body: sessions with such are left out, and so are those that end with `Memory`.

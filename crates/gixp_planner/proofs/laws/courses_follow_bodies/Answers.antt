@@ -2,7 +2,8 @@ use Rattle.std.proofs.Common.{◌∙◌, ap, sym, true≢false}
 use Rattle.gixp_graph.specs.GraphData.{GraphValue}
 use Rattle.gixp_planner.proofs.ListNegotiationLemmas.{basis_of, asked-still, same-basis}
 use Rattle.gixp_planner.proofs.ListRoundLemmas.{acts-stay, by-list}
-use Rattle.gixp_planner.proofs.AlikeLemmas.{passed-none, courses-follow}
+use Rattle.gixp_planner.proofs.AlikeLemmas.{courses-follow}
+use Rattle.gixp_planner.proofs.PackEndLemmas.{refused-by-stream}
 use Rattle.gixp_planner.proofs.laws.courses_follow_bodies.Goals as goal
 
 pub returns : goal.returns
@@ -29,5 +30,10 @@ returns g c = λ bodies specs haves objects others graph another e f.
       l.2,
       r.2,
     ))
-    (λ c s p finished d t q takes. takes.1.1.failures) (λ c s p x d t q refuses z. passed-none s t x refuses z)
+    (λ c s p finished d t q takes. takes.1.1.failures)
+    (record {
+      counts = λ c s p x d t q refuses z. (refused-by-stream s t x refuses z).1;
+      takes = λ c s p finished d t q takes. (takes.1.3, takes.1.1.ending);
+      refuses = λ c s p x d t q refuses z. (refused-by-stream s t x refuses z).0;
+    })
     (λ i j says. true≢false says) bodies specs
