@@ -99,16 +99,31 @@ impl<'m, 's> Numbered<'m, 's> {
     }
 }
 
-/// How many refspecs with a name of their own are sooner compared with each ref than looked up in a table of them, for which
-/// refs that come out of order have to be sorted.
+/// How many refspecs with a name of their own are sooner compared with each ref than looked up in a table of them.
 const FEW: usize = 4;
 
-/// Whether at most a few positive refspecs are looked up by their names.
-fn are_compared(specs: &[RefSpecRef<'_>]) -> bool {
+/// How many are so where refs come out of order, which have to be sorted for a table.
+const SEVERAL: usize = 128;
+
+/// Whether refs come in byte order of their names, as servers send them.
+fn are_in_order(items: &[Item<'_>]) -> bool {
+    'items: for next in 1..items.len() {
+        let before = items[next - 1].full_ref_name.as_bytes();
+        let name = items[next].full_ref_name.as_bytes();
+        if name.cmp(before).is_lt() {
+            return false;
+        }
+    }
+    true
+}
+
+/// Whether the positive refspecs that are looked up by their names are so few that they are compared with each ref.
+fn are_compared(specs: &[RefSpecRef<'_>], items: &[Item<'_>]) -> bool {
     let looked_up = specs
         .iter()
-        .filter(|spec| !is_negative(spec.sign) && stars(spec.source) == 0);
-    looked_up.count() <= FEW
+        .filter(|spec| !is_negative(spec.sign) && stars(spec.source) == 0)
+        .count();
+    looked_up <= FEW || (looked_up <= SEVERAL && !are_in_order(items))
 }
 
 /// A group of refspecs, and the refs that it is matched with.
@@ -309,7 +324,7 @@ impl Matching<'_, '_, '_> {
         ensures { OnOk result (mapped_in out.new ≡ mapped_in out.old
             ++ pairs (values self.now.prepared.now.specs.now) (names self.now.items.now)) }
     {
-        if are_compared(self.prepared.specs) {
+        if are_compared(self.prepared.specs, self.items) {
             self.push_all_compared(out)
         } else {
             self.push_all_looked_up(out)
