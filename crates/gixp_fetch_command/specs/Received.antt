@@ -56,7 +56,8 @@ module _ {P W : Type 0} (begins : P → W → P → Type 0) (gives_up : P → W 
       came_leaves start end (copies_pack_reads (contents h.1.first) (contents whole.writer) start end (Ok whole.summary) h.1.copied)
   receives_owes p q start end (Ok finished) None h = absurd h
   receives_owes p q start end (Err (Begin kind)) whole h =
-      subst (λ (s : Side). LeavesEnd start s) (sym h.2) ([], record { content = nothing_passes start; ending = λ _. end-stays start.reading }, refl)
+      subst (λ (s : Side). LeavesEnd start s) (sym h.2)
+      ([], record { content = nothing_passes start; ending = λ _. end-stays start.reading }, refl)
   receives_owes p q start end (Err (Stream e)) whole h =
       came_leaves start end (copies_pack_reads (contents h.1.first) (contents h.1.last) start end (Err e) h.1.copied)
 

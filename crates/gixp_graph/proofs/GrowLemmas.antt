@@ -198,7 +198,8 @@ map_push f (x ∷ xs) y = ap (λ is. f x ∷ is) (map_push f xs y)
 
 -- one parent more has a number
 pub written_more : (nodes nodes' : List Node) (id : ObjectId) → (nodes' ≡ nodes) ⊎ (nodes' ≡ nodes ++ blank id ∷ [])
-    → (n : ℕ) → id_at (ids_of nodes') n ≡ id → (parents : List ℕ) → All (λ n. n < length (ids_of nodes)) parents → (first : ℕ) → first ≤ length parents
+    → (n : ℕ) → id_at (ids_of nodes') n ≡ id → (parents : List ℕ) → All (λ n. n < length (ids_of nodes)) parents
+    → (first : ℕ) → first ≤ length parents
     → (ps : List ObjectId) (i : ℕ) (d : ObjectId) → i < length ps → id ≡ get_or ps i d
     → map (id_at (ids_of nodes)) (drop first parents) ≡ take i ps → map (id_at (ids_of nodes')) (drop first (parents ++ n ∷ []))
     ≡ take (i + 1) ps

@@ -251,7 +251,8 @@ module _ (nodes : List Node) (parents : List ℕ) (w : IsOneToOne (ids_of nodes)
       ∙ sym (id_of_node nodes n y l) ∙ some.1)
 
   -- the table stays one
-  pub table_marks : (numbers : Numbers) → IsTable nodes numbers parents → (f : Flags) → IsTable (set nodes n (with_marks y f)) numbers parents
+  pub table_marks : (numbers : Numbers) → IsTable nodes numbers parents → (f : Flags)
+      → IsTable (set nodes n (with_marks y f)) numbers parents
   table_marks numbers t f = table_set nodes parents w q n some (with_marks y f) own_id numbers t
       (let l : n < length nodes = omega (arith, some.0, length_ids nodes) in subst (IsInRange parents) (sym at) (t.ranged n y l))
 

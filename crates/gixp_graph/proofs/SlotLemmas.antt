@@ -95,7 +95,8 @@ place_of_parts slots' slots mask tag' tag a b o p e is =
 
 -- ---- what a look-up comes to
 
-module _ (slots : List Slot) (mask : ℕ) (others : List (ObjectId × ℕ)) (id : ObjectId) (n : ℕ) (h : IsReachedIn slots mask others id n) where
+module _ (slots : List Slot) (mask : ℕ) (others : List (ObjectId × ℕ)) (id : ObjectId) (n : ℕ)
+    (h : IsReachedIn slots mask others id n) where
   -- the slot of an id that has a number isn't free
   pub never_free : (p : ℕ) (s : Slot) → place_of slots mask (tag_of id) ≡ Some p → slice_get slots p ≡ Some s → s.end ≡ 0 → ⊥
   never_free p s e at free = ⊎_elim

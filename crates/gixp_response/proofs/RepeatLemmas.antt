@@ -252,7 +252,8 @@ module _ {K : Type 0} {R : K → K → Ordering} (o : IsTotalOrder R) where
   adjacent_differ (a ∷ b ∷ rows) h zero d l = h.0.0
   adjacent_differ (a ∷ b ∷ rows) h (suc k) d l =
       let same : suc (k + 1) ≡ suc k + 1 = omega arith in
-      subst (λ m. ((get_or (b ∷ rows) k d).1 == (get_or (a ∷ b ∷ rows) m d).1) ≡ false) same (adjacent_differ (b ∷ rows) h.1 k d (omega arith))
+      subst (λ m. ((get_or (b ∷ rows) k d).1 == (get_or (a ∷ b ∷ rows) m d).1) ≡ false) same
+      (adjacent_differ (b ∷ rows) h.1 k d (omega arith))
 
   not_less : (x : Ordering) → is_lt x ≡ false → (ordering_reverse x ≡ Equal → ⊥) → ordering_reverse x ≡ Less
   not_less Less h n = cc
@@ -288,5 +289,6 @@ module _ {K : Type 0} {R : K → K → Ordering} (o : IsTotalOrder R) where
       → IsDistinct (λ a b. a.1 == b.1) rows
       → marked R (tested_from (λ p. true) 0 xs) sorted ≡ tested_from (λ p. not (is_repeat R rows p)) 0 xs
   marked_after_sort xs rows sorted same order apart =
-      marked_sorted xs sorted (strictly sorted order (IsDistinct-IsPermutation (λ a b. a.1 == b.1) (λ a b. eq_turned a.1 b.1) rows sorted same apart))
+      marked_sorted xs sorted (strictly sorted order
+      (IsDistinct-IsPermutation (λ a b. a.1 == b.1) (λ a b. eq_turned a.1 b.1) rows sorted same apart))
       ∙ tested_same _ _ 0 xs (λ p l. ap not (repeats_same rows sorted same p))

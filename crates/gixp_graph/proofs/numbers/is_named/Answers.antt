@@ -22,5 +22,7 @@ returns-in-Some c =
 
 pub returns-in-None : goal.returns-in-None
 returns-in-None c =
-    let m : length c.args.nodes.now ≤ c.args.number = c.in-None.ensures.lookup.3 in
-    ((λ e. absurd (cc)), (λ h. let l : c.args.number < length (ids_of c.args.nodes.now) = h.0 in absurd (omega (arith, length_ids c.args.nodes.now))))
+    let m : length c.args.nodes.now ≤ c.args.number = c.in-None.ensures.lookup.3 in (
+      (λ e. absurd (cc)),
+      (λ h. let l : c.args.number < length (ids_of c.args.nodes.now) = h.0 in absurd (omega (arith, length_ids c.args.nodes.now))),
+    )

@@ -6,10 +6,12 @@ use Rattle.gixp_graph.proofs.SlotLemmas.{place_past, place_here, place_next, pla
 use Rattle.gixp_graph.proofs.numbers.place.Goals as goal
 
 pub returns-in_default : goal.returns-in_default
-returns-in_default c = sym (c.loop-offset.invariant ∙ place_past _ _ _ _ (let l = c.loop-offset-test.true in omega (arith, l)) c.in_default.ensures.lookup.3)
+returns-in_default c = sym (c.loop-offset.invariant
+    ∙ place_past _ _ _ _ (let l = c.loop-offset-test.true in omega (arith, l)) c.in_default.ensures.lookup.3)
 
 pub returns-then-slot-eq0 : goal.returns-then-slot-eq0
-returns-then-slot-eq0 c = sym (c.loop-offset.invariant ∙ place_here _ _ _ _ (let l = c.loop-offset-test.true in omega (arith, l)) c.in-Some.field-0.now
+returns-then-slot-eq0 c = sym (c.loop-offset.invariant
+    ∙ place_here _ _ _ _ (let l = c.loop-offset-test.true in omega (arith, l)) c.in-Some.field-0.now
     (slice_get_read _ _ _ _ refl c.in-Some.ensures.lookup.3.0 c.in-Some.ensures.lookup.1)
     (⊎_elim (λ e. inl e) (λ e. inr e.1) c.then-slot-eq0.either))
 

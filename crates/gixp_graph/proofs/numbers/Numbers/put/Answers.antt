@@ -12,4 +12,5 @@ returns-in-Ok-clause-kept c q n a h = reached_other _ _ _ _ q n (c.in-Ok.ensures
     (c.write.ensures.kept q n h)
 
 pub returns-in-Err-clause-kept : goal.returns-in-Err-clause-kept
-returns-in-Err-clause-kept c q n a h = reached_other _ _ _ _ q n (ap (λ es. other_at es q) c.in-Err.ensures.err) (c.write.ensures.kept q n h)
+returns-in-Err-clause-kept c q n a h =
+    reached_other _ _ _ _ q n (ap (λ es. other_at es q) c.in-Err.ensures.err) (c.write.ensures.kept q n h)

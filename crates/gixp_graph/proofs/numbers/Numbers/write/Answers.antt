@@ -55,7 +55,8 @@ returns-then-number-lt-LIMIT-clause-kept c q n h =
     c.in-Some.is in
     let l : c.in-Some.index < length slots = place_within slots _ _ 16 c.in-Some.index e in
     let at : slice_get slots c.in-Some.index ≡ Some c.index.result.now = slice_get_read slots _ _ _ refl l c.index.ensures in
-    reached_written slots c.in-Some.index _ c.index.result.now at c.if-index-ne0.false c.args.self.now.mask c.args.self.now.others.entries q n h
+    reached_written slots c.in-Some.index _ c.index.result.now at c.if-index-ne0.false c.args.self.now.mask
+    c.args.self.now.others.entries q n h
 
 pub returns-then-number-lt-LIMIT-clause-placed : goal.returns-then-number-lt-LIMIT-clause-placed
 returns-then-number-lt-LIMIT-clause-placed c t =
@@ -65,7 +66,8 @@ returns-then-number-lt-LIMIT-clause-placed c t =
     c.in-Some.is in
     let l : c.in-Some.index < length slots = place_within slots _ _ 16 c.in-Some.index e in
     let at : slice_get slots c.in-Some.index ≡ Some c.index.result.now = slice_get_read slots _ _ _ refl l c.index.ensures in
-    inl (placed_written slots c.in-Some.index _ c.index.result.now at c.if-index-ne0.false c.args.self.now.mask c.args.id.now c.args.number e
+    inl (placed_written slots c.in-Some.index _ c.index.result.now at c.if-index-ne0.false c.args.self.now.mask c.args.id.now
+    c.args.number e
     (ap (λ tag. record { tag = tag; end = c.args.number + 1 }) c.tag_of-tag.ensures))
 
 pub returns-clause-kept : goal.returns-clause-kept
@@ -76,7 +78,8 @@ returns-clause-kept c q n h =
     c.in-Some.is in
     let l : c.in-Some.index < length slots = place_within slots _ _ 16 c.in-Some.index e in
     let at : slice_get slots c.in-Some.index ≡ Some c.index.result.now = slice_get_read slots _ _ _ refl l c.index.ensures in
-    reached_written slots c.in-Some.index _ c.index.result.now at c.if-index-ne0.false c.args.self.now.mask c.args.self.now.others.entries q n h
+    reached_written slots c.in-Some.index _ c.index.result.now at c.if-index-ne0.false c.args.self.now.mask
+    c.args.self.now.others.entries q n h
 
 pub returns-clause-taken : goal.returns-clause-taken
 returns-clause-taken c f =

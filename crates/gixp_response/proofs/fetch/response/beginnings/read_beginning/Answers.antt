@@ -57,8 +57,8 @@ returns-then-ends_by_nak-clause-answers g c =
     let k = rw c.in-Ok-true.field-0-test at c.in-Ok-true.ensures.peeks in
     let t = amid-line _ _ _ _ _ c.in-Some.said _ _ _ _ _ c.loop-answer.invariant.0 k
     (c.in-Some.ensures ∙ ap line_item c.line.ensures) c.next_line.ensures.reads in
-    rw c.finished-then-ends_by_nak.ensures (amid-nak _ c.requires _ _ _ _ _ _ c.in-Some.said _ _ _ c.loop-answer.invariant.0 t c.in_ok-keep.ensures.ok
-    c.ready_by-came_ready.ensures c.if-ends_by_nak.ensures)
+    rw c.finished-then-ends_by_nak.ensures (amid-nak _ c.requires _ _ _ _ _ _ c.in-Some.said _ _ _ c.loop-answer.invariant.0 t
+    c.in_ok-keep.ensures.ok c.ready_by-came_ready.ensures c.if-ends_by_nak.ensures)
 
 pub loop-answer-preserved : goal.loop-answer-preserved
 loop-answer-preserved g c =

@@ -6,8 +6,8 @@ use Rattle.gixp_response.proofs.fetch.response.beginnings.read_beginning.Given a
 
 abbrev pub invariant-loop-answer : goal.invariant-loop-answer
 invariant-loop-answer g l =
-    Amid l.version (expected l.expects_pack l.negotiates) (without_repeats l.answer) l.came_ready l.behind_stop (g.R.ExtendedBufRead.reading l.fn.reader)
-    (g.R.ExtendedBufRead.reading l.reader)
+    Amid l.version (expected l.expects_pack l.negotiates) (without_repeats l.answer) l.came_ready l.behind_stop
+    (g.R.ExtendedBufRead.reading l.fn.reader) (g.R.ExtendedBufRead.reading l.reader)
     × AreNoted l.answer.acknowledgements l.repeats
     × g.R.ExtendedBufRead.goes_on l.fn.reader l.reader
 

@@ -9,7 +9,8 @@ use Rattle.gixp_response.proofs.fetch.response.repeats.Repeats.into_flags.Goals 
 
 pub returns : goal.returns
 returns c had h =
-    let moved = subst (λ (rows : List (ObjectId × ℕ)). IsPermutation rows c.put_in_order.new.rows.items) h.rows c.put_in_order.ensures.permutation in
+    let moved = subst (λ (rows : List (ObjectId × ℕ)). IsPermutation rows c.put_in_order.new.rows.items)
+    h.rows c.put_in_order.ensures.permutation in
     c.mark.ensures
     ∙ ap (λ rows. marked id_cmp c.args.self.flags.items rows) c.deref.ensures.value
     ∙ ap (λ flags. marked id_cmp flags c.put_in_order.new.rows.items) h.flags
