@@ -81,7 +81,7 @@ CHANGES = {
         ("wider windows than were on offer", "Bound", "windows_of (but_last rounds) ≤ count first", "windows_of (but_last rounds) ≤ count first + 1"),
     ],
     "a prefix-filtered answer": [
-        ("a map, or its refusal, is that of another place", "Headline", "handshake plain shaken reached r → FindsRefMap", "handshake plain shaken shaken r → Answers"),
+        ("a map, or its refusal, is that of another place", "Headline", "handshake plain shaken reached r → FindsRefMap", "handshake plain shaken shaken r → FindsRefMap"),
     ],
 }
 
