@@ -114,14 +114,16 @@ fn shown_of<'a>(rt: &'a HostRuntime, output: &Output<'_>) -> Shown<'a> {
     }
 }
 
-// Lists the refs of the server.
-fn list(rt: &HostRuntime, options: &Options<'_>) -> Result<(), Failure> {
+// Lists the refs of the server, and ends the session unless it is to go on.
+fn list(rt: &HostRuntime, options: &Options<'_>, keeps_open: bool) -> Result<(), Failure> {
     let alloc = rt.alloc();
     let transport = open_transport(rt, &options.server)?;
     let mut shown = shown_of(rt, &options.output);
     let mut session = Session::open(alloc, transport, options.server.agent, &mut shown)?;
     let refs = session.refs(&mut shown)?;
-    session.end(false);
+    if !keeps_open {
+        session.end(false);
+    }
     tell(rt, &options.output, &listing(alloc, &refs)?)
 }
 
@@ -262,7 +264,7 @@ fn obey(rt: &HostRuntime, options: &Options<'_>) -> Result<(), Failure> {
     match &options.task {
         Task::Help => tell(rt, &options.output, USAGE.as_bytes()),
         Task::Version => tell(rt, &options.output, VERSION.as_bytes()),
-        Task::List => list(rt, options),
+        Task::List { keeps_open } => list(rt, options, *keeps_open),
         Task::Fetch(wish) => fetch(rt, options, wish),
     }
 }

@@ -15,6 +15,7 @@ The pack goes to PACK, and the report to standard output. A value may be joined 
   --path PATH            the path of the repository, for a server of git://
   --host HOST            its host
   --agent NAME           the name of this client
+  --keep-open            with --list: the session isn't ended, and a server of version 2 waits for the next command
   --refs FILE            the refs, as `git show-ref -d` lists them
   --commits FILE         the commits, as `git rev-list --all --timestamp --parents` lists them
   --objects FILE         objects that refs lead to, each line with an id and a kind

@@ -1,3 +1,4 @@
 mod LineLemmas
+mod OptionLemmas
 mod PackLemmas
 mod TextLemmas

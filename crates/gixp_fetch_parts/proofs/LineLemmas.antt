@@ -1,12 +1,13 @@
 -- Command lines that are taken apart word by word.
-use Rattle.std.proofs.Common.{◌≡◌, ◌<◌, ◌+◌, ℕ, List, [], ◌∷◌, ◌++◌, length, take, map, Option, Some, None, Result, Ok, Err, if◌then◌else◌, refl, ap, ◌∙◌}
+use Rattle.std.proofs.Common.{◌≡◌, ◌<◌, ◌+◌, ℕ, Bool, true, false, cond, List, [], ◌∷◌, ◌++◌, length, take, map, Option, Some, None, Result, Ok, Err, if◌then◌else◌, refl, ap, ◌∙◌}
 use Rattle.std.proofs.Math.ListN.{get_or}
 use Rattle.std.proofs.lemmas.List.{take_more, map-append}
+use Rattle.std.proofs.lemmas.List.Elements.{filter-append}
 use Rattle.std.specs.Str.{bytes_eq}
 use Rattle.gixp_fetch_parts.specs.declared.line.LineError.{LineError}
 use Rattle.gixp_fetch_parts.specs.declared.line.LineError.TheVariants.{Unknown, NoValue, Memory}
 use Rattle.gixp_fetch_parts.specs.declared.line.Setting.{Setting}
-use Rattle.gixp_fetch_parts.specs.Words.{later, value_in}
+use Rattle.gixp_fetch_parts.specs.Words.{later, value_in, values_in}
 use Rattle.gixp_fetch_parts.specs.LineOf.{setting_value, LineParts, LineFault, Parting, NextWord, taken, line_from, TakesApart, TakesWord, IsLineMemory}
 
 later_none : (a : Option (List ℕ)) → later a None ≡ later None a
@@ -51,3 +52,19 @@ pub value_more : (settings : List Setting) (i : ℕ) (d : Setting) (name : List 
     (if bytes_eq (get_or settings i d).name.now name then Some (get_or settings i d).value.now else None)
 value_more settings i d name h = rw (take_more settings i d h, map-append)
     (value_in-append (map setting_value (take i settings)) (setting_value (get_or settings i d)) name)
+
+one_value : (b : Bool) (s : List ℕ × List ℕ) → map (λ t. t.1) (cond b (s ∷ []) []) ≡ (if b then s.1 ∷ [] else [])
+one_value true s = refl
+one_value false s = refl
+
+values_in-append : (xs : List (List ℕ × List ℕ)) (s : List ℕ × List ℕ) (name : List ℕ)
+    → values_in (xs ++ s ∷ []) name ≡ values_in xs name ++ (if bytes_eq s.0 name then s.1 ∷ [] else [])
+values_in-append xs s name = rw (filter-append, map-append) (ap (λ l. values_in xs name ++ l) (one_value (bytes_eq s.0 name) s))
+
+-- one option more of a line, of which all values count
+pub values_more : (settings : List Setting) (i : ℕ) (d : Setting) (name : List ℕ) → i < length settings
+    → values_in (map setting_value (take (i + 1) settings)) name
+    ≡ values_in (map setting_value (take i settings)) name
+    ++ (if bytes_eq (get_or settings i d).name.now name then (get_or settings i d).value.now ∷ [] else [])
+values_more settings i d name h = rw (take_more settings i d h, map-append)
+    (values_in-append (map setting_value (take i settings)) (setting_value (get_or settings i d)) name)

@@ -1,5 +1,5 @@
 -- The words of the command line: which are options, and which of them take a value.
-use Rattle.std.specs.Prelude.{ℕ, ◌==◌, ◌&&◌, ◌||◌, Bool, false, if◌then◌else◌, List, [], ◌∷◌, codes, Option, Some, None}
+use Rattle.std.specs.Prelude.{ℕ, ◌==◌, ◌&&◌, ◌||◌, Bool, false, if◌then◌else◌, List, [], ◌∷◌, map, filter, codes, Option, Some, None}
 use Rattle.std.specs.Str.{bytes_eq}
 use Rattle.std.specs.List.{list_any, before_first, after_first}
 use Rattle.gixp_fetch_parts.specs.declared.line.Kind.{Kind}
@@ -8,9 +8,9 @@ use Rattle.gixp_fetch_parts.specs.declared.line.Kind.TheVariants.{Flag, TakesVal
 -- whether an option takes no value
 abbrev pub is_flag : List ℕ → Bool
 is_flag word =
-    bytes_eq word (codes "--list") || bytes_eq word (codes "--unshallow") || bytes_eq word (codes "--reject-shallow") || bytes_eq word
-    (codes "--quiet")
-    || bytes_eq word (codes "--progress") || bytes_eq word (codes "--help") || bytes_eq word (codes "-V")
+    bytes_eq word (codes "--list") || bytes_eq word (codes "--keep-open") || bytes_eq word (codes "--unshallow") || bytes_eq word
+    (codes "--reject-shallow")
+    || bytes_eq word (codes "--quiet") || bytes_eq word (codes "--progress") || bytes_eq word (codes "--help") || bytes_eq word (codes "-V")
 
 abbrev pub is_of_server : List ℕ → Bool
 is_of_server word = bytes_eq word (codes "--version") || bytes_eq word (codes "--path") || bytes_eq word
@@ -59,3 +59,7 @@ later first (Some value) = Some value
 abbrev pub value_in : List (List ℕ × List ℕ) → List ℕ → Option (List ℕ)
 value_in [] name = None
 value_in (s ∷ settings) name = later (if bytes_eq s.0 name then Some s.1 else None) (value_in settings name)
+
+-- the values of an option: all that it was given, in their order
+abbrev pub values_in : List (List ℕ × List ℕ) → List ℕ → List (List ℕ)
+values_in settings name = map (λ s. s.1) (filter (λ s. bytes_eq s.0 name) settings)

@@ -75,6 +75,7 @@ fn is_flag(word: &str) -> bool
     ensures { result ≡ is_flag word.now }
 {
     word == "--list"
+        || word == "--keep-open"
         || word == "--unshallow"
         || word == "--reject-shallow"
         || word == "--quiet"

@@ -1,10 +1,13 @@
 //! What a command line asks for.
-ghost use Rattle.std.specs.Prelude.{◌≡◌, ℕ, Some, None, codes, map, IfOk, IfSome, OnErr};
+ghost use Rattle.std.specs.Prelude.{◌≡◌, ◌||◌, ℕ, true, false, if◌then◌else◌, Some, None, codes, map, string_bytes, MatchOption, IfOk, IfErr, IfSome, OnErr};
 ghost use Rattle.std.specs.Option.{option_map};
 ghost use Rattle.bstr.specs.Owned.{bstring_bytes};
-ghost use Rattle.gixp_negotiate.specs.Shallow.{at_remote, deepens, shallow_value};
-ghost use Rattle.gixp_fetch_parts.specs.LineOf.{line_value};
-ghost use Rattle.gixp_fetch_parts.specs.Choices.{version_of, tags_of, IsHaves, IsNumber, AsksHistory, AsksFiles, AsksOutput, AsksFetch};
+ghost use Rattle.gixp_refspec.specs.PartialName.{name_bytes};
+ghost use Rattle.gixp_negotiate.specs.Shallow.{no_change, at_remote, deepens, shallow_value};
+ghost use Rattle.gixp_fetch_parts.specs.LineOf.{line_of, line_value, LineParts};
+ghost use Rattle.gixp_fetch_parts.specs.declared.options.OptionError.TheVariants.{Memory};
+ghost use Rattle.gixp_fetch_parts.specs.Choices.{version_of, tags_of, has, values, has_conflict, IsHaves, IsNumber, IsSeconds};
+ghost use Rattle.gixp_fetch_parts.specs.Choices.{CutsHistory, AsksHistory, AsksFiles, AsksOutput, AsksFetch, AsksWork, AsksTask, AsksOptions, IsRefused, ReadsOptions};
 
 use crate::line::{Line, LineError};
 use bstr::BString;
@@ -87,7 +90,10 @@ pub enum Task<'a> {
     /// Tell the version.
     Version,
     /// List the refs.
-    List,
+    List {
+        /// Whether the session goes on after the list, for one who is to speak with the server next.
+        keeps_open: bool,
+    },
     /// Fetch.
     Fetch(Wish<'a>),
 }
@@ -108,7 +114,7 @@ pub enum OptionError<'a> {
     Line(LineError<'a>),
     /// An option has a value that it can't have.
     Value { name: &'static str, value: &'a str },
-    /// These can't be used together.
+    /// These are there, and can't be used together.
     Conflict(&'static str, &'static str),
     /// This needs that.
     Needs(&'static str, &'static str),
@@ -118,22 +124,17 @@ pub enum OptionError<'a> {
     Memory,
 }
 
-impl<'a> From<LineError<'a>> for OptionError<'a> {
-    fn from(e: LineError<'a>) -> Self {
-        match e {
-            LineError::Memory => OptionError::Memory,
-            other => OptionError::Line(other),
-        }
-    }
-}
-
 impl From<AllocError> for OptionError<'_> {
+    ghost from_gives = { λ _ e. e ≡ Memory };
+
     fn from(_e: AllocError) -> Self {
         OptionError::Memory
     }
 }
 
 impl<T: Drop> From<AllocFailed<T>> for OptionError<'_> {
+    ghost from_gives = { λ _ e. e ≡ Memory };
+
     fn from(_e: AllocFailed<T>) -> Self {
         OptionError::Memory
     }
@@ -188,20 +189,21 @@ fn haves_of(word: Option<&str>) -> Option<Haves>
     }
 }
 
-// A value, or the refusal of the word that it was to be read from.
+// The value of an option, or the refusal of the word that it was to be read from.
 fn valued<'a, T: Drop>(
-    found: Option<T>,
+    line: &Line<'a>,
     name: &'static str,
-    word: Option<&'a str>,
+    found: Option<T>,
 ) -> Result<T, OptionError<'a>>
     ensures found { IfOk result (λ value. found ≡ Some value) }
     ensures refused { OnErr result (found ≡ None) }
+    ensures why { IfErr result (λ e. IsRefused (line_value line.now) e) }
 {
     match found {
         Some(found) => Ok(found),
         None => Err(OptionError::Value {
             name,
-            value: word.unwrap_or(""),
+            value: line.value(name).unwrap_or(""),
         }),
     }
 }
@@ -227,7 +229,9 @@ fn deepening_of(word: &str) -> Option<Shallow>
     }
 }
 
-fn seconds_of(word: &str) -> Option<i64> {
+fn seconds_of(word: &str) -> Option<i64>
+    ensures { IfSome result (λ seconds. IsSeconds word.now seconds) }
+{
     match word.parse::<i64>() {
         Ok(seconds) => Some(seconds),
         Err(_) => None,
@@ -235,56 +239,81 @@ fn seconds_of(word: &str) -> Option<i64> {
 }
 
 // The names after `--exclude`.
-fn excluded<'a>(alloc: Global, line: &Line<'a>) -> Result<Vec<PartialName>, OptionError<'a>> {
+fn excluded<'a>(alloc: Global, line: &Line<'a>) -> Result<Vec<PartialName>, OptionError<'a>>
+    ensures ok { IfOk result (λ names. map name_bytes names.items ≡ values (line_value line.now) (codes "--exclude")) }
+    ensures err { IfErr result (λ e. IsRefused (line_value line.now) e) }
+{
     let mut names = Vec::new(alloc);
     for setting in &line.settings {
-        if setting.name != "--exclude" {
-            continue;
-        }
-        match PartialName::new(BString::from_slice(alloc, setting.value.as_bytes())?) {
-            Ok(name) => names.push(name)?,
-            Err(_) => {
-                return Err(OptionError::Value {
-                    name: "--exclude",
-                    value: setting.value,
-                });
+        if setting.name == "--exclude" {
+            match PartialName::new(BString::from_slice(alloc, setting.value.as_bytes())?) {
+                Ok(name) => names.push(name)?,
+                Err(_) => {
+                    return Err(OptionError::Value {
+                        name: "--exclude",
+                        value: setting.value,
+                    });
+                }
             }
         }
     }
     Ok(names)
 }
 
-// How much history a time and names ask for.
-fn cut<'a>(alloc: Global, line: &Line<'a>) -> Result<Shallow, OptionError<'a>> {
-    let since = match line.value("--since") {
-        Some(word) => Some(valued(seconds_of(word), "--since", Some(word))?),
+// What a time and names leave of the history.
+fn cut<'a>(alloc: Global, line: &Line<'a>) -> Result<Shallow, OptionError<'a>>
+    ensures ok { IfOk result (λ s. CutsHistory (line_value line.now) (shallow_value s)) }
+    ensures err { IfErr result (λ e. IsRefused (line_value line.now) e) }
+{
+    let since_cutoff = match line.value("--since") {
+        Some(word) => match valued(line, "--since", seconds_of(word)) {
+            Ok(cutoff) => Some(cutoff),
+            Err(e) => return Err(e),
+        },
         None => None,
     };
-    let remote_refs = excluded(alloc, line)?;
-    if !remote_refs.is_empty() {
-        return Ok(Shallow::Exclude {
-            remote_refs,
-            since_cutoff: since,
-        });
+    if line.has("--exclude") {
+        return match excluded(alloc, line) {
+            Ok(remote_refs) => Ok(Shallow::Exclude {
+                remote_refs,
+                since_cutoff,
+            }),
+            Err(e) => Err(e),
+        };
     }
-    match since {
+    match since_cutoff {
         Some(cutoff) => Ok(Shallow::Since { cutoff }),
         None => Ok(Shallow::NoChange),
     }
 }
 
-// Two of the options that are there, of those that ask for a depth.
-fn conflict(line: &Line<'_>) -> Option<(&'static str, &'static str)> {
-    let since = line.has("--since") || line.has("--exclude");
-    let depth = line.has("--depth");
-    let deepen = line.has("--deepen");
-    let unshallow = line.has("--unshallow");
-    if depth && deepen {
+// The one of two options that is there, where one is.
+fn one_of(line: &Line<'_>, one: &'static str, other: &'static str) -> &'static str
+    ensures { (has (line_value line.now) one.now || has (line_value line.now) other.now) ≡ true
+        → has (line_value line.now) result.now ≡ true }
+{
+    if line.has(one) { one } else { other }
+}
+
+// Two options that are there and can't be used together, of those that say how much history is wanted.
+fn conflict(line: &Line<'_>) -> Option<(&'static str, &'static str)>
+    ensures none { MatchOption result (has_conflict (line_value line.now) ≡ false) (λ pair. has_conflict (line_value line.now) ≡ true) }
+    ensures one { IfSome result (λ pair. has (line_value line.now) pair.0.now ≡ true) }
+    ensures other { IfSome result (λ pair. has (line_value line.now) pair.1.now ≡ true) }
+{
+    let cut = line.has("--since") || line.has("--exclude");
+    let counted = line.has("--depth") || line.has("--deepen");
+    if line.has("--depth") && line.has("--deepen") {
         Some(("--depth", "--deepen"))
-    } else if unshallow && (depth || deepen) {
-        Some(("--unshallow", "--depth"))
-    } else if since && (depth || deepen || unshallow) {
-        Some(("--since", "--depth"))
+    } else if line.has("--unshallow") && counted {
+        Some(("--unshallow", one_of(line, "--depth", "--deepen")))
+    } else if cut && line.has("--unshallow") {
+        Some((one_of(line, "--since", "--exclude"), "--unshallow"))
+    } else if cut && counted {
+        Some((
+            one_of(line, "--since", "--exclude"),
+            one_of(line, "--depth", "--deepen"),
+        ))
     } else {
         None
     }
@@ -292,7 +321,8 @@ fn conflict(line: &Line<'_>) -> Option<(&'static str, &'static str)> {
 
 // How much history is asked for.
 fn shallow_of<'a>(alloc: Global, line: &Line<'a>) -> Result<Shallow, OptionError<'a>>
-    ensures { IfOk result (λ s. AsksHistory (line_value line.now) (shallow_value s)) }
+    ensures ok { IfOk result (λ s. AsksHistory (line_value line.now) (shallow_value s)) }
+    ensures err { IfErr result (λ e. IsRefused (line_value line.now) e) }
 {
     if let Some((one, other)) = conflict(line) {
         return Err(OptionError::Conflict(one, other));
@@ -301,10 +331,10 @@ fn shallow_of<'a>(alloc: Global, line: &Line<'a>) -> Result<Shallow, OptionError
         return Ok(Shallow::undo());
     }
     if let Some(word) = line.value("--depth") {
-        return valued(depth_of(word), "--depth", Some(word));
+        return valued(line, "--depth", depth_of(word));
     }
     if let Some(word) = line.value("--deepen") {
-        return valued(deepening_of(word), "--deepen", Some(word));
+        return valued(line, "--deepen", deepening_of(word));
     }
     cut(alloc, line)
 }
@@ -319,6 +349,32 @@ fn texts_of(alloc: Global, words: &[&str]) -> Result<Vec<BString>, AllocError>
     Ok(texts)
 }
 
+// The same, where the boundary can be kept or stays as it is.
+fn kept_shallow_of<'a>(alloc: Global, line: &Line<'a>) -> Result<Shallow, OptionError<'a>>
+    ensures ok { IfOk result (λ s. AsksHistory (line_value line.now) (shallow_value s)) }
+    ensures kept { IfOk result (λ s. has (line_value line.now) (codes "--shallow") ≡ false → shallow_value s ≡ no_change) }
+    ensures err { IfErr result (λ e. IsRefused (line_value line.now) e) }
+{
+    match shallow_of(alloc, line) {
+        Ok(Shallow::NoChange) => Ok(Shallow::NoChange),
+        Ok(shallow) => {
+            if line.has("--shallow") {
+                return Ok(shallow);
+            }
+            Err(OptionError::Needs("a depth", "--shallow"))
+        }
+        Err(e) => Err(e),
+    }
+}
+
+// Whether a shallow server is refused: where that is asked for, or no boundary can be kept.
+fn rejects_shallow(line: &Line<'_>) -> bool
+    ensures { result ≡ (if has (line_value line.now) (codes "--shallow")
+        then has (line_value line.now) (codes "--reject-shallow") else true) }
+{
+    !line.has("--shallow") || line.has("--reject-shallow")
+}
+
 // What a fetch asks for.
 fn wish_of<'a>(
     alloc: Global,
@@ -326,63 +382,121 @@ fn wish_of<'a>(
     pack: &'a str,
     specs: &[&'a str],
 ) -> Result<Wish<'a>, OptionError<'a>>
-    ensures { IfOk result (λ wish. AsksFetch (line_value line.now) pack.now (map (λ w. w.now) specs.now) wish) }
+    ensures wish { IfOk result (λ wish. AsksFetch (line_value line.now) wish) }
+    ensures pack { IfOk result (λ wish. wish.pack.now ≡ pack.now) }
+    ensures specs { IfOk result (λ wish. map bstring_bytes wish.specs.items ≡ map (λ w. w.now) specs.now) }
+    ensures err { IfErr result (λ e. IsRefused (line_value line.now) e) }
 {
-    let shallow = shallow_of(alloc, line)?;
-    let has_boundary = line.has("--shallow");
-    if shallow != Shallow::NoChange && !has_boundary {
-        return Err(OptionError::Needs("a depth", "--shallow"));
-    }
-    let tags = line.value("--tags");
-    let haves = line.value("--negotiator");
+    let shallow = match kept_shallow_of(alloc, line) {
+        Ok(shallow) => shallow,
+        Err(e) => return Err(e),
+    };
+    let tags = match valued(line, "--tags", tags_of(line.value("--tags"))) {
+        Ok(tags) => tags,
+        Err(e) => return Err(e),
+    };
+    let haves = match valued(line, "--negotiator", haves_of(line.value("--negotiator"))) {
+        Ok(haves) => haves,
+        Err(e) => return Err(e),
+    };
     Ok(Wish {
         pack,
         shallow,
-        tags: valued(tags_of(tags), "--tags", tags)?,
-        rejects_shallow: !has_boundary || line.has("--reject-shallow"),
-        haves: valued(haves_of(haves), "--negotiator", haves)?,
+        tags,
+        rejects_shallow: rejects_shallow(line),
+        haves,
         specs: texts_of(alloc, specs)?,
     })
+}
+
+// What is to be done with the operands, and the two files.
+fn work_of<'a>(
+    alloc: Global,
+    line: &Line<'a>,
+) -> Result<(Task<'a>, &'a str, &'a str), OptionError<'a>>
+    ensures ok { IfOk result (λ found. AsksWork (line_value line.now) found.1.now found.2.now found.0) }
+    ensures err { IfErr result (λ e. IsRefused (line_value line.now) e) }
+{
+    let lists = line.has("--list");
+    let keeps_open = line.has("--keep-open");
+    match line.operands.as_slice() {
+        [from, to] => {
+            if lists {
+                return Ok((Task::List { keeps_open }, from, to));
+            }
+            Err(OptionError::Operands)
+        }
+        [from, to, pack, specs @ ..] => {
+            if specs.is_empty() || lists {
+                return Err(OptionError::Operands);
+            }
+            if keeps_open {
+                return Err(OptionError::Needs("--keep-open", "--list"));
+            }
+            match wish_of(alloc, line, pack, specs) {
+                Ok(wish) => Ok((Task::Fetch(wish), from, to)),
+                Err(e) => Err(e),
+            }
+        }
+        _ => Err(OptionError::Operands),
+    }
 }
 
 // What is to be done, and the two files.
 fn task_of<'a>(
     alloc: Global,
     line: &Line<'a>,
-) -> Result<(Task<'a>, &'a str, &'a str), OptionError<'a>> {
+) -> Result<(Task<'a>, &'a str, &'a str), OptionError<'a>>
+    ensures ok { IfOk result (λ found. AsksTask (line_value line.now) found.1.now found.2.now found.0) }
+    ensures err { IfErr result (λ e. IsRefused (line_value line.now) e) }
+{
     if line.has("--help") {
         return Ok((Task::Help, "", ""));
     }
     if line.has("-V") {
         return Ok((Task::Version, "", ""));
     }
-    match line.operands.as_slice() {
-        [from, to] => {
-            if line.has("--list") {
-                return Ok((Task::List, from, to));
-            }
-            Err(OptionError::Operands)
-        }
-        [from, to, pack, specs @ ..] => {
-            if specs.is_empty() || line.has("--list") {
-                return Err(OptionError::Operands);
-            }
-            Ok((Task::Fetch(wish_of(alloc, line, pack, specs)?), from, to))
-        }
-        _ => Err(OptionError::Operands),
+    match work_of(alloc, line) {
+        Ok(found) => Ok(found),
+        Err(e) => Err(e),
     }
 }
 
 impl<'a> Options<'a> {
-    /// What the words after the program's name ask for.
-    pub fn read(alloc: Global, words: &'a [String]) -> Result<Options<'a>, OptionError<'a>> {
-        let line = Line::read(alloc, words)?;
-        let version = line.value("--version");
-        let (task, from, to) = task_of(alloc, &line)?;
+    /// What the words after the program's name ask for, as their definition has it.
+    ///
+    /// # Errors
+    ///
+    /// The first word that is refused, where the words can't be taken apart; else an option that can't have its value, two that
+    /// can't be used together, one that needs another, or operands that fit neither usage.
+    pub fn read(alloc: Global, words: &'a [String]) -> Result<Options<'a>, OptionError<'a>>
+        ensures { ReadsOptions (line_of (map string_bytes words.now)) result }
+    {
+        match Line::read(alloc, words) {
+            Ok(line) => Options::of(alloc, &line),
+            Err(LineError::Unknown(word)) => Err(OptionError::Line(LineError::Unknown(word))),
+            Err(LineError::NoValue(name)) => Err(OptionError::Line(LineError::NoValue(name))),
+            Err(LineError::Memory) => Err(OptionError::Memory),
+        }
+    }
+
+    // What a line asks for that is taken apart.
+    fn of(alloc: Global, line: &Line<'a>) -> Result<Options<'a>, OptionError<'a>>
+        ensures ok { IfOk result (λ options. AsksOptions (line_value line.now) options) }
+        ensures err { IfErr result (λ e. IsRefused (line_value line.now) e) }
+    {
+        let (task, from, to) = match task_of(alloc, line) {
+            Ok(found) => found,
+            Err(e) => return Err(e),
+        };
+        let version = match valued(line, "--version", version_of(line.value("--version"))) {
+            Ok(version) => version,
+            Err(e) => return Err(e),
+        };
         let server = Server {
             from,
             to,
-            version: valued(version_of(version), "--version", version)?,
+            version,
             path: line.value("--path"),
             host: line.value("--host"),
             agent: line.value("--agent").unwrap_or("gixp"),
@@ -390,8 +504,8 @@ impl<'a> Options<'a> {
         Ok(Options {
             task,
             server,
-            files: files_of(&line),
-            output: output_of(&line),
+            files: files_of(line),
+            output: output_of(line),
         })
     }
 }

@@ -1,0 +1,25 @@
+use Rattle.std.proofs.Common.{◌≡◌, ◌∙◌, [], codes, map, take, append-nil, arith}
+use Rattle.std.proofs.lemmas.List.{map-append}
+use Rattle.std.proofs.lemmas.Grind.{common_steps}
+use Rattle.gixp_refspec.specs.PartialName.{name_bytes}
+use Rattle.gixp_fetch_parts.specs.Words.{values_in}
+use Rattle.gixp_fetch_parts.specs.LineOf.{setting_value}
+use Rattle.gixp_fetch_parts.proofs.LineLemmas.{values_more}
+use Rattle.gixp_fetch_parts.proofs.options.excluded.Goals as goal
+use Rattle.gixp_fetch_parts.proofs.options.excluded.Goals.{then-eq+in_ok-from_slice+in-Ok+in_ok-push-in-Ok, else-eq}
+
+pub loop-setting-preserved : goal.loop-setting-preserved
+loop-setting-preserved c =
+    let more = values_more c.deref-setting-items.result.now c.loop-setting.setting-index
+    (record { name = record { ref_ptr = (0, 0); now = [] }; value = record { ref_ptr = (0, 0); now = [] } })
+    (codes "--exclude") c.loop-setting-test.true in
+    let kept : map name_bytes c.loop-setting.names.items
+    ≡ values_in (map setting_value (take c.loop-setting.setting-index c.deref-setting-items.result.now)) (codes "--exclude") =
+    rw c.deref-setting-items.ensures.value c.loop-setting.invariant in
+    rw (← c.deref-setting-items.ensures.value, more) (elim c.if-eq.branch [
+      | then-eq+in_ok-from_slice+in-Ok+in_ok-push-in-Ok w ↦
+          let same = w.in-Ok.ensures.1 ∙ w.in_ok-from_slice.ensures ∙ w.as_bytes.ensures.value in
+          rw (w.names-is, ← w.if-eq.ensures, w.in_ok-push-in-Ok.ensures.items, map-append)
+          (first_of (cc (kept, same), rw (kept, same), grind (arith, common_steps, kept, same)))
+      | else-eq w ↦ rw (w.names-is, ← w.if-eq.ensures, append-nil) kept
+    ])
