@@ -6,8 +6,9 @@ Usage: live.py [--program PATH] [--keep FOLDER] [--only WORD] [--jobs N]
 PATH is the program, else what `rt run` left in crates/gixp_fetch_pack/out. The remote helper beside its crate is tried with it.
 Repositories are made on the spot: empty ones, one commit, 2,000 commits with merges, equal and backward dates, annotated and
 nested tags, symbolic and hidden refs, shallow ones. Each action is done twice, by git over file:// and by git over gixp::, and
-must leave the same refs and the same boundary, and a repository that `git fsck --strict` finds whole. Then come servers that
-die, that send errors or nonsense, and one that freezes: an error, and nothing left behind.
+must leave the same refs and the same boundary, and a repository that `git fsck --strict` finds whole. So must servers whose
+answers are bodies of their own, as of HTTP. Connections are counted. Then come servers that die, that send errors or nonsense,
+and one that freezes: an error, and nothing left behind.
 
 Prints a line for each that failed, and `N passed, M failed`. Ends with 1 where one failed. git is needed.
 """
@@ -18,6 +19,7 @@ import os
 import pathlib
 import random
 import re
+import shlex
 import shutil
 import socket
 import subprocess
@@ -78,10 +80,10 @@ class Tester:
             self.failed += 1
             print(f"FAILED {name}: {str(told).strip()[:600]}")
 
-    def case(self, name, action, *words):
+    def case(self, name, action, *words, **more):
         """Begins a case, which gets a tester of its own."""
         if not self.only or self.only in name:
-            self.cases.append(self.pool.submit(one_case, Tester(self.folder("case"), self.program), name, action, words))
+            self.cases.append(self.pool.submit(one_case, Tester(self.folder("case"), self.program), name, action, words, more))
 
     def finish(self):
         """Waits for all cases, and counts them."""
@@ -90,9 +92,9 @@ class Tester:
             self.passed, self.failed = self.passed + one.passed, self.failed + one.failed
 
 
-def one_case(t, name, action, words):
+def one_case(t, name, action, words, more):
     try:
-        action(name, t, *words)
+        action(name, t, *words, **more)
     except (RuntimeError, OSError, subprocess.SubprocessError) as e:
         t.check(name, False, e)
     return t
@@ -154,14 +156,88 @@ def is_clean(t, repository):
     return status == 0 and not left and "missing" not in out + err, f"{err}{left}"
 
 
+# A server of our own, in place of ssh
+
+
+def as_ssh():
+    """Runs the server that the last word names, as the environment has it.
+
+    LIVE_STARTS    a file that gets a line for each start
+    LIVE_VERSION   the version that is spoken, whatever is asked for
+    LIVE_MOST      how many bytes it says before it dies
+    LIVE_PAD       how long a capability is that comes after `version 2`
+    LIVE_BODIES    each request goes to a server of its own, as over HTTP, by version 2
+    """
+    path = shlex.split(sys.argv[-1])[1]
+    wish = {name: os.environ.get(f"LIVE_{name}") for name in ("STARTS", "VERSION", "MOST", "PAD", "BODIES")}
+    if wish["STARTS"]:
+        with open(wish["STARTS"], "a") as starts:
+            starts.write("start\n")
+    if wish["VERSION"] or wish["BODIES"]:
+        os.environ["GIT_PROTOCOL"] = f"version={wish['VERSION'] or 2}"
+    if wish["BODIES"]:
+        return answer_bodies(path)
+    if not (wish["MOST"] or wish["PAD"]):
+        os.execvp("git", ["git", "upload-pack", path])
+    server = subprocess.Popen(["git", "upload-pack", path], stdout=subprocess.PIPE)
+    if wish["PAD"]:
+        tell(server.stdout.read(14) + frame(b"x=" + b"y" * int(wish["PAD"])))
+    left = int(wish["MOST"] or 1 << 60)
+    while left and (said := server.stdout.read1(min(left, 1 << 16))):
+        tell(said)
+        left -= len(said)
+    server.kill()
+
+
+def tell(said):
+    sys.stdout.buffer.write(said)
+    sys.stdout.buffer.flush()
+
+
+def answer_bodies(path):
+    """Tells what the server is capable of, and then answers each request."""
+    def answer(word, request):
+        tell(subprocess.run(["git", "upload-pack", word, path], input=request, stdout=subprocess.PIPE).stdout)
+
+    answer("--http-backend-info-refs", b"")
+    while (request := request_of(sys.stdin.buffer)) not in (b"", b"0000"):
+        answer("--stateless-rpc", request)
+
+
+def request_of(stream):
+    """The packet lines up to the flush packet, or nothing at the end."""
+    request = b""
+    while len(size := stream.read(4)) == 4:
+        request += size
+        if size == b"0000":
+            return request
+        request += stream.read(max(int(size, 16), 4) - 4)
+    return b""
+
+
+def ssh(**wish):
+    """What the helper is told, so that it starts such a server."""
+    command = f"{sys.executable} {shlex.quote(str(pathlib.Path(__file__).resolve()))} as-ssh"
+    return {"GIT_SSH_COMMAND": command, **{f"LIVE_{name}": str(value) for name, value in wish.items()}}
+
+
+def bodies(server):
+    return (f"file://{server}", f"gixp::ssh://host{server}"), ssh(BODIES=1)
+
+
+def leaves_nothing(t):
+    """Whether the helper's own folder is gone."""
+    return not list(t.room.glob("gixp.*"))
+
+
 # By git and by the program
 
 
-def clone_both(t, server, *words, version="2", urls=None):
+def clone_both(t, server, *words, version="2", urls=None, more=None):
     by_git, by_us = t.folder("git"), t.folder("us")
     plain, ours = urls or (f"file://{server}", f"gixp::{server}")
     first = t.run("git", "-c", f"protocol.version={version}", "clone", "-q", *words, plain, by_git)
-    second = t.run("git", "clone", "-q", *words, ours, by_us, more={"GIXP_VERSION": version})
+    second = t.run("git", "clone", "-q", *words, ours, by_us, more={"GIXP_VERSION": version, **(more or {})})
     return by_git, by_us, first, second
 
 
@@ -175,20 +251,22 @@ def same(t, name, by_git, by_us, first, second):
     return t.check(name, clean and equal, told if not clean else f"{state(t, by_git)}\n{state(t, by_us)}")
 
 
-def clones(name, t, server, version, *words):
-    same(t, name, *clone_both(t, server, *words, version=version))
+def clones(name, t, server, version, *words, over=None):
+    urls, more = over(server) if over else (None, None)
+    same(t, name, *clone_both(t, server, *words, version=version, urls=urls, more=more))
 
 
-def fetches(name, t, prepare, words, version="2", change=None, cloned=(), urls=None):
+def fetches(name, t, prepare, words, version="2", change=None, cloned=(), over=None):
     """A clone, a change of the server, and a fetch."""
     server = prepare()
-    by_git, by_us, first, second = clone_both(t, server, *cloned, version=version)
+    urls, more = over(server) if over else (None, None)
+    by_git, by_us, first, second = clone_both(t, server, *cloned, version=version, urls=urls, more=more)
     if first[0] or second[0]:
         return t.check(name, False, first[2] + second[2])
     if change:
         change(server)
     first = t.run("git", "-c", f"protocol.version={version}", "fetch", "-q", *words, at=by_git)
-    second = t.run("git", "fetch", "-q", *words, at=by_us, more={"GIXP_VERSION": version})
+    second = t.run("git", "fetch", "-q", *words, at=by_us, more={"GIXP_VERSION": version, **(more or {})})
     return same(t, name, by_git, by_us, first, second)
 
 
@@ -277,6 +355,9 @@ def words(name, t):
         (["--depth"], 2), (["--depth", "0", "--shallow", "s", "a", "b", "c", "d"], 2), (["--depth", "x", "a", "b", "c", "d"], 2),
         (["--depth", "1", "a", "b", "c", "d"], 2), (["--version", "3", "a", "b", "c", "d"], 2), (["--tags", "some", "a", "b", "c", "d"], 2),
         (["--depth", "1", "--since", "5", "--shallow", "s", "a", "b", "c", "d"], 2), (["--list", "a"], 2), (["--list", "a", "b", "c"], 2),
+        (["--keep-open", "a", "b", "c", "d"], 2), (["--depth", "1", "--deepen", "1", "--shallow", "s", "a", "b", "c", "d"], 2),
+        (["--unshallow", "--exclude", "x", "--shallow", "s", "a", "b", "c", "d"], 2),
+        (["--help", "--keep-open", "a"], 0), (["-V", "--help", "a"], 0),
         (["/nowhere/a", "/nowhere/b", "c", "d"], 1), (["--refs", "/nowhere/r", "a", "b", "c", "d"], 1), (["--refs=/nowhere/r", "a", "b", "c", "d"], 1),
         (["--depth=0", "--shallow=s", "a", "b", "c", "d"], 2), (["--version=3", "a", "b", "c", "d"], 2), (["--quiet=yes", "a", "b", "c", "d"], 2), (["--nothing=1", "a", "b", "c", "d"], 2),
     ):
@@ -339,9 +420,12 @@ def frame(text):
     return f"{len(text) + 4:04x}".encode() + text
 
 
+GREETING = frame(b"version 2\n") + frame(b"ls-refs=unborn\n") + frame(b"fetch=shallow\n") + frame(b"object-format=sha1\n") + b"0000"
+
+
 def refuses(name, t, server):
     """Servers that say an error, or nonsense."""
-    greeting = frame(b"version 2\n") + frame(b"ls-refs=unborn\n") + frame(b"fetch=shallow\n") + frame(b"object-format=sha1\n") + b"0000"
+    greeting = GREETING
     id = t.git("rev-parse", "main", at=server).strip().encode()
     refs = frame(id + b" refs/heads/main\n") + b"0000"
     errors = (frame(b"ERR access denied\n"), greeting + frame(b"ERR access denied\n"), greeting + refs + frame(b"ERR access denied\n"))
@@ -361,18 +445,19 @@ def refuses(name, t, server):
 
 
 def frozen(name, t, server):
-    """A server that says nothing: the helper's time ends it."""
+    """A server that says nothing, or nothing after its first words: the helper's time ends it."""
     tools = t.folder("frozen")
     tools.mkdir()
-    (tools / "git-upload-pack").write_text("#!/bin/sh\nsleep 30\n")
-    (tools / "ssh").write_text("#!/bin/sh\nexec sleep 30\n")
-    for path in tools.iterdir():
-        path.chmod(0o755)
-    at = time.time()
-    status, out, err = t.run("git", "clone", "-q", "gixp::ssh://nowhere/x", t.folder("us"), more={"GIXP_TIMEOUT": "1", "GIT_SSH_COMMAND": str(tools / "ssh")})
-    t.check(name, status != 0 and time.time() - at < 10, f"{status} {err}")
+    for number, said in enumerate((b"", GREETING[:30], GREETING)):
+        (tools / f"said-{number}").write_bytes(said)
+        ssh_here = tools / f"ssh-{number}"
+        ssh_here.write_text(f'#!/bin/sh\ncat "{tools}/said-{number}"\nexec sleep 30\n')
+        ssh_here.chmod(0o755)
+        at, more = time.time(), {"GIXP_TIMEOUT": "1", "GIT_SSH_COMMAND": str(ssh_here)}
+        status, out, err = t.run("git", "clone", "-q", "gixp::ssh://nowhere/x", t.folder("us"), more=more)
+        t.check(f"{name} after {len(said)} bytes", status != 0 and time.time() - at < 10 and leaves_nothing(t), f"{status} {err}")
     status, out, err = t.run("git", "clone", "-q", "gixp::/nowhere/at/all", t.folder("us"))
-    t.check(f"{name}: no repository", status != 0 and not list(t.room.glob("gixp.*")), err)
+    t.check(f"{name}: no repository", status != 0 and leaves_nothing(t), err)
 
 
 def over_ssh(name, t, server):
@@ -390,12 +475,65 @@ def over_ssh(name, t, server):
     spaced.unlink()
 
 
+def connections(name, t, prepare):
+    """How many connections a clone, a fetch and a list make, by the version that is asked for and the one that is spoken."""
+    servers = (("2", "2", 0, 1), ("1", "1", 0, 2), ("0", "0", 0, 2), ("2", "1", 0, 2), ("2", "0", 0, 2), ("2", "2", 100, 1), ("2", "2", 5000, 2))
+    for asked, spoken, pad, count in servers:
+        server, starts = prepare(), t.folder("starts")
+        more = {**ssh(STARTS=starts, VERSION=spoken, **({"PAD": pad} if pad else {})), "GIXP_VERSION": asked}
+        url, by_us = f"gixp::ssh://host{server}", t.folder("us")
+        versions = f"version {asked} of {spoken}, {pad} bytes more"
+
+        def done(what, count, *words, at=None):
+            starts.write_text("")
+            status, out, err = t.run("git", *words, at=at, more=more)
+            found = len(starts.read_text().splitlines())
+            t.check(f"{name}: {what}, {versions}", status == 0 and found == count and leaves_nothing(t), f"{status} {found} {err}")
+
+        done("clone", count, "clone", "-q", url, by_us)
+        done("nothing new", 1, "fetch", "-q", at=by_us)
+        grow(t, server, 5)
+        done("fetch", count, "fetch", "-q", at=by_us)
+        done("list", 1, "ls-remote", url)
+        tips = t.git("rev-parse", "main", at=server), t.git("rev-parse", "origin/main", at=by_us)
+        t.check(f"{name}: what came, {versions}", is_clean(t, by_us)[0] and tips[0] == tips[1], tips)
+
+
+def dies_later(name, t, server, conversation):
+    """A server that the helper starts, and that dies: in its advertisement, after it, in the list, in the pack."""
+    first = conversation.index(b"0000") + 4
+    for most in (1, 14, 20, first - 2, first, first + 3, first + 60, len(conversation) // 2, len(conversation) * 3 // 4, len(conversation)):
+        by_us = t.folder("us")
+        status, out, err = t.run("git", "clone", "-q", f"gixp::ssh://host{server}", by_us, more=ssh(MOST=most))
+        t.check(f"{name} at {most}", status not in (0, -1) and err and not by_us.exists() and leaves_nothing(t), f"{status} {err}")
+
+
+def refuses_helper(name, t, server):
+    """Servers that say an error or nonsense to the helper."""
+    tools = t.folder("ssh")
+    tools.mkdir()
+    (tools / "ssh").write_text('#!/bin/sh\ncat "$SAID"; exec > /dev/null; cat > /dev/null\n')
+    (tools / "ssh").chmod(0o755)
+    version = frame(b"version 2\n")
+    for number, (said, wanted) in enumerate((
+        (frame(b"ERR access denied\n"), "access denied"), (GREETING + frame(b"ERR access denied\n"), "access denied"),
+        (b"", ""), (b"0", ""), (b"<html>" * 9, ""), (b"\x00" * 100, "NUL"), (version + frame(b"agent=a\x00b\n") + b"0000", "NUL"),
+        (version + b"0002", ""), (version + b"zzzz" * 9, ""), (version + b"ffff", ""), (version + b"0003", ""), (version, ""),
+        (GREETING + b"zzzz", ""), (GREETING + b"000", ""),
+    )):
+        (tools / "said").write_bytes(said)
+        by_us, more = t.folder("us"), {"GIT_SSH_COMMAND": str(tools / "ssh"), "SAID": str(tools / "said")}
+        status, out, err = t.run("git", "clone", "-q", "gixp::ssh://host/x", by_us, more=more)
+        t.check(f"{name} {number}", status not in (0, -1) and wanted in err and not by_us.exists() and leaves_nothing(t), f"{status} {err}")
+
+
 def over_daemon(name, t, server):
     with socket.socket() as found:
         found.bind(("127.0.0.1", 0))
         port = found.getsockname()[1]
-    daemon = subprocess.Popen(["git", "daemon", f"--port={port}", "--listen=127.0.0.1", "--export-all", f"--base-path={server.parent}", "--reuseaddr", str(server.parent)],
-                              env=t.environment, stdout=subprocess.DEVNULL, stderr=subprocess.DEVNULL)
+    log = t.folder("log")
+    words = [f"--port={port}", "--listen=127.0.0.1", "--export-all", f"--base-path={server.parent}", "--reuseaddr", "--verbose"]
+    daemon = subprocess.Popen(["git", "daemon", *words, str(server.parent)], env=t.environment, stdout=subprocess.DEVNULL, stderr=log.open("a"))
     try:
         for _ in range(100):
             with socket.socket() as tried:
@@ -404,8 +542,12 @@ def over_daemon(name, t, server):
             time.sleep(0.05)
         for version in VERSIONS:
             url = f"git://127.0.0.1:{port}/{server.name}"
+            log.write_text("")
             by_git, by_us, first, second = clone_both(t, server, version=version, urls=(url, f"gixp::{url}"))
             same(t, f"{name}: clone, version {version}", by_git, by_us, first, second)
+            # one of them is git's
+            count = log.read_text().count("Request upload-pack")
+            t.check(f"{name}: connections, version {version}", count == (2 if version == "2" else 3), log.read_text())
             if version == "2":
                 grow(t, server, 3, seed=90)
                 first, second = t.run("git", "fetch", "-q", at=by_git), t.run("git", "fetch", "-q", at=by_us)
@@ -495,10 +637,11 @@ def has_tip_alone(name, t):
     same(t, name, by_git, by_us, first, second)
 
 
-def many_haves(name, t, version):
+def many_haves(name, t, version, over=None):
     """Thousands of commits that the server doesn't know, and then thousands that it knows."""
     server = make(t, "server", 6000)
-    by_git, by_us, first, second = clone_both(t, server)
+    urls, more = over(server) if over else (None, {})
+    by_git, by_us, first, second = clone_both(t, server, urls=urls, more=more)
     for client in (by_git, by_us):
         t.git("fast-import", "--quiet", "--date-format=raw", given=commits(6000, branch="mine", parent="refs/remotes/origin/main^0", time=1_900_000_000, seed=5), at=client)
         t.git("update-ref", "-d", "refs/remotes/origin/main", at=client)
@@ -508,11 +651,36 @@ def many_haves(name, t, version):
     for negotiator in ("consecutive", "skipping", "list"):
         copy = t.folder("copy")
         shutil.copytree(by_us, copy)
-        second = t.run("git", "fetch", "-q", at=copy, more={"GIXP_VERSION": version, "GIXP_NEGOTIATOR": negotiator, "GIXP_COMMITS": "16384"})
+        wish = {"GIXP_VERSION": version, "GIXP_NEGOTIATOR": negotiator, "GIXP_COMMITS": "16384", **more}
+        second = t.run("git", "fetch", "-q", at=copy, more=wish)
         t.check(f"{name}, {negotiator}", second[0] == 0 and is_clean(t, copy)[0] and state(t, copy)[0] == state(t, by_git)[0], second[2])
 
 
+def try_bodies(t):
+    """Servers whose answers are bodies of their own."""
+    def small():
+        return make(t, "server", 30, tags=True)
+
+    large = make(t, "large", 2000, merges=True, tags=True)
+    depths = ["--depth", "1"], ["--depth", "3", "--no-single-branch"], ["--shallow-since=1700000900"], ["--shallow-exclude=v1"]
+    for words in ([], ["--mirror"], *depths):
+        t.case(f"bodies: clone {' '.join(words)}", clones, large, "2", *words, over=bodies)
+    for name, cloned, words, count in (
+        ("nothing new", [], [], 0), ("100 new commits", [], [], 100), ("2,000 new commits", [], [], 2000),
+        ("--depth 3", ["--depth", "1"], ["--depth", "3"], 2), ("--deepen 2", ["--depth", "2"], ["--deepen", "2"], 2),
+        ("--unshallow", ["--depth", "2"], ["--unshallow"], 2), ("into a shallow clone", ["--depth", "2"], [], 2),
+    ):
+        def change(server, count=count):
+            if count:
+                grow(t, server, count)
+
+        t.case(f"bodies: fetch {name}", fetches, small, words, "2", change, cloned, over=bodies)
+    t.case("bodies: 6,000 haves in vain and 6,000 in common", many_haves, "2", over=bodies)
+
+
 def main():
+    if sys.argv[1:2] == ["as-ssh"]:
+        return as_ssh()
     parser = argparse.ArgumentParser(description=__doc__.splitlines()[0])
     parser.add_argument("--program", type=pathlib.Path, default=CRATE / "out" / "gixp_fetch_pack")
     parser.add_argument("--keep", type=pathlib.Path, help="a folder for all that is made, which stays")
@@ -531,6 +699,8 @@ def main():
         t.case("fetch by a client that has a tip alone", has_tip_alone)
         for version in ("0", "2"):
             t.case(f"6,000 haves in vain and 6,000 in common, version {version}", many_haves, version)
+        try_bodies(t)
+        t.case("connections", connections, lambda: make(t, "counted", 30, tags=True))
         t.case("over git daemon", over_daemon, make(t, "served", 40, tags=True))
         t.case("over ssh", over_ssh, make(t, "served", 10))
         t.case("a server that freezes", frozen, None)
@@ -542,6 +712,8 @@ def main():
         t.case("errors", refuses, server)
         conversation = recorded(t, server)
         t.case("a server that dies", dies, server, conversation)
+        t.case("a server that dies on the helper", dies_later, server, conversation)
+        t.case("errors to the helper", refuses_helper, server)
         t.case("a pack with a byte changed", spoiled, server, conversation)
         t.finish()
         print(f"{t.passed} passed, {t.failed} failed")
