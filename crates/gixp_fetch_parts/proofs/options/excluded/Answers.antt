@@ -19,6 +19,7 @@ loop-setting-preserved c =
     rw (← c.deref-setting-items.ensures.value, more) (elim c.if-eq.branch [
       | then-eq+in_ok-from_slice+in-Ok+in_ok-push-in-Ok w ↦
           let same = w.in-Ok.ensures.1 ∙ w.in_ok-from_slice.ensures ∙ w.as_bytes.ensures.value in
-          rw (w.names-is, ← w.if-eq.ensures, w.in_ok-push-in-Ok.ensures.items, map-append) (first_of (cc (kept, same), rw (kept, same), grind (arith, common_steps, kept, same)))
+          rw (w.names-is, ← w.if-eq.ensures, w.in_ok-push-in-Ok.ensures.items, map-append)
+          (first_of (cc (kept, same), rw (kept, same), grind (arith, common_steps, kept, same)))
       | else-eq w ↦ rw (w.names-is, ← w.if-eq.ensures, append-nil) kept
     ])

@@ -5,7 +5,8 @@ use Rattle.gixp_fetch_parts.proofs.options.work_of.Goals as goal
 
 pub returns-then-lists-clause-ok : goal.returns-then-lists-clause-ok
 returns-then-lists-clause-ok c =
-    let files = two_words (λ w. w.now) c.as_slice.result.now (record { ref_ptr = (0, 0); now = [] }) c.in-len2.len_at_least c.in-len2.len_below in
+    let files = two_words (λ w. w.now) c.as_slice.result.now (record { ref_ptr = (0, 0); now = [] })
+    c.in-len2.len_at_least c.in-len2.len_below in
     (cc, ap (map (λ w. w.now)) (sym c.as_slice.ensures.value) ∙ files, cc)
 
 pub returns-in-Ok-clause-ok : goal.returns-in-Ok-clause-ok
@@ -15,5 +16,6 @@ returns-in-Ok-clause-ok c =
     let pack = c.in-Ok.ensures.pack in
     let specs = c.in-Ok.ensures.specs in
     let count = ap length specs in
-    let some : 0 < length c.in-Ok.wish.specs.items = first_of (grind (arith, common_steps, count, c.is_empty.ensures), omega (arith, count)) in
+    let some : 0 < length c.in-Ok.wish.specs.items =
+    first_of (grind (arith, common_steps, count, c.is_empty.ensures), omega (arith, count)) in
     (cc, cc, (first_of (cc (all, pack, specs), grind (arith, common_steps, all, pack, specs)), some), c.in-Ok.ensures.wish)
