@@ -314,7 +314,8 @@ module _ {N I A S C P : Type 0} (parties : Parties N I A S C P CopyError) (basis
     abbrev AnyWay : Result (Option Outcome) (FetchError A CopyError) → Type 0
     AnyWay r = (r ≡ Err fetch.Memory) ⊎ ((n : N) × IsOver n × Way version caps (bands version caps) n old new (end_of r))
 
-    carried : (r : Result (Option Outcome) (FetchError A CopyError)) → IsUndisturbed r → (f : FetchesOver parties IsOver IsEmpty h old new r)
+    carried : (r : Result (Option Outcome) (FetchError A CopyError)) → IsUndisturbed r
+        → (f : FetchesOver parties IsOver IsEmpty h old new r)
         → CarriesOut parties (planner_call h) f.first r f.last f.progress → AnyWay r
     carried r u f c =
         at
@@ -365,8 +366,8 @@ module _ {N I A S C P : Type 0} (parties : Parties N I A S C P CopyError) (basis
                   ∙ missing-named A name error m),
             )
 
-    pub goes-way : (r : Result (Option Outcome) (FetchError A CopyError)) → IsUndisturbed r → FetchesMapped parties IsOver IsEmpty h old new r
-        → AnyWay r
+    pub goes-way : (r : Result (Option Outcome) (FetchError A CopyError)) → IsUndisturbed r
+        → FetchesMapped parties IsOver IsEmpty h old new r → AnyWay r
     goes-way r u (inr n) = inl n.1
     goes-way (Ok o) u (inl f) = carried (Ok o) u f f.fetched.fetched
     goes-way (Err e) u (inl f) = at f.fetched.fetched
