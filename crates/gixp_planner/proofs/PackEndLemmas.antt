@@ -1,5 +1,5 @@
 -- How a session ends with a pack: it is taken where it ends at a stop, and refused where it ends in a refusal.
-use Rattle.std.proofs.Common.{◌≡◌, ◌⊎◌, arith, ℕ, Bool, true, false, codes, Option, Some, None, Result, Ok, Err, IfSome, IsSome, inl, inr, refl, sym, ap, ◌∙◌, subst}
+use Rattle.std.proofs.Common.{◌≡◌, ◌⊎◌, arith, Bool, true, false, codes, Option, Some, None, Result, Ok, Err, IfSome, IsSome, inl, inr, refl, sym, ap, ◌∙◌, subst}
 use Rattle.std.specs.Prelude.{if◌then◌else◌}
 use Rattle.std.specs.Borrow.{GName}
 use Rattle.std.specs.Option.{option_map}
@@ -12,7 +12,7 @@ use Rattle.gixp_packetline.specs.Lines as lines
 use Rattle.gixp_packetline.specs.Pieces.{Refusal, io, decode, server, unexpected_frame, not_utf8, bad_band, interrupted, memory, Pieces, no_pieces}
 use Rattle.gixp_packetline.specs.Lines.{next_of, refuses}
 use Rattle.gixp_packetline.specs.Reading.{Reading, Refuses, Fails, IsFault, refusal_of, lines_ahead, lines_from_stop}
-use Rattle.gixp_sidebands.specs.Bands.{Side, side_reading, banded_reading, unband, unband_behind, is_begun, end_left, KeepsEnd, RefusesContent}
+use Rattle.gixp_sidebands.specs.Bands.{Side, side_reading, banded_reading, unband, unband_behind, is_begun, end_left, KeepsEnd}
 use Rattle.gixp_sidebands.proofs.EndLemmas.{ends_refused}
 use Rattle.gixp_response.specs.Answer.{AnswerValue, Found, whole}
 use Rattle.gixp_response.specs.AnswerReading.{Answered}

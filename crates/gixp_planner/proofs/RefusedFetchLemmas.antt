@@ -367,8 +367,7 @@ module _ {N I A S C P : Type 0} (parties : Parties N I A S C P CopyError) (basis
             )
 
     pub goes-way : (r : Result (Option Outcome) (FetchError A CopyError)) → IsUndisturbed r
-        → FetchesMapped parties IsOver IsEmpty h old new r
-        → AnyWay r
+        → FetchesMapped parties IsOver IsEmpty h old new r → AnyWay r
     goes-way r u (inr n) = inl n.1
     goes-way (Ok o) u (inl f) = carried (Ok o) u f f.fetched.fetched
     goes-way (Err e) u (inl f) = at f.fetched.fetched

@@ -1,6 +1,6 @@
 -- Sessions over recorded bodies, refused ones too: what they send, what is printed of them and how they end follow from the bodies, the
 -- refspecs, the objects that are there and the haves.
-use Rattle.std.specs.Prelude.{ℕ, ◌≡◌, ◌⊎◌, ⊤, Bool, true, List, codes, Option, Result, Ok, Err}
+use Rattle.std.specs.Prelude.{ℕ, ◌≡◌, ◌⊎◌, ⊤, Bool, List, codes, Option, Result, Ok, Err}
 use Rattle.gixp_packetline.specs.declared.read.Error.{Error as ReadError}
 use Rattle.gixp_packetline.specs.declared.read.Error.TheVariants as read
 use Rattle.gixp_wire.specs.declared.bodies.Body.{Body}
