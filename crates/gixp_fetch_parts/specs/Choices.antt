@@ -162,13 +162,13 @@ fits_usage lists (from ∷ to ∷ pack ∷ spec ∷ specs) = not lists
 fits_usage lists _ = false
 
 -- why a command line is refused that is taken apart: what is in conflict is there, and the operands fit neither usage
-abbrev pub IsRefused : LineParts → OptionError → Type 0
-IsRefused line (BadLine e) = ⊥
-IsRefused line (BadValue name value) = ⊤
-IsRefused line (Conflict one other) = (has_conflict line ≡ true) × (has line one.now ≡ true) × (has line other.now ≡ true)
-IsRefused line (Needs one other) = ⊤
-IsRefused line Operands = fits_usage (has line (codes "--list")) line.operands ≡ false
-IsRefused line Memory = ⊤
+abbrev pub RefusesOptions : LineParts → OptionError → Type 0
+RefusesOptions line (BadLine e) = ⊥
+RefusesOptions line (BadValue name value) = ⊤
+RefusesOptions line (Conflict one other) = (has_conflict line ≡ true) × (has line one.now ≡ true) × (has line other.now ≡ true)
+RefusesOptions line (Needs one other) = ⊤
+RefusesOptions line Operands = fits_usage (has line (codes "--list")) line.operands ≡ false
+RefusesOptions line Memory = ⊤
 
 -- the refusal of a line that isn't taken apart
 abbrev pub IsLineRefusal : LineFault → OptionError → Type 0
@@ -179,6 +179,6 @@ IsLineRefusal fault _ = ⊥
 -- a call that reads a command line
 abbrev pub ReadsOptions : Result LineParts LineFault → Result Options OptionError → Type 0
 ReadsOptions (Ok line) (Ok options) = AsksOptions line options
-ReadsOptions (Ok line) (Err e) = IsRefused line e
+ReadsOptions (Ok line) (Err e) = RefusesOptions line e
 ReadsOptions (Err fault) (Ok options) = ⊥
 ReadsOptions (Err fault) (Err e) = IsLineRefusal fault e

@@ -7,7 +7,7 @@ ghost use Rattle.gixp_negotiate.specs.Shallow.{no_change, at_remote, deepens, sh
 ghost use Rattle.gixp_fetch_parts.specs.LineOf.{line_of, line_value, LineParts};
 ghost use Rattle.gixp_fetch_parts.specs.declared.options.OptionError.TheVariants.{Memory};
 ghost use Rattle.gixp_fetch_parts.specs.Choices.{version_of, tags_of, has, values, has_conflict, IsHaves, IsNumber, IsSeconds};
-ghost use Rattle.gixp_fetch_parts.specs.Choices.{CutsHistory, AsksHistory, AsksFiles, AsksOutput, AsksFetch, AsksWork, AsksTask, AsksOptions, IsRefused, ReadsOptions};
+ghost use Rattle.gixp_fetch_parts.specs.Choices.{CutsHistory, AsksHistory, AsksFiles, AsksOutput, AsksFetch, AsksWork, AsksTask, AsksOptions, RefusesOptions, ReadsOptions};
 
 use crate::line::{Line, LineError};
 use bstr::BString;
@@ -197,7 +197,7 @@ fn valued<'a, T: Drop>(
 ) -> Result<T, OptionError<'a>>
     ensures found { IfOk result (λ value. found ≡ Some value) }
     ensures refused { OnErr result (found ≡ None) }
-    ensures why { IfErr result (λ e. IsRefused (line_value line.now) e) }
+    ensures why { IfErr result (λ e. RefusesOptions (line_value line.now) e) }
 {
     match found {
         Some(found) => Ok(found),
@@ -241,7 +241,7 @@ fn seconds_of(word: &str) -> Option<i64>
 // The names after `--exclude`.
 fn excluded<'a>(alloc: Global, line: &Line<'a>) -> Result<Vec<PartialName>, OptionError<'a>>
     ensures ok { IfOk result (λ names. map name_bytes names.items ≡ values (line_value line.now) (codes "--exclude")) }
-    ensures err { IfErr result (λ e. IsRefused (line_value line.now) e) }
+    ensures err { IfErr result (λ e. RefusesOptions (line_value line.now) e) }
 {
     let mut names = Vec::new(alloc);
     for setting in &line.settings {
@@ -263,7 +263,7 @@ fn excluded<'a>(alloc: Global, line: &Line<'a>) -> Result<Vec<PartialName>, Opti
 // What a time and names leave of the history.
 fn cut<'a>(alloc: Global, line: &Line<'a>) -> Result<Shallow, OptionError<'a>>
     ensures ok { IfOk result (λ s. CutsHistory (line_value line.now) (shallow_value s)) }
-    ensures err { IfErr result (λ e. IsRefused (line_value line.now) e) }
+    ensures err { IfErr result (λ e. RefusesOptions (line_value line.now) e) }
 {
     let since_cutoff = match line.value("--since") {
         Some(word) => match valued(line, "--since", seconds_of(word)) {
@@ -322,7 +322,7 @@ fn conflict(line: &Line<'_>) -> Option<(&'static str, &'static str)>
 // How much history is asked for.
 fn shallow_of<'a>(alloc: Global, line: &Line<'a>) -> Result<Shallow, OptionError<'a>>
     ensures ok { IfOk result (λ s. AsksHistory (line_value line.now) (shallow_value s)) }
-    ensures err { IfErr result (λ e. IsRefused (line_value line.now) e) }
+    ensures err { IfErr result (λ e. RefusesOptions (line_value line.now) e) }
 {
     if let Some((one, other)) = conflict(line) {
         return Err(OptionError::Conflict(one, other));
@@ -353,7 +353,7 @@ fn texts_of(alloc: Global, words: &[&str]) -> Result<Vec<BString>, AllocError>
 fn kept_shallow_of<'a>(alloc: Global, line: &Line<'a>) -> Result<Shallow, OptionError<'a>>
     ensures ok { IfOk result (λ s. AsksHistory (line_value line.now) (shallow_value s)) }
     ensures kept { IfOk result (λ s. has (line_value line.now) (codes "--shallow") ≡ false → shallow_value s ≡ no_change) }
-    ensures err { IfErr result (λ e. IsRefused (line_value line.now) e) }
+    ensures err { IfErr result (λ e. RefusesOptions (line_value line.now) e) }
 {
     match shallow_of(alloc, line) {
         Ok(Shallow::NoChange) => Ok(Shallow::NoChange),
@@ -385,7 +385,7 @@ fn wish_of<'a>(
     ensures wish { IfOk result (λ wish. AsksFetch (line_value line.now) wish) }
     ensures pack { IfOk result (λ wish. wish.pack.now ≡ pack.now) }
     ensures specs { IfOk result (λ wish. map bstring_bytes wish.specs.items ≡ map (λ w. w.now) specs.now) }
-    ensures err { IfErr result (λ e. IsRefused (line_value line.now) e) }
+    ensures err { IfErr result (λ e. RefusesOptions (line_value line.now) e) }
 {
     let shallow = match kept_shallow_of(alloc, line) {
         Ok(shallow) => shallow,
@@ -415,7 +415,7 @@ fn work_of<'a>(
     line: &Line<'a>,
 ) -> Result<(Task<'a>, &'a str, &'a str), OptionError<'a>>
     ensures ok { IfOk result (λ found. AsksWork (line_value line.now) found.1.now found.2.now found.0) }
-    ensures err { IfErr result (λ e. IsRefused (line_value line.now) e) }
+    ensures err { IfErr result (λ e. RefusesOptions (line_value line.now) e) }
 {
     let lists = line.has("--list");
     let keeps_open = line.has("--keep-open");
@@ -448,7 +448,7 @@ fn task_of<'a>(
     line: &Line<'a>,
 ) -> Result<(Task<'a>, &'a str, &'a str), OptionError<'a>>
     ensures ok { IfOk result (λ found. AsksTask (line_value line.now) found.1.now found.2.now found.0) }
-    ensures err { IfErr result (λ e. IsRefused (line_value line.now) e) }
+    ensures err { IfErr result (λ e. RefusesOptions (line_value line.now) e) }
 {
     if line.has("--help") {
         return Ok((Task::Help, "", ""));
@@ -483,7 +483,7 @@ impl<'a> Options<'a> {
     // What a line asks for that is taken apart.
     fn of(alloc: Global, line: &Line<'a>) -> Result<Options<'a>, OptionError<'a>>
         ensures ok { IfOk result (λ options. AsksOptions (line_value line.now) options) }
-        ensures err { IfErr result (λ e. IsRefused (line_value line.now) e) }
+        ensures err { IfErr result (λ e. RefusesOptions (line_value line.now) e) }
     {
         let (task, from, to) = match task_of(alloc, line) {
             Ok(found) => found,

@@ -18,7 +18,7 @@ use Rattle.gixp_graph.specs.GraphData.{HeldCommit, Commits, GraphData, shown}
 use Rattle.gixp_graph.specs.GraphLaws.{same_from}
 use Rattle.gixp_negotiators.specs.declared.queue.Waiting.{Waiting}
 use Rattle.gixp_negotiators.specs.Marks.{has_all, has_mark, Grows, SeesNone, SeesOnly, Claims}
-use Rattle.gixp_negotiators.specs.Waiting.{waits_in, open_one, open_in, Fits, Keeps, KeepsTimed, AllTimed, NoneNewer, AllCommon, IsNewest, IsNewestAt, IsNewestIn, IsDated, QueuesNew}
+use Rattle.gixp_negotiators.specs.Waiting.{waits_in, open_one, open_in, Fits, KeepsQueue, KeepsTimed, AllTimed, NoneNewer, AllCommon, IsNewest, IsNewestAt, IsNewestIn, IsDated, QueuesNew}
 use Rattle.gixp_negotiators.proofs.GrowLemmas.{grows_on}
 
 -- what lacks a mark after lacked it before
@@ -154,14 +154,14 @@ times_pushed ws xs objects new is p all =
 
 -- ---- steps
 
-pub keeps_none : (u : ℕ) (ws : List Waiting) (g : GraphData) → Keeps u ws g u ws g
+pub keeps_none : (u : ℕ) (ws : List Waiting) (g : GraphData) → KeepsQueue u ws g u ws g
 keeps_none u ws g = record { fits = λ f. f; order = λ f time w all. all }
 
-pub keeps_grown : (u : ℕ) (ws : List Waiting) (g h : GraphData) → Grows g h → SeesNone g h → Keeps u ws g u ws h
+pub keeps_grown : (u : ℕ) (ws : List Waiting) (g h : GraphData) → Grows g h → SeesNone g h → KeepsQueue u ws g u ws h
 keeps_grown u ws g h w s = record { fits = λ f. fits_grown u u ws g h w s (omega arith) f; order = λ f time v all. all }
 
-pub keeps_on : (u v r : ℕ) (ws xs ys : List Waiting) (g h k : GraphData) → Grows g h → Keeps u ws g v xs h → Keeps v xs h r ys k
-    → Keeps u ws g r ys k
+pub keeps_on : (u v r : ℕ) (ws xs ys : List Waiting) (g h k : GraphData) → Grows g h → KeepsQueue u ws g v xs h → KeepsQueue v xs h r ys k
+    → KeepsQueue u ws g r ys k
 keeps_on u v r ws xs ys g h k w a b = record {
   fits = λ f. b.fits (a.fits f);
   order = λ f time z all. b.order f time (grows_on f g h z w) (a.order f time z all);
@@ -169,7 +169,7 @@ keeps_on u v r ws xs ys g h k w a b = record {
 
 -- the first is set apart
 pub keeps_popped : (u : ℕ) (ws xs : List Waiting) (g : GraphData) (first : Waiting) → IsPermutation ws (first ∷ xs)
-    → Keeps u ws g u (first ∷ xs) g
+    → KeepsQueue u ws g u (first ∷ xs) g
 keeps_popped u ws xs g first p = record {
   fits = λ f. record {
     waiting = λ id seen kept. waits_moved id ws (first ∷ xs) p (f.waiting id seen kept);

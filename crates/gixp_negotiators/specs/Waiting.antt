@@ -51,13 +51,13 @@ abbrev pub AllCommon : GraphData → Type 0
 AllCommon g = (id : ObjectId) → has_mark 8 g.held id ≡ true → has_mark 16 g.held id ≡ false → has_mark 2 g.held id ≡ true
 
 -- a step of a negotiator keeps what holds of its queue, its count and its graph: what it adds wasn't seen before
-pub record Keeps (u : ℕ) (ws : List Waiting) (g : GraphData) (v : ℕ) (xs : List Waiting) (h : GraphData) : Type 0 where
+pub record KeepsQueue (u : ℕ) (ws : List Waiting) (g : GraphData) (v : ℕ) (xs : List Waiting) (h : GraphData) : Type 0 where
   pub fits : Fits u ws g → Fits v xs h
   pub order : (f : GraphData) (time : ℤ) → Grows f g → NoneNewer time f ws → NoneNewer time f xs
 
 -- a step of one in whose queue each commit waits under its own time keeps that, too
 pub record KeepsTimed (u : ℕ) (ws : List Waiting) (g : GraphData) (v : ℕ) (xs : List Waiting) (h : GraphData) : Type 0 where
-  pub keeps : Keeps u ws g v xs h
+  pub keeps : KeepsQueue u ws g v xs h
   pub timed : AllTimed g.objects ws → AllTimed h.objects xs
 
 -- none of these is newer than one that was taken, and none of its time came earlier

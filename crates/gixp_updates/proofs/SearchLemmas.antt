@@ -12,7 +12,7 @@ use Rattle.gixp_graph.specs.Object.{Objects, Commit, commit_at}
 use Rattle.gixp_graph.specs.GraphData.{GraphData}
 use Rattle.gixp_graph.specs.Asked.{AsksEach}
 use Rattle.gixp_graph.specs.GraphLaws.{same_from}
-use Rattle.gixp_updates.specs.Ancestors.{IsAncestor, IsReached, ReachesMore, IsBeyond}
+use Rattle.gixp_updates.specs.Ancestors.{IsAncestor, IsReachedFrom, ReachesMore, IsBeyond}
 use Rattle.gixp_updates.specs.Search.{Search, SeesMore, Explores, HasAskedFor, IsSeenThrough, IsSearch}
 use Rattle.gixp_updates.proofs.LookLemmas.{same_id}
 use Rattle.gixp_updates.proofs.AskLemmas.{asks_weaker}
@@ -34,9 +34,9 @@ the_commit (Some c) s = (c, refl)
 -- ---- its beginning
 
 module _ (objects : Objects) (start target : ObjectId) (none s : Search) (unseen : (q : ObjectId) → none.seen q ≡ false) where
-  pub begun_reached : SeesMore (start ∷ []) none s → (q : ObjectId) → s.seen q ≡ true → IsReached (commit_at objects) start q
+  pub begun_reached : SeesMore (start ∷ []) none s → (q : ObjectId) → s.seen q ≡ true → IsReachedFrom (commit_at objects) start q
   begun_reached m q h = ⊎_elim (λ e. absurd (true≢false (sym e ∙ unseen q)))
-      (λ e. subst (IsReached (commit_at objects) start) (is_one start q e) IsReached.itself) (m.only q h)
+      (λ e. subst (IsReachedFrom (commit_at objects) start) (is_one start q e) IsReachedFrom.itself) (m.only q h)
 
   pub search_begun : ((q : ObjectId) → none.waits q ≡ false) → Explores objects (start ∷ []) none s
       → IsSearch (commit_at objects) start target s
@@ -67,9 +67,9 @@ module _ (objects : Objects) (start target : ObjectId) (a b c : Search) (id : Ob
     is_parent : (q : ObjectId) → Contains ps q → Contains (its_commit.0).parents q
     is_parent q h = subst (λ xs. Contains xs q) (parents its_commit.0 its_commit.1) h
 
-    pub step_reached : SeesMore ps b c → (q : ObjectId) → c.seen q ≡ true → IsReached (commit_at objects) start q
+    pub step_reached : SeesMore ps b c → (q : ObjectId) → c.seen q ≡ true → IsReachedFrom (commit_at objects) start q
     step_reached m q h = ⊎_elim (λ e. search.reached q (sym (same q) ∙ e))
-        (λ e. IsReached.parent taken_ancestor its_commit.1 (is_parent q e)) (m.only q h)
+        (λ e. IsReachedFrom.parent taken_ancestor its_commit.1 (is_parent q e)) (m.only q h)
 
     module _ (other : id ≢ target) (e : Explores objects ps b c) where
       -- the one that is taken is passed
@@ -119,10 +119,10 @@ module _ (objects : Objects) (start target : ObjectId) (s : Search) (search : Is
 -- ---- what was asked for
 
 pub asked_reached : (g : GraphData) (read : ObjectId → Option Commit) (start : ObjectId) (s : Search) (before after : List ObjectId)
-    → ((q : ObjectId) → s.seen q ≡ true → IsReached read start q) → HasAskedFor g s before after
-    → AsksEach (λ q. (finite.get g.held q ≡ None) × IsReached read start q) before after
+    → ((q : ObjectId) → s.seen q ≡ true → IsReachedFrom read start q) → HasAskedFor g s before after
+    → AsksEach (λ q. (finite.get g.held q ≡ None) × IsReachedFrom read start q) before after
 asked_reached g read start s before after reached a =
-    asks_weaker (λ q. (s.seen q ≡ true) × (finite.get g.held q ≡ None)) (λ q. (finite.get g.held q ≡ None) × IsReached read start q)
+    asks_weaker (λ q. (s.seen q ≡ true) × (finite.get g.held q ≡ None)) (λ q. (finite.get g.held q ≡ None) × IsReachedFrom read start q)
     (λ q p. (p.1, reached q p.0)) before after a
 
 -- what was looked for is the same
@@ -149,7 +149,7 @@ explored objects same e ids a b x = subst (λ o. Explores o ids a b) e x
 
 -- more were looked for than are allowed
 pub beyond : (read : ObjectId → Option Commit) (start : ObjectId) (allowed : Option ℕ) (ids : List ObjectId) (seen : ℕ)
-    → seen ≡ length ids → IsBeyond seen allowed → IsDistinct (eq_by_cmp id_cmp) ids → All (IsReached read start) ids
+    → seen ≡ length ids → IsBeyond seen allowed → IsDistinct (eq_by_cmp id_cmp) ids → All (IsReachedFrom read start) ids
     → (most : ℕ) × (allowed ≡ Some most) × ReachesMore read start most
 beyond read start None ids seen l b d a = absurd b
 beyond read start (Some most) ids seen l b d a = (most, refl, record { ids = ids; more = omega arith; distinct = d; each = a })

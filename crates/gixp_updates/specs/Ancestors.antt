@@ -14,17 +14,17 @@ pub data IsAncestor (read : ObjectId → Option Commit) (start : ObjectId) : Obj
 
 -- the ids that a look at all ancestors comes to: that of the commit, and the parents of each of its ancestors, whether they are there
 -- or not
-pub data IsReached (read : ObjectId → Option Commit) (start : ObjectId) : ObjectId → Type 0 where
-  itself : IsReached read start start
+pub data IsReachedFrom (read : ObjectId → Option Commit) (start : ObjectId) : ObjectId → Type 0 where
+  itself : IsReachedFrom read start start
   parent : {child id : ObjectId} {c : Commit} → IsAncestor read start child → read child ≡ Some c → Contains c.parents id
-      → IsReached read start id
+      → IsReachedFrom read start id
 
 -- more ids than so many are come to
 pub record ReachesMore (read : ObjectId → Option Commit) (start : ObjectId) (most : ℕ) : Type 0 where
   pub ids : List ObjectId
   pub more : most < length ids
   pub distinct : IsDistinct (eq_by_cmp id_cmp) ids
-  pub each : All (IsReached read start) ids
+  pub each : All (IsReachedFrom read start) ids
 
 -- so many are more than are allowed
 abbrev pub IsBeyond : ℕ → Option ℕ → Type 0

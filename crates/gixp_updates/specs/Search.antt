@@ -15,7 +15,7 @@ use Rattle.gixp_updates.specs.declared.refs.heap.Pending.{Pending}
 use Rattle.gixp_updates.specs.declared.refs.heap.Heap.{Heap}
 use Rattle.gixp_updates.specs.declared.refs.walk.Walk.{Walk}
 pub use Rattle.gixp_updates.specs.LookUps.{LooksUp}
-use Rattle.gixp_updates.specs.Ancestors.{IsAncestor, IsReached}
+use Rattle.gixp_updates.specs.Ancestors.{IsAncestor, IsReachedFrom}
 
 -- whether a commit waits
 abbrev pub waits_in : Heap → ObjectId → Bool
@@ -73,6 +73,6 @@ pub record IsSeenThrough (read : ObjectId → Option Commit) (target : ObjectId)
 -- a search for one commit among the ancestors of another
 pub record IsSearch (read : ObjectId → Option Commit) (start target : ObjectId) (s : Search) : Type 0 where
   pub begun : s.seen start ≡ true
-  pub reached : (q : ObjectId) → s.seen q ≡ true → IsReached read start q
+  pub reached : (q : ObjectId) → s.seen q ≡ true → IsReachedFrom read start q
   pub ancestors : (q : ObjectId) → s.waits q ≡ true → IsAncestor read start q
   pub closed : (q : ObjectId) → s.seen q ≡ true → IsSome (read q) → (s.waits q ≡ true) ⊎ IsSeenThrough read target s.seen q

@@ -4,7 +4,7 @@ ghost use Rattle.std.specs.FinMap as finite;
 ghost use Rattle.gixp_hash.specs.declared.object_id.ObjectId.{ObjectId};
 ghost use Rattle.gixp_graph.specs.Asked.{AsksEach};
 ghost use Rattle.gixp_graph.specs.Object.{commit_at};
-ghost use Rattle.gixp_updates.specs.Ancestors.{IsAncestor, IsReached, ReachesMore, IsBeyond};
+ghost use Rattle.gixp_updates.specs.Ancestors.{IsAncestor, IsReachedFrom, ReachesMore, IsBeyond};
 ghost use Rattle.gixp_updates.specs.LookUps.{LooksUp};
 ghost use Rattle.gixp_updates.specs.UpdateError.{TellsError};
 ghost use Rattle.gixp_updates.specs.declared.refs.error.Error.TheVariants.{TooManyCommits};
@@ -49,7 +49,7 @@ pub fn is_ancestor<O: Objects>(
 
     // No commit is read twice, and none but those that aren't held, of the ids that are come to.
     ensures asked { AsksEach (λ id. (finite.get graph.old.graph.held id ≡ None)
-        × IsReached (commit_at graph.old.graph.objects) new.now id) graph.old.asked graph.new.asked }
+        × IsReachedFrom (commit_at graph.old.graph.objects) new.now id) graph.old.asked graph.new.asked }
     ensures limited { result ≡ Err TooManyCommits → (most : ℕ) × (most_commits ≡ Some most)
         × ReachesMore (commit_at graph.old.graph.objects) new.now most }
     ensures unrefused { OnOk result (graph.new.refusals ≡ graph.old.refusals) }

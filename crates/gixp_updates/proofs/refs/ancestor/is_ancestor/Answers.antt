@@ -7,7 +7,7 @@ use Rattle.std.specs.FinMap as finite
 use Rattle.gixp_hash.specs.declared.object_id.ObjectId.{ObjectId}
 use Rattle.gixp_hash.specs.ObjectId.{id_cmp}
 use Rattle.gixp_graph.specs.Object.{Objects, Commit, commit_at}
-use Rattle.gixp_updates.specs.Ancestors.{IsAncestor, IsReached}
+use Rattle.gixp_updates.specs.Ancestors.{IsAncestor, IsReachedFrom}
 use Rattle.gixp_updates.specs.Search.{Search, search_of}
 use Rattle.gixp_updates.proofs.LookLemmas.{looks_none, looks_on}
 use Rattle.gixp_updates.proofs.AskLemmas.{asks_none}
@@ -53,12 +53,12 @@ returns-then-eq-clause-ancestor g c =
 pub returns-then-is_beyond-clause-limited : goal.returns-then-is_beyond-clause-limited
 returns-then-is_beyond-clause-limited g c e =
     let seen : (q : ObjectId) → (search_of c.pop.new.self).seen q ≡ true
-    → IsReached (commit_at c.args.graph.now.graph.objects) c.args.new.now q =
+    → IsReachedFrom (commit_at c.args.graph.now.graph.objects) c.args.new.now q =
     λ q h. c.loop-newest.invariant.search.reached q (sym (ap (λ s. tree.contains id_cmp s q) c.pop.ensures.seen) ∙ h) in
     beyond (commit_at c.args.graph.now.graph.objects) c.args.new.now c.args.most_commits c.pop.new.self.seen.keys c.seen.result
     c.seen.ensures.len (c.is_beyond.ensures.0 c.if-is_beyond.true) c.seen.ensures.distinct
     (All-weaker (λ q. (search_of c.pop.new.self).seen q ≡ true)
-    (IsReached (commit_at c.args.graph.now.graph.objects) c.args.new.now) seen c.pop.new.self.seen.keys c.seen.ensures.each)
+    (IsReachedFrom (commit_at c.args.graph.now.graph.objects) c.args.new.now) seen c.pop.new.self.seen.keys c.seen.ensures.each)
 
 pub returns-in_err-look_each-clause-asked : goal.returns-in_err-look_each-clause-asked
 returns-in_err-look_each-clause-asked g c =
