@@ -562,8 +562,11 @@ def over_daemon(name, t, server):
 
 def recorded(t, server):
     """All that a server says in a clone by the program."""
-    said = t.folder("conversation")
-    status, out, err, room = pack(t, f'git upload-pack "{server}" | tee "{said}"')
+    said, room = t.folder("conversation"), t.folder("pack")
+    room.mkdir()
+    # it ends by itself, once all is written down
+    with serve(t, room, f'git upload-pack "{server}" | tee "{said}"'):
+        status, out, err = t.run("timeout", 20, t.program, "--", room / "from", room / "to", room / "pack", REAL_SPEC)
     if status:
         raise RuntimeError(err)
     return said.read_bytes()
