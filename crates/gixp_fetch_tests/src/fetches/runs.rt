@@ -109,60 +109,27 @@ fn opened(alternates: &mut [MemoryRefs]) -> Result<&mut [MemoryRefs], AllocError
     Ok(alternates)
 }
 
-// A fetch that knows what to ask for.
-#[derive(Drop)]
-struct Begun<'a, T, P> {
-    transport: &'a mut T,
-    progress: &'a mut P,
-    hands: Handshake,
-    map: RefMap,
-}
-
-// A handshake and a ref map, or the error of the first that is refused, as a text.
-fn begin<'a, T: Transport, P: NestedProgress>(
-    alloc: Global,
-    transport: &'a mut T,
-    progress: &'a mut P,
-) -> Result<Result<Begun<'a, T, P>, String>, AllocError> {
-    let mut hands = match shake(alloc, transport, progress) {
-        Ok(hands) => hands,
-        Err(e) => return Ok(Err(shown(alloc, e)?)),
-    };
-    match map(alloc, &mut hands, transport, progress) {
-        Ok(map) => Ok(Ok(Begun {
-            transport,
-            progress,
-            hands,
-            map,
-        })),
-        Err(e) => Ok(Err(shown(alloc, e)?)),
-    }
-}
-
 // A whole fetch over a ref map.
 fn fetch_by<T: Transport, P: NestedProgress, S: ShallowStore, C: ConsumePack<P, Error = CopyError>>(
-    alloc: Global,
-    begun: Begun<'_, T, P>,
+    transport: &mut T,
+    hands: &mut Handshake,
+    map: &RefMap,
     repository: Repository,
     consumer: &mut C,
+    progress: &mut P,
     store: &mut S,
-    shallow: Shallow,
 ) -> Result<Option<Outcome>, Error<AllocError, CopyError>>
 where
     P::SubProgress: Drop,
 {
-    let Begun {
-        transport,
-        progress,
-        mut hands,
-        map,
-    } = begun;
-    let agent = agent(alloc)?;
     let Repository {
         objects,
         mut refs,
         mut recorder,
+        shallow,
     } = repository;
+    let alloc = *refs.targets.allocator();
+    let agent = agent(alloc)?;
     let mut graph = Graph::new(alloc, objects);
     let existing = NoObjects;
     let mut alternates = Vec::new(alloc);
@@ -173,7 +140,7 @@ where
         negotiator: &mut recorder,
         graph: &mut graph,
     };
-    let mut negotiation = Negotiation::new(context, &map, &shallow, Tags::None);
+    let mut negotiation = Negotiation::new(context, map, &shallow, Tags::None);
     fetch(
         alloc,
         &mut negotiation,
@@ -182,7 +149,7 @@ where
         &mut NeverInterrupt,
         agent,
         Context {
-            handshake: &mut hands,
+            handshake: hands,
             transport,
             table: &CommandTable::git(),
         },
@@ -199,6 +166,37 @@ where
 fn rounds(alloc: Global, outcome: &Outcome) -> Result<String, AllocError> {
     let copy = outcome.clone()?;
     format!(in alloc; "{} rounds", copy.negotiate.rounds.len())
+}
+
+// A whole fetch after a handshake, as a text.
+fn run_shaken<
+    T: Transport,
+    P: NestedProgress,
+    S: ShallowStore,
+    C: ConsumePack<P, Error = CopyError>,
+>(
+    alloc: Global,
+    transport: &mut T,
+    hands: &mut Handshake,
+    repository: Repository,
+    consumer: &mut C,
+    progress: &mut P,
+    store: &mut S,
+) -> Result<String, AllocError>
+where
+    P::SubProgress: Drop,
+{
+    let map = match map(alloc, hands, transport, progress) {
+        Ok(map) => map,
+        Err(e) => return shown(alloc, e),
+    };
+    match fetch_by(
+        transport, hands, &map, repository, consumer, progress, store,
+    ) {
+        Ok(Some(outcome)) => rounds(alloc, &outcome),
+        Ok(None) => String::from_str(alloc, "nothing"),
+        Err(e) => shown(alloc, e),
+    }
 }
 
 /// A handshake and a whole fetch into a repository, as a text: the first error, or how
@@ -220,13 +218,12 @@ pub(crate) fn run<
 where
     P::SubProgress: Drop,
 {
-    let begun = match begin(alloc, transport, progress)? {
-        Ok(begun) => begun,
-        Err(refusal) => return Ok(refusal),
-    };
-    match fetch_by(alloc, begun, repository, consumer, store, shallow) {
-        Ok(Some(outcome)) => rounds(alloc, &outcome),
-        Ok(None) => String::from_str(alloc, "nothing"),
+    let mut repository = repository;
+    repository.shallow = shallow;
+    match shake(alloc, transport, progress) {
+        Ok(mut hands) => run_shaken(
+            alloc, transport, &mut hands, repository, consumer, progress, store,
+        ),
         Err(e) => shown(alloc, e),
     }
 }
