@@ -266,20 +266,14 @@ fn cut<'a>(alloc: Global, line: &Line<'a>) -> Result<Shallow, OptionError<'a>>
     ensures err { IfErr result (λ e. RefusesOptions (line_value line.now) e) }
 {
     let since_cutoff = match line.value("--since") {
-        Some(word) => match valued(line, "--since", seconds_of(word)) {
-            Ok(cutoff) => Some(cutoff),
-            Err(e) => return Err(e),
-        },
+        Some(word) => Some(valued(line, "--since", seconds_of(word))?),
         None => None,
     };
     if line.has("--exclude") {
-        return match excluded(alloc, line) {
-            Ok(remote_refs) => Ok(Shallow::Exclude {
-                remote_refs,
-                since_cutoff,
-            }),
-            Err(e) => Err(e),
-        };
+        return Ok(Shallow::Exclude {
+            remote_refs: excluded(alloc, line)?,
+            since_cutoff,
+        });
     }
     match since_cutoff {
         Some(cutoff) => Ok(Shallow::Since { cutoff }),
@@ -355,15 +349,14 @@ fn kept_shallow_of<'a>(alloc: Global, line: &Line<'a>) -> Result<Shallow, Option
     ensures kept { IfOk result (λ s. has (line_value line.now) (codes "--shallow") ≡ false → shallow_value s ≡ no_change) }
     ensures err { IfErr result (λ e. RefusesOptions (line_value line.now) e) }
 {
-    match shallow_of(alloc, line) {
-        Ok(Shallow::NoChange) => Ok(Shallow::NoChange),
-        Ok(shallow) => {
+    match shallow_of(alloc, line)? {
+        Shallow::NoChange => Ok(Shallow::NoChange),
+        shallow => {
             if line.has("--shallow") {
                 return Ok(shallow);
             }
             Err(OptionError::Needs("a depth", "--shallow"))
         }
-        Err(e) => Err(e),
     }
 }
 
@@ -387,18 +380,9 @@ fn wish_of<'a>(
     ensures specs { IfOk result (λ wish. map bstring_bytes wish.specs.items ≡ map (λ w. w.now) specs.now) }
     ensures err { IfErr result (λ e. RefusesOptions (line_value line.now) e) }
 {
-    let shallow = match kept_shallow_of(alloc, line) {
-        Ok(shallow) => shallow,
-        Err(e) => return Err(e),
-    };
-    let tags = match valued(line, "--tags", tags_of(line.value("--tags"))) {
-        Ok(tags) => tags,
-        Err(e) => return Err(e),
-    };
-    let haves = match valued(line, "--negotiator", haves_of(line.value("--negotiator"))) {
-        Ok(haves) => haves,
-        Err(e) => return Err(e),
-    };
+    let shallow = kept_shallow_of(alloc, line)?;
+    let tags = valued(line, "--tags", tags_of(line.value("--tags")))?;
+    let haves = valued(line, "--negotiator", haves_of(line.value("--negotiator")))?;
     Ok(Wish {
         pack,
         shallow,
@@ -433,10 +417,8 @@ fn work_of<'a>(
             if keeps_open {
                 return Err(OptionError::Needs("--keep-open", "--list"));
             }
-            match wish_of(alloc, line, pack, specs) {
-                Ok(wish) => Ok((Task::Fetch(wish), from, to)),
-                Err(e) => Err(e),
-            }
+            let wish = wish_of(alloc, line, pack, specs)?;
+            Ok((Task::Fetch(wish), from, to))
         }
         _ => Err(OptionError::Operands),
     }
@@ -456,10 +438,7 @@ fn task_of<'a>(
     if line.has("-V") {
         return Ok((Task::Version, "", ""));
     }
-    match work_of(alloc, line) {
-        Ok(found) => Ok(found),
-        Err(e) => Err(e),
-    }
+    work_of(alloc, line)
 }
 
 impl<'a> Options<'a> {
@@ -485,14 +464,8 @@ impl<'a> Options<'a> {
         ensures ok { IfOk result (λ options. AsksOptions (line_value line.now) options) }
         ensures err { IfErr result (λ e. RefusesOptions (line_value line.now) e) }
     {
-        let (task, from, to) = match task_of(alloc, line) {
-            Ok(found) => found,
-            Err(e) => return Err(e),
-        };
-        let version = match valued(line, "--version", version_of(line.value("--version"))) {
-            Ok(version) => version,
-            Err(e) => return Err(e),
-        };
+        let (task, from, to) = task_of(alloc, line)?;
+        let version = valued(line, "--version", version_of(line.value("--version")))?;
         let server = Server {
             from,
             to,
