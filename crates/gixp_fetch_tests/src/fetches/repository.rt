@@ -2,14 +2,16 @@
 use crate::negotiations::repository::id;
 use gixp_doubles::Recorder;
 use gixp_memory::{MemoryObjects, MemoryRefs};
+use gixp_negotiate::shallow::Shallow;
 use std::alloc::{AllocError, Global};
 
-/// The objects that are looked up, the refs, and what chooses the haves.
+/// The objects that are looked up, the refs, what chooses the haves, and how much history is asked for.
 #[derive(Drop)]
 pub(crate) struct Repository {
     pub(crate) objects: MemoryObjects,
     pub(crate) refs: MemoryRefs,
     pub(crate) recorder: Recorder,
+    pub(crate) shallow: Shallow,
 }
 
 /// A repository of which nothing fails, and that offers so many commits.
@@ -21,5 +23,6 @@ pub(crate) fn sound(alloc: Global, haves: usize) -> Result<Repository, AllocErro
         objects: MemoryObjects::new(alloc),
         refs,
         recorder: Recorder::new(alloc, haves),
+        shallow: Shallow::NoChange,
     })
 }

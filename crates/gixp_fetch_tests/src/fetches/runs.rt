@@ -111,7 +111,6 @@ fn opened(alternates: &mut [MemoryRefs]) -> Result<&mut [MemoryRefs], AllocError
 
 // A whole fetch over a ref map.
 fn fetch_by<T: Transport, P: NestedProgress, S: ShallowStore, C: ConsumePack<P, Error = CopyError>>(
-    alloc: Global,
     transport: &mut T,
     hands: &mut Handshake,
     map: &RefMap,
@@ -119,17 +118,18 @@ fn fetch_by<T: Transport, P: NestedProgress, S: ShallowStore, C: ConsumePack<P, 
     consumer: &mut C,
     progress: &mut P,
     store: &mut S,
-    shallow: Shallow,
 ) -> Result<Option<Outcome>, Error<AllocError, CopyError>>
 where
     P::SubProgress: Drop,
 {
-    let agent = agent(alloc)?;
     let Repository {
         objects,
         mut refs,
         mut recorder,
+        shallow,
     } = repository;
+    let alloc = *refs.targets.allocator();
+    let agent = agent(alloc)?;
     let mut graph = Graph::new(alloc, objects);
     let existing = NoObjects;
     let mut alternates = Vec::new(alloc);
@@ -182,7 +182,6 @@ fn run_shaken<
     consumer: &mut C,
     progress: &mut P,
     store: &mut S,
-    shallow: Shallow,
 ) -> Result<String, AllocError>
 where
     P::SubProgress: Drop,
@@ -192,7 +191,7 @@ where
         Err(e) => return shown(alloc, e),
     };
     match fetch_by(
-        alloc, transport, hands, &map, repository, consumer, progress, store, shallow,
+        transport, hands, &map, repository, consumer, progress, store,
     ) {
         Ok(Some(outcome)) => rounds(alloc, &outcome),
         Ok(None) => String::from_str(alloc, "nothing"),
@@ -219,9 +218,11 @@ pub(crate) fn run<
 where
     P::SubProgress: Drop,
 {
+    let mut repository = repository;
+    repository.shallow = shallow;
     match shake(alloc, transport, progress) {
         Ok(mut hands) => run_shaken(
-            alloc, transport, &mut hands, repository, consumer, progress, store, shallow,
+            alloc, transport, &mut hands, repository, consumer, progress, store,
         ),
         Err(e) => shown(alloc, e),
     }
