@@ -255,15 +255,11 @@ impl Commits {
         let Some(found) = objects.commit(alloc, id)? else {
             return Ok(None);
         };
-        let Ok(number) = self.number(id) else {
-            return Err(ObjectError::Memory);
-        };
+        let number = self.number(id)?;
         self.last = number;
         let time = found.time;
-        match self.hold(number, time, found.parents.as_slice()) {
-            Ok(()) => Ok(Some((time, Flags(0)))),
-            Err(_) => Err(ObjectError::Memory),
-        }
+        self.hold(number, time, found.parents.as_slice())?;
+        Ok(Some((time, Flags(0))))
     }
 
     /// The same for the commit of a number.
@@ -296,10 +292,8 @@ impl Commits {
             return Ok(None);
         };
         let time = found.time;
-        match self.hold(number, time, found.parents.as_slice()) {
-            Ok(()) => Ok(Some((time, Flags(0)))),
-            Err(_) => Err(ObjectError::Memory),
-        }
+        self.hold(number, time, found.parents.as_slice())?;
+        Ok(Some((time, Flags(0))))
     }
 
     /// The parents of a commit, none where it isn't held.

@@ -114,10 +114,7 @@ impl Objects for MemoryObjects {
     }
 
     fn commit(&mut self, alloc: Global, id: &ObjectId) -> Result<Option<CommitData>, ObjectError> {
-        match self.looked_up.push(*id) {
-            Ok(_) => {}
-            Err(_) => return Err(ObjectError::Memory),
-        }
+        self.looked_up.push(*id)?;
         if fails(&mut self.calls) {
             self.failures = self.failures.saturating_add(1);
             return Err(self.error);
@@ -145,10 +142,8 @@ pub(crate) fn copied(
     match commit {
         Some(commit) => {
             let time = commit.time;
-            match Vec::from_slice(alloc, commit.parents.as_slice()) {
-                Ok(parents) => Ok(Some(CommitData { time, parents })),
-                Err(_) => Err(ObjectError::Memory),
-            }
+            let parents = Vec::from_slice(alloc, commit.parents.as_slice())?;
+            Ok(Some(CommitData { time, parents }))
         }
         None => Ok(None),
     }

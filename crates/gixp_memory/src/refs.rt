@@ -72,10 +72,7 @@ impl RefStore for MemoryRefs {
                 self.failures = self.failures.saturating_add(1);
                 Err(error)
             }
-            None => match Vec::from_slice(alloc, self.targets.as_slice()) {
-                Ok(ids) => Ok(ids),
-                Err(_) => Err(RefStoreError::Memory),
-            },
+            None => Ok(Vec::from_slice(alloc, self.targets.as_slice())?),
         }
     }
 }

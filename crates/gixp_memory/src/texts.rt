@@ -102,10 +102,7 @@ pub(crate) fn named_ids(
         let Some(id) = named_id(word.as_bytes()) else {
             return Ok(None);
         };
-        match ids.push(id) {
-            Ok(()) => {}
-            Err(_) => return Err(AllocError),
-        }
+        ids.push(id)?;
     }
     Ok(Some(ids))
 }

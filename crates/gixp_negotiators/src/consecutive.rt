@@ -175,10 +175,7 @@ impl Consecutive {
         ensures parents { IfOk result (λ parents. parents.items ≡ parents_in graph.now.graph.held id.now) }
         ensures failed { IfErr result (IsRefusal 0 0 graph.now.failures graph.now.failures) }
     {
-        match graph.parents(self.alloc, id) {
-            Ok(parents) => Ok(parents),
-            Err(_) => Err(NegotiatorError::Memory),
-        }
+        Ok(graph.parents(self.alloc, id)?)
     }
 
     // Marks some commits as common, and has those wait that weren't before for their parents to be so.

@@ -134,10 +134,8 @@ impl Skipping {
         if is_read {
             return Ok(time);
         }
-        match self.unread.insert(*id) {
-            Ok(_) => Ok(0),
-            Err(_) => Err(NegotiatorError::Memory),
-        }
+        self.unread.insert(*id)?;
+        Ok(0)
     }
 
     // The parents of a commit that is held.
@@ -149,10 +147,7 @@ impl Skipping {
         ensures parents { IfOk result (λ parents. parents.items ≡ parents_in graph.now.graph.held id.now) }
         ensures failed { IfErr result (IsRefusal 0 0 graph.now.failures graph.now.failures) }
     {
-        match graph.parents(self.alloc, id) {
-            Ok(parents) => Ok(parents),
-            Err(_) => Err(NegotiatorError::Memory),
-        }
+        Ok(graph.parents(self.alloc, id)?)
     }
 
     // Marks the parents of a common commit as common that were seen.

@@ -69,10 +69,7 @@ fn is_commit<P: Objects>(graph: &mut Graph<P>, id: &ObjectId) -> Result<bool, Er
     ensures commit { IfOk result (λ is. is ≡ is_commit graph.old.graph.objects id.now) }
     ensures consults { (limit : Option ℕ) → Consults limit result graph.old graph.new }
 {
-    match graph.lookup(id) {
-        Ok(found) => Ok(found.is_some()),
-        Err(e) => Err(Error::from(e)),
-    }
+    Ok(graph.lookup(id)?.is_some())
 }
 
 /// What a mapping asks for of its local ref.

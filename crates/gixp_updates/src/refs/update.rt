@@ -129,11 +129,7 @@ pub fn update<R: RefStore, O: Objects, P: Objects>(
     for mapping in &map.mappings {
         let wanted = wanted_of(options.tags, &map.refspecs, &map.extra_refspecs, mapping);
         let name = local_name(mapping);
-        let update = match update_of(alloc, &local, graph, wanted, name) {
-            Ok(update) => update,
-            Err(e) => return Err(e),
-        };
-        updates.push(update)?;
+        updates.push(update_of(alloc, &local, graph, wanted, name)?)?;
     }
     Ok(updates)
 }

@@ -34,10 +34,10 @@ loop-mapping-preserved g c =
     record {
       updates = subst (λ ms. AllZip fits ms c.push.new.self.items) (sym next)
           (subst (AllZip fits (take k items ++ m ∷ [])) (sym c.in_ok-push.ensures.items)
-          (pushed fits (take k items) c.loop-mapping.updates.items m c.in-Ok.update v.updates
+          (pushed fits (take k items) c.loop-mapping.updates.items m c.in_ok-update_of.field-0 v.updates
           (update_moved l c.loop-mapping.graph.graph.objects v.consults.looks.objects _ _ wanted _ _ c.local_name-name.ensures
-          c.in-Ok.update c.in-Ok.ensures.update)));
+          c.in_ok-update_of.field-0 c.in_ok-update_of.ensures.update)));
       consults = consults_on c.args.options.now.most_commits c.loop-mapping.updates
           (Ok c.push.new.self) c.args.graph.now c.loop-mapping.graph c.update_of.new.graph v.consults
-          (consults_as c.args.options.now.most_commits c.in-Ok.update c.push.new.self _ _ c.in-Ok.ensures.consults);
+          (consults_as c.args.options.now.most_commits c.in_ok-update_of.field-0 c.push.new.self _ _ c.in_ok-update_of.ensures.consults);
     }
