@@ -89,10 +89,8 @@ fn write_down(list: &mut Vec<ObjectId>, id: ObjectId) -> Result<(), NegotiatorEr
     ensures written { OnOk result (list.new.items ≡ list.old.items ++ id ∷ []) }
     ensures memory { IfErr result (λ e. e ≡ Memory) }
 {
-    match list.push(id) {
-        Ok(_) => Ok(()),
-        Err(_) => Err(NegotiatorError::Memory),
-    }
+    list.push(id)?;
+    Ok(())
 }
 
 /// Each call that succeeds adds its id to its own list alone, and an offer is the first of the haves that are left.

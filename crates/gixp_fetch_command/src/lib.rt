@@ -33,10 +33,7 @@ use std::{env, fs, io};
 
 // The words of the command line.
 fn read_words(rt: &HostRuntime) -> Result<Vec<String>, Failure> {
-    let words = match env::args(rt) {
-        Ok(words) => words,
-        Err(e) => return Err(Failure::Io(e.kind())),
-    };
+    let words = env::args(rt).map_err(|e| Failure::Io(e.kind()))?;
     let mut found = Vec::new(rt.alloc());
     for word in words.skip(1) {
         found.push(word)?;
@@ -56,15 +53,13 @@ fn open_target<'a>(rt: &'a HostRuntime, path: &str) -> Result<Hears<'a>, Failure
     let target = if path == "-" {
         Target::Standard(io::writer(rt))
     } else {
-        match OpenOptions::new().write(true).open(rt, path) {
-            Ok(file) => Target::File(file),
-            Err(e) => return Err(Failure::of_file(alloc, path, e.kind())),
-        }
+        let file = OpenOptions::new()
+            .write(true)
+            .open(rt, path)
+            .map_err(|e| Failure::of_file(alloc, path, e.kind()))?;
+        Target::File(file)
     };
-    match BufWriter::new(alloc, target) {
-        Ok(writer) => Ok(writer),
-        Err(_) => Err(Failure::Memory),
-    }
+    BufWriter::new(alloc, target).map_err(|_| Failure::Memory)
 }
 
 // Opens what the server says.
@@ -72,10 +67,8 @@ fn open_source(rt: &HostRuntime, path: &str) -> Result<Says, Failure> {
     if path == "-" {
         return Ok(Source::Standard(rt.reader()));
     }
-    match File::open(rt, path) {
-        Ok(file) => Ok(Source::File(file)),
-        Err(e) => Err(Failure::of_file(rt.alloc(), path, e.kind())),
-    }
+    let file = File::open(rt, path).map_err(|e| Failure::of_file(rt.alloc(), path, e.kind()))?;
+    Ok(Source::File(file))
 }
 
 // The transport over the two ends of the server. Its input is opened first: it may wait for that before it opens its output.
@@ -91,19 +84,14 @@ fn open_transport<'a>(
 // Writes a text where the report goes.
 fn tell(rt: &HostRuntime, output: &Output<'_>, text: &[u8]) -> Result<(), Failure> {
     if let Some(path) = output.report {
-        return match fs::write(rt, path, text) {
-            Ok(()) => Ok(()),
-            Err(e) => Err(Failure::of_file(rt.alloc(), path, e.kind())),
-        };
+        return fs::write(rt, path, text)
+            .map_err(|e| Failure::of_file(rt.alloc(), path, e.kind()));
     }
     if output.is_quiet {
         return Ok(());
     }
     let mut writer = io::writer(rt);
-    match writer.write_all(text) {
-        Ok(()) => Ok(()),
-        Err(e) => Err(Failure::Io(e.kind())),
-    }
+    writer.write_all(text).map_err(|e| Failure::Io(e.kind()))
 }
 
 // What shows the server's progress.
@@ -179,10 +167,10 @@ fn take_pack<T: Transport>(
         &sink.boundary,
         result,
     ) {
-        Ok(()) => match sink.pack.keep() {
-            Ok(pack) => Ok(pack),
-            Err(e) => Err(Failure::of_file(alloc, asked.wish.pack, e.kind())),
-        },
+        Ok(()) => sink
+            .pack
+            .keep()
+            .map_err(|e| Failure::of_file(alloc, asked.wish.pack, e.kind())),
         Err(e) => {
             sink.pack.give_up();
             Err(e)
@@ -198,10 +186,8 @@ fn settle(
     boundary: &ShallowMemory,
     outcome: Result<Option<Outcome>, Failure>,
 ) -> Result<(), Failure> {
-    match outcome {
-        Ok(_) => write_boundary(rt, path, old, boundary),
-        Err(e) => Err(e),
-    }
+    outcome?;
+    write_boundary(rt, path, old, boundary)
 }
 
 // Fetches.
@@ -246,17 +232,15 @@ fn changes_in(
     }
     let objects = Shared::new(&repository.objects);
     let mut graph = Graph::new(alloc, Shared::new(&repository.objects));
-    match changes(
+    changes(
         alloc,
         map,
         &repository.refs,
         &objects,
         &mut graph,
         wish.tags,
-    ) {
-        Ok(found) => Ok(found),
-        Err(e) => Err(Failure::of_update(alloc, e)),
-    }
+    )
+    .map_err(|e| Failure::of_update(alloc, e))
 }
 
 // Does what the options ask for.

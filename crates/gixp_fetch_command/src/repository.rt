@@ -23,10 +23,7 @@ fn text_in(rt: &HostRuntime, path: Option<&str>) -> Result<Vec<u8>, Failure> {
     let Some(path) = path else {
         return Ok(Vec::new(rt.alloc()));
     };
-    match fs::read(rt, path) {
-        Ok(text) => Ok(text),
-        Err(e) => Err(Failure::of_file(rt.alloc(), path, e.kind())),
-    }
+    fs::read(rt, path).map_err(|e| Failure::of_file(rt.alloc(), path, e.kind()))
 }
 
 // A boundary in a file, where no file is none.
@@ -42,10 +39,7 @@ fn boundary_in(rt: &HostRuntime, path: Option<&str>) -> Result<Vec<ObjectId>, Fa
             kind => return Err(Failure::of_file(alloc, path, kind)),
         },
     };
-    match shallow_ids(alloc, &text) {
-        Ok(ids) => Ok(ids),
-        Err(_) => Err(Failure::of_file(alloc, path, ErrorKind::InvalidData)),
-    }
+    shallow_ids(alloc, &text).map_err(|_| Failure::of_file(alloc, path, ErrorKind::InvalidData))
 }
 
 // What was refused in a text.
@@ -84,16 +78,15 @@ fn objects_in(
     let alloc = rt.alloc();
     let mut objects = StoredObjects::new(alloc);
     let text = text_in(rt, files.commits)?;
-    match objects.read_commits(alloc, &text) {
-        Ok(()) => {}
-        Err(e) => return Err(refused(alloc, files.commits, e)),
-    }
+    objects
+        .read_commits(alloc, &text)
+        .map_err(|e| refused(alloc, files.commits, e))?;
     let commits = commit_ids(alloc, &text)?;
     let text = text_in(rt, files.objects)?;
-    match objects.read_kinds(alloc, &text) {
-        Ok(()) => Ok((objects, commits)),
-        Err(e) => Err(refused(alloc, files.objects, e)),
-    }
+    objects
+        .read_kinds(alloc, &text)
+        .map_err(|e| refused(alloc, files.objects, e))?;
+    Ok((objects, commits))
 }
 
 // The refs of their text.
@@ -101,10 +94,9 @@ fn refs_in(rt: &HostRuntime, path: Option<&str>) -> Result<StoredRefs, Failure> 
     let alloc = rt.alloc();
     let mut refs = StoredRefs::new(alloc);
     let text = text_in(rt, path)?;
-    match refs.read_refs(alloc, &text) {
-        Ok(()) => Ok(refs),
-        Err(e) => Err(refused(alloc, path, e)),
-    }
+    refs.read_refs(alloc, &text)
+        .map_err(|e| refused(alloc, path, e))?;
+    Ok(refs)
 }
 
 impl Repository {
@@ -136,8 +128,6 @@ pub(crate) fn write_boundary(
     }
     let text = shallow_text(alloc, store.ids())?;
     let path = format!(in alloc; "{path}.new")?;
-    match fs::write(rt, path.as_str(), text.as_slice()) {
-        Ok(()) => Ok(()),
-        Err(e) => Err(Failure::of_file(alloc, path.as_str(), e.kind())),
-    }
+    fs::write(rt, path.as_str(), text.as_slice())
+        .map_err(|e| Failure::of_file(alloc, path.as_str(), e.kind()))
 }

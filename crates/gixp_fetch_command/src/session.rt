@@ -157,10 +157,7 @@ where
         context,
         options,
     );
-    match result {
-        Ok(outcome) => Ok(outcome),
-        Err(e) => Err(Failure::of_step(alloc, Step::Fetch, &e)),
-    }
+    result.map_err(|e| Failure::of_step(alloc, Step::Fetch, &e))
 }
 
 impl<'a, T: Transport> Session<'a, T> {
@@ -207,10 +204,9 @@ impl<'a, T: Transport> Session<'a, T> {
         let table = CommandTable::git();
         let name = self.name()?;
         let command = LsRefsCommand::new(alloc, &table, None, &self.shaken.capabilities, name)?;
-        match command.invoke_blocking(alloc, &mut self.transport, shown) {
-            Ok(refs) => Ok(refs),
-            Err(e) => Err(Failure::of_step(alloc, Step::Listing, &e)),
-        }
+        command
+            .invoke_blocking(alloc, &mut self.transport, shown)
+            .map_err(|e| Failure::of_step(alloc, Step::Listing, &e))
     }
 
     /// What the refspecs map of the refs of the server.
@@ -231,10 +227,7 @@ impl<'a, T: Transport> Session<'a, T> {
             shown,
             &mut self.transport,
         );
-        match result {
-            Ok(map) => Ok(map),
-            Err(e) => Err(Failure::of_step(alloc, Step::Listing, &e)),
-        }
+        result.map_err(|e| Failure::of_step(alloc, Step::Listing, &e))
     }
 
     // How many haves a request may have.
