@@ -1,23 +1,22 @@
 -- A line as git writes it stands for the ref that it was written for.
-use Rattle.std.proofs.Common.{◌≡◌, ℕ, zero, suc, ◌+◌, ◌*◌, ◌/◌, ◌%◌, ◌<◌, ◌≤◌, ◌==◌, ◌&&◌, ◌||◌, nat_eq, nat_le, nat_lt, Bool, true, false, cond, ◌⊎◌, inl, inr, List, [], ◌∷◌, ◌++◌, length, take, drop, refl, sym, ap, subst, ◌∙◌, arith, Option, Some, None, Result, Ok, Err, append_assoc, append-nil, length-append, slice_index, unwrap_or}
+use Rattle.std.proofs.Common.{◌≡◌, ℕ, zero, suc, ◌+◌, ◌*◌, ◌/◌, ◌%◌, ◌<◌, ◌==◌, ◌&&◌, nat_le, nat_lt, Bool, true, false, cond, inl, inr, List, [], ◌∷◌, ◌++◌, length, take, drop, refl, sym, ap, subst, ◌∙◌, arith, Option, Some, None, Result, Ok, append_assoc, length-append, slice_index, unwrap_or}
 use Rattle.std.specs.Prelude.{codes, position}
 use Rattle.std.specs.List.{list_all, position_or_len}
 use Rattle.std.specs.Char.{is_whitespace}
-use Rattle.std.specs.Result.{result_ok}
 use Rattle.std.proofs.Math.ListN.{get_or}
 use Rattle.std.proofs.Math.Seq.{take-append_seam, drop-append_seam}
 use Rattle.std.proofs.lemmas.Bool.{and_parts, or_cases, cases_lt, eq-eqb, eqb-true, leb-true, lt-ltb, ltb-true, false_from_ne_true}
 use Rattle.std.proofs.lemmas.List.{take-append-drop, drop-drop, drop_more}
 use Rattle.std.proofs.lemmas.List.Quantifiers.{position-Some}
 use Rattle.bstr.specs.Trim.{trim_end_by}
-use Rattle.gixp_hash.specs.Hex.{hex_digit_value, lower_digits, encode_lower, encode_with, decode_pairs, decode_of, pair_value}
+use Rattle.gixp_hash.specs.Hex.{hex_digit_value, lower_digits, encode_lower, encode_with, decode_pairs, pair_value}
 use Rattle.gixp_hash.specs.ObjectId.{id_of}
 use Rattle.gixp_hash.proofs.DigitLemmas.{pair_reads, decode_of-pairs}
 use Rattle.gixp_capabilities.specs.Cut.{cut, parts_at}
 use Rattle.gixp_capabilities.specs.Capabilities.{is_text}
-use Rattle.gixp_refs.specs.Ref.{RefValue, direct, peeled}
+use Rattle.gixp_refs.specs.Ref.{direct, peeled}
 use Rattle.gixp_refs.specs.RefLine.{RefsRefusal, AttributeValues, read_id, and_then, with_peeled, attribute_of, no_attributes, attributes_in, attributes_of, value_of, first_piece, named, line_value, v2_line}
-use Rattle.gixp_refs.specs.WrittenLine.{is_lower, is_written_id, written_line, IsWrittenLine}
+use Rattle.gixp_refs.specs.WrittenLine.{is_lower, is_written_id, IsWrittenLine}
 
 -- ---- digits
 
@@ -229,7 +228,8 @@ peeled_value : (text id : List ℕ) (h : is_written_id id ≡ true)
     → attribute_of text (codes "peeled", Some id) no_attributes ≡ Ok (with_peeled no_attributes (id_written id h).id)
 peeled_value text [] h = absurd (let k = eqb-true 0 40 (and_parts (0 == 40) (list_all is_lower []) h).0 in omega arith)
 peeled_value text (x ∷ id) h =
-    ap (λ (o : Option (List ℕ)). and_then (read_id (x ∷ id) o) (λ bytes. Ok (with_peeled no_attributes bytes))) (id_written (x ∷ id) h).reads
+    let read = (id_written (x ∷ id) h).reads in
+    ap (λ (o : Option (List ℕ)). and_then (read_id (x ∷ id) o) (λ bytes. Ok (with_peeled no_attributes bytes))) read
 
 peeled_attribute : (text attribute id : List ℕ) (h : is_written_id id ≡ true) → attribute ≡ codes "peeled:" ++ id
     → attributes_of text (Some attribute) ≡ Ok (with_peeled no_attributes (id_written id h).id)
