@@ -1,17 +1,22 @@
 -- What the refs of an answer, read one by one, make of it, and what a fresh reader says of the stream it reads.
 use Rattle.std.proofs.Common.{◌≡◌, ℕ, Bool, inl, inr, true, false, cond, List, [], ◌∷◌, ◌++◌, Option, Some, None, IfSome, refl, sym, ap, subst, ◌∙◌, append_assoc, append-nil, flat_map, Result, Ok, Err}
+use Rattle.std.specs.Prelude.{codes}
 use Rattle.std.proofs.lemmas.Bool.{true≢false}
 use Rattle.std.proofs.lemmas.Grind.{flat_map-append}
 use Rattle.gixp_packetline.specs.Items.{is_stop}
 use Rattle.gixp_packetline.specs.Lines.{gives, stops, refuses, next_from, next_of, Lines, lines_from, lines_of, lines_to, stop}
 use Rattle.gixp_packetline.specs.Pieces.{Refusal, Piece, line, mark, Pieces, io, decode, server, unexpected_frame, not_utf8, bad_band, interrupted, memory}
 use Rattle.gixp_packetline.specs.Reading.{Reading, TakesLine, IsOutside, IsPlain, Rose, lines_ahead, lines_from_stop}
-use Rattle.gixp_refs.specs.RefLine.{RefsRefusal, refusal_from}
-use Rattle.gixp_refs.specs.Ref.{RefValue}
-use Rattle.gixp_refs.specs.ParseError.{parse_refusal, is_outside}
+use Rattle.gixp_refs.specs.RefLine.{RefsRefusal, refusal_from, v2_line}
+use Rattle.gixp_refs.specs.Ref.{RefValue, ref_value, direct, peeled, symbolic, unborn}
+use Rattle.gixp_refs.specs.WrittenLine.{written_line, IsWrittenLine}
+use Rattle.gixp_refs.specs.declared.handshake.Ref.{Ref}
+use Rattle.gixp_refs.specs.ParseError.{AnswersRefs, parse_refusal, is_outside}
 use Rattle.gixp_refs.specs.declared.handshake.refs.parse.Error.{Error}
-use Rattle.gixp_refs.specs.Refs.{with_ref, v2_refs, ReadsRefs, RefsFail}
-use Rattle.gixp_listing.specs.List.{ref_line, Prints, behind_stop, StopsBehind, PrintsAhead, is_device, RefusesAhead}
+use Rattle.gixp_refs.specs.declared.handshake.refs.parse.Error.TheVariants.{Memory}
+use Rattle.gixp_refs.specs.Refs.{with_ref, v2_refs, ReadsRefs, RefsFail, NextRef}
+use Rattle.gixp_refs.proofs.RefsLemmas.{refs-start, refs-stop, next-value, next-refused}
+use Rattle.gixp_listing.specs.List.{ref_line, Prints, PrintsLine, PrintsNext, behind_stop, StopsBehind, PrintsAhead, is_device, RefusesAhead}
 
 -- these values in front of those to come
 abbrev in_front : List RefValue → Result (List RefValue) RefsRefusal → Result (List RefValue) RefsRefusal
@@ -126,6 +131,13 @@ printed-more old mid new text more v h k e t = record {
               ∙ one_in_front h.values v (v2_refs (lines_ahead new b.0)),
         )
 
+-- then one more, as the call for it tells
+pub printed-next : (plain : Bool) (old mid new : Reading) (text more : List ℕ) → Printed old mid text
+    → PrintsNext plain mid new text more (Ok true)
+    → Printed old new more
+printed-next plain old mid new text more h k =
+    printed-more old mid new text more k.0 h (next-value mid new k.0 k.1 k.2) k.3 k.1
+
 -- what is still to come decides of all
 printed_rest : (old mid : Reading) (text : List ℕ) (rest : Result (List RefValue) RefsRefusal) (h : Printed old mid text)
     → IfSome mid.to_come (λ p. v2_refs (lines_ahead mid p) ≡ rest)
@@ -156,7 +168,7 @@ stops_behind old mid new h f k =
         (b.0, b.1, ap behind_stop (a.2 ∙ ap (λ x. (lines_ahead mid x).ending) same ∙ ap (λ (l : Lines). l.ending) b.2))
 
 -- at the stop these are all
-pub printed-all : (old mid new : Reading) (text : List ℕ) → Printed old mid text → ReadsRefs mid new [] → PrintsAhead old new text
+printed-all : (old mid new : Reading) (text : List ℕ) → Printed old mid text → ReadsRefs mid new [] → PrintsAhead old new text
 printed-all old mid new text h k = record {
   printed = at old.to_come (printed_rest old mid text (Ok []) h k.value);
   behind = stops_behind old mid new h.ending h.failures k;
@@ -166,6 +178,12 @@ printed-all old mid new text h k = record {
         → IfSome o (λ p. Prints (Some []) (Some text) (v2_refs (lines_ahead old p)))
     at None a = tt
     at (Some p) a = rw (a, append-nil) h.printed
+
+-- at the stop these are all, as the call there tells
+pub printed-stop : (plain : Bool) (old mid new : Reading) (text same : List ℕ) → Printed old mid text
+    → PrintsNext plain mid new text same (Ok false)
+    → PrintsAhead old new same
+printed-stop plain old mid new text same h k = rw k.1 (printed-all old mid new text h (refs-stop mid mid new [] (refs-start mid) k.0))
 
 -- a refusal that came from outside is a failed read's or an allocation failure's
 outside_is : (r : Refusal) (now new : Reading) → IsOutside now new r → IsPlain new r → is_outside (refusal_from r) ≡ true
@@ -195,7 +213,7 @@ device_rose (bad_band b) now new h d = cc
 device_rose interrupted now new h d = cc
 
 -- a refusal of what is still to come is that of all
-pub printed-refused : (plain : Bool) (old mid new : Reading) (text : List ℕ) (e : Error) → Printed old mid text
+printed-refused : (plain : Bool) (old mid new : Reading) (text : List ℕ) (e : Error) → Printed old mid text
     → RefsFail plain mid new e → RefusesAhead plain old new e
 printed-refused plain old mid new text e h (inl k) = inl (record {
   why = k.refusal;
@@ -219,3 +237,45 @@ printed-refused plain old mid new text e h (inr (inr (inr k))) = inr (record {
   counted = λ d. let no : is_device (parse_refusal e) ≡ false = ap (λ x. is_device (parse_refusal x)) k.error in
       absurd (true≢false (sym d ∙ no));
 })
+
+-- a refusal of the next ref is that of all
+pub printed-next_refused : (plain : Bool) (old mid new : Reading) (text : List ℕ) (e : Error) → Printed old mid text
+    → NextRef plain mid new (Err e)
+    → RefusesAhead plain old new e
+printed-next_refused plain old mid new text e h k =
+    printed-refused plain old mid new text e h (next-refused plain mid mid new [] e (refs-start mid) k)
+
+-- what is printed for a value is the line that git writes for it
+ref_line-written : (v : RefValue) → ref_line v ≡ written_line v
+ref_line-written (direct name object) = refl
+ref_line-written (peeled name tag object) = refl
+ref_line-written (symbolic name target None object) = refl
+ref_line-written (symbolic name target (Some tag) object) = refl
+ref_line-written (unborn name target) = refl
+
+-- a line as git writes it is printed as it came
+pub written-prints : (taken written before after : List ℕ) → IsWrittenLine taken written → after ≡ before ++ (written ++ codes "\n")
+    → PrintsLine taken before after (Ok tt)
+written-prints taken written before after h e =
+    (h.0, h.1, e ∙ ap (λ t. before ++ t) (sym (ref_line-written h.0 ∙ h.2)))
+
+out_of_memory : (o : Result RefValue RefsRefusal) (v : RefValue) → o ≡ Ok v → AnswersRefs ref_value o (Err Memory)
+out_of_memory (Ok w) v h = refl
+out_of_memory (Err r) v h = cc
+
+-- or memory runs out
+pub written-memory : (taken written : List ℕ) → IsWrittenLine taken written → AnswersRefs ref_value (v2_line taken) (Err Memory)
+written-memory taken written h = out_of_memory (v2_line taken) h.0 h.1
+
+value_found : (o : Result RefValue RefsRefusal) (found : Ref) → AnswersRefs ref_value o (Ok found) → o ≡ Ok (ref_value found)
+value_found (Ok v) found h = ap Ok (sym h)
+value_found (Err r) found h = absurd h
+
+-- any other line by its ref
+pub found-prints : (taken before after : List ℕ) (found : Ref) → AnswersRefs ref_value (v2_line taken) (Ok found)
+    → after ≡ before ++ ref_line (ref_value found) → PrintsLine taken before after (Ok tt)
+found-prints taken before after found h e = (ref_value found, value_found (v2_line taken) found h, e)
+
+pub found-memory : (taken : List ℕ) (found : Ref) → AnswersRefs ref_value (v2_line taken) (Ok found)
+    → AnswersRefs ref_value (v2_line taken) (Err Memory)
+found-memory taken found h = out_of_memory (v2_line taken) (ref_value found) (value_found (v2_line taken) found h)

@@ -1,14 +1,14 @@
 -- How the refs of an `ls-refs` answer are listed.
-use Rattle.std.specs.Prelude.{◌≡◌, ℕ, ◌⊎◌, ⊤, Bool, true, false, List, [], ◌∷◌, flat_map, codes, Option, Some, None, IfSome, IsSome, Result, Ok, Err, IsOk}
+use Rattle.std.specs.Prelude.{◌≡◌, ℕ, ◌⊎◌, ⊤, Bool, true, false, List, [], ◌∷◌, ◌++◌, flat_map, codes, Option, Some, None, IfSome, IsSome, Result, Ok, Err, IsOk}
 use Rattle.std.specs.Io.KnownBytes.{Appends}
 use Rattle.gixp_hash.specs.Hex.{encode_lower}
-use Rattle.gixp_refs.specs.Ref.{RefValue, peeled, direct, symbolic, unborn}
+use Rattle.gixp_refs.specs.Ref.{RefValue, ref_value, peeled, direct, symbolic, unborn}
 use Rattle.gixp_refs.specs.RefLine.{RefsRefusal, io_failed, refusal_from, v2_line}
-use Rattle.gixp_refs.specs.ParseError.{parse_refusal, IsParseRefusal, IsFromOutside}
+use Rattle.gixp_refs.specs.ParseError.{AnswersRefs, parse_refusal, IsParseRefusal, IsFromOutside}
 use Rattle.gixp_packetline.specs.Pieces.{Refusal, Pieces}
 use Rattle.gixp_packetline.specs.Lines.{Ending, stop, refusal}
-use Rattle.gixp_packetline.specs.Reading.{Reading, Rose, lines_ahead}
-use Rattle.gixp_refs.specs.Refs.{v2_refs, stream_refs}
+use Rattle.gixp_packetline.specs.Reading.{Reading, TakesLine, AtStop, Rose, lines_ahead}
+use Rattle.gixp_refs.specs.Refs.{v2_refs, stream_refs, NextRef}
 use Rattle.gixp_refs.specs.declared.handshake.refs.parse.Error.{Error}
 use Rattle.gixp_listing.specs.declared.list.ListError.{ListError}
 use Rattle.gixp_listing.specs.declared.list.ListError.TheVariants.{Parse, Io}
@@ -46,6 +46,18 @@ pub record StopsBehind (old new : Reading) : Type 0 where
   pub stopped : IsSome new.stopped
   pub rest : IfSome old.to_come (λ p. (q : Pieces) × (new.to_come ≡ Some q) × (behind_stop (lines_ahead old p).ending ≡ Some q))
   pub failures : new.failures ≡ old.failures
+
+-- what is printed for the ref of a line was appended
+abbrev pub PrintsLine : List ℕ → List ℕ → List ℕ → Result Unit Error → Type 0
+PrintsLine line before after (Ok done) = (v : RefValue) × (v2_line line ≡ Ok v) × (after ≡ before ++ ref_line v)
+PrintsLine line before after (Err e) = AnswersRefs ref_value (v2_line line) (Err e)
+
+-- the line of the next ref was appended; at the stop there is none
+abbrev pub PrintsNext : Bool → Reading → Reading → List ℕ → List ℕ → Result Bool Error → Type 0
+PrintsNext plain old new before after (Ok true) =
+    (v : RefValue) × TakesLine old new × (v2_line new.line ≡ Ok v) × (after ≡ before ++ ref_line v)
+PrintsNext plain old new before after (Ok false) = AtStop old new × (after ≡ before)
+PrintsNext plain old new before after (Err e) = NextRef plain old new (Err e)
 
 -- this text is the lines of the refs that a reader gives
 pub record PrintsAhead (old new : Reading) (text : List ℕ) : Type 0 where

@@ -6,11 +6,12 @@ ghost use Rattle.gixp_refs.specs.Refs.{stream_refs};
 ghost use Rattle.gixp_refs.specs.ParseError.{parse_refusal};
 ghost use Rattle.gixp_listing.specs.declared.list.ListError.TheVariants.{Io};
 ghost use Rattle.gixp_listing.specs.ErrorName.{error_name, list_error_name};
-ghost use Rattle.gixp_listing.specs.List.{Prints, PrintsAhead, RefusesAhead, ListsAhead, RefusesLines, RefusesList, IsParse};
+ghost use Rattle.gixp_listing.specs.List.{Prints, PrintsLine, PrintsNext, PrintsAhead, RefusesAhead, ListsAhead, RefusesLines, RefusesList, IsParse};
 
 use crate::print::print_ref;
+use crate::text::append;
 use gixp_packetline::{ExtendedBufRead, LineReader};
-use gixp_refs::handshake::refs::{next_v2_ref, parse};
+use gixp_refs::handshake::refs::{parse, parse_v2, written_text};
 use std::alloc::{AllocError, Global};
 use std::io;
 use std::io::{ErrorKind, Read, Write};
@@ -57,6 +58,55 @@ fn variant_of(error: &parse::Error) -> &'static str
     }
 }
 
+// Appends what is printed for a line, by its ref.
+#[inline(never)]
+fn print_found(alloc: Global, line: &[u8], text: &mut Vec<u8>) -> Result<(), parse::Error>
+    ensures { PrintsLine line.now text.old.items text.new.items result }
+{
+    let found = match parse_v2(alloc, line) {
+        Ok(found) => found,
+        Err(e) => return Err(e),
+    };
+    match print_ref(text, found) {
+        Ok(()) => Ok(()),
+        Err(AllocError) => Err(parse::Error::Memory),
+    }
+}
+
+// Appends what is printed for a line. Mostly that is the line as it came, and then its ids aren't read.
+#[inline(always)]
+fn print_line(alloc: Global, line: &[u8], text: &mut Vec<u8>) -> Result<(), parse::Error>
+    ensures { PrintsLine line.now text.old.items text.new.items result }
+{
+    match written_text(line) {
+        Some(written) => match append(text, &[written, b"\n"]) {
+            Ok(()) => Ok(()),
+            Err(AllocError) => Err(parse::Error::Memory),
+        },
+        None => print_found(alloc, line, text),
+    }
+}
+
+// Appends the line of the next ref; false at the stop.
+#[inline(always)]
+fn print_next<R: ExtendedBufRead>(
+    alloc: Global,
+    lines: &mut R,
+    text: &mut Vec<u8>,
+) -> Result<bool, parse::Error>
+    ensures { PrintsNext R.is_plain (R.reading lines.old) (R.reading lines.new) text.old.items text.new.items result }
+{
+    match lines.next_line() {
+        Ok(true) => {}
+        Ok(false) => return Ok(false),
+        Err(e) => return Err(parse::Error::from(e)),
+    }
+    match print_line(alloc, lines.line(), text) {
+        Ok(()) => Ok(true),
+        Err(e) => Err(e),
+    }
+}
+
 // The lines of the refs to come. No ref is held beside its line, which is a third shorter.
 fn print_refs<R: ExtendedBufRead>(alloc: Global, lines: &mut R) -> Result<Vec<u8>, parse::Error>
     ensures { MatchResult result
@@ -64,9 +114,7 @@ fn print_refs<R: ExtendedBufRead>(alloc: Global, lines: &mut R) -> Result<Vec<u8
         (RefusesAhead R.is_plain (R.reading lines.old) (R.reading lines.new)) }
 {
     let mut text = Vec::new(alloc);
-    while let Some(found) = next_v2_ref(alloc, lines)? {
-        print_ref(&mut text, found)?;
-    }
+    while print_next(alloc, lines, &mut text)? {}
     Ok(text)
 }
 

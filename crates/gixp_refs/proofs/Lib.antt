@@ -1,6 +1,7 @@
 mod TrimLemmas
 mod AnswerLemmas
-mod RefsLemmas
+mod WrittenLemmas
+pub mod RefsLemmas
 mod AdvertisementLemmas
 mod SymrefLemmas
 mod TableLemmas

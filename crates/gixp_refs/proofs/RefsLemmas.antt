@@ -163,13 +163,18 @@ first_known : (r s : Reading) (o n : Option Pieces) (t : List ℕ) (v : RefValue
 first_known r s None n t v is a = tt
 first_known r s (Some p) n t v is a = (a.0, a.1, ap v2_refs a.2 ∙ (rw is refl))
 
+-- the value of a line that was taken is the first of those to come
+pub next-value : (old new : Reading) (v : RefValue) → TakesLine old new → v2_line new.line ≡ Ok v
+    → IfSome old.to_come (λ p. (q : Pieces) × (new.to_come ≡ Some q)
+    × (v2_refs (lines_ahead old p) ≡ with_ref (Ok v) (v2_refs (lines_ahead new q))))
+next-value old new v k is =
+    first_known old new old.to_come new.to_come new.line v is (so_far-line old old new [] (so_far-start old) k).next
+
 -- the ref of a line is the first of those to come
 pub next-found : (plain : Bool) (old new : Reading) (r : Ref) (o : Result RefValue RefsRefusal) → TakesLine old new
     → v2_line new.line ≡ o → AnswersRefs ref_value o (Ok r)
     → NextOfRefs plain old new (Ok (Some r))
-next-found plain old new r (Ok v) k is a =
-    first_known old new old.to_come new.to_come new.line (ref_value r) (is ∙ ap Ok (sym a))
-    (so_far-line old old new [] (so_far-start old) k).next
+next-found plain old new r (Ok v) k is a = next-value old new (ref_value r) k (is ∙ ap Ok (sym a))
 next-found plain old new r (Err x) k is a = absurd a
 
 -- at the stop there are none

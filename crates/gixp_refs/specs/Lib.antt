@@ -11,6 +11,7 @@ pub use Rattle.gixp_response.specs.ReadFails
 pub use Rattle.gixp_response.specs.Runs
 pub mod Ref
 pub mod RefLine
+pub mod WrittenLine
 pub mod ParseError
 pub mod Refs
 pub mod RefAdvertisement

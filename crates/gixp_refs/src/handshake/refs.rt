@@ -11,9 +11,12 @@ mod line;
 pub mod parse;
 mod symrefs;
 mod v1;
+mod written;
 
 pub use advertisement::from_v1_refs_received_as_part_of_handshake_and_capabilities;
+pub use line::parse_v2;
 pub use symrefs::from_capabilities;
+pub use written::written_text;
 
 /// The next ref of an `ls-refs` answer, and none at the stop, for one who doesn't want to hold all refs
 /// (gitprotocol-v2, "ls-refs").

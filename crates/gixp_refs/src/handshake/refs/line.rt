@@ -185,9 +185,13 @@ fn make_unborn(alloc: Global, full_ref_name: BString, had: Attributes<'_>) -> Re
     Err(Error::InvariantViolation { message })
 }
 
-// The ref of a line, or its first refusal.
+/// The ref of a line of an `ls-refs` answer, for one who takes the lines (gitprotocol-v2, "ls-refs").
+///
+/// # Errors
+///
+/// The first refusal of the line, with what [`Error`] says of it.
 #[inline(always)]
-pub(crate) fn parse_v2(alloc: Global, line: &[u8]) -> Result<Ref, Error>
+pub fn parse_v2(alloc: Global, line: &[u8]) -> Result<Ref, Error>
     ensures { AnswersRefs ref_value (v2_line line.now) result }
 {
     let line = trim_end(line);
