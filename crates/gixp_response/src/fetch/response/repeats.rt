@@ -33,8 +33,8 @@ fn front_of(id: &ObjectId) -> u64
     ])
 }
 
-// Compares commits by their first bytes, and where these are the same, by all and by their places. Ids are as good as random,
-// so that the first bytes decide, by one test that is always guessed right.
+// Compares commits by their first bytes, and only where these are the same by all of them and by their places. Ids are as
+// good as random: the test is guessed right, and a comparison of two numbers is left, of which the sort makes no branch.
 fn compare(a: &Row, b: &Row) -> Ordering
     ensures { result ≡ row_cmp a.now b.now }
 {
