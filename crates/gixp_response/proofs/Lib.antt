@@ -3,6 +3,7 @@ mod AnswerRunLemmas
 mod SectionLemmas
 mod BeginningLemmas
 mod CommonLemmas
+mod FrontLemmas
 mod RepeatLemmas
 mod SectionGrammarLemmas
 mod BeginningGrammarLemmas

@@ -285,10 +285,37 @@ module _ {K : Type 0} {R : K → K → Ordering} (o : IsTotalOrder R) where
       (λ e. false≢true (sym other ∙ nat_equal a.1 b.1 (then_equal _ _ (place_total.antisymm a b ∙ e)))))
 
   -- the flags of the places whose key doesn't stand before them
-  pub marked_after_sort : {A : Type 0} (xs : List A) (rows sorted : List (K × ℕ)) → IsPermutation rows sorted → IsSorted place_cmp sorted
+  marked_after_sort : {A : Type 0} (xs : List A) (rows sorted : List (K × ℕ)) → IsPermutation rows sorted → IsSorted place_cmp sorted
       → IsDistinct (λ a b. a.1 == b.1) rows
       → marked R (tested_from (λ p. true) 0 xs) sorted ≡ tested_from (λ p. not (is_repeat R rows p)) 0 xs
   marked_after_sort xs rows sorted same order apart =
       marked_sorted xs sorted (strictly sorted order
       (IsDistinct-IsPermutation (λ a b. a.1 == b.1) (λ a b. eq_turned a.1 b.1) rows sorted same apart))
       ∙ tested_same _ _ 0 xs (λ p l. ap not (repeats_same rows sorted same p))
+
+  -- ---- another test of keys that tells as much
+
+  module _ (S : K → K → Ordering) (alike : (a b : K) → eq_by_cmp R a b ≡ eq_by_cmp S a b) where
+    marked_after_alike : (rows : List (K × ℕ)) (flags : List Bool) (last : K × ℕ)
+        → marked_after S flags last rows ≡ marked_after R flags last rows
+    marked_after_alike [] flags last = refl
+    marked_after_alike (row ∷ rows) flags last =
+        ap (λ b. marked_after S (cond b (slice_set flags row.1 false) flags) row rows) (sym (alike last.0 row.0))
+        ∙ marked_after_alike rows (cond (eq_by_cmp R last.0 row.0) (slice_set flags row.1 false) flags) row
+
+    marked_alike : (flags : List Bool) (rows : List (K × ℕ)) → marked S flags rows ≡ marked R flags rows
+    marked_alike flags [] = refl
+    marked_alike flags (row ∷ rows) = marked_after_alike rows flags row
+
+    repeats_alike : (rows : List (K × ℕ)) (p : ℕ) → is_repeat R rows p ≡ is_repeat S rows p
+    repeats_alike rows p = any_alike _ _ rows (λ row. ap (λ b. (row.1 == p) && b)
+        (any_alike _ _ rows (λ earlier. ap (λ b. b && nat_lt earlier.1 p) (alike earlier.0 row.0))))
+
+    -- the flags of the places whose key doesn't stand before them by that test
+    pub marked_alike_after_sort : {A : Type 0} (xs : List A) (rows sorted : List (K × ℕ)) → IsPermutation rows sorted
+        → IsSorted place_cmp sorted → IsDistinct (λ a b. a.1 == b.1) rows
+        → marked S (tested_from (λ p. true) 0 xs) sorted ≡ tested_from (λ p. not (is_repeat S rows p)) 0 xs
+    marked_alike_after_sort xs rows sorted same order apart =
+        marked_alike _ sorted
+        ∙ marked_after_sort xs rows sorted same order apart
+        ∙ tested_same _ _ 0 xs (λ p l. ap not (repeats_alike rows p))

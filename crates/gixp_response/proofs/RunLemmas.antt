@@ -1,7 +1,7 @@
 -- How the calls of a reader of lines make up a run.
 use Rattle.std.proofs.Common.{◌≡◌, ℕ, List, [], ◌∷◌, ◌++◌, Option, Some, None, IfSome, IsSome, refl, sym, ap, ◌∙◌, append_assoc, append-nil, inl, inr}
 use Rattle.gixp_packetline.specs.declared.protocol.MessageKind.{MessageKind}
-use Rattle.gixp_packetline.specs.Pieces.{Refusal, line, Pieces, no_pieces}
+use Rattle.gixp_packetline.specs.Pieces.{Refusal, Pieces, no_pieces}
 use Rattle.gixp_packetline.specs.Lines.{gives, stops, refuses, next_of, Lines, Ending, stop, refusal, lines_of, no_lines, before, lines_to}
 use Rattle.gixp_packetline.specs.Reading.{Reading, TakesLine, TakesStop, WasStopped, AtStop, Refuses, Fails, lines_from_stop, lines_ahead}
 use Rattle.gixp_packetline.proofs.LineLemmas.{gives_line, stops_here, refuses_here}

@@ -1,9 +1,11 @@
 -- What is named more than once in a list, by the places where it stands.
-use Rattle.std.specs.Prelude.{◌≡◌, ℕ, ◌+◌, ◌==◌, nat_lt, Bool, true, false, ◌&&◌, if◌then◌else◌, List, [], ◌∷◌}
+use Rattle.std.specs.Prelude.{◌≡◌, ℕ, ◌+◌, ◌==◌, nat_lt, Bool, true, false, ◌&&◌, if◌then◌else◌, List, [], ◌∷◌, slice_index}
+use Rattle.std.specs.Int.{from_le_bytes, w64}
 use Rattle.std.specs.List.{list_any, fold, slice_set}
-use Rattle.std.specs.Ordering.{eq_by_cmp}
+use Rattle.std.specs.Ordering.{eq_by_cmp, nat_cmp, ordering_then}
 use Rattle.std.specs.declared.cmp.Ordering.{Ordering}
 use Rattle.gixp_hash.specs.declared.object_id.ObjectId.{ObjectId}
+use Rattle.gixp_hash.specs.ObjectId.{id_cmp}
 use Rattle.gixp_response.specs.declared.fetch.response.line.Acknowledgement.{Acknowledgement}
 use Rattle.gixp_response.specs.declared.fetch.response.line.Acknowledgement.TheVariants.{Common, Ready, Nak}
 use Rattle.gixp_response.specs.declared.fetch.response.repeats.Repeats.{Repeats}
@@ -29,6 +31,20 @@ module _ {K : Type 0} (R : K → K → Ordering) where
   abbrev pub marked : List Bool → List (K × ℕ) → List Bool
   marked flags [] = flags
   marked flags (row ∷ rows) = marked_after flags row rows
+
+-- the first eight bytes as a number
+unfoldable pub front_of : List ℕ → ℕ
+front_of bytes =
+    from_le_bytes w64 (slice_index bytes 0 ∷ slice_index bytes 1 ∷ slice_index bytes 2 ∷ slice_index bytes 3
+    ∷ slice_index bytes 4 ∷ slice_index bytes 5 ∷ slice_index bytes 6 ∷ slice_index bytes 7 ∷ [])
+
+-- an order of ids that their first bytes mostly decide
+abbrev pub front_cmp : ObjectId → ObjectId → Ordering
+front_cmp a b = ordering_then (nat_cmp (front_of a.bytes) (front_of b.bytes)) (id_cmp a b)
+
+-- rows by their ids in that order, and then by their places
+abbrev pub row_cmp : ObjectId × ℕ → ObjectId × ℕ → Ordering
+row_cmp a b = ordering_then (front_cmp a.0 b.0) (nat_cmp a.1 b.1)
 
 -- what a test gives at each place of a list, from a place on
 abbrev pub tested_from : {A : Type 0} → (ℕ → Bool) → ℕ → List A → List Bool
