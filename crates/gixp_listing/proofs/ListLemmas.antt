@@ -8,7 +8,7 @@ use Rattle.gixp_packetline.specs.Lines.{gives, stops, refuses, next_from, next_o
 use Rattle.gixp_packetline.specs.Pieces.{Refusal, Piece, line, mark, Pieces, io, decode, server, unexpected_frame, not_utf8, bad_band, interrupted, memory}
 use Rattle.gixp_packetline.specs.Reading.{Reading, TakesLine, IsOutside, IsPlain, Rose, lines_ahead, lines_from_stop}
 use Rattle.gixp_refs.specs.RefLine.{RefsRefusal, refusal_from, v2_line}
-use Rattle.gixp_refs.specs.Ref.{RefValue, ref_value, direct, peeled, symbolic, unborn}
+use Rattle.gixp_refs.specs.Ref.{RefValue, ref_value}
 use Rattle.gixp_refs.specs.WrittenLine.{written_line, IsWrittenLine}
 use Rattle.gixp_refs.specs.declared.handshake.Ref.{Ref}
 use Rattle.gixp_refs.specs.ParseError.{AnswersRefs, parse_refusal, is_outside}
@@ -16,7 +16,7 @@ use Rattle.gixp_refs.specs.declared.handshake.refs.parse.Error.{Error}
 use Rattle.gixp_refs.specs.declared.handshake.refs.parse.Error.TheVariants.{Memory}
 use Rattle.gixp_refs.specs.Refs.{with_ref, v2_refs, ReadsRefs, RefsFail, NextRef}
 use Rattle.gixp_refs.proofs.RefsLemmas.{refs-start, refs-stop, next-value, next-refused}
-use Rattle.gixp_listing.specs.List.{ref_line, Prints, PrintsLine, PrintsNext, behind_stop, StopsBehind, PrintsAhead, is_device, RefusesAhead}
+use Rattle.gixp_listing.specs.List.{Prints, PrintsLine, PrintsNext, behind_stop, StopsBehind, PrintsAhead, is_device, RefusesAhead}
 
 -- these values in front of those to come
 abbrev in_front : List RefValue → Result (List RefValue) RefsRefusal → Result (List RefValue) RefsRefusal
@@ -86,7 +86,7 @@ ends_alike-taken old new h = at old.to_come h.next
 -- the refs between two readings are printed, and stand in front of those to come
 pub record Printed (old now : Reading) (text : List ℕ) : Type 0 where
   pub values : List RefValue
-  pub printed : text ≡ flat_map ref_line values
+  pub printed : text ≡ flat_map written_line values
   pub ahead : IfSome old.to_come (λ p. (q : Pieces) × (now.to_come ≡ Some q)
       × (v2_refs (lines_ahead old p) ≡ in_front values (v2_refs (lines_ahead now q))))
   pub ending : EndsAlike old now
@@ -105,11 +105,11 @@ printed-start r = record { values = []; printed = refl; ahead = at r.to_come; en
 pub printed-more : (old mid new : Reading) (text more : List ℕ) (v : RefValue) → Printed old mid text
     → IfSome mid.to_come (λ p. (q : Pieces) × (new.to_come ≡ Some q)
     × (v2_refs (lines_ahead mid p) ≡ with_ref (Ok v) (v2_refs (lines_ahead new q))))
-    → more ≡ text ++ ref_line v → TakesLine mid new → Printed old new more
+    → more ≡ text ++ written_line v → TakesLine mid new → Printed old new more
 printed-more old mid new text more v h k e t = record {
   values = h.values ++ v ∷ [];
-  printed = e ∙ ap (λ l. l ++ ref_line v) h.printed
-      ∙ sym (flat_map-append ref_line h.values (v ∷ []) ∙ ap (λ l. flat_map ref_line h.values ++ l) (append-nil (ref_line v)));
+  printed = e ∙ ap (λ l. l ++ written_line v) h.printed
+      ∙ sym (flat_map-append written_line h.values (v ∷ []) ∙ ap (λ l. flat_map written_line h.values ++ l) (append-nil (written_line v)));
   ahead = at old.to_come mid.to_come h.ahead k;
   ending = ends_alike-more old mid new h.ending (ends_alike-taken mid new t);
   failures = t.failures ∙ h.failures;
@@ -245,19 +245,11 @@ pub printed-next_refused : (plain : Bool) (old mid new : Reading) (text : List �
 printed-next_refused plain old mid new text e h k =
     printed-refused plain old mid new text e h (next-refused plain mid mid new [] e (refs-start mid) k)
 
--- what is printed for a value is the line that git writes for it
-ref_line-written : (v : RefValue) → ref_line v ≡ written_line v
-ref_line-written (direct name object) = refl
-ref_line-written (peeled name tag object) = refl
-ref_line-written (symbolic name target None object) = refl
-ref_line-written (symbolic name target (Some tag) object) = refl
-ref_line-written (unborn name target) = refl
-
 -- a line as git writes it is printed as it came
 pub written-prints : (taken written before after : List ℕ) → IsWrittenLine taken written → after ≡ before ++ (written ++ codes "\n")
     → PrintsLine taken before after (Ok tt)
 written-prints taken written before after h e =
-    (h.0, h.1, e ∙ ap (λ t. before ++ t) (sym (ref_line-written h.0 ∙ h.2)))
+    (h.0, h.1, e ∙ ap (λ t. before ++ t) (sym h.2))
 
 out_of_memory : (o : Result RefValue RefsRefusal) (v : RefValue) → o ≡ Ok v → AnswersRefs ref_value o (Err Memory)
 out_of_memory (Ok w) v h = refl
@@ -273,7 +265,7 @@ value_found (Err r) found h = absurd h
 
 -- any other line by its ref
 pub found-prints : (taken before after : List ℕ) (found : Ref) → AnswersRefs ref_value (v2_line taken) (Ok found)
-    → after ≡ before ++ ref_line (ref_value found) → PrintsLine taken before after (Ok tt)
+    → after ≡ before ++ written_line (ref_value found) → PrintsLine taken before after (Ok tt)
 found-prints taken before after found h e = (ref_value found, value_found (v2_line taken) found h, e)
 
 pub found-memory : (taken : List ℕ) (found : Ref) → AnswersRefs ref_value (v2_line taken) (Ok found)

@@ -1,8 +1,8 @@
 -- How the refs of an `ls-refs` answer are listed.
 use Rattle.std.specs.Prelude.{◌≡◌, ℕ, ◌⊎◌, ⊤, Bool, true, false, List, [], ◌∷◌, ◌++◌, flat_map, codes, Option, Some, None, IfSome, IsSome, Result, Ok, Err, IsOk}
 use Rattle.std.specs.Io.KnownBytes.{Appends}
-use Rattle.gixp_hash.specs.Hex.{encode_lower}
-use Rattle.gixp_refs.specs.Ref.{RefValue, ref_value, peeled, direct, symbolic, unborn}
+use Rattle.gixp_refs.specs.Ref.{RefValue, ref_value}
+use Rattle.gixp_refs.specs.WrittenLine.{written_line}
 use Rattle.gixp_refs.specs.RefLine.{RefsRefusal, io_failed, refusal_from, v2_line}
 use Rattle.gixp_refs.specs.ParseError.{AnswersRefs, parse_refusal, IsParseRefusal, IsFromOutside}
 use Rattle.gixp_packetline.specs.Pieces.{Refusal, Pieces}
@@ -17,23 +17,9 @@ use Rattle.gixp_listing.specs.declared.list.ListError.TheVariants.{Parse, Io}
 abbrev pub joined : List (List ℕ) → List ℕ
 joined texts = flat_map (λ (text : List ℕ). text) texts
 
--- the line of a symbolic ref
-abbrev pub symbolic_line : (name target : List ℕ) → Option (List ℕ) → List ℕ → List ℕ
-symbolic_line name target None object = joined (encode_lower object ∷ codes " " ∷ name ∷ codes " symref-target:" ∷ target ∷ codes "\n" ∷ [])
-symbolic_line name target (Some tag) object =
-    joined (encode_lower tag ∷ codes " " ∷ name ∷ codes " symref-target:" ∷ target ∷ codes " peeled:" ∷ encode_lower object ∷ codes "\n"
-    ∷ [])
-
--- the line of a ref, its LF included
-abbrev pub ref_line : RefValue → List ℕ
-ref_line (direct name object) = joined (encode_lower object ∷ codes " " ∷ name ∷ codes "\n" ∷ [])
-ref_line (peeled name tag object) = joined (encode_lower tag ∷ codes " " ∷ name ∷ codes " peeled:" ∷ encode_lower object ∷ codes "\n" ∷ [])
-ref_line (symbolic name target tag object) = symbolic_line name target tag object
-ref_line (unborn name target) = joined (codes "unborn " ∷ name ∷ codes " symref-target:" ∷ target ∷ codes "\n" ∷ [])
-
 -- the refs' lines were written
 abbrev pub Prints : Option (List ℕ) → Option (List ℕ) → Result (List RefValue) RefsRefusal → Type 0
-Prints old new (Ok values) = Appends old new (flat_map ref_line values)
+Prints old new (Ok values) = Appends old new (flat_map written_line values)
 Prints old new (Err e) = ⊥
 
 -- what comes after the stop that lines end at
@@ -49,13 +35,13 @@ pub record StopsBehind (old new : Reading) : Type 0 where
 
 -- what is printed for the ref of a line was appended
 abbrev pub PrintsLine : List ℕ → List ℕ → List ℕ → Result Unit Error → Type 0
-PrintsLine line before after (Ok done) = (v : RefValue) × (v2_line line ≡ Ok v) × (after ≡ before ++ ref_line v)
+PrintsLine line before after (Ok done) = (v : RefValue) × (v2_line line ≡ Ok v) × (after ≡ before ++ written_line v)
 PrintsLine line before after (Err e) = AnswersRefs ref_value (v2_line line) (Err e)
 
 -- the line of the next ref was appended; at the stop there is none
 abbrev pub PrintsNext : Bool → Reading → Reading → List ℕ → List ℕ → Result Bool Error → Type 0
 PrintsNext plain old new before after (Ok true) =
-    (v : RefValue) × TakesLine old new × (v2_line new.line ≡ Ok v) × (after ≡ before ++ ref_line v)
+    (v : RefValue) × TakesLine old new × (v2_line new.line ≡ Ok v) × (after ≡ before ++ written_line v)
 PrintsNext plain old new before after (Ok false) = AtStop old new × (after ≡ before)
 PrintsNext plain old new before after (Err e) = NextRef plain old new (Err e)
 

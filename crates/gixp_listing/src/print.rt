@@ -1,7 +1,7 @@
 //! Refs as printed lines.
 ghost use Rattle.std.specs.Prelude.{◌≡◌, ◌++◌, OnOk};
-ghost use Rattle.gixp_listing.specs.List.{ref_line, symbolic_line};
-ghost use Rattle.gixp_refs.specs.Ref.{ref_value, peeled, unborn};
+ghost use Rattle.gixp_refs.specs.WrittenLine.{written_line};
+ghost use Rattle.gixp_refs.specs.Ref.{ref_value, peeled, symbolic, unborn};
 ghost use Rattle.gixp_refs.specs.ParseError.{object_of};
 
 use crate::text::append;
@@ -17,7 +17,7 @@ fn append_symbolic(
     tag: &Option<ObjectId>,
     object: &ObjectId,
 ) -> Result<(), AllocError>
-    ensures { OnOk result (text.new.items ≡ text.old.items ++ symbolic_line name.now target.now (object_of tag.now) object.now.bytes) }
+    ensures { OnOk result (text.new.items ≡ text.old.items ++ written_line (symbolic name.now target.now (object_of tag.now) object.now.bytes)) }
 {
     let object = object.to_hex();
     match tag {
@@ -49,7 +49,7 @@ fn append_peeled(
     tag: &ObjectId,
     object: &ObjectId,
 ) -> Result<(), AllocError>
-    ensures { OnOk result (text.new.items ≡ text.old.items ++ ref_line (peeled name.now tag.now.bytes object.now.bytes)) }
+    ensures { OnOk result (text.new.items ≡ text.old.items ++ written_line (peeled name.now tag.now.bytes object.now.bytes)) }
 {
     let (tag, object) = (tag.to_hex(), object.to_hex());
     append(text, &[&tag, b" ", name, b" peeled:", &object, b"\n"])
@@ -57,7 +57,7 @@ fn append_peeled(
 
 // The line of a ref that leads to one that isn't there yet.
 fn append_unborn(text: &mut Vec<u8>, name: &[u8], target: &[u8]) -> Result<(), AllocError>
-    ensures { OnOk result (text.new.items ≡ text.old.items ++ ref_line (unborn name.now target.now)) }
+    ensures { OnOk result (text.new.items ≡ text.old.items ++ written_line (unborn name.now target.now)) }
 {
     append(text, &[b"unborn ", name, b" symref-target:", target, b"\n"])
 }
@@ -65,7 +65,7 @@ fn append_unborn(text: &mut Vec<u8>, name: &[u8], target: &[u8]) -> Result<(), A
 // The line of a ref.
 #[inline(always)]
 fn append_ref(text: &mut Vec<u8>, found: &Ref) -> Result<(), AllocError>
-    ensures { OnOk result (text.new.items ≡ text.old.items ++ ref_line (ref_value found.now)) }
+    ensures { OnOk result (text.new.items ≡ text.old.items ++ written_line (ref_value found.now)) }
 {
     match found {
         Ref::Direct {
@@ -102,7 +102,7 @@ fn append_ref(text: &mut Vec<u8>, found: &Ref) -> Result<(), AllocError>
 // A ref as a line. It is dropped while it is at hand in the processor's cache.
 #[inline(always)]
 pub(crate) fn print_ref(text: &mut Vec<u8>, found: Ref) -> Result<(), AllocError>
-    ensures { OnOk result (text.new.items ≡ text.old.items ++ ref_line (ref_value found)) }
+    ensures { OnOk result (text.new.items ≡ text.old.items ++ written_line (ref_value found)) }
 {
     append_ref(text, &found)
 }
