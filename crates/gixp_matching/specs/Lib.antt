@@ -1,4 +1,5 @@
 -- What contracts cite.
+pub mod Sought
 pub mod Rows
 pub mod Mappings
 pub mod Firsts

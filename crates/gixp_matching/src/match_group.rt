@@ -13,6 +13,7 @@ mod negatives;
 mod pairs;
 mod rows;
 mod sorted;
+mod sought;
 pub mod validate;
 
 use crate::match_group::distinct::firsts;
