@@ -207,7 +207,8 @@ refs_at {B} f q all front (x ∷ xs) k h e =
 -- a short name maps the refs that it stands for
 pub short_mapped : (specs : List Spec) (wanted all : List (List ℕ)) (s : ℕ × Spec) (name : Bor (List ℕ)) (rows : List Row) (places : List ℕ)
     (now new : List Mapped) → IsNeedle s.1.source (the_short name) → is_negative s.1.sign ≡ false → IsRowTable wanted all rows
-    → AreSought wanted (sought_by s.1) → ArePlaces (candidates name.now) rows places → new ≡ now ++ flat_map (λ place. flat_map (pair specs s) (ref_at all place)) places
+    → AreSought wanted (sought_by s.1) → ArePlaces (candidates name.now) rows places
+    → new ≡ now ++ flat_map (λ place. flat_map (pair specs s) (ref_at all place)) places
     → new ≡ now ++ pairs_of specs all s
 short_mapped specs wanted all s name rows places now new made positive table has was step =
     step ∙ ap (λ l. now ++ flat_map (λ place. flat_map (pair specs s) (ref_at all place)) l)

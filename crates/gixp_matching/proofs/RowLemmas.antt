@@ -226,7 +226,8 @@ negative_mapped specs all s now negative = nothing_mapped specs all s now (λ re
 -- an exact name maps the refs of this name
 pub exact_mapped : (specs : List Spec) (texts all : List (List ℕ)) (s : ℕ × Spec) (name : Bor (List ℕ)) (rows run : List Row)
     (now new : List Mapped) → IsNeedle s.1.source (the_exact name) → is_negative s.1.sign ≡ false → IsRowTable texts all rows
-    → AreSought texts (sought_by s.1) → run ≡ filter (is_row_of name.now) rows → new ≡ now ++ flat_map (pair specs s) (map shown run) → new ≡ now ++ pairs_of specs all s
+    → AreSought texts (sought_by s.1) → run ≡ filter (is_row_of name.now) rows
+    → new ≡ now ++ flat_map (pair specs s) (map shown run) → new ≡ now ++ pairs_of specs all s
 exact_mapped specs texts all s name rows run now new made positive table has was step =
     step ∙ ap (λ l. now ++ flat_map (pair specs s) l) (ap (map shown) was
     ∙ table.has_all name.now (has name.now (exact_sought s.1 name positive made)))

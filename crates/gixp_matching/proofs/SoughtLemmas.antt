@@ -19,7 +19,8 @@ use Rattle.gixp_matching.proofs.FirstLemmas.{or_none}
 use Rattle.gixp_matching.proofs.KeyLemmas.{bytes_eq-turned}
 
 -- what is no pattern is sought by its prefixes
-prefixes_sought : (s : Spec) → is_pattern s.source ≡ false → is_negative s.sign ≡ false → sought_by s ≡ prefixes_by (kind_of s.source) s.source
+prefixes_sought : (s : Spec) → is_pattern s.source ≡ false → is_negative s.sign ≡ false
+    → sought_by s ≡ prefixes_by (kind_of s.source) s.source
 unfolding prefixes_of
 prefixes_sought s plain positive = rw (plain, positive) refl
 
@@ -84,7 +85,8 @@ either_way false false = refl
 
 -- a set with a name more
 pub name_added : {S : Type 0} (old new : HashSet (Bor (List ℕ)) S) (key : Bor (List ℕ)) (name text : List ℕ)
-    → Updates (λ x y. bytes_eq x.now y.now) old new key true → key.now ≡ name → has_name new text ≡ (has_name old text || bytes_eq text name)
+    → Updates (λ x y. bytes_eq x.now y.now) old new key true → key.now ≡ name
+    → has_name new text ≡ (has_name old text || bytes_eq text name)
 name_added old new key name text updates is =
     updates.0 (record { ref_ptr = (0, 0); now = text }) ∙ either_way (bytes_eq key.now text) (has_name old text)
     ∙ ap (λ b. has_name old text || b) (bytes_eq-turned key.now text ∙ ap (bytes_eq text) is)

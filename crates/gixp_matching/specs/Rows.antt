@@ -56,8 +56,8 @@ abbrev pub IsLookedAt : Numbered → Type 0
 IsLookedAt n = IsNeedle n.spec.now.source.now n.needle
 
 -- the names that it stands for are sought
-abbrev pub IsSought : List Spec → Numbered → Type 0
-IsSought specs n = AreSought (sought specs) (sought_by (value_of n.spec.now))
+abbrev pub HasSoughtNames : List Spec → Numbered → Type 0
+HasSoughtNames specs n = AreSought (sought specs) (sought_by (value_of n.spec.now))
 
 -- some ref has this place
 abbrev pub has_place : ℕ → List (ℕ × List ℕ) → Bool

@@ -11,6 +11,7 @@ pub(crate) mod key;
 mod local;
 mod negatives;
 mod pairs;
+mod repeats;
 mod rows;
 mod sorted;
 mod sought;

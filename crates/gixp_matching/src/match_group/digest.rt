@@ -148,7 +148,7 @@ fn source_bytes<'a>(source: &KeySource<'a>) -> KeyBytes<'a>
 }
 
 /// The number of a source and a local name.
-fn key_digest(key: &Key<'_>) -> u64
+pub(crate) fn key_digest(key: &Key<'_>) -> u64
     ensures { result ≡ parts_digest (key_parts key.now) }
 {
     let source = source_bytes(&key.0);
@@ -157,17 +157,6 @@ fn key_digest(key: &Key<'_>) -> u64
         None => number_of(state),
         Some(local) => number_of(absorb_bytes(state, local.bytes)),
     }
-}
-
-/// The number of each key.
-pub(crate) fn key_digests(alloc: Global, keys: &[Key<'_>]) -> Result<Vec<u64>, AllocError>
-    ensures { IfOk result (λ digests. digests.items ≡ map (λ key. parts_digest (key_parts key)) keys.now) }
-{
-    let mut digests = Vec::with_capacity(alloc, keys.len())?;
-    'keys: for key in keys {
-        digests.push(key_digest(key))?;
-    }
-    Ok(digests)
 }
 
 /// The number of each name.

@@ -5,7 +5,7 @@ ghost use Rattle.std.specs.List.{flat_map};
 ghost use Rattle.gixp_refspec.specs.RefSpec.{value_of};
 ghost use Rattle.gixp_matching.specs.Mappings.{id_mapping, pair, pairs_of, id_mappings, pairs};
 ghost use Rattle.gixp_matching.specs.MatchGroup.{mapped_of, mapped_in, values, names};
-ghost use Rattle.gixp_matching.specs.Rows.{shown, ref_at, numbered_value, IsLookedAt, IsSought, IsPrepared, IsRowTable};
+ghost use Rattle.gixp_matching.specs.Rows.{shown, ref_at, numbered_value, IsLookedAt, HasSoughtNames, IsPrepared, IsRowTable};
 ghost use Rattle.gixp_matching.specs.Sought.{sought};
 
 use crate::match_group::local::local_of;
@@ -246,7 +246,7 @@ impl Matching<'_, '_, '_> {
     ) -> Result<(), AllocError>
         requires needle { IsLookedAt numbered.now }
         requires prepared { IsPrepared self.now.prepared.now }
-        requires sought { IsSought (values self.now.prepared.now.specs.now) numbered.now }
+        requires sought { HasSoughtNames (values self.now.prepared.now.specs.now) numbered.now }
         requires table { IsRowTable (sought (values self.now.prepared.now.specs.now)) (names self.now.items.now) table.now }
         ensures { OnOk result (mapped_in out.new ≡ mapped_in out.old
             ++ pairs_of (values self.now.prepared.now.specs.now) (names self.now.items.now) (numbered_value numbered.now)) }
