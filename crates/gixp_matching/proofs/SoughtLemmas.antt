@@ -5,15 +5,16 @@ use Rattle.std.specs.Borrow.{Bor}
 use Rattle.std.specs.HashSet.{HashSet, Updates}
 use Rattle.std.specs.List.{flat_map}
 use Rattle.std.specs.Str.{bytes_eq}
-use Rattle.std.proofs.lemmas.Bool.{cases_Bool, or_left, or_right}
+use Rattle.std.proofs.lemmas.Bool.{cases_Bool, false≢true, or_left, or_right}
 use Rattle.std.proofs.lemmas.List.Folds.{list_any-append}
 use Rattle.std.proofs.lemmas.Slice.Eq.{bytes_eq-Decides}
 use Rattle.gixp_refspec.specs.declared.needle.Needle.TheVariants.{Exact as the_exact, Short as the_short}
 use Rattle.gixp_refspec.specs.Matching.{Exact, Short, kind_of, is_pattern, candidates, prefixes_by, prefixes_of}
 use Rattle.gixp_refspec.specs.Needle.{IsNeedle}
 use Rattle.gixp_refspec.specs.Spec.{Spec, is_id, is_negative}
+use Rattle.gixp_matching.specs.Digest.{tail}
 use Rattle.gixp_matching.specs.Rows.{AreSought}
-use Rattle.gixp_matching.specs.Sought.{sought_by, is_among, has_name}
+use Rattle.gixp_matching.specs.Sought.{sought_by, is_among, has_key, has_tail}
 use Rattle.gixp_packetline.proofs.ListLemmas.{take-map_more}
 use Rattle.gixp_matching.proofs.FirstLemmas.{or_none}
 use Rattle.gixp_matching.proofs.KeyLemmas.{bytes_eq-turned}
@@ -86,18 +87,37 @@ either_way false false = refl
 -- a set with a name more
 pub name_added : {S : Type 0} (old new : HashSet (Bor (List ℕ)) S) (key : Bor (List ℕ)) (name text : List ℕ)
     → Updates (λ x y. bytes_eq x.now y.now) old new key true → key.now ≡ name
-    → has_name new text ≡ (has_name old text || bytes_eq text name)
+    → has_key new text ≡ (has_key old text || bytes_eq text name)
 name_added old new key name text updates is =
-    updates.0 (record { ref_ptr = (0, 0); now = text }) ∙ either_way (bytes_eq key.now text) (has_name old text)
-    ∙ ap (λ b. has_name old text || b) (bytes_eq-turned key.now text ∙ ap (bytes_eq text) is)
+    updates.0 (record { ref_ptr = (0, 0); now = text }) ∙ either_way (bytes_eq key.now text) (has_key old text)
+    ∙ ap (λ b. has_key old text || b) (bytes_eq-turned key.now text ∙ ap (bytes_eq text) is)
 
 -- a step of a loop that adds each name
 pub names_more : {A S : Type 0} (h : A → List ℕ) (xs : List A) (i : ℕ) (x : A) (now new : HashSet (Bor (List ℕ)) S) → x ≡ get_or xs i x
-    → i < length xs → ((text : List ℕ) → has_name now text ≡ is_among (take i (map h xs)) text)
-    → ((text : List ℕ) → has_name new text ≡ (has_name now text || bytes_eq text (h x)))
-    → (text : List ℕ) → has_name new text ≡ is_among (take (i + 1) (map h xs)) text
+    → i < length xs → ((text : List ℕ) → has_key now text ≡ is_among (take i (map h xs)) text)
+    → ((text : List ℕ) → has_key new text ≡ (has_key now text || bytes_eq text (h x)))
+    → (text : List ℕ) → has_key new text ≡ is_among (take (i + 1) (map h xs)) text
 names_more h xs i x now new e l kept step text =
     step text ∙ ap (λ b. b || bytes_eq text (h x)) (kept text)
     ∙ ap (λ b. is_among (take i (map h xs)) text || b) (sym (or_none (bytes_eq text (h x))))
     ∙ sym (ap (λ texts. is_among texts text) (take-map_more h xs i x l ∙ ap (λ y. take i (map h xs) ++ h y ∷ []) (sym e))
     ∙ list_any-append (λ t. bytes_eq text t) (take i (map h xs)) (h x ∷ []))
+
+-- ---- the last bytes of names
+
+one_of : (a b : Bool) → (a || b) ≡ true → (b ≡ false) → a ≡ true
+one_of true b h n = refl
+one_of false b h n = absurd (false≢true (sym n ∙ h))
+
+-- a step of a loop that adds the last bytes of each name
+pub tails_more : {A S : Type 0} (h : A → List ℕ) (xs : List A) (i : ℕ) (x : A) (now new : HashSet ℕ S) → x ≡ get_or xs i x
+    → i < length xs → ((text : List ℕ) → is_among (take i (map h xs)) text ≡ true → has_tail now (tail text) ≡ true)
+    → has_tail new (tail (h x)) ≡ true → ((number : ℕ) → has_tail now number ≡ true → has_tail new number ≡ true)
+    → (text : List ℕ) → is_among (take (i + 1) (map h xs)) text ≡ true → has_tail new (tail text) ≡ true
+tails_more h xs i x now new e l kept own others text is =
+    let both = sym (ap (λ texts. is_among texts text) (take-map_more h xs i x l ∙ ap (λ y. take i (map h xs) ++ h y ∷ []) (sym e))
+    ∙ list_any-append (λ t. bytes_eq text t) (take i (map h xs)) (h x ∷ [])) ∙ is in
+    elim (cases_Bool (bytes_eq text (h x))) [
+      | inl t ↦ ap (λ y. has_tail new (tail y)) ((bytes_eq-Decides text (h x)).0 t) ∙ own
+      | inr f ↦ others (tail text) (kept text (one_of _ _ both (ap (λ b. b || false) f)))
+    ]

@@ -1,5 +1,5 @@
 -- Numbers that tell most names apart, each a function of what is compared.
-use Rattle.std.specs.Prelude.{ℕ, ◌≡◌, ◌+◌, ◌*◌, ◌/◌, ◌%◌, ◌^◌, Bool, true, List, length, drop, map, Option, Some, None, bit_xor}
+use Rattle.std.specs.Prelude.{ℕ, ◌≡◌, ◌+◌, ◌-◌, ◌*◌, ◌/◌, ◌%◌, ◌^◌, Bool, true, List, length, drop, map, Option, Some, None, bit_xor}
 use Rattle.std.specs.Int.{w64, rotate_left, from_le_bytes}
 use Rattle.std.specs.List.{fold}
 use Rattle.std.specs.Simd.{first_chunks}
@@ -13,6 +13,10 @@ use Rattle.gixp_matching.specs.Mappings.{Source, FullName, ObjectId}
 -- a number with one byte more
 abbrev pub step : ℕ → ℕ → ℕ
 step number byte = (number * 256 % 2 ^ 64 + byte) % 2 ^ 64
+
+-- the last eight bytes as a number
+unfoldable pub tail : List ℕ → ℕ
+tail name = fold step 0 (drop (length name - 8) name)
 
 -- a sum, and one of its parts turned and mixed with it
 unfoldable pub turned : ℕ → ℕ → ℕ → ℕ × ℕ

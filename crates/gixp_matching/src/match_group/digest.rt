@@ -3,7 +3,7 @@
 ghost use Rattle.std.specs.Prelude.{◌≡◌, IfOk, map};
 ghost use Rattle.std.specs.List.{fold};
 ghost use Rattle.gixp_matching.specs.Apart.{key_parts};
-ghost use Rattle.gixp_matching.specs.Digest.{step, turned, round, absorbed, with_word, with_bytes, start, number_of, digest, bytes_of, parts_digest};
+ghost use Rattle.gixp_matching.specs.Digest.{step, tail, turned, round, absorbed, with_word, with_bytes, start, number_of, digest, bytes_of, parts_digest};
 ghost use Rattle.gixp_matching.specs.MatchGroup.{key_bytes, key_source};
 
 use crate::match_group::key::{Key, KeyBytes, KeySource};
@@ -34,6 +34,14 @@ fn packed(number: u64, bytes: &[u8]) -> u64
         now = step(now, *byte);
     }
     now
+}
+
+/// The last eight bytes as a number.
+#[tactic(auto, unfolding(crate::specs::Digest::tail))]
+pub(crate) fn tail(name: &[u8]) -> u64
+    ensures { result ≡ tail name.now }
+{
+    packed(0, &name[name.len().saturating_sub(8)..])
 }
 
 /// A sum, and one of its parts turned and mixed with it.

@@ -7,16 +7,16 @@ ghost use Rattle.std.specs.List.Sorted.{IsPermutation};
 ghost use Rattle.gixp_refspec.specs.Matching.{candidates, joined, rule_of};
 ghost use Rattle.gixp_matching.specs.MatchGroup.{name_of, names, values};
 ghost use Rattle.gixp_matching.specs.Rows.{shown, is_row_of, AreByName, IsRowTable, AddsPlaces, HasPlaces, ArePlaces};
-ghost use Rattle.gixp_matching.specs.Sought.{sought, has_name};
+ghost use Rattle.gixp_matching.specs.Sought.{sought, has_name, HasTails};
 ghost use Rattle.gixp_matching.specs.Validation.{is_below};
 
 use crate::match_group::Item;
-use crate::match_group::sought::{set_of, sought_names};
+use crate::match_group::sought::{NameSet, set_of, sought_names};
 use gixp_refspec::needle::RULES;
 use gixp_refspec::spec::RefSpecRef;
 use gixp_refspec::text::joined;
 use std::alloc::{AllocError, Global};
-use std::collections::{BTreeSet, HashSet};
+use std::collections::BTreeSet;
 
 /// A ref: its name, and its place among those that are matched.
 #[derive(Clone, Copy)]
@@ -28,10 +28,11 @@ pub(crate) struct Row<'a> {
 /// Appends a ref, where its name is one of the set.
 fn push_row<'a>(
     rows: &mut Vec<Row<'a>>,
-    set: &HashSet<&[u8]>,
+    set: &NameSet<'_>,
     place: usize,
     item: &Item<'a>,
 ) -> Result<(), AllocError>
+    requires { HasTails set.now }
     ensures { OnOk result (map shown rows.new.items ≡ map shown rows.old.items
         ++ filter (λ ref. has_name set.now ref.1) ((place, name_of item.now) ∷ [])) }
 {
@@ -45,9 +46,10 @@ fn push_row<'a>(
 /// The refs whose name is one of the set, in their order.
 fn rows_of<'a>(
     alloc: Global,
-    set: &HashSet<&[u8]>,
+    set: &NameSet<'_>,
     items: &[Item<'a>],
 ) -> Result<Vec<Row<'a>>, AllocError>
+    requires { HasTails set.now }
     ensures { IfOk result (λ rows. map shown rows.items ≡ filter (λ ref. has_name set.now ref.1) (enumerate_from 0 (names items.now))) }
 {
     let mut rows = Vec::new(alloc);

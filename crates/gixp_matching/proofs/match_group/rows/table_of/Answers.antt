@@ -10,6 +10,6 @@ pub returns : goal.returns
 returns c =
     table_is _ (names c.args.items.now) (has_name c.in_ok-set.set) c.in_ok-rows.rows.items c.sort_by_name.new.rows.items
     c.in_ok-rows.ensures
-    (λ text. c.in_ok-set.ensures text ∙ ap (λ texts. is_among texts text)
+    (λ text. c.in_ok-set.ensures.names text ∙ ap (λ texts. is_among texts text)
     (ap (map bstring_bytes) c.deref.ensures.value ∙ c.in_ok-looked_up.ensures))
     c.in_ok-sort_by_name.ensures.order c.in_ok-sort_by_name.ensures.same

@@ -1,7 +1,7 @@
 -- One name more.
 use Rattle.bstr.specs.Owned.{bstring_bytes}
 use Rattle.gixp_matching.proofs.SoughtLemmas.{names_more}
-use Rattle.gixp_matching.proofs.match_group.sought.set_of.Goals as goal
+use Rattle.gixp_matching.proofs.match_group.sought.names_of.Goals as goal
 
 pub names-preserved : goal.names-preserved
 names-preserved c =
