@@ -43,9 +43,6 @@ pub(crate) fn sought_names(
     Ok(names)
 }
 
-/// Room in a set for more than it has, so that few other numbers are compared with those of a small set.
-const SPARE: usize = 64;
-
 /// Names, and the last bytes of each, which tell most other names from all of them sooner.
 #[derive(Drop)]
 pub(crate) struct NameSet<'n> {
@@ -98,7 +95,7 @@ fn add_tail(set: &mut HashSet<u64>, name: &BString) -> Result<(), AllocError>
 fn tails_of(alloc: Global, names: &[BString]) -> Result<HashSet<u64>, AllocError>
     ensures { IfOk result (λ set. (text : List ℕ) → is_among (map bstring_bytes names.now) text ≡ true → has_tail set (tail text) ≡ true) }
 {
-    let mut set = HashSet::with_capacity(alloc, names.len().saturating_add(SPARE))?;
+    let mut set = HashSet::new(alloc);
     'names: for name in names {
         add_tail(&mut set, name)?;
     }
