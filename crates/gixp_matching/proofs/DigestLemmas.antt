@@ -1,15 +1,17 @@
 -- Keys whose numbers differ are different.
-use Rattle.std.proofs.Common.{rules, ◌≡◌, ℕ, Bool, true, false, List, [], ◌∷◌, map, Option, Some, None, refl, sym, ap, subst, ◌∙◌}
+use Rattle.std.proofs.Common.{rules, ◌≡◌, ℕ, Bool, true, false, List, [], ◌∷◌, map, Option, Ordering, refl, sym, ap, subst, ◌∙◌}
 use Rattle.std.specs.List.{AllByRecursion, IsDistinct}
-use Rattle.std.specs.Ordering.{nat_cmp, eq_by_cmp}
+use Rattle.std.specs.Borrow.{Bor}
+use Rattle.std.specs.Prelude.{◌&&◌}
+use Rattle.std.specs.Ordering.{nat_cmp, eq_by_cmp, ordering_then}
 use Rattle.std.proofs.lemmas.Bool.{and_parts, false≢true}
 use Rattle.std.proofs.lemmas.Slice.Eq.{bytes_eq-Decides}
 use Rattle.gixp_matching.specs.declared.match_group.key.KeyBytes.{KeyBytes}
-use Rattle.gixp_matching.specs.Apart.{key_parts}
-use Rattle.gixp_matching.specs.Digest.{digest, bytes_of, parts_digest, AreDigests}
-use Rattle.gixp_matching.specs.Mappings.{Source, FullName, ObjectId, source_eq, local_eq}
+use Rattle.gixp_matching.specs.Apart.{parts}
+use Rattle.gixp_matching.specs.Digest.{digest, parts_digest, with_digest, number_parts, AreDigests}
+use Rattle.gixp_matching.specs.Mappings.{Source, Mapped, source_eq, local_eq, is_same}
 use Rattle.gixp_matching.specs.MatchGroup.{key_bytes}
-use Rattle.gixp_matching.proofs.KeyLemmas.{Key, by_key, by_bytes, is_eq-key}
+use Rattle.gixp_matching.proofs.KeyLemmas.{Key, by_key, by_bytes, is_eq-key, is_eq-then, same_source_is, same_local_is}
 use Rattle.std.proofs.lemmas.Map.Text.{is_eq-slice_cmp}
 
 same_number : (a : ℕ) → eq_by_cmp nat_cmp a a ≡ true
@@ -38,34 +40,32 @@ distinct_by eq keys digests are h = apart eq are.digest are.alike keys (subst (I
 
 -- ---- the numbers of what is compared
 
-same_source : (a b : Source) → source_eq a b ≡ true → bytes_of a ≡ bytes_of b
-same_source (FullName a) (FullName b) h = (bytes_eq-Decides a b).0 h
-same_source (FullName a) (ObjectId b) h = cc
-same_source (ObjectId a) (FullName b) h = cc
-same_source (ObjectId a) (ObjectId b) h = (bytes_eq-Decides a b).0 h
+-- two numbered keys are equal where the numbers are and what they are of
+abbrev pub numbered_eq : ℕ × (Source × Option (List ℕ)) → ℕ × (Source × Option (List ℕ)) → Bool
+numbered_eq a b = eq_by_cmp nat_cmp a.0 b.0 && (source_eq a.1.0 b.1.0 && local_eq a.1.1 b.1.1)
 
-same_local : (a b : Option (List ℕ)) → local_eq a b ≡ true → a ≡ b
-same_local None None h = refl
-same_local None (Some b) h = cc
-same_local (Some a) None h = cc
-same_local (Some a) (Some b) h = ap Some ((bytes_eq-Decides a b).0 h)
+-- the order of numbered keys
+abbrev pub by_number : ℕ × Bor Key → ℕ × Bor Key → Ordering
+by_number a b = ordering_then (nat_cmp a.0 b.0) (by_key a.1.now b.1.now)
 
-number_by : (a b : List ℕ) (o : Option (List ℕ)) (s t : Source) → bytes_of s ≡ a → bytes_of t ≡ b → a ≡ b
-    → parts_digest (s, o) ≡ parts_digest (t, o)
-number_by a b None s t h k e = ap digest (h ∙ e ∙ sym k)
-number_by a b (Some l) s t h k e = ap (λ (x : List ℕ). parts_digest (FullName x, Some l)) (h ∙ e ∙ sym k)
+pub numbered_tied : (x y : ℕ × Bor Key) → eq_by_cmp by_number x y ≡ numbered_eq (number_parts x) (number_parts y)
+numbered_tied x y =
+    is_eq-then (nat_cmp x.0 y.0) (by_key x.1.now y.1.now) ∙ ap (λ b. eq_by_cmp nat_cmp x.0 y.0 && b) (is_eq-key x.1.now y.1.now)
 
--- keys of mappings
-pub keys_alike : (keys : List Key) (digests : List ℕ) → digests ≡ map (λ key. parts_digest (key_parts key)) keys
-    → AreDigests (eq_by_cmp by_key) keys digests
-keys_alike keys digests h = record {
-  digest = λ key. parts_digest (key_parts key);
-  each = h;
-  alike = λ x y e.
-      let both = and_parts _ _ (sym (is_eq-key x y) ∙ e) in
-      number_by _ _ (key_parts x).1 (key_parts x).0 (key_parts y).0 refl refl (same_source (key_parts x).0 (key_parts y).0 both.0)
-      ∙ ap (λ o. parts_digest ((key_parts y).0, o)) (same_local (key_parts x).1 (key_parts y).1 both.1);
-}
+both_are_second : (a b : Bool) → (b ≡ true → a ≡ true) → (a && b) ≡ b
+both_are_second true b h = refl
+both_are_second false true h = h refl
+both_are_second false false h = refl
+
+-- the numbers of equal mappings are equal
+pub numbered_same : (a b : Mapped) → numbered_eq (with_digest (parts a)) (with_digest (parts b)) ≡ is_same a b
+numbered_same a b = both_are_second _ (is_same a b) (λ e.
+    let both = and_parts _ _ e in
+    let source = same_source_is a.source b.source both.0 in
+    let local = same_local_is a.local b.local both.1 in
+    ap (λ s. eq_by_cmp nat_cmp (parts_digest (s, a.local)) (parts_digest (parts b))) source
+    ∙ ap (λ l. eq_by_cmp nat_cmp (parts_digest (b.source, l)) (parts_digest (parts b))) local
+    ∙ same_number (parts_digest (parts b)))
 
 -- local names
 pub names_alike : (names : List KeyBytes) (digests : List ℕ) → digests ≡ map (λ name. digest (key_bytes name)) names

@@ -1,10 +1,8 @@
 -- Of equal mappings the first.
-use Rattle.std.proofs.Common.{◌≡◌, ℕ, ◌+◌, ◌<◌, length, take, drop, get_or, append_assoc, Bool, true, false, cond, List, [], ◌∷◌, ◌++◌, map, ap, sym, ◌∙◌, refl, inl, inr}
+use Rattle.std.proofs.Common.{◌≡◌, suc, length, arith, Bool, true, false, cond, List, [], ◌∷◌, ◌++◌, map, ap, sym, ◌∙◌, refl, inl, inr}
 use Rattle.std.specs.Prelude.{filter, not, ◌&&◌, ◌||◌}
-use Rattle.std.specs.List.{list_any}
-use Rattle.std.proofs.lemmas.Bool.{cases_Bool}
-use Rattle.std.proofs.lemmas.List.{take_more, drop_more, get_or-map, length-map, append-nil}
-use Rattle.std.proofs.Math.Seq.{drop-length}
+use Rattle.std.specs.List.{list_all, list_any}
+use Rattle.std.proofs.lemmas.Bool.{cases_Bool, false≢true}
 use Rattle.std.proofs.lemmas.List.Folds.{list_any-append}
 use Rattle.gixp_matching.specs.Mappings.{Mapped, is_same, firsts}
 use Rattle.gixp_matching.specs.Firsts.{is_fresh, first_flags, flagged}
@@ -73,40 +71,15 @@ pub or_none : (b : Bool) → (b || false) ≡ b
 or_none true = refl
 or_none false = refl
 
--- after i mappings: their flags, and a table that has them
-pub record IsFlagged (ms : List Mapped) (i : ℕ) (flags : List Bool) (has : Mapped → Bool) : Type 0 where
-  pub flags_are : flags ++ first_flags (take i ms) (drop i ms) ≡ first_flags [] ms
-  pub has_them : (m : Mapped) → has m ≡ list_any (λ e. is_same e m) (take i ms)
+-- as many flags as mappings
+pub length-first_flags : (earlier ms : List Mapped) → length (first_flags earlier ms) ≡ length ms
+length-first_flags earlier [] = refl
+length-first_flags earlier (m ∷ ms) = ap suc (length-first_flags (earlier ++ m ∷ []) ms)
 
--- one more
-pub flagged_more : {A : Type 0} (h : A → Mapped) (xs : List A) (i : ℕ) (x : A) (b : Bool) (flags new : List Bool)
-    (has then : Mapped → Bool) → x ≡ get_or xs i x → i < length xs
-    → IsFlagged (map h xs) i flags has → b ≡ not (has (h x)) → ((m : Mapped) → then m ≡ (has m || is_same (h x) m)) → new ≡ flags ++ b ∷ []
-    → IsFlagged (map h xs) (i + 1) new then
-flagged_more h xs i x b flags new has then e l kept fresh marked step =
-    let within : i < length (map h xs) = rw length-map l in
-    let here : get_or (map h xs) i (h x) ≡ h x = get_or-map h xs i x (h x) l ∙ ap h (sym e) in
-    let front : take (i + 1) (map h xs) ≡ take i (map h xs) ++ h x ∷ [] = take_more (map h xs) i (h x) within
-    ∙ ap (λ y. take i (map h xs) ++ y ∷ []) here in
-    let back : drop i (map h xs) ≡ h x ∷ drop (i + 1) (map h xs) = drop_more (map h xs) i (h x) within
-    ∙ ap (λ y. y ∷ drop (i + 1) (map h xs)) here in
-    let flag : b ≡ is_fresh (take i (map h xs)) (h x) = fresh ∙ ap not (kept.has_them (h x)) in
-    record {
-      flags_are = (
-          ap (λ z. z ++ first_flags (take (i + 1) (map h xs)) (drop (i + 1) (map h xs))) step
-          ∙ append_assoc flags (b ∷ []) _
-          ∙ ap (λ c. flags ++ c ∷ first_flags (take (i + 1) (map h xs)) (drop (i + 1) (map h xs))) flag
-          ∙ ap (λ t. flags ++ is_fresh (take i (map h xs)) (h x) ∷ first_flags t (drop (i + 1) (map h xs))) front
-          ∙ ap (λ d. flags ++ first_flags (take i (map h xs)) d) (sym back) ∙ kept.flags_are);
-      has_them = λ m. marked m ∙ ap (λ r. r || is_same (h x) m) (kept.has_them m)
-          ∙ sym (ap (list_any (λ e. is_same e m)) front ∙ list_any-append (λ e. is_same e m) (take i (map h xs)) (h x ∷ [])
-          ∙ ap (λ r. list_any (λ e. is_same e m) (take i (map h xs)) || r) (or_none (is_same (h x) m)));
-    }
-
--- after the last
-pub flagged_all : {A : Type 0} (h : A → Mapped) (xs : List A) (i : ℕ) (flags : List Bool) (has : Mapped → Bool) → i ≡ length xs
-    → IsFlagged (map h xs) i flags has → flags ≡ first_flags [] (map h xs)
-flagged_all h xs i flags has e kept =
-    let same : i ≡ length (map h xs) = rw length-map e in
-    let none : drop i (map h xs) ≡ [] = ap (λ n. drop n (map h xs)) same ∙ drop-length (map h xs) in
-    sym (append-nil flags) ∙ ap (λ d. flags ++ first_flags (take i (map h xs)) d) (sym none) ∙ kept.flags_are
+-- where each flag is true all are kept
+pub all_flagged : {A : Type 0} (xs : List A) (flags : List Bool) → length flags ≡ length xs → list_all (λ flag. flag) flags ≡ true
+    → flagged xs flags ≡ xs
+all_flagged [] flags l h = refl
+all_flagged (x ∷ xs) [] l h = absurd (omega (arith, l))
+all_flagged (x ∷ xs) (true ∷ flags) l h = ap (λ r. x ∷ r) (all_flagged xs flags (omega (arith, l)) h)
+all_flagged (x ∷ xs) (false ∷ flags) l h = absurd (false≢true h)

@@ -14,6 +14,9 @@ pub mod DifferLemmas
 pub mod UniqueLemmas
 pub mod DistinctLemmas
 pub mod DigestLemmas
+pub mod SoughtLemmas
+pub mod RepeatLemmas
+pub mod PlacedLemmas
 pub mod RowLemmas
 pub mod PlaceLemmas
 pub mod NegativeLemmas

@@ -1,5 +1,5 @@
 -- The places of the refs that a short name stands for.
-use Rattle.std.proofs.Common.{◌≡◌, ℕ, ◌+◌, ◌<◌, ◌==◌, Bool, true, false, cond, List, [], ◌∷◌, ◌++◌, length, map, filter, get_or, ◌≤◌, Some, None, Less, Equal, refl, sym, ap, ◌∙◌, append_assoc, arith, length-append}
+use Rattle.std.proofs.Common.{◌≡◌, ℕ, ◌+◌, ◌<◌, ◌==◌, Bool, true, false, cond, List, [], ◌∷◌, ◌++◌, length, map, filter, get_or, ◌≤◌, Some, None, Less, Equal, refl, sym, ap, ◌∙◌, append_assoc, subst, arith, length-append}
 use Rattle.std.specs.Prelude.{◌||◌}
 use Rattle.std.specs.Borrow.{Bor}
 use Rattle.std.specs.BTreeSet.{BTreeSet, contains, IsOrdered}
@@ -9,6 +9,7 @@ use Rattle.std.specs.List.Sorted.{IsStrictlySortedBy}
 use Rattle.std.specs.Option.{option_map}
 use Rattle.std.specs.Ordering.{nat_cmp, is_eq}
 use Rattle.std.specs.Str.{bytes_eq}
+use Rattle.std.proofs.lemmas.Bool.{or_left, or_right}
 use Rattle.std.proofs.lemmas.Cmp.{nat_cmp_total}
 use Rattle.std.proofs.lemmas.List.{append-nil}
 use Rattle.std.proofs.lemmas.List.Folds.{list_any-append}
@@ -16,11 +17,12 @@ use Rattle.std.proofs.lemmas.Option.{slice_get-map, slice_get-get_or, slice_get_
 use Rattle.std.proofs.lemmas.Map.Lookups.{btree_set_from_contains}
 use Rattle.gixp_matching.specs.declared.match_group.rows.Row.{Row}
 use Rattle.gixp_refspec.specs.declared.needle.Needle.TheVariants.{Short as the_short}
-use Rattle.gixp_refspec.specs.Spec.{Spec}
+use Rattle.gixp_refspec.specs.Spec.{Spec, is_negative}
 use Rattle.gixp_refspec.specs.Matching.{candidates, where_true}
 use Rattle.gixp_matching.specs.Mappings.{Mapped, pair, pairs_of}
 use Rattle.gixp_refspec.specs.Needle.{IsNeedle}
-use Rattle.gixp_matching.specs.Rows.{shown, is_row_of, meant, IsRowTable, has_place, AddsPlaces, HasPlaces, ArePlaces, ref_at}
+use Rattle.gixp_matching.specs.Rows.{shown, is_row_of, meant, IsRowTable, AreSought, has_place, AddsPlaces, HasPlaces, ArePlaces, ref_at}
+use Rattle.gixp_matching.specs.Sought.{sought_by, is_among}
 use Rattle.gixp_matching.proofs.DistinctLemmas.{is_eq-reverse}
 use Rattle.gixp_matching.proofs.FirstLemmas.{or_none}
 use Rattle.gixp_matching.proofs.ListLemmas.{any_same, kept_same}
@@ -28,6 +30,7 @@ use Rattle.gixp_packetline.proofs.ListLemmas.{any_of_map}
 use Rattle.gixp_matching.proofs.NeedleLemmas.{middle_with-needle}
 use Rattle.gixp_matching.proofs.PairLemmas.{pair_none}
 use Rattle.gixp_matching.proofs.RowLemmas.{meant_none, flat_map-filter}
+use Rattle.gixp_matching.proofs.SoughtLemmas.{itself, short_sought}
 
 -- at first none was added
 pub none_added : (set : BTreeSet ℕ) → AddsPlaces [] set set
@@ -92,17 +95,18 @@ any_of_either {X} p a b (x ∷ xs) = at (a x) (b x) (any_of_either p a b xs)
     at false false h = h
 
 -- those of one name more
-pub places_more : (all texts : List (List ℕ)) (text : List ℕ) (rows run : List Row) (now new : BTreeSet ℕ) → IsRowTable all rows
+pub places_more : (wanted all texts : List (List ℕ)) (text : List ℕ) (rows run : List Row) (now new : BTreeSet ℕ)
+    → IsRowTable wanted all rows → is_among wanted text ≡ true
     → ((place : ℕ) → contains nat_cmp now place ≡ has_place place (meant all texts)) → run ≡ filter (is_row_of text) rows
     → AddsPlaces (map shown run) now new
     → (place : ℕ) → contains nat_cmp new place ≡ has_place place (meant all (texts ++ text ∷ []))
-places_more all texts text rows run now new table kept was step place =
+places_more wanted all texts text rows run now new table has kept was step place =
     let refs = enumerate_from 0 all in
     let before : ℕ × List ℕ → Bool = λ ref. list_any (λ t. bytes_eq ref.1 t) texts in
     let here : ℕ × List ℕ → Bool = λ ref. bytes_eq ref.1 text in
     let both = kept_same (λ ref. list_any (λ t. bytes_eq ref.1 t) (texts ++ text ∷ [])) (λ ref. before ref || here ref)
     (λ ref. list_any-append (λ t. bytes_eq ref.1 t) texts (text ∷ []) ∙ ap (λ b. before ref || b) (or_none (here ref))) refs in
-    let its : map shown run ≡ filter here refs = ap (map shown) was ∙ table.has_all text in
+    let its : map shown run ≡ filter here refs = ap (map shown) was ∙ table.has_all text has in
     step place ∙ ap (λ b. b || has_place place (map shown run)) (kept place)
     ∙ ap (λ l. has_place place (meant all texts) || has_place place l) its
     ∙ sym (ap (has_place place) both ∙ any_of_either (λ (ref : ℕ × List ℕ). ref.0 == place) before here refs)
@@ -142,12 +146,12 @@ same_place p q = ap is_eq (nat_cmp_total.antisymm q p) ∙ is_eq-reverse (nat_cm
 -- the numbers of the set are these places in order
 pub places_are : (texts : List (List ℕ)) (rows : List Row) (set : BTreeSet ℕ) → IsOrdered nat_cmp set → HasPlaces texts rows set
     → ArePlaces texts rows set.keys
-places_are texts rows set up has all table =
+places_are texts rows set up has wanted all table within =
     let q : ℕ × List ℕ → Bool = λ ref. list_any (λ text. bytes_eq ref.1 text) texts in
     let refs = meant all texts in
     let t : BTreeSet ℕ = record { keys = map (λ ref. ref.0) refs } in
     btree_set_from_contains nat_cmp_total set t up (rising q 0 all)
-    (λ place. has all table place
+    (λ place. has wanted all table within place
     ∙ sym (any_of_map (λ p. is_eq (nat_cmp place p)) (λ (ref : ℕ × List ℕ). ref.0) refs
     ∙ any_same (λ (ref : ℕ × List ℕ). is_eq (nat_cmp place ref.0)) (λ ref. ref.0 == place) (λ ref. same_place ref.0 place) refs))
     (λ x y h. ranked x y Equal (sym h))
@@ -201,14 +205,24 @@ refs_at {B} f q all front (x ∷ xs) k h e =
     at false more = more
 
 -- a short name maps the refs that it stands for
-pub short_mapped : (specs : List Spec) (all : List (List ℕ)) (s : ℕ × Spec) (name : Bor (List ℕ)) (rows : List Row) (places : List ℕ)
-    (now new : List Mapped) → IsNeedle s.1.source (the_short name) → IsRowTable all rows
-    → ArePlaces (candidates name.now) rows places → new ≡ now ++ flat_map (λ place. flat_map (pair specs s) (ref_at all place)) places
+pub short_mapped : (specs : List Spec) (wanted all : List (List ℕ)) (s : ℕ × Spec) (name : Bor (List ℕ)) (rows : List Row) (places : List ℕ)
+    (now new : List Mapped) → IsNeedle s.1.source (the_short name) → is_negative s.1.sign ≡ false → IsRowTable wanted all rows
+    → AreSought wanted (sought_by s.1) → ArePlaces (candidates name.now) rows places
+    → new ≡ now ++ flat_map (λ place. flat_map (pair specs s) (ref_at all place)) places
     → new ≡ now ++ pairs_of specs all s
-short_mapped specs all s name rows places now new made table was step =
-    step ∙ ap (λ l. now ++ flat_map (λ place. flat_map (pair specs s) (ref_at all place)) l) (was all table)
+short_mapped specs wanted all s name rows places now new made positive table has was step =
+    step ∙ ap (λ l. now ++ flat_map (λ place. flat_map (pair specs s) (ref_at all place)) l)
+    (was wanted all table (subst (AreSought wanted) (short_sought s.1 name positive made) has))
     ∙ ap (λ l. now ++ l) (refs_at (pair specs s)
     (λ ref. list_any (λ text. bytes_eq ref.1 text) (candidates name.now)) all [] all 0 refl refl)
     ∙ ap (λ l. now ++ l) (flat_map-filter (pair specs s) (λ ref. list_any (λ text. bytes_eq ref.1 text) (candidates name.now))
     (λ ref other. sym (pair_none specs s ref (sym (middle_with-needle s.1.source ref.1 (the_short name) made) ∙ ap where_true other)))
     (enumerate_from 0 all))
+
+-- of texts and one more that are sought, the texts are, and the one is
+pub sought_front : (wanted texts : List (List ℕ)) (text : List ℕ) → AreSought wanted (texts ++ text ∷ []) → AreSought wanted texts
+sought_front wanted texts text has t is = has t (list_any-append (λ other. bytes_eq t other) texts (text ∷ []) ∙ or_left _ _ is)
+
+pub sought_last : (wanted texts : List (List ℕ)) (text : List ℕ) → AreSought wanted (texts ++ text ∷ []) → is_among wanted text ≡ true
+sought_last wanted texts text has =
+    has text (list_any-append (λ other. bytes_eq text other) texts (text ∷ []) ∙ or_right _ _ (or_left _ _ (itself text)))

@@ -21,12 +21,14 @@ use Rattle.gixp_refspec.specs.Spec.{Spec, is_negative}
 use Rattle.gixp_refspec.specs.Matching.{where_true}
 use Rattle.gixp_matching.specs.Mappings.{Mapped, pair, pairs_of}
 use Rattle.gixp_refspec.specs.Needle.{IsNeedle}
-use Rattle.gixp_matching.specs.Rows.{shown, is_row_of, AreByName, meant, IsRowTable}
+use Rattle.gixp_matching.specs.Rows.{shown, is_row_of, AreByName, meant, IsRowTable, AreSought}
+use Rattle.gixp_matching.specs.Sought.{sought_by, is_among}
 use Rattle.gixp_matching.specs.Validation.{is_below}
 use Rattle.gixp_matching.proofs.KeyLemmas.{bytes_eq-turned}
 use Rattle.gixp_matching.proofs.ListLemmas.{kept_same, filter_of_map}
 use Rattle.gixp_matching.proofs.NeedleLemmas.{middle_with-needle}
 use Rattle.gixp_matching.proofs.PairLemmas.{pair_none, pair_negative}
+use Rattle.gixp_matching.proofs.SoughtLemmas.{exact_sought}
 use Rattle.gixp_matching.proofs.SortedLemmas.{below_trans, other_below}
 
 -- ---- what passes of a list
@@ -162,13 +164,28 @@ named_stays old new stable name =
     let same = λ (x : Row). sym (equal_or name x.name.now ∙ bytes_eq-turned name x.name.now) in
     kept_same (is_row_of name) (ties row_lt row) same new ∙ stable row ∙ sym (kept_same (is_row_of name) (ties row_lt row) same old)
 
--- the table of refs that were listed and sorted
-pub table_is : (names : List (List ℕ)) (rows sorted : List Row) → map shown rows ≡ enumerate_from 0 names → AreByName sorted
-    → ((name : List ℕ) → filter (is_row_of name) sorted ≡ filter (is_row_of name) rows) → IsRowTable names sorted
-table_is names rows sorted listed up same = record {
+both_is_second : (a b : Bool) → (b ≡ true → a ≡ true) → (a && b) ≡ b
+both_is_second true b h = refl
+both_is_second false true h = h refl
+both_is_second false false h = refl
+
+-- the refs of a name are among those whose name is sought, where this one is
+named_sought : (q : List ℕ → Bool) (name : List ℕ) (refs : List (ℕ × List ℕ)) → q name ≡ true
+    → filter (λ ref. bytes_eq ref.1 name) (filter (λ ref. q ref.1) refs) ≡ filter (λ ref. bytes_eq ref.1 name) refs
+named_sought q name refs is =
+    filter_twice (λ (ref : ℕ × List ℕ). bytes_eq ref.1 name) (λ ref. q ref.1) refs
+    ∙ kept_same (λ (ref : ℕ × List ℕ). q ref.1 && bytes_eq ref.1 name) (λ ref. bytes_eq ref.1 name)
+    (λ ref. both_is_second (q ref.1) (bytes_eq ref.1 name) (λ e. ap q ((bytes_eq-Decides ref.1 name).0 e) ∙ is)) refs
+
+-- the table of refs that were listed, where their name is sought, and sorted
+pub table_is : (texts names : List (List ℕ)) (q : List ℕ → Bool) (rows sorted : List Row)
+    → map shown rows ≡ filter (λ ref. q ref.1) (enumerate_from 0 names) → ((text : List ℕ) → q text ≡ is_among texts text)
+    → AreByName sorted → ((name : List ℕ) → filter (is_row_of name) sorted ≡ filter (is_row_of name) rows)
+    → IsRowTable texts names sorted
+table_is texts names q rows sorted listed has up same = record {
   in_order = up;
-  has_all = λ name. ap (map shown) (same name) ∙ sym (filter_of_map (λ ref. bytes_eq ref.1 name) shown rows)
-      ∙ ap (filter (λ ref. bytes_eq ref.1 name)) listed;
+  has_all = λ name is. ap (map shown) (same name) ∙ sym (filter_of_map (λ ref. bytes_eq ref.1 name) shown rows)
+      ∙ ap (filter (λ ref. bytes_eq ref.1 name)) listed ∙ named_sought q name (enumerate_from 0 names) (has name ∙ is);
 }
 
 -- ---- short names
@@ -207,11 +224,13 @@ pub negative_mapped : (specs : List Spec) (all : List (List ℕ)) (s : ℕ × Sp
 negative_mapped specs all s now negative = nothing_mapped specs all s now (λ ref. pair_negative specs s ref negative)
 
 -- an exact name maps the refs of this name
-pub exact_mapped : (specs : List Spec) (all : List (List ℕ)) (s : ℕ × Spec) (name : Bor (List ℕ)) (rows run : List Row)
-    (now new : List Mapped) → IsNeedle s.1.source (the_exact name) → IsRowTable all rows
-    → run ≡ filter (is_row_of name.now) rows → new ≡ now ++ flat_map (pair specs s) (map shown run) → new ≡ now ++ pairs_of specs all s
-exact_mapped specs all s name rows run now new made table was step =
-    step ∙ ap (λ l. now ++ flat_map (pair specs s) l) (ap (map shown) was ∙ table.has_all name.now)
+pub exact_mapped : (specs : List Spec) (texts all : List (List ℕ)) (s : ℕ × Spec) (name : Bor (List ℕ)) (rows run : List Row)
+    (now new : List Mapped) → IsNeedle s.1.source (the_exact name) → is_negative s.1.sign ≡ false → IsRowTable texts all rows
+    → AreSought texts (sought_by s.1) → run ≡ filter (is_row_of name.now) rows
+    → new ≡ now ++ flat_map (pair specs s) (map shown run) → new ≡ now ++ pairs_of specs all s
+exact_mapped specs texts all s name rows run now new made positive table has was step =
+    step ∙ ap (λ l. now ++ flat_map (pair specs s) l) (ap (map shown) was
+    ∙ table.has_all name.now (has name.now (exact_sought s.1 name positive made)))
     ∙ ap (λ l. now ++ l) (flat_map-filter (pair specs s) (λ ref. bytes_eq ref.1 name.now)
     (λ ref other. sym (pair_none specs s ref (sym (middle_with-needle s.1.source ref.1 (the_exact name) made) ∙ ap where_true other)))
     (enumerate_from 0 all))

@@ -1,7 +1,9 @@
 -- Steps of loops that append what a function makes of each place and element.
-use Rattle.std.proofs.Common.{◌≡◌, ℕ, ◌+◌, ◌<◌, List, [], ◌∷◌, ◌++◌, length, drop, map, get_or, ap, sym, ◌∙◌, append_assoc}
+use Rattle.std.proofs.Common.{◌≡◌, ℕ, ◌+◌, ◌<◌, List, [], ◌∷◌, ◌++◌, length, drop, map, get_or, ap, sym, ◌∙◌, append_assoc, Bool}
+use Rattle.std.specs.Prelude.{filter}
 use Rattle.std.specs.List.{flat_map, enumerate_from}
 use Rattle.std.proofs.lemmas.List.{get_or-map, length-map, append-nil, drop_more}
+use Rattle.std.proofs.lemmas.List.Elements.{filter-append}
 use Rattle.std.proofs.Math.Seq.{drop-length}
 
 -- the next place and element
@@ -36,19 +38,12 @@ walked_all h f all now xs i e kept =
     let none : drop i (map h xs) ≡ [] = ap (λ n. drop n (map h xs)) same ∙ drop-length (map h xs) in
     sym (append-nil now) ∙ ap (λ ys. now ++ flat_map f (enumerate_from i ys)) (sym none) ∙ kept
 
--- a step of a loop that lists each place and element
-pub listed : {A B : Type 0} (h : A → B) (all now new : List (ℕ × B)) (xs : List A) (i : ℕ) (d : A) → i < length xs
-    → now ++ enumerate_from i (drop i (map h xs)) ≡ all → new ≡ now ++ (i, h (get_or xs i d)) ∷ [] → new
-    ++ enumerate_from (i + 1) (drop (i + 1) (map h xs)) ≡ all
-listed h all now new xs i d l kept step =
+-- a step of a loop that lists each place and element that passes
+pub listed : {A B : Type 0} (h : A → B) (p : ℕ × B → Bool) (all now new : List (ℕ × B)) (xs : List A) (i : ℕ) (d : A) → i < length xs
+    → now ++ filter p (enumerate_from i (drop i (map h xs))) ≡ all → new ≡ now ++ filter p ((i, h (get_or xs i d)) ∷ [])
+    → new ++ filter p (enumerate_from (i + 1) (drop (i + 1) (map h xs))) ≡ all
+listed h p all now new xs i d l kept step =
+    let one = (i, h (get_or xs i d)) ∷ [] in
     let rest = enumerate_from (i + 1) (drop (i + 1) (map h xs)) in
-    ap (λ z. z ++ rest) step ∙ append_assoc now ((i, h (get_or xs i d)) ∷ []) rest
-    ∙ ap (λ z. now ++ z) (sym (enumerate-drop h xs i d l)) ∙ kept
-
--- after the last
-pub listed_all : {A B : Type 0} (h : A → B) (all now : List (ℕ × B)) (xs : List A) (i : ℕ) → i ≡ length xs → now
-    ++ enumerate_from i (drop i (map h xs)) ≡ all → now ≡ all
-listed_all h all now xs i e kept =
-    let same : i ≡ length (map h xs) = rw length-map e in
-    let none : drop i (map h xs) ≡ [] = ap (λ n. drop n (map h xs)) same ∙ drop-length (map h xs) in
-    sym (append-nil now) ∙ ap (λ ys. now ++ enumerate_from i ys) (sym none) ∙ kept
+    ap (λ z. z ++ filter p rest) step ∙ append_assoc now (filter p one) (filter p rest)
+    ∙ ap (λ z. now ++ z) (sym (filter-append p one rest)) ∙ ap (λ e. now ++ filter p e) (sym (enumerate-drop h xs i d l)) ∙ kept

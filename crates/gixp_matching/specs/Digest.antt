@@ -1,14 +1,22 @@
 -- Numbers that tell most names apart, each a function of what is compared.
-use Rattle.std.specs.Prelude.{ℕ, ◌≡◌, ◌+◌, ◌*◌, ◌/◌, ◌%◌, ◌^◌, Bool, true, List, length, drop, map, Option, Some, None, bit_xor}
+use Rattle.std.specs.Prelude.{ℕ, ◌≡◌, ◌+◌, ◌-◌, ◌*◌, ◌/◌, ◌%◌, ◌^◌, Bool, true, List, length, drop, map, Option, Some, None, bit_xor}
 use Rattle.std.specs.Int.{w64, rotate_left, from_le_bytes}
 use Rattle.std.specs.List.{fold}
 use Rattle.std.specs.Simd.{first_chunks}
+use Rattle.std.specs.Borrow.{Bor}
 use Rattle.gixp_matching.specs.declared.match_group.digest.State.{State}
+use Rattle.gixp_matching.specs.declared.match_group.key.KeyBytes.{KeyBytes}
+use Rattle.gixp_matching.specs.declared.match_group.key.KeySource.{KeySource}
+use Rattle.gixp_matching.specs.Apart.{key_parts}
 use Rattle.gixp_matching.specs.Mappings.{Source, FullName, ObjectId}
 
 -- a number with one byte more
 abbrev pub step : ℕ → ℕ → ℕ
 step number byte = (number * 256 % 2 ^ 64 + byte) % 2 ^ 64
+
+-- the last eight bytes as a number
+unfoldable pub tail : List ℕ → ℕ
+tail name = fold step 0 (drop (length name - 8) name)
 
 -- a sum, and one of its parts turned and mixed with it
 unfoldable pub turned : ℕ → ℕ → ℕ → ℕ × ℕ
@@ -59,6 +67,14 @@ bytes_of (ObjectId id) = id
 abbrev pub parts_digest : Source × Option (List ℕ) → ℕ
 parts_digest (source, None) = digest (bytes_of source)
 parts_digest (source, Some local) = number_of (with_bytes (with_bytes start (bytes_of source)) local)
+
+-- a source and a local name behind their number
+abbrev pub with_digest : Source × Option (List ℕ) → ℕ × (Source × Option (List ℕ))
+with_digest p = (parts_digest p, p)
+
+-- the number of a key, and what the key is of
+abbrev pub number_parts : ℕ × Bor (KeySource × Option KeyBytes) → ℕ × (Source × Option (List ℕ))
+number_parts row = (row.0, key_parts row.1.now)
 
 -- numbers of these keys, equal ones of equal keys
 pub record AreDigests {K : Type 0} (eq : K → K → Bool) (keys : List K) (digests : List ℕ) : Type 0 where

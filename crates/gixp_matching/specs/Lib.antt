@@ -1,4 +1,6 @@
 -- What contracts cite.
+pub mod Sought
+pub mod Repeats
 pub mod Rows
 pub mod Mappings
 pub mod Firsts

@@ -1,6 +1,5 @@
 -- What a clause reads of a match group, its items and its outcome.
-use Rattle.std.specs.Prelude.{ℕ, Bool, ◌&&◌, List, map, Option, Vec}
-use Rattle.std.specs.List.{list_any}
+use Rattle.std.specs.Prelude.{ℕ, List, map, Vec}
 use Rattle.std.specs.Option.{option_map}
 use Rattle.std.specs.declared.alloc.Global.{Global}
 use Rattle.bstr.specs.BStr.{bstr_bytes}
@@ -17,7 +16,7 @@ use Rattle.gixp_matching.specs.declared.match_group.MatchGroup.{MatchGroup}
 use Rattle.gixp_refspec.specs.declared.spec.RefSpecRef.{RefSpecRef}
 use Rattle.gixp_refspec.specs.Spec.{Spec}
 use Rattle.gixp_refspec.specs.RefSpec.{value_of}
-use Rattle.gixp_matching.specs.Mappings.{Source, FullName, ObjectId as IdOf, Mapped, mapped, source_eq, local_eq}
+use Rattle.gixp_matching.specs.Mappings.{Source, FullName, ObjectId as IdOf, Mapped, mapped}
 
 -- what a source of the code means
 abbrev pub source_of : SourceRef → Source
@@ -40,10 +39,6 @@ key_bytes key = key.bytes.now
 abbrev pub key_source : KeySource → Source
 key_source (the_name_key name) = FullName (key_bytes name)
 key_source (the_id_key id) = IdOf (key_bytes id)
-
--- the table of sources and local names has those of the mapping
-abbrev pub is_marked : List (KeySource × Option KeyBytes) → Mapped → Bool
-is_marked keys m = list_any (λ key. source_eq (key_source key.0) m.source && local_eq (option_map key_bytes key.1) m.local) keys
 
 -- the values of refspecs
 abbrev pub values : List RefSpecRef → List Spec

@@ -1,5 +1,5 @@
 -- Refs by their names, and negative refspecs that were looked at once.
-use Rattle.std.specs.Prelude.{ℕ, ◌≡◌, ◌==◌, ◌||◌, Bool, List, map, filter, is_some, option_to_list}
+use Rattle.std.specs.Prelude.{ℕ, ◌≡◌, ◌==◌, ◌||◌, Bool, true, List, map, filter, is_some, option_to_list}
 use Rattle.std.specs.BTreeSet.{BTreeSet, contains}
 use Rattle.std.specs.Cmp.Lexicographic.{slice_cmp}
 use Rattle.std.specs.List.{list_any, enumerate_from, slice_get}
@@ -12,6 +12,7 @@ use Rattle.gixp_matching.specs.declared.match_group.negatives.Prepared.{Prepared
 use Rattle.gixp_matching.specs.declared.match_group.pairs.Numbered.{Numbered}
 use Rattle.gixp_matching.specs.declared.match_group.rows.Row.{Row}
 use Rattle.gixp_matching.specs.Mappings.{is_excluded}
+use Rattle.gixp_matching.specs.Sought.{sought_by, sought, is_among}
 use Rattle.gixp_matching.specs.MatchGroup.{values}
 use Rattle.gixp_refspec.specs.Needle.{IsNeedle, middle_with}
 use Rattle.gixp_refspec.specs.RefSpec.{value_of}
@@ -35,12 +36,16 @@ named names name = filter (λ ref. bytes_eq ref.1 name) (enumerate_from 0 names)
 
 -- the refs that a short name stands for, by their places
 abbrev pub meant : List (List ℕ) → List (List ℕ) → List (ℕ × List ℕ)
-meant names texts = filter (λ ref. list_any (λ text. bytes_eq ref.1 text) texts) (enumerate_from 0 names)
+meant names texts = filter (λ ref. is_among texts ref.1) (enumerate_from 0 names)
 
--- a table of refs: in order of names, and those of one name in order of places
-pub record IsRowTable (names : List (List ℕ)) (rows : List Row) : Type 0 where
+-- a table of the refs of some names: in order of names, and those of one name in order of places
+pub record IsRowTable (texts : List (List ℕ)) (names : List (List ℕ)) (rows : List Row) : Type 0 where
   pub in_order : AreByName rows
-  pub has_all : (name : List ℕ) → map shown (filter (is_row_of name) rows) ≡ named names name
+  pub has_all : (name : List ℕ) → is_among texts name ≡ true → map shown (filter (is_row_of name) rows) ≡ named names name
+
+-- each of the texts is sought
+abbrev pub AreSought : List (List ℕ) → List (List ℕ) → Type 0
+AreSought all texts = (text : List ℕ) → is_among texts text ≡ true → is_among all text ≡ true
 
 -- a refspec and its place
 abbrev pub numbered_value : Numbered → ℕ × Spec
@@ -50,6 +55,10 @@ numbered_value n = (n.index, value_of n.spec.now)
 abbrev pub IsLookedAt : Numbered → Type 0
 IsLookedAt n = IsNeedle n.spec.now.source.now n.needle
 
+-- the names that it stands for are sought
+abbrev pub HasSoughtNames : List Spec → Numbered → Type 0
+HasSoughtNames specs n = AreSought (sought specs) (sought_by (value_of n.spec.now))
+
 -- some ref has this place
 abbrev pub has_place : ℕ → List (ℕ × List ℕ) → Bool
 has_place place refs = list_any (λ ref. ref.0 == place) refs
@@ -58,14 +67,15 @@ has_place place refs = list_any (λ ref. ref.0 == place) refs
 abbrev pub AddsPlaces : List (ℕ × List ℕ) → BTreeSet ℕ → BTreeSet ℕ → Type 0
 AddsPlaces refs old new = (place : ℕ) → contains nat_cmp new place ≡ (contains nat_cmp old place || has_place place refs)
 
--- the set has the places of the refs of a table whose names are among the texts
+-- the set has the places of the refs of a table whose names are among the texts, as far as these are sought
 abbrev pub HasPlaces : List (List ℕ) → List Row → BTreeSet ℕ → Type 0
-HasPlaces texts rows places = (names : List (List ℕ)) → IsRowTable names rows → (place : ℕ)
+HasPlaces texts rows places = (all names : List (List ℕ)) → IsRowTable all names rows → AreSought all texts → (place : ℕ)
     → contains nat_cmp places place ≡ has_place place (meant names texts)
 
--- these are the places of the refs of a table whose names are among the texts, in their order
+-- these are the places of the refs of a table whose names are among the texts, in their order, as far as these are sought
 abbrev pub ArePlaces : List (List ℕ) → List Row → List ℕ → Type 0
-ArePlaces texts rows places = (names : List (List ℕ)) → IsRowTable names rows → places ≡ map (λ ref. ref.0) (meant names texts)
+ArePlaces texts rows places = (all names : List (List ℕ)) → IsRowTable all names rows → AreSought all texts
+    → places ≡ map (λ ref. ref.0) (meant names texts)
 
 -- the ref at a place, where there is one
 abbrev pub ref_at : List (List ℕ) → ℕ → List (ℕ × List ℕ)

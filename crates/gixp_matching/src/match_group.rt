@@ -11,8 +11,10 @@ pub(crate) mod key;
 mod local;
 mod negatives;
 mod pairs;
+mod repeats;
 mod rows;
 mod sorted;
+mod sought;
 pub mod validate;
 
 use crate::match_group::distinct::firsts;

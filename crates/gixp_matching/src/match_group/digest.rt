@@ -3,7 +3,7 @@
 ghost use Rattle.std.specs.Prelude.{◌≡◌, IfOk, map};
 ghost use Rattle.std.specs.List.{fold};
 ghost use Rattle.gixp_matching.specs.Apart.{key_parts};
-ghost use Rattle.gixp_matching.specs.Digest.{step, turned, round, absorbed, with_word, with_bytes, start, number_of, digest, bytes_of, parts_digest};
+ghost use Rattle.gixp_matching.specs.Digest.{step, tail, turned, round, absorbed, with_word, with_bytes, start, number_of, digest, bytes_of, parts_digest};
 ghost use Rattle.gixp_matching.specs.MatchGroup.{key_bytes, key_source};
 
 use crate::match_group::key::{Key, KeyBytes, KeySource};
@@ -34,6 +34,14 @@ fn packed(number: u64, bytes: &[u8]) -> u64
         now = step(now, *byte);
     }
     now
+}
+
+/// The last eight bytes as a number.
+#[tactic(auto, unfolding(crate::specs::Digest::tail))]
+pub(crate) fn tail(name: &[u8]) -> u64
+    ensures { result ≡ tail name.now }
+{
+    packed(0, &name[name.len().saturating_sub(8)..])
 }
 
 /// A sum, and one of its parts turned and mixed with it.
@@ -148,7 +156,7 @@ fn source_bytes<'a>(source: &KeySource<'a>) -> KeyBytes<'a>
 }
 
 /// The number of a source and a local name.
-fn key_digest(key: &Key<'_>) -> u64
+pub(crate) fn key_digest(key: &Key<'_>) -> u64
     ensures { result ≡ parts_digest (key_parts key.now) }
 {
     let source = source_bytes(&key.0);
@@ -157,17 +165,6 @@ fn key_digest(key: &Key<'_>) -> u64
         None => number_of(state),
         Some(local) => number_of(absorb_bytes(state, local.bytes)),
     }
-}
-
-/// The number of each key.
-pub(crate) fn key_digests(alloc: Global, keys: &[Key<'_>]) -> Result<Vec<u64>, AllocError>
-    ensures { IfOk result (λ digests. digests.items ≡ map (λ key. parts_digest (key_parts key)) keys.now) }
-{
-    let mut digests = Vec::with_capacity(alloc, keys.len())?;
-    'keys: for key in keys {
-        digests.push(key_digest(key))?;
-    }
-    Ok(digests)
 }
 
 /// The number of each name.

@@ -1,16 +1,21 @@
 //! Of equal mappings the first.
-ghost use Rattle.std.specs.Prelude.{◌≡◌, ◌∷◌, ◌++◌, ◌||◌, not, IsTrue, IfOk, OnOk, [], map};
+ghost use Rattle.std.specs.Prelude.{◌≡◌, ◌∷◌, ◌++◌, IfOk, OnOk, [], map};
 ghost use Rattle.gixp_matching.specs.Apart.{parts, key_parts};
-ghost use Rattle.gixp_matching.specs.Mappings.{Mapped, is_same, firsts};
-ghost use Rattle.gixp_matching.specs.Firsts.{first_flags, flagged};
-ghost use Rattle.gixp_matching.specs.MatchGroup.{mapped_of, mapped_in, is_marked};
+ghost use Rattle.gixp_matching.specs.Digest.{number_parts, with_digest};
+ghost use Rattle.gixp_matching.specs.Mappings.{firsts};
+ghost use Rattle.gixp_matching.specs.Firsts.{flagged, TellsFirsts};
+ghost use Rattle.gixp_matching.specs.MatchGroup.{mapped_of, mapped_in};
+ghost use Rattle.gixp_matching.specs.Repeats.{placed, placed_from};
 
 use crate::match_group::Mapping;
-use crate::match_group::digest::key_digests;
+use crate::match_group::digest::key_digest;
 use crate::match_group::key::{Key, key_of};
-use crate::match_group::sorted::{are_distinct, are_in_order};
+use crate::match_group::repeats::{are_all, first_flags};
+use crate::match_group::sorted::are_in_order;
 use std::alloc::{AllocError, Global};
-use std::collections::BTreeSet;
+
+/// A source and a local name behind their number, so that mostly the numbers are compared.
+type Numbered<'k, 'a> = (u64, &'k Key<'a>);
 
 /// Appends the source and the local name of a mapping.
 fn push_key<'a>(mapping: &'a Mapping, keys: &mut Vec<Key<'a>>) -> Result<(), AllocError>
@@ -31,39 +36,45 @@ fn keys_of(alloc: Global, mappings: &[Mapping]) -> Result<Vec<Key<'_>>, AllocErr
     Ok(keys)
 }
 
-/// Whether no two mappings have the same source and local name.
-fn are_all_new(alloc: Global, mappings: &[Mapping]) -> Result<bool, AllocError>
-    ensures { IfOk result (λ d. IsTrue d → firsts (map mapped_of mappings.now) ≡ map mapped_of mappings.now) }
+/// Appends a key with its number and its place.
+fn push_row<'k, 'a>(
+    rows: &mut Vec<(Numbered<'k, 'a>, usize)>,
+    place: usize,
+    key: &'k Key<'a>,
+) -> Result<(), AllocError>
+    ensures { OnOk result (map (placed number_parts) rows.new.items
+        ≡ map (placed number_parts) rows.old.items ++ (with_digest (key_parts key.now), place) ∷ []) }
+{
+    rows.push(((key_digest(key), key), place))?;
+    Ok(())
+}
+
+/// The keys with their numbers and their places.
+fn rows_of<'k, 'a>(
+    alloc: Global,
+    keys: &'k [Key<'a>],
+) -> Result<Vec<(Numbered<'k, 'a>, usize)>, AllocError>
+    ensures { IfOk result (λ rows. map (placed number_parts) rows.items
+        ≡ placed_from 0 (map (λ key. with_digest (key_parts key)) keys.now)) }
+{
+    let mut rows = Vec::with_capacity(alloc, keys.len())?;
+    'keys: for (place, key) in keys.iter().enumerate() {
+        push_row(&mut rows, place, key)?;
+    }
+    Ok(rows)
+}
+
+/// For each mapping, whether it is the first of its source and local name. None where the order of these tells that each is.
+fn flags_of(alloc: Global, mappings: &[Mapping]) -> Result<Option<Vec<bool>>, AllocError>
+    ensures { IfOk result (TellsFirsts (map mapped_of mappings.now)) }
 {
     let keys = keys_of(alloc, mappings)?;
     if are_in_order(&keys) {
-        return Ok(true);
+        return Ok(None);
     }
-    let digests = key_digests(alloc, &keys)?;
-    are_distinct(keys, digests)
-}
-
-/// Remembers the source and the local name of a mapping, and returns whether they are new.
-fn mark<'a>(seen: &mut BTreeSet<Key<'a>>, mapping: &'a Mapping) -> Result<bool, AllocError>
-    ensures fresh { IfOk result (λ is_new. is_new ≡ not (is_marked seen.old.keys (mapped_of mapping.now))) }
-    ensures marked { OnOk result ((m : Mapped)
-        → is_marked seen.new.keys m ≡ (is_marked seen.old.keys m || is_same (mapped_of mapping.now) m)) }
-{
-    let is_new = seen.insert(key_of(mapping))?;
-    Ok(is_new)
-}
-
-/// For each mapping, whether it is the first of its source and local name.
-fn first_flags(alloc: Global, mappings: &[Mapping]) -> Result<Vec<bool>, AllocError>
-    ensures { IfOk result (λ flags. flags.items ≡ first_flags [] (map mapped_of mappings.now)) }
-{
-    let mut seen = BTreeSet::new(alloc);
-    let mut flags = Vec::with_capacity(alloc, mappings.len())?;
-    'mappings: for mapping in mappings {
-        let is_first = mark(&mut seen, mapping)?;
-        flags.push(is_first)?;
-    }
-    Ok(flags)
+    let rows = rows_of(alloc, &keys)?;
+    let flags = first_flags(alloc, rows)?;
+    Ok(Some(flags))
 }
 
 /// The mappings whose flag is true.
@@ -82,14 +93,15 @@ fn flagged(
         .collect(alloc)
 }
 
-/// Of mappings with equal source and local name the first. Mostly no two are equal, which a sort of numbers of what is
-/// compared tells, and then none is moved.
+/// Of mappings with equal source and local name the first. Mostly no two are equal, and then none is moved.
 pub(crate) fn firsts(alloc: Global, mappings: Vec<Mapping>) -> Result<Vec<Mapping>, AllocError>
     ensures { IfOk result (λ kept. mapped_in kept ≡ firsts (mapped_in mappings)) }
 {
-    if are_all_new(alloc, &mappings)? {
+    let Some(flags) = flags_of(alloc, &mappings)? else {
+        return Ok(mappings);
+    };
+    if are_all(&flags) {
         return Ok(mappings);
     }
-    let flags = first_flags(alloc, &mappings)?;
     flagged(alloc, mappings, flags)
 }

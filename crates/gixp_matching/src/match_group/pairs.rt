@@ -5,7 +5,8 @@ ghost use Rattle.std.specs.List.{flat_map};
 ghost use Rattle.gixp_refspec.specs.RefSpec.{value_of};
 ghost use Rattle.gixp_matching.specs.Mappings.{id_mapping, pair, pairs_of, id_mappings, pairs};
 ghost use Rattle.gixp_matching.specs.MatchGroup.{mapped_of, mapped_in, values, names};
-ghost use Rattle.gixp_matching.specs.Rows.{shown, ref_at, numbered_value, IsLookedAt, IsPrepared, IsRowTable};
+ghost use Rattle.gixp_matching.specs.Rows.{shown, ref_at, numbered_value, IsLookedAt, HasSoughtNames, IsPrepared, IsRowTable};
+ghost use Rattle.gixp_matching.specs.Sought.{sought};
 
 use crate::match_group::local::local_of;
 use crate::match_group::negatives::{Prepared, is_excluded};
@@ -13,7 +14,7 @@ use crate::match_group::rows::{Row, places_meant, rows_named, table_of};
 use crate::match_group::{Item, Mapping, SourceRef};
 use bstr::BString;
 use gixp_refspec::needle::Needle;
-use gixp_refspec::spec::{RefSpecRef, id_in, is_negative, stars};
+use gixp_refspec::spec::{RefSpecRef, id_in, is_negative};
 use std::alloc::{AllocError, Global};
 
 /// Appends a mapping, where one was found.
@@ -97,33 +98,6 @@ impl<'m, 's> Numbered<'m, 's> {
             needle: Needle::new(spec.source),
         }
     }
-}
-
-/// How many refspecs with a name of their own are sooner compared with each ref than looked up in a table of them.
-const FEW: usize = 4;
-
-/// How many are so where refs come out of order, which have to be sorted for a table.
-const SEVERAL: usize = 128;
-
-/// Whether refs come in byte order of their names, as servers send them.
-fn are_in_order(items: &[Item<'_>]) -> bool {
-    'items: for next in 1..items.len() {
-        let before = items[next - 1].full_ref_name.as_bytes();
-        let name = items[next].full_ref_name.as_bytes();
-        if name.cmp(before).is_lt() {
-            return false;
-        }
-    }
-    true
-}
-
-/// Whether the positive refspecs that are looked up by their names are so few that they are compared with each ref.
-fn are_compared(specs: &[RefSpecRef<'_>], items: &[Item<'_>]) -> bool {
-    let looked_up = specs
-        .iter()
-        .filter(|spec| !is_negative(spec.sign) && stars(spec.source) == 0)
-        .count();
-    looked_up <= FEW || (looked_up <= SEVERAL && !are_in_order(items))
 }
 
 /// A group of refspecs, and the refs that it is matched with.
@@ -272,7 +246,8 @@ impl Matching<'_, '_, '_> {
     ) -> Result<(), AllocError>
         requires needle { IsLookedAt numbered.now }
         requires prepared { IsPrepared self.now.prepared.now }
-        requires table { IsRowTable (names self.now.items.now) table.now }
+        requires sought { HasSoughtNames (values self.now.prepared.now.specs.now) numbered.now }
+        requires table { IsRowTable (sought (values self.now.prepared.now.specs.now)) (names self.now.items.now) table.now }
         ensures { OnOk result (mapped_in out.new ≡ mapped_in out.old
             ++ pairs_of (values self.now.prepared.now.specs.now) (names self.now.items.now) (numbered_value numbered.now)) }
     {
@@ -293,41 +268,16 @@ impl Matching<'_, '_, '_> {
         }
     }
 
-    /// Appends the mappings of each refspec and each ref, with no table of the refs.
-    fn push_all_compared(&self, out: &mut Vec<Mapping>) -> Result<(), AllocError>
-        requires { IsPrepared self.now.prepared.now }
-        ensures { OnOk result (mapped_in out.new ≡ mapped_in out.old
-            ++ pairs (values self.now.prepared.now.specs.now) (names self.now.items.now)) }
-    {
-        'specs: for (index, spec) in self.prepared.specs.iter().enumerate() {
-            self.push_compared(&Numbered::new(index, spec), out)?;
-        }
-        Ok(())
-    }
-
-    /// Appends the mappings of each refspec and each ref, with a table of the refs.
-    fn push_all_looked_up(&self, out: &mut Vec<Mapping>) -> Result<(), AllocError>
-        requires { IsPrepared self.now.prepared.now }
-        ensures { OnOk result (mapped_in out.new ≡ mapped_in out.old
-            ++ pairs (values self.now.prepared.now.specs.now) (names self.now.items.now)) }
-    {
-        let table = table_of(self.alloc, self.items)?;
-        'specs: for (index, spec) in self.prepared.specs.iter().enumerate() {
-            self.push_looked_up(&Numbered::new(index, spec), &table, out)?;
-        }
-        Ok(())
-    }
-
-    /// Appends the mappings of each refspec and each ref. A table of the refs is made only where many names are looked up.
+    /// Appends the mappings of each refspec and each ref, by a table of the refs that are looked up.
     pub(crate) fn push_pairs(&self, out: &mut Vec<Mapping>) -> Result<(), AllocError>
         requires { IsPrepared self.now.prepared.now }
         ensures { OnOk result (mapped_in out.new ≡ mapped_in out.old
             ++ pairs (values self.now.prepared.now.specs.now) (names self.now.items.now)) }
     {
-        if are_compared(self.prepared.specs, self.items) {
-            self.push_all_compared(out)
-        } else {
-            self.push_all_looked_up(out)
+        let table = table_of(self.alloc, self.prepared.specs, self.items)?;
+        'specs: for (index, spec) in self.prepared.specs.iter().enumerate() {
+            self.push_looked_up(&Numbered::new(index, spec), &table, out)?;
         }
+        Ok(())
     }
 }

@@ -5,12 +5,15 @@ ghost use Rattle.std.specs.List.{enumerate_from};
 ghost use Rattle.std.specs.Ordering.{nat_cmp};
 ghost use Rattle.std.specs.List.Sorted.{IsPermutation};
 ghost use Rattle.gixp_refspec.specs.Matching.{candidates, joined, rule_of};
-ghost use Rattle.gixp_matching.specs.MatchGroup.{name_of, names};
+ghost use Rattle.gixp_matching.specs.MatchGroup.{name_of, names, values};
 ghost use Rattle.gixp_matching.specs.Rows.{shown, is_row_of, AreByName, IsRowTable, AddsPlaces, HasPlaces, ArePlaces};
+ghost use Rattle.gixp_matching.specs.Sought.{sought, has_name, HasTails};
 ghost use Rattle.gixp_matching.specs.Validation.{is_below};
 
 use crate::match_group::Item;
+use crate::match_group::sought::{NameSet, set_of, sought_names};
 use gixp_refspec::needle::RULES;
+use gixp_refspec::spec::RefSpecRef;
 use gixp_refspec::text::joined;
 use std::alloc::{AllocError, Global};
 use std::collections::BTreeSet;
@@ -22,22 +25,36 @@ pub(crate) struct Row<'a> {
     pub(crate) place: usize,
 }
 
-/// Appends a ref.
-fn push_row<'a>(rows: &mut Vec<Row<'a>>, place: usize, item: &Item<'a>) -> Result<(), AllocError>
-    ensures { OnOk result (map shown rows.new.items ≡ map shown rows.old.items ++ (place, name_of item.now) ∷ []) }
+/// Appends a ref, where its name is one of the set.
+fn push_row<'a>(
+    rows: &mut Vec<Row<'a>>,
+    set: &NameSet<'_>,
+    place: usize,
+    item: &Item<'a>,
+) -> Result<(), AllocError>
+    requires { HasTails set.now }
+    ensures { OnOk result (map shown rows.new.items ≡ map shown rows.old.items
+        ++ filter (λ ref. has_name set.now ref.1) ((place, name_of item.now) ∷ [])) }
 {
     let name = item.full_ref_name.as_bytes();
-    rows.push(Row { name, place })?;
+    if set.contains(name) {
+        rows.push(Row { name, place })?;
+    }
     Ok(())
 }
 
-/// The refs, in their order.
-fn rows_of<'a>(alloc: Global, items: &[Item<'a>]) -> Result<Vec<Row<'a>>, AllocError>
-    ensures { IfOk result (λ rows. map shown rows.items ≡ enumerate_from 0 (names items.now)) }
+/// The refs whose name is one of the set, in their order.
+fn rows_of<'a>(
+    alloc: Global,
+    set: &NameSet<'_>,
+    items: &[Item<'a>],
+) -> Result<Vec<Row<'a>>, AllocError>
+    requires { HasTails set.now }
+    ensures { IfOk result (λ rows. map shown rows.items ≡ filter (λ ref. has_name set.now ref.1) (enumerate_from 0 (names items.now))) }
 {
-    let mut rows = Vec::with_capacity(alloc, items.len())?;
+    let mut rows = Vec::new(alloc);
     'items: for (place, item) in items.iter().enumerate() {
-        push_row(&mut rows, place, item)?;
+        push_row(&mut rows, set, place, item)?;
     }
     Ok(rows)
 }
@@ -52,11 +69,21 @@ pub(crate) fn sort_by_name(rows: &mut Vec<Row<'_>>) -> Result<(), AllocError>
     Ok(())
 }
 
-/// The refs in byte order of their names. Servers send them so, and then the sort looks at each once.
-pub(crate) fn table_of<'a>(alloc: Global, items: &[Item<'a>]) -> Result<Vec<Row<'a>>, AllocError>
-    ensures { IfOk result (λ rows. IsRowTable (names items.now) rows.items) }
+/// The refs of the names that refspecs stand for, in byte order of their names. One look at each ref finds them, so that
+/// those alone are sorted, in whatever order a server sends them.
+pub(crate) fn table_of<'a>(
+    alloc: Global,
+    specs: &[RefSpecRef<'_>],
+    items: &[Item<'a>],
+) -> Result<Vec<Row<'a>>, AllocError>
+    ensures { IfOk result (λ rows. IsRowTable (sought (values specs.now)) (names items.now) rows.items) }
 {
-    let mut rows = rows_of(alloc, items)?;
+    let looked_up = sought_names(alloc, specs)?;
+    if looked_up.is_empty() {
+        return Ok(Vec::new(alloc));
+    }
+    let set = set_of(alloc, &looked_up)?;
+    let mut rows = rows_of(alloc, &set, items)?;
     sort_by_name(&mut rows)?;
     Ok(rows)
 }

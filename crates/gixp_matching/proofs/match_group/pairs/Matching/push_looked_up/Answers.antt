@@ -20,19 +20,19 @@ returns-in-Id c = id_mapped (values c.args.self.now.prepared.now.specs.now) (nam
 
 pub returns-in-Exact : goal.returns-in-Exact
 returns-in-Exact c =
-    on_ok c.push_rows.result _ _ (λ step. exact_mapped (values c.args.self.now.prepared.now.specs.now) (names c.args.self.now.items.now)
+    on_ok c.push_rows.result _ _ (λ step. exact_mapped (values c.args.self.now.prepared.now.specs.now) _ (names c.args.self.now.items.now)
     (numbered_value c.args.numbered.now) c.in-Exact.name
     c.args.table.now c.rows_named-run.result.now (mapped_in c.args.out.now) (mapped_in c.push_rows.new.out)
-    (subst (IsNeedle c.args.numbered.now.spec.now.source.now) c.in-Exact.is c.requires.needle) c.requires.table
-    c.rows_named-run.ensures step) c.push_rows.ensures
+    (subst (IsNeedle c.args.numbered.now.spec.now.source.now) c.in-Exact.is c.requires.needle) (sym c.if-is_negative.ensures)
+    c.requires.table c.requires.sought c.rows_named-run.ensures step) c.push_rows.ensures
 
 pub returns-in_ok-places-in-Short : goal.returns-in_ok-places-in-Short
 returns-in_ok-places-in-Short c =
     let f = pair (values c.args.self.now.prepared.now.specs.now) (numbered_value c.args.numbered.now) in
-    on_ok c.push_places.result _ _ (λ step. short_mapped (values c.args.self.now.prepared.now.specs.now)
+    on_ok c.push_places.result _ _ (λ step. short_mapped (values c.args.self.now.prepared.now.specs.now) _
     (names c.args.self.now.items.now) (numbered_value c.args.numbered.now) c.in-Short.name
     c.args.table.now c.in_ok-places-in-Short.places.items (mapped_in c.args.out.now) (mapped_in c.push_places.new.out)
-    (subst (IsNeedle c.args.numbered.now.spec.now.source.now) c.in-Short.is c.requires.needle) c.requires.table
-    c.in_ok-places-in-Short.ensures
+    (subst (IsNeedle c.args.numbered.now.spec.now.source.now) c.in-Short.is c.requires.needle) (sym c.if-is_negative.ensures)
+    c.requires.table c.requires.sought c.in_ok-places-in-Short.ensures
     (step ∙ ap (λ l. mapped_in c.args.out.now ++ flat_map
     (λ place. flat_map f (ref_at (names c.args.self.now.items.now) place)) l) c.deref.ensures.value)) c.push_places.ensures

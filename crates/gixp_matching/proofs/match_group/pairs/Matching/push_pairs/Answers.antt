@@ -1,10 +1,13 @@
 -- The refspecs so far, and those to come.
-use Rattle.std.proofs.Common.{◌++◌, ◌∙◌, ap}
+use Rattle.std.proofs.Common.{◌++◌, ◌∙◌, ap, sym, subst}
 use Rattle.gixp_matching.specs.Mappings.{pairs_of}
 use Rattle.gixp_refspec.specs.RefSpec.{value_of}
 use Rattle.gixp_matching.specs.MatchGroup.{mapped_in, values, names}
+use Rattle.gixp_matching.specs.Rows.{AreSought}
+use Rattle.gixp_matching.specs.Sought.{sought_by, sought}
+use Rattle.gixp_matching.proofs.SoughtLemmas.{sought_at}
 use Rattle.gixp_matching.proofs.WalkLemmas.{walked_at}
-use Rattle.gixp_matching.proofs.match_group.pairs.Matching.push_all_looked_up.Goals as goal
+use Rattle.gixp_matching.proofs.match_group.pairs.Matching.push_pairs.Goals as goal
 
 pub specs-preserved : goal.specs-preserved
 specs-preserved c =
@@ -13,3 +16,9 @@ specs-preserved c =
     c.args.self.now.prepared.now.specs.now c.specs.index c.spec-item.result c.spec-item.is c.specs-test.true c.specs.invariant
     (c.in_ok-push_looked_up.ensures ∙ ap (λ s. mapped_in c.specs.out
     ++ pairs_of (values c.args.self.now.prepared.now.specs.now) (names c.args.self.now.items.now) s) c.new.ensures.value)
+
+-- What the refspec stands for is sought.
+pub push_looked_up-requires-clause-sought : goal.push_looked_up-requires-clause-sought
+push_looked_up-requires-clause-sought c =
+    subst (AreSought (sought (values c.args.self.now.prepared.now.specs.now))) (ap sought_by (sym (ap (λ p. p.1) c.new.ensures.value)))
+    (sought_at value_of c.args.self.now.prepared.now.specs.now c.specs.index c.spec-item.result c.spec-item.is c.specs-test.true)

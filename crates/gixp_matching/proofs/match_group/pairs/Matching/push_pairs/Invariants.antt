@@ -3,7 +3,7 @@ use Rattle.std.proofs.Common.{◌≡◌, ◌++◌, drop}
 use Rattle.std.specs.List.{flat_map, enumerate_from}
 use Rattle.gixp_matching.specs.Mappings.{pairs_of, pairs}
 use Rattle.gixp_matching.specs.MatchGroup.{mapped_in, values, names}
-use Rattle.gixp_matching.proofs.match_group.pairs.Matching.push_all_looked_up.Given as goal
+use Rattle.gixp_matching.proofs.match_group.pairs.Matching.push_pairs.Given as goal
 
 abbrev pub invariant-specs : goal.invariant-specs
 invariant-specs l =

@@ -1,0 +1,9 @@
+-- The last bytes of one name more.
+use Rattle.bstr.specs.Owned.{bstring_bytes}
+use Rattle.gixp_matching.proofs.SoughtLemmas.{tails_more}
+use Rattle.gixp_matching.proofs.match_group.sought.tails_of.Goals as goal
+
+pub names-preserved : goal.names-preserved
+names-preserved c =
+    tails_more bstring_bytes c.args.names.now c.names.name-index c.name-item.result c.names.set c.add_tail.new.set
+    c.name-item.is c.names-test.true c.names.invariant c.in_ok-add_tail.ensures.own c.in_ok-add_tail.ensures.others
