@@ -37,6 +37,7 @@ pub use Rattle.gixp_sidebands.specs.SaidToGoOn
 pub use Rattle.gixp_sidebands.specs.Sidebands
 pub use Rattle.gixp_refs.specs.Ref
 pub use Rattle.gixp_refs.specs.RefLine
+pub use Rattle.gixp_refs.specs.WrittenLine
 pub use Rattle.gixp_response.specs.ReadFails
 pub use Rattle.gixp_refs.specs.ParseError
 pub use Rattle.gixp_response.specs.Runs

@@ -84,8 +84,7 @@ fn open_transport<'a>(
 // Writes a text where the report goes.
 fn tell(rt: &HostRuntime, output: &Output<'_>, text: &[u8]) -> Result<(), Failure> {
     if let Some(path) = output.report {
-        return fs::write(rt, path, text)
-            .map_err(|e| Failure::of_file(rt.alloc(), path, e.kind()));
+        return fs::write(rt, path, text).map_err(|e| Failure::of_file(rt.alloc(), path, e.kind()));
     }
     if output.is_quiet {
         return Ok(());

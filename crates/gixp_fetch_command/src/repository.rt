@@ -128,6 +128,9 @@ pub(crate) fn write_boundary(
     }
     let text = shallow_text(alloc, store.ids())?;
     let path = format!(in alloc; "{path}.new")?;
-    fs::write(rt, path.as_str(), text.as_slice())
-        .map_err(|e| Failure::of_file(alloc, path.as_str(), e.kind()))
+    fs::write(rt, path.as_str(), text.as_slice()).map_err(|e| Failure::of_file(
+        alloc,
+        path.as_str(),
+        e.kind(),
+    ))
 }

@@ -17,7 +17,8 @@ fn append_symbolic(
     tag: &Option<ObjectId>,
     object: &ObjectId,
 ) -> Result<(), AllocError>
-    ensures { OnOk result (text.new.items ≡ text.old.items ++ written_line (symbolic name.now target.now (object_of tag.now) object.now.bytes)) }
+    ensures { OnOk result (text.new.items ≡ text.old.items
+        ++ written_line (symbolic name.now target.now (object_of tag.now) object.now.bytes)) }
 {
     let object = object.to_hex();
     match tag {
