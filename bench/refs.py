@@ -1,15 +1,16 @@
 #!/usr/bin/env python3
-"""Times `gixp_plan refs` against `git ls-remote` and against reading the file alone, all on the same bytes.
+"""Times `gixp_plan refs` against `git ls-remote`, a plain C program (refs.c) and reading the file alone, on the same bytes.
 
 Usage: refs.py PROGRAM [REFS] [RUNS]
 
 PROGRAM is the built gixp_plan (`rt run` in crates/gixp_plan leaves it in out/). The answer is a version 2
 `ls-refs` answer of REFS refs behind a symbolic HEAD. git reads it from a script given as its --upload-pack,
-which prints a version 2 advertisement and then the answer. Each is run RUNS times in turn, and the best time
-of each counts. GNU time measures the memory.
+which prints a version 2 advertisement and then the answer. The C program is built by `cc`, and left out where that
+isn't there. Each is run RUNS times in turn, and the best time of each counts. GNU time measures the memory.
 """
 import hashlib
 import os
+import shutil
 import subprocess
 import sys
 import tempfile
@@ -72,6 +73,10 @@ def main():
             "reading the file": ["cat", answer],
             "git ls-remote": ["git", "-c", "protocol.version=2", "ls-remote", f"--upload-pack={server}", repository],
         }
+        if shutil.which("cc"):
+            plain = os.path.join(folder, "refs")
+            subprocess.run(["cc", "-O2", "-o", plain, os.path.join(os.path.dirname(os.path.abspath(__file__)), "refs.c")], check=True)
+            commands["plain C"] = [plain, answer]
         best = {name: (float("inf"), 0) for name in commands}
         for _ in range(runs):
             for name, words in commands.items():
@@ -83,8 +88,8 @@ def main():
     for name, (seconds, memory) in best.items():
         print(f"{name}: {seconds:.3f} s, {size / seconds / 1e6:.0f} MB/s, {memory} KiB at most, {memory * 1024 / count:.0f} bytes a ref")
     ours = best["gixp_plan refs"][0]
-    print(f"gixp_plan refs / git ls-remote: {ours / best['git ls-remote'][0]:.3f}")
-    print(f"gixp_plan refs / reading the file: {ours / best['reading the file'][0]:.2f}")
+    for name in list(best)[1:]:
+        print(f"gixp_plan refs / {name}: {ours / best[name][0]:.3f}")
 
 
 main()
