@@ -185,7 +185,37 @@ fn append_end(text: &mut Vec<u8>, ended: &Result<bool, PlanError>) -> Result<(),
     }
 }
 
-// The text: the requests, the mappings, and whether a pack came.
+// About how long the requests are when they are shown: a packet line is no shorter, unless it has no payload.
+fn requests_room(requests: &[Vec<u8>]) -> usize {
+    let mut room: usize = 0;
+    for request in requests {
+        room = room.saturating_add(request.len()).saturating_add(64);
+    }
+    room
+}
+
+// How long a mapping is when it is shown.
+fn mapping_room(mapping: &Mapping) -> usize {
+    let names = remote_name(&mapping.remote)
+        .len()
+        .saturating_add(local_name(&mapping.local).len());
+    names.saturating_add(47)
+}
+
+// How long the mappings are.
+fn mappings_room(mapped: &Option<RefMap>) -> usize {
+    let Some(map) = mapped else {
+        return 0;
+    };
+    let mut room: usize = 0;
+    for mapping in &map.mappings {
+        room = room.saturating_add(mapping_room(mapping));
+    }
+    room
+}
+
+// The text: the requests, the mappings, and whether a pack came. It gets its room at once, since one that grows is there twice
+// while it is moved.
 fn course_text(
     alloc: Global,
     requests: &[Vec<u8>],
@@ -194,7 +224,8 @@ fn course_text(
 ) -> Result<Vec<u8>, AllocError>
     ensures { IfOk result (λ text. text.items ≡ course_shown (course_of requests.now mapped.now ended.now)) }
 {
-    let mut text = Vec::new(alloc);
+    let room = requests_room(requests).saturating_add(mappings_room(mapped));
+    let mut text = Vec::with_capacity(alloc, room)?;
     append_requests(alloc, &mut text, requests)?;
     append_mapped(&mut text, mapped)?;
     append_end(&mut text, ended)?;
