@@ -7,7 +7,7 @@ PATH is the program, else what `rt run` left in crates/gixp_fetch_pack/out. The 
 Repositories are made on the spot: empty ones, one commit, 2,000 commits with merges, equal and backward dates, annotated and
 nested tags, symbolic and hidden refs, shallow ones. Each action is done twice, by git over file:// and by git over gixp::, and
 must leave the same refs and the same boundary, and a repository that `git fsck --strict` finds whole. So must servers whose
-answers are bodies of their own, as of HTTP. Connections are counted. Then come servers that die, that send errors or nonsense,
+answers are bodies of their own, as of HTTP. Connections are counted, and haves that a list of commits offers. Then come servers that die, that send errors or nonsense,
 and one that freezes: an error, and nothing left behind.
 
 Prints a line for each that failed, and `N passed, M failed`. Ends with 1 where one failed. git is needed.
@@ -380,6 +380,98 @@ def texts(name, t, server):
         t.check(f"{name}: {option} {text.splitlines()[2][-8:]}", status == 1 and "line 3" in err, err)
 
 
+def by_list(t, server, commits, *words, specs=(REAL_SPEC,)):
+    """Runs the program with these lines of commits, as with `pack`, and counts the haves that the server heard."""
+    room = t.folder("list")
+    room.mkdir()
+    (room / "commits").write_text("".join(line + "\n" for line in commits))
+    trace = room / "trace"
+    ran = pack(t, f'GIT_TRACE_PACKET="{trace}" git upload-pack "{server}"', "--negotiator", "list", "--commits", room / "commits", *words, specs=specs)
+    return *ran, trace.read_text().count("upload-pack< have ") if trace.exists() else 0
+
+
+def lists_lazily(name, t):
+    """Commits that are read as they are offered."""
+    server = make(t, "server", 6000)
+    lines = t.git("rev-list", "--all", "--timestamp", "--parents", at=server).splitlines()
+    t.git("branch", "side", "main~3000", at=server)
+    grow(t, server, 5)
+    few = pack(t, f'git upload-pack "{server}"', specs=["refs/heads/side"])[1].split()
+    size = int(few[few.index("pack") + 1])
+
+    def small(out):
+        return "pack " in out and int(out.split("pack ")[1].split()[0]) < size // 100
+
+    spoiled = [*lines[:4999], "nonsense", *lines[5000:]]
+    status, out, err, room, haves = by_list(t, server, spoiled, specs=["refs/heads/main"])
+    t.check(f"{name}: a line that isn't reached", status == 0 and small(out) and haves == 16, f"{status} {haves} {out} {err}")
+    for number in (1, 3, 16):
+        spoiled = [*lines[:number - 1], lines[0][:-1], *lines[number:]]
+        status, out, err, room, haves = by_list(t, server, spoiled, specs=["refs/heads/main"])
+        wanted = f"/commits: line {number} isn't readable\n"
+        t.check(f"{name}: line {number}", status == 1 and err.endswith(wanted) and len(err.splitlines()) == 1 and not (room / "pack").exists(), f"{status} {err}")
+    for text in ([""], [*lines[:3], ""]):
+        status, out, err, room, haves = by_list(t, server, text, specs=["refs/heads/main"])
+        t.check(f"{name}: an empty line {len(text)}", status == 1 and f"line {len(text)} " in err, f"{status} {err}")
+    for count, is_small in ((0, False), (1, True), (5, True)):
+        status, out, err, room, haves = by_list(t, server, lines[:count], specs=["refs/heads/main"])
+        t.check(f"{name}: {count} lines", status == 0 and haves == count and small(out) == is_small, f"{status} {haves} {out} {err}")
+    where = t.folder("text")
+    where.mkdir()
+    status, out, err, room = pack(t, f'git upload-pack "{server}"', "--negotiator=list", "--commits", where, specs=["refs/heads/main"])
+    t.check(f"{name}: a folder", status == 1 and str(where) in err and not (room / "pack").exists(), f"{status} {err}")
+    status, out, err, room = pack(t, f'git upload-pack "{server}"', "--negotiator=list", specs=["refs/heads/main"])
+    t.check(f"{name}: no text", status == 0 and not small(out), f"{status} {err}")
+
+
+def ends_at_common(name, t):
+    """Commits of which the server has the older half, beside a history that the client has nothing of: the server is never ready."""
+    server = make(t, "server", 3000, merges=True)
+    client = t.folder("client")
+    t.git("clone", "-q", "--bare", f"file://{server}", client)
+    grow(t, client, 100, seed=7)
+    lines = t.git("rev-list", "--all", "--timestamp", "--parents", at=client).splitlines()
+    t.git("fast-import", "--quiet", "--date-format=raw", given=commits(3, branch="other", seed=9), at=server)
+    for kind, text, most in (("newest first", lines, 300), ("a parent before its child", [*lines[98:102][::-1], *lines[:98], *lines[102:]], 300), ("the common half alone", lines[100:], 40)):
+        status, out, err, room, haves = by_list(t, server, text, specs=["refs/heads/other"])
+        t.check(f"{name}, {kind}", status == 0 and 0 < haves < most, f"{status} {haves} {out} {err}")
+
+
+def left_listing(t):
+    """The lists of commits that still run for this tester."""
+    found = []
+    for process in pathlib.Path("/proc").glob("[0-9]*"):
+        try:
+            if b"rev-list" in (process / "cmdline").read_bytes() and str(t.room) in os.readlink(process / "cwd"):
+                found.append(process.name)
+        except OSError:
+            pass
+    return found
+
+
+def listed(server):
+    return (f"file://{server}", f"gixp::{server}"), {"GIXP_NEGOTIATOR": "list"}
+
+
+def leaves_no_listing(name, t):
+    """The helper's list of a long history ends with the fetch, and with one that fails."""
+    server = make(t, "server", 20_000)
+    by_git, by_us, first, second = clone_both(t, server)
+    grow(t, server, 3)
+    url, more = f"ssh://host{server}", {"GIXP_NEGOTIATOR": "list"}
+    for most in (1, 200, 500, 600):
+        status, out, err = t.run("git", "fetch", "-q", f"gixp::{url}", "main:refs/x/main", at=by_us, more={**more, **ssh(MOST=most)})
+        t.check(f"{name}: a server that dies at {most}", status not in (0, -1) and leaves_nothing(t) and not left_listing(t), f"{status} {err} {left_listing(t)}")
+    for what in ("nothing new", "the same"):
+        first, second = t.run("git", "fetch", "-q", at=by_git), t.run("git", "fetch", "-q", at=by_us, more=more)
+        same(t, f"{name}: {what}", by_git, by_us, first, second)
+        t.check(f"{name}: {what}, nothing runs", not left_listing(t), left_listing(t))
+    t.git("checkout", "-q", "--detach", at=by_us)
+    grow(t, server, 3, seed=4)
+    first, second = t.run("git", "fetch", "-q", at=by_git), t.run("git", "fetch", "-q", at=by_us, more=more)
+    t.check(f"{name}: a detached head", second[0] == 0 and is_clean(t, by_us)[0] and not left_listing(t), second[2])
+
+
 def dies(name, t, server, conversation):
     """A server that dies at each of 20 places of what it has to say."""
     whole = len(conversation)
@@ -620,6 +712,16 @@ def try_fetches(t):
             ("--depth 2 of a whole clone", [], ["--depth", "2"]), ("a new commit into a shallow clone", ["--depth", "2"], []),
         ):
             t.case(f"fetch {name}, version {version}", fetches, small, words, version, grown(2), cloned)
+    for version in VERSIONS:
+        for name, words, change, cloned in (
+            ("nothing new", [], None, []), ("100 new commits", [], grown(100), []), ("a rewritten branch", [], grown(5, back=6), []),
+            ("a new branch", [], after(grown(3), git("branch", "fresh", "main~9")), []),
+            ("all tags", ["--tags"], after(grown(3), git("tag", "-a", "-m", "x", "new", "main~1"), git("tag", "other", "side~1")), []),
+            ("a new commit into a shallow clone", [], grown(2), ["--depth", "2"]), ("--unshallow", ["--unshallow"], grown(2), ["--depth", "2"]),
+            ("--depth 3", ["--depth", "3"], grown(2), ["--depth", "1"]), ("--depth 2 of a whole clone", ["--depth", "2"], grown(2), []),
+        ):
+            t.case(f"list: fetch of {name}, version {version}", fetches, small, words, version, change, cloned, listed)
+    t.case("list: clone", clones, small(), "2", over=listed)
     t.case("fetch of 2,000 new commits", fetches, small, [], "2", grown(2000))
     for spec in ("refs/heads/main:refs/x/main", "+refs/heads/*:refs/x/*", "main:x", "+refs/heads/s*:refs/x/s*", "HEAD:refs/x/head", "refs/tags/v1:refs/x/v1", "side", "refs/heads/*:refs/x/*"):
         t.case(f"fetch origin {spec}", fetches, small, ["origin", spec], "2", grown(2))
@@ -707,6 +809,9 @@ def main():
         t.case("over git daemon", over_daemon, make(t, "served", 40, tags=True))
         t.case("over ssh", over_ssh, make(t, "served", 10))
         t.case("a server that freezes", frozen, None)
+        t.case("list: commits one by one", lists_lazily)
+        t.case("list: ends where both sides have a commit", ends_at_common)
+        t.case("list: nothing goes on", leaves_no_listing)
         t.case("words", words)
         server = make(t, "server", 30, tags=True)
         t.case("texts", texts, server)

@@ -3,6 +3,7 @@
 
 mod ends;
 mod failure;
+mod listed;
 mod receive;
 mod repository;
 mod session;
@@ -12,12 +13,13 @@ mod windows;
 
 use crate::ends::{Source, Target};
 use crate::failure::Failure;
+use crate::listed::{ListedCommits, Refusal};
 use crate::receive::PackReceiver;
 use crate::repository::{Repository, write_boundary};
 use crate::session::{Asked, Session, Sink, connect};
 use crate::shown::Shown;
 use crate::usage::{USAGE, VERSION, print_refusal};
-use gix_protocol::fetch::negotiate::{Graph, HaveList, Shared};
+use gix_protocol::fetch::negotiate::{Graph, Noop, Shared};
 use gix_protocol::fetch::{Outcome, RefMap, ShallowMemory};
 use gix_protocol::transport::{Connection, ObjectId, Transport};
 use gixp_fetch_parts::{
@@ -27,7 +29,7 @@ use gixp_fetch_parts::{
 use gixp_pack::PackSummary;
 use std::alloc::Global;
 use std::fs::{File, OpenOptions};
-use std::io::{BufWriter, Input, Printer, StdinLock, Write};
+use std::io::{BufReader, BufWriter, Input, Printer, StdinLock, Write};
 use std::process::ExitCode;
 use std::{env, fs, io};
 
@@ -114,25 +116,54 @@ fn list(rt: &HostRuntime, options: &Options<'_>, keeps_open: bool) -> Result<(),
     tell(rt, &options.output, &listing(alloc, &refs)?)
 }
 
-// Fetches what is mapped into a sink, by the negotiator that was chosen.
-fn negotiate<T: Transport, P: PackPlace>(
-    alloc: Global,
+// What is told of a fetch that failed, where it may be for the text of the commits.
+fn failure_of(alloc: Global, path: &str, refusal: Option<Refusal>, failure: Failure) -> Failure {
+    match refusal {
+        Some(Refusal::Read(kind)) => Failure::of_file(alloc, path, kind),
+        Some(Refusal::Line(line)) => Failure::of_line(alloc, path, line),
+        None => failure,
+    }
+}
+
+// Fetches what is mapped into a sink, and offers the commits of a text in its order.
+fn offer_in_order<T: Transport, P: PackPlace>(
+    rt: &HostRuntime,
     session: &mut Session<'_, T>,
     repository: &mut Repository,
     asked: Asked<'_>,
+    path: &str,
     sink: &mut Sink<P>,
     shown: &mut Shown<'_>,
 ) -> Result<Option<Outcome>, Failure> {
-    match asked.wish.haves {
-        Haves::By(algorithm) => {
-            let negotiator = algorithm.negotiator(alloc);
-            session.fetch(repository, negotiator, asked, sink, shown)
+    let alloc = rt.alloc();
+    let file = File::open(rt, path).map_err(|e| Failure::of_file(alloc, path, e.kind()))?;
+    let text = BufReader::new(alloc, file).map_err(|_| Failure::Memory)?;
+    let mut negotiator = ListedCommits::new(alloc, text);
+    match session.fetch(repository, &mut negotiator, asked, sink, shown) {
+        Ok(outcome) => Ok(outcome),
+        Err(e) => Err(failure_of(alloc, path, negotiator.refusal(), e)),
+    }
+}
+
+// Fetches what is mapped into a sink, by the negotiator that was chosen.
+fn negotiate<T: Transport, P: PackPlace>(
+    rt: &HostRuntime,
+    session: &mut Session<'_, T>,
+    repository: &mut Repository,
+    asked: Asked<'_>,
+    commits: Option<&str>,
+    sink: &mut Sink<P>,
+    shown: &mut Shown<'_>,
+) -> Result<Option<Outcome>, Failure> {
+    match (asked.wish.haves, commits) {
+        (Haves::By(algorithm), _) => {
+            let mut negotiator = algorithm.negotiator(rt.alloc());
+            session.fetch(repository, &mut negotiator, asked, sink, shown)
         }
-        Haves::InOrder => {
-            let ids = Vec::from_slice(alloc, &repository.commits)?;
-            let negotiator = HaveList::new(ids);
-            session.fetch(repository, negotiator, asked, sink, shown)
+        (Haves::InOrder, Some(path)) => {
+            offer_in_order(rt, session, repository, asked, path, sink, shown)
         }
+        (Haves::InOrder, None) => session.fetch(repository, &mut Noop, asked, sink, shown),
     }
 }
 
@@ -155,7 +186,8 @@ fn take_pack<T: Transport>(
         boundary: ShallowMemory::new(Vec::from_slice(alloc, &repository.boundary)?),
         pack: PackReceiver::new(alloc, place),
     };
-    let result = negotiate(alloc, session, repository, asked, &mut sink, shown);
+    let commits = options.files.commits;
+    let result = negotiate(rt, session, repository, asked, commits, &mut sink, shown);
     if let Ok(outcome) = &result {
         session.end(outcome.is_some());
     }
@@ -192,7 +224,7 @@ fn settle(
 // Fetches.
 fn fetch(rt: &HostRuntime, options: &Options<'_>, wish: &Wish<'_>) -> Result<(), Failure> {
     let alloc = rt.alloc();
-    let mut repository = Repository::read(rt, &options.files)?;
+    let mut repository = Repository::read(rt, &options.files, wish.haves)?;
     let transport = open_transport(rt, &options.server)?;
     let mut shown = shown_of(rt, &options.output);
     let mut session = Session::open(alloc, transport, options.server.agent, &mut shown)?;
@@ -218,7 +250,7 @@ fn fetch(rt: &HostRuntime, options: &Options<'_>, wish: &Wish<'_>) -> Result<(),
     )
 }
 
-// What becomes of the local refs, where those that are there are known.
+// What becomes of the local refs, where those that are there are known, and the commits.
 fn changes_in(
     alloc: Global,
     map: &RefMap,
@@ -226,7 +258,7 @@ fn changes_in(
     options: &Options<'_>,
     wish: &Wish<'_>,
 ) -> Result<Vec<Option<Change>>, Failure> {
-    if options.files.refs.is_none() {
+    if options.files.refs.is_none() || wish.haves == Haves::InOrder {
         return Ok(Vec::new(alloc));
     }
     let objects = Shared::new(&repository.objects);

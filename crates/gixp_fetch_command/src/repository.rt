@@ -3,8 +3,8 @@ use crate::failure::Failure;
 use gix_protocol::fetch::negotiate::{StoredObjects, StoredRefs, TextError};
 use gix_protocol::fetch::{ShallowMemory, shallow_ids, shallow_text};
 use gix_protocol::transport::ObjectId;
-use gixp_fetch_parts::Files;
-use std::alloc::{AllocError, Global};
+use gixp_fetch_parts::{Files, Haves};
+use std::alloc::Global;
 use std::fs;
 use std::io::ErrorKind;
 
@@ -12,8 +12,6 @@ use std::io::ErrorKind;
 #[derive(Drop)]
 pub(crate) struct Repository {
     pub(crate) objects: StoredObjects,
-    /// The commits, in the order of their text.
-    pub(crate) commits: Vec<ObjectId>,
     pub(crate) refs: StoredRefs,
     pub(crate) boundary: Vec<ObjectId>,
 }
@@ -50,43 +48,21 @@ fn refused(alloc: Global, path: Option<&str>, e: TextError) -> Failure {
     }
 }
 
-// The commit of a line `TIME ID PARENT..`.
-fn commit_id(line: &[u8]) -> Option<ObjectId> {
-    let id = line.split(|b| *b == b' ').nth(1)?;
-    match ObjectId::from_hex(id) {
-        Ok(id) => Some(id),
-        Err(_) => None,
-    }
-}
-
-// The commits of a text, in its order.
-fn commit_ids(alloc: Global, text: &[u8]) -> Result<Vec<ObjectId>, AllocError> {
-    let mut ids = Vec::new(alloc);
-    for line in text.split(|b| *b == b'\n') {
-        if let Some(id) = commit_id(line) {
-            ids.push(id)?;
-        }
-    }
-    Ok(ids)
-}
-
-// The objects of both texts, and the commits in the order of theirs.
-fn objects_in(
-    rt: &HostRuntime,
-    files: &Files<'_>,
-) -> Result<(StoredObjects, Vec<ObjectId>), Failure> {
+// The objects of both texts. Of commits that a negotiator reads by itself there are none.
+fn objects_in(rt: &HostRuntime, files: &Files<'_>, haves: Haves) -> Result<StoredObjects, Failure> {
     let alloc = rt.alloc();
     let mut objects = StoredObjects::new(alloc);
-    let text = text_in(rt, files.commits)?;
-    objects
-        .read_commits(alloc, &text)
-        .map_err(|e| refused(alloc, files.commits, e))?;
-    let commits = commit_ids(alloc, &text)?;
+    if haves != Haves::InOrder {
+        let text = text_in(rt, files.commits)?;
+        objects
+            .read_commits(alloc, &text)
+            .map_err(|e| refused(alloc, files.commits, e))?;
+    }
     let text = text_in(rt, files.objects)?;
     objects
         .read_kinds(alloc, &text)
         .map_err(|e| refused(alloc, files.objects, e))?;
-    Ok((objects, commits))
+    Ok(objects)
 }
 
 // The refs of their text.
@@ -100,12 +76,14 @@ fn refs_in(rt: &HostRuntime, path: Option<&str>) -> Result<StoredRefs, Failure> 
 }
 
 impl Repository {
-    /// Reads the texts.
-    pub(crate) fn read(rt: &HostRuntime, files: &Files<'_>) -> Result<Repository, Failure> {
-        let (objects, commits) = objects_in(rt, files)?;
+    /// Reads the texts, but for that of the commits where they are to be offered in its order.
+    pub(crate) fn read(
+        rt: &HostRuntime,
+        files: &Files<'_>,
+        haves: Haves,
+    ) -> Result<Repository, Failure> {
         Ok(Repository {
-            objects,
-            commits,
+            objects: objects_in(rt, files, haves)?,
             refs: refs_in(rt, files.refs)?,
             boundary: boundary_in(rt, files.shallow)?,
         })

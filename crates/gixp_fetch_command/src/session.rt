@@ -242,10 +242,10 @@ impl<'a, T: Transport> Session<'a, T> {
     }
 
     /// Fetches what is mapped.
-    pub(crate) fn fetch<N: Negotiator + Drop, P: PackPlace, S: NestedProgress>(
+    pub(crate) fn fetch<N: Negotiator, P: PackPlace, S: NestedProgress>(
         &mut self,
         repository: &mut Repository,
-        mut negotiator: N,
+        negotiator: &mut N,
         asked: Asked<'_>,
         sink: &mut Sink<P>,
         shown: &mut S,
@@ -262,7 +262,7 @@ impl<'a, T: Transport> Session<'a, T> {
             objects: &shared,
             refs: &mut refs,
             alternates: opened(&mut alternates),
-            negotiator: &mut negotiator,
+            negotiator,
             graph: &mut graph,
         };
         let wish = asked.wish;

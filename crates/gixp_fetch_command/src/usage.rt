@@ -29,7 +29,8 @@ The pack goes to PACK, and the report to standard output. A value may be joined 
                          which tags are fetched with the refspecs (none)
   --reject-shallow       refuse a server whose repository is shallow
   --negotiator consecutive|skipping|noop|list
-                         who chooses the commits that are offered (consecutive)
+                         who chooses the commits that are offered (consecutive); by list they are offered in the order of
+                         --commits, of which a line is read as one is asked for, and --objects alone tells what is here
   --report FILE          the report goes there
   --progress             show the progress of the server
   --quiet                tell errors alone
