@@ -1,5 +1,5 @@
 //! A negotiator that offers the commits of a text, of which it reads no more than it is asked for.
-ghost use Rattle.std.specs.Prelude.{◌≡◌, IfOk, IfSome};
+ghost use Rattle.std.specs.Prelude.{◌≡◌, ◌-◌, ◌^◌, [], None, IfOk, IfSome};
 ghost use Rattle.gixp_fetch_command.specs.Listed.{IsUncommon};
 
 use gix_protocol::fetch::negotiate::{
@@ -155,7 +155,13 @@ pub struct ListedCommits<R> {
 
 impl<R: BufRead> ListedCommits<R> {
     /// Before a line is read.
-    pub fn new(alloc: Global, text: R) -> ListedCommits<R> {
+    pub fn new(alloc: Global, text: R) -> ListedCommits<R>
+        ensures text { result.commits.text ≡ text }
+        ensures common { result.commits.common.keys ≡ [] }
+        ensures refusal { result.commits.refusal ≡ None }
+        ensures left { result.left ≡ 2 ^ 64 - 1 }
+        ensures failures { result.failures ≡ 0 }
+    {
         ListedCommits {
             commits: CommitText {
                 alloc,
@@ -172,7 +178,9 @@ impl<R: BufRead> ListedCommits<R> {
     }
 
     /// Why the text isn't read on, where it can't be.
-    pub fn refusal(&self) -> Option<Refusal> {
+    pub fn refusal(&self) -> Option<Refusal>
+        ensures { result ≡ self.now.commits.refusal }
+    {
         self.commits.refusal
     }
 }
