@@ -1,7 +1,7 @@
 #!/usr/bin/env python3
 """Clones and fetches real repositories by the program gixp_fetch_pack, beside git.
 
-Usage: live.py [--program PATH] [--keep FOLDER] [--only WORD] [--jobs N]
+Usage: live.py [--program PATH] [--keep FOLDER] [--only WORD] [--jobs N] [--again]
 
 PATH is the program, else what `rt run` left in crates/gixp_fetch_pack/out. The remote helper beside its crate is tried with it.
 Repositories are made on the spot: empty ones, one commit, 2,000 commits with merges, equal and backward dates, annotated and
@@ -14,6 +14,7 @@ Prints a line for each that failed, and `N passed, M failed`. Ends with 1 where 
 """
 import argparse
 import concurrent.futures
+import fcntl
 import itertools
 import os
 import pathlib
@@ -32,6 +33,7 @@ CRATE = TOP / "crates" / "gixp_fetch_pack"
 VERSIONS = ("2", "1", "0")
 REAL_SPEC = "+refs/heads/*:refs/remotes/origin/*"
 TIMEOUT = 60
+F_SETPIPE_SZ = 1031
 
 
 class Tester:
@@ -41,7 +43,7 @@ class Tester:
         self.room, self.program, self.only = room, program, only
         self.passed, self.failed, self.made = 0, 0, itertools.count(1)
         self.pool = concurrent.futures.ThreadPoolExecutor(jobs) if jobs else None
-        self.cases = []
+        self.cases, self.told = [], []
         room.mkdir(parents=True, exist_ok=True)
         tools = room / "tools"
         tools.mkdir()
@@ -78,17 +80,28 @@ class Tester:
             self.passed += 1
         else:
             self.failed += 1
-            print(f"FAILED {name}: {str(told).strip()[:600]}")
+            self.told.append(f"FAILED {name}: {str(told).strip()[:600]}")
 
     def case(self, name, action, *words, **more):
         """Begins a case, which gets a tester of its own."""
         if not self.only or self.only in name:
-            self.cases.append(self.pool.submit(one_case, Tester(self.folder("case"), self.program), name, action, words, more))
+            given = name, action, words, more
+            self.cases.append((given, self.pool.submit(self.try_case, given)))
 
-    def finish(self):
-        """Waits for all cases, and counts them."""
-        for done in self.cases:
-            one = done.result()
+    def try_case(self, given):
+        return one_case(Tester(self.folder("case"), self.program), *given)
+
+    def finish(self, again):
+        """Waits for all cases, and counts them. Tries one that failed again, if it is to be, once no other is tried."""
+        ended = [(given, done.result()) for given, done in self.cases]
+        for given, one in ended:
+            for told in one.told:
+                print(told)
+            if one.failed and again:
+                print(f"again: {given[0]}")
+                one = self.try_case(given)
+                for told in one.told:
+                    print(told)
             self.passed, self.failed = self.passed + one.passed, self.failed + one.failed
 
 
@@ -355,6 +368,7 @@ def words(name, t):
         (["--depth"], 2), (["--depth", "0", "--shallow", "s", "a", "b", "c", "d"], 2), (["--depth", "x", "a", "b", "c", "d"], 2),
         (["--depth", "1", "a", "b", "c", "d"], 2), (["--version", "3", "a", "b", "c", "d"], 2), (["--tags", "some", "a", "b", "c", "d"], 2),
         (["--depth", "1", "--since", "5", "--shallow", "s", "a", "b", "c", "d"], 2), (["--list", "a"], 2), (["--list", "a", "b", "c"], 2),
+        (["--ask", "x", "a", "b", "c", "d"], 2), (["--answers=x", "a", "b", "c", "d"], 2), (["--ask"], 2),
         (["--keep-open", "a", "b", "c", "d"], 2), (["--depth", "1", "--deepen", "1", "--shallow", "s", "a", "b", "c", "d"], 2),
         (["--unshallow", "--exclude", "x", "--shallow", "s", "a", "b", "c", "d"], 2),
         (["--help", "--keep-open", "a"], 0), (["-V", "--help", "a"], 0),
@@ -422,6 +436,52 @@ def lists_lazily(name, t):
     t.check(f"{name}: a folder", status == 1 and str(where) in err and not (room / "pack").exists(), f"{status} {err}")
     status, out, err, room = pack(t, f'git upload-pack "{server}"', "--negotiator=list", specs=["refs/heads/main"])
     t.check(f"{name}: no text", status == 0 and not small(out), f"{status} {err}")
+
+
+def witness(t, command, at):
+    """A program that is asked for objects, and the words that name its ends: pipes that hold 4,096 bytes."""
+    room = t.folder("witness")
+    room.mkdir()
+    for end in ("ask", "answers"):
+        os.mkfifo(room / end)
+    small = shlex.quote(f"import fcntl; [fcntl.fcntl(end, {F_SETPIPE_SZ}, 4096) for end in (0, 1)]")
+    begun = subprocess.Popen(["sh", "-c", f'exec < "$0/ask" > "$0/answers"; python3 -c {small}; {command}', str(room)], env=t.environment, cwd=at, stderr=subprocess.DEVNULL)
+    return begun, [f"--ask={room / 'ask'}", "--answers", room / "answers"]
+
+
+def asks(name, t):
+    """Objects that a program tells of which is asked, once the server has listed its refs."""
+    server, client = make(t, "server", 300, tags=True), t.folder("client")
+    t.git("update-ref", "--stdin", at=server, given="".join(f"create refs/heads/b{number} {id}\n" for number, id in enumerate(t.git("rev-list", "main", at=server).split())).encode())
+    t.git("clone", "-q", "--bare", f"file://{server}", client)
+    lines = t.folder("commits")
+    lines.write_text(t.git("rev-list", "--all", "--timestamp", "--parents", at=client))
+    specs = [REAL_SPEC, "refs/tags/*:refs/tags/*"]
+
+    def ask(answers, *words, version="2"):
+        begun, named = witness(t, answers, client)
+        try:
+            return pack(t, f'GIT_PROTOCOL=version={version} git upload-pack "{server}"', "--version", version, *named, *words, specs=specs)
+        finally:
+            begun.kill()
+            begun.wait()
+
+    for version in VERSIONS:
+        for answers in ("git cat-file --batch-check", "git cat-file --batch-check='%(objectname) %(objecttype)'"):
+            status, out, err, room = ask(answers, version=version)
+            t.check(f"{name}: nothing new, version {version}", status == 0 and out.splitlines()[-1] == "nothing", f"{status} {out[-300:]} {err}")
+    grow(t, server, 3)
+    for version in VERSIONS:
+        status, out, err, room = ask("git cat-file --batch-check", "--negotiator=list", f"--commits={lines}", version=version)
+        told = out.splitlines()[-1].split() if out else []
+        t.check(f"{name}: 3 new commits, version {version}", status == 0 and told[0] == "pack" and int(told[2]) == 9, f"{status} {told} {err}")
+    for answers, number in (("echo nonsense", 1), ("git cat-file --batch-check | sed -u s/^......./0000000/", 1), ("head -n 3 | git cat-file --batch-check", 4),
+                            ("sed -u 's/$/ stone/'", 1), ("git cat-file --batch-check | sed -u '150s/$/ more/'", 150)):
+        status, out, err, room = ask(answers)
+        t.check(f"{name}: {answers}", status == 1 and err.endswith(f"/answers: line {number} isn't readable\n") and not (room / "pack").exists(), f"{status} {err}")
+    for words in (["--ask=/nowhere/a", "--answers=/nowhere/b"], ["--ask=/dev/null", "--answers=/nowhere/b"]):
+        status, out, err, room = pack(t, f'git upload-pack "{server}"', *words, specs=specs)
+        t.check(f"{name}: {' '.join(words)}", status == 1 and "/nowhere/" in err and not (room / "pack").exists(), f"{status} {err}")
 
 
 def ends_at_common(name, t):
@@ -791,6 +851,7 @@ def main():
     parser.add_argument("--keep", type=pathlib.Path, help="a folder for all that is made, which stays")
     parser.add_argument("--only", help="only what has this word in its name")
     parser.add_argument("--jobs", type=int, default=os.cpu_count(), help="how many cases at once")
+    parser.add_argument("--again", action="store_true", help="try a case that failed once more, when no other is tried, and count that: a loaded machine is late")
     given = parser.parse_args()
     program = given.program.resolve()
     if not os.access(program, os.X_OK):
@@ -812,6 +873,7 @@ def main():
         t.case("list: commits one by one", lists_lazily)
         t.case("list: ends where both sides have a commit", ends_at_common)
         t.case("list: nothing goes on", leaves_no_listing)
+        t.case("asks for objects", asks)
         t.case("words", words)
         server = make(t, "server", 30, tags=True)
         t.case("texts", texts, server)
@@ -823,7 +885,7 @@ def main():
         t.case("a server that dies on the helper", dies_later, server, conversation)
         t.case("errors to the helper", refuses_helper, server)
         t.case("a pack with a byte changed", spoiled, server, conversation)
-        t.finish()
+        t.finish(given.again)
         print(f"{t.passed} passed, {t.failed} failed")
         print(f"{time.time() - began:.0f} s", file=sys.stderr)
         sys.exit(1 if t.failed else 0)

@@ -229,6 +229,9 @@ fn fetch(rt: &HostRuntime, options: &Options<'_>, wish: &Wish<'_>) -> Result<(),
     let mut shown = shown_of(rt, &options.output);
     let mut session = Session::open(alloc, transport, options.server.agent, &mut shown)?;
     let map = session.map(wish, &mut shown)?;
+    if let Some(questions) = options.files.questions {
+        repository.ask(rt, questions, &map)?;
+    }
     if let Some(name) = missing_name(alloc, &map)? {
         session.end(false);
         return Err(Failure::Missing { name });

@@ -1,12 +1,13 @@
 //! The repository that fetches, by the texts of the command line.
 use crate::failure::Failure;
 use gix_protocol::fetch::negotiate::{StoredObjects, StoredRefs, TextError};
-use gix_protocol::fetch::{ShallowMemory, shallow_ids, shallow_text};
+use gix_protocol::fetch::{RefMap, ShallowMemory, shallow_ids, shallow_text};
 use gix_protocol::transport::ObjectId;
-use gixp_fetch_parts::{Files, Haves};
+use gixp_fetch_parts::{AskError, Files, Haves, Questions, Witness, named_ids};
 use std::alloc::Global;
 use std::fs;
-use std::io::ErrorKind;
+use std::fs::{File, OpenOptions};
+use std::io::{BufReader, ErrorKind};
 
 /// What is known of the repository.
 #[derive(Drop)]
@@ -87,6 +88,41 @@ impl Repository {
             refs: refs_in(rt, files.refs)?,
             boundary: boundary_in(rt, files.shallow)?,
         })
+    }
+
+    /// Adds those objects that a map names and that are here, as a program says that is asked. What it reads is opened first,
+    /// and closed behind the last answer.
+    pub(crate) fn ask(
+        &mut self,
+        rt: &HostRuntime,
+        questions: Questions<'_>,
+        map: &RefMap,
+    ) -> Result<(), Failure> {
+        let alloc = rt.alloc();
+        let ids: Vec<ObjectId> = named_ids(alloc, &map.mappings)?.into_iter().collect(alloc)?;
+        let asks = OpenOptions::new()
+            .write(true)
+            .open(rt, questions.ask)
+            .map_err(|e| Failure::of_file(alloc, questions.ask, e.kind()))?;
+        let answers = File::open(rt, questions.answers).map_err(|e| Failure::of_file(
+            alloc,
+            questions.answers,
+            e.kind(),
+        ))?;
+        let answers = BufReader::new(alloc, answers).map_err(|_| Failure::Memory)?;
+        Witness::new(alloc, asks, answers)
+            .ask(&ids, &mut self.objects)
+            .map_err(|e| unanswered(alloc, questions, e))
+    }
+}
+
+// Why a question has no answer.
+fn unanswered(alloc: Global, questions: Questions<'_>, e: AskError) -> Failure {
+    match e {
+        AskError::Ask(kind) => Failure::of_file(alloc, questions.ask, kind),
+        AskError::Answer(kind) => Failure::of_file(alloc, questions.answers, kind),
+        AskError::Line(line) => Failure::of_line(alloc, questions.answers, line),
+        AskError::Memory => Failure::Memory,
     }
 }
 

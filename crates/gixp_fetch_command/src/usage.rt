@@ -19,6 +19,10 @@ The pack goes to PACK, and the report to standard output. A value may be joined 
   --refs FILE            the refs, as `git show-ref -d` lists them
   --commits FILE         the commits, as `git rev-list --all --timestamp --parents` lists them
   --objects FILE         objects that refs lead to, each line with an id and a kind
+  --ask FILE, --answers FILE
+                         a program that is asked which of the objects that the server's refs name are here, as
+                         `git cat-file --batch-check` says it: it reads their ids at the first and writes lines at the second.
+                         An object that is here counts with all that it leads to
   --shallow FILE         the shallow boundary; a new one goes to FILE.new
   --depth N              so many commits from each ref on
   --deepen N             so many commits more than there are

@@ -16,6 +16,7 @@ use Rattle.gixp_fetch_parts.specs.declared.options.Haves.{Haves}
 use Rattle.gixp_fetch_parts.specs.declared.options.Haves.TheVariants.{By, InOrder}
 use Rattle.gixp_fetch_parts.specs.declared.options.Server.{Server}
 use Rattle.gixp_fetch_parts.specs.declared.options.Files.{Files}
+use Rattle.gixp_fetch_parts.specs.declared.options.Questions.{Questions}
 use Rattle.gixp_fetch_parts.specs.declared.options.Output.{Output}
 use Rattle.gixp_fetch_parts.specs.declared.options.Wish.{Wish}
 use Rattle.gixp_fetch_parts.specs.declared.options.Task.{Task}
@@ -100,11 +101,17 @@ pub record AsksHistory (line : LineParts) (wanted : ShallowValue) : Type 0 where
   pub cut : has line (codes "--depth") ≡ false → has line (codes "--deepen") ≡ false → has line (codes "--unshallow") ≡ false
       → CutsHistory line wanted
 
+-- where questions are asked, and where they are answered; a line has both or neither
+abbrev pub AsksQuestions : LineParts → Option Questions → Type 0
+AsksQuestions line (Some q) = (value line (codes "--ask") ≡ Some q.ask.now) × (value line (codes "--answers") ≡ Some q.answers.now)
+AsksQuestions line None = (value line (codes "--ask") ≡ None) × (value line (codes "--answers") ≡ None)
+
 -- the texts of the repository
 pub record AsksFiles (line : LineParts) (files : Files) : Type 0 where
   pub refs : option_map (λ w. w.now) files.refs ≡ value line (codes "--refs")
   pub commits : option_map (λ w. w.now) files.commits ≡ value line (codes "--commits")
   pub objects : option_map (λ w. w.now) files.objects ≡ value line (codes "--objects")
+  pub questions : AsksQuestions line files.questions
   pub shallow : option_map (λ w. w.now) files.shallow ≡ value line (codes "--shallow")
 
 -- what is told, and where; nothing is shown of the progress where nothing but errors is told

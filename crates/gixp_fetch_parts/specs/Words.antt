@@ -17,8 +17,10 @@ is_of_server word = bytes_eq word (codes "--version") || bytes_eq word (codes "-
     (codes "--host") || bytes_eq word (codes "--agent")
 
 abbrev pub is_of_repository : List ℕ → Bool
-is_of_repository word = bytes_eq word (codes "--refs") || bytes_eq word (codes "--commits") || bytes_eq word
-    (codes "--objects") || bytes_eq word (codes "--shallow")
+is_of_repository word =
+    bytes_eq word (codes "--refs") || bytes_eq word (codes "--commits") || bytes_eq word (codes "--objects") || bytes_eq word
+    (codes "--ask")
+    || bytes_eq word (codes "--answers") || bytes_eq word (codes "--shallow")
 
 abbrev pub is_of_fetch : List ℕ → Bool
 is_of_fetch word =

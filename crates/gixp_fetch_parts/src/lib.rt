@@ -2,6 +2,7 @@
 //! says of local refs, the place of a pack, and its copy.
 #![tactic(auto)]
 
+mod ask;
 mod change;
 mod copy;
 mod line;
@@ -10,10 +11,11 @@ mod options;
 mod place;
 mod report;
 
+pub use ask::{AskError, Witness, named_ids};
 pub use change::{Change, changes};
 pub use copy::{StreamError, copy_pack};
 pub use line::LineError;
 pub use missing::missing_name;
-pub use options::{Files, Haves, OptionError, Options, Output, Server, Task, Wish};
+pub use options::{Files, Haves, OptionError, Options, Output, Questions, Server, Task, Wish};
 pub use place::{PackFile, PackPlace};
 pub use report::{listing, report as fetch_report};

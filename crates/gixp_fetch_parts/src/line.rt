@@ -100,7 +100,12 @@ fn is_of_server(word: &str) -> bool
 fn is_of_repository(word: &str) -> bool
     ensures { result ≡ is_of_repository word.now }
 {
-    word == "--refs" || word == "--commits" || word == "--objects" || word == "--shallow"
+    word == "--refs"
+        || word == "--commits"
+        || word == "--objects"
+        || word == "--ask"
+        || word == "--answers"
+        || word == "--shallow"
 }
 
 fn is_of_fetch(word: &str) -> bool

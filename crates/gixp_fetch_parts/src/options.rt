@@ -7,7 +7,7 @@ ghost use Rattle.gixp_negotiate.specs.Shallow.{no_change, at_remote, deepens, sh
 ghost use Rattle.gixp_fetch_parts.specs.LineOf.{line_of, line_value, LineParts};
 ghost use Rattle.gixp_fetch_parts.specs.declared.options.OptionError.TheVariants.{Memory};
 ghost use Rattle.gixp_fetch_parts.specs.Choices.{version_of, tags_of, has, values, has_conflict, IsHaves, IsNumber, IsSeconds};
-ghost use Rattle.gixp_fetch_parts.specs.Choices.{CutsHistory, AsksHistory, AsksFiles, AsksOutput, AsksFetch, AsksWork, AsksTask, AsksOptions, RefusesOptions, ReadsOptions};
+ghost use Rattle.gixp_fetch_parts.specs.Choices.{CutsHistory, AsksHistory, AsksQuestions, AsksFiles, AsksOutput, AsksFetch, AsksWork, AsksTask, AsksOptions, RefusesOptions, ReadsOptions};
 
 use crate::line::{Line, LineError};
 use bstr::BString;
@@ -36,12 +36,23 @@ pub struct Server<'a> {
     pub agent: &'a str,
 }
 
+/// A program that is asked which objects are here, as `git cat-file --batch-check`.
+#[derive(Clone, Copy)]
+pub struct Questions<'a> {
+    /// The file that it reads: a line with an id for each question.
+    pub ask: &'a str,
+    /// The file that it writes: a line for each answer.
+    pub answers: &'a str,
+}
+
 /// The texts of the repository, each in a file.
 #[derive(Clone, Copy)]
 pub struct Files<'a> {
     pub refs: Option<&'a str>,
     pub commits: Option<&'a str>,
     pub objects: Option<&'a str>,
+    /// Who tells of other objects.
+    pub questions: Option<Questions<'a>>,
     pub shallow: Option<&'a str>,
 }
 
@@ -477,21 +488,36 @@ impl<'a> Options<'a> {
         Ok(Options {
             task,
             server,
-            files: files_of(line),
+            files: files_of(line)?,
             output: output_of(line),
         })
     }
 }
 
-fn files_of<'a>(line: &Line<'a>) -> Files<'a>
-    ensures { AsksFiles (line_value line.now) result }
+// The two files of questions.
+fn questions_of<'a>(line: &Line<'a>) -> Result<Option<Questions<'a>>, OptionError<'a>>
+    ensures ok { IfOk result (λ questions. AsksQuestions (line_value line.now) questions) }
+    ensures err { IfErr result (λ e. RefusesOptions (line_value line.now) e) }
 {
-    Files {
+    match (line.value("--ask"), line.value("--answers")) {
+        (Some(ask), Some(answers)) => Ok(Some(Questions { ask, answers })),
+        (None, None) => Ok(None),
+        (Some(_), None) => Err(OptionError::Needs("--ask", "--answers")),
+        (None, Some(_)) => Err(OptionError::Needs("--answers", "--ask")),
+    }
+}
+
+fn files_of<'a>(line: &Line<'a>) -> Result<Files<'a>, OptionError<'a>>
+    ensures ok { IfOk result (λ files. AsksFiles (line_value line.now) files) }
+    ensures err { IfErr result (λ e. RefusesOptions (line_value line.now) e) }
+{
+    Ok(Files {
         refs: line.value("--refs"),
         commits: line.value("--commits"),
         objects: line.value("--objects"),
+        questions: questions_of(line)?,
         shallow: line.value("--shallow"),
-    }
+    })
 }
 
 fn output_of<'a>(line: &Line<'a>) -> Output<'a>

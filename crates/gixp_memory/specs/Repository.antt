@@ -1,7 +1,9 @@
 -- A repository that is filled from what git writes of it.
 use Rattle.std.specs.Prelude.{◌+◌, ◌*◌, ◌-◌, ◌&&◌, nat_le, nat_lt, if◌then◌else◌, ℕ, ℤ, pos, List, [], ◌∷◌, length, drop, take, map, codes, Option, Some, None, option_map, option_and_then, refl}
 use Rattle.std.specs.Ordering.{nat_cmp, match_ordering}
+use Rattle.std.specs.Str.{bytes_eq}
 use Rattle.std.specs.Cmp.Lexicographic.{slice_cmp}
+use Rattle.std.specs.Io.BufRead.{strip_last}
 use Rattle.std.specs.Coded.{Coded, code_by, coded×, coded_ℕ, coded_list}
 use Rattle.std.specs.FinMap as finite
 use Rattle.gixp_hash.specs.declared.object_id.ObjectId.{ObjectId}
@@ -111,6 +113,27 @@ commit_line objects line = option_map (λ (e : ObjectId × Commit). with_commit 
 -- what a line of an id and a kind adds, as `git cat-file --batch-check` with the format `%(objectname) %(objecttype)` writes it
 abbrev pub kind_line : Objects → List ℕ → Option Objects
 kind_line objects line = option_map (λ (e : ObjectId × ObjectKind). with_kind objects e.0 e.1) (kind_of_words (line_words line))
+
+-- the kind of an object that an answer names, or none where the object is missing
+abbrev pub answered_kind : List ℕ → Option (Option ObjectKind)
+answered_kind word = if is_text word (codes "missing") then Some None else option_map (λ k. Some k) (named_kind word)
+
+-- an answer of `git cat-file --batch-check`: an id, and its kind, which its size may follow, or that it is missing
+abbrev pub answer_of_words : List (List ℕ) → Option (ObjectId × Option ObjectKind)
+answer_of_words (id ∷ kind ∷ []) = option_and_then (λ i. option_map (λ k. (i, k)) (answered_kind kind)) (named_id id)
+answer_of_words (id ∷ kind ∷ size ∷ []) = option_and_then (λ i. option_map (λ k. (i, Some k)) (named_kind kind)) (named_id id)
+answer_of_words _ = None
+
+-- an object of a kind, where there is one
+abbrev pub with_answer : Objects → ObjectId → Option ObjectKind → Objects
+with_answer objects id (Some kind) = with_kind objects id kind
+with_answer objects id None = objects
+
+-- what a line, with its end or without, tells of an id that was asked for; none where it is no answer to that
+abbrev pub answer_to : ObjectId → List ℕ → Option (Option ObjectKind)
+answer_to id line =
+    option_and_then (λ (a : ObjectId × Option ObjectKind). if bytes_eq a.0.bytes id.bytes then Some a.1 else None)
+    (answer_of_words (line_words (strip_last 10 line)))
 
 -- the name of a ref in front of `^{}`, by which the object that it leads to is shown (git-show-ref, `-d`)
 abbrev pub peeled_name : List ℕ → Option (List ℕ)

@@ -1,13 +1,15 @@
 //! The objects of a repository, filled from lists or from texts.
-ghost use Rattle.std.specs.Prelude.{◌≡◌, Some, None, IfOk, OnOk, OnErr, option_map, true, false};
+ghost use Rattle.std.specs.Prelude.{◌≡◌, Some, None, IfOk, IfSome, OnOk, OnErr, is_some, option_map, true, false};
 ghost use Rattle.std.specs.FinMap as finite;
 ghost use Rattle.gixp_graph.specs.Object.{commit_of};
 ghost use Rattle.gixp_memory.specs.Text.{FillsByText, line_words};
-ghost use Rattle.gixp_memory.specs.Repository.{with_commit, with_kind, commit_line, kind_line, commit_of_words, kind_of_words};
-ghost use Rattle.gixp_memory.specs.Repository.{entry_value};
+ghost use Rattle.gixp_memory.specs.Repository.{with_commit, with_kind, commit_line, kind_line, commit_of_words, kind_of_words, named_kind};
+ghost use Rattle.gixp_memory.specs.Repository.{entry_value, answered_kind, answer_of_words, answer_to, with_answer};
 
 use crate::objects::{StoredObject, copied};
-use crate::texts::{TextError, line_words, named_id, named_ids, named_kind, seconds, text_lines};
+use crate::texts::{
+    TextError, line_words, named_id, named_ids, named_kind, seconds, text_lines, without_line_end,
+};
 use gixp_graph::{CommitData, Find, ObjectError, ObjectKind};
 use gixp_hash::ObjectId;
 use std::alloc::{AllocError, Global};
@@ -171,6 +173,99 @@ impl StoredObjects {
             }
         }
         Ok(())
+    }
+
+    /// Adds what the answer of `git cat-file --batch-check` to an id tells, where it tells of an object. The line, with its LF
+    /// or without, is the id and after a blank its kind, which a blank and the size may follow, or `missing`. An object that is
+    /// there stays as it is. Returns whether the line is an answer to this id: nothing is added where it isn't.
+    ///
+    /// # Errors
+    ///
+    /// An allocation failure; nothing is added then.
+    pub fn add_answer(
+        &mut self,
+        alloc: Global,
+        id: &ObjectId,
+        line: &[u8],
+    ) -> Result<bool, AllocError>
+        ensures read { IfOk result (λ is_read. is_read ≡ true
+            → IfSome (answer_to id.now line.now) (λ kind. self.new ≡ with_answer self.old id.now kind)) }
+        ensures answer { IfOk result (λ is_read. is_read ≡ is_some (answer_to id.now line.now)) }
+        ensures unread { IfOk result (λ is_read. is_read ≡ false → self.new ≡ self.old) }
+        ensures err { OnErr result (self.new ≡ self.old) }
+    {
+        match answer_to(alloc, id, line)? {
+            Some(Some(kind)) => {
+                self.add(*id, kind)?;
+                Ok(true)
+            }
+            Some(None) => Ok(true),
+            None => Ok(false),
+        }
+    }
+}
+
+// The kind that an answer names, or none where the object is missing.
+fn answered_kind(word: &[u8]) -> Option<Option<ObjectKind>>
+    ensures { result ≡ answered_kind word.now }
+{
+    if word == b"missing".as_slice() {
+        return Some(None);
+    }
+    match named_kind(word) {
+        Some(kind) => Some(Some(kind)),
+        None => None,
+    }
+}
+
+// The id of an answer, and what it tells.
+fn answer_in(
+    alloc: Global,
+    line: &[u8],
+) -> Result<Option<(ObjectId, Option<ObjectKind>)>, AllocError>
+    ensures { IfOk result (λ found. found ≡ answer_of_words (line_words line.now)) }
+{
+    let Ok(words) = line_words(alloc, line) else {
+        return Err(AllocError);
+    };
+    let (id, kind) = match words.as_slice() {
+        [id, kind] => (id, answered_kind(kind.as_bytes())),
+        [id, kind, _size] => (id, sized_kind(kind.as_bytes())),
+        _ => return Ok(None),
+    };
+    let (Some(id), Some(kind)) = (named_id(id.as_bytes()), kind) else {
+        return Ok(None);
+    };
+    Ok(Some((id, kind)))
+}
+
+// The kind of an object whose size an answer tells.
+fn sized_kind(word: &[u8]) -> Option<Option<ObjectKind>>
+    ensures { result ≡ option_map (λ kind. Some kind) (named_kind word.now) }
+{
+    match named_kind(word) {
+        Some(kind) => Some(Some(kind)),
+        None => None,
+    }
+}
+
+// What the answer to an id tells; none where the line is no answer to it.
+fn answer_to(
+    alloc: Global,
+    id: &ObjectId,
+    line: &[u8],
+) -> Result<Option<Option<ObjectKind>>, AllocError>
+    ensures { IfOk result (λ found. found ≡ answer_to id.now line.now) }
+{
+    match answer_in(alloc, without_line_end(line))? {
+        Some((answered, kind)) => {
+            if answered.as_bytes() == id.as_bytes() {
+                Ok(Some(kind))
+            } else {
+                Ok(None)
+            }
+        }
+        None => Ok(None),
     }
 }
 

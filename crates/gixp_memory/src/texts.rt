@@ -43,7 +43,7 @@ impl<T: Drop> From<AllocFailed<T>> for TextError {
 }
 
 // The text without one ending LF.
-fn without_line_end(text: &[u8]) -> &[u8]
+pub(crate) fn without_line_end(text: &[u8]) -> &[u8]
     ensures { result.now ≡ strip_last 10 text.now }
 {
     match text {
