@@ -709,6 +709,14 @@ def over_daemon(name, t, server):
         daemon.wait()
 
 
+def has_loopback():
+    try:
+        with socket.create_server(("127.0.0.1", 0)) as listener, socket.create_connection(listener.getsockname(), 5):
+            return True
+    except OSError:
+        return False
+
+
 # What is tried
 
 
@@ -867,7 +875,10 @@ def main():
             t.case(f"6,000 haves in vain and 6,000 in common, version {version}", many_haves, version)
         try_bodies(t)
         t.case("connections", connections, lambda: make(t, "counted", 30, tags=True))
-        t.case("over git daemon", over_daemon, make(t, "served", 40, tags=True))
+        if has_loopback():
+            t.case("over git daemon", over_daemon, make(t, "served", 40, tags=True))
+        else:
+            print("there is no loopback, so git daemon isn't tried")
         t.case("over ssh", over_ssh, make(t, "served", 10))
         t.case("a server that freezes", frozen, None)
         t.case("list: commits one by one", lists_lazily)
