@@ -1,3 +1,4 @@
+mod AskLemmas
 mod LineLemmas
 mod OptionLemmas
 mod PackLemmas

@@ -1,10 +1,10 @@
 -- Questions which objects are here, and what their answers tell (git-cat-file, `--batch-check`).
 use Rattle.std.specs.Prelude.{◌≡◌, ◌||◌, ℕ, Bool, false, List, [], ◌∷◌, ◌++◌, flat_map, Option, Some, None, option_and_then}
-use Rattle.std.specs.Str.{bytes_eq}
+use Rattle.std.specs.Ordering.{is_eq}
 use Rattle.std.specs.List.{list_any}
 use Rattle.std.specs.Io.KnownBytes.{Consumes}
 use Rattle.std.specs.BTreeSet.{BTreeSet, contains}
-use Rattle.hex.specs.Hex.{encode_lower}
+use Rattle.gixp_hash.specs.Hex.{encode_lower}
 use Rattle.gixp_hash.specs.declared.object_id.ObjectId.{ObjectId}
 use Rattle.gixp_hash.specs.ObjectId.{id_cmp}
 use Rattle.gixp_graph.specs.declared.objects.ObjectKind.{ObjectKind}
@@ -16,7 +16,7 @@ use Rattle.gixp_refmap.specs.Mapping.{source_id, source_peeled}
 -- whether an object is of this id
 abbrev pub is_named : Option ObjectId → ObjectId → Bool
 is_named None id = false
-is_named (Some named) id = bytes_eq named.bytes id.bytes
+is_named (Some named) id = is_eq (id_cmp named id)
 
 -- whether a mapping names this id: its own, or that of the object behind its tag
 abbrev pub names_id : ObjectId → Mapping → Bool

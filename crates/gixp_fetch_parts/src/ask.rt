@@ -1,8 +1,12 @@
 //! Questions which objects are here, put to a program such as `git cat-file --batch-check`.
-ghost use Rattle.std.specs.Prelude.{◌≡◌, ◌∷◌, ◌++◌, [], IfOk, OnOk, OnErr};
+ghost use Rattle.std.specs.Prelude.{◌≡◌, ◌∷◌, ◌++◌, ◌||◌, [], IfOk, OnOk, OnErr};
+ghost use Rattle.std.specs.BTreeSet.{contains};
+ghost use Rattle.std.specs.Option.{option_copied};
 ghost use Rattle.std.specs.Io.KnownBytes.{Appends, Consumes};
 ghost use Rattle.gixp_fetch_parts.specs.declared.ask.AskError.TheVariants.{Memory};
-ghost use Rattle.gixp_fetch_parts.specs.Answered.{AddsIds, HasIds, question, questions, Answered, SomeAnswered};
+ghost use Rattle.gixp_hash.specs.declared.object_id.ObjectId.{ObjectId};
+ghost use Rattle.gixp_hash.specs.ObjectId.{id_cmp};
+ghost use Rattle.gixp_fetch_parts.specs.Answered.{is_named, AddsIds, HasIds, question, questions, Answered, SomeAnswered};
 
 use gixp_hash::ObjectId;
 use gixp_memory::StoredObjects;
@@ -45,17 +49,23 @@ impl<T: Drop> From<AllocFailed<T>> for AskError {
 // makes holds 8,192, so neither side waits in a write for the other to read.
 const MOST_QUESTIONS: usize = 100;
 
+// Adds an id, where there is one.
+fn add_id(ids: &mut BTreeSet<ObjectId>, named: Option<&ObjectId>) -> Result<(), AllocError>
+    ensures { OnOk result ((id : ObjectId) → contains id_cmp ids.new id
+        ≡ (contains id_cmp ids.old id || is_named (option_copied named.entry) id)) }
+{
+    if let Some(id) = named {
+        ids.insert(*id)?;
+    }
+    Ok(())
+}
+
 // Adds the ids that a mapping names.
 fn add_ids(ids: &mut BTreeSet<ObjectId>, mapping: &Mapping) -> Result<(), AllocError>
     ensures { OnOk result (AddsIds (mapping.now ∷ []) ids.old ids.new) }
 {
-    if let Some(id) = mapping.remote.as_id() {
-        ids.insert(*id)?;
-    }
-    if let Some(id) = mapping.remote.peeled_id() {
-        ids.insert(*id)?;
-    }
-    Ok(())
+    add_id(ids, mapping.remote.as_id())?;
+    add_id(ids, mapping.remote.peeled_id())
 }
 
 /// The ids that mappings name, their own and those of the objects behind their tags, each once.
