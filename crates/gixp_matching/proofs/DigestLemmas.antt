@@ -4,17 +4,19 @@ use Rattle.std.specs.List.{AllByRecursion, IsDistinct}
 use Rattle.std.specs.Borrow.{Bor}
 use Rattle.std.specs.Prelude.{◌&&◌}
 use Rattle.std.specs.Ordering.{nat_cmp, eq_by_cmp, ordering_then}
+use Rattle.std.specs.Str.{bytes_eq}
 use Rattle.std.proofs.lemmas.Bool.{and_parts, false≢true}
 use Rattle.std.proofs.lemmas.Slice.Eq.{bytes_eq-Decides}
 use Rattle.gixp_matching.specs.declared.match_group.key.KeyBytes.{KeyBytes}
 use Rattle.gixp_matching.specs.Apart.{parts}
-use Rattle.gixp_matching.specs.Digest.{digest, parts_digest, with_digest, number_parts, AreDigests}
-use Rattle.gixp_matching.specs.Mappings.{Source, Mapped, source_eq, local_eq, is_same}
+use Rattle.gixp_matching.specs.Digest.{digest, parts_digest, with_digest, number_parts}
+use Rattle.gixp_matching.specs.Mappings.{Source, Mapped, source_eq, local_eq, is_same, firsts}
+use Rattle.gixp_matching.proofs.DistinctLemmas.{parts_eq, distinct-map, no_repeats}
 use Rattle.gixp_matching.specs.MatchGroup.{key_bytes}
 use Rattle.gixp_matching.proofs.KeyLemmas.{Key, by_key, by_bytes, is_eq-key, is_eq-then, same_source_is, same_local_is}
 use Rattle.std.proofs.lemmas.Map.Text.{is_eq-slice_cmp}
 
-same_number : (a : ℕ) → eq_by_cmp nat_cmp a a ≡ true
+pub same_number : (a : ℕ) → eq_by_cmp nat_cmp a a ≡ true
 same_number a = search rules
 
 apart_by : {K : Type 0} (eq : K → K → Bool) (f : K → ℕ) → ((x y : K) → eq x y ≡ true → f x ≡ f y) → (k : K) (ks : List K)
@@ -33,10 +35,9 @@ unfolding IsDistinct
 apart eq f alike [] h = tt
 apart eq f alike (k ∷ ks) h = (apart_by eq f alike k ks h.0, apart eq f alike ks h.1)
 
--- keys whose numbers differ
-pub distinct_by : {K : Type 0} (eq : K → K → Bool) (keys : List K) (digests : List ℕ) → AreDigests eq keys digests
-    → IsDistinct (eq_by_cmp nat_cmp) digests → IsDistinct eq keys
-distinct_by eq keys digests are h = apart eq are.digest are.alike keys (subst (IsDistinct (eq_by_cmp nat_cmp)) are.each h)
+-- names whose numbers differ are different
+pub names_apart : (names : List (List ℕ)) → IsDistinct (eq_by_cmp nat_cmp) (map digest names) → IsDistinct bytes_eq names
+names_apart = apart bytes_eq digest (λ x y e. ap digest ((bytes_eq-Decides x y).0 e))
 
 -- ---- the numbers of what is compared
 
@@ -58,20 +59,19 @@ both_are_second false true h = h refl
 both_are_second false false h = refl
 
 -- the numbers of equal mappings are equal
+same_parts_number : (a b : Mapped) → is_same a b ≡ true → parts_digest (parts a) ≡ parts_digest (parts b)
+same_parts_number a b e =
+    let both = and_parts _ _ e in
+    ap (λ s. parts_digest (s, a.local)) (same_source_is a.source b.source both.0)
+    ∙ ap (λ l. parts_digest (b.source, l)) (same_local_is a.local b.local both.1)
+
+-- a number behind which equal ones stand tells no more than they do
 pub numbered_same : (a b : Mapped) → numbered_eq (with_digest (parts a)) (with_digest (parts b)) ≡ is_same a b
 numbered_same a b = both_are_second _ (is_same a b) (λ e.
-    let both = and_parts _ _ e in
-    let source = same_source_is a.source b.source both.0 in
-    let local = same_local_is a.local b.local both.1 in
-    ap (λ s. eq_by_cmp nat_cmp (parts_digest (s, a.local)) (parts_digest (parts b))) source
-    ∙ ap (λ l. eq_by_cmp nat_cmp (parts_digest (b.source, l)) (parts_digest (parts b))) local
-    ∙ same_number (parts_digest (parts b)))
+    ap (λ n. eq_by_cmp nat_cmp n (parts_digest (parts b))) (same_parts_number a b e) ∙ same_number (parts_digest (parts b)))
 
--- local names
-pub names_alike : (names : List KeyBytes) (digests : List ℕ) → digests ≡ map (λ name. digest (key_bytes name)) names
-    → AreDigests (eq_by_cmp by_bytes) names digests
-names_alike names digests h = record {
-  digest = λ name. digest (key_bytes name);
-  each = h;
-  alike = λ x y e. ap digest ((bytes_eq-Decides (key_bytes x) (key_bytes y)).0 (sym (is_eq-slice_cmp (key_bytes x) (key_bytes y)) ∙ e));
-}
+-- mappings whose numbers differ are first ones
+pub firsts_by_number : (ms : List Mapped) → IsDistinct (eq_by_cmp nat_cmp) (map (λ m. parts_digest (parts m)) ms) → firsts ms ≡ ms
+firsts_by_number ms h =
+    no_repeats ms (distinct-map is_same parts_eq parts (λ x y. refl) ms
+    (apart is_same (λ m. parts_digest (parts m)) same_parts_number ms h))

@@ -46,14 +46,14 @@ all_apart : {K P : Type 0} (e : K → K → Bool) (t : P → P → Bool) (f : K 
 all_apart e t f same k [] h = tt
 all_apart e t f same k (x ∷ xs) h = (sym (same k x) ∙ h.0, all_apart e t f same k xs h.1)
 
-distinct-map : {K P : Type 0} (e : K → K → Bool) (t : P → P → Bool) (f : K → P) → ((x y : K) → e x y ≡ t (f x) (f y)) → (ks : List K)
+pub distinct-map : {K P : Type 0} (e : K → K → Bool) (t : P → P → Bool) (f : K → P) → ((x y : K) → e x y ≡ t (f x) (f y)) → (ks : List K)
     → IsDistinct e ks → IsDistinct t (map f ks)
 unfolding IsDistinct
 distinct-map e t f same [] h = tt
 distinct-map e t f same (k ∷ ks) h = (all_apart e t f same k ks h.0, distinct-map e t f same ks h.1)
 
 -- equal sources and equal local names
-abbrev parts_eq : Source × Option (List ℕ) → Source × Option (List ℕ) → Bool
+abbrev pub parts_eq : Source × Option (List ℕ) → Source × Option (List ℕ) → Bool
 parts_eq a b = source_eq a.0 b.0 && local_eq a.1 b.1
 
 -- all are kept where none is the same
@@ -62,7 +62,7 @@ all_kept : (m : Mapped) (ms : List Mapped) → AllByRecursion (λ y. parts_eq (p
 all_kept m [] h = refl
 all_kept m (x ∷ xs) h = cond-true _ _ _ (ap not h.0) ∙ ap (λ r. x ∷ r) (all_kept m xs h.1)
 
-no_repeats : (ms : List Mapped) → IsDistinct parts_eq (map parts ms) → firsts ms ≡ ms
+pub no_repeats : (ms : List Mapped) → IsDistinct parts_eq (map parts ms) → firsts ms ≡ ms
 unfolding IsDistinct
 no_repeats [] h = refl
 no_repeats (m ∷ ms) h = ap (λ l. m ∷ filter (λ later. not (is_same m later)) l) (no_repeats ms h.1) ∙ ap (λ l. m ∷ l) (all_kept m ms h.0)

@@ -6,6 +6,8 @@ pub mod WalkLemmas
 pub mod FirstLemmas
 pub mod KeyLemmas
 pub mod GroupLemmas
+pub mod TogetherLemmas
+pub mod RisingLemmas
 pub mod LeavingLemmas
 pub mod SameValidationLemmas
 pub mod LawLemmas

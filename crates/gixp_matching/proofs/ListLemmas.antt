@@ -78,6 +78,11 @@ pub flat_map_of_map : {A B C : Type 0} (f : B → List C) (h : A → B) (xs : Li
 flat_map_of_map f h [] = refl
 flat_map_of_map f h (x ∷ xs) = ap (λ l. f (h x) ++ l) (flat_map_of_map f h xs)
 
+-- a function of what lists were made of
+pub map_of_flat_map : {A B C : Type 0} (g : B → C) (f : A → List B) (xs : List A) → flat_map (λ x. map g (f x)) xs ≡ map g (flat_map f xs)
+map_of_flat_map g f [] = refl
+map_of_flat_map g f (x ∷ xs) = ap (λ l. map g (f x) ++ l) (map_of_flat_map g f xs) ∙ sym (map-append g (f x) (flat_map f xs))
+
 -- lists made of one element more
 flat_map-append_one : {A B : Type 0} (f : A → List B) (xs : List A) (x : A) → flat_map f (xs ++ x ∷ []) ≡ flat_map f xs ++ f x
 flat_map-append_one f [] x = append-nil (f x)

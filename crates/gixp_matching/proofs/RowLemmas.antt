@@ -94,7 +94,7 @@ module _ {X : Type 0} where
 -- ---- the order of names
 
 -- neither is below the other
-neither : (o : Ordering) → (not (is_lt o) && not (is_lt (ordering_reverse o))) ≡ is_eq o
+pub neither : (o : Ordering) → (not (is_lt o) && not (is_lt (ordering_reverse o))) ≡ is_eq o
 neither Less = refl
 neither Equal = refl
 neither Greater = refl

@@ -1,26 +1,24 @@
--- A map from names to mappings, as the local names in byte order.
-use Rattle.std.proofs.Common.{◌≡◌, ℕ, true, false, List, [], ◌∷◌, ◌++◌, map, Option, Some, nat_cmp, ap, sym, ◌∙◌, refl, inl, inr}
+-- The groups of the names that several mappings have, in byte order of the names.
+use Rattle.std.proofs.Common.{◌≡◌, ℕ, ◌<◌, true, false, List, [], ◌∷◌, ◌++◌, length, map, nat_cmp, arith, ap, sym, ◌∙◌, refl, inl, inr}
 use Rattle.std.specs.declared.cmp.Ordering.TheVariants.{Less}
-use Rattle.std.specs.Prelude.{◌||◌, is_some}
-use Rattle.std.specs.Borrow.{Bor}
+use Rattle.std.specs.Prelude.{◌||◌, filter}
 use Rattle.std.specs.Cmp.Lexicographic.{slice_cmp}
-use Rattle.std.specs.List.{list_any, list_all, flat_map, AllByRecursion}
-use Rattle.std.specs.List.Sorted.{IsStrictlySortedBy}
-use Rattle.std.specs.Map.{keys_of, lookup}
-use Rattle.std.specs.BTreeMap.{is_at}
+use Rattle.std.specs.List.{All, AllByRecursion, list_any, list_all, flat_map}
 use Rattle.std.specs.Ordering.{is_lt, ordering_reverse}
 use Rattle.std.specs.Str.{bytes_eq}
-use Rattle.std.proofs.lemmas.Bool.{cases_Bool, and_parts, and_from, or_left, false≢true, cond-true, cond-false, false_from_ne_true}
+use Rattle.std.proofs.lemmas.Bool.{cases_Bool, and_parts, and_from, or_left, or_right, or_parts, false≢true, cond-false, false_from_ne_true}
 use Rattle.std.proofs.lemmas.Cmp.{nat_list_cmp_total}
-use Rattle.std.proofs.lemmas.Map.Text.{is_eq-slice_cmp}
+use Rattle.std.proofs.lemmas.List.Elements.{All-from_recursion, recursion_from_All}
 use Rattle.std.proofs.lemmas.Slice.Eq.{bytes_eq-Decides}
-use Rattle.gixp_matching.specs.Groups.{Grouped, mapped_behind, AreGroups}
+use Rattle.gixp_matching.specs.declared.match_group.validate.groups.Group.{Group}
+use Rattle.gixp_matching.specs.declared.match_group.validate.groups.Named.{Named}
+use Rattle.gixp_matching.specs.Groups.{mapped_behind, is_named, names_in, is_group_of, HasAll, AreGroups}
 use Rattle.gixp_matching.specs.Mappings.{Mapped}
+use Rattle.gixp_matching.specs.MatchGroup.{mapped_of}
 use Rattle.gixp_refspec.specs.Spec.{Spec}
-use Rattle.gixp_matching.specs.Validation.{is_below, of_local, has_local, local_names, conflict_over, conflicts}
+use Rattle.gixp_matching.specs.Validation.{is_below, of_local, has_local, differ, local_names, conflict_over, conflicts}
 use Rattle.gixp_matching.specs.RefspecLaws.{is_increasing}
-use Rattle.gixp_matching.proofs.GroupLemmas.{by_name, Group, shown}
-use Rattle.gixp_matching.proofs.KeyLemmas.{bytes_eq-turned}
+use Rattle.gixp_matching.proofs.DifferLemmas.{differ-first}
 use Rattle.gixp_matching.proofs.LawLemmas.{has-local_names, has}
 use Rattle.gixp_matching.proofs.SortedLemmas.{increasing-local_names, less_is, below_trans, other_below}
 
@@ -47,115 +45,118 @@ all_below x y (first ∷ rest) h all =
     let both = and_parts (is_below y first) (list_all (is_below y) rest) all in
     and_from _ _ (below_trans x y first h both.0) (all_below x y rest h both.1)
 
--- a first name that is below that of the other list is not in it
-apart : (x y : List ℕ) (xs ys : List (List ℕ)) → is_increasing (y ∷ ys) ≡ true
-    → ((name : List ℕ) → has name (x ∷ xs) ≡ has name (y ∷ ys)) → is_below x y ≡ true → ⊥
-apart x y xs ys up same below =
-    let all = (and_parts (list_all (is_below y) ys) (is_increasing ys) up).0 in
-    let none : has x (y ∷ ys) ≡ false = not_among x (y ∷ ys) (and_from _ _ below (all_below x y ys below all)) in
-    false≢true (sym none ∙ sym (same x) ∙ or_left _ _ ((bytes_eq-Decides x x).1 refl))
+-- a name that is another than one is among more names where it is among these
+among_more : (x name : List ℕ) (names : List (List ℕ)) → has name names ≡ true → has name (x ∷ names) ≡ true
+among_more x name names h = or_right (bytes_eq x name) (has name names) h
 
--- without a first name that both lists have
-rest_same : (x : List ℕ) (xs ys : List (List ℕ)) → list_all (is_below x) xs ≡ true → list_all (is_below x) ys ≡ true
-    → ((name : List ℕ) → has name (x ∷ xs) ≡ has name (x ∷ ys)) → (name : List ℕ) → has name xs ≡ has name ys
-rest_same x xs ys hx hy same name = elim (cases_Bool (bytes_eq x name)) [
-  | inl t ↦ (
-      let e : x ≡ name = (bytes_eq-Decides x name).0 t in
-      ap (λ n. has n xs) (sym e) ∙ not_among x xs hx ∙ sym (ap (λ n. has n ys) (sym e) ∙ not_among x ys hy))
-  | inr f ↦ sym (ap (λ b. b || has name xs) f) ∙ same name ∙ ap (λ b. b || has name ys) f
-]
+-- a name that one list has and the other doesn't differs from one that the other begins with
+differs_from : (x name : List ℕ) (xs ys : List (List ℕ)) → has x ys ≡ false → has name ys ≡ true → has name xs ≡ false
+    → has name (x ∷ xs) ≡ false
+differs_from x name xs ys absent there lacking =
+    let other : bytes_eq x name ≡ false =
+    false_from_ne_true _ (λ t. false≢true (sym absent ∙ ap (λ n. has n ys) ((bytes_eq-Decides x name).0 t) ∙ there)) in
+    ap (λ b. b || has name xs) other ∙ lacking
 
--- names that increase are determined by which they are
-unique : (xs ys : List (List ℕ)) → is_increasing xs ≡ true → is_increasing ys ≡ true → ((name : List ℕ) → has name xs ≡ has name ys)
-    → xs ≡ ys
-unique [] [] hx hy same = refl
-unique [] (y ∷ ys) hx hy same = absurd (false≢true (same y ∙ or_left _ _ ((bytes_eq-Decides y y).1 refl)))
-unique (x ∷ xs) [] hx hy same = absurd (false≢true (sym (same x) ∙ or_left _ _ ((bytes_eq-Decides x x).1 refl)))
-unique (x ∷ xs) (y ∷ ys) hx hy same =
-    let above_x = and_parts (list_all (is_below x) xs) (is_increasing xs) hx in
-    let above_y = and_parts (list_all (is_below y) ys) (is_increasing ys) hy in
+-- what is made of names in order doesn't depend on those of which nothing is made
+supported : {B : Type 0} (F : List ℕ → List B) (xs ys : List (List ℕ)) → is_increasing xs ≡ true → is_increasing ys ≡ true
+    → ((name : List ℕ) → has name xs ≡ false → has name ys ≡ true → F name ≡ [])
+    → ((name : List ℕ) → has name ys ≡ false → has name xs ≡ true → F name ≡ [])
+    → flat_map F xs ≡ flat_map F ys
+supported F [] [] up_x up_y not_x not_y = refl
+supported F [] (y ∷ ys) up_x up_y not_x not_y =
+    supported F [] ys up_x (and_parts (list_all (is_below y) ys) (is_increasing ys) up_y).1
+    (λ name h there. not_x name h (among_more y name ys there)) (λ name h there. absurd (false≢true there))
+    ∙ ap (λ l. l ++ flat_map F ys) (sym (not_x y refl (or_left _ _ ((bytes_eq-Decides y y).1 refl))))
+supported F (x ∷ xs) [] up_x up_y not_x not_y =
+    ap (λ l. l ++ flat_map F xs) (not_y x refl (or_left _ _ ((bytes_eq-Decides x x).1 refl)))
+    ∙ supported F xs [] (and_parts (list_all (is_below x) xs) (is_increasing xs) up_x).1 up_y
+    (λ name h there. absurd (false≢true there)) (λ name h there. not_y name h (among_more x name xs there))
+supported F (x ∷ xs) (y ∷ ys) up_x up_y not_x not_y =
+    let above_x = and_parts (list_all (is_below x) xs) (is_increasing xs) up_x in
+    let above_y = and_parts (list_all (is_below y) ys) (is_increasing ys) up_y in
     elim (cases_Bool (is_below x y)) [
-      | inl below ↦ absurd (apart x y xs ys hy same below)
+      | inl below ↦ (
+          let absent : has x (y ∷ ys) ≡ false = not_among x (y ∷ ys) (and_from _ _ below (all_below x y ys below above_y.0)) in
+          ap (λ l. l ++ flat_map F xs) (not_y x absent (or_left _ _ ((bytes_eq-Decides x x).1 refl)))
+          ∙ supported F xs (y ∷ ys) above_x.1 up_y
+          (λ name h there. not_x name (differs_from x name xs (y ∷ ys) absent there h) there)
+          (λ name h there. not_y name h (among_more x name xs there)))
       | inr above ↦ elim (cases_Bool (bytes_eq x y)) [
         | inl t ↦ (
             let e : x ≡ y = (bytes_eq-Decides x y).0 t in
-            let later : list_all (is_below x) ys ≡ true = ap (λ z. list_all (is_below z) ys) e ∙ above_y.0 in
-            let rest = unique xs ys above_x.1 above_y.1
-            (rest_same x xs ys above_x.0 later (λ name. same name ∙ ap (λ z. has name (z ∷ ys)) (sym e))) in
-            ap (λ z. z ∷ xs) e ∙ ap (λ z. y ∷ z) rest)
-        | inr other ↦ absurd (apart y x ys xs hx (λ name. sym (same name)) (other_below x y above other))
+            let absent_y : has x ys ≡ false = not_among x ys (ap (λ z. list_all (is_below z) ys) e ∙ above_y.0) in
+            let absent_x : has y xs ≡ false = not_among y xs (ap (λ z. list_all (is_below z) xs) (sym e) ∙ above_x.0) in
+            ap (λ z. F z ++ flat_map F xs) e
+            ∙ ap (λ l. F y ++ l) (supported F xs ys above_x.1 above_y.1
+            (λ name h there. not_x name (differs_from x name xs ys absent_y there h) (among_more y name ys there))
+            (λ name h there. not_y name (differs_from y name ys xs absent_x there h) (among_more x name xs there))))
+        | inr other ↦ (
+            let higher = other_below x y above other in
+            let absent : has y (x ∷ xs) ≡ false = not_among y (x ∷ xs) (and_from _ _ higher (all_below y x xs higher above_x.0)) in
+            supported F (x ∷ xs) ys up_x above_y.1
+            (λ name h there. not_x name h (among_more y name ys there))
+            (λ name h there. not_y name (differs_from y name ys (x ∷ xs) absent there h) there)
+            ∙ ap (λ l. l ++ flat_map F ys) (sym (not_x y absent (or_left _ _ ((bytes_eq-Decides y y).1 refl)))))
       ]
     ]
 
--- an entry of the map
-abbrev Entry : Type 0
-Entry = Bor (List ℕ) × Group
+-- fewer than two mappings have one source
+few_agree : (rows : List Named) → length rows < 2 → differ (mapped_behind rows) ≡ false
+few_agree [] h = refl
+few_agree (row ∷ []) h = sym (differ-first (mapped_of row.mapping.now) [])
+few_agree (row ∷ other ∷ rows) h = absurd (omega (arith, h))
 
--- the names of entries
-abbrev names_in : List Entry → List (List ℕ)
-names_in entries = map (λ entry. entry.0.now) entries
+-- nothing is made of mappings of one source
+no_conflict : (specs : List Spec) (name : List ℕ) (group : List Mapped) → differ group ≡ false → conflict_over specs name group ≡ []
+no_conflict specs name group h = cond-false _ _ _ h
 
--- what a look-up finds
-abbrev found_at : List ℕ → List Entry → Option Group
-found_at name entries = lookup (is_at (λ key. slice_cmp nat_cmp name key.now)) entries
+-- a name that no mapping has
+none_local : (name : List ℕ) (ms : List Mapped) → list_any (has_local name) ms ≡ false → of_local name ms ≡ []
+none_local name [] h = refl
+none_local name (m ∷ ms) h =
+    let both = or_parts (has_local name m) (list_any (has_local name) ms) h in
+    cond-false _ _ _ both.0 ∙ none_local name ms both.1
 
--- a look-up finds a name exactly where it is among the names
-found-names_in : (name : List ℕ) (entries : List Entry) → is_some (found_at name entries) ≡ has name (names_in entries)
-found-names_in name [] = refl
-found-names_in name (e ∷ es) =
-    let at : is_at (λ key. slice_cmp nat_cmp name key.now) e.0 ≡ bytes_eq e.0.now name = is_eq-slice_cmp name e.0.now
-    ∙ bytes_eq-turned name e.0.now in
-    elim (cases_Bool (bytes_eq e.0.now name)) [
-      | inl t ↦ ap is_some (cond-true _ _ _ (at ∙ t)) ∙ sym (ap (λ b. b || has name (names_in es)) t)
-      | inr f ↦ ap is_some (cond-false _ _ _ (at ∙ f)) ∙ found-names_in name es ∙ sym (ap (λ b. b || has name (names_in es)) f)
-    ]
+-- a group's name and its mappings
+abbrev pub group_value : Group → List ℕ × List Mapped
+group_value group = (group.name.now, mapped_behind group.rows.now)
 
--- the first name is below all later ones
-all_above : (key : Bor (List ℕ)) (entries : List Entry) → AllByRecursion (λ y. by_name key y ≡ Less) (keys_of entries)
-    → list_all (is_below key.now) (names_in entries) ≡ true
-all_above key [] h = refl
-all_above key (e ∷ es) h = and_from _ _ (ap is_lt h.0) (all_above key es h.1)
+-- no group has a name that isn't among theirs
+none_has : (name : List ℕ) (groups : List Group) → has name (names_in groups) ≡ false
+    → All (λ group. is_group_of name group ≡ false) groups
+none_has name groups h = All-from_recursion _ groups (each groups h) where
+  each : (gs : List Group) → has name (names_in gs) ≡ false → AllByRecursion (λ group. is_group_of name group ≡ false) gs
+  each [] e = tt
+  each (g ∷ gs) e = let both = or_parts (is_group_of name g) (has name (names_in gs)) e in (both.0, each gs both.1)
 
--- the names of a map's entries increase
-increasing-names_in : (entries : List Entry) → IsStrictlySortedBy by_name (keys_of entries) → is_increasing (names_in entries) ≡ true
-unfolding IsStrictlySortedBy
-increasing-names_in [] h = refl
-increasing-names_in (e ∷ es) h = and_from _ _ (all_above e.0 es h.0) (increasing-names_in es h.1)
+-- what is made of each group is made of its name and the mappings that have it
+made_of : {B : Type 0} (f : List ℕ × List Mapped → List B) (own : List ℕ → List Mapped) (groups : List Group)
+    → AllByRecursion (λ group. mapped_behind group.rows.now ≡ own group.name.now) groups
+    → flat_map f (map group_value groups) ≡ flat_map (λ name. f (name, own name)) (names_in groups)
+made_of f own [] h = refl
+made_of f own (g ∷ gs) h =
+    ap (λ l. f (g.name.now, l) ++ flat_map f (map group_value gs)) h.0
+    ∙ ap (λ l. f (g.name.now, own g.name.now) ++ l) (made_of f own gs h.1)
 
--- the names of the map are the local names
-names_are_local : (entries : List Entry) (ms : List Mapped) → IsStrictlySortedBy by_name (keys_of entries)
-    → ((name : List ℕ) → is_some (found_at name entries) ≡ list_any (has_local name) ms) → names_in entries ≡ local_names ms
-names_are_local entries ms sorted names =
-    unique (names_in entries) (local_names ms) (increasing-names_in entries sorted) (increasing-local_names ms)
-    (λ name. sym (found-names_in name entries) ∙ names name ∙ sym (has-local_names name ms))
+own_mappings : (rows : List Named) (ms : List Mapped)
+    → ((name : List ℕ) → mapped_behind (filter (is_named name) rows) ≡ of_local name ms) → (groups : List Group)
+    → AllByRecursion (HasAll rows) groups → AllByRecursion (λ group. mapped_behind group.rows.now ≡ of_local group.name.now ms) groups
+own_mappings rows ms same [] h = tt
+own_mappings rows ms same (g ∷ gs) h = (ap mapped_behind h.0 ∙ same g.name.now, own_mappings rows ms same gs h.1)
 
--- what is made of each name and its group
-made_of : {B : Type 0} (f : List ℕ → List Mapped → List B) (groups : List ℕ → List Mapped) (entries : List Entry)
-    → IsStrictlySortedBy by_name (keys_of entries)
-    → ((name : List ℕ) → is_some (found_at name entries) ≡ true → shown (found_at name entries) ≡ groups name)
-    → flat_map (λ e. f e.0.now (mapped_behind e.1.items)) entries ≡ flat_map (λ name. f name (groups name)) (names_in entries)
-unfolding IsStrictlySortedBy
-made_of f groups [] sorted h = refl
-made_of f groups (e ∷ es) sorted h =
-    let itself : is_at (λ key. slice_cmp nat_cmp e.0.now key.now) e.0 ≡ true = is_eq-slice_cmp e.0.now e.0.now
-    ∙ (bytes_eq-Decides e.0.now e.0.now).1 refl in
-    let first : found_at e.0.now (e ∷ es) ≡ Some e.1 = cond-true _ _ _ itself in
-    let here : mapped_behind e.1.items ≡ groups e.0.now = ap shown (sym first) ∙ h e.0.now (ap is_some first) in
-    let later = λ (name : List ℕ) (there : is_some (found_at name es) ≡ true).
-    let other : is_at (λ key. slice_cmp nat_cmp name key.now) e.0 ≡ false = false_from_ne_true _ (λ t.
-    let same : name ≡ e.0.now = (bytes_eq-Decides name e.0.now).0 (sym (is_eq-slice_cmp name e.0.now) ∙ t) in
-    false≢true (sym (not_among e.0.now (names_in es) (all_above e.0 es sorted.0)) ∙ ap (λ n. has n (names_in es)) (sym same)
-    ∙ sym (found-names_in name es) ∙ there)) in
-    let next : found_at name (e ∷ es) ≡ found_at name es = cond-false _ _ _ other in
-    ap shown (sym next) ∙ h name (ap is_some next ∙ there) in
-    ap (λ g. f e.0.now g ++ flat_map (λ p. f p.0.now (mapped_behind p.1.items)) es) here
-    ∙ ap (λ l. f e.0.now (groups e.0.now) ++ l) (made_of f groups es sorted.1 later)
-
--- the conflicts over the groups of a map are those of the mappings
-pub conflicts_from_groups : (specs : List Spec) (ms : List Mapped) (groups : Grouped) → AreGroups ms groups
-    → IsStrictlySortedBy by_name (keys_of groups.entries)
-    → flat_map (λ e. conflict_over specs e.0.now (mapped_behind e.1.items)) groups.entries ≡ conflicts specs ms
+-- the conflicts over the groups are those of the mappings
+pub conflicts_from_groups : (specs : List Spec) (ms : List Mapped) (rows : List Named) (groups : List Group)
+    → ((name : List ℕ) → mapped_behind (filter (is_named name) rows) ≡ of_local name ms) → AreGroups rows groups
+    → is_increasing (names_in groups) ≡ true
+    → flat_map (λ g. conflict_over specs g.0 g.1) (map group_value groups) ≡ conflicts specs ms
 unfolding conflicts
-conflicts_from_groups specs ms groups are sorted =
-    made_of (conflict_over specs) (λ name. of_local name ms) groups.entries sorted (λ name some. are.groups_are name)
-    ∙ ap (flat_map (λ name. conflict_over specs name (of_local name ms))) (names_are_local groups.entries ms sorted are.names_are)
+conflicts_from_groups specs ms rows groups same are up =
+    made_of (λ g. conflict_over specs g.0 g.1) (λ name. of_local name ms) groups
+    (own_mappings rows ms same groups (recursion_from_All _ groups are.each))
+    ∙ supported (λ name. conflict_over specs name (of_local name ms)) (names_in groups) (local_names ms)
+    up (increasing-local_names ms)
+    (λ name h there. ap (conflict_over specs name) (sym (same name))
+    ∙ no_conflict specs name (mapped_behind (filter (is_named name) rows))
+    (few_agree (filter (is_named name) rows) (are.others name (none_has name groups h))))
+    (λ name h there. no_conflict specs name (of_local name ms)
+    (ap differ (none_local name ms (sym (has-local_names name ms) ∙ h))))

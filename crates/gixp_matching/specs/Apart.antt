@@ -1,11 +1,18 @@
 -- Mappings that are all different in what is compared of them.
 use Rattle.std.specs.Prelude.{ℕ, List, Option, option_to_list}
+use Rattle.std.specs.Cmp.Lexicographic.{slice_cmp}
+use Rattle.std.specs.declared.cmp.Ordering.{Ordering}
 use Rattle.std.specs.List.{flat_map}
+use Rattle.std.specs.Ordering.{nat_cmp}
 use Rattle.std.specs.Option.{option_map}
 use Rattle.gixp_matching.specs.declared.match_group.key.KeyBytes.{KeyBytes}
 use Rattle.gixp_matching.specs.declared.match_group.key.KeySource.{KeySource}
 use Rattle.gixp_matching.specs.Mappings.{Source, Mapped}
 use Rattle.gixp_matching.specs.MatchGroup.{key_bytes, key_source}
+
+-- the order of bytes
+abbrev pub by_bytes : KeyBytes → KeyBytes → Ordering
+by_bytes a b = slice_cmp nat_cmp (key_bytes a) (key_bytes b)
 
 -- the source and the local name of a mapping
 abbrev pub parts : Mapped → Source × Option (List ℕ)

@@ -1,5 +1,5 @@
 -- Numbers that tell most names apart, each a function of what is compared.
-use Rattle.std.specs.Prelude.{ℕ, ◌≡◌, ◌+◌, ◌-◌, ◌*◌, ◌/◌, ◌%◌, ◌^◌, Bool, true, List, length, drop, map, Option, Some, None, bit_xor}
+use Rattle.std.specs.Prelude.{ℕ, ◌+◌, ◌-◌, ◌*◌, ◌/◌, ◌%◌, ◌^◌, List, length, drop, Option, Some, None, bit_xor}
 use Rattle.std.specs.Int.{w64, rotate_left, from_le_bytes}
 use Rattle.std.specs.List.{fold}
 use Rattle.std.specs.Simd.{first_chunks}
@@ -75,9 +75,3 @@ with_digest p = (parts_digest p, p)
 -- the number of a key, and what the key is of
 abbrev pub number_parts : ℕ × Bor (KeySource × Option KeyBytes) → ℕ × (Source × Option (List ℕ))
 number_parts row = (row.0, key_parts row.1.now)
-
--- numbers of these keys, equal ones of equal keys
-pub record AreDigests {K : Type 0} (eq : K → K → Bool) (keys : List K) (digests : List ℕ) : Type 0 where
-  pub digest : K → ℕ
-  pub each : digests ≡ map digest keys
-  pub alike : (x y : K) → eq x y ≡ true → digest x ≡ digest y

@@ -1,6 +1,7 @@
 -- What contracts cite.
 pub mod Sought
 pub mod Repeats
+pub mod Rising
 pub mod Rows
 pub mod Mappings
 pub mod Firsts

@@ -127,9 +127,18 @@ maps_all keeps law specs count refs (Err Memory) h prefixes all covers out = tt
 maps_all keeps law specs count refs (Err (UnknownObjectFormat f)) h prefixes all covers out = h
 maps_all keeps law specs count refs (Err (ListRefs e)) h prefixes all covers out = h
 
+-- what is found passes
+found_passes : {A : Type 0} (p : A → Bool) (xs : List A) (x : A) → find p xs ≡ Some x → p x ≡ true
+found_passes p [] x e = cc
+found_passes p (y ∷ ys) x e = elim (cases_Bool (p y)) [
+  | inl t ↦ (let s = rw t at e in let same : y ≡ x = cc in ap p (sym same) ∙ t)
+  | inr f ↦ found_passes p ys x (rw f at e)
+]
+
 -- what is good has a remote
 has_item : (specs : List Spec) (refs : List RefValue) (i : Option ℕ) (s : SourceValue) → ItemIsFirst specs refs i s → HasItem refs i s
-has_item specs refs (Some i) (FullName name) h = (h.0, h.1)
+has_item specs refs (Some i) (FullName name) h =
+    (h.0, h.1, (bytes_eq-Decides (value_name h.0) name).0 (found_passes (has_name name) refs h.0 h.2))
 has_item specs refs None (IdOf bytes) h = tt
 has_item specs refs (Some i) (IdOf bytes) h = h
 has_item specs refs None (FullName name) h = h

@@ -1,13 +1,12 @@
 //! Numbers that tell most keys apart. A server can choose names, but hardly names of one number: their bytes go through the
 //! rounds of SipHash-2-4, which aren't linear, so that no pieces make names of one number however they are put together.
-ghost use Rattle.std.specs.Prelude.{◌≡◌, IfOk, map};
+ghost use Rattle.std.specs.Prelude.{◌≡◌};
 ghost use Rattle.std.specs.List.{fold};
 ghost use Rattle.gixp_matching.specs.Apart.{key_parts};
 ghost use Rattle.gixp_matching.specs.Digest.{step, tail, turned, round, absorbed, with_word, with_bytes, start, number_of, digest, bytes_of, parts_digest};
 ghost use Rattle.gixp_matching.specs.MatchGroup.{key_bytes, key_source};
 
 use crate::match_group::key::{Key, KeyBytes, KeySource};
-use std::alloc::{AllocError, Global};
 
 /// What the bytes so far have made.
 #[derive(Clone, Copy)]
@@ -165,15 +164,4 @@ pub(crate) fn key_digest(key: &Key<'_>) -> u64
         None => number_of(state),
         Some(local) => number_of(absorb_bytes(state, local.bytes)),
     }
-}
-
-/// The number of each name.
-pub(crate) fn name_digests(alloc: Global, names: &[KeyBytes<'_>]) -> Result<Vec<u64>, AllocError>
-    ensures { IfOk result (λ digests. digests.items ≡ map (λ name. digest (key_bytes name)) names.now) }
-{
-    let mut digests = Vec::with_capacity(alloc, names.len())?;
-    'names: for name in names {
-        digests.push(name_digest(name))?;
-    }
-    Ok(digests)
 }

@@ -1,7 +1,7 @@
 //! Of equal mappings the first.
-ghost use Rattle.std.specs.Prelude.{◌≡◌, ◌∷◌, ◌++◌, IfOk, OnOk, [], map};
+ghost use Rattle.std.specs.Prelude.{◌≡◌, ◌∷◌, ◌++◌, IfOk, IsTrue, OnOk, [], map};
 ghost use Rattle.gixp_matching.specs.Apart.{parts, key_parts};
-ghost use Rattle.gixp_matching.specs.Digest.{number_parts, with_digest};
+ghost use Rattle.gixp_matching.specs.Digest.{number_parts, parts_digest, with_digest};
 ghost use Rattle.gixp_matching.specs.Mappings.{firsts};
 ghost use Rattle.gixp_matching.specs.Firsts.{flagged, TellsFirsts};
 ghost use Rattle.gixp_matching.specs.MatchGroup.{mapped_of, mapped_in};
@@ -11,11 +11,43 @@ use crate::match_group::Mapping;
 use crate::match_group::digest::key_digest;
 use crate::match_group::key::{Key, key_of};
 use crate::match_group::repeats::{are_all, first_flags};
-use crate::match_group::sorted::are_in_order;
+use crate::match_group::sorted::{are_distinct, rises};
 use std::alloc::{AllocError, Global};
 
 /// A source and a local name behind their number, so that mostly the numbers are compared.
 type Numbered<'k, 'a> = (u64, &'k Key<'a>);
+
+/// Whether the source and the local name of each mapping are above those of the one before, so that no two are equal.
+fn are_in_order(mappings: &[Mapping]) -> bool
+    ensures { IsTrue result → firsts (map mapped_of mappings.now) ≡ map mapped_of mappings.now }
+{
+    let mut last = None;
+    'mappings: for mapping in mappings {
+        if !rises(&mut last, key_of(mapping)) {
+            return false;
+        }
+    }
+    true
+}
+
+/// The number of the source and the local name of each mapping.
+fn key_digests(alloc: Global, mappings: &[Mapping]) -> Result<Vec<u64>, AllocError>
+    ensures { IfOk result (λ digests. digests.items ≡ map (λ m. parts_digest (parts m)) (map mapped_of mappings.now)) }
+{
+    let mut digests = Vec::with_capacity(alloc, mappings.len())?;
+    'mappings: for mapping in mappings {
+        digests.push(key_digest(&key_of(mapping)))?;
+    }
+    Ok(digests)
+}
+
+/// Whether the numbers of the mappings tell that no two have the same source and local name.
+fn are_apart(alloc: Global, mappings: &[Mapping]) -> Result<bool, AllocError>
+    ensures { IfOk result (λ d. IsTrue d → firsts (map mapped_of mappings.now) ≡ map mapped_of mappings.now) }
+{
+    let digests = key_digests(alloc, mappings)?;
+    Ok(are_distinct(digests))
+}
 
 /// Appends the source and the local name of a mapping.
 fn push_key<'a>(mapping: &'a Mapping, keys: &mut Vec<Key<'a>>) -> Result<(), AllocError>
@@ -64,14 +96,18 @@ fn rows_of<'k, 'a>(
     Ok(rows)
 }
 
-/// For each mapping, whether it is the first of its source and local name. None where the order of these tells that each is.
+/// For each mapping, whether it is the first of its source and local name. None where the order of these, or their
+/// numbers, tell that each is, for which no list of keys is made.
 fn flags_of(alloc: Global, mappings: &[Mapping]) -> Result<Option<Vec<bool>>, AllocError>
     ensures { IfOk result (TellsFirsts (map mapped_of mappings.now)) }
 {
-    let keys = keys_of(alloc, mappings)?;
-    if are_in_order(&keys) {
+    if are_in_order(mappings) {
         return Ok(None);
     }
+    if are_apart(alloc, mappings)? {
+        return Ok(None);
+    }
+    let keys = keys_of(alloc, mappings)?;
     let rows = rows_of(alloc, &keys)?;
     let flags = first_flags(alloc, rows)?;
     Ok(Some(flags))

@@ -1,11 +1,32 @@
-//! Whether keys are all different, which a sort of their numbers tells.
-ghost use Rattle.std.specs.Prelude.{◌≡◌, IsTrue, IfOk, length};
+//! Whether keys are all different, which their order tells, or a sort.
+ghost use Rattle.std.specs.Prelude.{◌≡◌, ◌∷◌, ◌++◌, [], List, IsTrue, length};
 ghost use Rattle.std.specs.List.{AllAdjacentBelow, IsDistinct};
 ghost use Rattle.std.specs.Ordering.{eq_by_cmp};
-ghost use Rattle.gixp_matching.specs.Digest.{AreDigests};
+ghost use Rattle.gixp_matching.specs.Rising.{IsAbove, RisesTo};
 
-use std::alloc::AllocError;
 use std::cmp::Ordering;
+
+/// Whether a key is above the last one, where there is one.
+fn is_above<K: Ord>(key: &K, last: &Option<K>) -> bool
+    ensures { IsTrue result → IsAbove K.cmp last.now key.now }
+{
+    match last {
+        None => true,
+        Some(before) => before.cmp(key).is_lt(),
+    }
+}
+
+/// Takes a key as the last of several, and tells whether it is above the one before. Servers send refs in order, so that
+/// mostly each key is, and then no two are equal.
+pub(crate) fn rises<K: Ord>(last: &mut Option<K>, key: K) -> bool
+where
+    K: Drop,
+    ensures { IsTrue result → (keys : List K) → RisesTo K.cmp keys last.old → RisesTo K.cmp (keys ++ key ∷ []) last.new }
+{
+    let is_next = is_above(&key, last);
+    *last = Some(key);
+    is_next
+}
 
 /// Whether each key is below the next.
 fn is_rising<K: Ord>(keys: &[K]) -> bool
@@ -19,39 +40,13 @@ fn is_rising<K: Ord>(keys: &[K]) -> bool
     true
 }
 
-/// Whether each key is below the next, once they are in order.
-fn are_rising_sorted<K: Ord>(keys: Vec<K>) -> Result<bool, AllocError>
+/// Whether no two keys are equal.
+pub(crate) fn are_distinct<K: Ord>(keys: Vec<K>) -> bool
 where
     K: Drop,
-    ensures { IfOk result (λ d. IsTrue d → IsDistinct (eq_by_cmp K.cmp) keys.items) }
+    ensures { IsTrue result → IsDistinct (eq_by_cmp K.cmp) keys.items }
 {
     let mut keys = keys;
-    keys.sort()?;
-    Ok(is_rising(&keys))
-}
-
-/// Whether no two numbers of keys are equal.
-fn digests_differ<K: Ord>(digests: Vec<u64>, keys: &[K]) -> Result<bool, AllocError>
-    requires { AreDigests (eq_by_cmp K.cmp) keys.now digests.items }
-    ensures { IfOk result (λ d. IsTrue d → IsDistinct (eq_by_cmp K.cmp) keys.now) }
-{
-    let _ = keys;
-    are_rising_sorted(digests)
-}
-
-/// Whether each key is below the next, so that no two are equal. Servers send refs in order, so mostly this tells enough.
-pub(crate) fn are_in_order<K: Ord>(keys: &[K]) -> bool
-    ensures { IsTrue result → IsDistinct (eq_by_cmp K.cmp) keys.now }
-{
-    is_rising(keys)
-}
-
-/// Whether no two keys are equal, as far as their numbers tell, which are put in order more quickly than the keys.
-pub(crate) fn are_distinct<K: Ord>(keys: Vec<K>, digests: Vec<u64>) -> Result<bool, AllocError>
-where
-    K: Drop,
-    requires { AreDigests (eq_by_cmp K.cmp) keys.items digests.items }
-    ensures { IfOk result (λ d. IsTrue d → IsDistinct (eq_by_cmp K.cmp) keys.items) }
-{
-    digests_differ(digests, &keys)
+    keys.sort_unstable();
+    is_rising(&keys)
 }

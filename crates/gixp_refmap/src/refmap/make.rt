@@ -2,14 +2,17 @@
 ghost use Rattle.std.specs.Prelude.{◌≡◌, ◌++◌, IfOk, OnOk, IsSome, None, [], length, map};
 ghost use Rattle.std.specs.Option.{option_to_list};
 ghost use Rattle.std.specs.List.{AllByRecursion, AllZip, slice_get};
-ghost use Rattle.gixp_refs.specs.Ref.{RefValue, ref_value};
+ghost use Rattle.bstr.specs.Owned.{bstring_bytes};
+ghost use Rattle.gixp_refs.specs.Ref.{ref_value};
 ghost use Rattle.gixp_refspec.specs.RefSpec.{value_of, owned_value_of};
+ghost use Rattle.gixp_matching.specs.Mappings.{FullName};
 ghost use Rattle.gixp_matching.specs.MatchGroup.{mapped_of, mapped_in, name_of, names, source_of};
 ghost use Rattle.gixp_refmap.specs.Mapping.{value_name, value_names, joined_specs, spec_at, spec_place, IsRemote, IsMapping, Maps, HoldsOfAll};
-ghost use Rattle.gixp_refmap.specs.RefMapItems.{HasItem, HasRemote, item_value, item_values, item_of};
+ghost use Rattle.gixp_refmap.specs.RefMapItems.{HasItem, HasRemote, item_value, item_values, item_of, renamed};
 
 use crate::refmap::init::Error;
-use crate::refmap::mapping::{Mapping, Source, SpecIndex, copy_of};
+use crate::refmap::mapping::{Mapping, Source, SpecIndex};
+use bstr::BString;
 use gixp_hash::ObjectId;
 use gixp_matching::laws;
 use gixp_matching::match_group::validate::Fix;
@@ -64,19 +67,51 @@ fn items<'a>(
     ensures names { IfOk result (λ items. names items.items ≡ value_names (map ref_value refs.now)) }
     ensures values { IfOk result (λ items. item_values items.items ≡ map (item_of null.now) refs.now) }
 {
-    let mut items = Vec::new(alloc);
+    let mut items = Vec::with_capacity(alloc, refs.len())?;
     'refs: for found in refs {
         items.push(item(found, null))?;
     }
     Ok(items)
 }
 
-// The ref at a place.
-fn remote_ref(refs: &[Ref], index: usize) -> Result<Source, AllocError>
-    requires { (r : RefValue) × (slice_get (map ref_value refs.now) index ≡ Some r) }
+// A copy of a ref that takes a name.
+fn renamed(found: &Ref, name: BString) -> Result<Ref, AllocError>
+    ensures { IfOk result (λ copy. ref_value copy ≡ renamed (bstring_bytes name) (ref_value found.now)) }
+{
+    Ok(match found {
+        Ref::Peeled { tag, object, .. } => Ref::Peeled {
+            full_ref_name: name,
+            tag: *tag,
+            object: *object,
+        },
+        Ref::Direct { object, .. } => Ref::Direct {
+            full_ref_name: name,
+            object: *object,
+        },
+        Ref::Symbolic {
+            target,
+            tag,
+            object,
+            ..
+        } => Ref::Symbolic {
+            full_ref_name: name,
+            target: target.clone()?,
+            tag: *tag,
+            object: *object,
+        },
+        Ref::Unborn { target, .. } => Ref::Unborn {
+            full_ref_name: name,
+            target: target.clone()?,
+        },
+    })
+}
+
+// A copy of the ref at a place, which takes its name from the match, so that the name isn't copied again.
+fn remote_ref(refs: &[Ref], index: usize, name: BString) -> Result<Source, AllocError>
+    requires { HasItem (map ref_value refs.now) (Some index) (FullName (bstring_bytes name)) }
     ensures { IfOk result (λ found. (r : Ref) × (found ≡ Source.Ref r) × (slice_get (map ref_value refs.now) index ≡ Some (ref_value r))) }
 {
-    match copy_of(&refs[index]) {
+    match renamed(&refs[index], name) {
         Ok(found) => Ok(Source::Ref(found)),
         Err(e) => Err(e),
     }
@@ -89,7 +124,7 @@ fn remote(refs: &[Ref], item_index: Option<usize>, lhs: SourceRef) -> Result<Sou
 {
     match item_index {
         Some(index) => match lhs {
-            SourceRef::FullName(_) => remote_ref(refs, index),
+            SourceRef::FullName(name) => remote_ref(refs, index, name),
             SourceRef::ObjectId(_) => unreachable!(),
         },
         None => match lhs {

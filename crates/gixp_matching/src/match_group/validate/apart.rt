@@ -1,45 +1,70 @@
 //! Whether mappings have different local names.
-ghost use Rattle.std.specs.Prelude.{◌≡◌, ◌++◌, IsTrue, IfOk, OnOk, map, option_to_list};
+ghost use Rattle.std.specs.Prelude.{List, ◌≡◌, ◌++◌, IsTrue, IfOk, OnOk, map, option_to_list};
 ghost use Rattle.std.specs.List.{IsDistinct};
 ghost use Rattle.std.specs.Str.{bytes_eq};
-ghost use Rattle.gixp_matching.specs.Apart.{locals};
+ghost use Rattle.gixp_matching.specs.Apart.{by_bytes, locals};
+ghost use Rattle.gixp_matching.specs.Digest.{digest};
 ghost use Rattle.gixp_matching.specs.MatchGroup.{mapped_of, key_bytes};
+ghost use Rattle.gixp_matching.specs.Rising.{RisesTo};
 
 use crate::match_group::Mapping;
-use crate::match_group::digest::name_digests;
+use crate::match_group::digest::name_digest;
 use crate::match_group::key::{KeyBytes, name_key};
-use crate::match_group::sorted::{are_distinct, are_in_order};
+use crate::match_group::sorted::{are_distinct, rises};
 use std::alloc::{AllocError, Global};
 
-/// Appends the local name of a mapping, where it has one.
-fn push_local<'a>(mapping: &'a Mapping, names: &mut Vec<KeyBytes<'a>>) -> Result<(), AllocError>
-    ensures { OnOk result (map key_bytes names.new.items ≡ map key_bytes names.old.items ++ option_to_list (mapped_of mapping.now).local) }
+/// Takes the local name of a mapping, where it has one, as the last one, and tells whether it is above the one before.
+fn local_rises<'a>(last: &mut Option<KeyBytes<'a>>, mapping: &'a Mapping) -> bool
+    ensures { IsTrue result → (keys : List KeyBytes) → RisesTo by_bytes keys last.old → (more : List KeyBytes)
+        × (map key_bytes more ≡ option_to_list (mapped_of mapping.now).local) × RisesTo by_bytes (keys ++ more) last.new }
+{
+    match &mapping.rhs {
+        None => true,
+        Some(name) => rises(last, name_key(name)),
+    }
+}
+
+/// Whether each local name is above the one before, so that no two are equal.
+fn are_in_order(mappings: &[Mapping]) -> bool
+    ensures { IsTrue result → IsDistinct bytes_eq (locals (map mapped_of mappings.now)) }
+{
+    let mut last = None;
+    'mappings: for mapping in mappings {
+        if !local_rises(&mut last, mapping) {
+            return false;
+        }
+    }
+    true
+}
+
+/// Appends the number of the local name of a mapping, where it has one.
+fn push_digest(mapping: &Mapping, digests: &mut Vec<u64>) -> Result<(), AllocError>
+    ensures { OnOk result (digests.new.items ≡ digests.old.items ++ map digest (option_to_list (mapped_of mapping.now).local)) }
 {
     if let Some(name) = &mapping.rhs {
-        names.push(name_key(name))?;
+        digests.push(name_digest(&name_key(name)))?;
     }
     Ok(())
 }
 
-/// The local names of the mappings.
-fn locals(alloc: Global, mappings: &[Mapping]) -> Result<Vec<KeyBytes<'_>>, AllocError>
-    ensures { IfOk result (λ names. map key_bytes names.items ≡ locals (map mapped_of mappings.now)) }
+/// The numbers of the local names.
+fn local_digests(alloc: Global, mappings: &[Mapping]) -> Result<Vec<u64>, AllocError>
+    ensures { IfOk result (λ digests. digests.items ≡ map digest (locals (map mapped_of mappings.now))) }
 {
-    let mut names = Vec::with_capacity(alloc, mappings.len())?;
+    let mut digests = Vec::with_capacity(alloc, mappings.len())?;
     'mappings: for mapping in mappings {
-        push_local(mapping, &mut names)?;
+        push_digest(mapping, &mut digests)?;
     }
-    Ok(names)
+    Ok(digests)
 }
 
-/// Whether no two mappings have one local name.
+/// Whether no two mappings have one local name, as far as the order of the names or their numbers tell.
 pub(crate) fn are_apart(alloc: Global, mappings: &[Mapping]) -> Result<bool, AllocError>
     ensures { IfOk result (λ d. IsTrue d → IsDistinct bytes_eq (locals (map mapped_of mappings.now))) }
 {
-    let names = locals(alloc, mappings)?;
-    if are_in_order(&names) {
+    if are_in_order(mappings) {
         return Ok(true);
     }
-    let digests = name_digests(alloc, &names)?;
-    are_distinct(names, digests)
+    let digests = local_digests(alloc, mappings)?;
+    Ok(are_distinct(digests))
 }

@@ -11,26 +11,26 @@ ghost use Rattle.gixp_matching.specs.Validation.{differ, spec_text, the_conflict
 use crate::match_group::validate::Issue;
 use crate::match_group::validate::apart::are_apart;
 use crate::match_group::validate::fixes::spec_text;
-use crate::match_group::validate::groups::groups_of;
+use crate::match_group::validate::groups::{Named, groups_of, table_of};
 use crate::match_group::{Mapping, SourceRef};
 use bstr::BString;
 use gixp_refspec::spec::RefSpecRef;
 use std::alloc::{AllocError, Global};
 
 /// Whether some mapping has another source than the first.
-fn any_other(first: &Mapping, rest: &[&Mapping]) -> bool
-    ensures { result ≡ list_any (λ other. not (source_eq (mapped_of first.now).source (mapped_of other.now).source)) rest.now }
+fn any_other(first: &Mapping, rest: &[Named<'_>]) -> bool
+    ensures { result ≡ list_any (λ other. not (source_eq (mapped_of first.now).source (mapped_of other.mapping.now).source)) rest.now }
 {
-    rest.iter().any(|other| first.lhs != other.lhs)
+    rest.iter().any(|other| first.lhs != other.mapping.lhs)
 }
 
 /// Whether two of the mappings have different sources, so that one differs from the first.
-fn differ(group: &[&Mapping]) -> bool
+fn differ(group: &[Named<'_>]) -> bool
     ensures { result ≡ differ (mapped_behind group.now) }
 {
     match group.split_first() {
         None => false,
-        Some((first, rest)) => any_other(first, rest),
+        Some((first, rest)) => any_other(first.mapping, rest),
     }
 }
 
@@ -51,13 +51,13 @@ fn push_spec_text(
 fn spec_texts(
     alloc: Global,
     specs: &[RefSpecRef<'_>],
-    group: &[&Mapping],
+    group: &[Named<'_>],
 ) -> Result<Vec<BString>, AllocError>
     ensures { IfOk result (λ v. texts v ≡ map (spec_text (values specs.now)) (mapped_behind group.now)) }
 {
-    let mut found = Vec::new(alloc);
-    'group: for mapping in group {
-        push_spec_text(alloc, specs, mapping, &mut found)?;
+    let mut found = Vec::with_capacity(alloc, group.len())?;
+    'group: for row in group {
+        push_spec_text(alloc, specs, row.mapping, &mut found)?;
     }
     Ok(found)
 }
@@ -71,12 +71,12 @@ fn push_source(mapping: &Mapping, sources: &mut Vec<SourceRef>) -> Result<(), Al
 }
 
 /// The sources of the mappings.
-fn sources(alloc: Global, group: &[&Mapping]) -> Result<Vec<SourceRef>, AllocError>
+fn sources(alloc: Global, group: &[Named<'_>]) -> Result<Vec<SourceRef>, AllocError>
     ensures { IfOk result (λ v. sources_in v ≡ map (λ m. m.source) (mapped_behind group.now)) }
 {
-    let mut sources = Vec::new(alloc);
-    'group: for mapping in group {
-        push_source(mapping, &mut sources)?;
+    let mut sources = Vec::with_capacity(alloc, group.len())?;
+    'group: for row in group {
+        push_source(row.mapping, &mut sources)?;
     }
     Ok(sources)
 }
@@ -86,7 +86,7 @@ fn conflict(
     alloc: Global,
     specs: &[RefSpecRef<'_>],
     name: &[u8],
-    group: &[&Mapping],
+    group: &[Named<'_>],
 ) -> Result<Issue, AllocError>
     ensures { IfOk result (λ issue. conflict_of issue ≡ the_conflict (values specs.now) name.now (mapped_behind group.now)) }
 {
@@ -105,7 +105,7 @@ fn push_conflict(
     alloc: Global,
     specs: &[RefSpecRef<'_>],
     name: &[u8],
-    group: &[&Mapping],
+    group: &[Named<'_>],
     issues: &mut Vec<Issue>,
 ) -> Result<(), AllocError>
     ensures { OnOk result (conflicts_in issues.new ≡ conflicts_in issues.old
@@ -117,7 +117,7 @@ fn push_conflict(
     Ok(())
 }
 
-/// The conflicts, in byte order of the local names, by the mappings of each name.
+/// The conflicts, in byte order of the local names, by the mappings of each name that has several.
 fn conflicts_by_name(
     alloc: Global,
     specs: &[RefSpecRef<'_>],
@@ -125,16 +125,17 @@ fn conflicts_by_name(
 ) -> Result<Vec<Issue>, AllocError>
     ensures { IfOk result (λ v. conflicts_in v ≡ conflicts (values specs.now) (map mapped_of mappings.now)) }
 {
-    let groups = groups_of(alloc, mappings)?;
-    let mut issues = Vec::new(alloc);
-    'names: for (name, group) in groups.iter() {
-        push_conflict(alloc, specs, name, group, &mut issues)?;
+    let rows = table_of(alloc, mappings)?;
+    let groups = groups_of(alloc, &rows)?;
+    let mut issues = Vec::with_capacity(alloc, groups.len())?;
+    'groups: for group in &groups {
+        push_conflict(alloc, specs, group.name, group.rows, &mut issues)?;
     }
     Ok(issues)
 }
 
 /// The conflicts, in byte order of the local names. Mostly all local names are different, which is seen faster than
-/// the mappings of each name are put in order.
+/// the mappings of each name are found.
 pub(crate) fn conflicts_of(
     alloc: Global,
     specs: &[RefSpecRef<'_>],

@@ -1,4 +1,4 @@
--- Keys in order are those of first ones, and of others a sort tells which are.
+-- A sort tells which mappings are first ones.
 use Rattle.std.proofs.Common.{◌∙◌, ap, sym, map, refl, subst}
 use Rattle.std.specs.List.{IsDistinct}
 use Rattle.gixp_matching.specs.Apart.{key_parts, parts}
@@ -6,14 +6,9 @@ use Rattle.gixp_matching.specs.Digest.{with_digest, number_parts}
 use Rattle.gixp_matching.specs.MatchGroup.{mapped_of}
 use Rattle.gixp_matching.specs.Repeats.{placed_from}
 use Rattle.gixp_matching.proofs.DigestLemmas.{numbered_eq, by_number, numbered_tied, numbered_same}
-use Rattle.gixp_matching.proofs.DistinctLemmas.{firsts_are_all}
 use Rattle.gixp_matching.proofs.ListLemmas.{map_of_map}
 use Rattle.gixp_matching.proofs.PlacedLemmas.{rows_apart, flags_are_first}
 use Rattle.gixp_matching.proofs.match_group.distinct.flags_of.Goals as goal
-
-pub returns-then-are_in_order : goal.returns-then-are_in_order
-returns-then-are_in_order c = firsts_are_all c.in_ok-keys.keys.items (map mapped_of c.args.mappings.now) c.in_ok-keys.ensures
-    (subst (IsDistinct _) c.deref.ensures.value (c.if-are_in_order.ensures refl))
 
 pub first_flags-requires : goal.first_flags-requires
 first_flags-requires c = rows_apart number_parts c.in_ok-rows.rows.items _ c.in_ok-rows.ensures
@@ -24,6 +19,6 @@ returns c =
     c.in_ok-flags.ensures
     ∙ flags_are_first by_number numbered_eq number_parts (λ m. with_digest (parts m)) numbered_tied numbered_same
     c.in_ok-rows.rows.items ms
-    (c.in_ok-rows.ensures ∙ ap (placed_from 0) (ap (map (λ key. with_digest (key_parts key))) c.deref-2.ensures.value
+    (c.in_ok-rows.ensures ∙ ap (placed_from 0) (ap (map (λ key. with_digest (key_parts key))) c.deref.ensures.value
     ∙ sym (map_of_map with_digest key_parts c.in_ok-keys.keys.items) ∙ ap (map with_digest) c.in_ok-keys.ensures
     ∙ map_of_map with_digest parts ms))

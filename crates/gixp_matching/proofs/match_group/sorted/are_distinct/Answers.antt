@@ -1,14 +1,10 @@
--- Keys whose numbers are all different are so themselves.
-use Rattle.std.proofs.Common.{sym, subst, IfOk, IsTrue}
-use Rattle.std.specs.List.{IsDistinct}
-use Rattle.std.specs.Ordering.{eq_by_cmp}
-use Rattle.gixp_matching.specs.Digest.{AreDigests}
+-- Keys that rise once they are sorted are all different.
+use Rattle.std.proofs.Common.{◌≡◌, Less, length, subst}
+use Rattle.std.specs.List.{AllAdjacentBelow}
+use Rattle.gixp_matching.proofs.DistinctLemmas.{distinct_sorted}
 use Rattle.gixp_matching.proofs.match_group.sorted.are_distinct.Goals as goal
 
-pub digests_differ-requires : goal.digests_differ-requires
-digests_differ-requires g c = subst (λ l. AreDigests (eq_by_cmp g.K.Ord.cmp) l c.args.digests.items) (sym c.deref.ensures.value) c.requires
-
 pub returns : goal.returns
-returns g c =
-    subst (λ l. IfOk c.digests_differ.result (λ d. IsTrue d → IsDistinct (eq_by_cmp g.K.Ord.cmp) l)) c.deref.ensures.value
-    c.digests_differ.ensures
+returns g c = λ t.
+    distinct_sorted g.met.K.Ord.total c.args.keys.items c.sort_unstable.new.self.items c.sort_unstable.ensures.permutation
+    (subst (λ l. AllAdjacentBelow (λ x y. g.K.Ord.cmp x y ≡ Less) l (length l)) c.deref.ensures.value (c.is_rising.ensures t))

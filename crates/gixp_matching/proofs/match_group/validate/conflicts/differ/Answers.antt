@@ -9,6 +9,6 @@ use Rattle.gixp_matching.proofs.match_group.validate.conflicts.differ.Goals as g
 
 pub returns-in-Some : goal.returns-in-Some
 returns-in-Some c =
-    c.any_other.ensures ∙ sym (any_of_map _ (λ m. mapped_of m.now) c.in-Some.rest.now)
-    ∙ differ-first (mapped_of c.in-Some.first.now.now) (mapped_behind c.in-Some.rest.now)
+    c.any_other.ensures ∙ sym (any_of_map _ (λ row. mapped_of row.mapping.now) c.in-Some.rest.now)
+    ∙ differ-first (mapped_of c.in-Some.first.now.mapping.now) (mapped_behind c.in-Some.rest.now)
     ∙ ap (λ group. differ (mapped_behind group)) (sym c.in-Some.ensures.cases.0)

@@ -5,4 +5,4 @@ use Rattle.gixp_matching.specs.Validate.{sources_in}
 use Rattle.gixp_matching.proofs.match_group.validate.conflicts.sources.Given as goal
 
 abbrev pub invariant-group : goal.invariant-group
-invariant-group l = sources_in l.sources ≡ map (λ m. m.source) (take l.mapping-index (mapped_behind l.group))
+invariant-group l = sources_in l.sources ≡ map (λ m. m.source) (take l.row-index (mapped_behind l.group))

@@ -7,6 +7,6 @@ use Rattle.gixp_matching.proofs.match_group.validate.conflicts.spec_texts.Goals 
 
 pub group-preserved : goal.group-preserved
 group-preserved c =
-    mapped_more (λ m. mapped_of m.now) (spec_text (values c.args.specs.now)) (texts c.group.found) (texts c.push_spec_text.new.found)
-    c.args.group.now c.group.mapping-index c.mapping-item.result c.mapping-item.is c.group-test.true c.group.invariant
+    mapped_more (λ row. mapped_of row.mapping.now) (spec_text (values c.args.specs.now)) (texts c.group.found) (texts c.push_spec_text.new.found)
+    c.args.group.now c.group.row-index c.row-item.result c.row-item.is c.group-test.true c.group.invariant
     c.in_ok-push_spec_text.ensures

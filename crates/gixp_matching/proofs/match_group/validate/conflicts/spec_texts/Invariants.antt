@@ -7,4 +7,4 @@ use Rattle.gixp_matching.specs.Validation.{spec_text}
 use Rattle.gixp_matching.proofs.match_group.validate.conflicts.spec_texts.Given as goal
 
 abbrev pub invariant-group : goal.invariant-group
-invariant-group l = texts l.found ≡ map (spec_text (values l.specs)) (take l.mapping-index (mapped_behind l.group))
+invariant-group l = texts l.found ≡ map (spec_text (values l.specs)) (take l.row-index (mapped_behind l.group))

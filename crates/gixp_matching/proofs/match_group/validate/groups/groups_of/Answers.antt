@@ -1,10 +1,15 @@
--- One mapping more.
-use Rattle.gixp_matching.specs.MatchGroup.{mapped_of}
-use Rattle.gixp_matching.proofs.GroupLemmas.{groups_more}
+-- The groups, in another order.
+use Rattle.gixp_matching.proofs.GroupLemmas.{groups_moved, names_increase}
 use Rattle.gixp_matching.proofs.match_group.validate.groups.groups_of.Goals as goal
 
-pub mappings-preserved : goal.mappings-preserved
-mappings-preserved c =
-    groups_more mapped_of c.args.mappings.now c.mappings.mapping-index c.mapping-item.result c.mappings.groups c.push.new.groups
-    c.mapping-item.is c.mappings-test.true c.mappings.invariant
-    c.in_ok-push.ensures.names c.in_ok-push.ensures.groups
+pub returns-clause-groups : goal.returns-clause-groups
+returns-clause-groups c =
+    groups_moved c.args.rows.now c.in_ok-groups.groups.items c.sort_groups.new.groups.items c.sort_groups.ensures.permutation
+    c.in_ok-groups.ensures
+
+pub returns-clause-order : goal.returns-clause-order
+returns-clause-order c =
+    names_increase c.args.rows.now c.sort_groups.new.groups.items
+    (groups_moved c.args.rows.now c.in_ok-groups.groups.items c.sort_groups.new.groups.items c.sort_groups.ensures.permutation
+    c.in_ok-groups.ensures)
+    c.sort_groups.ensures.order
