@@ -1,4 +1,5 @@
 mod AppendLemmas
 mod ArgumentLemmas
 mod RequestLemmas
+mod PartLemmas
 mod OfferLemmas

@@ -14,6 +14,7 @@ pub use Rattle.gixp_wire.specs.Transport
 pub mod Feature
 pub mod Command
 pub mod Arguments
+pub mod Line
 pub mod Request
 pub mod Offers
 pub mod Order

@@ -1,8 +1,12 @@
 -- The frames of a request for a pack (gitprotocol-v2, "Command Request", "fetch"; gitprotocol-pack, "Packfile Negotiation").
-use Rattle.std.specs.Prelude.{ℕ, Bool, if◌then◌else◌, List, [], ◌∷◌, ◌++◌, map, filter, position, Option, Some, None, is_some, codes}
+use Rattle.std.specs.Prelude.{ℕ, Bool, if◌then◌else◌, List, [], ◌∷◌, ◌++◌, map, filter, position, Option, Some, None, Result, is_some, codes}
 use Rattle.std.specs.List.{list_all, swap}
+use Rattle.gixp_capabilities.specs.declared.client.Error.{Error}
 use Rattle.gixp_packetline.specs.Frames.{Frame}
+use Rattle.gixp_packetline.specs.FrameText.{texts_of}
+use Rattle.gixp_packetline.specs.Reading.{Reading}
 use Rattle.gixp_wire.specs.Message.{MessageValue, text, flush, value_frame, value_fits, command_values}
+use Rattle.gixp_wire.specs.Transport.{Sends}
 use Rattle.gixp_requests.specs.Feature.{FeatureValue, feature_text}
 use Rattle.gixp_requests.specs.Arguments.{ArgumentsValue, is_want, is_v2}
 
@@ -24,7 +28,7 @@ abbrev pub fetch_arguments : List (List ℕ) → List (List ℕ) → Bool → Li
 fetch_arguments lines haves done = lines ++ (haves ++ done_lines done)
 
 -- under versions 0 and 1 the first want changes places with the first line
-abbrev pub exchanged : List (List ℕ) → Option ℕ → List (List ℕ)
+abbrev pub exchanged : {A : Type 0} → List A → Option ℕ → List A
 exchanged lines None = lines
 exchanged lines (Some i) = swap lines 0 i
 
@@ -49,6 +53,10 @@ abbrev pub request_values : ArgumentsValue → Bool → List MessageValue
 request_values a done =
     if is_v2 a.version then command_values (codes "fetch") (sent_features a.features) (fetch_arguments a.lines a.haves done)
     else upload_values a.lines a.haves done
+
+-- a call that sends these messages as a request
+abbrev pub SendsValues : Reading → Reading → List MessageValue → Result (Unit {0}) Error → Type 0
+SendsValues old new values r = Sends old new (list_all value_fits values) (texts_of (map value_frame values)) r
 
 -- its frames
 abbrev pub request : ArgumentsValue → Bool → List Frame

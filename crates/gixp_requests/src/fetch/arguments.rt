@@ -15,11 +15,14 @@ use gixp_wire::Transport;
 use std::alloc::{AllocError, Global};
 use std::marker::Model;
 
+mod line;
 mod messages;
+mod part;
 mod text;
 
-use messages::{request, send_command, sent_features, upload_messages};
-use text::{features_text, has_want, joined, push_text, want_line};
+use line::{Line, has_want, push_have, push_line, text_lines};
+use messages::{send_command, send_upload, sent_features};
+use text::{features_text, joined, push_text, want_line};
 
 /// What the next request for a pack asks for: argument lines, and the objects that are there
 /// already (gitprotocol-v2, "fetch"; gitprotocol-pack, "Packfile Negotiation").
@@ -34,8 +37,8 @@ pub struct Arguments {
     deepen_relative: bool,
     added: Vec<BString>,
     wanted: bool,
-    lines: Vec<BString>,
-    haves: Vec<BString>,
+    lines: Vec<Line>,
+    haves: Vec<ObjectId>,
 }
 
 impl Model for Arguments {
@@ -45,6 +48,7 @@ impl Model for Arguments {
 
     ghost use Rattle.gixp_requests.specs.Feature.{feature_values};
     ghost use Rattle.gixp_requests.specs.Command.{texts};
+    ghost use Rattle.gixp_requests.specs.Line.{line_texts, have_texts};
 
     ghost view = { λ a. record {
       version = a.version;
@@ -53,14 +57,15 @@ impl Model for Arguments {
       deepen_relative = a.deepen_relative;
       added = texts a.added;
       wanted = a.wanted;
-      lines = texts a.lines;
-      haves = texts a.haves;
+      lines = line_texts a.lines;
+      haves = have_texts a.haves;
     } };
 }
 
 impl Arguments {
     ghost use Rattle.gixp_requests.specs.Arguments.{Becomes, is_v2, id_text, asks_nothing, with_line, asks_want, asks_want_ref, asks_have, asks_shallow, asks_deepen, asks_deepen_since, asks_deepen_not, asks_filter, asks_deepen_relative, asks_include_tag, asks_feature, can_use, can_use_deepening, can_use_include_tag, may_add_feature, is_empty, want_line};
-    ghost use Rattle.gixp_requests.specs.Request.{request, request_fits, sent_off};
+    ghost use Rattle.gixp_requests.specs.Request.{SendsValues, request, request_fits, request_values, sent_off};
+    ghost use Rattle.gixp_requests.specs.Line.{line_text};
     ghost use Rattle.gixp_packetline.specs.FrameText.{texts_of};
     ghost use Rattle.gixp_wire.specs.Transport.{Sends};
 
@@ -80,7 +85,10 @@ impl Arguments {
         ensures { IfOk result (λ asked. asked ≡ asks_nothing (table_of table.now) version (feature_values features.entry.items)) }
     {
         let lines = if version == Protocol::V2 {
-            table.initial_v2_arguments(alloc, Command::Fetch, &features)?
+            text_lines(
+                alloc,
+                table.initial_v2_arguments(alloc, Command::Fetch, &features)?,
+            )?
         } else {
             Vec::new(alloc)
         };
@@ -101,7 +109,7 @@ impl Arguments {
     fn push_line(&mut self, line: BString) -> Result<(), AllocError>
         ensures { Becomes result self.old (with_line (bstring_bytes line) self.old) self.new }
     {
-        push_text(&mut self.lines, line)
+        push_line(&mut self.lines, Line::Text(line))
     }
 
     // One more line of two parts.
@@ -113,11 +121,11 @@ impl Arguments {
     }
 
     // The line of a want.
-    fn want_line(&self, id: &ObjectId) -> Result<BString, AllocError>
-        ensures { IfOk result (λ line. bstring_bytes line ≡ want_line (id_text id.now) self.now) }
+    fn want_line(&self, id: &ObjectId) -> Result<Line, AllocError>
+        ensures { IfOk result (λ line. line_text line ≡ want_line (id_text id.now) self.now) }
     {
         if self.version == Protocol::V2 || self.wanted {
-            return want_line(self.alloc, id, b"");
+            return Ok(Line::Want(*id));
         }
         let behind = features_text(
             self.alloc,
@@ -126,7 +134,7 @@ impl Arguments {
             self.deepen_relative,
             &self.added,
         )?;
-        want_line(self.alloc, id, &behind)
+        Ok(Line::Text(want_line(self.alloc, id, &behind)?))
     }
 
     /// Asks for an object, by the line `want <id>`.
@@ -142,7 +150,7 @@ impl Arguments {
         ensures { Becomes result self.old (asks_want (id_text id.now) self.old) self.new }
     {
         let line = self.want_line(id)?;
-        push_text(&mut self.lines, line)?;
+        push_line(&mut self.lines, line)?;
         self.wanted = true;
         Ok(())
     }
@@ -166,8 +174,7 @@ impl Arguments {
     pub fn have(&mut self, id: &ObjectId) -> Result<(), AllocError>
         ensures { Becomes result self.old (asks_have (id_text id.now) self.old) self.new }
     {
-        let line = joined(self.alloc, b"have ", &id.to_hex())?;
-        push_text(&mut self.haves, line)
+        push_have(&mut self.haves, *id)
     }
 
     /// Says that a commit's parents aren't there, by the line `shallow <id>`.
@@ -283,7 +290,7 @@ impl Arguments {
     {
         let text = BString::from_slice(self.alloc, feature)?;
         if self.version == Protocol::V2 {
-            push_text(&mut self.lines, text)
+            self.push_line(text)
         } else {
             push_text(&mut self.added, text)
         }
@@ -385,10 +392,10 @@ impl Arguments {
     }
 
     // Sends the request, with no memory of it here.
-    fn transmit<T: Transport>(&self, transport: &mut T, done: bool) -> Result<(), Error>
-        requires { done ≡ false → 0 < length self.now.haves }
-        ensures { Sends (T.reading transport.old) (T.reading transport.new) (request_fits self.now done)
-            (texts_of (request self.now done)) result }
+    fn transmit<T: Transport>(&mut self, transport: &mut T, done: bool) -> Result<(), Error>
+        requires { done ≡ false → 0 < length self.old.haves }
+        ensures sent { SendsValues (T.reading transport.old) (T.reading transport.new) (request_values self.old done) result }
+        ensures same { self.new ≡ self.old }
     {
         if self.version == Protocol::V2 {
             let features = sent_features(self.alloc, &self.features)?;
@@ -401,8 +408,7 @@ impl Arguments {
                 done,
             );
         }
-        let messages = upload_messages(self.alloc, &self.lines, &self.haves, done)?;
-        request(transport, &messages)
+        send_upload(transport, &mut self.lines, &self.haves, done)
     }
 
     /// Sends the next request, with the line `done` where it is asked for (gitprotocol-v2,

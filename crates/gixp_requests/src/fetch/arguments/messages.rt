@@ -1,32 +1,21 @@
 //! The messages of a request for a pack.
-ghost use Rattle.std.specs.Prelude.{◌≡◌, ◌<◌, false, [], ◌∷◌, ◌++◌, length, codes, map, position, OnOk, IfOk, IfSome};
+ghost use Rattle.std.specs.Prelude.{◌≡◌, ◌<◌, false, [], ◌∷◌, ◌++◌, length, codes, map, OnOk, IfOk};
 ghost use Rattle.bstr.specs.Owned.{bstring_bytes};
-ghost use Rattle.std.specs.List.{list_all};
-ghost use Rattle.gixp_packetline.specs.FrameText.{texts_of};
-ghost use Rattle.gixp_wire.specs.Message.{text, flush, delimiter, message_value, value_frame, value_fits, command_lines, command_fits, command_frames};
-ghost use Rattle.gixp_wire.specs.Transport.{Sends};
+ghost use Rattle.gixp_wire.specs.Message.{text, flush, delimiter, message_value, command_lines, command_values};
 ghost use Rattle.gixp_requests.specs.Feature.{feature_value, feature_values};
 ghost use Rattle.gixp_requests.specs.Command.{texts};
-ghost use Rattle.gixp_requests.specs.Arguments.{is_want};
-ghost use Rattle.gixp_requests.specs.Request.{sent_features, done_lines, done_value, fetch_arguments, flush_behind, want_first, upload_values};
+ghost use Rattle.gixp_requests.specs.Line.{line_text, have_text};
+ghost use Rattle.gixp_requests.specs.Request.{SendsValues, sent_features, done_lines, done_value, fetch_arguments, flush_behind, upload_values};
 
 use crate::command::Feature;
-use crate::fetch::arguments::text::{is_want, push_feature};
+use crate::fetch::arguments::line::{Line, exchange, first_want};
+use crate::fetch::arguments::part::{Part, send};
+use crate::fetch::arguments::text::push_feature;
 use bstr::BString;
 use gixp_capabilities::client::Error;
+use gixp_hash::ObjectId;
 use gixp_wire::{Message, Transport};
 use std::alloc::{AllocError, Global};
-
-// Sends a request of these messages.
-pub(crate) fn request<T: Transport>(
-    transport: &mut T,
-    messages: &[Message<'_>],
-) -> Result<(), Error>
-    ensures { Sends (T.reading transport.old) (T.reading transport.new)
-        (list_all value_fits (map message_value messages.now)) (texts_of (map value_frame (map message_value messages.now))) result }
-{
-    transport.request(messages)
-}
 
 // Appends the line of a feature, if it has a value.
 fn push_sent(alloc: Global, lines: &mut Vec<BString>, feature: &Feature) -> Result<(), AllocError>
@@ -96,95 +85,90 @@ fn command_end(done: bool) -> &'static [Message<'static>]
     &[Message::Flush]
 }
 
-// Sends a fetch of version 2. Its lines and haves are written from where they stand.
+// Sends a fetch of version 2: what comes in front of its arguments, these, the haves and its end.
+fn send_arguments<'a, T: Transport>(
+    transport: &mut T,
+    front: &'a [Message<'a>],
+    arguments: &'a [Line],
+    haves: &'a [ObjectId],
+    done: bool,
+) -> Result<(), Error>
+    ensures { SendsValues (T.reading transport.old) (T.reading transport.new)
+        (map message_value front.now ++ (map text (map line_text arguments.now)
+        ++ (map text (map have_text haves.now) ++ (map text (done_lines done) ++ flush ∷ [])))) result }
+{
+    send(
+        transport,
+        &[
+            Part::Messages(front),
+            Part::Lines(arguments),
+            Part::Haves(haves),
+            Part::Messages(command_end(done)),
+        ],
+    )
+}
+
+// Sends a fetch of version 2.
 pub(crate) fn send_command<T: Transport>(
     transport: &mut T,
     alloc: Global,
     features: &[BString],
-    lines: &[BString],
-    haves: &[BString],
+    lines: &[Line],
+    haves: &[ObjectId],
     done: bool,
 ) -> Result<(), Error>
     requires { done ≡ false → 0 < length haves.now }
-    ensures { Sends (T.reading transport.old) (T.reading transport.new)
-        (command_fits (codes "fetch") (map bstring_bytes features.now)
-        (fetch_arguments (map bstring_bytes lines.now) (map bstring_bytes haves.now) done))
-        (texts_of (command_frames (codes "fetch") (map bstring_bytes features.now)
-        (fetch_arguments (map bstring_bytes lines.now) (map bstring_bytes haves.now) done))) result }
+    ensures { SendsValues (T.reading transport.old) (T.reading transport.new)
+        (command_values (codes "fetch") (map bstring_bytes features.now)
+        (fetch_arguments (map line_text lines.now) (map have_text haves.now) done)) result }
 {
     let messages = command_messages(alloc, features)?;
-    transport.request_with_lines(&messages, lines, haves, command_end(done))
+    send_arguments(transport, &messages, lines, haves, done)
 }
 
-fn want_at(lines: &[BString]) -> Option<usize>
-    ensures place { result ≡ position (λ line. is_want (bstring_bytes line)) lines.now }
-    ensures within { IfSome result (λ i. i < length lines.now) }
-{
-    lines.iter().position(|line| is_want(line))
-}
-
-// The place of the first want.
-fn first_want(lines: &[BString]) -> Option<usize>
-    ensures place { result ≡ position is_want (map bstring_bytes lines.now) }
-    ensures within { IfSome result (λ i. i < length lines.now) }
-{
-    want_at(lines)
-}
-
-// The lines, of which the first want changes places with the first, in a list with this capacity.
-fn front<'a>(
-    alloc: Global,
-    lines: &'a [BString],
-    capacity: usize,
-) -> Result<Vec<Message<'a>>, AllocError>
-    ensures { IfOk result (λ messages. map message_value messages.items ≡ map text (want_first (map bstring_bytes lines.now))) }
-{
-    let mut messages = Vec::with_capacity(alloc, capacity)?;
-    push_lines(&mut messages, lines)?;
-    match first_want(lines) {
-        Some(place) => {
-            messages.swap(0, place);
-            Ok(messages)
-        }
-        None => Ok(messages),
-    }
-}
-
-// Appends a flush, where there are lines.
-fn push_flush<'a>(messages: &mut Vec<Message<'a>>, lines: &[BString]) -> Result<(), AllocError>
-    ensures { OnOk result (map message_value messages.new.items ≡ map message_value messages.old.items
-        ++ flush_behind (map bstring_bytes lines.now)) }
+// A flush packet, where there are lines.
+fn flush_behind(lines: &[Line]) -> &'static [Message<'static>]
+    ensures { map message_value result.now ≡ flush_behind (map line_text lines.now) }
 {
     if lines.is_empty() {
-        return Ok(());
+        return &[];
     }
-    push(messages, Message::Flush)
+    &[Message::Flush]
 }
 
-// Appends the end of a request of versions 0 and 1.
-fn push_end<'a>(messages: &mut Vec<Message<'a>>, done: bool) -> Result<(), AllocError>
-    ensures { OnOk result (map message_value messages.new.items ≡ map message_value messages.old.items ++ done_value done ∷ []) }
+// The end of a request of versions 0 and 1.
+fn upload_end(done: bool) -> &'static [Message<'static>]
+    ensures { map message_value result.now ≡ done_value done ∷ [] }
 {
     if done {
-        return push(messages, Message::Line(b"done"));
+        return &[Message::Line(b"done")];
     }
-    push(messages, Message::Flush)
+    &[Message::Flush]
 }
 
-// The messages of a request of versions 0 and 1.
-pub(crate) fn upload_messages<'a>(
-    alloc: Global,
-    lines: &'a [BString],
-    haves: &'a [BString],
+// Sends a request of versions 0 and 1. For as long the first want changes places with the first line.
+pub(crate) fn send_upload<T: Transport>(
+    transport: &mut T,
+    lines: &mut [Line],
+    haves: &[ObjectId],
     done: bool,
-) -> Result<Vec<Message<'a>>, AllocError>
-    ensures { IfOk result (λ messages. map message_value messages.items ≡ upload_values (map bstring_bytes lines.now)
-        (map bstring_bytes haves.now) done) }
+) -> Result<(), Error>
+    ensures sends { SendsValues (T.reading transport.old) (T.reading transport.new)
+        (upload_values (map line_text lines.old) (map have_text haves.now) done) result }
+    ensures same { lines.new ≡ lines.old }
 {
-    let capacity = lines.len().saturating_add(haves.len()).saturating_add(2);
-    let mut messages = front(alloc, lines, capacity)?;
-    push_flush(&mut messages, lines)?;
-    push_lines(&mut messages, haves)?;
-    push_end(&mut messages, done)?;
-    Ok(messages)
+    let place = first_want(lines);
+    let flush = flush_behind(lines);
+    exchange(lines, place);
+    let sent = send(
+        transport,
+        &[
+            Part::Lines(lines),
+            Part::Messages(flush),
+            Part::Haves(haves),
+            Part::Messages(upload_end(done)),
+        ],
+    );
+    exchange(lines, place);
+    sent
 }

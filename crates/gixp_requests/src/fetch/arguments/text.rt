@@ -1,10 +1,9 @@
 //! The texts of argument lines.
 ghost use Rattle.std.specs.Prelude.{◌≡◌, [], ◌∷◌, ◌++◌, map, OnOk, OnErr, IfOk, codes};
-ghost use Rattle.std.specs.List.{list_any};
 ghost use Rattle.bstr.specs.Owned.{bstring_bytes};
 ghost use Rattle.gixp_requests.specs.Feature.{feature_value, feature_values, feature_text};
 ghost use Rattle.gixp_requests.specs.Command.{texts};
-ghost use Rattle.gixp_requests.specs.Arguments.{id_text, is_want, is_on, texts_on, spaced, behind_blank};
+ghost use Rattle.gixp_requests.specs.Arguments.{id_text, is_on, texts_on, spaced, behind_blank};
 
 use crate::command::Feature;
 use bstr::BString;
@@ -28,25 +27,6 @@ pub(crate) fn joined(alloc: Global, front: &[u8], back: &[u8]) -> Result<BString
     text.extend_from_slice(front)?;
     text.extend_from_slice(back)?;
     Ok(BString::new(text))
-}
-
-pub(crate) fn is_want(line: &BString) -> bool
-    ensures { result ≡ is_want (bstring_bytes line.now) }
-{
-    line.as_bytes().starts_with(b"want ")
-}
-
-fn any_want(lines: &[BString]) -> bool
-    ensures { result ≡ list_any (λ line. is_want (bstring_bytes line)) lines.now }
-{
-    lines.iter().any(|line| is_want(line))
-}
-
-// Whether one of the lines asks for an object.
-pub(crate) fn has_want(lines: &[BString]) -> bool
-    ensures { result ≡ list_any is_want (map bstring_bytes lines.now) }
-{
-    any_want(lines)
 }
 
 // Whether a feature goes into the first want.

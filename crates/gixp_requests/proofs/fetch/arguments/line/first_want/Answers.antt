@@ -1,9 +1,9 @@
 -- The place of the test of what the lines are.
 use Rattle.std.proofs.Common.{sym, ◌∙◌}
-use Rattle.bstr.specs.Owned.{bstring_bytes}
+use Rattle.gixp_requests.specs.Line.{line_text}
 use Rattle.gixp_requests.specs.Arguments.{is_want}
 use Rattle.gixp_requests.proofs.RequestLemmas.{position-map}
-use Rattle.gixp_requests.proofs.fetch.arguments.messages.first_want.Goals as goal
+use Rattle.gixp_requests.proofs.fetch.arguments.line.first_want.Goals as goal
 
 pub returns-clause-place : goal.returns-clause-place
-returns-clause-place c = c.want_at.ensures.place ∙ sym (position-map is_want bstring_bytes c.args.lines.now)
+returns-clause-place c = c.want_at.ensures.place ∙ sym (position-map is_want line_text c.args.lines.now)

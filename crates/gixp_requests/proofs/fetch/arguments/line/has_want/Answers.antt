@@ -1,9 +1,9 @@
 -- The test of what the lines are.
 use Rattle.std.proofs.Common.{sym, ◌∙◌}
-use Rattle.bstr.specs.Owned.{bstring_bytes}
+use Rattle.gixp_requests.specs.Line.{line_text}
 use Rattle.gixp_requests.specs.Arguments.{is_want}
 use Rattle.gixp_packetline.proofs.ListLemmas.{any_of_map}
-use Rattle.gixp_requests.proofs.fetch.arguments.text.has_want.Goals as goal
+use Rattle.gixp_requests.proofs.fetch.arguments.line.has_want.Goals as goal
 
 pub returns : goal.returns
-returns c = c.any_want.ensures ∙ sym (any_of_map is_want bstring_bytes c.args.lines.now)
+returns c = c.any_want.ensures ∙ sym (any_of_map is_want line_text c.args.lines.now)
