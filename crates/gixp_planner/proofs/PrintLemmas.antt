@@ -1,82 +1,58 @@
--- What of a text is appended so far, and what of it is written.
-use Rattle.std.proofs.Common.{◌≡◌, ℕ, ◌+◌, List, [], ◌∷◌, ◌++◌, take, drop, flat_map, codes, Option, None, Result, Ok, Err, IfErr, refl, sym, ap, ◌∙◌, append_assoc, append-nil, take-append-drop}
+-- What of a text is written so far, and what of it is held or to come.
+use Rattle.std.proofs.Common.{◌≡◌, ℕ, ◌+◌, List, [], ◌∷◌, ◌++◌, take, drop, flat_map, codes, Option, Result, Ok, Err, IfErr, refl, sym, ap, ◌∙◌, append_assoc, append-nil, length, get_or, ◌<◌, take-append-drop, subst}
 use Rattle.std.specs.Io.KnownBytes.{Appends, Keeps}
 use Rattle.std.proofs.KnownBytes.{Appends-nil, Appends-trans, Appends-kept}
-use Rattle.gixp_packetline.specs.Frames.{Frame, End, frames_of, with_frame, no_frames}
+use Rattle.gixp_packetline.specs.Frames.{Frame, frames_of, with_frame}
 use Rattle.std.specs.Option.{option_map}
 use Rattle.bstr.specs.Owned.{bstring_bytes}
+use Rattle.gixp_matching.specs.declared.match_group.validate.Fix.{Fix}
+use Rattle.gixp_matching.specs.Validate.{removed_of}
 use Rattle.gixp_refmap.specs.declared.refmap.mapping.Mapping.{Mapping}
 use Rattle.gixp_refmap.specs.Mapping.{source_id, source_name}
 use Rattle.gixp_planner.specs.declared.error.PlanError.{PlanError}
 use Rattle.gixp_planner.specs.Refusal.{IsUnwritten}
-use Rattle.gixp_planner.specs.Written.{WritesPart, WritesBeginning, WritesPlan}
-use Rattle.gixp_planner.specs.Text.{joined, frame_shown, request_shown, requests_behind, id_shown, name_shown, mapping_shown}
+use Rattle.gixp_planner.specs.Written.{WritesPart, WritesBeginning, WritesPlan, HoldsRest}
+use Rattle.gixp_planner.proofs.ListLemmas.{left-at}
+use Rattle.gixp_planner.specs.Text.{joined, frame_content, frame_shown, request_shown, requests_behind, id_shown, name_shown, mapping_shown, fix_shown}
 
--- of what is to come after a text some does, and the rest is left
-pub record Partly (old now left all : List ℕ) : Type 0 where
-  pub split : now ++ left ≡ old ++ all
+-- nothing of a text is written yet
+pub part-none : (a : Option (List ℕ)) (text : List ℕ) → WritesPart a a text text
+part-none a text = record { done = []; written = Appends-nil a; whole = refl }
 
-pub partly-more : (old now new left rest all x : List ℕ) → Partly old now left all → left ≡ x ++ rest → new ≡ now ++ x
-    → Partly old new rest all
-partly-more old now new left rest all x h e k =
-    record { split = ap (λ l. l ++ rest) k ∙ append_assoc now x rest ∙ ap (λ l. now ++ l) (sym e) ∙ h.split }
+pub part-all : (a b : Option (List ℕ)) (text : List ℕ) → Appends a b text → WritesPart a b [] text
+part-all a b text k = record { done = text; written = k; whole = sym (append-nil text) }
 
-pub partly-all : (old now left all : List ℕ) → Partly old now left all → left ≡ [] → now ≡ old ++ all
-partly-all old now left all h e = sym (append-nil now) ∙ ap (λ l. now ++ l) (sym e) ∙ h.split
+-- of what was left some more is written
+pub part-more : (a b c : Option (List ℕ)) (left rest text : List ℕ) → WritesPart a b left text → WritesPart b c rest left
+    → WritesPart a c rest text
+part-more a b c left rest text h k = record {
+  done = h.done ++ k.done;
+  written = Appends-trans a b c h.done k.done h.written k.written;
+  whole = h.whole ∙ ap (λ l. h.done ++ l) k.whole ∙ sym (append_assoc h.done k.done rest);
+}
 
--- a text after another
-pub both-shown : (old mid new x y : List ℕ) → mid ≡ old ++ x → new ≡ mid ++ y → new ≡ old ++ (x ++ y)
-both-shown old mid new x y h k = k ∙ ap (λ l. l ++ y) h ∙ append_assoc old x y
+-- more is to come behind it
+pub part-behind : (a b : Option (List ℕ)) (left text more : List ℕ) → WritesPart a b left text
+    → WritesPart a b (left ++ more) (text ++ more)
+part-behind a b left text more h = record {
+  done = h.done;
+  written = h.written;
+  whole = ap (λ l. l ++ more) h.whole ∙ append_assoc h.done left more;
+}
 
--- a packet line more
-pub frames-more : (old now new : List ℕ) (rest behind all x : List ℕ) (f : Frame)
-    → Partly old now (flat_map frame_shown (frames_of rest).list) all → frames_of rest ≡ with_frame f (frames_of behind)
-    → x ≡ frame_shown f → new ≡ now ++ x → Partly old new (flat_map frame_shown (frames_of behind).list) all
-frames-more old now new rest behind all x f h e k w =
-    partly-more old now new _ _ all (frame_shown f) h (ap (λ fs. flat_map frame_shown fs.list) e) (w ∙ ap (λ l. now ++ l) k)
+-- none of it is written
+pub written_none : (a : Option (List ℕ)) (text : List ℕ) → WritesBeginning a a text
+written_none a text = (text, part-none a text)
 
-pub frames-end : (old now rest all : List ℕ) (end : End) → Partly old now (flat_map frame_shown (frames_of rest).list) all
-    → frames_of rest ≡ no_frames end → now ≡ old ++ all
-frames-end old now rest all end h e = partly-all old now _ all h (ap (λ fs. flat_map frame_shown fs.list) e)
-
--- one of a list more
-pub each-more : {X : Type 0} (show : X → List ℕ) (old now new : List ℕ) (left rest : List X) (x : X) (all : List ℕ)
-    → Partly old now (flat_map show left) all → left ≡ x ∷ rest → new ≡ now ++ show x
-    → Partly old new (flat_map show rest) all
-each-more show old now new left rest x all h e w = partly-more old now new _ _ all (show x) h (ap (flat_map show) e) w
-
-pub each-end : {X : Type 0} (show : X → List ℕ) (old now : List ℕ) (left : List X) (all : List ℕ)
-    → Partly old now (flat_map show left) all → left ≡ [] → now ≡ old ++ all
-each-end show old now left all h e = partly-all old now _ all h (ap (flat_map show) e)
-
--- a request more
-pub requests-more : (old now new : List ℕ) (k : ℕ) (left rest : List (List ℕ)) (r s all : List ℕ)
-    → Partly old now (requests_behind k left) all → left ≡ r ∷ rest → s ≡ r
-    → new ≡ now ++ request_shown (k + 1) (frames_of s).list → Partly old new (requests_behind (k + 1) rest) all
-requests-more old now new k left rest r s all h e f w =
-    partly-more old now new _ _ all (request_shown (k + 1) (frames_of r).list) h (ap (requests_behind k) e)
-    (w ∙ ap (λ t. now ++ request_shown (k + 1) (frames_of t).list) f)
-
-pub requests-end : (old now : List ℕ) (k : ℕ) (left : List (List ℕ)) (all : List ℕ) → Partly old now (requests_behind k left) all
-    → left ≡ [] → now ≡ old ++ all
-requests-end old now k left all h e = partly-all old now _ all h (ap (requests_behind k) e)
+-- all of it is
+pub written-all : (a b : Option (List ℕ)) (text : List ℕ) → Appends a b text → WritesBeginning a b text
+written-all a b text k = ([], part-all a b text k)
 
 -- of a text so many bytes more are written
 pub written-more : (a b c : Option (List ℕ)) (left all : List ℕ) (n : ℕ) → WritesPart a b left all → Appends b c (take n left)
     → WritesPart a c (drop n left) all
-written-more a b c left all n h k = record {
-  done = h.done ++ take n left;
-  written = Appends-trans a b c h.done (take n left) h.written k;
-  whole = h.whole ∙ ap (λ l. h.done ++ l) (sym (take-append-drop n left)) ∙ sym (append_assoc h.done (take n left) (drop n left));
-}
-
--- none of it is written
-pub written-none : (a : Option (List ℕ)) (text : List ℕ) → WritesBeginning a a text
-written-none a text = (text, record { done = []; written = Appends-nil a; whole = refl })
-
--- all of it is
-pub written-all : (a b : Option (List ℕ)) (text : List ℕ) → Appends a b text → WritesBeginning a b text
-written-all a b text k = ([], record { done = text; written = k; whole = sym (append-nil text) })
+written-more a b c left all n h k =
+    part-more a b c left (drop n left) all h (record { done = take n left; written = k; whole = sym (take-append-drop n left) })
 
 -- all of it is, and none of it is left in the writer, though that may fail
 pub written-flushed : (a b c : Option (List ℕ)) (text : List ℕ) (r : Result (Unit {0}) PlanError) → Appends a b text → Keeps b c
@@ -84,12 +60,91 @@ pub written-flushed : (a b c : Option (List ℕ)) (text : List ℕ) (r : Result 
 written-flushed a b c text (Ok x) h k u = Appends-kept a b c text h k
 written-flushed a b c text (Err e) h k u = (written-all a c text (Appends-kept a b c text h k), u)
 
--- a mapping of what isn't there
-pub unborn-shown : (m : Mapping) (name local : List ℕ) → None ≡ source_id m.remote → name ≡ name_shown (source_name m.remote)
+-- what was left is written at the end
+pub part-end : (a b c : Option (List ℕ)) (left text : List ℕ) (r : Result (Unit {0}) PlanError) → WritesPart a b left text
+    → WritesPlan b c left r → WritesPlan a c text r
+part-end a b c left text (Ok x) h k = subst (Appends a c) (sym h.whole) (Appends-trans a b c h.done left h.written k)
+part-end a b c left text (Err e) h k = ((k.0.0, part-more a b c left k.0.0 text h k.0.1), k.1)
+
+-- a text behind another that is held
+pub then-part : (a b : Option (List ℕ)) (held next x y : List ℕ) → WritesPart a b next (held ++ x)
+    → WritesPart a b (next ++ y) (held ++ (x ++ y))
+then-part a b held next x y h =
+    subst (λ text. WritesPart a b (next ++ y) text) (append_assoc held x y) (part-behind a b next (held ++ x) y h)
+
+pub then-more : (a b c : Option (List ℕ)) (held next last x y : List ℕ) → WritesPart a b next (held ++ x)
+    → WritesPart b c last (next ++ y) → WritesPart a c last (held ++ (x ++ y))
+then-more a b c held next last x y h k = part-more a b c (next ++ y) last (held ++ (x ++ y)) (then-part a b held next x y h) k
+
+pub then-fails : (a b : Option (List ℕ)) (held x y all : List ℕ) → WritesBeginning a b (held ++ x) → all ≡ x ++ y
+    → WritesBeginning a b (held ++ all)
+then-fails a b held x y all h e =
+    subst (λ t. WritesBeginning a b (held ++ t)) (sym e) (h.0 ++ y, then-part a b held h.0 x y h.1)
+
+pub then-rest : (a b c : Option (List ℕ)) (held next last x y all : List ℕ) (r : Result (Unit {0}) PlanError)
+    → WritesPart a b next (held ++ x) → HoldsRest b c last (next ++ y) r → all ≡ x ++ y → HoldsRest a c last (held ++ all) r
+then-rest a b c held next last x y all (Ok u) h k e =
+    subst (λ t. WritesPart a c last (held ++ t)) (sym e) (then-more a b c held next last x y h k)
+then-rest a b c held next last x y all (Err error) h k e =
+    (subst (λ t. WritesBeginning a c (held ++ t)) (sym e) (k.0.0, then-more a b c held next k.0.0 x y h k.0.1), k.1)
+
+-- two texts, the first of which fails, or is there once the second is
+pub first_fails : (a b : Option (List ℕ)) (held x y : List ℕ) → WritesBeginning a b (held ++ x) → WritesBeginning a b (held ++ (x ++ y))
+first_fails a b held x y h = then-fails a b held x y (x ++ y) h refl
+
+pub second_rests : (a b c : Option (List ℕ)) (held next last x y : List ℕ) (r : Result (Unit {0}) PlanError)
+    → WritesPart a b next (held ++ x) → HoldsRest b c last (next ++ y) r → HoldsRest a c last (held ++ (x ++ y)) r
+second_rests a b c held next last x y r h k = then-rest a b c held next last x y (x ++ y) r h k refl
+
+-- the same where nothing was held before, and nothing is afterwards
+pub course_fails : (a b : Option (List ℕ)) (held x y : List ℕ) → WritesBeginning a b (held ++ x) → held ≡ []
+    → WritesBeginning a b (x ++ y)
+course_fails a b held x y h e = subst (λ t. WritesBeginning a b (t ++ (x ++ y))) e (first_fails a b held x y h)
+
+pub course_ends : (a b c : Option (List ℕ)) (held next x y : List ℕ) (r : Result (Unit {0}) PlanError) → held ≡ []
+    → WritesPart a b next (held ++ x) → WritesPlan b c (next ++ y) r → WritesPlan a c (x ++ y) r
+course_ends a b c held next x y r e h k = part-end a b c (next ++ y) (x ++ y) r
+    (subst (λ t. WritesPart a b (next ++ y) (t ++ (x ++ y))) e (then-part a b held next x y h)) k
+
+-- the next of what is to come behind a text that is held
+pub next-part : (a b c : Option (List ℕ)) (held next left x rest whole : List ℕ) → WritesPart a b (held ++ left) whole
+    → left ≡ x ++ rest → WritesPart b c next (held ++ x) → WritesPart a c (next ++ rest) whole
+next-part a b c held next left x rest whole h e k =
+    part-more a b c (held ++ left) (next ++ rest) whole h
+    (subst (λ l. WritesPart b c (next ++ rest) (held ++ l)) (sym e) (then-part b c held next x rest k))
+
+pub next-fails : (a b c : Option (List ℕ)) (held left x rest whole : List ℕ) → WritesPart a b (held ++ left) whole
+    → left ≡ x ++ rest → WritesBeginning b c (held ++ x) → WritesBeginning a c whole
+next-fails a b c held left x rest whole h e k = (k.0 ++ rest, next-part a b c held k.0 left x rest whole h e k.1)
+
+-- each of a list
+pub each-next : {X : Type 0} (show : X → List ℕ) (xs : List X) (i : ℕ) (x : X) → i < length xs → x ≡ get_or xs i x
+    → flat_map show (drop i xs) ≡ show x ++ flat_map show (drop (i + 1) xs)
+each-next show xs i x h e = ap (flat_map show) (left-at xs i x h e)
+
+pub requests-next : (k : ℕ) (left rest : List (List ℕ)) (r s : List ℕ) → left ≡ r ∷ rest → s ≡ r
+    → requests_behind k left ≡ request_shown (k + 1) (frames_of s).list ++ requests_behind (k + 1) rest
+requests-next k left rest r s e f = ap (requests_behind k) e
+    ∙ ap (λ t. request_shown (k + 1) (frames_of t).list ++ requests_behind (k + 1) rest) (sym f)
+
+pub lines-next : (rest behind text : List ℕ) (f : Frame) → frames_of rest ≡ with_frame f (frames_of behind) → text ≡ frame_content f
+    → flat_map frame_shown (frames_of rest).list
+    ≡ joined (codes "> " ∷ text ∷ codes "\n" ∷ []) ++ flat_map frame_shown (frames_of behind).list
+lines-next rest behind text f e k = ap (λ fs. flat_map frame_shown fs.list) e
+    ∙ ap (λ t. joined (codes "> " ∷ t ∷ codes "\n" ∷ []) ++ flat_map frame_shown (frames_of behind).list) (sym k)
+
+-- a mapping by its pieces
+pub mapping-pieces : (m : Mapping) (id name local : List ℕ) → id ≡ id_shown (source_id m.remote) → name ≡ name_shown (source_name m.remote)
     → local ≡ name_shown (option_map bstring_bytes m.local)
-    → joined (codes "map " ∷ codes "unborn" ∷ codes " " ∷ name ∷ codes " " ∷ local ∷ codes "\n" ∷ []) ≡ mapping_shown m
-unborn-shown m name local e f g =
-    ap (λ t. joined (codes "map " ∷ t ∷ codes " " ∷ name ∷ codes " " ∷ local ∷ codes "\n" ∷ [])) (ap id_shown e)
+    → joined (codes "map " ∷ id ∷ codes " " ∷ name ∷ codes " " ∷ local ∷ codes "\n" ∷ []) ≡ mapping_shown m
+mapping-pieces m id name local e f g =
+    ap (λ t. joined (codes "map " ∷ t ∷ codes " " ∷ name ∷ codes " " ∷ local ∷ codes "\n" ∷ [])) e
     ∙ ap (λ t. joined (codes "map " ∷ id_shown (source_id m.remote) ∷ codes " " ∷ t ∷ codes " " ∷ local ∷ codes "\n" ∷ [])) f
     ∙ ap (λ t. joined (codes "map " ∷ id_shown (source_id m.remote) ∷ codes " " ∷ name_shown (source_name m.remote) ∷ codes " " ∷ t
     ∷ codes "\n" ∷ [])) g
+
+-- a mapping that was taken out by its pieces
+pub fix-pieces : (f : Fix) (name spec : List ℕ) → name ≡ name_shown (removed_of f).name → spec ≡ (removed_of f).spec
+    → joined (codes "fix " ∷ name ∷ codes " " ∷ spec ∷ codes "\n" ∷ []) ≡ fix_shown f
+fix-pieces f name spec d e = ap (λ t. joined (codes "fix " ∷ t ∷ codes " " ∷ spec ∷ codes "\n" ∷ [])) d
+    ∙ ap (λ t. joined (codes "fix " ∷ name_shown (removed_of f).name ∷ codes " " ∷ t ∷ codes "\n" ∷ [])) e

@@ -19,6 +19,11 @@ abbrev pub WritesPlan : Option (List ℕ) → Option (List ℕ) → List ℕ →
 WritesPlan old new text (Ok x) = Appends old new text
 WritesPlan old new text (Err e) = WritesBeginning old new text × IsUnwritten e
 
+-- of a text some was written, and the rest is held; or a write failed after a beginning of it
+abbrev pub HoldsRest : Option (List ℕ) → Option (List ℕ) → List ℕ → List ℕ → Result (Unit {0}) PlanError → Type 0
+HoldsRest old new rest text (Ok x) = WritesPart old new rest text
+HoldsRest old new rest text (Err e) = WritesBeginning old new text × IsUnwritten e
+
 -- a write took so many bytes of a text, or failed and took none
 abbrev pub WritesSome : Option (List ℕ) → Option (List ℕ) → List ℕ → Result ℕ PlanError → Type 0
 WritesSome old new text (Ok n) = (n ≤ length text) × Appends old new (take n text)

@@ -1,12 +1,12 @@
-//! What is printed of a session.
-ghost use Rattle.std.specs.Prelude.{◌≡◌, ◌++◌, ◌≤◌, OnOk, IfOk, drop, flat_map, length, map, vec_items};
+//! What is printed of a session. The text goes through a buffer, so that little of it is held, however long it is.
+ghost use Rattle.std.specs.Prelude.{◌≡◌, ◌++◌, ◌≤◌, ◌<◌, OnOk, drop, flat_map, length, map, vec_items};
 ghost use Rattle.std.specs.Option.{option_map};
 ghost use Rattle.bstr.specs.Owned.{bstring_bytes};
 ghost use Rattle.gixp_packetline.specs.Frames.{frames_of};
 ghost use Rattle.gixp_packetline.specs.FrameText.{message_text};
 ghost use Rattle.gixp_packetline.specs.PacketLine.{frame_of};
 ghost use Rattle.gixp_refmap.specs.Mapping.{source_name};
-ghost use Rattle.gixp_planner.specs.Written.{WritesPlan, WritesSome};
+ghost use Rattle.gixp_planner.specs.Written.{HoldsRest, WritesPlan, WritesSome};
 ghost use Rattle.gixp_planner.specs.Text.{frame_content, frame_shown, request_shown, requests_shown, name_shown, mapping_shown, fix_shown, map_shown, mapped_shown, end_shown, ended_of, course_shown, course_of};
 
 use crate::error::{PlanError, answered};
@@ -19,6 +19,9 @@ use gixp_listing::append;
 use gixp_packetline::{MessageKind, PacketLine, split_packet_line};
 use std::alloc::{AllocError, Global};
 use std::io::{ErrorKind, Write};
+
+// A text of this length or more is written before more is put behind it.
+const LONG: usize = 65_536;
 
 // The digits of a packet line without a payload.
 fn mark(kind: MessageKind) -> &'static [u8]
@@ -40,196 +43,6 @@ fn content<'a>(line: PacketLine<'a>) -> &'a [u8]
         PacketLine::Data(payload) => without_line_end(payload),
         PacketLine::Special(kind) => mark(kind),
     }
-}
-
-// The packet lines of a request.
-fn append_packet_lines(text: &mut Vec<u8>, request: &[u8]) -> Result<(), AllocError>
-    ensures { OnOk result (text.new.items ≡ text.old.items ++ flat_map frame_shown (frames_of request.now).list) }
-{
-    let mut rest = request;
-    'lines: loop {
-        match split_packet_line(rest) {
-            Ok(Some((line, behind))) => {
-                append(text, &[b"> ", content(line), b"\n"])?;
-                rest = behind;
-            }
-            Ok(None) => return Ok(()),
-            Err(_) => return Ok(()),
-        }
-    }
-}
-
-// A request after its number.
-fn append_request(
-    alloc: Global,
-    text: &mut Vec<u8>,
-    number: usize,
-    request: &[u8],
-) -> Result<(), AllocError>
-    ensures { OnOk result (text.new.items ≡ text.old.items ++ request_shown number (frames_of request.now).list) }
-{
-    let number = number.to_string(alloc)?;
-    append(text, &[b"request ", number.as_bytes(), b"\n"])?;
-    append_packet_lines(text, request)
-}
-
-// The requests, numbered from 1 on.
-fn append_requests(
-    alloc: Global,
-    text: &mut Vec<u8>,
-    requests: &[Vec<u8>],
-) -> Result<(), AllocError>
-    ensures { OnOk result (text.new.items ≡ text.old.items ++ requests_shown (map vec_items requests.now)) }
-{
-    for (place, request) in requests.iter().enumerate() {
-        append_request(alloc, text, place + 1, request)?;
-    }
-    Ok(())
-}
-
-// The name of what is taken, or a dash.
-#[inline(always)]
-fn remote_name(source: &Source) -> &[u8]
-    ensures { result.now ≡ name_shown (source_name source.now) }
-{
-    match source.as_name() {
-        Some(name) => name.as_bytes(),
-        None => b"-",
-    }
-}
-
-// The local name, or a dash.
-#[inline(always)]
-fn local_name(local: &Option<BString>) -> &[u8]
-    ensures { result.now ≡ name_shown (option_map bstring_bytes local.now) }
-{
-    match local {
-        Some(name) => name.as_bytes(),
-        None => b"-",
-    }
-}
-
-// A mapping.
-#[inline(always)]
-fn append_mapping(text: &mut Vec<u8>, mapping: &Mapping) -> Result<(), AllocError>
-    ensures { OnOk result (text.new.items ≡ text.old.items ++ mapping_shown mapping.now) }
-{
-    let name = remote_name(&mapping.remote);
-    let local = local_name(&mapping.local);
-    match mapping.remote.as_id() {
-        Some(id) => append(
-            text,
-            &[b"map ", &id.to_hex(), b" ", name, b" ", local, b"\n"],
-        ),
-        None => append(text, &[b"map ", b"unborn", b" ", name, b" ", local, b"\n"]),
-    }
-}
-
-// The mappings.
-fn append_mappings(text: &mut Vec<u8>, mappings: &[Mapping]) -> Result<(), AllocError>
-    ensures { OnOk result (text.new.items ≡ text.old.items ++ flat_map mapping_shown mappings.now) }
-{
-    for mapping in mappings {
-        append_mapping(text, mapping)?;
-    }
-    Ok(())
-}
-
-// A mapping that was taken out.
-fn append_fix(text: &mut Vec<u8>, fix: &Fix) -> Result<(), AllocError>
-    ensures { OnOk result (text.new.items ≡ text.old.items ++ fix_shown fix.now) }
-{
-    let Fix::MappingWithPartialDestinationRemoved { name, spec } = fix;
-    append(
-        text,
-        &[b"fix ", name.as_bytes(), b" ", spec.as_bytes(), b"\n"],
-    )
-}
-
-// Those that were taken out.
-fn append_fixes(text: &mut Vec<u8>, fixes: &[Fix]) -> Result<(), AllocError>
-    ensures { OnOk result (text.new.items ≡ text.old.items ++ flat_map fix_shown fixes.now) }
-{
-    for fix in fixes {
-        append_fix(text, fix)?;
-    }
-    Ok(())
-}
-
-// The mappings, and then those that were taken out.
-fn append_map(text: &mut Vec<u8>, map: &RefMap) -> Result<(), AllocError>
-    ensures { OnOk result (text.new.items ≡ text.old.items ++ map_shown map.now) }
-{
-    append_mappings(text, &map.mappings)?;
-    append_fixes(text, &map.fixes)
-}
-
-// Where the refs were mapped.
-fn append_mapped(text: &mut Vec<u8>, mapped: &Option<RefMap>) -> Result<(), AllocError>
-    ensures { OnOk result (text.new.items ≡ text.old.items ++ mapped_shown mapped.now) }
-{
-    match mapped {
-        Some(map) => append_map(text, map),
-        None => Ok(()),
-    }
-}
-
-// Whether a pack came.
-fn append_end(text: &mut Vec<u8>, ended: &Result<bool, PlanError>) -> Result<(), AllocError>
-    ensures { OnOk result (text.new.items ≡ text.old.items ++ end_shown (ended_of ended.now)) }
-{
-    match ended {
-        Ok(true) => append(text, &[b"pack\n"]),
-        Ok(false) => append(text, &[b"nothing\n"]),
-        Err(_) => Ok(()),
-    }
-}
-
-// About how long the requests are when they are shown: a packet line is no shorter, unless it has no payload.
-fn requests_room(requests: &[Vec<u8>]) -> usize {
-    let mut room: usize = 0;
-    for request in requests {
-        room = room.saturating_add(request.len()).saturating_add(64);
-    }
-    room
-}
-
-// How long a mapping is when it is shown.
-fn mapping_room(mapping: &Mapping) -> usize {
-    let names = remote_name(&mapping.remote)
-        .len()
-        .saturating_add(local_name(&mapping.local).len());
-    names.saturating_add(47)
-}
-
-// How long the mappings are.
-fn mappings_room(mapped: &Option<RefMap>) -> usize {
-    let Some(map) = mapped else {
-        return 0;
-    };
-    let mut room: usize = 0;
-    for mapping in &map.mappings {
-        room = room.saturating_add(mapping_room(mapping));
-    }
-    room
-}
-
-// The text: the requests, the mappings, and whether a pack came. It gets its room at once, since one that grows is there twice
-// while it is moved.
-fn course_text(
-    alloc: Global,
-    requests: &[Vec<u8>],
-    mapped: &Option<RefMap>,
-    ended: &Result<bool, PlanError>,
-) -> Result<Vec<u8>, AllocError>
-    ensures { IfOk result (λ text. text.items ≡ course_shown (course_of requests.now mapped.now ended.now)) }
-{
-    let room = requests_room(requests).saturating_add(mappings_room(mapped));
-    let mut text = Vec::with_capacity(alloc, room)?;
-    append_requests(alloc, &mut text, requests)?;
-    append_mapped(&mut text, mapped)?;
-    append_end(&mut text, ended)?;
-    Ok(text)
 }
 
 // How many bytes of the text one write takes: none where it is interrupted.
@@ -279,7 +92,247 @@ fn write_whole<W: Write>(writer: &mut W, text: &[u8]) -> Result<(), PlanError>
     }
 }
 
+// Writes what is pending once it is long. Its room is kept, and serves for what comes.
+fn settle<W: Write>(writer: &mut W, pending: &mut Vec<u8>) -> Result<(), PlanError>
+    ensures text { HoldsRest (W.contents writer.old) (W.contents writer.new) pending.new.items pending.old.items result }
+    ensures short { OnOk result (length pending.new.items < LONG) }
+{
+    if pending.len() < LONG {
+        return Ok(());
+    }
+    write_text(writer, pending)?;
+    pending.clear();
+    Ok(())
+}
+
+// Puts the pieces behind what is pending.
+#[tactic(auto, using(crate::proofs::PrintLemmas::written_none))]
+fn put<W: Write>(writer: &mut W, pending: &mut Vec<u8>, pieces: &[&[u8]]) -> Result<(), PlanError>
+    ensures text { HoldsRest (W.contents writer.old) (W.contents writer.new) pending.new.items
+        (pending.old.items ++ flat_map (λ piece. piece.now) pieces.now) result }
+    ensures short { OnOk result (length pending.new.items < LONG) }
+{
+    match append(pending, pieces) {
+        Ok(()) => settle(writer, pending),
+        Err(AllocError) => Err(PlanError::memory("file")),
+    }
+}
+
+// The packet lines of a request.
+fn write_packet_lines<W: Write>(
+    writer: &mut W,
+    pending: &mut Vec<u8>,
+    request: &[u8],
+) -> Result<(), PlanError>
+    ensures { HoldsRest (W.contents writer.old) (W.contents writer.new) pending.new.items
+        (pending.old.items ++ flat_map frame_shown (frames_of request.now).list) result }
+{
+    let mut rest = request;
+    'lines: loop {
+        match split_packet_line(rest) {
+            Ok(Some((line, behind))) => {
+                put(writer, pending, &[b"> ", content(line), b"\n"])?;
+                rest = behind;
+            }
+            Ok(None) => return Ok(()),
+            Err(_) => return Ok(()),
+        }
+    }
+}
+
+// A request after its number.
+fn write_request<W: Write>(
+    alloc: Global,
+    writer: &mut W,
+    pending: &mut Vec<u8>,
+    number: usize,
+    request: &[u8],
+) -> Result<(), PlanError>
+    ensures { HoldsRest (W.contents writer.old) (W.contents writer.new) pending.new.items
+        (pending.old.items ++ request_shown number (frames_of request.now).list) result }
+{
+    let Ok(number) = number.to_string(alloc) else {
+        return Err(PlanError::memory("file"));
+    };
+    put(writer, pending, &[b"request ", number.as_bytes(), b"\n"])?;
+    write_packet_lines(writer, pending, request)
+}
+
+// The requests, numbered from 1 on.
+fn write_requests<W: Write>(
+    alloc: Global,
+    writer: &mut W,
+    pending: &mut Vec<u8>,
+    requests: &[Vec<u8>],
+) -> Result<(), PlanError>
+    ensures { HoldsRest (W.contents writer.old) (W.contents writer.new) pending.new.items
+        (pending.old.items ++ requests_shown (map vec_items requests.now)) result }
+{
+    for (place, request) in requests.iter().enumerate() {
+        write_request(alloc, writer, pending, place + 1, request)?;
+    }
+    Ok(())
+}
+
+// The name of what is taken, or a dash.
+#[inline(always)]
+fn remote_name(source: &Source) -> &[u8]
+    ensures { result.now ≡ name_shown (source_name source.now) }
+{
+    match source.as_name() {
+        Some(name) => name.as_bytes(),
+        None => b"-",
+    }
+}
+
+// The local name, or a dash.
+#[inline(always)]
+fn local_name(local: &Option<BString>) -> &[u8]
+    ensures { result.now ≡ name_shown (option_map bstring_bytes local.now) }
+{
+    match local {
+        Some(name) => name.as_bytes(),
+        None => b"-",
+    }
+}
+
+// A mapping.
+#[inline(always)]
+fn write_mapping<W: Write>(
+    writer: &mut W,
+    pending: &mut Vec<u8>,
+    mapping: &Mapping,
+) -> Result<(), PlanError>
+    ensures { HoldsRest (W.contents writer.old) (W.contents writer.new) pending.new.items
+        (pending.old.items ++ mapping_shown mapping.now) result }
+{
+    let name = remote_name(&mapping.remote);
+    let local = local_name(&mapping.local);
+    match mapping.remote.as_id() {
+        Some(id) => put(
+            writer,
+            pending,
+            &[b"map ", &id.to_hex(), b" ", name, b" ", local, b"\n"],
+        ),
+        None => put(
+            writer,
+            pending,
+            &[b"map ", b"unborn", b" ", name, b" ", local, b"\n"],
+        ),
+    }
+}
+
+// The mappings.
+fn write_mappings<W: Write>(
+    writer: &mut W,
+    pending: &mut Vec<u8>,
+    mappings: &[Mapping],
+) -> Result<(), PlanError>
+    ensures { HoldsRest (W.contents writer.old) (W.contents writer.new) pending.new.items
+        (pending.old.items ++ flat_map mapping_shown mappings.now) result }
+{
+    for mapping in mappings {
+        write_mapping(writer, pending, mapping)?;
+    }
+    Ok(())
+}
+
+// A mapping that was taken out.
+fn write_fix<W: Write>(writer: &mut W, pending: &mut Vec<u8>, fix: &Fix) -> Result<(), PlanError>
+    ensures { HoldsRest (W.contents writer.old) (W.contents writer.new) pending.new.items (pending.old.items ++ fix_shown fix.now) result }
+{
+    let Fix::MappingWithPartialDestinationRemoved { name, spec } = fix;
+    put(
+        writer,
+        pending,
+        &[b"fix ", name.as_bytes(), b" ", spec.as_bytes(), b"\n"],
+    )
+}
+
+// Those that were taken out.
+fn write_fixes<W: Write>(
+    writer: &mut W,
+    pending: &mut Vec<u8>,
+    fixes: &[Fix],
+) -> Result<(), PlanError>
+    ensures { HoldsRest (W.contents writer.old) (W.contents writer.new) pending.new.items
+        (pending.old.items ++ flat_map fix_shown fixes.now) result }
+{
+    for fix in fixes {
+        write_fix(writer, pending, fix)?;
+    }
+    Ok(())
+}
+
+// The mappings, and then those that were taken out.
+fn write_map<W: Write>(writer: &mut W, pending: &mut Vec<u8>, map: &RefMap) -> Result<(), PlanError>
+    ensures { HoldsRest (W.contents writer.old) (W.contents writer.new) pending.new.items (pending.old.items ++ map_shown map.now) result }
+{
+    write_mappings(writer, pending, &map.mappings)?;
+    write_fixes(writer, pending, &map.fixes)
+}
+
+// Where the refs were mapped.
+fn write_mapped<W: Write>(
+    writer: &mut W,
+    pending: &mut Vec<u8>,
+    mapped: &Option<RefMap>,
+) -> Result<(), PlanError>
+    ensures { HoldsRest (W.contents writer.old) (W.contents writer.new) pending.new.items
+        (pending.old.items ++ mapped_shown mapped.now) result }
+{
+    match mapped {
+        Some(map) => write_map(writer, pending, map),
+        None => Ok(()),
+    }
+}
+
+// Whether a pack came.
+fn end_text(ended: &Result<bool, PlanError>) -> &'static [u8]
+    ensures { result.now ≡ end_shown (ended_of ended.now) }
+{
+    match ended {
+        Ok(true) => b"pack\n",
+        Ok(false) => b"nothing\n",
+        Err(_) => b"",
+    }
+}
+
+// Whether a pack came, behind what is pending. No byte of it is left in the writer.
+#[tactic(auto, using(crate::proofs::PrintLemmas::written_none))]
+fn write_end<W: Write>(
+    writer: &mut W,
+    pending: &mut Vec<u8>,
+    ended: &Result<bool, PlanError>,
+) -> Result<(), PlanError>
+    ensures { WritesPlan (W.contents writer.old) (W.contents writer.new) (pending.old.items ++ end_shown (ended_of ended.now)) result }
+{
+    match pending.extend_from_slice(end_text(ended)) {
+        Ok(()) => write_whole(writer, pending),
+        Err(AllocError) => Err(PlanError::memory("file")),
+    }
+}
+
+// The requests, and then the mappings.
+#[tactic(auto, using(crate::proofs::PrintLemmas::first_fails, crate::proofs::PrintLemmas::second_rests))]
+fn write_steps<W: Write>(
+    alloc: Global,
+    writer: &mut W,
+    pending: &mut Vec<u8>,
+    requests: &[Vec<u8>],
+    mapped: &Option<RefMap>,
+) -> Result<(), PlanError>
+    ensures { HoldsRest (W.contents writer.old) (W.contents writer.new) pending.new.items
+        (pending.old.items ++ (requests_shown (map vec_items requests.now) ++ mapped_shown mapped.now)) result }
+{
+    match write_requests(alloc, writer, pending, requests) {
+        Ok(()) => write_mapped(writer, pending, mapped),
+        Err(e) => Err(e),
+    }
+}
+
 // Writes the requests, the mappings, and whether a pack came.
+#[tactic(auto, using(crate::proofs::PrintLemmas::course_ends))]
 pub(crate) fn write_course<W: Write>(
     alloc: Global,
     writer: &mut W,
@@ -290,8 +343,7 @@ pub(crate) fn write_course<W: Write>(
     ensures { WritesPlan (W.contents writer.old) (W.contents writer.new)
         (course_shown (course_of requests.now mapped.now ended.now)) result }
 {
-    match course_text(alloc, requests, mapped, ended) {
-        Ok(text) => write_whole(writer, &text),
-        Err(_) => Err(PlanError::memory("file")),
-    }
+    let mut pending = Vec::new(alloc);
+    write_steps(alloc, writer, &mut pending, requests, mapped)?;
+    write_end(writer, &mut pending, ended)
 }

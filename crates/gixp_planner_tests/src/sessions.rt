@@ -116,21 +116,26 @@ fn reads_what_a_folder_has(rt: HostRuntime) -> Result<(), Fail> {
     Ok(())
 }
 
-// A session of version 2 with two refs and a pack.
-fn session_folder(rt: &HostRuntime, name: &str) -> io::Result<String> {
+// A session of version 2 with these refs and a pack.
+fn folder_of_refs(rt: &HostRuntime, name: &str, refs: &str) -> io::Result<String> {
     let folder = new_folder(rt, name)?;
     let path = folder.as_str();
     let greeting =
         "000eversion 2\n0013ls-refs=unborn\n0012fetch=shallow\n0017object-format=sha1\n0000";
     put(rt, path, "0", greeting)?;
-    let refs = "003d0123456789012345678901234567890123456789 refs/heads/main\n\
-        003abbbbbbbbbbbbbbbbbbbbbbbbbbbbbbbbbbbbbbbb refs/tags/v1\n0000";
     put(rt, path, "1", refs)?;
     put(rt, path, "2", "000dpackfile\n0006\x01P0000")?;
     let haves = "cccccccccccccccccccccccccccccccccccccccc\n\
         dddddddddddddddddddddddddddddddddddddddd\n";
     put(rt, path, "haves", haves)?;
     Ok(folder)
+}
+
+// The same of two refs.
+fn session_folder(rt: &HostRuntime, name: &str) -> io::Result<String> {
+    let refs = "003d0123456789012345678901234567890123456789 refs/heads/main\n\
+        003abbbbbbbbbbbbbbbbbbbbbbbbbbbbbbbbbbbbbbbb refs/tags/v1\n0000";
+    folder_of_refs(rt, name, refs)
 }
 
 const PLANNED: &str =
@@ -207,6 +212,43 @@ fn tells_of_a_flush_that_fails(rt: HostRuntime) -> Result<(), Fail> {
     fs::remove_dir_all(&rt, folder.as_str())?;
     assert!(rt; answer == Err(UNREAD));
     assert!(rt; paper.bytes.as_slice() == PLANNED.as_bytes());
+    Ok(())
+}
+
+// A thousand branches, and the lines of their mappings.
+fn thousand_branches(alloc: Global) -> Result<(String, String), AllocError> {
+    let mut refs = String::new(alloc);
+    let mut lines = String::new(alloc);
+    let id = "0123456789012345678901234567890123456789";
+    for number in 1000..2000usize {
+        let branch = format!(in alloc; "0043{id} refs/heads/topic-{number}\n")?;
+        refs.push_str(branch.as_str())?;
+        let line = format!(in alloc;
+            "map {id} refs/heads/topic-{number} refs/remotes/origin/topic-{number}\n"
+        )?;
+        lines.push_str(line.as_str())?;
+    }
+    refs.push_str("0000")?;
+    lines.push_str("pack\n")?;
+    Ok((refs, lines))
+}
+
+// Of a long text a piece is written that ends with the line of 98 bytes by which it got long. It stands where the next write fails.
+#[test]
+fn writes_a_long_text_in_pieces(rt: HostRuntime) -> Result<(), Fail> {
+    let (refs, lines) = thousand_branches(rt.alloc())?;
+    let folder = folder_of_refs(&rt, "long", refs.as_str())?;
+    let mut whole = Paper::new(rt.alloc(), usize::MAX);
+    let mut broken = Paper::failing(rt.alloc(), usize::MAX, 1, ErrorKind::BrokenPipe);
+    let answers = (
+        planned(&rt, folder.as_str(), &mut whole)?,
+        planned(&rt, folder.as_str(), &mut broken)?,
+    );
+    fs::remove_dir_all(&rt, folder.as_str())?;
+    assert!(rt; answers == (Ok(()), Err(UNREAD)));
+    assert!(rt; whole.bytes.as_slice().ends_with(lines.as_bytes()));
+    assert!(rt; whole.bytes.as_slice().starts_with(&broken.bytes));
+    assert!(rt; (65_536..65_536 + 98).contains(&broken.bytes.len()));
     Ok(())
 }
 
