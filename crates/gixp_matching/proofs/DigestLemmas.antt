@@ -1,5 +1,5 @@
 -- Keys whose numbers differ are different.
-use Rattle.std.proofs.Common.{rules, ◌≡◌, ℕ, Bool, true, false, List, [], ◌∷◌, map, Option, Ordering, refl, sym, ap, subst, ◌∙◌}
+use Rattle.std.proofs.Common.{rules, ◌≡◌, ℕ, Bool, true, false, List, [], ◌∷◌, map, Option, Ordering, refl, sym, ap, ◌∙◌}
 use Rattle.std.specs.List.{AllByRecursion, IsDistinct}
 use Rattle.std.specs.Borrow.{Bor}
 use Rattle.std.specs.Prelude.{◌&&◌}
@@ -7,14 +7,11 @@ use Rattle.std.specs.Ordering.{nat_cmp, eq_by_cmp, ordering_then}
 use Rattle.std.specs.Str.{bytes_eq}
 use Rattle.std.proofs.lemmas.Bool.{and_parts, false≢true}
 use Rattle.std.proofs.lemmas.Slice.Eq.{bytes_eq-Decides}
-use Rattle.gixp_matching.specs.declared.match_group.key.KeyBytes.{KeyBytes}
 use Rattle.gixp_matching.specs.Apart.{parts}
 use Rattle.gixp_matching.specs.Digest.{digest, parts_digest, with_digest, number_parts}
 use Rattle.gixp_matching.specs.Mappings.{Source, Mapped, source_eq, local_eq, is_same, firsts}
 use Rattle.gixp_matching.proofs.DistinctLemmas.{parts_eq, distinct-map, no_repeats}
-use Rattle.gixp_matching.specs.MatchGroup.{key_bytes}
-use Rattle.gixp_matching.proofs.KeyLemmas.{Key, by_key, by_bytes, is_eq-key, is_eq-then, same_source_is, same_local_is}
-use Rattle.std.proofs.lemmas.Map.Text.{is_eq-slice_cmp}
+use Rattle.gixp_matching.proofs.KeyLemmas.{Key, by_key, is_eq-key, is_eq-then, same_source_is, same_local_is}
 
 pub same_number : (a : ℕ) → eq_by_cmp nat_cmp a a ≡ true
 same_number a = search rules

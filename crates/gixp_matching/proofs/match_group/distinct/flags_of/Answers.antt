@@ -1,6 +1,5 @@
 -- A sort tells which mappings are first ones.
-use Rattle.std.proofs.Common.{◌∙◌, ap, sym, map, refl, subst}
-use Rattle.std.specs.List.{IsDistinct}
+use Rattle.std.proofs.Common.{◌∙◌, ap, sym, map}
 use Rattle.gixp_matching.specs.Apart.{key_parts, parts}
 use Rattle.gixp_matching.specs.Digest.{with_digest, number_parts}
 use Rattle.gixp_matching.specs.MatchGroup.{mapped_of}

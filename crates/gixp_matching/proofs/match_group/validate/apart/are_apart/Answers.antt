@@ -1,5 +1,5 @@
 -- Local names whose numbers are all different are so themselves.
-use Rattle.std.proofs.Common.{map, refl, subst}
+use Rattle.std.proofs.Common.{map, subst}
 use Rattle.std.specs.List.{IsDistinct}
 use Rattle.gixp_matching.specs.Apart.{locals}
 use Rattle.gixp_matching.specs.MatchGroup.{mapped_of}

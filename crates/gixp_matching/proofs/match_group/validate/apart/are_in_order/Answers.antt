@@ -1,5 +1,5 @@
 -- Local names that rise are all different.
-use Rattle.std.proofs.Common.{[], ◌++◌, ◌∙◌, ◌≤◌, ap, map, take, length, refl, arith}
+use Rattle.std.proofs.Common.{[], ◌++◌, ◌∙◌, ◌≤◌, ap, map, length, refl, arith}
 use Rattle.std.specs.Prelude.{option_to_list}
 use Rattle.std.proofs.lemmas.List.{map-append, take_all, length-map}
 use Rattle.std.proofs.lemmas.Map.Keys.{IsDistinct-from_sorted}

@@ -1,5 +1,5 @@
 -- The number of one local name more, where the mapping has one.
-use Rattle.std.proofs.Common.{◌∙◌, ◌≤◌, ap, map, take, length, arith}
+use Rattle.std.proofs.Common.{◌∙◌, ◌≤◌, ap, map, length, arith}
 use Rattle.std.specs.Prelude.{option_to_list}
 use Rattle.std.specs.List.{flat_map}
 use Rattle.std.proofs.lemmas.List.{take_all, length-map}

@@ -1,5 +1,5 @@
 -- The conflicts over the groups are those of the mappings.
-use Rattle.std.proofs.Common.{◌≤◌, ◌∙◌, ap, sym, subst, map, length, take, arith}
+use Rattle.std.proofs.Common.{◌≤◌, ◌∙◌, ap, subst, map, length, arith}
 use Rattle.std.specs.List.{flat_map}
 use Rattle.std.proofs.lemmas.List.{take_all, length-map}
 use Rattle.gixp_matching.specs.Groups.{AreGroups}

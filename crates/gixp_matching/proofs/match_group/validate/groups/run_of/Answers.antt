@@ -1,5 +1,5 @@
 -- What stands before the first other one.
-use Rattle.std.proofs.Common.{◌∙◌, ap, length, take, drop}
+use Rattle.std.proofs.Common.{◌∙◌, ap, take, drop}
 use Rattle.std.proofs.lemmas.List.{length-take-le}
 use Rattle.gixp_matching.proofs.GroupLemmas.{taken_run, dropped_run}
 use Rattle.gixp_matching.proofs.match_group.validate.groups.run_of.Goals as goal
