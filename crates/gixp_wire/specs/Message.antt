@@ -56,26 +56,9 @@ request_frames messages = map message_frame messages
 abbrev pub all_fit : List Message → Bool
 all_fit messages = list_all message_fits messages
 
--- the frames of some lines
-abbrev pub line_frames : List BString → List Frame
-line_frames lines = map (λ line. line_frame (bstring_bytes line)) lines
-
--- whether each of them can be written
+-- whether each of some lines can be written
 abbrev pub lines_fit : List BString → Bool
 lines_fit lines = list_all (λ line. fits (bstring_bytes line)) lines
-
--- some messages, then the lines of two lists, then some messages
-abbrev pub lined_values : List Message → List BString → List BString → List Message → List MessageValue
-lined_values front lines more behind =
-    map message_value front ++ (map text (map bstring_bytes lines) ++ (map text (map bstring_bytes more) ++ map message_value behind))
-
--- their frames
-abbrev pub lined_frames : List Message → List BString → List BString → List Message → List Frame
-lined_frames front lines more behind = map value_frame (lined_values front lines more behind)
-
--- whether each of their lines can be written
-abbrev pub lined_fit : List Message → List BString → List BString → List Message → Bool
-lined_fit front lines more behind = list_all value_fits (lined_values front lines more behind)
 
 -- a feature as a line: its name, and its value after an equals sign
 abbrev pub feature_line : List ℕ → Option (List ℕ) → List ℕ

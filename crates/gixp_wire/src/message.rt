@@ -1,6 +1,6 @@
 //! The messages of which a request is made.
 ghost use Rattle.std.specs.Prelude.{◌≡◌};
-ghost use Rattle.gixp_wire.specs.Message.{fits, message_fits, all_fit, lines_fit, lined_fit};
+ghost use Rattle.gixp_wire.specs.Message.{fits, message_fits, all_fit, lines_fit};
 
 use bstr::BString;
 
@@ -42,8 +42,8 @@ impl<'a> Message<'a> {
     }
 }
 
-// Whether each message can be sent.
-fn all_fit(messages: &[Message<'_>]) -> bool
+/// Whether each message can be sent.
+pub(crate) fn all_fit(messages: &[Message<'_>]) -> bool
     ensures { result ≡ all_fit messages.now }
 {
     messages.iter().all(|message| message.fits())
@@ -54,17 +54,4 @@ pub(crate) fn lines_fit(lines: &[BString]) -> bool
     ensures { result ≡ lines_fit lines.now }
 {
     lines.iter().all(|line| fits_line(line.as_bytes()))
-}
-
-// Whether each message and each line can be sent.
-#[tactic(auto, using(crate::proofs::TransportLemmas::lined_fit_parts))]
-pub(crate) fn lined_fit(
-    front: &[Message<'_>],
-    lines: &[BString],
-    more: &[BString],
-    behind: &[Message<'_>],
-) -> bool
-    ensures { result ≡ lined_fit front.now lines.now more.now behind.now }
-{
-    all_fit(front) && lines_fit(lines) && lines_fit(more) && all_fit(behind)
 }

@@ -6,11 +6,11 @@ ghost use Rattle.gixp_capabilities.specs.declared.client.Error.TheVariants.{Memo
 ghost use Rattle.gixp_wire.specs.Greeting.{parameters_of};
 ghost use Rattle.gixp_wire.specs.Handshake.{Handshakes, Identifies};
 ghost use Rattle.gixp_packetline.specs.FrameText.{frame_text, message_text, texts_of};
-ghost use Rattle.gixp_wire.specs.Message.{line_frame, message_frame, message_fits, request_frames, all_fit, line_frames, lines_fit, lined_frames, lined_fit, feature_lines, command_frames, command_fits};
+ghost use Rattle.gixp_wire.specs.Message.{line_frame, message_frame, message_fits, request_frames, all_fit, feature_lines, command_frames, command_fits};
 ghost use Rattle.gixp_wire.specs.Transport.{Begins, Writes, WritesAll, Ends, Sends};
 
 use crate::command::{command_fits, command_lines, command_messages};
-use crate::message::{Feature, MAX_LINE, Message, lined_fit};
+use crate::message::{Feature, MAX_LINE, Message, all_fit};
 use crate::service::{Account, Service, SetServiceResponse};
 use bstr::{BStr, BString};
 use gixp_capabilities::client::Error;
@@ -142,60 +142,12 @@ pub trait Transport: ExtendedBufRead {
         Ok(())
     }
 
-    /// Writes lines of a request that is begun, one after another, each with an LF after it as one
-    /// packet line (gitprotocol-common, "pkt-line Format"). They fit.
-    ///
-    /// # Errors
-    ///
-    /// As `write_text`; some of the lines may be written.
-    final fn write_lines(&mut self, lines: &[BString]) -> Result<(), Error>
-    where
-        Self: Sized,
-        requires whole { (Self.reading self.old).held.broken ≡ None }
-        requires fit { lines_fit lines.now ≡ true }
-        ensures { WritesAll (Self.reading self.old) (Self.reading self.new) (texts_of (line_frames lines.now)) result }
-    {
-        for line in lines {
-            self.write_text(line.as_bytes())?;
-        }
-        Ok(())
-    }
-
-    /// Sends a whole request: messages, then the lines of two lists, then messages (gitprotocol-v2,
-    /// "Command Request"). The lines are written from where they stand: no list of all messages is
-    /// made.
+    /// Sends a whole request of these messages.
     ///
     /// # Errors
     ///
     /// `LineTooLong` where a line doesn't fit into a packet line, before anything is written. Else as
     /// `write_text` and `end_request`; after `Memory` the request counts for nothing.
-    final fn request_with_lines(
-        &mut self,
-        front: &[Message<'_>],
-        lines: &[BString],
-        more: &[BString],
-        behind: &[Message<'_>],
-    ) -> Result<(), Error>
-    where
-        Self: Sized,
-        ensures sends { Sends (Self.reading self.old) (Self.reading self.new)
-            (lined_fit front.now lines.now more.now behind.now)
-            (texts_of (lined_frames front.now lines.now more.now behind.now)) result }
-        ensures fit { result ≡ Err Memory → lined_fit front.now lines.now more.now behind.now ≡ true }
-    {
-        if !lined_fit(front, lines, more, behind) {
-            return Err(Error::LineTooLong);
-        }
-        self.begin_request()?;
-        write_with_lines(self, front, lines, more, behind)?;
-        self.end_request()
-    }
-
-    /// Sends a whole request of these messages.
-    ///
-    /// # Errors
-    ///
-    /// As `request_with_lines`.
     final fn request(&mut self, messages: &[Message<'_>]) -> Result<(), Error>
     where
         Self: Sized,
@@ -203,7 +155,12 @@ pub trait Transport: ExtendedBufRead {
             (texts_of (request_frames messages.now)) result }
         ensures fit { result ≡ Err Memory → all_fit messages.now ≡ true }
     {
-        self.request_with_lines(messages, &[], &[], &[])
+        if !all_fit(messages) {
+            return Err(Error::LineTooLong);
+        }
+        self.begin_request()?;
+        self.write_all(messages)?;
+        self.end_request()
     }
 
     /// Sends a command of version 2: its name, the features as `name` or `name=value`, then after
@@ -233,24 +190,4 @@ pub trait Transport: ExtendedBufRead {
         let messages = command_messages(alloc, &lines, arguments)?;
         self.request(&messages)
     }
-}
-
-// Writes messages of a request that is begun, then the lines of two lists, then messages.
-#[tactic(auto, using(crate::proofs::TransportLemmas::lined_fit_parts))]
-fn write_with_lines<T: Transport>(
-    transport: &mut T,
-    front: &[Message<'_>],
-    lines: &[BString],
-    more: &[BString],
-    behind: &[Message<'_>],
-) -> Result<(), Error>
-    requires whole { (T.reading transport.old).held.broken ≡ None }
-    requires fit { lined_fit front.now lines.now more.now behind.now ≡ true }
-    ensures { WritesAll (T.reading transport.old) (T.reading transport.new)
-        (texts_of (lined_frames front.now lines.now more.now behind.now)) result }
-{
-    transport.write_all(front)?;
-    transport.write_lines(lines)?;
-    transport.write_lines(more)?;
-    transport.write_all(behind)
 }
