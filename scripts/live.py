@@ -495,6 +495,12 @@ def ends_at_common(name, t):
     for kind, text, most in (("newest first", lines, 300), ("a parent before its child", [*lines[98:102][::-1], *lines[:98], *lines[102:]], 300), ("the common half alone", lines[100:], 40)):
         status, out, err, room, haves = by_list(t, server, text, specs=["refs/heads/other"])
         t.check(f"{name}, {kind}", status == 0 and 0 < haves < most, f"{status} {haves} {out} {err}")
+    held = t.folder("refs")
+    held.write_text(t.git("show-ref", "-d", at=client))
+    spoiled = [*lines[:1999], "nonsense", *lines[2000:]]
+    for what, words, wanted in (("tips are known", [f"--refs={held}"], 0), ("tips aren't known", [], 1)):
+        status, out, err, room, haves = by_list(t, server, spoiled, *words, specs=["refs/heads/other"])
+        t.check(f"{name}, {what}", status == wanted and 0 < haves < 300, f"{status} {haves} {out} {err}")
 
 
 def left_listing(t):
@@ -509,8 +515,8 @@ def left_listing(t):
     return found
 
 
-def listed(server):
-    return (f"file://{server}", f"gixp::{server}"), {"GIXP_NEGOTIATOR": "list"}
+def consecutive(server):
+    return (f"file://{server}", f"gixp::{server}"), {"GIXP_NEGOTIATOR": "consecutive"}
 
 
 def leaves_no_listing(name, t):
@@ -788,8 +794,8 @@ def try_fetches(t):
             ("a new commit into a shallow clone", [], grown(2), ["--depth", "2"]), ("--unshallow", ["--unshallow"], grown(2), ["--depth", "2"]),
             ("--depth 3", ["--depth", "3"], grown(2), ["--depth", "1"]), ("--depth 2 of a whole clone", ["--depth", "2"], grown(2), []),
         ):
-            t.case(f"list: fetch of {name}, version {version}", fetches, small, words, version, change, cloned, listed)
-    t.case("list: clone", clones, small(), "2", over=listed)
+            t.case(f"consecutive: fetch of {name}, version {version}", fetches, small, words, version, change, cloned, consecutive)
+    t.case("consecutive: clone", clones, small(), "2", over=consecutive)
     t.case("fetch of 2,000 new commits", fetches, small, [], "2", grown(2000))
     for spec in ("refs/heads/main:refs/x/main", "+refs/heads/*:refs/x/*", "main:x", "+refs/heads/s*:refs/x/s*", "HEAD:refs/x/head", "refs/tags/v1:refs/x/v1", "side", "refs/heads/*:refs/x/*"):
         t.case(f"fetch origin {spec}", fetches, small, ["origin", spec], "2", grown(2))

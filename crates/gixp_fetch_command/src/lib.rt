@@ -138,7 +138,7 @@ fn offer_in_order<T: Transport, P: PackPlace>(
     let alloc = rt.alloc();
     let file = File::open(rt, path).map_err(|e| Failure::of_file(alloc, path, e.kind()))?;
     let text = BufReader::new(alloc, file).map_err(|_| Failure::Memory)?;
-    let mut negotiator = ListedCommits::new(alloc, text);
+    let mut negotiator = ListedCommits::new(alloc, text, repository.tips.take());
     match session.fetch(repository, &mut negotiator, asked, sink, shown) {
         Ok(outcome) => Ok(outcome),
         Err(e) => Err(failure_of(alloc, path, negotiator.refusal(), e)),

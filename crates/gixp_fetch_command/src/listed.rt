@@ -31,6 +31,9 @@ struct CommitText<R> {
     read: StoredObjects,
     // Commits that the server has too, of which it needn't be told.
     common: BTreeSet<ObjectId>,
+    // Commits that aren't read yet, and that nothing says the server has: tips, and what commits that were offered lead to. Where
+    // the tips are known, a text of all that they lead to has nothing to offer behind the last of these.
+    awaited: Option<BTreeSet<ObjectId>>,
     refusal: Option<Refusal>,
 }
 
@@ -41,6 +44,21 @@ fn commit_id(line: &[u8]) -> Option<ObjectId> {
         Ok(id) => Some(id),
         Err(_) => None,
     }
+}
+
+// Adds the commits that aren't read, and that nothing says the server has.
+fn add_awaited(
+    awaited: &mut BTreeSet<ObjectId>,
+    commits: &[ObjectId],
+    common: &BTreeSet<ObjectId>,
+    read: &StoredObjects,
+) -> Result<(), AllocError> {
+    for id in commits {
+        if !common.contains(id) && !read.has_object(id) {
+            awaited.insert(*id)?;
+        }
+    }
+    Ok(())
 }
 
 impl<R: BufRead> CommitText<R> {
@@ -98,6 +116,34 @@ impl<R: BufRead> CommitText<R> {
         }
     }
 
+    // A commit isn't awaited any longer.
+    fn forget(&mut self, id: &ObjectId)
+        ensures common { self.new.common ≡ self.old.common }
+    {
+        if let Some(awaited) = &mut self.awaited {
+            awaited.remove(id);
+        }
+    }
+
+    // The parents of a commit that is offered are awaited.
+    fn await_parents(&mut self, id: &ObjectId) -> Result<(), NegotiatorError>
+        ensures common { self.new.common ≡ self.old.common }
+    {
+        let parents = self.parents(id)?;
+        if let Some(awaited) = &mut self.awaited {
+            add_awaited(awaited, &parents, &self.common, &self.read)?;
+        }
+        Ok(())
+    }
+
+    // Whether no commit can be offered any more, as far as the tips tell.
+    fn is_over(&self) -> bool {
+        match &self.awaited {
+            Some(awaited) => awaited.is_empty(),
+            None => false,
+        }
+    }
+
     // The server has the parents of a commit. Those that weren't common wait for the same.
     fn share_parents(
         &mut self,
@@ -106,6 +152,7 @@ impl<R: BufRead> CommitText<R> {
     ) -> Result<(), NegotiatorError> {
         for parent in self.parents(id)? {
             if self.common.insert(parent)? {
+                self.forget(&parent);
                 waiting.push(parent)?;
             }
         }
@@ -130,10 +177,15 @@ impl<R: BufRead> CommitText<R> {
         ensures new { IfOk result (λ have. IfSome have (IsUncommon self.new.common)) }
     {
         for _ in 0..u64::MAX {
+            if self.is_over() {
+                return Ok(None);
+            }
             let Some(id) = self.read_commit()? else {
                 return Ok(None);
             };
+            self.forget(&id);
             if !self.common.contains(&id) {
+                self.await_parents(&id)?;
                 return Ok(Some(id));
             }
             self.share(id)?;
@@ -143,8 +195,9 @@ impl<R: BufRead> CommitText<R> {
 }
 
 /// Offers the commits of a text as `git rev-list --timestamp --parents` writes it, in its order, without those that a commit
-/// leads to of which the server said that it has it. A line is read only where a have is asked for, and the end of the text is
-/// the last.
+/// leads to of which the server said that it has it. A line is read only where a have is asked for. The end of the text is the
+/// last; where the tips are known of which it lists all that they lead to, no line is read once the server is known to have
+/// whatever comes.
 #[derive(Drop)]
 pub struct ListedCommits<R> {
     commits: CommitText<R>,
@@ -154,9 +207,10 @@ pub struct ListedCommits<R> {
 }
 
 impl<R: BufRead> ListedCommits<R> {
-    /// Before a line is read.
-    pub fn new(alloc: Global, text: R) -> ListedCommits<R>
+    /// Before a line is read, with the tips of the history that is listed, where they are known.
+    pub fn new(alloc: Global, text: R, tips: Option<BTreeSet<ObjectId>>) -> ListedCommits<R>
         ensures text { result.commits.text ≡ text }
+        ensures awaited { result.commits.awaited ≡ tips }
         ensures common { result.commits.common.keys ≡ [] }
         ensures refusal { result.commits.refusal ≡ None }
         ensures left { result.left ≡ 2 ^ 64 - 1 }
@@ -170,6 +224,7 @@ impl<R: BufRead> ListedCommits<R> {
                 lines: 0,
                 read: StoredObjects::new(alloc),
                 common: BTreeSet::new(alloc),
+                awaited: tips,
                 refusal: None,
             },
             left: u64::MAX,

@@ -1,10 +1,13 @@
 //! The repository that fetches, by the texts of the command line.
 use crate::failure::Failure;
-use gix_protocol::fetch::negotiate::{StoredObjects, StoredRefs, TextError};
+use gix_protocol::fetch::negotiate::{
+    Find, ObjectKind, RefStore, StoredObjects, StoredRefs, TextError,
+};
 use gix_protocol::fetch::{RefMap, ShallowMemory, shallow_ids, shallow_text};
 use gix_protocol::transport::ObjectId;
 use gixp_fetch_parts::{AskError, Files, Haves, Questions, Witness, named_ids};
 use std::alloc::Global;
+use std::collections::BTreeSet;
 use std::fs;
 use std::fs::{File, OpenOptions};
 use std::io::{BufReader, ErrorKind};
@@ -14,6 +17,8 @@ use std::io::{BufReader, ErrorKind};
 pub(crate) struct Repository {
     pub(crate) objects: StoredObjects,
     pub(crate) refs: StoredRefs,
+    /// What the refs lead to, where they are known.
+    pub(crate) tips: Option<BTreeSet<ObjectId>>,
     pub(crate) boundary: Vec<ObjectId>,
 }
 
@@ -66,6 +71,25 @@ fn objects_in(rt: &HostRuntime, files: &Files<'_>, haves: Haves) -> Result<Store
     Ok(objects)
 }
 
+// The commits that refs lead to, as far as it isn't known that they are none.
+fn tips_of(
+    alloc: Global,
+    refs: &mut StoredRefs,
+    objects: &StoredObjects,
+) -> Result<BTreeSet<ObjectId>, Failure> {
+    let Ok(ids) = refs.peeled(alloc) else {
+        return Err(Failure::Memory);
+    };
+    let mut tips = BTreeSet::new(alloc);
+    for id in ids {
+        match objects.find_kind(&id) {
+            Some(ObjectKind::Commit) | None => tips.insert(id)?,
+            Some(_) => false,
+        };
+    }
+    Ok(tips)
+}
+
 // The refs of their text.
 fn refs_in(rt: &HostRuntime, path: Option<&str>) -> Result<StoredRefs, Failure> {
     let alloc = rt.alloc();
@@ -83,9 +107,16 @@ impl Repository {
         files: &Files<'_>,
         haves: Haves,
     ) -> Result<Repository, Failure> {
+        let objects = objects_in(rt, files, haves)?;
+        let mut refs = refs_in(rt, files.refs)?;
+        let tips = match files.refs {
+            Some(_) => Some(tips_of(rt.alloc(), &mut refs, &objects)?),
+            None => None,
+        };
         Ok(Repository {
-            objects: objects_in(rt, files, haves)?,
-            refs: refs_in(rt, files.refs)?,
+            objects,
+            refs,
+            tips,
             boundary: boundary_in(rt, files.shallow)?,
         })
     }

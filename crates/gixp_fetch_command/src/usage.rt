@@ -34,7 +34,8 @@ The pack goes to PACK, and the report to standard output. A value may be joined 
   --reject-shallow       refuse a server whose repository is shallow
   --negotiator consecutive|skipping|noop|list
                          who chooses the commits that are offered (consecutive); by list they are offered in the order of
-                         --commits, of which a line is read as one is asked for, and --objects alone tells what is here
+                         --commits, of which a line is read as one is asked for, until the server has all that --refs lead to,
+                         and --objects and --ask alone tell what is here
   --report FILE          the report goes there
   --progress             show the progress of the server
   --quiet                tell errors alone
