@@ -1,4 +1,4 @@
-use Rattle.std.proofs.Common.{◌++◌, ◌∙◌, sym, ap, flat_map}
+use Rattle.std.proofs.Common.{◌++◌, sym, ap, flat_map}
 use Rattle.std.proofs.lemmas.Result.{err_from_is_err_and}
 use Rattle.gixp_planner.specs.Text.{mapping_shown, fix_shown}
 use Rattle.gixp_planner.proofs.PrintLemmas.{then-fails, then-rest}
@@ -13,6 +13,5 @@ returns-in_err-write_mappings g c = let p = err_from_is_err_and c.from_residual.
     )
 
 pub returns : goal.returns
-returns g c = then-rest _ _ _ _ _ _ _ _ _ _ c.in_ok-write_mappings.ensures c.write_fixes.ensures
-    (ap (λ ms. flat_map mapping_shown ms ++ flat_map fix_shown c.args.map.now.fixes.items) (sym c.deref.ensures.value)
-    ∙ ap (λ fs. flat_map mapping_shown c.deref.result.now ++ flat_map fix_shown fs) (sym c.deref-2.ensures.value))
+returns g c = then-rest _ _ _ _ _ _ (flat_map mapping_shown c.deref.result.now) _ _ _ c.in_ok-write_mappings.ensures
+    c.write_fixes.ensures (cc)
