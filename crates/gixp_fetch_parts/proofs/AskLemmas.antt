@@ -14,7 +14,7 @@ use Rattle.gixp_graph.specs.declared.objects.ObjectKind.{ObjectKind}
 use Rattle.gixp_graph.specs.Object.{Objects}
 use Rattle.gixp_memory.specs.Repository.{answer_to, with_answer}
 use Rattle.gixp_refmap.specs.declared.refmap.mapping.Mapping.{Mapping}
-use Rattle.gixp_fetch_parts.specs.Answered.{names_id, AddsIds, question, questions, with_answers, Answered, SomeAnswered}
+use Rattle.gixp_fetch_parts.specs.AnswersIds.{names_id, AddsIds, question, questions, with_answers, AnswersIds, AnswersSome}
 
 or_none : (a : Bool) → (a || false) ≡ a
 or_none true = refl
@@ -53,11 +53,11 @@ told_one old new id (Some kind) h k = ap Some (sym h)
 
 pub answered_one : (id : ObjectId) (line : List ℕ) (old new : Objects) (before after : Option (List ℕ)) → Consumes before after line
     → IfSome (answer_to id line) (λ kind. new ≡ with_answer old id kind) → is_some (answer_to id line) ≡ true
-    → Answered (id ∷ []) old new before after
+    → AnswersIds (id ∷ []) old new before after
 answered_one id line old new before after read h k =
     record { lines = line ∷ []; read = subst (Consumes before after) (sym (append-nil line)) read; told = told_one old new id (answer_to id line) h k }
 
-pub answered_none : (objects : Objects) (heard : Option (List ℕ)) → Answered [] objects objects heard heard
+pub answered_none : (objects : Objects) (heard : Option (List ℕ)) → AnswersIds [] objects objects heard heard
 answered_none objects heard = record { lines = []; read = Consumes-nil heard; told = refl }
 
 and_then_more : {K : Type 0} (f g : K → Option Objects) (mid : Objects) (to : Option Objects) (a : Option K)
@@ -75,8 +75,8 @@ told_more (id ∷ ids) more (line ∷ lines) others old mid h =
     (λ kind. with_answers (with_answer old id kind) (ids ++ more) (lines ++ others)) mid (with_answers mid more others) (answer_to id line)
     (λ kind. told_more ids more lines others (with_answer old id kind) mid) h
 
-pub answered_more : (ids more : List ObjectId) (old mid new : Objects) (a b c : Option (List ℕ)) → Answered ids old mid a b
-    → Answered more mid new b c → Answered (ids ++ more) old new a c
+pub answered_more : (ids more : List ObjectId) (old mid new : Objects) (a b c : Option (List ℕ)) → AnswersIds ids old mid a b
+    → AnswersIds more mid new b c → AnswersIds (ids ++ more) old new a c
 answered_more ids more old mid new a b c first second =
     record {
       lines = first.lines ++ second.lines;
@@ -85,11 +85,11 @@ answered_more ids more old mid new a b c first second =
       told = told_more ids more first.lines second.lines old mid first.told ∙ second.told;
     }
 
-pub some_answered : (ids done left : List ObjectId) (old now : Objects) (a b : Option (List ℕ)) → Answered done old now a b
-    → ids ≡ done ++ left → SomeAnswered ids old now
+pub some_answered : (ids done left : List ObjectId) (old now : Objects) (a b : Option (List ℕ)) → AnswersIds done old now a b
+    → ids ≡ done ++ left → AnswersSome ids old now
 some_answered ids done left old now a b h e = record { done = done; left = left; lines = h.lines; whole = e; told = h.told }
 
-pub none_answered : (ids : List ObjectId) (objects : Objects) → SomeAnswered ids objects objects
+pub none_answered : (ids : List ObjectId) (objects : Objects) → AnswersSome ids objects objects
 none_answered ids objects = record { done = []; left = ids; lines = []; whole = refl; told = refl }
 
 -- ---- questions and their answers
@@ -99,7 +99,7 @@ pub record AskedSoFar (ids left : List ObjectId) (old now : Objects) (asked aske
   pub done : List ObjectId
   pub whole : ids ≡ done ++ left
   pub asks : Appends asked asked' (questions done)
-  pub told : Answered done old now heard heard'
+  pub told : AnswersIds done old now heard heard'
 
 pub asked_none : (ids : List ObjectId) (objects : Objects) (asked heard : Option (List ℕ)) → AskedSoFar ids ids objects objects asked asked heard heard
 asked_none ids objects asked heard =
@@ -107,7 +107,7 @@ asked_none ids objects asked heard =
 
 pub asked_more : (ids left few later : List ObjectId) (old now new : Objects) (asked asked' asked'' heard heard' heard'' : Option (List ℕ))
     → AskedSoFar ids left old now asked asked' heard heard' → left ≡ few ++ later → Appends asked' asked'' (questions few)
-    → Answered few now new heard' heard'' → AskedSoFar ids later old new asked asked'' heard heard''
+    → AnswersIds few now new heard' heard'' → AskedSoFar ids later old new asked asked'' heard heard''
 asked_more ids left few later old now new asked asked' asked'' heard heard' heard'' h e a t =
     record {
       done = h.done ++ few;
@@ -117,7 +117,7 @@ asked_more ids left few later old now new asked asked' asked'' heard heard' hear
     }
 
 pub some_more : (ids left few later : List ObjectId) (old now new : Objects) (asked asked' heard heard' : Option (List ℕ))
-    → AskedSoFar ids left old now asked asked' heard heard' → left ≡ few ++ later → SomeAnswered few now new → SomeAnswered ids old new
+    → AskedSoFar ids left old now asked asked' heard heard' → left ≡ few ++ later → AnswersSome few now new → AnswersSome ids old new
 some_more ids left few later old now new asked asked' heard heard' h e s =
     record {
       done = h.done ++ s.done;

@@ -1,5 +1,5 @@
 pub mod Words
-pub mod Answered
+pub mod AnswersIds
 pub mod LineOf
 pub mod PackCopied
 pub mod Changes

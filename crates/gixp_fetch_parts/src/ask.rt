@@ -6,7 +6,7 @@ ghost use Rattle.std.specs.Io.KnownBytes.{Appends, Consumes};
 ghost use Rattle.gixp_fetch_parts.specs.declared.ask.AskError.TheVariants.{Memory};
 ghost use Rattle.gixp_hash.specs.declared.object_id.ObjectId.{ObjectId};
 ghost use Rattle.gixp_hash.specs.ObjectId.{id_cmp};
-ghost use Rattle.gixp_fetch_parts.specs.Answered.{is_named, AddsIds, HasIds, question, questions, Answered, SomeAnswered};
+ghost use Rattle.gixp_fetch_parts.specs.AnswersIds.{is_named, AddsIds, HasIds, question, questions, AnswersIds, AnswersSome};
 
 use gixp_hash::ObjectId;
 use gixp_memory::StoredObjects;
@@ -165,7 +165,7 @@ impl<W: Write, R: BufRead> Witness<W, R> {
 
     // Reads the answer to a question.
     fn hear(&mut self, id: &ObjectId, objects: &mut StoredObjects) -> Result<(), AskError>
-        ensures told { OnOk result (Answered (id.now ∷ []) objects.old objects.new
+        ensures told { OnOk result (AnswersIds (id.now ∷ []) objects.old objects.new
             (R.remaining self.old.answers) (R.remaining self.new.answers)) }
         ensures kept { OnErr result (objects.new ≡ objects.old) }
         ensures asks { self.new.asks ≡ self.old.asks }
@@ -180,9 +180,9 @@ impl<W: Write, R: BufRead> Witness<W, R> {
 
     // Reads the answers to some questions.
     fn hear_all(&mut self, ids: &[ObjectId], objects: &mut StoredObjects) -> Result<(), AskError>
-        ensures told { OnOk result (Answered ids.now objects.old objects.new
+        ensures told { OnOk result (AnswersIds ids.now objects.old objects.new
             (R.remaining self.old.answers) (R.remaining self.new.answers)) }
-        ensures some { SomeAnswered ids.now objects.old objects.new }
+        ensures some { AnswersSome ids.now objects.old objects.new }
         ensures asks { self.new.asks ≡ self.old.asks }
     {
         'ids: for id in ids {
@@ -194,9 +194,9 @@ impl<W: Write, R: BufRead> Witness<W, R> {
     // Asks for a few ids.
     fn ask_few(&mut self, ids: &[ObjectId], objects: &mut StoredObjects) -> Result<(), AskError>
         ensures asked { OnOk result (Appends (W.contents self.old.asks) (W.contents self.new.asks) (questions ids.now)) }
-        ensures told { OnOk result (Answered ids.now objects.old objects.new
+        ensures told { OnOk result (AnswersIds ids.now objects.old objects.new
             (R.remaining self.old.answers) (R.remaining self.new.answers)) }
-        ensures some { SomeAnswered ids.now objects.old objects.new }
+        ensures some { AnswersSome ids.now objects.old objects.new }
     {
         self.put(ids)?;
         self.hear_all(ids, objects)
@@ -209,9 +209,9 @@ impl<W: Write, R: BufRead> Witness<W, R> {
     /// Why a question can't be put, or has no answer; the objects of the answers before are added then.
     pub fn ask(&mut self, ids: &[ObjectId], objects: &mut StoredObjects) -> Result<(), AskError>
         ensures asked { OnOk result (Appends (W.contents self.old.asks) (W.contents self.new.asks) (questions ids.now)) }
-        ensures told { OnOk result (Answered ids.now objects.old objects.new
+        ensures told { OnOk result (AnswersIds ids.now objects.old objects.new
             (R.remaining self.old.answers) (R.remaining self.new.answers)) }
-        ensures some { SomeAnswered ids.now objects.old objects.new }
+        ensures some { AnswersSome ids.now objects.old objects.new }
     {
         let mut rest = ids;
         'few: while !rest.is_empty() {

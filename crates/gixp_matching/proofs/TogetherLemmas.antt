@@ -16,7 +16,7 @@ use Rattle.std.proofs.lemmas.Map.Text.{is_eq-slice_cmp}
 use Rattle.std.proofs.lemmas.Slice.Eq.{bytes_eq-Decides}
 use Rattle.gixp_matching.specs.declared.match_group.validate.groups.Named.{Named}
 use Rattle.gixp_matching.specs.Digest.{digest}
-use Rattle.gixp_matching.specs.Groups.{shown, named, mapped_behind, IsNumbered, is_named, after_run, AreTogether}
+use Rattle.gixp_matching.specs.Groups.{shown, named, mapped_behind, HasItsNumber, is_named, after_run, AreTogether}
 use Rattle.gixp_matching.specs.Mappings.{Mapped, local_eq}
 use Rattle.gixp_matching.specs.Validation.{of_local}
 use Rattle.gixp_matching.proofs.DigestLemmas.{same_number}
@@ -66,7 +66,7 @@ ascend (row ∷ rows) far = (
 -- ---- rows of one name stand together
 
 -- a row with the name of one that stands before a row of another name
-not_behind : (row other later : Named) → IsNumbered row → IsNumbered later → is_named row.name.now other ≡ false
+not_behind : (row other later : Named) → HasItsNumber row → HasItsNumber later → is_named row.name.now other ≡ false
     → row_lt other row ≡ false → row_lt later other ≡ false → is_named row.name.now later ≡ false
 not_behind row other later numbered as_well different low high = elim (cases_Bool (is_named row.name.now later)) [
   | inl t ↦ (
@@ -81,7 +81,7 @@ not_behind row other later numbered as_well different low high = elim (cases_Boo
   | inr f ↦ f
 ]
 
-none_behind : (row other : Named) (rows : List Named) → IsNumbered row → AllByRecursion IsNumbered rows
+none_behind : (row other : Named) (rows : List Named) → HasItsNumber row → AllByRecursion HasItsNumber rows
     → is_named row.name.now other ≡ false → row_lt other row ≡ false → AllByRecursion (λ later. row_lt later other ≡ false) rows
     → list_any (is_named row.name.now) rows ≡ false
 none_behind row other [] numbered all different low high = refl
@@ -89,7 +89,7 @@ none_behind row other (later ∷ rows) numbered all different low high =
     ap (λ b. b || list_any (is_named row.name.now) rows) (not_behind row other later numbered all.0 different low high.0)
     ∙ none_behind row other rows numbered all.1 different low high.1
 
-one_together : (row : Named) (rows : List Named) → IsNumbered row → AllByRecursion IsNumbered rows
+one_together : (row : Named) (rows : List Named) → HasItsNumber row → AllByRecursion HasItsNumber rows
     → AllByRecursion (λ later. row_lt later row ≡ false) rows → Ascend rows
     → list_any (is_named row.name.now) (after_run row.name.now rows) ≡ false
 one_together row [] numbered all low up = refl
@@ -100,14 +100,14 @@ one_together row (other ∷ rows) numbered all low up = elim (cases_Bool (is_nam
       ∙ ap (λ b. b || list_any (is_named row.name.now) rows) f ∙ none_behind row other rows numbered all.1 f low.0 up.0)
 ]
 
-all_together : (rows : List Named) → AllByRecursion IsNumbered rows → Ascend rows → AreTogether rows
+all_together : (rows : List Named) → AllByRecursion HasItsNumber rows → Ascend rows → AreTogether rows
 all_together [] all up = tt
 all_together (row ∷ rows) all up = (one_together row rows all.0 all.1 up.0 up.1, all_together rows all.1 up.1)
 
 -- rows that were sorted
-pub sorted_together : (old new : List Named) → IsPermutation old new → All IsNumbered old → IsSortedBy row_lt new → AreTogether new
+pub sorted_together : (old new : List Named) → IsPermutation old new → All HasItsNumber old → IsSortedBy row_lt new → AreTogether new
 sorted_together old new moved numbered up =
-    all_together new (recursion_from_All IsNumbered new (All-permutation IsNumbered old new moved numbered))
+    all_together new (recursion_from_All HasItsNumber new (All-permutation HasItsNumber old new moved numbered))
     (ascend new (sorted_far row_lt (ranks_by row_total (λ row. row)) new up))
 
 -- ---- rows of one name keep their order
@@ -120,8 +120,8 @@ kept_where P p q h (x ∷ xs) all =
     ap (λ b. cond b (x ∷ filter p xs) (filter p xs)) (h x all.0) ∙ ap (λ r. cond (q x) (x ∷ r) r) (kept_where P p q h xs all.1)
 
 -- a row that passes, or none does
-one_or_none : (name : List ℕ) (rows : List Named) → AllByRecursion IsNumbered rows
-    → ((row : Named) × (is_named name row ≡ true) × IsNumbered row) ⊎ (filter (is_named name) rows ≡ [])
+one_or_none : (name : List ℕ) (rows : List Named) → AllByRecursion HasItsNumber rows
+    → ((row : Named) × (is_named name row ≡ true) × HasItsNumber row) ⊎ (filter (is_named name) rows ≡ [])
 one_or_none name [] all = inr refl
 one_or_none name (row ∷ rows) all = elim (cases_Bool (is_named name row)) [
   | inl t ↦ inl (row, t, all.0)
@@ -137,7 +137,7 @@ both_is_second false true h = sym (h refl)
 both_is_second false false h = refl
 
 -- a row ties with one of a name where it has the name
-ties_named : (name : List ℕ) (row : Named) → is_named name row ≡ true → IsNumbered row → (other : Named) → IsNumbered other
+ties_named : (name : List ℕ) (row : Named) → is_named name row ≡ true → HasItsNumber row → (other : Named) → HasItsNumber other
     → is_named name other ≡ ties row_lt row other
 ties_named name row has numbered other as_well =
     let is : row.name.now ≡ name = (bytes_eq-Decides row.name.now name).0 has in
@@ -147,18 +147,18 @@ ties_named name row has numbered other as_well =
     ap (λ n. eq_by_cmp nat_cmp n other.number) same ∙ same_number other.number)
     ∙ sym (tied row other)
 
-by_one : (name : List ℕ) (row : Named) → is_named name row ≡ true → IsNumbered row → (old new : List Named) → IsStableBy row_lt old new
-    → AllByRecursion IsNumbered old → AllByRecursion IsNumbered new → filter (is_named name) new ≡ filter (is_named name) old
+by_one : (name : List ℕ) (row : Named) → is_named name row ≡ true → HasItsNumber row → (old new : List Named) → IsStableBy row_lt old new
+    → AllByRecursion HasItsNumber old → AllByRecursion HasItsNumber new → filter (is_named name) new ≡ filter (is_named name) old
 by_one name row has numbered old new stable all_old all_new =
     let same = ties_named name row has numbered in
-    kept_where IsNumbered (is_named name) (ties row_lt row) same new all_new ∙ stable row
-    ∙ sym (kept_where IsNumbered (is_named name) (ties row_lt row) same old all_old)
+    kept_where HasItsNumber (is_named name) (ties row_lt row) same new all_new ∙ stable row
+    ∙ sym (kept_where HasItsNumber (is_named name) (ties row_lt row) same old all_old)
 
-pub stay_in_order : (old new : List Named) → IsPermutation old new → All IsNumbered old → IsStableBy row_lt old new → (name : List ℕ)
+pub stay_in_order : (old new : List Named) → IsPermutation old new → All HasItsNumber old → IsStableBy row_lt old new → (name : List ℕ)
     → filter (is_named name) new ≡ filter (is_named name) old
 stay_in_order old new moved numbered stable name =
-    let all_old = recursion_from_All IsNumbered old numbered in
-    let all_new = recursion_from_All IsNumbered new (All-permutation IsNumbered old new moved numbered) in
+    let all_old = recursion_from_All HasItsNumber old numbered in
+    let all_new = recursion_from_All HasItsNumber new (All-permutation HasItsNumber old new moved numbered) in
     elim (one_or_none name old all_old) [
       | inl found ↦ by_one name found.0 found.1 found.2 old new stable all_old all_new
       | inr none ↦ elim (one_or_none name new all_new) [
@@ -183,14 +183,14 @@ named_numbered (m ∷ ms) = at (named_numbered ms) m.local where
   at rest None = rest
   at rest (Some name) = (refl, rest)
 
-rows_numbered : (rows : List Named) → AllByRecursion has_number (map shown rows) → AllByRecursion IsNumbered rows
+rows_numbered : (rows : List Named) → AllByRecursion has_number (map shown rows) → AllByRecursion HasItsNumber rows
 rows_numbered [] h = tt
 rows_numbered (row ∷ rows) h = (h.0, rows_numbered rows h.1)
 
 -- each row of mappings has the number of its name
-pub all_numbered : (ms : List Mapped) (rows : List Named) → map shown rows ≡ flat_map named ms → All IsNumbered rows
+pub all_numbered : (ms : List Mapped) (rows : List Named) → map shown rows ≡ flat_map named ms → All HasItsNumber rows
 all_numbered ms rows is =
-    All-from_recursion IsNumbered rows (rows_numbered rows (subst (AllByRecursion has_number) (sym is) (named_numbered ms)))
+    All-from_recursion HasItsNumber rows (rows_numbered rows (subst (AllByRecursion has_number) (sym is) (named_numbered ms)))
 
 abbrev shown_of : List ℕ → List Shown → List Mapped
 shown_of name ts = map (λ t. t.1.1) (filter (λ t. bytes_eq t.1.0 name) ts)

@@ -23,8 +23,8 @@ abbrev pub mapped_behind : List Named → List Mapped
 mapped_behind rows = map (λ row. mapped_of row.mapping.now) rows
 
 -- the number is that of the name
-abbrev pub IsNumbered : Named → Type 0
-IsNumbered row = row.number ≡ digest row.name.now
+abbrev pub HasItsNumber : Named → Type 0
+HasItsNumber row = row.number ≡ digest row.name.now
 
 -- the mapping has this local name
 abbrev pub is_named : List ℕ → Named → Bool
@@ -46,7 +46,7 @@ AreTogether [] = ⊤
 AreTogether (row ∷ rows) = (list_any (is_named row.name.now) (after_run row.name.now rows) ≡ false) × AreTogether rows
 
 -- the rows of each local name are those of the mappings, in their order, and stand behind one another
-pub record IsTable (ms : List Mapped) (rows : List Named) : Type 0 where
+pub record ListsNamed (ms : List Mapped) (rows : List Named) : Type 0 where
   pub together : AreTogether rows
   pub same : (name : List ℕ) → mapped_behind (filter (is_named name) rows) ≡ of_local name ms
 

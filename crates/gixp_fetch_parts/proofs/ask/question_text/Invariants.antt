@@ -1,6 +1,6 @@
 -- The questions so far.
 use Rattle.std.proofs.Common.{◌≡◌, take}
-use Rattle.gixp_fetch_parts.specs.Answered.{questions}
+use Rattle.gixp_fetch_parts.specs.AnswersIds.{questions}
 use Rattle.gixp_fetch_parts.proofs.ask.question_text.Given as goal
 
 abbrev pub invariant-ids : goal.invariant-ids

@@ -6,7 +6,7 @@ ghost use Rattle.std.specs.List.Sorted.{IsPermutation, IsSortedByKey};
 ghost use Rattle.std.specs.Ordering.{nat_cmp};
 ghost use Rattle.gixp_matching.specs.MatchGroup.{mapped_of};
 ghost use Rattle.gixp_matching.specs.RefspecLaws.{is_increasing};
-ghost use Rattle.gixp_matching.specs.Groups.{shown, named, is_named, run_of, after_run, names_in, several, IsNumbered, AreTogether, AreGroups, IsTable};
+ghost use Rattle.gixp_matching.specs.Groups.{shown, named, is_named, run_of, after_run, names_in, several, HasItsNumber, AreTogether, AreGroups, ListsNamed};
 
 use crate::match_group::Mapping;
 use crate::match_group::digest::name_digest;
@@ -57,7 +57,7 @@ fn rows_of(alloc: Global, mappings: &[Mapping]) -> Result<Vec<Named<'_>>, AllocE
 
 /// Puts the mappings of one local name behind one another. They keep their order.
 fn put_together(rows: &mut Vec<Named<'_>>) -> Result<(), AllocError>
-    requires { All IsNumbered rows.old.items }
+    requires { All HasItsNumber rows.old.items }
     ensures together { OnOk result (AreTogether rows.new.items) }
     ensures same { OnOk result ((name : List ℕ) → filter (is_named name) rows.new.items ≡ filter (is_named name) rows.old.items) }
 {
@@ -67,7 +67,7 @@ fn put_together(rows: &mut Vec<Named<'_>>) -> Result<(), AllocError>
 
 /// The mappings that have a local name, those of one name behind one another and in their order.
 pub(crate) fn table_of(alloc: Global, mappings: &[Mapping]) -> Result<Vec<Named<'_>>, AllocError>
-    ensures { IfOk result (λ rows. IsTable (map mapped_of mappings.now) rows.items) }
+    ensures { IfOk result (λ rows. ListsNamed (map mapped_of mappings.now) rows.items) }
 {
     let mut rows = rows_of(alloc, mappings)?;
     put_together(&mut rows)?;

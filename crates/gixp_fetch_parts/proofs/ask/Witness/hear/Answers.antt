@@ -1,6 +1,6 @@
 -- The answer to one question.
 use Rattle.std.proofs.Common.{◌≡◌, ◌∙◌, List, ℕ, sym, subst}
-use Rattle.gixp_fetch_parts.specs.Answered.{Answered}
+use Rattle.gixp_fetch_parts.specs.AnswersIds.{AnswersIds}
 use Rattle.gixp_fetch_parts.proofs.AskLemmas.{answered_one}
 use Rattle.gixp_fetch_parts.proofs.ask.Witness.hear.Goals as goal
 

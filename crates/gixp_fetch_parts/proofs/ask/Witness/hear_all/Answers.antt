@@ -1,13 +1,13 @@
 -- One answer more, or none.
 use Rattle.std.proofs.Common.{◌∙◌, subst, sym, take, drop, take-append-drop}
 use Rattle.std.proofs.lemmas.List.{take_more}
-use Rattle.gixp_fetch_parts.specs.Answered.{Answered, SomeAnswered}
+use Rattle.gixp_fetch_parts.specs.AnswersIds.{AnswersIds, AnswersSome}
 use Rattle.gixp_fetch_parts.proofs.AskLemmas.{answered_more, some_answered}
 use Rattle.gixp_fetch_parts.proofs.ask.Witness.hear_all.Goals as goal
 
 pub ids-preserved : goal.ids-preserved
 ids-preserved g c = (
-  subst (λ l. Answered l c.args.objects.now c.hear.new.objects (g.R.Read.remaining c.args.self.now.answers)
+  subst (λ l. AnswersIds l c.args.objects.now c.hear.new.objects (g.R.Read.remaining c.args.self.now.answers)
       (g.R.Read.remaining c.hear.new.self.answers)) (sym (take_more c.args.ids.now c.ids.id-index _ c.ids-test.true))
       (answered_more (take c.ids.id-index c.args.ids.now) _ c.args.objects.now c.ids.objects c.hear.new.objects _ _ _
       c.ids.invariant.0 c.in_ok-hear.ensures.told),
@@ -16,7 +16,7 @@ ids-preserved g c = (
 
 pub returns-in_err-hear-clause-some : goal.returns-in_err-hear-clause-some
 returns-in_err-hear-clause-some g c =
-    subst (SomeAnswered c.args.ids.now c.args.objects.now) (sym c.in_err-hear.ensures.kept)
+    subst (AnswersSome c.args.ids.now c.args.objects.now) (sym c.in_err-hear.ensures.kept)
     (some_answered c.args.ids.now (take c.ids.id-index c.args.ids.now) (drop c.ids.id-index c.args.ids.now) c.args.objects.now
     c.ids.objects _ _ c.ids.invariant.0 (sym (take-append-drop c.ids.id-index c.args.ids.now)))
 

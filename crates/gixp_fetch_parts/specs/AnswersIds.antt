@@ -44,13 +44,13 @@ with_answers objects (id ∷ ids) (line ∷ lines) = option_and_then (λ kind. w
 with_answers objects _ _ = None
 
 -- the answers to these ids were read, and what they tell was added
-pub record Answered (ids : List ObjectId) (old new : Objects) (before after : Option (List ℕ)) : Type 0 where
+pub record AnswersIds (ids : List ObjectId) (old new : Objects) (before after : Option (List ℕ)) : Type 0 where
   pub lines : List (List ℕ)
   pub read : Consumes before after (flat_map (λ (line : List ℕ). line) lines)
   pub told : with_answers old ids lines ≡ Some new
 
 -- some of the first ids were answered, and what their answers tell was added
-pub record SomeAnswered (ids : List ObjectId) (old new : Objects) : Type 0 where
+pub record AnswersSome (ids : List ObjectId) (old new : Objects) : Type 0 where
   pub done : List ObjectId
   pub left : List ObjectId
   pub lines : List (List ℕ)
