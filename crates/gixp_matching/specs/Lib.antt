@@ -13,3 +13,4 @@ pub mod Validate
 pub mod Leaving
 pub mod RefspecLaws
 pub mod Digest
+pub mod Places

@@ -1,5 +1,5 @@
 -- What a clause reads of issues and fixes.
-use Rattle.std.specs.Prelude.{◌≡◌, ◌≢◌, List, [], map, Some, Vec, Result, Ok, Err}
+use Rattle.std.specs.Prelude.{◌≡◌, ◌≢◌, not, List, [], filter, map, Some, Vec, Result, Ok, Err}
 use Rattle.std.specs.declared.alloc.Global.{Global}
 use Rattle.bstr.specs.Owned.{bstring_bytes}
 use Rattle.gixp_matching.specs.declared.match_group.SourceRef.{SourceRef}
@@ -13,7 +13,7 @@ use Rattle.gixp_refspec.specs.Spec.{Spec}
 use Rattle.gixp_matching.specs.Mappings.{Source, Mapped}
 use Rattle.gixp_matching.specs.MatchGroup.{source_of, mapped_in, outcome_specs}
 use Rattle.gixp_refspec.specs.Texts.{texts}
-use Rattle.gixp_matching.specs.Validation.{Conflict, Removed, conflicts, fixes, kept}
+use Rattle.gixp_matching.specs.Validation.{Conflict, Removed, is_partial, conflicts, fixes, kept}
 
 -- the sources of a vector
 abbrev pub sources_in : Vec SourceRef Global → List Source
@@ -42,3 +42,10 @@ Validates specs ms (Ok answer) =
     (conflicts specs ms ≡ []) × (mapped_in answer.0.mappings ≡ kept ms) × (fixes_in answer.1 ≡ fixes specs ms)
     × (outcome_specs answer.0 ≡ specs)
 Validates specs ms (Err e) = (conflicts specs ms ≢ []) × (conflicts_in e.issues ≡ conflicts specs ms)
+
+-- the same of whatever holds mappings: those that stay keep their order
+abbrev pub ValidatesAs : {M : Type 0} → (M → Mapped) → List Spec → List M → Result (Vec M Global × Vec Fix Global) Error → Type 0
+ValidatesAs f specs ms (Ok answer) =
+    (conflicts specs (map f ms) ≡ []) × (answer.0.items ≡ filter (λ m. not (is_partial (f m))) ms)
+    × (fixes_in answer.1 ≡ fixes specs (map f ms))
+ValidatesAs f specs ms (Err e) = (conflicts specs (map f ms) ≢ []) × (conflicts_in e.issues ≡ conflicts specs (map f ms))

@@ -1,13 +1,18 @@
 //! What a list of refspecs maps of a list of refs.
-ghost use Rattle.std.specs.Prelude.{◌≡◌, IfOk};
-ghost use Rattle.gixp_matching.specs.Mappings.{mappings};
+ghost use Rattle.std.specs.Prelude.{ℕ, ◌≡◌, List, IfOk, map};
+ghost use Rattle.std.specs.Option.{option_copied, option_map};
+ghost use Rattle.std.specs.List.{AllByRecursion, slice_get};
+ghost use Rattle.bstr.specs.Owned.{bstring_bytes};
+ghost use Rattle.gixp_matching.specs.Mappings.{FullName, ObjectId as IdOf, mappings};
+ghost use Rattle.gixp_refspec.specs.RefSpec.{value_of};
 ghost use Rattle.gixp_matching.specs.Leaving.{AnswersAll};
 ghost use Rattle.gixp_matching.specs.MatchGroup.{source_of, mapped_of, mapped_in, values, names, group_specs, outcome_specs};
+ghost use Rattle.gixp_matching.specs.Places.{repeated, place_of, place_value, local_for, id_for, FollowsFromPlace};
 ghost use Rattle.gixp_matching.specs.Validation.{has_safe_local};
 
 mod digest;
 mod distinct;
-pub(crate) mod key;
+pub mod key;
 mod local;
 mod negatives;
 mod pairs;
@@ -17,16 +22,17 @@ mod sorted;
 mod sought;
 pub mod validate;
 
-use crate::match_group::distinct::firsts;
 use crate::match_group::negatives::prepare;
 use crate::match_group::pairs::{Matching, push_ids};
 use crate::match_group::validate::Fix;
 use crate::match_group::validate::conflicts::conflicts_of;
 use crate::match_group::validate::fixes::take_out_partial;
 use bstr::{BStr, BString};
+pub use distinct::firsts;
 use gixp_hash::ObjectId;
 use gixp_refspec::name::is_partial_name;
-use gixp_refspec::spec::RefSpecRef;
+use gixp_refspec::spec::{RefSpecRef, id_in};
+pub use key::AsMapping;
 use std::alloc::{AllocError, Global};
 
 /// A ref of the remote. Matching reads its name alone.
@@ -63,6 +69,15 @@ pub struct Mapping {
     /// `refs/remotes/o/../../../config`. Who makes a path or a ref of it asks
     /// [`has_safe_local_name`](Mapping::has_safe_local_name) first.
     pub rhs: Option<BString>,
+    /// The place of the refspec in its group, from 0.
+    pub spec_index: usize,
+}
+
+/// Where a mapping comes from: a refspec, and a ref that it matches or the id that it names.
+#[derive(Clone, Copy, Debug)]
+pub struct Place {
+    /// The place of the ref among those that were matched, from 0; none for an id.
+    pub item_index: Option<usize>,
     /// The place of the refspec in its group, from 0.
     pub spec_index: usize,
 }
@@ -119,6 +134,16 @@ impl Mapping {
     }
 }
 
+/// The id that a refspec names, if there is one.
+fn id_named(spec: Option<&RefSpecRef<'_>>) -> Option<ObjectId>
+    ensures { option_map (λ id. id.bytes) result ≡ id_for (option_map value_of (option_copied spec.entry)) }
+{
+    match spec {
+        Some(spec) => id_in(spec.source),
+        None => None,
+    }
+}
+
 /// The mappings of the refs, each source and local name once.
 fn mappings_of<'s>(
     alloc: Global,
@@ -145,6 +170,61 @@ impl<'s> MatchGroup<'s> {
         ensures { group_specs result ≡ values specs.now }
     {
         MatchGroup { specs }
+    }
+
+    /// Where the mappings of the refs come from, also those that are equal to an earlier one in source and local name:
+    /// first the ids, then each positive refspec with each ref that it matches and no negative refspec matches.
+    ///
+    /// # Errors
+    ///
+    /// Only when an allocation fails; what was lent stands as it was.
+    pub fn places(&self, alloc: Global, items: &[Item<'_>]) -> Result<Vec<Place>, AllocError>
+        ensures places { IfOk result (λ places. map place_value places.items ≡ map place_of
+            (repeated (group_specs self.now) (names items.now))) }
+        ensures told { IfOk result (λ _. AllByRecursion (FollowsFromPlace (group_specs self.now) (names items.now))
+            (repeated (group_specs self.now) (names items.now))) }
+    {
+        Err(AllocError)
+    }
+
+    /// The local name that the refspec at a place gives the ref of this whole name.
+    ///
+    /// # Errors
+    ///
+    /// Only when an allocation fails.
+    pub fn local_name(
+        &self,
+        alloc: Global,
+        spec_index: usize,
+        full_ref_name: &[u8],
+    ) -> Result<Option<BString>, AllocError>
+        ensures { IfOk result (λ local. option_map bstring_bytes local
+            ≡ local_for (slice_get (group_specs self.now) spec_index) (FullName full_ref_name.now)) }
+    {
+        Err(AllocError)
+    }
+
+    /// The local name that the refspec at a place gives the id that it names.
+    ///
+    /// # Errors
+    ///
+    /// Only when an allocation fails.
+    pub fn local_name_of_id(
+        &self,
+        alloc: Global,
+        spec_index: usize,
+    ) -> Result<Option<BString>, AllocError>
+        ensures { IfOk result (λ local. (id : List ℕ) → option_map bstring_bytes local
+            ≡ local_for (slice_get (group_specs self.now) spec_index) (IdOf id)) }
+    {
+        Err(AllocError)
+    }
+
+    /// The id that the refspec at a place names, if there is one.
+    pub fn id_at(&self, spec_index: usize) -> Option<ObjectId>
+        ensures { option_map (λ id. id.bytes) result ≡ id_for (slice_get (group_specs self.now) spec_index) }
+    {
+        id_named(self.specs.get(spec_index))
     }
 
     /// The mappings of the refs: first the ids, then each positive refspec with each ref that it matches and no

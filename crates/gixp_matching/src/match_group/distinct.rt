@@ -3,13 +3,11 @@ ghost use Rattle.std.specs.Prelude.{◌≡◌, ◌∷◌, ◌++◌, IfOk, IsTrue
 ghost use Rattle.gixp_matching.specs.Apart.{parts, key_parts};
 ghost use Rattle.gixp_matching.specs.Digest.{number_parts, parts_digest, with_digest};
 ghost use Rattle.gixp_matching.specs.Mappings.{firsts};
-ghost use Rattle.gixp_matching.specs.Firsts.{flagged, TellsFirsts};
-ghost use Rattle.gixp_matching.specs.MatchGroup.{mapped_of, mapped_in};
+ghost use Rattle.gixp_matching.specs.Firsts.{first_flags, flagged, TellsFirsts};
 ghost use Rattle.gixp_matching.specs.Repeats.{placed, placed_from};
 
-use crate::match_group::Mapping;
 use crate::match_group::digest::key_digest;
-use crate::match_group::key::{Key, key_of};
+use crate::match_group::key::{AsMapping, Key};
 use crate::match_group::repeats::{are_all, first_flags};
 use crate::match_group::sorted::{are_distinct, rises};
 use std::alloc::{AllocError, Global};
@@ -18,12 +16,12 @@ use std::alloc::{AllocError, Global};
 type Numbered<'k, 'a> = (u64, &'k Key<'a>);
 
 /// Whether the source and the local name of each mapping are above those of the one before, so that no two are equal.
-fn are_in_order(mappings: &[Mapping]) -> bool
-    ensures { IsTrue result → firsts (map mapped_of mappings.now) ≡ map mapped_of mappings.now }
+fn are_in_order<M: AsMapping>(mappings: &[M]) -> bool
+    ensures { IsTrue result → firsts (map M.mapped mappings.now) ≡ map M.mapped mappings.now }
 {
     let mut last = None;
     'mappings: for mapping in mappings {
-        if !rises(&mut last, key_of(mapping)) {
+        if !rises(&mut last, mapping.key()) {
             return false;
         }
     }
@@ -31,35 +29,35 @@ fn are_in_order(mappings: &[Mapping]) -> bool
 }
 
 /// The number of the source and the local name of each mapping.
-fn key_digests(alloc: Global, mappings: &[Mapping]) -> Result<Vec<u64>, AllocError>
-    ensures { IfOk result (λ digests. digests.items ≡ map (λ m. parts_digest (parts m)) (map mapped_of mappings.now)) }
+fn key_digests<M: AsMapping>(alloc: Global, mappings: &[M]) -> Result<Vec<u64>, AllocError>
+    ensures { IfOk result (λ digests. digests.items ≡ map (λ m. parts_digest (parts m)) (map M.mapped mappings.now)) }
 {
     let mut digests = Vec::with_capacity(alloc, mappings.len())?;
     'mappings: for mapping in mappings {
-        digests.push(key_digest(&key_of(mapping)))?;
+        digests.push(key_digest(&mapping.key()))?;
     }
     Ok(digests)
 }
 
 /// Whether the numbers of the mappings tell that no two have the same source and local name.
-fn are_apart(alloc: Global, mappings: &[Mapping]) -> Result<bool, AllocError>
-    ensures { IfOk result (λ d. IsTrue d → firsts (map mapped_of mappings.now) ≡ map mapped_of mappings.now) }
+fn are_apart<M: AsMapping>(alloc: Global, mappings: &[M]) -> Result<bool, AllocError>
+    ensures { IfOk result (λ d. IsTrue d → firsts (map M.mapped mappings.now) ≡ map M.mapped mappings.now) }
 {
     let digests = key_digests(alloc, mappings)?;
     Ok(are_distinct(digests))
 }
 
 /// Appends the source and the local name of a mapping.
-fn push_key<'a>(mapping: &'a Mapping, keys: &mut Vec<Key<'a>>) -> Result<(), AllocError>
-    ensures { OnOk result (map key_parts keys.new.items ≡ map key_parts keys.old.items ++ parts (mapped_of mapping.now) ∷ []) }
+fn push_key<'a, M: AsMapping>(mapping: &'a M, keys: &mut Vec<Key<'a>>) -> Result<(), AllocError>
+    ensures { OnOk result (map key_parts keys.new.items ≡ map key_parts keys.old.items ++ parts (M.mapped mapping.now) ∷ []) }
 {
-    keys.push(key_of(mapping))?;
+    keys.push(mapping.key())?;
     Ok(())
 }
 
 /// The source and the local name of each mapping.
-fn keys_of(alloc: Global, mappings: &[Mapping]) -> Result<Vec<Key<'_>>, AllocError>
-    ensures { IfOk result (λ keys. map key_parts keys.items ≡ map parts (map mapped_of mappings.now)) }
+fn keys_of<M: AsMapping>(alloc: Global, mappings: &[M]) -> Result<Vec<Key<'_>>, AllocError>
+    ensures { IfOk result (λ keys. map key_parts keys.items ≡ map parts (map M.mapped mappings.now)) }
 {
     let mut keys = Vec::with_capacity(alloc, mappings.len())?;
     'mappings: for mapping in mappings {
@@ -98,8 +96,8 @@ fn rows_of<'k, 'a>(
 
 /// For each mapping, whether it is the first of its source and local name. None where the order of these, or their
 /// numbers, tell that each is, for which no list of keys is made.
-fn flags_of(alloc: Global, mappings: &[Mapping]) -> Result<Option<Vec<bool>>, AllocError>
-    ensures { IfOk result (TellsFirsts (map mapped_of mappings.now)) }
+fn flags_of<M: AsMapping>(alloc: Global, mappings: &[M]) -> Result<Option<Vec<bool>>, AllocError>
+    ensures { IfOk result (TellsFirsts (map M.mapped mappings.now)) }
 {
     if are_in_order(mappings) {
         return Ok(None);
@@ -114,11 +112,7 @@ fn flags_of(alloc: Global, mappings: &[Mapping]) -> Result<Option<Vec<bool>>, Al
 }
 
 /// The mappings whose flag is true.
-fn flagged(
-    alloc: Global,
-    mappings: Vec<Mapping>,
-    flags: Vec<bool>,
-) -> Result<Vec<Mapping>, AllocError>
+fn flagged<M: Drop>(alloc: Global, mappings: Vec<M>, flags: Vec<bool>) -> Result<Vec<M>, AllocError>
     ensures { IfOk result (λ kept. kept.items ≡ flagged mappings.items flags.items) }
 {
     mappings
@@ -130,8 +124,13 @@ fn flagged(
 }
 
 /// Of mappings with equal source and local name the first. Mostly no two are equal, and then none is moved.
-pub(crate) fn firsts(alloc: Global, mappings: Vec<Mapping>) -> Result<Vec<Mapping>, AllocError>
-    ensures { IfOk result (λ kept. mapped_in kept ≡ firsts (mapped_in mappings)) }
+///
+/// # Errors
+///
+/// Only when an allocation fails. The mappings are dropped then.
+pub fn firsts<M: AsMapping + Drop>(alloc: Global, mappings: Vec<M>) -> Result<Vec<M>, AllocError>
+    ensures values { IfOk result (λ kept. map M.mapped kept.items ≡ firsts (map M.mapped mappings.items)) }
+    ensures flags { IfOk result (λ kept. kept.items ≡ flagged mappings.items (first_flags [] (map M.mapped mappings.items))) }
 {
     let Some(flags) = flags_of(alloc, &mappings)? else {
         return Ok(mappings);

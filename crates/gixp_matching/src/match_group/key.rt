@@ -8,15 +8,50 @@ ghost use Rattle.gixp_matching.specs.MatchGroup.{source_of, mapped_of, key_bytes
 use crate::match_group::{Mapping, SourceRef};
 use bstr::BString;
 
+/// What can be looked at as a mapping: a source, a local name and a refspec.
+pub trait AsMapping {
+    ghost use Rattle.gixp_matching.specs.Mappings.{Mapped};
+
+    ghost mapped: { Self → Mapped };
+
+    /// The source and the local name.
+    fn key(&self) -> Key<'_>
+        ensures { key_parts result ≡ parts (mapped self.now) };
+
+    /// The place of the refspec in its group, from 0.
+    fn spec_index(&self) -> usize
+        ensures { result ≡ (mapped self.now).spec };
+
+    /// The source alone.
+    fn into_source(self) -> SourceRef
+        ensures { source_of result ≡ (mapped self).source };
+}
+
+impl AsMapping for Mapping {
+    ghost mapped = { mapped_of };
+
+    fn key(&self) -> Key<'_> {
+        (source_key(&self.lhs), local_key(&self.rhs))
+    }
+
+    fn spec_index(&self) -> usize {
+        self.spec_index
+    }
+
+    fn into_source(self) -> SourceRef {
+        self.lhs
+    }
+}
+
 /// The bytes of a name or of an id.
 #[derive(Clone, Copy, PartialEq, Eq, PartialOrd, Ord)]
-pub(crate) struct KeyBytes<'a> {
-    pub(crate) bytes: &'a [u8],
+pub struct KeyBytes<'a> {
+    pub bytes: &'a [u8],
 }
 
 /// The source of a mapping, as a key.
 #[derive(Clone, Copy, PartialEq, Eq, PartialOrd, Ord)]
-pub(crate) enum KeySource<'a> {
+pub enum KeySource<'a> {
     /// The whole name of a ref.
     FullName(KeyBytes<'a>),
     /// The bytes of an id.
@@ -24,7 +59,7 @@ pub(crate) enum KeySource<'a> {
 }
 
 /// The source and the local name of a mapping.
-pub(crate) type Key<'a> = (KeySource<'a>, Option<KeyBytes<'a>>);
+pub type Key<'a> = (KeySource<'a>, Option<KeyBytes<'a>>);
 
 /// The bytes of a name.
 pub(crate) fn name_key(name: &BString) -> KeyBytes<'_>
@@ -55,11 +90,4 @@ pub(crate) fn local_key(local: &Option<BString>) -> Option<KeyBytes<'_>>
         None => None,
         Some(name) => Some(name_key(name)),
     }
-}
-
-/// The source and the local name of a mapping.
-pub(crate) fn key_of(mapping: &Mapping) -> Key<'_>
-    ensures { key_parts result ≡ parts (mapped_of mapping.now) }
-{
-    (source_key(&mapping.lhs), local_key(&mapping.rhs))
 }

@@ -1,15 +1,17 @@
 //! Conflicts between mappings, and mappings that are taken out.
-ghost use Rattle.std.specs.Prelude.{◌≡◌};
-ghost use Rattle.gixp_matching.specs.Validate.{removed_of};
+ghost use Rattle.std.specs.Prelude.{◌≡◌, IfOk};
+ghost use Rattle.gixp_matching.specs.MatchGroup.{values};
+ghost use Rattle.gixp_matching.specs.Validate.{removed_of, ValidatesAs};
 
 mod apart;
 pub(crate) mod conflicts;
 pub(crate) mod fixes;
 mod groups;
 
-use crate::match_group::SourceRef;
+use crate::match_group::{AsMapping, SourceRef};
 use bstr::BString;
-use std::alloc::AllocError;
+use gixp_refspec::spec::RefSpecRef;
+use std::alloc::{AllocError, Global};
 use thiserror::Error as DeriveError;
 
 /// Why mappings cannot be used together.
@@ -56,4 +58,20 @@ impl Clone for Fix {
 pub struct Error {
     /// A conflict for each local name with two different sources.
     pub issues: Vec<Issue>,
+}
+
+/// Refuses conflicts: local names with two different sources. Without one it takes out the mappings whose local name is
+/// neither `HEAD` nor begins with `refs/`, and notes each, in the order of the mappings.
+///
+/// # Errors
+///
+/// The outer one only when an allocation fails, the inner one for conflicts. The mappings are dropped then.
+pub fn validated<M: AsMapping + Drop>(
+    alloc: Global,
+    specs: &[RefSpecRef<'_>],
+    mappings: Vec<M>,
+) -> Result<Result<(Vec<M>, Vec<Fix>), Error>, AllocError>
+    ensures { IfOk result (ValidatesAs M.mapped (values specs.now) mappings.items) }
+{
+    Err(AllocError)
 }

@@ -2,7 +2,6 @@
 use Rattle.std.proofs.Common.{◌∙◌, ap, sym, map}
 use Rattle.gixp_matching.specs.Apart.{key_parts, parts}
 use Rattle.gixp_matching.specs.Digest.{with_digest, number_parts}
-use Rattle.gixp_matching.specs.MatchGroup.{mapped_of}
 use Rattle.gixp_matching.specs.Repeats.{placed_from}
 use Rattle.gixp_matching.proofs.DigestLemmas.{numbered_eq, by_number, numbered_tied, numbered_same}
 use Rattle.gixp_matching.proofs.ListLemmas.{map_of_map}
@@ -10,11 +9,11 @@ use Rattle.gixp_matching.proofs.PlacedLemmas.{rows_apart, flags_are_first}
 use Rattle.gixp_matching.proofs.match_group.distinct.flags_of.Goals as goal
 
 pub first_flags-requires : goal.first_flags-requires
-first_flags-requires c = rows_apart number_parts c.in_ok-rows.rows.items _ c.in_ok-rows.ensures
+first_flags-requires g c = rows_apart number_parts c.in_ok-rows.rows.items _ c.in_ok-rows.ensures
 
 pub returns : goal.returns
-returns c =
-    let ms = map mapped_of c.args.mappings.now in
+returns g c =
+    let ms = map g.M.AsMapping.mapped c.args.mappings.now in
     c.in_ok-flags.ensures
     ∙ flags_are_first by_number numbered_eq number_parts (λ m. with_digest (parts m)) numbered_tied numbered_same
     c.in_ok-rows.rows.items ms
