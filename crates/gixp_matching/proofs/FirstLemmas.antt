@@ -1,8 +1,9 @@
 -- Of equal mappings the first.
-use Rattle.std.proofs.Common.{◌≡◌, suc, length, arith, Bool, true, false, cond, List, [], ◌∷◌, ◌++◌, map, ap, sym, ◌∙◌, refl, inl, inr}
+use Rattle.std.proofs.Common.{◌≡◌, suc, length, arith, Bool, true, false, cond, List, [], ◌∷◌, ◌++◌, map, ap, sym, subst, ◌≤◌, ◌∙◌, refl, inl, inr}
 use Rattle.std.specs.Prelude.{filter, not, ◌&&◌, ◌||◌}
 use Rattle.std.specs.List.{list_all, list_any}
 use Rattle.std.proofs.lemmas.Bool.{cases_Bool, false≢true}
+use Rattle.std.proofs.lemmas.List.{length-map}
 use Rattle.std.proofs.lemmas.List.Folds.{list_any-append}
 use Rattle.gixp_matching.specs.Mappings.{Mapped, is_same, firsts}
 use Rattle.gixp_matching.specs.Firsts.{is_fresh, first_flags, flagged}
@@ -60,11 +61,10 @@ flagged-map h (x ∷ xs) (true ∷ flags) = ap (λ r. h x ∷ r) (flagged-map h 
 flagged-map h (x ∷ xs) (false ∷ flags) = flagged-map h xs flags
 
 -- what is kept by the flags is the first of equal ones
-pub firsts_from_flags : {A : Type 0} (h : A → Mapped) (xs kept items : List A) (flags : List Bool) → items ≡ xs
-    → flags ≡ first_flags [] (map h items) → kept ≡ flagged xs flags → map h kept ≡ firsts (map h xs)
-firsts_from_flags h xs kept items flags same marks e =
-    ap (map h) e ∙ flagged-map h xs flags ∙ ap (flagged (map h xs)) (marks ∙ ap (λ ys. first_flags [] (map h ys)) same)
-    ∙ flagged-first_flags [] (map h xs) ∙ filter_all (firsts (map h xs))
+pub values_from_flags : {A : Type 0} (h : A → Mapped) (xs kept : List A) → kept ≡ flagged xs (first_flags [] (map h xs))
+    → map h kept ≡ firsts (map h xs)
+values_from_flags h xs kept e =
+    ap (map h) e ∙ flagged-map h xs (first_flags [] (map h xs)) ∙ flagged-first_flags [] (map h xs) ∙ filter_all (firsts (map h xs))
 
 -- nothing more
 pub or_none : (b : Bool) → (b || false) ≡ b
@@ -83,3 +83,26 @@ all_flagged [] flags l h = refl
 all_flagged (x ∷ xs) [] l h = absurd (omega (arith, l))
 all_flagged (x ∷ xs) (true ∷ flags) l h = ap (λ r. x ∷ r) (all_flagged xs flags (omega (arith, l)) h)
 all_flagged (x ∷ xs) (false ∷ flags) l h = absurd (false≢true h)
+
+-- no more are kept than there are
+fewer_flagged : {A : Type 0} (xs : List A) (flags : List Bool) → length (flagged xs flags) ≤ length xs
+fewer_flagged [] flags = omega arith
+fewer_flagged (x ∷ xs) [] = omega arith
+fewer_flagged (x ∷ xs) (true ∷ flags) = let few = fewer_flagged xs flags in omega arith
+fewer_flagged (x ∷ xs) (false ∷ flags) = let few = fewer_flagged xs flags in omega arith
+
+-- where as many are kept as there are, all are
+kept_by_count : {A : Type 0} (xs : List A) (flags : List Bool) → length (flagged xs flags) ≡ length xs → flagged xs flags ≡ xs
+kept_by_count [] flags l = refl
+kept_by_count (x ∷ xs) [] l = absurd (omega (arith, l))
+kept_by_count (x ∷ xs) (true ∷ flags) l = ap (λ r. x ∷ r) (kept_by_count xs flags (omega (arith, l)))
+kept_by_count (x ∷ xs) (false ∷ flags) l = absurd (omega (arith, fewer_flagged xs flags, l))
+
+-- where no mapping is equal to an earlier one, the flags keep all
+pub firsts_flagged : {A : Type 0} (h : A → Mapped) (xs items : List A) → items ≡ xs → firsts (map h items) ≡ map h items
+    → xs ≡ flagged xs (first_flags [] (map h xs))
+firsts_flagged h xs items same e =
+    let flags = first_flags [] (map h xs) in
+    let f : firsts (map h xs) ≡ map h xs = subst (λ ys. firsts (map h ys) ≡ map h ys) same e in
+    sym (kept_by_count xs flags (sym (length-map (flagged xs flags) h) ∙ ap length (flagged-map h xs flags
+    ∙ flagged-first_flags [] (map h xs) ∙ filter_all (firsts (map h xs)) ∙ f) ∙ length-map xs h))
