@@ -1,66 +1,67 @@
 //! Mappings whose local name is no whole name of a ref.
-ghost use Rattle.std.specs.Prelude.{◌≡◌, [], ◌∷◌, ◌++◌, IfOk, OnOk, filter, map};
+ghost use Rattle.std.specs.Prelude.{◌≡◌, [], ◌∷◌, ◌++◌, not, IfOk, OnOk, filter, map};
 ghost use Rattle.std.specs.List.{list_any};
 ghost use Rattle.bstr.specs.Owned.{bstring_bytes};
-ghost use Rattle.gixp_matching.specs.MatchGroup.{mapped_of, mapped_in, values};
-ghost use Rattle.gixp_matching.specs.Validation.{spec_text, is_partial, removed_at, fixes, kept};
+ghost use Rattle.gixp_matching.specs.MatchGroup.{values};
+ghost use Rattle.gixp_matching.specs.Validation.{spec_text, is_partial, removed_at, fixes};
 ghost use Rattle.gixp_matching.specs.Validate.{fixes_in};
 
-use crate::match_group::Mapping;
+use crate::match_group::key::AsMapping;
 use crate::match_group::validate::Fix;
 use bstr::BString;
 use gixp_refspec::spec::{RefSpecRef, is_full};
 use std::alloc::{AllocError, Global};
 
 /// The text of the refspec of a mapping.
-pub(crate) fn spec_text(
+pub(crate) fn spec_text<M: AsMapping>(
     alloc: Global,
     specs: &[RefSpecRef<'_>],
-    mapping: &Mapping,
+    mapping: &M,
 ) -> Result<BString, AllocError>
-    ensures { IfOk result (λ text. bstring_bytes text ≡ spec_text (values specs.now) (mapped_of mapping.now)) }
+    ensures { IfOk result (λ text. bstring_bytes text ≡ spec_text (values specs.now) (M.mapped mapping.now)) }
 {
-    if mapping.spec_index < specs.len() {
-        specs[mapping.spec_index].to_bstring(alloc)
+    let place = mapping.spec_index();
+    if place < specs.len() {
+        specs[place].to_bstring(alloc)
     } else {
         BString::from_slice(alloc, b"")
     }
 }
 
 /// Whether the mapping has a local name that is no whole name of a ref.
-fn is_partial(mapping: &Mapping) -> bool
-    ensures { result ≡ is_partial (mapped_of mapping.now) }
+fn is_partial<M: AsMapping>(mapping: &M) -> bool
+    ensures { result ≡ is_partial (M.mapped mapping.now) }
 {
-    match &mapping.rhs {
+    match mapping.key().1 {
         None => false,
-        Some(name) => !is_full(name.as_bytes()),
+        Some(name) => !is_full(name.bytes),
     }
 }
 
 /// Whether some mapping has a local name that is no whole name of a ref.
-fn has_partial(mappings: &[Mapping]) -> bool
-    ensures { result ≡ list_any (λ mapping. is_partial (mapped_of mapping)) mappings.now }
+fn has_partial<M: AsMapping>(mappings: &[M]) -> bool
+    ensures { result ≡ list_any (λ mapping. is_partial (M.mapped mapping)) mappings.now }
 {
     mappings.iter().any(|mapping| is_partial(mapping))
 }
 
 /// Appends the note on a mapping that is taken out.
-fn push_fix(
+fn push_fix<M: AsMapping>(
     alloc: Global,
     specs: &[RefSpecRef<'_>],
-    mapping: &Mapping,
+    mapping: &M,
     found: &mut Vec<Fix>,
 ) -> Result<(), AllocError>
     ensures { OnOk result (fixes_in found.new ≡ fixes_in found.old
-        ++ map (removed_at (values specs.now)) (filter is_partial (mapped_of mapping.now ∷ []))) }
+        ++ map (removed_at (values specs.now)) (filter is_partial (M.mapped mapping.now ∷ []))) }
 {
-    match &mapping.rhs {
+    match mapping.key().1 {
         None => Ok(()),
         Some(name) => {
-            if is_full(name.as_bytes()) {
+            if is_full(name.bytes) {
                 return Ok(());
             }
-            let name = BString::from_slice(alloc, name.as_bytes())?;
+            let name = BString::from_slice(alloc, name.bytes)?;
             let spec = spec_text(alloc, specs, mapping)?;
             found.push(Fix::MappingWithPartialDestinationRemoved { name, spec })?;
             Ok(())
@@ -70,12 +71,12 @@ fn push_fix(
 
 /// The notes on the mappings that are taken out.
 #[tactic(auto, unfolding(crate::specs::Validation::fixes))]
-fn fixes_of(
+fn fixes_of<M: AsMapping>(
     alloc: Global,
     specs: &[RefSpecRef<'_>],
-    mappings: &[Mapping],
+    mappings: &[M],
 ) -> Result<Vec<Fix>, AllocError>
-    ensures { IfOk result (λ v. fixes_in v ≡ fixes (values specs.now) (map mapped_of mappings.now)) }
+    ensures { IfOk result (λ v. fixes_in v ≡ fixes (values specs.now) (map M.mapped mappings.now)) }
 {
     let mut found = Vec::new(alloc);
     'mappings: for mapping in mappings {
@@ -85,22 +86,21 @@ fn fixes_of(
 }
 
 /// Keeps the mappings whose local name is a whole name of a ref, or that have none.
-#[tactic(auto, unfolding(crate::specs::Validation::kept))]
-fn keep_whole(mappings: &mut Vec<Mapping>)
-    ensures { mapped_in mappings.new ≡ kept (mapped_in mappings.old) }
+fn keep_whole<M: AsMapping + Drop>(mappings: &mut Vec<M>)
+    ensures { mappings.new.items ≡ filter (λ m. not (is_partial (M.mapped m))) mappings.old.items }
 {
     mappings.retain(|mapping| !is_partial(mapping));
 }
 
 /// Takes out the mappings whose local name is no whole name of a ref, and notes each. Mostly there is none, which one
 /// look at each local name tells.
-pub(crate) fn take_out_partial(
+pub(crate) fn take_out_partial<M: AsMapping + Drop>(
     alloc: Global,
     specs: &[RefSpecRef<'_>],
-    mappings: &mut Vec<Mapping>,
+    mappings: &mut Vec<M>,
 ) -> Result<Vec<Fix>, AllocError>
-    ensures noted { IfOk result (λ v. fixes_in v ≡ fixes (values specs.now) (mapped_in mappings.old)) }
-    ensures kept { OnOk result (mapped_in mappings.new ≡ kept (mapped_in mappings.old)) }
+    ensures noted { IfOk result (λ v. fixes_in v ≡ fixes (values specs.now) (map M.mapped mappings.old.items)) }
+    ensures kept { OnOk result (mappings.new.items ≡ filter (λ m. not (is_partial (M.mapped m))) mappings.old.items) }
 {
     if !has_partial(mappings) {
         return Ok(Vec::new(alloc));

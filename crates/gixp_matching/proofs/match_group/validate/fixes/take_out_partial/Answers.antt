@@ -1,19 +1,19 @@
 -- Where no local name is partial, nothing is taken out.
 use Rattle.std.proofs.Common.{◌∙◌, ap, map}
 use Rattle.std.specs.List.{list_any}
-use Rattle.gixp_matching.specs.MatchGroup.{mapped_of, values}
+use Rattle.gixp_matching.specs.MatchGroup.{values}
 use Rattle.gixp_matching.specs.Validate.{removed_of}
 use Rattle.gixp_matching.specs.Validation.{is_partial}
 use Rattle.gixp_matching.proofs.KeptLemmas.{no_fixes, all_kept}
 use Rattle.gixp_matching.proofs.match_group.validate.fixes.take_out_partial.Goals as goal
 
 pub returns-then-not-has_partial-clause-noted : goal.returns-then-not-has_partial-clause-noted
-returns-then-not-has_partial-clause-noted c =
+returns-then-not-has_partial-clause-noted g c =
     ap (map removed_of) c.new.ensures.items
-    ∙ no_fixes (values c.args.specs.now) mapped_of c.args.mappings.now.items c.has_partial.result
-    (c.has_partial.ensures ∙ ap (list_any (λ mapping. is_partial (mapped_of mapping))) c.deref.ensures.value) c.if-not-has_partial.true
+    ∙ no_fixes (values c.args.specs.now) g.M.AsMapping.mapped c.args.mappings.now.items c.has_partial.result
+    (c.has_partial.ensures ∙ ap (list_any (λ mapping. is_partial (g.M.AsMapping.mapped mapping))) c.deref.ensures.value) c.if-not-has_partial.true
 
 pub returns-then-not-has_partial-clause-kept : goal.returns-then-not-has_partial-clause-kept
-returns-then-not-has_partial-clause-kept c =
-    all_kept mapped_of c.args.mappings.now.items c.has_partial.result
-    (c.has_partial.ensures ∙ ap (list_any (λ mapping. is_partial (mapped_of mapping))) c.deref.ensures.value) c.if-not-has_partial.true
+returns-then-not-has_partial-clause-kept g c =
+    all_kept g.M.AsMapping.mapped c.args.mappings.now.items c.has_partial.result
+    (c.has_partial.ensures ∙ ap (list_any (λ mapping. is_partial (g.M.AsMapping.mapped mapping))) c.deref.ensures.value) c.if-not-has_partial.true
