@@ -25,8 +25,6 @@ pub mod validate;
 use crate::match_group::negatives::prepare;
 use crate::match_group::pairs::{Matching, push_ids};
 use crate::match_group::validate::Fix;
-use crate::match_group::validate::conflicts::conflicts_of;
-use crate::match_group::validate::fixes::take_out_partial;
 use bstr::{BStr, BString};
 pub use distinct::firsts;
 use gixp_hash::ObjectId;
@@ -264,15 +262,11 @@ impl<'s> Outcome<'s> {
     ) -> Result<Result<(Outcome<'s>, Vec<Fix>), validate::Error>, AllocError>
         ensures { IfOk result (Validates (outcome_specs self.entry) (mapped_in self.entry.mappings)) }
     {
-        let Outcome {
-            mut mappings,
-            specs,
-        } = self;
-        let issues = conflicts_of(alloc, specs, &mappings)?;
-        if !issues.is_empty() {
-            return Ok(Err(validate::Error { issues }));
+        let Outcome { mappings, specs } = self;
+        match validate::validated(alloc, specs, mappings) {
+            Ok(Ok((mappings, fixes))) => Ok(Ok((Outcome { mappings, specs }, fixes))),
+            Ok(Err(e)) => Ok(Err(e)),
+            Err(e) => Err(e),
         }
-        let found = take_out_partial(alloc, specs, &mut mappings)?;
-        Ok(Ok((Outcome { mappings, specs }, found)))
     }
 }

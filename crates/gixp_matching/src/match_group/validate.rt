@@ -8,6 +8,8 @@ pub(crate) mod conflicts;
 pub(crate) mod fixes;
 mod groups;
 
+use crate::match_group::validate::conflicts::conflicts_of;
+use crate::match_group::validate::fixes::take_out_partial;
 use crate::match_group::{AsMapping, SourceRef};
 use bstr::BString;
 use gixp_refspec::spec::RefSpecRef;
@@ -73,5 +75,11 @@ pub fn validated<M: AsMapping + Drop>(
 ) -> Result<Result<(Vec<M>, Vec<Fix>), Error>, AllocError>
     ensures { IfOk result (ValidatesAs M.mapped (values specs.now) mappings.items) }
 {
-    Err(AllocError)
+    let mut mappings = mappings;
+    let issues = conflicts_of(alloc, specs, &mappings)?;
+    if !issues.is_empty() {
+        return Ok(Err(Error { issues }));
+    }
+    let fixes = take_out_partial(alloc, specs, &mut mappings)?;
+    Ok(Ok((mappings, fixes)))
 }

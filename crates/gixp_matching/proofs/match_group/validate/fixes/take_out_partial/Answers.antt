@@ -1,5 +1,5 @@
 -- Where no local name is partial, nothing is taken out.
-use Rattle.std.proofs.Common.{◌∙◌, ap, map}
+use Rattle.std.proofs.Common.{◌∙◌, ap, sym, map}
 use Rattle.std.specs.List.{list_any}
 use Rattle.gixp_matching.specs.MatchGroup.{values}
 use Rattle.gixp_matching.specs.Validate.{removed_of}
@@ -15,5 +15,6 @@ returns-then-not-has_partial-clause-noted g c =
 
 pub returns-then-not-has_partial-clause-kept : goal.returns-then-not-has_partial-clause-kept
 returns-then-not-has_partial-clause-kept g c =
-    all_kept g.M.AsMapping.mapped c.args.mappings.now.items c.has_partial.result
-    (c.has_partial.ensures ∙ ap (list_any (λ mapping. is_partial (g.M.AsMapping.mapped mapping))) c.deref.ensures.value) c.if-not-has_partial.true
+    all_kept (λ mapping. is_partial (g.M.AsMapping.mapped mapping)) c.args.mappings.now.items
+    (ap (list_any (λ mapping. is_partial (g.M.AsMapping.mapped mapping))) (sym c.deref.ensures.value) ∙ sym c.has_partial.ensures
+    ∙ c.if-not-has_partial.true)
