@@ -1,11 +1,12 @@
 //! A source that was looked at once, to be compared with many names, as the crate above does.
-ghost use Rattle.std.specs.Prelude.{◌≡◌, ◌≤◌, ◌++◌, length};
+ghost use Rattle.std.specs.Prelude.{◌≡◌, ◌<◌, ◌++◌, length, IfSome};
 ghost use Rattle.std.specs.Option.{option_copied};
-ghost use Rattle.std.specs.List.{position, position_or_len, list_any};
+ghost use Rattle.std.specs.List.{position, list_any};
 ghost use Rattle.std.specs.Str.{bytes_eq};
-ghost use Rattle.gixp_refspec.specs.Matching.{is_star, before_star, after_star, between, candidates, joined, rule_of, where_true};
+ghost use Rattle.gixp_refspec.specs.Needle.{IsAround};
+ghost use Rattle.gixp_refspec.specs.Matching.{is_star, between, candidates, joined, rule_of, where_true};
 
-use crate::spec::{is_full, is_id, stars};
+use crate::spec::{is_full, is_id};
 
 /// What a source is.
 #[derive(Clone, Copy)]
@@ -45,13 +46,12 @@ impl<'a> Needle<'a> {
         ensures { IsNeedle source.now result }
     {
         if is_id(source) {
-            Needle::Id
-        } else if stars(source) > 0 {
-            Needle::Pattern {
-                before: before_star(source),
-                after: after_star(source),
-            }
-        } else if is_full(source) {
+            return Needle::Id;
+        }
+        if let Some((before, after)) = around_star(source) {
+            return Needle::Pattern { before, after };
+        }
+        if is_full(source) {
             Needle::Exact(source)
         } else {
             Needle::Short(source)
@@ -71,38 +71,22 @@ impl<'a> Needle<'a> {
     }
 }
 
-/// What comes before the asterisk.
-pub fn before_star(text: &[u8]) -> &[u8]
-    ensures { result.now ≡ before_star text.now }
-{
-    &text[..star_at(text)]
-}
-
-/// What comes after the asterisk.
-pub fn after_star(text: &[u8]) -> &[u8]
-    ensures { result.now ≡ after_star text.now }
-{
-    let at = star_at(text);
-    if at < text.len() {
-        &text[at + 1..]
-    } else {
-        b""
-    }
-}
-
 /// The place of the first asterisk.
 fn star_in(text: &[u8]) -> Option<usize>
-    ensures { result ≡ position is_star text.now }
+    ensures place { result ≡ position is_star text.now }
+    ensures within { IfSome result (λ i. i < length text.now) }
 {
     text.iter().position(|byte| *byte == b'*')
 }
 
-/// The place of the first asterisk, or the end.
-fn star_at(text: &[u8]) -> usize
-    ensures place { result ≡ position_or_len is_star text.now }
-    ensures within { result ≤ length text.now }
+/// What comes before and after the first asterisk, where there is one.
+pub fn around_star(text: &[u8]) -> Option<(&[u8], &[u8])>
+    ensures { IsAround text.now result }
 {
-    star_in(text).unwrap_or(text.len())
+    match star_in(text) {
+        Some(at) => Some((&text[..at], &text[at + 1..])),
+        None => None,
+    }
 }
 
 /// What comes between front and back.

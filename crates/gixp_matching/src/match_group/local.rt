@@ -5,8 +5,7 @@ ghost use Rattle.bstr.specs.Owned.{bstring_bytes};
 ghost use Rattle.gixp_refspec.specs.Matching.{local_in, full_local};
 
 use bstr::BString;
-use gixp_refspec::needle::{after_star, before_star};
-use gixp_refspec::spec::stars;
+use gixp_refspec::needle::around_star;
 use gixp_refspec::text::joined;
 use std::alloc::{AllocError, Global};
 
@@ -32,15 +31,9 @@ fn full_local(alloc: Global, destination: &[u8]) -> Result<BString, AllocError>
 fn local_in(alloc: Global, middle: &[u8], destination: &[u8]) -> Result<BString, AllocError>
     ensures { IfOk result (λ name. bstring_bytes name ≡ local_in middle.now destination.now) }
 {
-    if stars(destination) > 0 {
-        joined(
-            alloc,
-            before_star(destination),
-            middle,
-            after_star(destination),
-        )
-    } else {
-        full_local(alloc, destination)
+    match around_star(destination) {
+        Some((front, back)) => joined(alloc, front, middle, back),
+        None => full_local(alloc, destination),
     }
 }
 
