@@ -9,14 +9,10 @@ use Rattle.gixp_hash.specs.ObjectId.{id_of}
 use Rattle.gixp_refspec.specs.Spec.{Spec, is_negative}
 use Rattle.gixp_refspec.specs.Matching.{middle_of, local_of}
 use Rattle.gixp_matching.specs.Mappings.{Source, FullName, ObjectId, Mapped, mapped, id_mapping, id_mappings, pair, pairs_of, pairs, is_excluded}
-use Rattle.gixp_matching.specs.Places.{repeated, place_of, id_places, pair_places, places_with, local_for, id_for, FollowsFromPlace, made_at}
-use Rattle.gixp_matching.proofs.ListLemmas.{map_of_flat_map}
+use Rattle.gixp_matching.specs.Places.{repeated, place_of, id_places, places_with, FollowsFromPlace, made_at}
+use Rattle.gixp_matching.proofs.ListLemmas.{map_of_flat_map, flat_map_same, stands_at}
 
 -- ---- lists that were put together
-
-flat_map-same : {A B : Type 0} (f g : A → List B) → ((x : A) → f x ≡ g x) → (xs : List A) → flat_map f xs ≡ flat_map g xs
-flat_map-same f g h [] = refl
-flat_map-same f g h (x ∷ xs) = ap (λ l. l ++ flat_map f xs) (h x) ∙ ap (λ l. g x ++ l) (flat_map-same f g h xs)
 
 module _ {B : Type 0} (P : B → Type 0) where
   all_appended : (xs ys : List B) → AllByRecursion P xs → AllByRecursion P ys → AllByRecursion P (xs ++ ys)
@@ -24,17 +20,11 @@ module _ {B : Type 0} (P : B → Type 0) where
   all_appended (x ∷ xs) ys h k = (h.0, all_appended xs ys h.1 k)
 
   module _ {A : Type 0} (f : ℕ × A → List B) where
-    -- the element after those that are done
-    at_seam : (done rest : List A) (x : A) → slice_get (done ++ x ∷ rest) (length done) ≡ Some x
-    at_seam [] rest x = refl
-    at_seam (d ∷ done) rest x = at_seam done rest x
-
     all_from : (all done rest : List A) (k : ℕ) → all ≡ done ++ rest → k ≡ length done
         → ((i : ℕ) (x : A) → slice_get all i ≡ Some x → AllByRecursion P (f (i, x))) → AllByRecursion P (flat_map f (enumerate_from k rest))
     all_from all done [] k split e h = tt
     all_from all done (x ∷ rest) k split e h =
-        let here : slice_get all k ≡ Some x = ap (λ l. slice_get l k) split ∙ ap (slice_get (done ++ x ∷ rest)) e ∙ at_seam done rest x in
-        all_appended (f (k, x)) (flat_map f (enumerate_from (k + 1) rest)) (h k x here)
+        all_appended (f (k, x)) (flat_map f (enumerate_from (k + 1) rest)) (h k x (stands_at all done rest x k split e))
         (all_from all (done ++ x ∷ []) rest (k + 1) (split ∙ sym (append_assoc done (x ∷ []) rest))
         (omega (arith, length-append done (x ∷ []), e)) h)
 
@@ -59,7 +49,7 @@ ids_placed specs = map_of_flat_map place_of id_mapping (enumerate_from 0 specs)
 pub pairs_placed : (specs : List Spec) (names : List (List ℕ)) → flat_map (places_with specs names) (enumerate_from 0 specs)
     ≡ map place_of (pairs specs names)
 pairs_placed specs names =
-    flat_map-same (places_with specs names) (λ s. map place_of (pairs_of specs names s))
+    flat_map_same (places_with specs names) (λ s. map place_of (pairs_of specs names s))
     (λ s. map_of_flat_map place_of (pair specs s) (enumerate_from 0 names)) (enumerate_from 0 specs)
     ∙ map_of_flat_map place_of (pairs_of specs names) (enumerate_from 0 specs)
 

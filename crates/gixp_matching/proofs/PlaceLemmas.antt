@@ -25,7 +25,7 @@ use Rattle.gixp_matching.specs.Rows.{shown, is_row_of, meant, IsRowTable, AreSou
 use Rattle.gixp_matching.specs.Sought.{sought_by, is_among}
 use Rattle.gixp_matching.proofs.DistinctLemmas.{is_eq-reverse}
 use Rattle.gixp_matching.proofs.FirstLemmas.{or_none}
-use Rattle.gixp_matching.proofs.ListLemmas.{any_same, kept_same}
+use Rattle.gixp_matching.proofs.ListLemmas.{any_same, kept_same, stands_at}
 use Rattle.gixp_packetline.proofs.ListLemmas.{any_of_map}
 use Rattle.gixp_matching.proofs.NeedleLemmas.{middle_with-needle}
 use Rattle.gixp_matching.proofs.PairLemmas.{pair_none}
@@ -172,13 +172,9 @@ one_ref h xs k x l e =
     ∙ ap (option_map h) (slice_get-get_or xs k x l ∙ ap Some (sym e)) in
     rw one refl
 
-at_front : {X : Type 0} (front xs : List X) (x : X) → slice_get (front ++ x ∷ xs) (length front) ≡ Some x
-at_front [] xs x = refl
-at_front (y ∷ ys) xs x = at_front ys xs x
-
 the_ref : (all front xs : List (List ℕ)) (x : List ℕ) (k : ℕ) → all ≡ front ++ x ∷ xs → k ≡ length front → ref_at all k ≡ (k, x) ∷ []
 the_ref all front xs x k h e =
-    let found : slice_get all k ≡ Some x = ap (λ l. slice_get l k) h ∙ ap (slice_get (front ++ x ∷ xs)) e ∙ at_front front xs x in
+    let found = stands_at all front xs x k h e in
     rw found refl
 
 -- what is made of the refs at the places of refs is what is made of these

@@ -213,8 +213,8 @@ nothing_placed specs all s now none = sym (ap (λ l. now ++ l) (empty (enumerate
   empty (ref ∷ refs) = ap (λ l. l ++ flat_map (pair_places specs s) refs) (sym (none ref)) ∙ empty refs
 
 -- an id matches no name
-pub id_placed : (specs : List Spec) (all : List (List ℕ)) (s : ℕ × Spec) (now : List (Option ℕ × ℕ)) → IsNeedle s.1.source the_id → now ≡ now
-    ++ places_with specs all s
+pub id_placed : (specs : List Spec) (all : List (List ℕ)) (s : ℕ × Spec) (now : List (Option ℕ × ℕ))
+    → IsNeedle s.1.source the_id → now ≡ now ++ places_with specs all s
 id_placed specs all s now made =
     nothing_placed specs all s now (λ ref. pair_none specs s ref (sym (middle_with-needle s.1.source ref.1 the_id made)))
 

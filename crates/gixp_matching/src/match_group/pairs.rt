@@ -171,8 +171,9 @@ impl Matching<'_, '_, '_> {
     ) -> Result<(), AllocError>
         requires needle { IsLookedAt numbered.now }
         requires prepared { IsPrepared self.now.prepared.now }
-        ensures { OnOk result (places_in out.new ≡ places_in out.old ++ flat_map
-            (pair_places (values self.now.prepared.now.specs.now) (numbered_value numbered.now)) (ref_at (names self.now.items.now) place)) }
+        ensures { OnOk result (places_in out.new ≡ places_in out.old
+            ++ flat_map (pair_places (values self.now.prepared.now.specs.now) (numbered_value numbered.now))
+            (ref_at (names self.now.items.now) place)) }
     {
         match self.items.get(place) {
             None => Ok(()),
