@@ -25,3 +25,4 @@ pub mod NegativeLemmas
 pub mod KeptLemmas
 pub mod BackedLemmas
 pub mod OriginLemmas
+pub mod FollowLemmas

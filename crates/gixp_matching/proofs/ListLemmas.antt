@@ -1,7 +1,7 @@
 -- Steps of loops that append what a function makes of each element.
-use Rattle.std.proofs.Common.{◌≡◌, cond, ℕ, ◌+◌, ◌<◌, List, [], ◌∷◌, ◌++◌, length, take, map, get_or, Bool, inl, inr, ap, sym, ◌∙◌, refl, append_assoc}
+use Rattle.std.proofs.Common.{◌≡◌, cond, ℕ, ◌+◌, ◌<◌, List, [], ◌∷◌, ◌++◌, length, take, map, get_or, Bool, inl, inr, Some, ap, sym, ◌∙◌, refl, append_assoc}
 use Rattle.std.specs.Prelude.{◌||◌, filter}
-use Rattle.std.specs.List.{list_any, fold, flat_map}
+use Rattle.std.specs.List.{list_any, fold, flat_map, slice_get}
 use Rattle.std.proofs.lemmas.List.Sums.{fold_more}
 use Rattle.std.proofs.lemmas.Bool.{cases_Bool}
 use Rattle.std.proofs.lemmas.List.{take_more, get_or-map, length-map, map-append, append-nil}
@@ -82,6 +82,20 @@ flat_map_of_map f h (x ∷ xs) = ap (λ l. f (h x) ++ l) (flat_map_of_map f h xs
 pub map_of_flat_map : {A B C : Type 0} (g : B → C) (f : A → List B) (xs : List A) → flat_map (λ x. map g (f x)) xs ≡ map g (flat_map f xs)
 map_of_flat_map g f [] = refl
 map_of_flat_map g f (x ∷ xs) = ap (λ l. map g (f x) ++ l) (map_of_flat_map g f xs) ∙ sym (map-append g (f x) (flat_map f xs))
+
+-- equal functions into lists
+pub flat_map_same : {A B : Type 0} (f g : A → List B) → ((x : A) → f x ≡ g x) → (xs : List A) → flat_map f xs ≡ flat_map g xs
+flat_map_same f g h [] = refl
+flat_map_same f g h (x ∷ xs) = ap (λ l. l ++ flat_map f xs) (h x) ∙ ap (λ l. g x ++ l) (flat_map_same f g h xs)
+
+-- the element behind others stands at the number of these
+at_front : {X : Type 0} (front rest : List X) (x : X) → slice_get (front ++ x ∷ rest) (length front) ≡ Some x
+at_front [] rest x = refl
+at_front (y ∷ ys) rest x = at_front ys rest x
+
+pub stands_at : {X : Type 0} (all front rest : List X) (x : X) (k : ℕ) → all ≡ front ++ x ∷ rest → k ≡ length front
+    → slice_get all k ≡ Some x
+stands_at all front rest x k h e = ap (λ l. slice_get l k) h ∙ ap (slice_get (front ++ x ∷ rest)) e ∙ at_front front rest x
 
 -- lists made of one element more
 flat_map-append_one : {A B : Type 0} (f : A → List B) (xs : List A) (x : A) → flat_map f (xs ++ x ∷ []) ≡ flat_map f xs ++ f x

@@ -1,5 +1,5 @@
 -- What a needle matches is what its source matches.
-use Rattle.std.proofs.Common.{◌≡◌, ℕ, List, ap, sym, ◌∙◌}
+use Rattle.std.proofs.Common.{◌≡◌, ℕ, List, Option, ap, sym, ◌∙◌}
 use Rattle.gixp_refspec.specs.declared.needle.Needle.{Needle}
 use Rattle.gixp_refspec.specs.declared.needle.Needle.TheVariants.{Id as the_id, Pattern as the_pattern, Exact as the_exact, Short as the_short}
 use Rattle.std.specs.List.{list_any}
@@ -16,3 +16,8 @@ middle_with-needle source name (the_pattern before after) h =
 middle_with-needle source name (the_exact text) h = ap (λ t. where_true (bytes_eq name t)) h.1 ∙ ap (λ k. middle_by k source name) (sym h.0)
 middle_with-needle source name (the_short text) h =
     ap (λ t. where_true (list_any (λ candidate. bytes_eq name candidate) (candidates t))) h.1 ∙ ap (λ k. middle_by k source name) (sym h.0)
+
+-- what the needle finds is the middle
+pub found_is : (source name : List ℕ) (needle : Needle) (r found : Option (List ℕ)) → IsNeedle source needle → r ≡ middle_with needle name
+    → r ≡ found → middle_of source name ≡ found
+found_is source name needle r found made was is = sym (middle_with-needle source name needle made) ∙ sym was ∙ is

@@ -14,6 +14,7 @@ use Rattle.gixp_refspec.specs.Matching.{middle_of, local_of}
 use Rattle.gixp_matching.specs.Mappings.{FullName, ObjectId, Mapped, mapped, local_eq, id_mapping, pair, pairs_of, pairs, id_mappings, is_excluded, mappings}
 use Rattle.gixp_matching.specs.RefspecLaws.{HasOrigin}
 use Rattle.gixp_refspec.proofs.PrefixLemmas.{matched_is_covered}
+use Rattle.gixp_matching.proofs.ListLemmas.{stands_at}
 use Rattle.gixp_matching.proofs.BackedLemmas.{has_same, Backed, backed_append, firsts_are_good}
 
 -- the other is the name
@@ -63,11 +64,6 @@ knows_made : (known : List Mapped) (s : ℕ × Spec) (name : List ℕ) (i : ℕ)
     → middle ≡ Some m
     → Knows known (made s name i b middle) → has_same known (mapped (Some i) (FullName name) (local_of s.1 m) s.0) ≡ true
 knows_made known s name i b middle m e f h = let k = rw (e, f) at h in k.0
-
--- the element after those that are done
-at_seam : (done rest : List Spec) (s : Spec) → slice_get (done ++ s ∷ rest) (length done) ≡ Some s
-at_seam [] rest s = refl
-at_seam (d ∷ done) rest s = at_seam done rest s
 
 -- the first that passes, after others that don't
 first_at_seam : (p : List ℕ → Bool) (k : ℕ) (done rest : List (List ℕ)) (x : List ℕ) → list_any p done ≡ false → p x ≡ true
@@ -128,10 +124,6 @@ row_backed specs names j s l known done (name ∷ rest) i e split inv =
           subst P (named other name here) (knows at))
     ]))
 
--- the refspec after those that are done
-here : (specs done part : List Spec) (s : Spec) (k : ℕ) → k ≡ length done → specs ≡ done ++ s ∷ part → slice_get specs k ≡ Some s
-here specs done part s k e split = ap (λ l. slice_get l k) split ∙ ap (slice_get (done ++ s ∷ part)) e ∙ at_seam done part s
-
 -- all refspecs of a part
 rows_backed : (specs : List Spec) (names : List (List ℕ)) (done part : List Spec) (k : ℕ) → k ≡ length done → specs ≡ done ++ part
     → (known : List Mapped) → Backed (HasOrigin specs names) known (flat_map (pairs_of specs names) (enumerate_from k part))
@@ -139,7 +131,7 @@ rows_backed specs names done [] k e split known = tt
 rows_backed specs names done (s ∷ part) k e split known =
     backed_append (HasOrigin specs names) known (pairs_of specs names (k, s))
     (flat_map (pairs_of specs names) (enumerate_from (k + 1) part))
-    (row_backed specs names k s (here specs done part s k e split) known [] names 0 refl refl (λ name h. absurd (false≢true h)))
+    (row_backed specs names k s (stands_at specs done part s k split e) known [] names 0 refl refl (λ name h. absurd (false≢true h)))
     (λ now. rows_backed specs names (done ++ s ∷ []) part (k + 1) (ap (λ n. n + 1) e ∙ sym (length-append done (s ∷ [])))
     (split ∙ sym (append_assoc done (s ∷ []) part)) now)
 
@@ -159,7 +151,7 @@ unfolding id_mapping
 ids_backed specs names done [] k e split known = tt
 ids_backed specs names done (s ∷ part) k e split known =
     backed_append (HasOrigin specs names) known (id_mapping (k, s)) (flat_map id_mapping (enumerate_from (k + 1) part))
-    (id_backed specs names known (k, s) (is_negative s.sign) (id_of s.source) (here specs done part s k e split) refl)
+    (id_backed specs names known (k, s) (is_negative s.sign) (id_of s.source) (stands_at specs done part s k split e) refl)
     (λ now. ids_backed specs names (done ++ s ∷ []) part (k + 1) (ap (λ n. n + 1) e ∙ sym (length-append done (s ∷ [])))
     (split ∙ sym (append_assoc done (s ∷ []) part)) now)
 

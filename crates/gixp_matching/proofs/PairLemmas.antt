@@ -1,20 +1,17 @@
--- The mapping of one refspec and one ref, case by case.
-use Rattle.std.proofs.Common.{◌≡◌, ℕ, Bool, true, false, cond, List, [], ◌∷◌, Option, Some, None, ap, sym, ◌∙◌, refl}
+-- The place of one refspec and one ref, case by case.
+use Rattle.std.proofs.Common.{◌≡◌, ℕ, Bool, true, false, cond, List, [], ◌∷◌, Option, Some, None, map, ap, sym, ◌∙◌, refl}
 use Rattle.std.specs.Prelude.{◌||◌, ◌&&◌, is_some, option_to_list, option_map}
 use Rattle.std.specs.Option.{option_copied}
 use Rattle.std.specs.Borrow.{Bor}
+use Rattle.std.proofs.lemmas.Bool.{false≢true}
 use Rattle.gixp_refspec.specs.declared.needle.Needle.{Needle}
 use Rattle.gixp_refspec.specs.declared.spec.Sign.{Sign}
 use Rattle.gixp_refspec.specs.Spec.{Spec, spec, is_negative}
 use Rattle.gixp_refspec.specs.Matching.{middle_of, local_of}
 use Rattle.gixp_refspec.specs.Needle.{IsNeedle, middle_with}
 use Rattle.gixp_matching.specs.Mappings.{FullName, Mapped, mapped, is_excluded, excludes, pair}
-use Rattle.gixp_matching.proofs.NeedleLemmas.{middle_with-needle}
-
--- what the needle finds is the middle
-found_is : (source name : List ℕ) (needle : Needle) (r found : Option (List ℕ)) → IsNeedle source needle → r ≡ middle_with needle name
-    → r ≡ found → middle_of source name ≡ found
-found_is source name needle r found made was is = sym (middle_with-needle source name needle made) ∙ sym was ∙ is
+use Rattle.gixp_matching.specs.Places.{place_of, pair_places}
+use Rattle.gixp_matching.proofs.NeedleLemmas.{middle_with-needle, found_is}
 
 -- what a refspec makes of a name: nothing where b, else a mapping for the middle
 abbrev made : (s : ℕ × Spec) (name : List ℕ) (i : ℕ) (b : Bool) (middle : Option (List ℕ)) → List Mapped
@@ -25,28 +22,28 @@ none_made : (s : ℕ × Spec) (name : List ℕ) (i : ℕ) (b : Bool) → made s 
 none_made s name i true = refl
 none_made s name i false = refl
 
--- no mapping where the source doesn't match
+-- no place where the source doesn't match
 pub pair_unmatched : (specs : List Spec) (s : ℕ × Spec) (name : List ℕ) (i : ℕ) (needle : Needle) (r : Option (Bor (List ℕ)))
     → IsNeedle s.1.source needle
-    → option_copied r ≡ middle_with needle name → r ≡ None → [] ≡ pair specs s (i, name)
+    → option_copied r ≡ middle_with needle name → is_some r ≡ false → [] ≡ pair_places specs s (i, name)
 unfolding pair
-pair_unmatched specs s name i needle r made_of was is =
-    let none = found_is s.1.source name needle (option_copied r) None made_of was (ap option_copied is) in
-    sym (ap (made s name i (is_negative s.1.sign || is_excluded specs name)) none
-    ∙ none_made s name i (is_negative s.1.sign || is_excluded specs name))
+pair_unmatched specs s name i needle (Some m) made_of was is = absurd (false≢true (sym is))
+pair_unmatched specs s name i needle None made_of was is =
+    let none = found_is s.1.source name needle None None made_of was refl in
+    ap (map place_of) (sym (ap (made s name i (is_negative s.1.sign || is_excluded specs name)) none
+    ∙ none_made s name i (is_negative s.1.sign || is_excluded specs name)))
 
--- the mapping where it does, and no negative refspec matches the ref
+-- the place where it does, and no negative refspec matches the ref
 pub pair_matched : (specs : List Spec) (s : ℕ × Spec) (name : List ℕ) (i : ℕ) (needle : Needle) (r : Option (Bor (List ℕ)))
-    (m : Bor (List ℕ)) (local : Option (List ℕ)) (source : List ℕ) → IsNeedle s.1.source needle
-    → option_copied r ≡ middle_with needle name → r ≡ Some m → is_negative s.1.sign ≡ false → is_excluded specs name ≡ false
-    → local ≡ local_of s.1 m.now → source ≡ name → mapped (Some i) (FullName source) local s.0 ∷ [] ≡ pair specs s (i, name)
+    → IsNeedle s.1.source needle
+    → option_copied r ≡ middle_with needle name → is_some r ≡ true → is_negative s.1.sign ≡ false → is_excluded specs name ≡ false
+    → (Some i, s.0) ∷ [] ≡ pair_places specs s (i, name)
 unfolding pair
-pair_matched specs s name i needle r m local source made_of was is positive kept locals names =
-    let some = found_is s.1.source name needle (option_copied r) (Some m.now) made_of was (ap option_copied is) in
-    ap (λ l. mapped (Some i) (FullName source) l s.0 ∷ []) locals
-    ∙ ap (λ n. mapped (Some i) (FullName n) (local_of s.1 m.now) s.0 ∷ []) names
-    ∙ sym (ap (made s name i (is_negative s.1.sign || is_excluded specs name)) some
-    ∙ ap (λ b. made s name i (b || is_excluded specs name) (Some m.now)) positive ∙ ap (λ b. made s name i b (Some m.now)) kept)
+pair_matched specs s name i needle None made_of was is positive kept = absurd (false≢true is)
+pair_matched specs s name i needle (Some m) made_of was is positive kept =
+    let some = found_is s.1.source name needle (Some m.now) (Some m.now) made_of was refl in
+    ap (map place_of) (sym (ap (made s name i (is_negative s.1.sign || is_excluded specs name)) some
+    ∙ ap (λ b. made s name i (b || is_excluded specs name) (Some m.now)) positive ∙ ap (λ b. made s name i b (Some m.now)) kept))
 
 -- a reference is there where its value is
 copied_some : (r : Option (Bor (List ℕ))) → is_some r ≡ is_some (option_copied r)
@@ -61,14 +58,27 @@ excludes_is sign source name destination needle r b made_of was is negative =
     is ∙ copied_some r ∙ ap is_some (was ∙ middle_with-needle source name needle made_of)
     ∙ ap (λ n. n && is_some (middle_of source name)) (sym negative)
 
--- no mapping without a middle
-pub pair_none : (specs : List Spec) (s : ℕ × Spec) (ref : ℕ × List ℕ) → middle_of s.1.source ref.1 ≡ None → [] ≡ pair specs s ref
+-- no place without a middle
+pub pair_none : (specs : List Spec) (s : ℕ × Spec) (ref : ℕ × List ℕ) → middle_of s.1.source ref.1 ≡ None
+    → [] ≡ pair_places specs s ref
 unfolding pair
 pair_none specs s ref none =
-    sym (ap (made s ref.1 ref.0 (is_negative s.1.sign || is_excluded specs ref.1)) none
-    ∙ none_made s ref.1 ref.0 (is_negative s.1.sign || is_excluded specs ref.1))
+    ap (map place_of) (sym (ap (made s ref.1 ref.0 (is_negative s.1.sign || is_excluded specs ref.1)) none
+    ∙ none_made s ref.1 ref.0 (is_negative s.1.sign || is_excluded specs ref.1)))
 
--- no mapping of a negative refspec
-pub pair_negative : (specs : List Spec) (s : ℕ × Spec) (ref : ℕ × List ℕ) → is_negative s.1.sign ≡ true → [] ≡ pair specs s ref
+-- no place of a negative refspec
+pub pair_negative : (specs : List Spec) (s : ℕ × Spec) (ref : ℕ × List ℕ) → is_negative s.1.sign ≡ true → [] ≡ pair_places specs s ref
 unfolding pair
-pair_negative specs s ref negative = sym (ap (λ b. made s ref.1 ref.0 (b || is_excluded specs ref.1) (middle_of s.1.source ref.1)) negative)
+pair_negative specs s ref negative =
+    ap (map place_of) (sym (ap (λ b. made s ref.1 ref.0 (b || is_excluded specs ref.1) (middle_of s.1.source ref.1)) negative))
+
+-- no place of a name that a negative refspec matches
+pub pair_excluded : (specs : List Spec) (s : ℕ × Spec) (ref : ℕ × List ℕ) → is_excluded specs ref.1 ≡ true → [] ≡ pair_places specs s ref
+unfolding pair
+pair_excluded specs s ref out =
+    ap (map place_of) (sym (ap (λ b. made s ref.1 ref.0 b (middle_of s.1.source ref.1))
+    (ap (λ b. is_negative s.1.sign || b) out ∙ or_true (is_negative s.1.sign))))
+  where
+    or_true : (b : Bool) → (b || true) ≡ true
+    or_true true = refl
+    or_true false = refl

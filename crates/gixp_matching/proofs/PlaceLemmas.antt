@@ -1,5 +1,5 @@
 -- The places of the refs that a short name stands for.
-use Rattle.std.proofs.Common.{◌≡◌, ℕ, ◌+◌, ◌<◌, ◌==◌, Bool, true, false, cond, List, [], ◌∷◌, ◌++◌, length, map, filter, get_or, ◌≤◌, Some, None, Less, Equal, refl, sym, ap, ◌∙◌, append_assoc, subst, arith, length-append}
+use Rattle.std.proofs.Common.{◌≡◌, ℕ, ◌+◌, ◌<◌, ◌==◌, Bool, true, false, cond, List, [], ◌∷◌, ◌++◌, length, map, filter, get_or, ◌≤◌, Option, Some, None, Less, Equal, refl, sym, ap, ◌∙◌, append_assoc, subst, arith, length-append}
 use Rattle.std.specs.Prelude.{◌||◌}
 use Rattle.std.specs.Borrow.{Bor}
 use Rattle.std.specs.BTreeSet.{BTreeSet, contains, IsOrdered}
@@ -19,13 +19,13 @@ use Rattle.gixp_matching.specs.declared.match_group.rows.Row.{Row}
 use Rattle.gixp_refspec.specs.declared.needle.Needle.TheVariants.{Short as the_short}
 use Rattle.gixp_refspec.specs.Spec.{Spec, is_negative}
 use Rattle.gixp_refspec.specs.Matching.{candidates, where_true}
-use Rattle.gixp_matching.specs.Mappings.{Mapped, pair, pairs_of}
+use Rattle.gixp_matching.specs.Places.{pair_places, places_with}
 use Rattle.gixp_refspec.specs.Needle.{IsNeedle}
 use Rattle.gixp_matching.specs.Rows.{shown, is_row_of, meant, IsRowTable, AreSought, has_place, AddsPlaces, HasPlaces, ArePlaces, ref_at}
 use Rattle.gixp_matching.specs.Sought.{sought_by, is_among}
 use Rattle.gixp_matching.proofs.DistinctLemmas.{is_eq-reverse}
 use Rattle.gixp_matching.proofs.FirstLemmas.{or_none}
-use Rattle.gixp_matching.proofs.ListLemmas.{any_same, kept_same}
+use Rattle.gixp_matching.proofs.ListLemmas.{any_same, kept_same, stands_at}
 use Rattle.gixp_packetline.proofs.ListLemmas.{any_of_map}
 use Rattle.gixp_matching.proofs.NeedleLemmas.{middle_with-needle}
 use Rattle.gixp_matching.proofs.PairLemmas.{pair_none}
@@ -172,13 +172,9 @@ one_ref h xs k x l e =
     ∙ ap (option_map h) (slice_get-get_or xs k x l ∙ ap Some (sym e)) in
     rw one refl
 
-at_front : {X : Type 0} (front xs : List X) (x : X) → slice_get (front ++ x ∷ xs) (length front) ≡ Some x
-at_front [] xs x = refl
-at_front (y ∷ ys) xs x = at_front ys xs x
-
 the_ref : (all front xs : List (List ℕ)) (x : List ℕ) (k : ℕ) → all ≡ front ++ x ∷ xs → k ≡ length front → ref_at all k ≡ (k, x) ∷ []
 the_ref all front xs x k h e =
-    let found : slice_get all k ≡ Some x = ap (λ l. slice_get l k) h ∙ ap (slice_get (front ++ x ∷ xs)) e ∙ at_front front xs x in
+    let found = stands_at all front xs x k h e in
     rw found refl
 
 -- what is made of the refs at the places of refs is what is made of these
@@ -204,18 +200,18 @@ refs_at {B} f q all front (x ∷ xs) k h e =
         ∙ ap (λ l. f (k, x) ++ l) more
     at false more = more
 
--- a short name maps the refs that it stands for
-pub short_mapped : (specs : List Spec) (wanted all : List (List ℕ)) (s : ℕ × Spec) (name : Bor (List ℕ)) (rows : List Row) (places : List ℕ)
-    (now new : List Mapped) → IsNeedle s.1.source (the_short name) → is_negative s.1.sign ≡ false → IsRowTable wanted all rows
+-- a short name has the places of the refs that it stands for
+pub short_placed : (specs : List Spec) (wanted all : List (List ℕ)) (s : ℕ × Spec) (name : Bor (List ℕ)) (rows : List Row) (places : List ℕ)
+    (now new : List (Option ℕ × ℕ)) → IsNeedle s.1.source (the_short name) → is_negative s.1.sign ≡ false → IsRowTable wanted all rows
     → AreSought wanted (sought_by s.1) → ArePlaces (candidates name.now) rows places
-    → new ≡ now ++ flat_map (λ place. flat_map (pair specs s) (ref_at all place)) places
-    → new ≡ now ++ pairs_of specs all s
-short_mapped specs wanted all s name rows places now new made positive table has was step =
-    step ∙ ap (λ l. now ++ flat_map (λ place. flat_map (pair specs s) (ref_at all place)) l)
+    → new ≡ now ++ flat_map (λ place. flat_map (pair_places specs s) (ref_at all place)) places
+    → new ≡ now ++ places_with specs all s
+short_placed specs wanted all s name rows places now new made positive table has was step =
+    step ∙ ap (λ l. now ++ flat_map (λ place. flat_map (pair_places specs s) (ref_at all place)) l)
     (was wanted all table (subst (AreSought wanted) (short_sought s.1 name positive made) has))
-    ∙ ap (λ l. now ++ l) (refs_at (pair specs s)
+    ∙ ap (λ l. now ++ l) (refs_at (pair_places specs s)
     (λ ref. list_any (λ text. bytes_eq ref.1 text) (candidates name.now)) all [] all 0 refl refl)
-    ∙ ap (λ l. now ++ l) (flat_map-filter (pair specs s) (λ ref. list_any (λ text. bytes_eq ref.1 text) (candidates name.now))
+    ∙ ap (λ l. now ++ l) (flat_map-filter (pair_places specs s) (λ ref. list_any (λ text. bytes_eq ref.1 text) (candidates name.now))
     (λ ref other. sym (pair_none specs s ref (sym (middle_with-needle s.1.source ref.1 (the_short name) made) ∙ ap where_true other)))
     (enumerate_from 0 all))
 

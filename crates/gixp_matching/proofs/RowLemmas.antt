@@ -1,5 +1,5 @@
 -- Refs in the order of their names.
-use Rattle.std.proofs.Common.{◌≡◌, ℕ, ◌+◌, ◌≤◌, ◌<◌, Bool, true, false, cond, List, [], ◌∷◌, ◌++◌, length, take, drop, map, get_or, Ordering, Less, Equal, Greater, ap, sym, subst, ◌∙◌, refl, inl, inr, arith}
+use Rattle.std.proofs.Common.{◌≡◌, ℕ, ◌+◌, ◌≤◌, ◌<◌, Bool, true, false, cond, List, [], ◌∷◌, ◌++◌, length, take, drop, map, get_or, Option, Ordering, Less, Equal, Greater, ap, sym, subst, ◌∙◌, refl, inl, inr, arith}
 use Rattle.std.specs.Prelude.{◌&&◌, not, filter, Result, Ok, Err, OnOk}
 use Rattle.std.specs.Borrow.{Bor}
 use Rattle.std.specs.Cmp.Lexicographic.{slice_cmp}
@@ -19,7 +19,7 @@ use Rattle.gixp_matching.specs.declared.match_group.rows.Row.{Row}
 use Rattle.gixp_refspec.specs.declared.needle.Needle.TheVariants.{Id as the_id, Exact as the_exact}
 use Rattle.gixp_refspec.specs.Spec.{Spec, is_negative}
 use Rattle.gixp_refspec.specs.Matching.{where_true}
-use Rattle.gixp_matching.specs.Mappings.{Mapped, pair, pairs_of}
+use Rattle.gixp_matching.specs.Places.{pair_places, places_with}
 use Rattle.gixp_refspec.specs.Needle.{IsNeedle}
 use Rattle.gixp_matching.specs.Rows.{shown, is_row_of, AreByName, meant, IsRowTable, AreSought}
 use Rattle.gixp_matching.specs.Sought.{sought_by, is_among}
@@ -197,40 +197,40 @@ meant_none all = sym (filter_none (λ ref. false) (enumerate_from 0 all) (none (
   none [] = tt
   none (x ∷ xs) = (refl, none xs)
 
--- ---- the mappings of refs that were looked up
+-- ---- the places of refs that were looked up
 
 -- what holds on success of one holds of another that it implies
 pub on_ok : {X E : Type 0} (r : Result X E) (P Q : Type 0) → (P → Q) → OnOk r P → OnOk r Q
 on_ok (Ok x) P Q f h = f h
 on_ok (Err e) P Q f h = h
 
--- a refspec that maps nothing
-pub nothing_mapped : (specs : List Spec) (all : List (List ℕ)) (s : ℕ × Spec) (now : List Mapped)
-    → ((ref : ℕ × List ℕ) → [] ≡ pair specs s ref) → now ≡ now ++ pairs_of specs all s
-nothing_mapped specs all s now none = sym (ap (λ l. now ++ l) (empty (enumerate_from 0 all)) ∙ append-nil now) where
-  empty : (refs : List (ℕ × List ℕ)) → flat_map (pair specs s) refs ≡ []
+-- a refspec that matches nothing
+pub nothing_placed : (specs : List Spec) (all : List (List ℕ)) (s : ℕ × Spec) (now : List (Option ℕ × ℕ))
+    → ((ref : ℕ × List ℕ) → [] ≡ pair_places specs s ref) → now ≡ now ++ places_with specs all s
+nothing_placed specs all s now none = sym (ap (λ l. now ++ l) (empty (enumerate_from 0 all)) ∙ append-nil now) where
+  empty : (refs : List (ℕ × List ℕ)) → flat_map (pair_places specs s) refs ≡ []
   empty [] = refl
-  empty (ref ∷ refs) = ap (λ l. l ++ flat_map (pair specs s) refs) (sym (none ref)) ∙ empty refs
+  empty (ref ∷ refs) = ap (λ l. l ++ flat_map (pair_places specs s) refs) (sym (none ref)) ∙ empty refs
 
 -- an id matches no name
-pub id_mapped : (specs : List Spec) (all : List (List ℕ)) (s : ℕ × Spec) (now : List Mapped) → IsNeedle s.1.source the_id → now ≡ now
-    ++ pairs_of specs all s
-id_mapped specs all s now made =
-    nothing_mapped specs all s now (λ ref. pair_none specs s ref (sym (middle_with-needle s.1.source ref.1 the_id made)))
+pub id_placed : (specs : List Spec) (all : List (List ℕ)) (s : ℕ × Spec) (now : List (Option ℕ × ℕ))
+    → IsNeedle s.1.source the_id → now ≡ now ++ places_with specs all s
+id_placed specs all s now made =
+    nothing_placed specs all s now (λ ref. pair_none specs s ref (sym (middle_with-needle s.1.source ref.1 the_id made)))
 
--- a negative refspec maps none
-pub negative_mapped : (specs : List Spec) (all : List (List ℕ)) (s : ℕ × Spec) (now : List Mapped) → is_negative s.1.sign ≡ true
-    → now ≡ now ++ pairs_of specs all s
-negative_mapped specs all s now negative = nothing_mapped specs all s now (λ ref. pair_negative specs s ref negative)
+-- a negative refspec has none
+pub negative_placed : (specs : List Spec) (all : List (List ℕ)) (s : ℕ × Spec) (now : List (Option ℕ × ℕ)) → is_negative s.1.sign ≡ true
+    → now ≡ now ++ places_with specs all s
+negative_placed specs all s now negative = nothing_placed specs all s now (λ ref. pair_negative specs s ref negative)
 
--- an exact name maps the refs of this name
-pub exact_mapped : (specs : List Spec) (texts all : List (List ℕ)) (s : ℕ × Spec) (name : Bor (List ℕ)) (rows run : List Row)
-    (now new : List Mapped) → IsNeedle s.1.source (the_exact name) → is_negative s.1.sign ≡ false → IsRowTable texts all rows
+-- an exact name has those of the refs of this name
+pub exact_placed : (specs : List Spec) (texts all : List (List ℕ)) (s : ℕ × Spec) (name : Bor (List ℕ)) (rows run : List Row)
+    (now new : List (Option ℕ × ℕ)) → IsNeedle s.1.source (the_exact name) → is_negative s.1.sign ≡ false → IsRowTable texts all rows
     → AreSought texts (sought_by s.1) → run ≡ filter (is_row_of name.now) rows
-    → new ≡ now ++ flat_map (pair specs s) (map shown run) → new ≡ now ++ pairs_of specs all s
-exact_mapped specs texts all s name rows run now new made positive table has was step =
-    step ∙ ap (λ l. now ++ flat_map (pair specs s) l) (ap (map shown) was
+    → new ≡ now ++ flat_map (pair_places specs s) (map shown run) → new ≡ now ++ places_with specs all s
+exact_placed specs texts all s name rows run now new made positive table has was step =
+    step ∙ ap (λ l. now ++ flat_map (pair_places specs s) l) (ap (map shown) was
     ∙ table.has_all name.now (has name.now (exact_sought s.1 name positive made)))
-    ∙ ap (λ l. now ++ l) (flat_map-filter (pair specs s) (λ ref. bytes_eq ref.1 name.now)
+    ∙ ap (λ l. now ++ l) (flat_map-filter (pair_places specs s) (λ ref. bytes_eq ref.1 name.now)
     (λ ref other. sym (pair_none specs s ref (sym (middle_with-needle s.1.source ref.1 (the_exact name) made) ∙ ap where_true other)))
     (enumerate_from 0 all))

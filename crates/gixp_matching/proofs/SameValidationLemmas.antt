@@ -1,5 +1,5 @@
 -- A validation reads nothing of the places of the refs.
-use Rattle.std.proofs.Common.{◌≡◌, ℕ, Bool, cond, List, [], ◌∷◌, ◌++◌, map, ap, sym, ◌∙◌, refl}
+use Rattle.std.proofs.Common.{◌≡◌, ℕ, Bool, cond, List, [], ◌∷◌, map, ap, sym, ◌∙◌, refl}
 use Rattle.std.specs.Prelude.{filter, not}
 use Rattle.std.specs.List.{list_any, flat_map}
 use Rattle.std.proofs.lemmas.List.Folds.{fold-map}
@@ -7,7 +7,7 @@ use Rattle.gixp_refspec.specs.Spec.{Spec}
 use Rattle.gixp_matching.specs.Mappings.{Source, Mapped, source_eq, mappings}
 use Rattle.gixp_matching.specs.Validation.{has_local, of_local, differ, local_names, insert_local, spec_text, Conflict, conflict_over, conflicts, is_partial, removed_at, fixes, kept}
 use Rattle.gixp_matching.specs.Leaving.{without_item, SameAnswers, KeepsAnswers, AnswersAll}
-use Rattle.gixp_matching.proofs.ListLemmas.{any_same, map_same, map_of_map, filter_of_map}
+use Rattle.gixp_matching.proofs.ListLemmas.{any_same, map_same, map_of_map, flat_map_same, filter_of_map}
 use Rattle.gixp_packetline.proofs.ListLemmas.{any_of_map}
 use Rattle.gixp_matching.proofs.LeavingLemmas.{keeps_mappings}
 
@@ -38,11 +38,6 @@ conflict_over_bare specs name ms =
     (differ_bare ms)
     ∙ ap (λ t. conflict_made (differ ms) name t (map (λ m. m.source) (map without_item ms))) (bare_map (spec_text specs) (λ m. refl) ms)
     ∙ ap (λ t. conflict_made (differ ms) name (map (spec_text specs) ms) t) (bare_map (λ m. m.source) (λ m. refl) ms)
-
--- equal functions into lists
-flat_map_same : {A B : Type 0} (f g : A → List B) → ((x : A) → f x ≡ g x) → (xs : List A) → flat_map f xs ≡ flat_map g xs
-flat_map_same f g h [] = refl
-flat_map_same f g h (x ∷ xs) = ap (λ l. l ++ flat_map f xs) (h x) ∙ ap (λ l. g x ++ l) (flat_map_same f g h xs)
 
 -- all conflicts, without the places
 conflicts_of_bare : (specs : List Spec) (ms : List Mapped) → conflicts specs (map without_item ms) ≡ conflicts specs ms

@@ -14,6 +14,7 @@ mod digest;
 mod distinct;
 pub mod key;
 mod local;
+mod made;
 mod negatives;
 mod pairs;
 mod repeats;
@@ -22,6 +23,8 @@ mod sorted;
 mod sought;
 pub mod validate;
 
+use crate::match_group::local::{local_of_id, local_of_name};
+use crate::match_group::made::repeated_mappings;
 use crate::match_group::negatives::prepare;
 use crate::match_group::pairs::{Matching, push_ids};
 use crate::match_group::validate::Fix;
@@ -142,26 +145,6 @@ fn id_named(spec: Option<&RefSpecRef<'_>>) -> Option<ObjectId>
     }
 }
 
-/// The mappings of the refs, each source and local name once.
-fn mappings_of<'s>(
-    alloc: Global,
-    specs: &'s [RefSpecRef<'s>],
-    items: &[Item<'_>],
-) -> Result<Vec<Mapping>, AllocError>
-    ensures { IfOk result (λ found. mapped_in found ≡ mappings (values specs.now) (names items.now)) }
-{
-    let mut found = Vec::new(alloc);
-    push_ids(alloc, specs, &mut found)?;
-    let prepared = prepare(alloc, specs)?;
-    let matching = Matching {
-        alloc,
-        prepared: &prepared,
-        items,
-    };
-    matching.push_pairs(&mut found)?;
-    firsts(alloc, found)
-}
-
 impl<'s> MatchGroup<'s> {
     /// A group of refspecs, in their order.
     pub fn from_fetch_specs(specs: &'s [RefSpecRef<'s>]) -> MatchGroup<'s>
@@ -182,7 +165,16 @@ impl<'s> MatchGroup<'s> {
         ensures told { IfOk result (λ _. AllByRecursion (FollowsFromPlace (group_specs self.now) (names items.now))
             (repeated (group_specs self.now) (names items.now))) }
     {
-        Err(AllocError)
+        let mut found = Vec::new(alloc);
+        push_ids(self.specs, &mut found)?;
+        let prepared = prepare(alloc, self.specs)?;
+        let matching = Matching {
+            alloc,
+            prepared: &prepared,
+            items,
+        };
+        matching.push_pairs(&mut found)?;
+        Ok(found)
     }
 
     /// The local name that the refspec at a place gives the ref of this whole name.
@@ -199,7 +191,7 @@ impl<'s> MatchGroup<'s> {
         ensures { IfOk result (λ local. option_map bstring_bytes local
             ≡ local_for (slice_get (group_specs self.now) spec_index) (FullName full_ref_name.now)) }
     {
-        Err(AllocError)
+        local_of_name(alloc, self.specs.get(spec_index), full_ref_name)
     }
 
     /// The local name that the refspec at a place gives the id that it names.
@@ -215,7 +207,7 @@ impl<'s> MatchGroup<'s> {
         ensures { IfOk result (λ local. (id : List ℕ) → option_map bstring_bytes local
             ≡ local_for (slice_get (group_specs self.now) spec_index) (IdOf id)) }
     {
-        Err(AllocError)
+        local_of_id(alloc, self.specs.get(spec_index))
     }
 
     /// The id that the refspec at a place names, if there is one.
@@ -223,6 +215,14 @@ impl<'s> MatchGroup<'s> {
         ensures { option_map (λ id. id.bytes) result ≡ id_for (slice_get (group_specs self.now) spec_index) }
     {
         id_named(self.specs.get(spec_index))
+    }
+
+    /// The mappings of the refs, each source and local name once.
+    fn mappings(&self, alloc: Global, items: &[Item<'_>]) -> Result<Vec<Mapping>, AllocError>
+        ensures { IfOk result (λ found. mapped_in found ≡ mappings (group_specs self.now) (names items.now)) }
+    {
+        let found = repeated_mappings(alloc, self, items)?;
+        firsts(alloc, found)
     }
 
     /// The mappings of the refs: first the ids, then each positive refspec with each ref that it matches and no
@@ -239,7 +239,7 @@ impl<'s> MatchGroup<'s> {
         // A server that was asked for the prefixes may leave out refs that begin with none of them.
         ensures filtered { IfOk result (λ outcome. AnswersAll (group_specs self.now) (names items.now) (mapped_in outcome.mappings)) }
     {
-        let mappings = mappings_of(alloc, self.specs, items)?;
+        let mappings = self.mappings(alloc, items)?;
         Ok(Outcome {
             mappings,
             specs: self.specs,

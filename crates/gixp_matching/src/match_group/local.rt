@@ -1,11 +1,15 @@
 //! The local name of a ref that a refspec matches.
-ghost use Rattle.std.specs.Prelude.{◌≡◌, IfOk};
+ghost use Rattle.std.specs.Prelude.{ℕ, ◌≡◌, List, IfOk};
 ghost use Rattle.std.specs.Option.{option_copied, option_map};
 ghost use Rattle.bstr.specs.Owned.{bstring_bytes};
 ghost use Rattle.gixp_refspec.specs.Matching.{local_in, full_local};
+ghost use Rattle.gixp_refspec.specs.RefSpec.{value_of};
+ghost use Rattle.gixp_matching.specs.Mappings.{FullName, ObjectId as IdOf};
+ghost use Rattle.gixp_matching.specs.Places.{local_for};
 
 use bstr::BString;
-use gixp_refspec::needle::around_star;
+use gixp_refspec::needle::{Needle, around_star};
+use gixp_refspec::spec::RefSpecRef;
 use gixp_refspec::text::joined;
 use std::alloc::{AllocError, Global};
 
@@ -38,7 +42,7 @@ fn local_in(alloc: Global, middle: &[u8], destination: &[u8]) -> Result<BString,
 }
 
 /// The local name, where there is a destination.
-pub(crate) fn local_of(
+fn local_of(
     alloc: Global,
     middle: &[u8],
     destination: Option<&[u8]>,
@@ -48,5 +52,37 @@ pub(crate) fn local_of(
     match destination {
         None => Ok(None),
         Some(destination) => Ok(Some(local_in(alloc, middle, destination)?)),
+    }
+}
+
+/// The local name that a refspec gives the ref of this whole name, where there is one and it matches.
+pub(crate) fn local_of_name(
+    alloc: Global,
+    spec: Option<&RefSpecRef<'_>>,
+    full_ref_name: &[u8],
+) -> Result<Option<BString>, AllocError>
+    ensures { IfOk result (λ local. option_map bstring_bytes local
+        ≡ local_for (option_map value_of (option_copied spec.entry)) (FullName full_ref_name.now)) }
+{
+    let Some(spec) = spec else {
+        return Ok(None);
+    };
+    match Needle::new(spec.source).middle(full_ref_name) {
+        None => Ok(None),
+        Some(middle) => local_of(alloc, middle, spec.destination),
+    }
+}
+
+/// The local name that a refspec gives the id that it names, where there is one.
+pub(crate) fn local_of_id(
+    alloc: Global,
+    spec: Option<&RefSpecRef<'_>>,
+) -> Result<Option<BString>, AllocError>
+    ensures { IfOk result (λ local. (id : List ℕ) → option_map bstring_bytes local
+        ≡ local_for (option_map value_of (option_copied spec.entry)) (IdOf id)) }
+{
+    match spec {
+        None => Ok(None),
+        Some(spec) => local_of(alloc, b"", spec.destination),
     }
 }

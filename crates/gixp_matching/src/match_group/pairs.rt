@@ -1,79 +1,58 @@
-//! The mappings of refspecs and refs, in their order and with repeats.
-ghost use Rattle.std.specs.Prelude.{◌≡◌, ◌++◌, OnOk, IfOk, map, option_to_list};
+//! Where the mappings of refspecs and refs come from, in their order and with repeats.
+ghost use Rattle.std.specs.Prelude.{◌≡◌, ◌++◌, OnOk, map, option_to_list};
 ghost use Rattle.std.specs.Option.{option_map};
 ghost use Rattle.std.specs.List.{flat_map};
 ghost use Rattle.gixp_refspec.specs.RefSpec.{value_of};
-ghost use Rattle.gixp_matching.specs.Mappings.{id_mapping, pair, pairs_of, id_mappings, pairs};
-ghost use Rattle.gixp_matching.specs.MatchGroup.{mapped_of, mapped_in, values, names};
+ghost use Rattle.gixp_matching.specs.Mappings.{id_mappings, pairs};
+ghost use Rattle.gixp_matching.specs.MatchGroup.{values, names};
+ghost use Rattle.gixp_matching.specs.Places.{place_of, place_value, places_in, id_places, pair_places, places_with};
 ghost use Rattle.gixp_matching.specs.Rows.{shown, ref_at, numbered_value, IsLookedAt, HasSoughtNames, IsPrepared, IsRowTable};
 ghost use Rattle.gixp_matching.specs.Sought.{sought};
 
-use crate::match_group::local::local_of;
 use crate::match_group::negatives::{Prepared, is_excluded};
 use crate::match_group::rows::{Row, places_meant, rows_named, table_of};
-use crate::match_group::{Item, Mapping, SourceRef};
-use bstr::BString;
+use crate::match_group::{Item, Place};
 use gixp_refspec::needle::Needle;
 use gixp_refspec::spec::{RefSpecRef, id_in, is_negative};
 use std::alloc::{AllocError, Global};
 
-/// Appends a mapping, where one was found.
-fn push_found(out: &mut Vec<Mapping>, found: Option<Mapping>) -> Result<(), AllocError>
-    ensures { OnOk result (mapped_in out.new ≡ mapped_in out.old ++ option_to_list (option_map mapped_of found)) }
+/// Appends a place, where one was found.
+fn push_found(out: &mut Vec<Place>, found: Option<Place>) -> Result<(), AllocError>
+    ensures { OnOk result (places_in out.new ≡ places_in out.old ++ option_to_list (option_map place_value found)) }
 {
-    if let Some(mapping) = found {
-        out.push(mapping)?;
+    if let Some(place) = found {
+        out.push(place)?;
     }
     Ok(())
 }
 
-/// The mapping of a positive id.
+/// The place of a positive id.
 #[tactic(auto, unfolding(crate::specs::Mappings::id_mapping))]
-fn id_mapping(
-    alloc: Global,
-    index: usize,
-    spec: &RefSpecRef<'_>,
-) -> Result<Option<Mapping>, AllocError>
-    ensures { IfOk result (λ found. option_to_list (option_map mapped_of found) ≡ id_mapping (index, value_of spec.now)) }
+fn id_place(index: usize, spec: &RefSpecRef<'_>) -> Option<Place>
+    ensures { option_to_list (option_map place_value result) ≡ id_places (index, value_of spec.now) }
 {
-    if is_negative(spec.sign) {
-        return Ok(None);
+    if is_negative(spec.sign) || id_in(spec.source).is_none() {
+        return None;
     }
-    let Some(id) = id_in(spec.source) else {
-        return Ok(None);
-    };
-    let rhs = local_of(alloc, b"", spec.destination)?;
-    Ok(Some(Mapping {
+    Some(Place {
         item_index: None,
-        lhs: SourceRef::ObjectId(id),
-        rhs,
         spec_index: index,
-    }))
+    })
 }
 
-/// Appends the mapping of a positive id.
-fn push_id(
-    alloc: Global,
-    index: usize,
-    spec: &RefSpecRef<'_>,
-    out: &mut Vec<Mapping>,
-) -> Result<(), AllocError>
-    ensures { OnOk result (mapped_in out.new ≡ mapped_in out.old ++ id_mapping (index, value_of spec.now)) }
+/// Appends the place of a positive id.
+fn push_id(index: usize, spec: &RefSpecRef<'_>, out: &mut Vec<Place>) -> Result<(), AllocError>
+    ensures { OnOk result (places_in out.new ≡ places_in out.old ++ id_places (index, value_of spec.now)) }
 {
-    let found = id_mapping(alloc, index, spec)?;
-    push_found(out, found)
+    push_found(out, id_place(index, spec))
 }
 
-/// Appends the mappings of the positive ids.
-pub(crate) fn push_ids(
-    alloc: Global,
-    specs: &[RefSpecRef<'_>],
-    out: &mut Vec<Mapping>,
-) -> Result<(), AllocError>
-    ensures { OnOk result (mapped_in out.new ≡ mapped_in out.old ++ id_mappings (values specs.now)) }
+/// Appends the places of the positive ids.
+pub(crate) fn push_ids(specs: &[RefSpecRef<'_>], out: &mut Vec<Place>) -> Result<(), AllocError>
+    ensures { OnOk result (places_in out.new ≡ places_in out.old ++ map place_of (id_mappings (values specs.now))) }
 {
     'specs: for (index, spec) in specs.iter().enumerate() {
-        push_id(alloc, index, spec, out)?;
+        push_id(index, spec, out)?;
     }
     Ok(())
 }
@@ -109,64 +88,51 @@ pub(crate) struct Matching<'m, 's, 'a> {
 }
 
 impl Matching<'_, '_, '_> {
-    /// The mapping of a refspec and a ref, where the one matches the other.
+    /// The place of a refspec and a ref, where the one matches the other.
     #[tactic(auto, unfolding(crate::specs::Mappings::pair))]
-    fn pair(
-        &self,
-        numbered: &Numbered<'_, '_>,
-        row: &Row<'_>,
-    ) -> Result<Option<Mapping>, AllocError>
+    fn pair(&self, numbered: &Numbered<'_, '_>, row: &Row<'_>) -> Option<Place>
         requires needle { IsLookedAt numbered.now }
         requires prepared { IsPrepared self.now.prepared.now }
-        ensures { IfOk result (λ found. option_to_list (option_map mapped_of found) ≡ pair (values self.now.prepared.now.specs.now)
-            (numbered_value numbered.now) (shown row.now)) }
+        ensures { option_to_list (option_map place_value result)
+            ≡ pair_places (values self.now.prepared.now.specs.now) (numbered_value numbered.now) (shown row.now) }
     {
-        let spec = numbered.spec;
-        if is_negative(spec.sign) {
-            return Ok(None);
+        if is_negative(numbered.spec.sign)
+            || numbered.needle.middle(row.name).is_none()
+            || is_excluded(self.prepared, row.name)
+        {
+            return None;
         }
-        let Some(middle) = numbered.needle.middle(row.name) else {
-            return Ok(None);
-        };
-        if is_excluded(self.prepared, row.name) {
-            return Ok(None);
-        }
-        let rhs = local_of(self.alloc, middle, spec.destination)?;
-        let lhs = BString::from_slice(self.alloc, row.name)?;
-        Ok(Some(Mapping {
+        Some(Place {
             item_index: Some(row.place),
-            lhs: SourceRef::FullName(lhs),
-            rhs,
             spec_index: numbered.index,
-        }))
+        })
     }
 
-    /// Appends the mapping of a refspec and a ref, where the one matches the other.
+    /// Appends the place of a refspec and a ref, where the one matches the other.
     fn push_pair(
         &self,
         numbered: &Numbered<'_, '_>,
         row: &Row<'_>,
-        out: &mut Vec<Mapping>,
+        out: &mut Vec<Place>,
     ) -> Result<(), AllocError>
         requires needle { IsLookedAt numbered.now }
         requires prepared { IsPrepared self.now.prepared.now }
-        ensures { OnOk result (mapped_in out.new ≡ mapped_in out.old
-            ++ pair (values self.now.prepared.now.specs.now) (numbered_value numbered.now) (shown row.now)) }
+        ensures { OnOk result (places_in out.new ≡ places_in out.old
+            ++ pair_places (values self.now.prepared.now.specs.now) (numbered_value numbered.now) (shown row.now)) }
     {
-        let found = self.pair(numbered, row)?;
-        push_found(out, found)
+        push_found(out, self.pair(numbered, row))
     }
 
-    /// Appends the mappings of a refspec, which is compared with each ref unless it is negative.
+    /// Appends the places of a refspec, which is compared with each ref unless it is negative.
     fn push_compared(
         &self,
         numbered: &Numbered<'_, '_>,
-        out: &mut Vec<Mapping>,
+        out: &mut Vec<Place>,
     ) -> Result<(), AllocError>
         requires needle { IsLookedAt numbered.now }
         requires prepared { IsPrepared self.now.prepared.now }
-        ensures { OnOk result (mapped_in out.new ≡ mapped_in out.old
-            ++ pairs_of (values self.now.prepared.now.specs.now) (names self.now.items.now) (numbered_value numbered.now)) }
+        ensures { OnOk result (places_in out.new ≡ places_in out.old
+            ++ places_with (values self.now.prepared.now.specs.now) (names self.now.items.now) (numbered_value numbered.now)) }
     {
         if is_negative(numbered.spec.sign) {
             return Ok(());
@@ -178,17 +144,17 @@ impl Matching<'_, '_, '_> {
         Ok(())
     }
 
-    /// Appends the mappings of a refspec and some refs.
+    /// Appends the places of a refspec and some refs.
     fn push_rows(
         &self,
         numbered: &Numbered<'_, '_>,
         rows: &[Row<'_>],
-        out: &mut Vec<Mapping>,
+        out: &mut Vec<Place>,
     ) -> Result<(), AllocError>
         requires needle { IsLookedAt numbered.now }
         requires prepared { IsPrepared self.now.prepared.now }
-        ensures { OnOk result (mapped_in out.new ≡ mapped_in out.old
-            ++ flat_map (pair (values self.now.prepared.now.specs.now) (numbered_value numbered.now)) (map shown rows.now)) }
+        ensures { OnOk result (places_in out.new ≡ places_in out.old
+            ++ flat_map (pair_places (values self.now.prepared.now.specs.now) (numbered_value numbered.now)) (map shown rows.now)) }
     {
         'rows: for row in rows {
             self.push_pair(numbered, row, out)?;
@@ -196,17 +162,18 @@ impl Matching<'_, '_, '_> {
         Ok(())
     }
 
-    /// Appends the mapping of a refspec and the ref at a place.
+    /// Appends the place of a refspec and the ref at a place.
     fn push_at(
         &self,
         numbered: &Numbered<'_, '_>,
         place: usize,
-        out: &mut Vec<Mapping>,
+        out: &mut Vec<Place>,
     ) -> Result<(), AllocError>
         requires needle { IsLookedAt numbered.now }
         requires prepared { IsPrepared self.now.prepared.now }
-        ensures { OnOk result (mapped_in out.new ≡ mapped_in out.old ++ flat_map
-            (pair (values self.now.prepared.now.specs.now) (numbered_value numbered.now)) (ref_at (names self.now.items.now) place)) }
+        ensures { OnOk result (places_in out.new ≡ places_in out.old
+            ++ flat_map (pair_places (values self.now.prepared.now.specs.now) (numbered_value numbered.now))
+            (ref_at (names self.now.items.now) place)) }
     {
         match self.items.get(place) {
             None => Ok(()),
@@ -217,17 +184,17 @@ impl Matching<'_, '_, '_> {
         }
     }
 
-    /// Appends the mappings of a refspec and the refs at some places.
+    /// Appends the places of a refspec and the refs at some places.
     fn push_places(
         &self,
         numbered: &Numbered<'_, '_>,
         places: &[usize],
-        out: &mut Vec<Mapping>,
+        out: &mut Vec<Place>,
     ) -> Result<(), AllocError>
         requires needle { IsLookedAt numbered.now }
         requires prepared { IsPrepared self.now.prepared.now }
-        ensures { OnOk result (mapped_in out.new ≡ mapped_in out.old
-            ++ flat_map (λ place. flat_map (pair (values self.now.prepared.now.specs.now) (numbered_value numbered.now))
+        ensures { OnOk result (places_in out.new ≡ places_in out.old
+            ++ flat_map (λ place. flat_map (pair_places (values self.now.prepared.now.specs.now) (numbered_value numbered.now))
             (ref_at (names self.now.items.now) place)) places.now) }
     {
         'places: for place in places {
@@ -236,20 +203,20 @@ impl Matching<'_, '_, '_> {
         Ok(())
     }
 
-    /// Appends the mappings of a refspec. The refs of an exact name, and those that a short name stands for, are looked
+    /// Appends the places of a refspec. The refs of an exact name, and those that a short name stands for, are looked
     /// up; only a pattern is compared with each ref.
     fn push_looked_up(
         &self,
         numbered: &Numbered<'_, '_>,
         table: &[Row<'_>],
-        out: &mut Vec<Mapping>,
+        out: &mut Vec<Place>,
     ) -> Result<(), AllocError>
         requires needle { IsLookedAt numbered.now }
         requires prepared { IsPrepared self.now.prepared.now }
         requires sought { HasSoughtNames (values self.now.prepared.now.specs.now) numbered.now }
         requires table { IsRowTable (sought (values self.now.prepared.now.specs.now)) (names self.now.items.now) table.now }
-        ensures { OnOk result (mapped_in out.new ≡ mapped_in out.old
-            ++ pairs_of (values self.now.prepared.now.specs.now) (names self.now.items.now) (numbered_value numbered.now)) }
+        ensures { OnOk result (places_in out.new ≡ places_in out.old
+            ++ places_with (values self.now.prepared.now.specs.now) (names self.now.items.now) (numbered_value numbered.now)) }
     {
         if is_negative(numbered.spec.sign) {
             return Ok(());
@@ -268,11 +235,11 @@ impl Matching<'_, '_, '_> {
         }
     }
 
-    /// Appends the mappings of each refspec and each ref, by a table of the refs that are looked up.
-    pub(crate) fn push_pairs(&self, out: &mut Vec<Mapping>) -> Result<(), AllocError>
+    /// Appends the places of each refspec and each ref, by a table of the refs that are looked up.
+    pub(crate) fn push_pairs(&self, out: &mut Vec<Place>) -> Result<(), AllocError>
         requires { IsPrepared self.now.prepared.now }
-        ensures { OnOk result (mapped_in out.new ≡ mapped_in out.old
-            ++ pairs (values self.now.prepared.now.specs.now) (names self.now.items.now)) }
+        ensures { OnOk result (places_in out.new ≡ places_in out.old
+            ++ map place_of (pairs (values self.now.prepared.now.specs.now) (names self.now.items.now))) }
     {
         let table = table_of(self.alloc, self.prepared.specs, self.items)?;
         'specs: for (index, spec) in self.prepared.specs.iter().enumerate() {

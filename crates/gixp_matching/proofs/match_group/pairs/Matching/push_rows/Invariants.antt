@@ -1,11 +1,11 @@
 -- The refs so far.
 use Rattle.std.proofs.Common.{◌≡◌, ◌++◌, take, map}
 use Rattle.std.specs.List.{flat_map}
-use Rattle.gixp_matching.specs.Mappings.{pair}
-use Rattle.gixp_matching.specs.MatchGroup.{mapped_in, values}
+use Rattle.gixp_matching.specs.Places.{places_in, pair_places}
+use Rattle.gixp_matching.specs.MatchGroup.{values}
 use Rattle.gixp_matching.specs.Rows.{numbered_value, shown}
 use Rattle.gixp_matching.proofs.match_group.pairs.Matching.push_rows.Given as goal
 
 abbrev pub invariant-rows : goal.invariant-rows
-invariant-rows l = mapped_in l.out ≡ mapped_in l.initial.out
-    ++ flat_map (pair (values l.self.prepared.now.specs.now) (numbered_value l.numbered)) (take l.row-index (map shown l.rows))
+invariant-rows l = places_in l.out ≡ places_in l.initial.out
+    ++ flat_map (pair_places (values l.self.prepared.now.specs.now) (numbered_value l.numbered)) (take l.row-index (map shown l.rows))
