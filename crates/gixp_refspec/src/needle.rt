@@ -59,6 +59,7 @@ impl<'a> Needle<'a> {
     }
 
     /// The middle of a name that the source matches, which is empty where the source is no pattern.
+    #[inline(always)]
     pub fn middle<'n>(&self, name: &'n [u8]) -> Option<&'n [u8]>
         ensures { option_copied result ≡ middle_with self.now name.now }
     {
@@ -80,6 +81,7 @@ fn star_in(text: &[u8]) -> Option<usize>
 }
 
 /// What comes before and after the first asterisk, where there is one.
+#[inline(always)]
 pub fn around_star(text: &[u8]) -> Option<(&[u8], &[u8])>
     ensures { IsAround text.now result }
 {

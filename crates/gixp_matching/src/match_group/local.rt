@@ -31,6 +31,7 @@ fn full_local(alloc: Global, destination: &[u8]) -> Result<BString, AllocError>
 }
 
 /// The local name of a destination, for the middle of what matched.
+#[inline(always)]
 #[tactic(auto, unfolding(gixp_refspec::specs::Matching::local_in))]
 fn local_in(alloc: Global, middle: &[u8], destination: &[u8]) -> Result<BString, AllocError>
     ensures { IfOk result (λ name. bstring_bytes name ≡ local_in middle.now destination.now) }
@@ -42,6 +43,7 @@ fn local_in(alloc: Global, middle: &[u8], destination: &[u8]) -> Result<BString,
 }
 
 /// The local name, where there is a destination.
+#[inline(always)]
 fn local_of(
     alloc: Global,
     middle: &[u8],
@@ -56,6 +58,7 @@ fn local_of(
 }
 
 /// The local name that a refspec gives the ref of this whole name, where there is one and it matches.
+#[inline(always)]
 pub(crate) fn local_of_name(
     alloc: Global,
     spec: Option<&RefSpecRef<'_>>,

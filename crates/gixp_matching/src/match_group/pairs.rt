@@ -90,6 +90,7 @@ pub(crate) struct Matching<'m, 's, 'a> {
 impl Matching<'_, '_, '_> {
     /// The place of a refspec and a ref, where the one matches the other.
     #[tactic(auto, unfolding(crate::specs::Mappings::pair))]
+    #[inline(always)]
     fn pair(&self, numbered: &Numbered<'_, '_>, row: &Row<'_>) -> Option<Place>
         requires needle { IsLookedAt numbered.now }
         requires prepared { IsPrepared self.now.prepared.now }
@@ -109,6 +110,7 @@ impl Matching<'_, '_, '_> {
     }
 
     /// Appends the place of a refspec and a ref, where the one matches the other.
+    #[inline(always)]
     fn push_pair(
         &self,
         numbered: &Numbered<'_, '_>,
