@@ -1,6 +1,6 @@
 -- Leaving out refs that no prefix covers.
-use Rattle.std.proofs.Common.{◌≡◌, ℕ, ◌+◌, ◌-◌, ◌<◌, nat_lt, arith, Bool, true, false, List, [], ◌∷◌, Option, Some, None, inl, inr, length, map, ap, sym, ◌∙◌, refl, subst, Vec, Result, Ok, Err}
-use Rattle.std.specs.Prelude.{find, not, IsSome}
+use Rattle.std.proofs.Common.{◌≡◌, ℕ, ◌+◌, ◌-◌, ◌<◌, nat_lt, arith, true, false, List, [], ◌∷◌, Option, Some, None, inl, inr, length, map, ap, sym, ◌∙◌, refl, subst, Vec, Result, Ok, Err}
+use Rattle.std.specs.Prelude.{find, not, IfOk, IsSome}
 use Rattle.std.specs.List.{AllZip, AllByRecursion}
 use Rattle.std.specs.declared.alloc.Global.{Global}
 use Rattle.std.proofs.lemmas.Bool.{cases_Bool, false≢true}
@@ -13,7 +13,7 @@ use Rattle.gixp_refspec.specs.declared.spec.RefSpec.{RefSpec}
 use Rattle.gixp_refspec.specs.Spec.{Spec}
 use Rattle.gixp_refspec.specs.RefSpec.{owned_value_of}
 use Rattle.gixp_refspec.specs.Matching.{is_covered}
-use Rattle.gixp_matching.specs.Mappings.{Source as SourceValue, FullName, ObjectId as IdOf, Mapped, mappings}
+use Rattle.gixp_matching.specs.Mappings.{Source as SourceValue, FullName, ObjectId as IdOf, Mapped}
 use Rattle.gixp_matching.specs.Validation.{kept, is_partial}
 use Rattle.gixp_matching.specs.RefspecLaws.{MappingsHaveOrigins}
 use Rattle.gixp_matching.specs.Leaving.{LeavesOut, all_prefixes, without_item, KeepsAnswers}
@@ -24,7 +24,6 @@ use Rattle.gixp_refmap.specs.declared.refmap.mapping.SpecIndex.{SpecIndex}
 use Rattle.gixp_refmap.specs.declared.refmap.init.Error.{Error}
 use Rattle.gixp_refmap.specs.declared.refmap.init.Error.TheVariants.{UnknownObjectFormat, MappingValidation, ListRefs, Memory}
 use Rattle.gixp_refmap.specs.Mapping.{value_name, value_names, has_name, found_in, spec_place, spec_at, joined_specs, IsRemote, IsMapping, Maps, LeavesOutRefs, HoldsOfAll}
-use Rattle.gixp_refmap.specs.RefMapItems.{HasItem, HasRemote}
 use Rattle.gixp_refmap.proofs.ItemLemmas.{some_within}
 use Rattle.gixp_refmap.proofs.BackedLemmas.{all_filter}
 use Rattle.gixp_refmap.proofs.FoundLemmas.{ItemIsFirst, Good, found_are_good}
@@ -103,7 +102,7 @@ same_mappings specs refs all count same (m ∷ ms) (n ∷ ns) (x ∷ xs) e a b h
     (same_mapping specs refs all count m n x same head a.0 b.0 h.0, same_mappings specs refs all count same ms ns xs tail a.1 b.1 h.1)
 
 -- the mappings that stay are good
-pub kept_are_good : MappingsHaveOrigins → (specs : List Spec) (refs : List RefValue)
+kept_are_good : MappingsHaveOrigins → (specs : List Spec) (refs : List RefValue)
     → AllByRecursion (Good specs refs) (kept (found_in specs refs))
 unfolding kept
 kept_are_good law specs refs = all_filter (Good specs refs) (λ m. not (is_partial m)) (found_in specs refs) (found_are_good law specs refs)
@@ -127,27 +126,6 @@ maps_all keeps law specs count refs (Err Memory) h prefixes all covers out = tt
 maps_all keeps law specs count refs (Err (UnknownObjectFormat f)) h prefixes all covers out = h
 maps_all keeps law specs count refs (Err (ListRefs e)) h prefixes all covers out = h
 
--- what is found passes
-found_passes : {A : Type 0} (p : A → Bool) (xs : List A) (x : A) → find p xs ≡ Some x → p x ≡ true
-found_passes p [] x e = cc
-found_passes p (y ∷ ys) x e = elim (cases_Bool (p y)) [
-  | inl t ↦ (let s = rw t at e in let same : y ≡ x = cc in ap p (sym same) ∙ t)
-  | inr f ↦ found_passes p ys x (rw f at e)
-]
-
--- what is good has a remote
-has_item : (specs : List Spec) (refs : List RefValue) (i : Option ℕ) (s : SourceValue) → ItemIsFirst specs refs i s → HasItem refs i s
-has_item specs refs (Some i) (FullName name) h =
-    (h.0, h.1, (bytes_eq-Decides (value_name h.0) name).0 (found_passes (has_name name) refs h.0 h.2))
-has_item specs refs None (IdOf bytes) h = tt
-has_item specs refs (Some i) (IdOf bytes) h = h
-has_item specs refs None (FullName name) h = h
-
-pub all_have_remotes : (specs : List Spec) (refs : List RefValue) (ms : List Mapped) → AllByRecursion (Good specs refs) ms
-    → AllByRecursion (HasRemote refs) ms
-all_have_remotes specs refs [] h = tt
-all_have_remotes specs refs (m ∷ ms) h = (has_item specs refs m.item m.source h.0.item, all_have_remotes specs refs ms h.1)
-
 -- a refspec of both lists is at its place
 spec_is_there : (explicit extra : List RefSpec) (i : ℕ) → i < length (joined_specs explicit extra)
     → IsSome (spec_at (spec_place (length explicit) i) explicit extra)
@@ -161,7 +139,7 @@ spec_is_there explicit extra i l = elim (cases_Bool (nat_lt i (length explicit))
 ]
 
 -- each mapping names a refspec that is there
-pub specs_are_there : (explicit extra : List RefSpec) (refs : List RefValue) (ms : List Mapped) (xs : List Mapping)
+specs_are_there : (explicit extra : List RefSpec) (refs : List RefValue) (ms : List Mapped) (xs : List Mapping)
     → AllByRecursion (Good (joined_specs explicit extra) refs) ms
     → AllZip (IsMapping refs (length explicit)) ms xs → AllByRecursion (λ x. IsSome (spec_at x.spec_index explicit extra)) xs
 specs_are_there explicit extra refs [] [] a h = tt
@@ -170,3 +148,12 @@ specs_are_there explicit extra refs (m ∷ ms) [] a h = absurd h
 specs_are_there explicit extra refs (m ∷ ms) (x ∷ xs) a h =
     let P : SpecIndex → Type 0 = λ i. IsSome (spec_at i explicit extra) in
     (subst P (sym h.0.place) (spec_is_there explicit extra m.spec a.0.place), specs_are_there explicit extra refs ms xs a.1 h.1)
+
+-- the same of an answer
+pub answer_is_there : MappingsHaveOrigins → (explicit extra : List RefSpec) (refs : List RefValue)
+    (r : Result (Vec Mapping Global × Vec Fix Global) Error) → Maps (joined_specs explicit extra) (length explicit) refs r
+    → IfOk r (λ found. AllByRecursion (λ x. IsSome (spec_at x.spec_index explicit extra)) found.0.items)
+answer_is_there law explicit extra refs (Ok found) h =
+    let specs = joined_specs explicit extra in
+    specs_are_there explicit extra refs (kept (found_in specs refs)) found.0.items (kept_are_good law specs refs) h.1
+answer_is_there law explicit extra refs (Err e) h = tt

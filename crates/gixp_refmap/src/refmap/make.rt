@@ -1,22 +1,22 @@
 //! How the mappings of a ref map are made.
-ghost use Rattle.std.specs.Prelude.{◌≡◌, ◌++◌, IfOk, OnOk, IsSome, None, [], length, map};
-ghost use Rattle.std.specs.Option.{option_to_list};
-ghost use Rattle.std.specs.List.{AllByRecursion, AllZip, slice_get};
-ghost use Rattle.bstr.specs.Owned.{bstring_bytes};
-ghost use Rattle.gixp_refs.specs.Ref.{ref_value};
+ghost use Rattle.std.specs.Prelude.{◌≡◌, ◌++◌, IfOk, OnOk, IsSome, List, length, map};
+ghost use Rattle.std.specs.List.{AllByRecursion, AllZip};
+ghost use Rattle.gixp_refs.specs.Ref.{RefValue, ref_value};
 ghost use Rattle.gixp_refspec.specs.RefSpec.{value_of, owned_value_of};
-ghost use Rattle.gixp_matching.specs.Mappings.{FullName};
-ghost use Rattle.gixp_matching.specs.MatchGroup.{mapped_of, mapped_in, name_of, names, source_of};
-ghost use Rattle.gixp_refmap.specs.Mapping.{value_name, value_names, joined_specs, spec_at, spec_place, IsRemote, IsMapping, Maps, HoldsOfAll};
-ghost use Rattle.gixp_refmap.specs.RefMapItems.{HasItem, HasRemote, item_value, item_values, item_of, renamed};
+ghost use Rattle.gixp_matching.specs.MatchGroup.{group_specs, name_of, names, values};
+ghost use Rattle.gixp_matching.specs.Places.{repeated, place_of, place_value, FollowsFromPlace};
+ghost use Rattle.gixp_refmap.specs.Mapping.{value_name, value_names, joined_specs, spec_at, spec_place, Maps, HoldsOfAll};
+ghost use Rattle.gixp_refmap.specs.Made.{in_its_list, IsThere, IsUnplaced};
+ghost use Rattle.gixp_refmap.specs.RefMapItems.{item_value, item_values, item_of};
 
+use crate::refmap::as_mapping::number;
 use crate::refmap::init::Error;
-use crate::refmap::mapping::{Mapping, Source, SpecIndex};
-use bstr::BString;
+use crate::refmap::made::{copied, moved_or_copied};
+use crate::refmap::mapping::{Mapping, SpecIndex};
 use gixp_hash::ObjectId;
 use gixp_matching::laws;
-use gixp_matching::match_group::validate::Fix;
-use gixp_matching::match_group::{self, Item, MatchGroup, SourceRef};
+use gixp_matching::match_group::validate::{Fix, validated};
+use gixp_matching::match_group::{Item, MatchGroup, Place, firsts};
 use gixp_refs::handshake::Ref;
 use gixp_refspec::{RefSpec, RefSpecRef};
 use std::alloc::{AllocError, Global};
@@ -74,64 +74,18 @@ fn items<'a>(
     Ok(items)
 }
 
-// A copy of a ref that takes a name.
-fn renamed(found: &Ref, name: BString) -> Result<Ref, AllocError>
-    ensures { IfOk result (λ copy. ref_value copy ≡ renamed (bstring_bytes name) (ref_value found.now)) }
+// The places of the mappings.
+fn places_of(alloc: Global, group: &MatchGroup<'_>, refs: &[Ref]) -> Result<Vec<Place>, AllocError>
+    ensures places { IfOk result (λ places. map place_value places.items
+        ≡ map place_of (repeated (group_specs group.now) (value_names (map ref_value refs.now)))) }
+    ensures told { IfOk result (λ _. AllByRecursion (FollowsFromPlace (group_specs group.now) (value_names (map ref_value refs.now)))
+        (repeated (group_specs group.now) (value_names (map ref_value refs.now)))) }
+    ensures there { IfOk result (λ places. AllByRecursion (IsThere (length refs.now) (group_specs group.now)) places.items) }
 {
-    Ok(match found {
-        Ref::Peeled { tag, object, .. } => Ref::Peeled {
-            full_ref_name: name,
-            tag: *tag,
-            object: *object,
-        },
-        Ref::Direct { object, .. } => Ref::Direct {
-            full_ref_name: name,
-            object: *object,
-        },
-        Ref::Symbolic {
-            target,
-            tag,
-            object,
-            ..
-        } => Ref::Symbolic {
-            full_ref_name: name,
-            target: target.clone()?,
-            tag: *tag,
-            object: *object,
-        },
-        Ref::Unborn { target, .. } => Ref::Unborn {
-            full_ref_name: name,
-            target: target.clone()?,
-        },
-    })
-}
-
-// A copy of the ref at a place, which takes its name from the match, so that the name isn't copied again.
-fn remote_ref(refs: &[Ref], index: usize, name: BString) -> Result<Source, AllocError>
-    requires { HasItem (map ref_value refs.now) (Some index) (FullName (bstring_bytes name)) }
-    ensures { IfOk result (λ found. (r : Ref) × (found ≡ Source.Ref r) × (slice_get (map ref_value refs.now) index ≡ Some (ref_value r))) }
-{
-    match renamed(&refs[index], name) {
-        Ok(found) => Ok(Source::Ref(found)),
-        Err(e) => Err(e),
-    }
-}
-
-// What a mapping takes.
-fn remote(refs: &[Ref], item_index: Option<usize>, lhs: SourceRef) -> Result<Source, AllocError>
-    requires { HasItem (map ref_value refs.now) item_index (source_of lhs) }
-    ensures { IfOk result (IsRemote (map ref_value refs.now) item_index (source_of lhs)) }
-{
-    match item_index {
-        Some(index) => match lhs {
-            SourceRef::FullName(name) => remote_ref(refs, index, name),
-            SourceRef::ObjectId(_) => unreachable!(),
-        },
-        None => match lhs {
-            SourceRef::FullName(_) => unreachable!(),
-            SourceRef::ObjectId(id) => Ok(Source::ObjectId(id)),
-        },
-    }
+    let null = ObjectId::null();
+    let items = items(alloc, refs, &null)?;
+    let places = group.places(alloc, &items)?;
+    Ok(places)
 }
 
 // The place of a refspec.
@@ -145,62 +99,32 @@ fn place(explicit: usize, index: usize) -> SpecIndex
     }
 }
 
-// A mapping, as it is answered.
-fn mapping(
-    refs: &[Ref],
-    explicit: usize,
-    found: match_group::Mapping,
-) -> Result<Mapping, AllocError>
-    requires { HasRemote (map ref_value refs.now) (mapped_of found) }
-    ensures { IfOk result (IsMapping (map ref_value refs.now) explicit (mapped_of found)) }
+// Gives each mapping the place of its refspec in its own list.
+fn put_in_lists(explicit: usize, mappings: &mut Vec<Mapping>)
+    ensures { mappings.new.items ≡ map (in_its_list explicit) mappings.old.items }
 {
-    let match_group::Mapping {
-        item_index,
-        lhs,
-        rhs,
-        spec_index,
-    } = found;
-    let remote = remote(refs, item_index, lhs)?;
-    Ok(Mapping {
-        remote,
-        local: rhs,
-        spec_index: place(explicit, spec_index),
-    })
-}
-
-// How many mappings are taken off between two times that their memory is given back.
-const FREED_AT_ONCE: usize = 4096;
-
-// Takes the last mapping off a list, which gives back the memory of those that were taken before.
-fn take_last(found: &mut Vec<match_group::Mapping>) -> Option<match_group::Mapping>
-    ensures last { found.old.items ≡ found.new.items ++ option_to_list result }
-    ensures none { result ≡ None → found.old.items ≡ [] }
-{
-    if found.len().is_multiple_of(FREED_AT_ONCE) {
-        found.shrink_to_fit();
+    'mappings: for mapping in mappings.iter_mut() {
+        mapping.spec_index = place(explicit, number(mapping.spec_index));
     }
-    found.pop()
 }
 
-// The mappings, as they are answered. Those that were found are freed on the way, so that a long list isn't held twice.
-fn mappings(
+// The first of equal mappings, validated, each with the place of its refspec in its own list.
+fn finished(
     alloc: Global,
-    refs: &[Ref],
+    specs: &[RefSpecRef<'_>],
     explicit: usize,
-    mut found: Vec<match_group::Mapping>,
-) -> Result<Vec<Mapping>, AllocError>
-    requires { AllByRecursion (HasRemote (map ref_value refs.now)) (mapped_in found) }
-    ensures { IfOk result (λ made. AllZip (IsMapping (map ref_value refs.now) explicit) (mapped_in found) made.items) }
+    made: Vec<Mapping>,
+) -> Result<(Vec<Mapping>, Vec<Fix>), Error>
+    ensures { (refs : List RefValue) → AllZip (IsUnplaced refs) (repeated (values specs.now) (value_names refs)) made.items
+        → Maps (values specs.now) explicit refs result }
 {
-    let mut made = Vec::with_capacity(alloc, found.len())?;
-    found.reverse();
-    while let Some(one) = take_last(&mut found) {
-        made.push(mapping(refs, explicit, one)?)?;
-    }
-    Ok(made)
+    let made = firsts(alloc, made)?;
+    let (mut mappings, fixes) = validated(alloc, specs, made)??;
+    put_in_lists(explicit, &mut mappings);
+    Ok((mappings, fixes))
 }
 
-// The mappings of the refs and the notes on those that were taken out, or why there are none.
+// The mappings of copies of the refs and the notes on those that were taken out, or why there are none.
 pub(crate) fn find_mappings(
     alloc: Global,
     refs: &[Ref],
@@ -215,11 +139,30 @@ pub(crate) fn find_mappings(
     laws::filtering_keeps_answers();
     laws::mappings_have_origins();
     let specs = all_specs(alloc, explicit, extra)?;
-    let null = ObjectId::null();
-    let items = items(alloc, refs, &null)?;
-    let outcome = MatchGroup::from_fetch_specs(&specs).match_lhs(alloc, &items)?;
-    drop(items);
-    let (outcome, fixes) = outcome.validated(alloc)??;
-    let mappings = mappings(alloc, refs, explicit.len(), outcome.mappings)?;
-    Ok((mappings, fixes))
+    let group = MatchGroup::from_fetch_specs(&specs);
+    let places = places_of(alloc, &group, refs)?;
+    let made = copied(alloc, &group, &places, refs)?;
+    drop(places);
+    finished(alloc, &specs, explicit.len(), made)
+}
+
+// The same of the refs themselves: those that are mapped move into the mappings.
+pub(crate) fn move_mappings(
+    alloc: Global,
+    refs: Vec<Ref>,
+    explicit: &[RefSpec],
+    extra: &[RefSpec],
+) -> Result<(Vec<Mapping>, Vec<Fix>), Error>
+    ensures maps { Maps (joined_specs explicit.now extra.now) (length explicit.now) (map ref_value refs.items) result }
+    ensures filtered { HoldsOfAll (joined_specs explicit.now extra.now) (map ref_value refs.items)
+        (λ all. Maps (joined_specs explicit.now extra.now) (length explicit.now) all result) }
+    ensures found { IfOk result (λ found. AllByRecursion (λ x. IsSome (spec_at x.spec_index explicit.now extra.now)) found.0.items) }
+{
+    laws::filtering_keeps_answers();
+    laws::mappings_have_origins();
+    let specs = all_specs(alloc, explicit, extra)?;
+    let group = MatchGroup::from_fetch_specs(&specs);
+    let places = places_of(alloc, &group, &refs)?;
+    let made = moved_or_copied(alloc, &group, places, refs)?;
+    finished(alloc, &specs, explicit.len(), made)
 }
