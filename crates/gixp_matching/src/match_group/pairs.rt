@@ -89,7 +89,6 @@ pub(crate) struct Matching<'m, 's, 'a> {
 
 impl Matching<'_, '_, '_> {
     /// The place of a refspec and a ref, where the one matches the other.
-    #[tactic(auto, unfolding(crate::specs::Mappings::pair))]
     #[inline(always)]
     fn pair(&self, numbered: &Numbered<'_, '_>, row: &Row<'_>) -> Option<Place>
         requires needle { IsLookedAt numbered.now }
