@@ -1,5 +1,5 @@
 //! What is compared of mappings, in the order of their bytes.
-ghost use Rattle.std.specs.Prelude.{◌≡◌};
+ghost use Rattle.std.specs.Prelude.{◌≡◌, IfOk};
 ghost use Rattle.std.specs.Option.{option_map};
 ghost use Rattle.bstr.specs.Owned.{bstring_bytes};
 ghost use Rattle.gixp_matching.specs.Apart.{parts, key_parts};
@@ -7,6 +7,7 @@ ghost use Rattle.gixp_matching.specs.MatchGroup.{source_of, mapped_of, key_bytes
 
 use crate::match_group::{Mapping, SourceRef};
 use bstr::BString;
+use std::alloc::AllocError;
 
 /// What can be looked at as a mapping: a source, a local name and a refspec.
 pub trait AsMapping {
@@ -22,6 +23,10 @@ pub trait AsMapping {
     fn spec_index(&self) -> usize
         ensures { result ≡ (mapped self.now).spec };
 
+    /// A copy of the source.
+    fn source(&self) -> Result<SourceRef, AllocError>
+        ensures { IfOk result (λ source. source_of source ≡ (mapped self.now).source) };
+
     /// The source alone.
     fn into_source(self) -> SourceRef
         ensures { source_of result ≡ (mapped self).source };
@@ -36,6 +41,10 @@ impl AsMapping for Mapping {
 
     fn spec_index(&self) -> usize {
         self.spec_index
+    }
+
+    fn source(&self) -> Result<SourceRef, AllocError> {
+        self.lhs.clone()
     }
 
     fn into_source(self) -> SourceRef {
