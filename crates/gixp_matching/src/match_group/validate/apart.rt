@@ -4,29 +4,28 @@ ghost use Rattle.std.specs.List.{IsDistinct};
 ghost use Rattle.std.specs.Str.{bytes_eq};
 ghost use Rattle.gixp_matching.specs.Apart.{by_bytes, locals};
 ghost use Rattle.gixp_matching.specs.Digest.{digest};
-ghost use Rattle.gixp_matching.specs.MatchGroup.{mapped_of, key_bytes};
+ghost use Rattle.gixp_matching.specs.MatchGroup.{key_bytes};
 ghost use Rattle.gixp_matching.specs.Rising.{RisesTo};
 
-use crate::match_group::Mapping;
 use crate::match_group::digest::name_digest;
-use crate::match_group::key::{KeyBytes, name_key};
+use crate::match_group::key::{AsMapping, KeyBytes};
 use crate::match_group::sorted::{are_distinct, rises};
 use std::alloc::{AllocError, Global};
 
 /// Takes the local name of a mapping, where it has one, as the last one, and tells whether it is above the one before.
-fn local_rises<'a>(last: &mut Option<KeyBytes<'a>>, mapping: &'a Mapping) -> bool
+fn local_rises<'a, M: AsMapping>(last: &mut Option<KeyBytes<'a>>, mapping: &'a M) -> bool
     ensures { IsTrue result → (keys : List KeyBytes) → RisesTo by_bytes keys last.old → (more : List KeyBytes)
-        × (map key_bytes more ≡ option_to_list (mapped_of mapping.now).local) × RisesTo by_bytes (keys ++ more) last.new }
+        × (map key_bytes more ≡ option_to_list (M.mapped mapping.now).local) × RisesTo by_bytes (keys ++ more) last.new }
 {
-    match &mapping.rhs {
+    match mapping.key().1 {
         None => true,
-        Some(name) => rises(last, name_key(name)),
+        Some(name) => rises(last, name),
     }
 }
 
 /// Whether each local name is above the one before, so that no two are equal.
-fn are_in_order(mappings: &[Mapping]) -> bool
-    ensures { IsTrue result → IsDistinct bytes_eq (locals (map mapped_of mappings.now)) }
+fn are_in_order<M: AsMapping>(mappings: &[M]) -> bool
+    ensures { IsTrue result → IsDistinct bytes_eq (locals (map M.mapped mappings.now)) }
 {
     let mut last = None;
     'mappings: for mapping in mappings {
@@ -38,18 +37,18 @@ fn are_in_order(mappings: &[Mapping]) -> bool
 }
 
 /// Appends the number of the local name of a mapping, where it has one.
-fn push_digest(mapping: &Mapping, digests: &mut Vec<u64>) -> Result<(), AllocError>
-    ensures { OnOk result (digests.new.items ≡ digests.old.items ++ map digest (option_to_list (mapped_of mapping.now).local)) }
+fn push_digest<M: AsMapping>(mapping: &M, digests: &mut Vec<u64>) -> Result<(), AllocError>
+    ensures { OnOk result (digests.new.items ≡ digests.old.items ++ map digest (option_to_list (M.mapped mapping.now).local)) }
 {
-    if let Some(name) = &mapping.rhs {
-        digests.push(name_digest(&name_key(name)))?;
+    if let Some(name) = mapping.key().1 {
+        digests.push(name_digest(&name))?;
     }
     Ok(())
 }
 
 /// The numbers of the local names.
-fn local_digests(alloc: Global, mappings: &[Mapping]) -> Result<Vec<u64>, AllocError>
-    ensures { IfOk result (λ digests. digests.items ≡ map digest (locals (map mapped_of mappings.now))) }
+fn local_digests<M: AsMapping>(alloc: Global, mappings: &[M]) -> Result<Vec<u64>, AllocError>
+    ensures { IfOk result (λ digests. digests.items ≡ map digest (locals (map M.mapped mappings.now))) }
 {
     let mut digests = Vec::with_capacity(alloc, mappings.len())?;
     'mappings: for mapping in mappings {
@@ -59,8 +58,8 @@ fn local_digests(alloc: Global, mappings: &[Mapping]) -> Result<Vec<u64>, AllocE
 }
 
 /// Whether no two mappings have one local name, as far as the order of the names or their numbers tell.
-pub(crate) fn are_apart(alloc: Global, mappings: &[Mapping]) -> Result<bool, AllocError>
-    ensures { IfOk result (λ d. IsTrue d → IsDistinct bytes_eq (locals (map mapped_of mappings.now))) }
+pub(crate) fn are_apart<M: AsMapping>(alloc: Global, mappings: &[M]) -> Result<bool, AllocError>
+    ensures { IfOk result (λ d. IsTrue d → IsDistinct bytes_eq (locals (map M.mapped mappings.now))) }
 {
     if are_in_order(mappings) {
         return Ok(true);
