@@ -7,6 +7,7 @@ mod apart;
 pub(crate) mod conflicts;
 pub(crate) mod fixes;
 mod groups;
+mod order;
 
 use crate::match_group::{AsMapping, SourceRef};
 use bstr::BString;
