@@ -6,6 +6,7 @@ pub mod WalkLemmas
 pub mod FirstLemmas
 pub mod KeyLemmas
 pub mod GroupLemmas
+pub mod FoundLemmas
 pub mod TogetherLemmas
 pub mod RisingLemmas
 pub mod LeavingLemmas

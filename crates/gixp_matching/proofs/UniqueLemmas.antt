@@ -1,25 +1,32 @@
--- The groups of the names that several mappings have, in byte order of the names.
-use Rattle.std.proofs.Common.{◌≡◌, ℕ, ◌<◌, true, false, List, [], ◌∷◌, ◌++◌, length, map, nat_cmp, arith, ap, sym, ◌∙◌, refl, inl, inr}
+-- Conflicts, one over each name at most, in byte order of the names.
+use Rattle.std.proofs.Common.{◌≡◌, ℕ, suc, ◌≤◌, ◌<◌, Bool, true, false, cond, List, [], ◌∷◌, ◌++◌, length, map, get_or, Option, Some, None, nat_cmp, arith, ap, sym, subst, ◌∙◌, refl, inl, inr, append_assoc}
 use Rattle.std.specs.declared.cmp.Ordering.TheVariants.{Less}
 use Rattle.std.specs.Prelude.{◌||◌, filter}
 use Rattle.std.specs.Cmp.Lexicographic.{slice_cmp}
-use Rattle.std.specs.List.{All, AllByRecursion, list_any, list_all, flat_map}
+use Rattle.std.specs.List.{All, AllByRecursion, IsDistinct, list_any, list_all, flat_map, slice_get}
+use Rattle.std.specs.List.Sorted.{IsPermutation, IsSortedByKey}
+use Rattle.std.specs.Option.{option_map, option_map_or}
 use Rattle.std.specs.Ordering.{is_lt, ordering_reverse}
 use Rattle.std.specs.Str.{bytes_eq}
-use Rattle.std.proofs.lemmas.Bool.{cases_Bool, and_parts, and_from, or_left, or_right, or_parts, false≢true, cond-false, false_from_ne_true}
+use Rattle.std.proofs.lemmas.Bool.{cases_Bool, and_parts, and_from, or_left, or_right, or_parts, false≢true, cond-true, cond-false, false_from_ne_true}
 use Rattle.std.proofs.lemmas.Cmp.{nat_list_cmp_total}
-use Rattle.std.proofs.lemmas.List.Elements.{All-from_recursion, recursion_from_All}
+use Rattle.std.proofs.lemmas.List.{map-append}
+use Rattle.std.proofs.lemmas.List.Elements.{All-from_recursion, recursion_from_All, filter-append}
+use Rattle.std.proofs.lemmas.List.Sorted.{All-permutation, IsPermutation-sym, ranks_by, sorted_far}
+use Rattle.std.proofs.lemmas.Map.Keys.{IsDistinct-IsPermutation}
+use Rattle.std.proofs.lemmas.Option.{slice_get-map}
 use Rattle.std.proofs.lemmas.Slice.Eq.{bytes_eq-Decides}
-use Rattle.gixp_matching.specs.declared.match_group.validate.groups.Group.{Group}
-use Rattle.gixp_matching.specs.declared.match_group.validate.groups.Named.{Named}
-use Rattle.gixp_matching.specs.Groups.{mapped_behind, is_named, names_in, is_group_of, HasAll, AreGroups}
+use Rattle.gixp_matching.specs.declared.match_group.validate.Issue.{Issue}
+use Rattle.gixp_matching.specs.Found.{text_in, found_over, found_among, is_over, destination_of}
 use Rattle.gixp_matching.specs.Mappings.{Mapped}
-use Rattle.gixp_matching.specs.MatchGroup.{mapped_of}
-use Rattle.gixp_refspec.specs.Spec.{Spec}
-use Rattle.gixp_matching.specs.Validation.{is_below, of_local, has_local, differ, local_names, conflict_over, conflicts}
+use Rattle.gixp_refspec.specs.Spec.{Spec, text_of}
+use Rattle.gixp_matching.specs.Validate.{conflict_of}
+use Rattle.gixp_matching.specs.Validation.{Conflict, is_below, of_local, has_local, differ, local_names, spec_text, conflict_over, conflicts}
 use Rattle.gixp_matching.specs.RefspecLaws.{is_increasing}
-use Rattle.gixp_matching.proofs.DifferLemmas.{differ-first}
+use Rattle.gixp_matching.proofs.FoundLemmas.{none_local}
+use Rattle.gixp_matching.proofs.KeyLemmas.{bytes_eq-turned}
 use Rattle.gixp_matching.proofs.LawLemmas.{has-local_names, has}
+use Rattle.gixp_matching.proofs.ListLemmas.{map_same}
 use Rattle.gixp_matching.proofs.SortedLemmas.{increasing-local_names, less_is, below_trans, other_below}
 
 -- a name is not below itself
@@ -100,63 +107,179 @@ supported F (x ∷ xs) (y ∷ ys) up_x up_y not_x not_y =
       ]
     ]
 
--- fewer than two mappings have one source
-few_agree : (rows : List Named) → length rows < 2 → differ (mapped_behind rows) ≡ false
-few_agree [] h = refl
-few_agree (row ∷ []) h = sym (differ-first (mapped_of row.mapping.now) [])
-few_agree (row ∷ other ∷ rows) h = absurd (omega (arith, h))
+-- ---- conflicts of which each is what is made of its name
 
--- nothing is made of mappings of one source
-no_conflict : (specs : List Spec) (name : List ℕ) (group : List Mapped) → differ group ≡ false → conflict_over specs name group ≡ []
-no_conflict specs name group h = cond-false _ _ _ h
+-- two issues are over one name
+abbrev over_one_name : Issue → Issue → Bool
+over_one_name a b = bytes_eq (destination_of a) (destination_of b)
 
--- a name that no mapping has
-none_local : (name : List ℕ) (ms : List Mapped) → list_any (has_local name) ms ≡ false → of_local name ms ≡ []
-none_local name [] h = refl
-none_local name (m ∷ ms) h =
-    let both = or_parts (has_local name m) (list_any (has_local name) ms) h in
-    cond-false _ _ _ both.0 ∙ none_local name ms both.1
+-- each is all that is made of its name, there is one over each name at most, and nothing is made of other names
+pub record AreOver (F : List ℕ → List Conflict) (issues : List Issue) : Type 0 where
+  pub each : All (λ issue. F (destination_of issue) ≡ conflict_of issue ∷ []) issues
+  pub once : IsDistinct over_one_name issues
+  pub others : (name : List ℕ) → All (λ issue. is_over name (conflict_of issue) ≡ false) issues → F name ≡ []
 
--- a group's name and its mappings
-abbrev pub group_value : Group → List ℕ × List Mapped
-group_value group = (group.name.now, mapped_behind group.rows.now)
+-- what has one element at most has nothing beside one
+alone : {X : Type 0} (front back : List X) (x : X) → length (front ++ x ∷ back) ≤ 1 → (front ≡ []) × (back ≡ [])
+alone [] [] x h = (refl, refl)
+alone [] (y ∷ back) x h = absurd (omega (arith, h))
+alone (y ∷ []) back x h = absurd (omega (arith, h))
+alone (y ∷ z ∷ front) back x h = absurd (omega (arith, h))
 
--- no group has a name that isn't among theirs
-none_has : (name : List ℕ) (groups : List Group) → has name (names_in groups) ≡ false
-    → All (λ group. is_group_of name group ≡ false) groups
-none_has name groups h = All-from_recursion _ groups (each groups h) where
-  each : (gs : List Group) → has name (names_in gs) ≡ false → AllByRecursion (λ group. is_group_of name group ≡ false) gs
+none_pass : (name : List ℕ) (issues : List Issue) → AllByRecursion (λ issue. is_over name (conflict_of issue) ≡ false) issues
+    → filter (is_over name) (map conflict_of issues) ≡ []
+none_pass name [] h = refl
+none_pass name (issue ∷ issues) h = cond-false _ _ _ h.0 ∙ none_pass name issues h.1
+
+none_passed : (name : List ℕ) (issues : List Issue) → filter (is_over name) (map conflict_of issues) ≡ []
+    → AllByRecursion (λ issue. is_over name (conflict_of issue) ≡ false) issues
+none_passed name [] h = tt
+none_passed name (issue ∷ issues) h = elim (cases_Bool (is_over name (conflict_of issue))) [
+  | inl t ↦ (let clash : conflict_of issue ∷ filter (is_over name) (map conflict_of issues) ≡ [] = sym (cond-true _ _ _ t) ∙ h in cc)
+  | inr f ↦ (f, none_passed name issues (sym (cond-false _ _ _ f) ∙ h))
+]
+
+module _ (F : List ℕ → List Conflict) (short : (name : List ℕ) → length (F name) ≤ 1) where
+  -- nothing else is made of the name of an issue
+  one_of : (front back : List Issue) (issue : Issue)
+      → ((name : List ℕ) → filter (is_over name) (map conflict_of (front ++ issue ∷ back)) ≡ F name)
+      → (F (destination_of issue) ≡ conflict_of issue ∷ []) × (filter (is_over (destination_of issue)) (map conflict_of back) ≡ [])
+  one_of front back issue is =
+      let name = destination_of issue in
+      let before = filter (is_over name) (map conflict_of front) in
+      let after = filter (is_over name) (map conflict_of back) in
+      let parts : F name ≡ before ++ conflict_of issue ∷ after =
+      sym (is name) ∙ ap (filter (is_over name)) (map-append conflict_of front (issue ∷ back))
+      ∙ filter-append (is_over name) (map conflict_of front) (conflict_of issue ∷ map conflict_of back)
+      ∙ ap (λ l. before ++ l) (cond-true _ _ _ ((bytes_eq-Decides name name).1 refl)) in
+      let few : length (before ++ conflict_of issue ∷ after) ≤ 1 = subst (λ l. length l ≤ 1) parts (short name) in
+      let both = alone before after (conflict_of issue) few in (
+        parts ∙ ap (λ l. l ++ conflict_of issue ∷ after) both.0 ∙ ap (λ l. conflict_of issue ∷ l) both.1,
+        both.1,
+      )
+
+  each_of : (front back : List Issue) → ((name : List ℕ) → filter (is_over name) (map conflict_of (front ++ back)) ≡ F name)
+      → AllByRecursion (λ issue. F (destination_of issue) ≡ conflict_of issue ∷ []) back
+  each_of front [] is = tt
+  each_of front (issue ∷ back) is = (
+    (one_of front back issue is).0,
+    each_of (front ++ issue ∷ []) back (λ name. ap (λ l. filter (is_over name) (map conflict_of l)) (append_assoc front (issue ∷ []) back) ∙ is name),
+  )
+
+  turned : (issue : Issue) (back : List Issue) → AllByRecursion (λ other. is_over (destination_of issue) (conflict_of other) ≡ false) back
+      → AllByRecursion (λ other. over_one_name issue other ≡ false) back
+  turned issue [] h = tt
+  turned issue (other ∷ back) h = (bytes_eq-turned (destination_of issue) (destination_of other) ∙ h.0, turned issue back h.1)
+
+  once_of : (front back : List Issue) → ((name : List ℕ) → filter (is_over name) (map conflict_of (front ++ back)) ≡ F name)
+      → IsDistinct over_one_name back
+  unfolding IsDistinct
+  once_of front [] is = tt
+  once_of front (issue ∷ back) is = (
+    turned issue back (none_passed (destination_of issue) back (one_of front back issue is).1),
+    once_of (front ++ issue ∷ []) back (λ name. ap (λ l. filter (is_over name) (map conflict_of l)) (append_assoc front (issue ∷ []) back) ∙ is name),
+  )
+
+  -- issues that are found by their names
+  by_names : (issues : List Issue) → ((name : List ℕ) → filter (is_over name) (map conflict_of issues) ≡ F name) → AreOver F issues
+  by_names issues is = record {
+    each = All-from_recursion _ issues (each_of [] issues is);
+    once = once_of [] issues is;
+    others = λ name none. sym (is name) ∙ none_pass name issues (recursion_from_All _ issues none);
+  }
+
+-- in another order they stay so
+over_moved : (F : List ℕ → List Conflict) (old new : List Issue) → IsPermutation old new → AreOver F old → AreOver F new
+over_moved F old new moved are = record {
+  each = All-permutation (λ issue. F (destination_of issue) ≡ conflict_of issue ∷ []) old new moved are.each;
+  once = IsDistinct-IsPermutation over_one_name (λ a b. bytes_eq-turned (destination_of a) (destination_of b)) old new moved are.once;
+  others = λ name none. are.others name
+      (All-permutation (λ issue. is_over name (conflict_of issue) ≡ false) new old (IsPermutation-sym old new moved) none);
+}
+
+-- ---- their order
+
+abbrev issue_lt : Issue → Issue → Bool
+issue_lt x y = is_below (destination_of x) (destination_of y)
+
+-- of issues in order the first is below all later ones, which are over other names
+all_above : (issue : Issue) (issues : List Issue) → AllByRecursion (λ y. over_one_name issue y ≡ false) issues
+    → ((k : ℕ) → k < length issues → issue_lt (get_or issues k issue) issue ≡ false)
+    → list_all (is_below (destination_of issue)) (map destination_of issues) ≡ true
+all_above issue issues once h = all issues once h where
+  all : (ys : List Issue) → AllByRecursion (λ y. over_one_name issue y ≡ false) ys
+      → ((k : ℕ) → k < length ys → issue_lt (get_or ys k issue) issue ≡ false)
+      → list_all (is_below (destination_of issue)) (map destination_of ys) ≡ true
+  all [] different far = refl
+  all (y ∷ ys) different far =
+      and_from _ _ (other_below (destination_of y) (destination_of issue) (far 0 (omega arith))
+      (bytes_eq-turned (destination_of y) (destination_of issue) ∙ different.0))
+      (all ys different.1 (λ k p. far (suc k) (omega arith)))
+
+increasing : (issues : List Issue) → IsDistinct over_one_name issues
+    → ((i j : ℕ) (d : Issue) → i ≤ j → j < length issues → issue_lt (get_or issues j d) (get_or issues i d) ≡ false)
+    → is_increasing (map destination_of issues) ≡ true
+unfolding IsDistinct
+increasing [] once far = refl
+increasing (issue ∷ issues) once far =
+    and_from _ _ (all_above issue issues once.0 (λ k p. far 0 (suc k) issue (omega arith) (omega arith)))
+    (increasing issues once.1 (λ i j d p q. far (suc i) (suc j) d (omega arith) (omega arith)))
+
+-- they are what is made of their names
+made : (F : List ℕ → List Conflict) (issues : List Issue)
+    → AllByRecursion (λ issue. F (destination_of issue) ≡ conflict_of issue ∷ []) issues
+    → map conflict_of issues ≡ flat_map F (map destination_of issues)
+made F [] h = refl
+made F (issue ∷ issues) h =
+    ap (λ l. conflict_of issue ∷ l) (made F issues h.1) ∙ ap (λ l. l ++ flat_map F (map destination_of issues)) (sym h.0)
+
+-- ---- what is made of mappings
+
+-- the texts at hand are those of the refspecs
+same_text : (specs : List Spec) (m : Mapped) → text_in (map text_of specs) m ≡ spec_text specs m
+same_text specs m = ap (λ o. option_map_or (λ text. text) o []) (slice_get-map text_of specs m.spec) ∙ at (slice_get specs m.spec) where
+  at : (o : Option Spec) → option_map_or (λ text. text) (option_map text_of o) [] ≡ option_map_or text_of o []
+  at None = refl
+  at (Some spec) = refl
+
+same_over : (texts : List (List ℕ)) (specs : List Spec) → texts ≡ map text_of specs → (name : List ℕ) (group : List Mapped)
+    → found_over texts name group ≡ conflict_over specs name group
+same_over texts specs is name group =
+    ap (λ t. found_over t name group) is
+    ∙ ap (λ l. cond (differ group) (record { destination = name; specs = l; sources = map (λ m. m.source) group } ∷ []) [])
+    (map_same (text_in (map text_of specs)) (spec_text specs) (same_text specs) group)
+
+one_at_most : (texts : List (List ℕ)) (ms : List Mapped) (name : List ℕ) → length (found_among texts ms name) ≤ 1
+one_at_most texts ms name = elim (cases_Bool (differ (of_local name ms))) [
+  | inl t ↦ (let e : length (found_among texts ms name) ≡ 1 = ap length (cond-true _ _ _ t) in omega (arith, e))
+  | inr f ↦ (let e : length (found_among texts ms name) ≡ 0 = ap length (cond-false _ _ _ f) in omega (arith, e))
+]
+
+flat_map_same : {A B : Type 0} (f h : A → List B) → ((x : A) → f x ≡ h x) → (xs : List A) → flat_map f xs ≡ flat_map h xs
+flat_map_same f h e [] = refl
+flat_map_same f h e (x ∷ xs) = ap (λ l. l ++ flat_map f xs) (e x) ∙ ap (λ l. h x ++ l) (flat_map_same f h e xs)
+
+-- a name that no issue has
+none_has : (name : List ℕ) (issues : List Issue) → has name (map destination_of issues) ≡ false
+    → All (λ issue. is_over name (conflict_of issue) ≡ false) issues
+none_has name issues h = All-from_recursion _ issues (each issues h) where
+  each : (ys : List Issue) → has name (map destination_of ys) ≡ false
+      → AllByRecursion (λ issue. is_over name (conflict_of issue) ≡ false) ys
   each [] e = tt
-  each (g ∷ gs) e = let both = or_parts (is_group_of name g) (has name (names_in gs)) e in (both.0, each gs both.1)
+  each (y ∷ ys) e = let both = or_parts (is_over name (conflict_of y)) (has name (map destination_of ys)) e in (both.0, each ys both.1)
 
--- what is made of each group is made of its name and the mappings that have it
-made_of : {B : Type 0} (f : List ℕ × List Mapped → List B) (own : List ℕ → List Mapped) (groups : List Group)
-    → AllByRecursion (λ group. mapped_behind group.rows.now ≡ own group.name.now) groups
-    → flat_map f (map group_value groups) ≡ flat_map (λ name. f (name, own name)) (names_in groups)
-made_of f own [] h = refl
-made_of f own (g ∷ gs) h =
-    ap (λ l. f (g.name.now, l) ++ flat_map f (map group_value gs)) h.0
-    ∙ ap (λ l. f (g.name.now, own g.name.now) ++ l) (made_of f own gs h.1)
-
-own_mappings : (rows : List Named) (ms : List Mapped)
-    → ((name : List ℕ) → mapped_behind (filter (is_named name) rows) ≡ of_local name ms) → (groups : List Group)
-    → AllByRecursion (HasAll rows) groups → AllByRecursion (λ group. mapped_behind group.rows.now ≡ of_local group.name.now ms) groups
-own_mappings rows ms same [] h = tt
-own_mappings rows ms same (g ∷ gs) h = (ap mapped_behind h.0 ∙ same g.name.now, own_mappings rows ms same gs h.1)
-
--- the conflicts over the groups are those of the mappings
-pub conflicts_from_groups : (specs : List Spec) (ms : List Mapped) (rows : List Named) (groups : List Group)
-    → ((name : List ℕ) → mapped_behind (filter (is_named name) rows) ≡ of_local name ms) → AreGroups rows groups
-    → is_increasing (names_in groups) ≡ true
-    → flat_map (λ g. conflict_over specs g.0 g.1) (map group_value groups) ≡ conflicts specs ms
+-- issues that were found by their names and sorted are the conflicts
+pub conflicts_from_issues : (specs : List Spec) (texts : List (List ℕ)) (ms : List Mapped) (old new : List Issue) → texts ≡ map text_of specs
+    → ((name : List ℕ) → filter (is_over name) (map conflict_of old) ≡ found_among texts ms name) → IsPermutation old new
+    → IsSortedByKey destination_of (slice_cmp nat_cmp) new → map conflict_of new ≡ conflicts specs ms
 unfolding conflicts
-conflicts_from_groups specs ms rows groups same are up =
-    made_of (λ g. conflict_over specs g.0 g.1) (λ name. of_local name ms) groups
-    (own_mappings rows ms same groups (recursion_from_All _ groups are.each))
-    ∙ supported (λ name. conflict_over specs name (of_local name ms)) (names_in groups) (local_names ms)
-    up (increasing-local_names ms)
-    (λ name h there. ap (conflict_over specs name) (sym (same name))
-    ∙ no_conflict specs name (mapped_behind (filter (is_named name) rows))
-    (few_agree (filter (is_named name) rows) (are.others name (none_has name groups h))))
-    (λ name h there. no_conflict specs name (of_local name ms)
-    (ap differ (none_local name ms (sym (has-local_names name ms) ∙ h))))
+conflicts_from_issues specs texts ms old new same is moved up =
+    let F = found_among texts ms in
+    let are = over_moved F old new moved (by_names F (one_at_most texts ms) old is) in
+    made F new (recursion_from_All _ new are.each)
+    ∙ supported F (map destination_of new) (local_names ms)
+    (increasing new are.once (sorted_far issue_lt (ranks_by nat_list_cmp_total destination_of) new up)) (increasing-local_names ms)
+    (λ name h there. are.others name (none_has name new h))
+    (λ name h there. ap (found_over texts name) (none_local name ms (sym (has-local_names name ms) ∙ h)))
+    ∙ flat_map_same F (λ name. conflict_over specs name (of_local name ms)) (λ name. same_over texts specs same name (of_local name ms))
+    (local_names ms)

@@ -1,81 +1,76 @@
--- Mappings by their local names.
-use Rattle.std.specs.Prelude.{ℕ, ◌≡◌, ◌<◌, ⊤, Bool, false, nat_lt, if◌then◌else◌, List, [], ◌∷◌, filter, length, map, option_to_list}
+-- Mappings by the numbers of their local names.
+use Rattle.std.specs.Prelude.{ℕ, ◌≡◌, ◌==◌, ◌<◌, ⊤, Bool, false, nat_lt, if◌then◌else◌, List, [], ◌∷◌, filter, length, map, option_to_list}
+use Rattle.std.specs.Borrow.{Bor}
 use Rattle.std.specs.List.{All, IsDistinct, list_any}
 use Rattle.std.specs.Option.{option_map}
-use Rattle.std.specs.Str.{bytes_eq}
 use Rattle.gixp_matching.specs.declared.match_group.validate.groups.Group.{Group}
 use Rattle.gixp_matching.specs.declared.match_group.validate.groups.Named.{Named}
 use Rattle.gixp_matching.specs.Digest.{digest}
 use Rattle.gixp_matching.specs.Mappings.{Mapped}
-use Rattle.gixp_matching.specs.MatchGroup.{mapped_of}
 use Rattle.gixp_matching.specs.Validation.{of_local}
 
--- the number of its local name, the name, and the mapping
-abbrev pub shown : Named → ℕ × (List ℕ × Mapped)
-shown row = (row.number, (row.name.now, mapped_of row.mapping.now))
+-- the number of its local name, and the mapping, where it has a local name
+abbrev pub numbered : Mapped → List (ℕ × Mapped)
+numbered m = option_to_list (option_map (λ name. (digest name, m)) m.local)
 
--- those of a mapping that has a local name
-abbrev pub named : Mapped → List (ℕ × (List ℕ × Mapped))
-named m = option_to_list (option_map (λ name. (digest name, (name, m))) m.local)
+module _ {M : Type 0} (f : M → Mapped) where
+  -- the number and the mapping of a row
+  abbrev pub shown : Named M → ℕ × Mapped
+  shown row = (row.number, f row.mapping.now)
 
--- the mappings of rows
-abbrev pub mapped_behind : List Named → List Mapped
-mapped_behind rows = map (λ row. mapped_of row.mapping.now) rows
+  -- mappings that are lent
+  abbrev pub lent : List (Bor M) → List Mapped
+  lent ms = map (λ m. f m.now) ms
 
--- the number is that of the name
-abbrev pub HasItsNumber : Named → Type 0
-HasItsNumber row = row.number ≡ digest row.name.now
+  -- the mappings of rows
+  abbrev pub behind : List (Named M) → List Mapped
+  behind rows = map (λ row. f row.mapping.now) rows
 
--- the mapping has this local name
-abbrev pub is_named : List ℕ → Named → Bool
-is_named name row = bytes_eq row.name.now name
+module _ {M : Type 0} where
+  -- the row has this number
+  abbrev pub has_number : ℕ → Named M → Bool
+  has_number n row = row.number == n
 
--- the first rows, as far as they have this local name
-abbrev pub run_of : List ℕ → List Named → List Named
-run_of name [] = []
-run_of name (row ∷ rows) = if is_named name row then row ∷ run_of name rows else []
+  -- the first rows, as far as they have this number
+  abbrev pub run_of : ℕ → List (Named M) → List (Named M)
+  run_of n [] = []
+  run_of n (row ∷ rows) = if has_number n row then row ∷ run_of n rows else []
 
--- the rows after those
-abbrev pub after_run : List ℕ → List Named → List Named
-after_run name [] = []
-after_run name (row ∷ rows) = if is_named name row then after_run name rows else row ∷ rows
+  -- the rows after those
+  abbrev pub after_run : ℕ → List (Named M) → List (Named M)
+  after_run n [] = []
+  after_run n (row ∷ rows) = if has_number n row then after_run n rows else row ∷ rows
 
--- those of one local name stand behind one another
-abbrev pub AreTogether : List Named → Type 0
-AreTogether [] = ⊤
-AreTogether (row ∷ rows) = (list_any (is_named row.name.now) (after_run row.name.now rows) ≡ false) × AreTogether rows
+  -- those of one number stand behind one another
+  abbrev pub AreTogether : List (Named M) → Type 0
+  AreTogether [] = ⊤
+  AreTogether (row ∷ rows) = (list_any (has_number row.number) (after_run row.number rows) ≡ false) × AreTogether rows
 
--- the rows of each local name are those of the mappings, in their order, and stand behind one another
-pub record ListsNamed (ms : List Mapped) (rows : List Named) : Type 0 where
+  -- the group, where it has several rows
+  abbrev pub several : Group M → List (Group M)
+  several group = if nat_lt 1 (length group.rows.now) then group ∷ [] else []
+
+  -- the group has this number
+  abbrev pub is_group_of : ℕ → Group M → Bool
+  is_group_of n group = group.number == n
+
+  -- the rows are all those of the group's number
+  abbrev pub HasAll : List (Named M) → Group M → Type 0
+  HasAll rows group = group.rows.now ≡ filter (has_number group.number) rows
+
+  -- two groups have one number
+  abbrev pub have_one_number : Group M → Group M → Bool
+  have_one_number a b = a.number == b.number
+
+-- the rows of the number of each local name have all mappings of that name, and those of other numbers none; those of one
+-- number stand behind one another
+pub record ListsNumbered {M : Type 0} (f : M → Mapped) (ms : List Mapped) (rows : List (Named M)) : Type 0 where
   pub together : AreTogether rows
-  pub same : (name : List ℕ) → mapped_behind (filter (is_named name) rows) ≡ of_local name ms
+  pub same : (name : List ℕ) (n : ℕ) → of_local name (behind f (filter (has_number n) rows))
+      ≡ (if digest name == n then of_local name ms else [])
 
--- the name of a group
-abbrev pub name_of : Group → List ℕ
-name_of group = group.name.now
-
--- the names of groups
-abbrev pub names_in : List Group → List (List ℕ)
-names_in groups = map name_of groups
-
--- the group, where it has several rows
-abbrev pub several : Group → List Group
-several group = if nat_lt 1 (length group.rows.now) then group ∷ [] else []
-
--- the group has this name
-abbrev pub is_group_of : List ℕ → Group → Bool
-is_group_of name group = bytes_eq group.name.now name
-
--- the rows are all those of the group's name
-abbrev pub HasAll : List Named → Group → Type 0
-HasAll rows group = group.rows.now ≡ filter (is_named group.name.now) rows
-
--- two groups have one name
-abbrev pub have_one_name : Group → Group → Bool
-have_one_name a b = bytes_eq a.name.now b.name.now
-
--- each name has one group at most, which has all its rows, and a name without a group has less than two
-pub record AreGroups (rows : List Named) (groups : List Group) : Type 0 where
+-- each number has one group at most, which has all its rows, and a number without a group has less than two
+pub record AreGroups {M : Type 0} (rows : List (Named M)) (groups : List (Group M)) : Type 0 where
   pub each : All (HasAll rows) groups
-  pub once : IsDistinct have_one_name groups
-  pub others : (name : List ℕ) → All (λ group. is_group_of name group ≡ false) groups → length (filter (is_named name) rows) < 2
+  pub once : IsDistinct have_one_number groups
+  pub others : (n : ℕ) → All (λ group. is_group_of n group ≡ false) groups → length (filter (has_number n) rows) < 2

@@ -9,6 +9,7 @@ pub mod MatchGroup
 pub mod Validation
 pub mod Apart
 pub mod Groups
+pub mod Found
 pub mod Validate
 pub mod Leaving
 pub mod RefspecLaws

@@ -7,6 +7,7 @@ mod apart;
 pub(crate) mod conflicts;
 pub(crate) mod fixes;
 mod groups;
+mod order;
 
 use crate::match_group::validate::conflicts::conflicts_of;
 use crate::match_group::validate::fixes::take_out_partial;

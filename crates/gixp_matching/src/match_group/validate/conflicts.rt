@@ -1,97 +1,126 @@
 //! Local names with two sources.
-ghost use Rattle.std.specs.Prelude.{◌≡◌, ◌∷◌, ◌++◌, [], not, map, IfOk, OnOk};
+ghost use Rattle.std.specs.Prelude.{◌≡◌, ◌<◌, ◌∷◌, ◌++◌, [], not, filter, map, length, IfOk, OnOk};
 ghost use Rattle.std.specs.List.{list_any};
-ghost use Rattle.gixp_matching.specs.Groups.{mapped_behind};
+ghost use Rattle.bstr.specs.Owned.{bstring_bytes};
+ghost use Rattle.gixp_matching.specs.Found.{text_in, found, found_over, found_among, found_first, Adds};
+ghost use Rattle.gixp_matching.specs.Groups.{behind, lent};
 ghost use Rattle.gixp_matching.specs.Mappings.{source_eq};
-ghost use Rattle.gixp_matching.specs.MatchGroup.{mapped_of, values};
-ghost use Rattle.gixp_refspec.specs.Texts.{texts};
+ghost use Rattle.gixp_matching.specs.MatchGroup.{values};
+ghost use Rattle.gixp_refspec.specs.Spec.{text_of};
 ghost use Rattle.gixp_matching.specs.Validate.{sources_in, conflict_of, conflicts_in};
-ghost use Rattle.gixp_matching.specs.Validation.{differ, spec_text, the_conflict, conflict_over, conflicts};
+ghost use Rattle.gixp_matching.specs.Validation.{differ, has_local, of_local, conflicts};
 
+use crate::match_group::SourceRef;
+use crate::match_group::key::AsMapping;
 use crate::match_group::validate::Issue;
 use crate::match_group::validate::apart::are_apart;
-use crate::match_group::validate::fixes::spec_text;
 use crate::match_group::validate::groups::{Named, groups_of, table_of};
-use crate::match_group::{Mapping, SourceRef};
+use crate::match_group::validate::order::sort_by_name;
 use bstr::BString;
 use gixp_refspec::spec::RefSpecRef;
 use std::alloc::{AllocError, Global};
 
 /// Whether some mapping has another source than the first.
-fn any_other(first: &Mapping, rest: &[Named<'_>]) -> bool
-    ensures { result ≡ list_any (λ other. not (source_eq (mapped_of first.now).source (mapped_of other.mapping.now).source)) rest.now }
+fn any_other<M: AsMapping>(first: &M, rest: &[&M]) -> bool
+    ensures { result ≡ list_any (λ other. not (source_eq (M.mapped first.now).source (M.mapped other.now).source)) rest.now }
 {
-    rest.iter().any(|other| first.lhs != other.mapping.lhs)
+    let source = first.key().0;
+    rest.iter().any(|other| source != other.key().0)
 }
 
 /// Whether two of the mappings have different sources, so that one differs from the first.
-fn differ(group: &[Named<'_>]) -> bool
-    ensures { result ≡ differ (mapped_behind group.now) }
+fn differ<M: AsMapping>(group: &[&M]) -> bool
+    ensures { result ≡ differ (lent M.mapped group.now) }
 {
     match group.split_first() {
         None => false,
-        Some((first, rest)) => any_other(first.mapping, rest),
+        Some((first, rest)) => any_other(*first, rest),
+    }
+}
+
+/// The texts of the refspecs.
+fn texts_of(alloc: Global, specs: &[RefSpecRef<'_>]) -> Result<Vec<BString>, AllocError>
+    ensures { IfOk result (λ v. map bstring_bytes v.items ≡ map text_of (values specs.now)) }
+{
+    let mut found = Vec::with_capacity(alloc, specs.len())?;
+    'specs: for spec in specs {
+        found.push(spec.to_bstring(alloc)?)?;
+    }
+    Ok(found)
+}
+
+/// The text of the refspec of a mapping.
+fn text_of<M: AsMapping>(
+    alloc: Global,
+    texts: &[BString],
+    mapping: &M,
+) -> Result<BString, AllocError>
+    ensures { IfOk result (λ text. bstring_bytes text ≡ text_in (map bstring_bytes texts.now) (M.mapped mapping.now)) }
+{
+    match texts.get(mapping.spec_index()) {
+        None => BString::from_slice(alloc, b""),
+        Some(text) => text.clone(),
     }
 }
 
 /// Appends the text of the refspec of a mapping.
-fn push_spec_text(
+fn push_text<M: AsMapping>(
     alloc: Global,
-    specs: &[RefSpecRef<'_>],
-    mapping: &Mapping,
+    texts: &[BString],
+    mapping: &M,
     found: &mut Vec<BString>,
 ) -> Result<(), AllocError>
-    ensures { OnOk result (texts found.new ≡ texts found.old ++ spec_text (values specs.now) (mapped_of mapping.now) ∷ []) }
+    ensures { OnOk result (map bstring_bytes found.new.items ≡ map bstring_bytes found.old.items ++ text_in (map bstring_bytes texts.now) (M.mapped mapping.now) ∷ []) }
 {
-    found.push(spec_text(alloc, specs, mapping)?)?;
+    found.push(text_of(alloc, texts, mapping)?)?;
     Ok(())
 }
 
 /// The texts of the refspecs of the mappings.
-fn spec_texts(
+fn spec_texts<M: AsMapping>(
     alloc: Global,
-    specs: &[RefSpecRef<'_>],
-    group: &[Named<'_>],
+    texts: &[BString],
+    group: &[&M],
 ) -> Result<Vec<BString>, AllocError>
-    ensures { IfOk result (λ v. texts v ≡ map (spec_text (values specs.now)) (mapped_behind group.now)) }
+    ensures { IfOk result (λ v. map bstring_bytes v.items ≡ map (text_in (map bstring_bytes texts.now)) (lent M.mapped group.now)) }
 {
     let mut found = Vec::with_capacity(alloc, group.len())?;
-    'group: for row in group {
-        push_spec_text(alloc, specs, row.mapping, &mut found)?;
+    'group: for mapping in group {
+        push_text(alloc, texts, *mapping, &mut found)?;
     }
     Ok(found)
 }
 
 /// Appends the source of a mapping.
-fn push_source(mapping: &Mapping, sources: &mut Vec<SourceRef>) -> Result<(), AllocError>
-    ensures { OnOk result (sources_in sources.new ≡ sources_in sources.old ++ (mapped_of mapping.now).source ∷ []) }
+fn push_source<M: AsMapping>(mapping: &M, sources: &mut Vec<SourceRef>) -> Result<(), AllocError>
+    ensures { OnOk result (sources_in sources.new ≡ sources_in sources.old ++ (M.mapped mapping.now).source ∷ []) }
 {
-    sources.push(mapping.lhs.clone()?)?;
+    sources.push(mapping.source()?)?;
     Ok(())
 }
 
 /// The sources of the mappings.
-fn sources(alloc: Global, group: &[Named<'_>]) -> Result<Vec<SourceRef>, AllocError>
-    ensures { IfOk result (λ v. sources_in v ≡ map (λ m. m.source) (mapped_behind group.now)) }
+fn sources<M: AsMapping>(alloc: Global, group: &[&M]) -> Result<Vec<SourceRef>, AllocError>
+    ensures { IfOk result (λ v. sources_in v ≡ map (λ m. m.source) (lent M.mapped group.now)) }
 {
     let mut sources = Vec::with_capacity(alloc, group.len())?;
-    'group: for row in group {
-        push_source(row.mapping, &mut sources)?;
+    'group: for mapping in group {
+        push_source(*mapping, &mut sources)?;
     }
     Ok(sources)
 }
 
 /// The conflict over a local name.
-fn conflict(
+fn conflict<M: AsMapping>(
     alloc: Global,
-    specs: &[RefSpecRef<'_>],
+    texts: &[BString],
     name: &[u8],
-    group: &[Named<'_>],
+    group: &[&M],
 ) -> Result<Issue, AllocError>
-    ensures { IfOk result (λ issue. conflict_of issue ≡ the_conflict (values specs.now) name.now (mapped_behind group.now)) }
+    ensures { IfOk result (λ issue. conflict_of issue ≡ found (map bstring_bytes texts.now) name.now (lent M.mapped group.now)) }
 {
     let destination_full_ref_name = BString::from_slice(alloc, name)?;
-    let specs = spec_texts(alloc, specs, group)?;
+    let specs = spec_texts(alloc, texts, group)?;
     let sources = sources(alloc, group)?;
     Ok(Issue::Conflict {
         destination_full_ref_name,
@@ -101,50 +130,136 @@ fn conflict(
 }
 
 /// Appends the conflict over a local name, where there is one.
-fn push_conflict(
+fn push_conflict<M: AsMapping>(
     alloc: Global,
-    specs: &[RefSpecRef<'_>],
+    texts: &[BString],
     name: &[u8],
-    group: &[Named<'_>],
+    group: &[&M],
     issues: &mut Vec<Issue>,
 ) -> Result<(), AllocError>
     ensures { OnOk result (conflicts_in issues.new ≡ conflicts_in issues.old
-        ++ conflict_over (values specs.now) name.now (mapped_behind group.now)) }
+        ++ found_over (map bstring_bytes texts.now) name.now (lent M.mapped group.now)) }
 {
     if differ(group) {
-        issues.push(conflict(alloc, specs, name, group)?)?;
+        issues.push(conflict(alloc, texts, name, group)?)?;
     }
     Ok(())
 }
 
-/// The conflicts, in byte order of the local names, by the mappings of each name that has several.
-fn conflicts_by_name(
+/// Whether the mapping has the local name.
+fn has_local<M: AsMapping>(mapping: &M, name: &[u8]) -> bool
+    ensures { result ≡ has_local name.now (M.mapped mapping.now) }
+{
+    match mapping.key().1 {
+        None => false,
+        Some(local) => local.bytes == name,
+    }
+}
+
+/// Appends a mapping, where it has the local name.
+fn push_with<'a, M: AsMapping>(
+    mapping: &'a M,
+    name: &[u8],
+    own: &mut Vec<&'a M>,
+) -> Result<(), AllocError>
+    ensures { OnOk result (lent M.mapped own.new.items ≡ lent M.mapped own.old.items
+        ++ filter (has_local name.now) (M.mapped mapping.now ∷ [])) }
+{
+    if has_local(mapping, name) {
+        own.push(mapping)?;
+    }
+    Ok(())
+}
+
+/// The mappings of the rows that have the local name.
+fn mappings_with<'a, M: AsMapping>(
+    alloc: Global,
+    rows: &[Named<'a, M>],
+    name: &[u8],
+) -> Result<Vec<&'a M>, AllocError>
+    ensures { IfOk result (λ own. lent M.mapped own.items ≡ of_local name.now (behind M.mapped rows.now)) }
+{
+    let mut own = Vec::with_capacity(alloc, rows.len())?;
+    'rows: for row in rows {
+        push_with(row.mapping, name, &mut own)?;
+    }
+    Ok(own)
+}
+
+/// Whether some mapping has the local name.
+fn is_among<M: AsMapping>(rows: &[Named<'_, M>], name: &[u8]) -> bool
+    ensures { result ≡ list_any (λ row. has_local name.now (M.mapped row.mapping.now)) rows.now }
+{
+    rows.iter().any(|row| has_local(row.mapping, name))
+}
+
+/// Appends the conflict over the local name of a row, where no row before has that name.
+fn push_first<M: AsMapping>(
+    alloc: Global,
+    texts: &[BString],
+    rows: &[Named<'_, M>],
+    place: usize,
+    issues: &mut Vec<Issue>,
+) -> Result<(), AllocError>
+    requires { place < length rows.now }
+    ensures { OnOk result (Adds (found_first (map bstring_bytes texts.now) (behind M.mapped rows.now) place)
+        (conflicts_in issues.old) (conflicts_in issues.new)) }
+{
+    if let Some(name) = rows[place].mapping.key().1 {
+        if !is_among(&rows[..place], name.bytes) {
+            let own = mappings_with(alloc, rows, name.bytes)?;
+            push_conflict(alloc, texts, name.bytes, &own, issues)?;
+        }
+    }
+    Ok(())
+}
+
+/// Appends the conflicts over the local names of the rows. They have one number, so that hardly ever there are two.
+fn push_conflicts<M: AsMapping>(
+    alloc: Global,
+    texts: &[BString],
+    rows: &[Named<'_, M>],
+    issues: &mut Vec<Issue>,
+) -> Result<(), AllocError>
+    ensures { OnOk result (Adds (found_among (map bstring_bytes texts.now) (behind M.mapped rows.now))
+        (conflicts_in issues.old) (conflicts_in issues.new)) }
+{
+    'rows: for place in 0..rows.len() {
+        push_first(alloc, texts, rows, place, issues)?;
+    }
+    Ok(())
+}
+
+/// The conflicts, in byte order of the local names, by the mappings of each number that several have.
+fn conflicts_by_number<M: AsMapping>(
     alloc: Global,
     specs: &[RefSpecRef<'_>],
-    mappings: &[Mapping],
+    mappings: &[M],
 ) -> Result<Vec<Issue>, AllocError>
-    ensures { IfOk result (λ v. conflicts_in v ≡ conflicts (values specs.now) (map mapped_of mappings.now)) }
+    ensures { IfOk result (λ v. conflicts_in v ≡ conflicts (values specs.now) (map M.mapped mappings.now)) }
 {
+    let texts = texts_of(alloc, specs)?;
     let rows = table_of(alloc, mappings)?;
     let groups = groups_of(alloc, &rows)?;
     let mut issues = Vec::with_capacity(alloc, groups.len())?;
     'groups: for group in &groups {
-        push_conflict(alloc, specs, group.name, group.rows, &mut issues)?;
+        push_conflicts(alloc, &texts, group.rows, &mut issues)?;
     }
+    sort_by_name(&mut issues)?;
     Ok(issues)
 }
 
 /// The conflicts, in byte order of the local names. Mostly all local names are different, which is seen faster than
 /// the mappings of each name are found.
-pub(crate) fn conflicts_of(
+pub(crate) fn conflicts_of<M: AsMapping>(
     alloc: Global,
     specs: &[RefSpecRef<'_>],
-    mappings: &[Mapping],
+    mappings: &[M],
 ) -> Result<Vec<Issue>, AllocError>
-    ensures { IfOk result (λ v. conflicts_in v ≡ conflicts (values specs.now) (map mapped_of mappings.now)) }
+    ensures { IfOk result (λ v. conflicts_in v ≡ conflicts (values specs.now) (map M.mapped mappings.now)) }
 {
     if are_apart(alloc, mappings)? {
         return Ok(Vec::new(alloc));
     }
-    conflicts_by_name(alloc, specs, mappings)
+    conflicts_by_number(alloc, specs, mappings)
 }

@@ -1,43 +1,42 @@
-//! Mappings by their local names.
-ghost use Rattle.std.specs.Prelude.{ℕ, List, ◌≡◌, ◌++◌, ◌≤◌, true, not, drop, filter, length, map, OnOk, IfOk};
-ghost use Rattle.std.specs.Cmp.Lexicographic.{slice_cmp};
-ghost use Rattle.std.specs.List.{All, flat_map, position, position_or_len};
-ghost use Rattle.std.specs.List.Sorted.{IsPermutation, IsSortedByKey};
-ghost use Rattle.std.specs.Ordering.{nat_cmp};
-ghost use Rattle.gixp_matching.specs.MatchGroup.{mapped_of};
-ghost use Rattle.gixp_matching.specs.RefspecLaws.{is_increasing};
-ghost use Rattle.gixp_matching.specs.Groups.{shown, named, is_named, run_of, after_run, names_in, several, HasItsNumber, AreTogether, AreGroups, ListsNamed};
+//! Mappings by the numbers of their local names.
+ghost use Rattle.std.specs.Prelude.{ℕ, List, ◌≡◌, ◌++◌, ◌≤◌, not, drop, filter, length, map, OnOk, IfOk};
+ghost use Rattle.std.specs.List.{flat_map, position, position_or_len};
+ghost use Rattle.std.specs.List.Sorted.{IsPermutation};
+ghost use Rattle.gixp_matching.specs.Groups.{shown, numbered, has_number, run_of, after_run, several, AreTogether, AreGroups, ListsNumbered};
 
-use crate::match_group::Mapping;
 use crate::match_group::digest::name_digest;
-use crate::match_group::key::name_key;
+use crate::match_group::key::AsMapping;
 use std::alloc::{AllocError, Global};
 
-/// A mapping that has a local name, and the name's number, by which mappings are put in order more quickly.
-#[derive(Clone, Copy)]
-pub(crate) struct Named<'a> {
+/// A mapping that has a local name, the name's number, and the place of the row.
+#[derive(Drop)]
+pub(crate) struct Named<'a, M> {
     pub(crate) number: u64,
-    pub(crate) name: &'a [u8],
-    pub(crate) mapping: &'a Mapping,
+    pub(crate) place: usize,
+    pub(crate) mapping: &'a M,
 }
 
-/// The mappings of a local name.
-#[derive(Clone, Copy)]
-pub(crate) struct Group<'r, 'a> {
-    pub(crate) name: &'a [u8],
-    pub(crate) rows: &'r [Named<'a>],
+/// The mappings whose local names have one number, and the place of the first.
+#[derive(Drop)]
+pub(crate) struct Group<'r, 'a, M> {
+    pub(crate) number: u64,
+    pub(crate) place: usize,
+    pub(crate) rows: &'r [Named<'a, M>],
 }
 
 /// Appends a mapping, where it has a local name.
-fn push_named<'a>(mapping: &'a Mapping, rows: &mut Vec<Named<'a>>) -> Result<(), AllocError>
-    ensures { OnOk result (map shown rows.new.items ≡ map shown rows.old.items ++ named (mapped_of mapping.now)) }
+fn push_named<'a, M: AsMapping>(
+    mapping: &'a M,
+    rows: &mut Vec<Named<'a, M>>,
+) -> Result<(), AllocError>
+    ensures { OnOk result (map (shown M.mapped) rows.new.items ≡ map (shown M.mapped) rows.old.items ++ numbered (M.mapped mapping.now)) }
 {
-    if let Some(local) = &mapping.rhs {
-        let number = name_digest(&name_key(local));
-        let name = local.as_bytes();
+    if let Some(local) = mapping.key().1 {
+        let number = name_digest(&local);
+        let place = rows.len();
         rows.push(Named {
             number,
-            name,
+            place,
             mapping,
         })?;
     }
@@ -45,8 +44,8 @@ fn push_named<'a>(mapping: &'a Mapping, rows: &mut Vec<Named<'a>>) -> Result<(),
 }
 
 /// The mappings that have a local name, in their order.
-fn rows_of(alloc: Global, mappings: &[Mapping]) -> Result<Vec<Named<'_>>, AllocError>
-    ensures { IfOk result (λ rows. map shown rows.items ≡ flat_map named (map mapped_of mappings.now)) }
+fn rows_of<M: AsMapping>(alloc: Global, mappings: &[M]) -> Result<Vec<Named<'_, M>>, AllocError>
+    ensures { IfOk result (λ rows. map (shown M.mapped) rows.items ≡ flat_map numbered (map M.mapped mappings.now)) }
 {
     let mut rows = Vec::with_capacity(alloc, mappings.len())?;
     'mappings: for mapping in mappings {
@@ -55,60 +54,55 @@ fn rows_of(alloc: Global, mappings: &[Mapping]) -> Result<Vec<Named<'_>>, AllocE
     Ok(rows)
 }
 
-/// Puts the mappings of one local name behind one another. They keep their order.
-fn put_together(rows: &mut Vec<Named<'_>>) -> Result<(), AllocError>
-    requires { All HasItsNumber rows.old.items }
+/// Puts the mappings of one number behind one another. They keep their order.
+fn put_together<M>(rows: &mut Vec<Named<'_, M>>) -> Result<(), AllocError>
     ensures together { OnOk result (AreTogether rows.new.items) }
-    ensures same { OnOk result ((name : List ℕ) → filter (is_named name) rows.new.items ≡ filter (is_named name) rows.old.items) }
+    ensures same { OnOk result ((n : ℕ) → filter (has_number n) rows.new.items ≡ filter (has_number n) rows.old.items) }
 {
-    rows.sort_by_key(|row| (row.number, row.name))?;
+    rows.sort_by_key(|row| row.number)?;
     Ok(())
 }
 
-/// The mappings that have a local name, those of one name behind one another and in their order.
-pub(crate) fn table_of(alloc: Global, mappings: &[Mapping]) -> Result<Vec<Named<'_>>, AllocError>
-    ensures { IfOk result (λ rows. ListsNamed (map mapped_of mappings.now) rows.items) }
+/// The mappings that have a local name, those of one number behind one another and in their order.
+pub(crate) fn table_of<M: AsMapping>(
+    alloc: Global,
+    mappings: &[M],
+) -> Result<Vec<Named<'_, M>>, AllocError>
+    ensures { IfOk result (λ rows. ListsNumbered M.mapped (map M.mapped mappings.now) rows.items) }
 {
     let mut rows = rows_of(alloc, mappings)?;
     put_together(&mut rows)?;
     Ok(rows)
 }
 
-/// Whether the mapping has the local name.
-fn is_named(row: &Named<'_>, name: &[u8]) -> bool
-    ensures { result ≡ is_named name.now row.now }
+/// The place of the first row with another number.
+fn other_in<M>(rows: &[Named<'_, M>], number: u64) -> Option<usize>
+    ensures { result ≡ position (λ row. not (has_number number row)) rows.now }
 {
-    row.name == name
+    rows.iter().position(|row| row.number != number)
 }
 
-/// The place of the first mapping with another local name.
-fn other_in(rows: &[Named<'_>], name: &[u8]) -> Option<usize>
-    ensures { result ≡ position (λ row. not (is_named name.now row)) rows.now }
-{
-    rows.iter().position(|row| !is_named(row, name))
-}
-
-/// How many of the first mappings have the local name.
-fn run_len(rows: &[Named<'_>], name: &[u8]) -> usize
-    ensures place { result ≡ position_or_len (λ row. not (is_named name.now row)) rows.now }
+/// How many of the first rows have the number.
+fn run_len<M>(rows: &[Named<'_, M>], number: u64) -> usize
+    ensures place { result ≡ position_or_len (λ row. not (has_number number row)) rows.now }
     ensures within { result ≤ length rows.now }
 {
-    other_in(rows, name).unwrap_or(rows.len())
+    other_in(rows, number).unwrap_or(rows.len())
 }
 
-/// The first mappings, as far as they have the local name.
-fn run_of<'r, 'a>(rows: &'r [Named<'a>], name: &[u8]) -> &'r [Named<'a>]
-    ensures run { result.now ≡ run_of name.now rows.now }
-    ensures rest { drop (length result.now) rows.now ≡ after_run name.now rows.now }
+/// The first rows, as far as they have the number.
+fn run_of<'r, 'a, M>(rows: &'r [Named<'a, M>], number: u64) -> &'r [Named<'a, M>]
+    ensures run { result.now ≡ run_of number rows.now }
+    ensures rest { drop (length result.now) rows.now ≡ after_run number rows.now }
     ensures within { length result.now ≤ length rows.now }
 {
-    &rows[..run_len(rows, name)]
+    &rows[..run_len(rows, number)]
 }
 
-/// Appends the mappings of a local name, where there are several.
-fn push_several<'r, 'a>(
-    groups: &mut Vec<Group<'r, 'a>>,
-    group: Group<'r, 'a>,
+/// Appends the rows of a number, where there are several.
+fn push_several<'r, 'a, M>(
+    groups: &mut Vec<Group<'r, 'a, M>>,
+    group: Group<'r, 'a, M>,
 ) -> Result<(), AllocError>
     ensures { OnOk result (groups.new.items ≡ groups.old.items ++ several group.entry) }
 {
@@ -118,41 +112,48 @@ fn push_several<'r, 'a>(
     Ok(())
 }
 
-/// The mappings of each local name that has several, in the order of the rows.
-fn several_of<'r, 'a>(
+/// The rows of each number that has several, in the order of the rows.
+fn several_of<'r, 'a, M>(
     alloc: Global,
-    rows: &'r [Named<'a>],
-) -> Result<Vec<Group<'r, 'a>>, AllocError>
+    rows: &'r [Named<'a, M>],
+) -> Result<Vec<Group<'r, 'a, M>>, AllocError>
     requires { AreTogether rows.now }
     ensures { IfOk result (λ groups. AreGroups rows.now groups.items) }
 {
     let mut groups = Vec::new(alloc);
     let mut start = 0;
     while let Some(first) = rows.get(start) {
-        let name = first.name;
-        let run = run_of(&rows[start..], name);
-        push_several(&mut groups, Group { name, rows: run })?;
+        let number = first.number;
+        let place = first.place;
+        let run = run_of(&rows[start..], number);
+        push_several(
+            &mut groups,
+            Group {
+                number,
+                place,
+                rows: run,
+            },
+        )?;
         start += run.len();
     }
     Ok(groups)
 }
 
-/// Puts groups into byte order of their names.
-fn sort_groups(groups: &mut Vec<Group<'_, '_>>)
-    ensures permutation { IsPermutation groups.old.items groups.new.items }
-    ensures order { IsSortedByKey (λ group. group.name.now) (slice_cmp nat_cmp) groups.new.items }
+/// Puts groups into the order of their first rows.
+fn sort_groups<M>(groups: &mut Vec<Group<'_, '_, M>>)
+    ensures { IsPermutation groups.old.items groups.new.items }
 {
-    groups.sort_unstable_by_key(|group| group.name);
+    groups.sort_unstable_by_key(|group| group.place);
 }
 
-/// The mappings of each local name that has several, in byte order of the names.
-pub(crate) fn groups_of<'r, 'a>(
+/// The rows of each number that has several. They come in the order of the first row of each, so that the mappings are
+/// read as they lie in memory.
+pub(crate) fn groups_of<'r, 'a, M>(
     alloc: Global,
-    rows: &'r [Named<'a>],
-) -> Result<Vec<Group<'r, 'a>>, AllocError>
+    rows: &'r [Named<'a, M>],
+) -> Result<Vec<Group<'r, 'a, M>>, AllocError>
     requires { AreTogether rows.now }
-    ensures groups { IfOk result (λ groups. AreGroups rows.now groups.items) }
-    ensures order { IfOk result (λ groups. is_increasing (names_in groups.items) ≡ true) }
+    ensures { IfOk result (λ groups. AreGroups rows.now groups.items) }
 {
     let mut groups = several_of(alloc, rows)?;
     sort_groups(&mut groups);

@@ -4,7 +4,7 @@ use Rattle.gixp_matching.proofs.GroupLemmas.{IsLeft}
 use Rattle.gixp_matching.proofs.match_group.validate.groups.several_of.Given as goal
 
 abbrev pub invariant-loop-first : goal.invariant-loop-first
-invariant-loop-first l = (l.start ≤ length l.rows) × IsLeft l.rows (drop l.start l.rows) l.groups.items
+invariant-loop-first g l = (l.start ≤ length l.rows) × IsLeft l.rows (drop l.start l.rows) l.groups.items
 
 abbrev pub decreases-loop-first : goal.decreases-loop-first
-decreases-loop-first l = length l.rows - l.start
+decreases-loop-first g l = length l.rows - l.start

@@ -1,0 +1,43 @@
+-- Conflicts as they are found, with the texts of all refspecs at hand.
+use Rattle.std.specs.Prelude.{ℕ, ◌≡◌, ◌+◌, Bool, if◌then◌else◌, List, [], ◌∷◌, ◌++◌, filter, map, take}
+use Rattle.std.specs.List.{slice_get, list_any}
+use Rattle.std.specs.Option.{option_map_or}
+use Rattle.std.specs.Str.{bytes_eq}
+use Rattle.gixp_matching.specs.declared.match_group.validate.Issue.{Issue}
+use Rattle.gixp_matching.specs.Mappings.{Mapped}
+use Rattle.gixp_matching.specs.Validate.{conflict_of}
+use Rattle.gixp_matching.specs.Validation.{Conflict, differ, has_local, of_local}
+
+-- the text of a mapping's refspec, among those of all
+abbrev pub text_in : List (List ℕ) → Mapped → List ℕ
+text_in texts m = option_map_or (λ text. text) (slice_get texts m.spec) []
+
+-- the conflict of the mappings with a local name
+abbrev pub found : List (List ℕ) → List ℕ → List Mapped → Conflict
+found texts name group = record { destination = name; specs = map (text_in texts) group; sources = map (λ m. m.source) group }
+
+-- the same, where they have two sources
+abbrev pub found_over : List (List ℕ) → List ℕ → List Mapped → List Conflict
+found_over texts name group = if differ group then found texts name group ∷ [] else []
+
+-- the conflict over a local name of some mappings
+abbrev pub found_among : List (List ℕ) → List Mapped → List ℕ → List Conflict
+found_among texts ms name = found_over texts name (of_local name ms)
+
+-- the conflict is over this local name
+abbrev pub is_over : List ℕ → Conflict → Bool
+is_over name c = bytes_eq c.destination name
+
+-- the local name of an issue
+abbrev pub destination_of : Issue → List ℕ
+destination_of issue = (conflict_of issue).destination
+
+-- for each local name the conflicts over it are some more
+abbrev pub Adds : (List ℕ → List Conflict) → List Conflict → List Conflict → Type 0
+Adds more old new = (name : List ℕ) → filter (is_over name) new ≡ filter (is_over name) old ++ more name
+
+-- the conflict over a local name that the mapping at a place has, and none before it
+abbrev pub found_first : List (List ℕ) → List Mapped → ℕ → List ℕ → List Conflict
+found_first texts ms place name =
+    if list_any (has_local name) (take place ms) then []
+    else if list_any (has_local name) (take (place + 1) ms) then found_among texts ms name else []
