@@ -7,11 +7,13 @@ use Rattle.gixp_wire.specs.declared.bodies.Bodies.{Bodies}
 use Rattle.gixp_wire.specs.Bodies.{bodies_reading, IsNewBodies}
 use Rattle.gixp_packetline.specs.Reading.{Reading}
 use Rattle.gixp_refmap.specs.declared.refmap.init.Context.{Context}
+use Rattle.gixp_refmap.specs.declared.refmap.init.Error.{Error as MapError}
 use Rattle.gixp_refmap.specs.declared.refmap.map.RefMap.{RefMap}
 use Rattle.gixp_handshake.specs.declared.credentials.Action.{Action}
 use Rattle.gixp_handshake.specs.declared.handshake.read.Handshake.{Handshake}
 use Rattle.gixp_handshake.specs.Shake.{CredentialCall, CredentialAnswer, MakesCredentialCalls}
 use Rattle.gixp_handshake.specs.Taken.{without_refs}
+use Rattle.gixp_handshake.specs.Obtain.{ObtainsMappings}
 use Rattle.gixp_fetch.specs.declared.error.Error.{Error as FetchError}
 use Rattle.gixp_fetch.specs.declared.options.Outcome.{Outcome}
 use Rattle.gixp_requests.specs.Command.{TableValue, git_table}
@@ -35,6 +37,17 @@ pub unanswered : {A : Type 0} (asks : A → Action → CredentialAnswer → A �
     → MakesCredentialCalls asks old turns new → AreUnanswered turns
 unanswered asks h old new [] k = tt
 unanswered asks h old new (t ∷ ts) k = (h old t.action t.answer k.0 k.1, unanswered asks h k.0 new ts k.2)
+
+-- the ref map of the server, by the planner's table and its name
+pub maps-refs : (context : Context) (h : Handshake) (plain : Bool) (old new : Reading) (table : TableValue) (agent : FeatureValue)
+    → table ≡ git_table → agent ≡ planner_agent → (r : Result RefMap MapError)
+    → ObtainsMappings table agent context h plain old new r → MapsRefs context h plain old new r
+maps-refs context h plain old new table agent e f (Ok m) o =
+    subst (λ t. ObtainsMappings t planner_agent context h plain old new (Ok m)) e
+    (subst (λ a. ObtainsMappings table a context h plain old new (Ok m)) f o)
+maps-refs context h plain old new table agent e f (Err x) o =
+    inl (subst (λ t. ObtainsMappings t planner_agent context h plain old new (Err x)) e
+    (subst (λ a. ObtainsMappings table a context h plain old new (Err x)) f o))
 
 -- what a fetch is handed in, by what the planner hands in
 abbrev call_of : TableValue → FeatureValue → ShallowValue → Handshake → FetchCall

@@ -14,7 +14,7 @@ use Rattle.gixp_handshake.specs.declared.handshake.error.Error.{Error as Handsha
 use Rattle.gixp_handshake.specs.declared.handshake.read.Handshake.{Handshake}
 use Rattle.gixp_handshake.specs.Shake.{CredentialCall, CompletesHandshake}
 use Rattle.gixp_handshake.specs.Taken.{without_refs}
-use Rattle.gixp_handshake.specs.Obtain.{Obtains}
+use Rattle.gixp_handshake.specs.Obtain.{IsWithoutRefs, Obtains}
 use Rattle.gixp_fetch.specs.declared.error.Error.{Error as FetchError}
 use Rattle.gixp_fetch.specs.declared.error.Error.TheVariants as fetch
 use Rattle.gixp_fetch.specs.declared.options.Outcome.{Outcome}
@@ -37,10 +37,6 @@ pub record GreetsWithoutAccount (plain : Bool) (old new : Reading) (r : Result H
   pub turns : List CredentialCall
   pub unanswered : AreUnanswered turns
   pub shakes : CompletesHandshake UploadPack [] plain old new turns r
-
--- a ref map without the refs that it was made of
-abbrev pub IsWithoutRefs : RefMap → RefMap → Type 0
-IsWithoutRefs made m = (m ≡ record made { remote_refs = m.remote_refs }) × (m.remote_refs.items ≡ [])
 
 -- the ref map of the server, which is asked for the refspecs' prefixes
 abbrev pub MapsRefs : Context → Handshake → Bool → Reading → Reading → Result RefMap MapError → Type 0

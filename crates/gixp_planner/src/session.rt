@@ -18,7 +18,7 @@ use gix_protocol::fetch::{
     self, ConsumePack, CopyError, Outcome, ReadToEnd, RefMap, Shallow, ShallowMemory, ShallowStore,
     Tags,
 };
-use gix_protocol::handshake::{self, obtain};
+use gix_protocol::handshake::{self, obtain_mappings};
 use gix_protocol::transport::{Discard, Interrupt, NeverInterrupt, Service, Transport};
 use gix_protocol::{Handshake, agent};
 use std::alloc::{AllocError, Global};
@@ -56,8 +56,8 @@ fn greet<T: Transport>(alloc: Global, transport: &mut T) -> Result<Handshake, ha
     )
 }
 
-// The ref map of the server, which is asked for the refspecs' prefixes. The refs that it was made of are freed: the
-// mappings hold those that are fetched.
+// The ref map of the server, which is asked for the refspecs' prefixes. The mappings hold the refs that are fetched, and
+// no other is looked at.
 fn map_refs<T: Transport>(
     alloc: Global,
     handshake: &mut Handshake,
@@ -70,11 +70,9 @@ fn map_refs<T: Transport>(
     let agent = agent_feature(alloc)?;
     let mut quiet = Discard;
     let table = CommandTable::git();
-    let mut map = obtain(
+    obtain_mappings(
         alloc, handshake, &table, agent, context, &mut quiet, transport,
-    )?;
-    map.remote_refs = Vec::new(alloc);
-    Ok(map)
+    )
 }
 
 // The fetch of what a negotiation asks for. The pack is read to its end.

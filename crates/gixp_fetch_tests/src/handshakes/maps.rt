@@ -4,7 +4,7 @@ use crate::transports::{connection, memory, opening, text};
 use bstr::{BStr, BString};
 use gixp_doubles::{Device, Paper, Told};
 use gixp_handshake::Handshake;
-use gixp_handshake::handshake::obtain;
+use gixp_handshake::handshake::{obtain, obtain_mappings};
 use gixp_packetline::Protocol;
 use gixp_refmap::RefMap;
 use gixp_refmap::fetch::Tags;
@@ -65,6 +65,26 @@ fn listed<T: Transport>(
     )
 }
 
+// The same without its refs.
+fn listed_mappings<T: Transport>(
+    alloc: Global,
+    transport: &mut T,
+    context: Context,
+) -> Result<RefMap, Error> {
+    let agent = agent(alloc)?;
+    let mut shaken = Handshake::empty(alloc);
+    let mut progress = Told::new(alloc);
+    obtain_mappings(
+        alloc,
+        &mut shaken,
+        &CommandTable::git(),
+        agent,
+        context,
+        &mut progress,
+        transport,
+    )
+}
+
 // What a listing returns whose write of this number fails.
 fn listed_over_broken(alloc: Global, fails: u64) -> Result<String, Fail> {
     let device = Device::new(REFS, usize::MAX);
@@ -104,6 +124,20 @@ fn lists_and_maps(rt: HostRuntime) -> Result<(), Fail> {
     let context = context(rt.alloc(), b"refs/heads/*:refs/remotes/o/*")?;
     let map = listed_over_memory(rt.alloc(), context)?;
     assert_eq!(rt; counts(&map)?, (2, 2, false));
+    Ok(())
+}
+
+// Whether the ref map without its refs is the whole one but for these.
+fn maps_alike(alloc: Global, line: &[u8]) -> Result<bool, Fail> {
+    let map = listed_mappings(alloc, &mut memory(alloc, &[REFS])?, context(alloc, line)?)?;
+    let mut whole = listed_over_memory(alloc, context(alloc, line)?)?;
+    whole.remote_refs.clear();
+    Ok(shown(alloc, map)? == shown(alloc, whole)?)
+}
+
+#[test]
+fn lists_and_maps_without_refs(rt: HostRuntime) -> Result<(), Fail> {
+    assert!(rt; maps_alike(rt.alloc(), b"refs/heads/*:refs/remotes/o/*")?);
     Ok(())
 }
 
