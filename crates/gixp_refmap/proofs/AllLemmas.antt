@@ -102,7 +102,7 @@ same_mappings specs refs all count same (m ∷ ms) (n ∷ ns) (x ∷ xs) e a b h
     (same_mapping specs refs all count m n x same head a.0 b.0 h.0, same_mappings specs refs all count same ms ns xs tail a.1 b.1 h.1)
 
 -- the mappings that stay are good
-kept_are_good : MappingsHaveOrigins → (specs : List Spec) (refs : List RefValue)
+pub kept_are_good : MappingsHaveOrigins → (specs : List Spec) (refs : List RefValue)
     → AllByRecursion (Good specs refs) (kept (found_in specs refs))
 unfolding kept
 kept_are_good law specs refs = all_filter (Good specs refs) (λ m. not (is_partial m)) (found_in specs refs) (found_are_good law specs refs)

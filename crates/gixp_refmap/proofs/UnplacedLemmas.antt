@@ -1,8 +1,9 @@
 -- From what is made of places to the mappings of a ref map.
-use Rattle.std.proofs.Common.{◌≡◌, ℕ, Bool, true, false, List, [], ◌∷◌, Option, Some, None, length, map, refl, ap, sym, ◌∙◌, subst, Vec, Result, Ok, Err}
+use Rattle.std.proofs.Common.{◌≡◌, ℕ, ◌≤◌, arith, Bool, true, false, List, [], ◌∷◌, Option, Some, None, length, map, refl, ap, sym, ◌∙◌, subst, Vec, Result, Ok, Err}
 use Rattle.std.specs.Prelude.{IsSome, filter, not}
 use Rattle.std.specs.List.{slice_get, AllZip, AllByRecursion}
 use Rattle.std.specs.Option.{option_map}
+use Rattle.std.proofs.lemmas.Bool.{lt-ltb}
 use Rattle.std.proofs.lemmas.List.{length-map}
 use Rattle.std.proofs.lemmas.Option.{slice_get_within, slice_get-map}
 use Rattle.std.specs.declared.alloc.Global.{Global}
@@ -19,6 +20,7 @@ use Rattle.gixp_matching.specs.Places.{repeated, place_of, place_value, local_fo
 use Rattle.gixp_matching.specs.Firsts.{first_flags, flagged}
 use Rattle.gixp_matching.specs.Validation.{conflicts, fixes, is_partial, is_partial_local, kept}
 use Rattle.gixp_matching.specs.Leaving.{without_item}
+use Rattle.gixp_matching.specs.RefspecLaws.{MappingsHaveOrigins}
 use Rattle.gixp_refmap.specs.declared.refmap.mapping.Source.{Source}
 use Rattle.gixp_refmap.specs.declared.refmap.mapping.Source.TheVariants.{ObjectId as the_id, Ref as the_ref}
 use Rattle.gixp_refmap.specs.declared.refmap.mapping.SpecIndex.{SpecIndex}
@@ -27,6 +29,8 @@ use Rattle.gixp_refmap.specs.declared.refmap.init.Error.{Error}
 use Rattle.gixp_refmap.specs.declared.refmap.init.Error.TheVariants.{MappingValidation}
 use Rattle.gixp_refmap.specs.Mapping.{value_name, value_names, found_in, spec_place, IsRemote, IsMapping, Maps}
 use Rattle.gixp_refmap.specs.Made.{taken_from, place_number, matched, in_its_list, IsItemThere, IsThere, IsTaken, IsMade, IsUnplaced}
+use Rattle.gixp_refmap.proofs.AllLemmas.{kept_are_good}
+use Rattle.gixp_refmap.proofs.FoundLemmas.{Good}
 use Rattle.gixp_refmap.proofs.BareLemmas.{flags_of_bare, firsts_by_flags, conflicts_of_bare, fixes_of_bare}
 
 -- where the source is told by its place, the place is there
@@ -184,22 +188,63 @@ placed_in_lists refs count (m ∷ ms) (x ∷ xs) h = (
   placed_in_lists refs count ms xs h.1,
 )
 
--- what a validation of the first ones answers
+-- where all refspecs are explicit, each has its place in its own list already
+explicit_alone : (specs : List Spec) (refs : List RefValue) (count : ℕ) → length specs ≤ count → (ms : List Mapped) (xs : List Mapping)
+    → AllByRecursion (Good specs refs) ms → AllZip (IsUnplaced refs) ms xs → AllZip (IsMapping refs count) ms xs
+explicit_alone specs refs count l [] [] g h = tt
+explicit_alone specs refs count l [] (x ∷ xs) g h = absurd h
+explicit_alone specs refs count l (m ∷ ms) [] g h = absurd h
+explicit_alone specs refs count l (m ∷ ms) (x ∷ xs) g h = (
+  record {
+    remote = h.0.remote;
+    local = h.0.local;
+    place = h.0.place ∙ sym (rw (lt-ltb m.spec count (omega (arith, g.0.place))) refl);
+  },
+  explicit_alone specs refs count l ms xs g.1 h.1,
+)
+
+-- what stays of the first ones after a validation
+stay_unplaced : (specs : List Spec) (refs : List RefValue) (xs ys : List Mapping) (kept_ones : Vec Mapping Global)
+    (notes : Vec Fix Global) → ys ≡ flagged xs (first_flags [] (map matched xs))
+    → ValidatesAs matched specs ys (Ok (kept_ones, notes)) → AllZip (IsUnplaced refs) (repeated specs (value_names refs)) xs
+    → AllZip (IsUnplaced refs) (kept (found_in specs refs)) kept_ones.items
+stay_unplaced specs refs xs ys kept_ones notes e v h =
+    let P : List Mapping → Type 0 = λ zs. AllZip (IsUnplaced refs) (kept (found_in specs refs)) zs in
+    subst P (sym v.1) (kept_unplaced refs (found_in specs refs) ys (firsts_unplaced refs (repeated specs (value_names refs)) xs ys h e))
+
+-- what a validation of the first ones answers, whatever was done with the places of refspecs then
+maps_of_placed : (specs : List Spec) (count : ℕ) (refs : List RefValue) (xs ys : List Mapping) (kept_ones answer : Vec Mapping Global)
+    (notes : Vec Fix Global) → ys ≡ flagged xs (first_flags [] (map matched xs))
+    → ValidatesAs matched specs ys (Ok (kept_ones, notes)) → AllZip (IsUnplaced refs) (repeated specs (value_names refs)) xs
+    → AllZip (IsMapping refs count) (kept (found_in specs refs)) answer.items → Maps specs count refs (Ok (answer, notes))
+maps_of_placed specs count refs xs ys kept_ones answer notes e v h placed =
+    let found = found_in specs refs in
+    let bare = bare_of refs found ys (firsts_unplaced refs (repeated specs (value_names refs)) xs ys h e) in (
+      sym (ap (conflicts specs) bare ∙ conflicts_of_bare specs found) ∙ v.0,
+      placed,
+      v.2 ∙ ap (fixes specs) bare ∙ fixes_of_bare specs found,
+    )
+
+-- each got the place in its own list
 pub maps_of_kept : (specs : List Spec) (count : ℕ) (refs : List RefValue) (xs ys : List Mapping) (kept_ones answer : Vec Mapping Global)
     (notes : Vec Fix Global) → ys ≡ flagged xs (first_flags [] (map matched xs))
     → ValidatesAs matched specs ys (Ok (kept_ones, notes)) → answer.items ≡ map (in_its_list count) kept_ones.items
     → AllZip (IsUnplaced refs) (repeated specs (value_names refs)) xs → Maps specs count refs (Ok (answer, notes))
 maps_of_kept specs count refs xs ys kept_ones answer notes e v placed h =
-    let found = found_in specs refs in
-    let first = firsts_unplaced refs (repeated specs (value_names refs)) xs ys h e in
-    let bare = bare_of refs found ys first in
-    let P : List Mapping → Type 0 = λ zs. AllZip (IsUnplaced refs) (kept found) zs in
-    let Q : List Mapping → Type 0 = λ zs. AllZip (IsMapping refs count) (kept found) zs in
-    let stay = subst P (sym v.1) (kept_unplaced refs found ys first) in (
-      sym (ap (conflicts specs) bare ∙ conflicts_of_bare specs found) ∙ v.0,
-      subst Q (sym placed) (placed_in_lists refs count (kept found) kept_ones.items stay),
-      v.2 ∙ ap (fixes specs) bare ∙ fixes_of_bare specs found,
-    )
+    let Q : List Mapping → Type 0 = λ zs. AllZip (IsMapping refs count) (kept (found_in specs refs)) zs in
+    maps_of_placed specs count refs xs ys kept_ones answer notes e v h
+    (subst Q (sym placed) (placed_in_lists refs count (kept (found_in specs refs)) kept_ones.items
+    (stay_unplaced specs refs xs ys kept_ones notes e v h)))
+
+-- all refspecs are explicit
+pub maps_of_explicit : MappingsHaveOrigins → (specs : List Spec) (count : ℕ) (refs : List RefValue) (xs ys : List Mapping)
+    (kept_ones : Vec Mapping Global) (notes : Vec Fix Global) → ys ≡ flagged xs (first_flags [] (map matched xs))
+    → ValidatesAs matched specs ys (Ok (kept_ones, notes)) → length specs ≤ count
+    → AllZip (IsUnplaced refs) (repeated specs (value_names refs)) xs → Maps specs count refs (Ok (kept_ones, notes))
+maps_of_explicit law specs count refs xs ys kept_ones notes e v l h =
+    maps_of_placed specs count refs xs ys kept_ones kept_ones notes e v h
+    (explicit_alone specs refs count l (kept (found_in specs refs)) kept_ones.items (kept_are_good law specs refs)
+    (stay_unplaced specs refs xs ys kept_ones notes e v h))
 
 -- the same of conflicts
 pub maps_of_conflicts : (specs : List Spec) (count : ℕ) (refs : List RefValue) (xs ys : List Mapping) (error : ValidationError)

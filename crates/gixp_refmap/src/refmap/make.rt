@@ -118,8 +118,12 @@ fn finished(
     ensures { (refs : List RefValue) → AllZip (IsUnplaced refs) (repeated (values specs.now) (value_names refs)) made.items
         → Maps (values specs.now) explicit refs result }
 {
+    laws::mappings_have_origins();
     let made = firsts(alloc, made)?;
     let (mut mappings, fixes) = validated(alloc, specs, made)??;
+    if specs.len() <= explicit {
+        return Ok((mappings, fixes));
+    }
     put_in_lists(explicit, &mut mappings);
     Ok((mappings, fixes))
 }

@@ -1,14 +1,16 @@
 -- From what was made to what a ref map holds.
-use Rattle.std.proofs.Common.{Result, Vec, subst}
+use Rattle.std.proofs.Common.{Result, Vec, subst, arith}
 use Rattle.std.specs.declared.alloc.Global.{Global}
+use Rattle.std.proofs.lemmas.List.{length-map}
 use Rattle.std.proofs.lemmas.Result.{err_from_is_err_and}
+use Rattle.gixp_refspec.specs.RefSpec.{value_of}
 use Rattle.gixp_matching.specs.declared.match_group.validate.Error.{Error as ValidationError}
 use Rattle.gixp_matching.specs.declared.match_group.validate.Fix.{Fix}
 use Rattle.gixp_matching.specs.MatchGroup.{values}
 use Rattle.gixp_matching.specs.Validate.{ValidatesAs}
 use Rattle.gixp_refmap.specs.declared.refmap.mapping.Mapping.{Mapping}
 use Rattle.gixp_refmap.specs.Made.{matched}
-use Rattle.gixp_refmap.proofs.UnplacedLemmas.{maps_of_kept, maps_of_conflicts}
+use Rattle.gixp_refmap.proofs.UnplacedLemmas.{maps_of_kept, maps_of_explicit, maps_of_conflicts}
 use Rattle.gixp_refmap.proofs.refmap.make.finished.Goals as goal
 
 abbrev Validated : Type 0
@@ -21,6 +23,14 @@ returns-in_err-mappings c refs h =
     let p = err_from_is_err_and c.from_residual-in_err-mappings.result c.from_residual-in_err-mappings.ensures.1 in
     rw (p.1, p.2) (maps_of_conflicts specs c.args.explicit refs c.args.made.items c.in_ok-made.made.items c.in_err-mappings.field-0.0
     c.in_ok-made.ensures.flags (subst P c.in_err-mappings.was c.in_ok-validated.ensures) h)
+
+pub returns-then-specs-explicit : goal.returns-then-specs-explicit
+returns-then-specs-explicit c refs h =
+    let specs = values c.args.specs.now in
+    let P : Validated → Type 0 = λ r. ValidatesAs matched specs c.in_ok-made.made.items r in
+    maps_of_explicit c.mappings_have_origins.ensures specs c.args.explicit refs c.args.made.items c.in_ok-made.made.items
+    c.in_ok-mappings.mappings c.in_ok-mappings.fixes c.in_ok-made.ensures.flags (subst P c.in_ok-mappings.was c.in_ok-validated.ensures)
+    (omega (arith, length-map c.args.specs.now value_of)) h
 
 pub returns : goal.returns
 returns c refs h =
