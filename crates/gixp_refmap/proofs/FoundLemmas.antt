@@ -34,9 +34,6 @@ record Found (p : List ℕ → Bool) (refs : List RefValue) (k i : ℕ) : Type 0
   pub there : slice_get refs at ≡ Some ref
   pub first : find (λ r. p (value_name r)) refs ≡ Some ref
 
-from_some : {A : Type 0} (a b : A) → a ≡ b → Some a ≡ Some b
-from_some a b e = ap (λ x. Some x) e
-
 some_is : (a b : ℕ) → Some a ≡ Some b → b ≡ a
 some_is a b e = cc
 

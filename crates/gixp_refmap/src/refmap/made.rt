@@ -121,7 +121,7 @@ fn moved_one(
 }
 
 // How many places are taken off between two times that memory is given back.
-const FREED_AT_ONCE: usize = 4096;
+const FREED_AT_ONCE: usize = 65_536;
 
 // Gives back the memory of places and refs that were taken.
 fn give_back(places: &mut Vec<Place>, refs: &mut Vec<Ref>)
