@@ -81,6 +81,7 @@ pub use Rattle.gixp_refspec.specs.Texts
 pub use Rattle.gixp_refspec.specs.Needle
 pub use Rattle.gixp_matching.specs.Rows
 pub use Rattle.gixp_matching.specs.Mappings
+pub use Rattle.gixp_matching.specs.Places
 pub use Rattle.gixp_matching.specs.Firsts
 pub use Rattle.gixp_matching.specs.MatchGroup
 pub use Rattle.gixp_matching.specs.Validation
@@ -99,6 +100,7 @@ pub use Rattle.gixp_refmap.specs.Listing
 pub use Rattle.gixp_refmap.specs.MapError
 pub use Rattle.gixp_refmap.specs.Mapping
 pub use Rattle.gixp_refmap.specs.RefMapItems
+pub use Rattle.gixp_refmap.specs.Made
 pub use Rattle.gixp_refmap.specs.RefMapLaws
 pub use Rattle.gixp_refmap.specs.Missing
 pub use Rattle.gixp_refmap.specs.Tags
@@ -227,6 +229,7 @@ pub use Rattle.gixp_refspec.specs.declared.parse.Error as RefspecErrorType
 pub use Rattle.gixp_refspec.specs.declared.spec.RefSpecRef as RefSpecRefType
 pub use Rattle.gixp_refspec.specs.declared.spec.RefSpec as RefSpecType
 pub use Rattle.gixp_matching.specs.declared.match_group.Item as ItemType
+pub use Rattle.gixp_matching.specs.declared.match_group.Place as PlaceType
 pub use Rattle.gixp_matching.specs.declared.match_group.SourceRef as SourceRefType
 pub use Rattle.gixp_matching.specs.declared.match_group.Mapping as GroupMappingType
 pub use Rattle.gixp_matching.specs.declared.match_group.Outcome as GroupOutcomeType
