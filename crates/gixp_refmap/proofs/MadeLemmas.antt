@@ -9,7 +9,7 @@ use Rattle.gixp_matching.specs.declared.match_group.Place.{Place}
 use Rattle.gixp_refmap.specs.declared.refmap.mapping.Source.{Source}
 use Rattle.gixp_refmap.specs.declared.refmap.mapping.Source.TheVariants.{ObjectId as the_id, Ref as the_ref}
 use Rattle.gixp_refmap.specs.declared.refmap.mapping.Mapping.{Mapping}
-use Rattle.gixp_refmap.specs.Made.{IsItemThere, IsTaken, IsMade, Falls, refs_before}
+use Rattle.gixp_refmap.specs.Made.{IsItemThere, IsTakenByPlace, IsMade, Falls, refs_before}
 use Rattle.gixp_refmap.proofs.ItemLemmas.{zip_more, reversed_front}
 
 -- one pair more, of the next element
@@ -40,7 +40,7 @@ there_in_whole (y ∷ xs) ys (suc i) x e = there_in_whole xs ys i x e
 
 -- what is taken of the front is taken of the whole
 taken_of_whole : (front back : List RefValue) (specs : List Spec) (item : Option ℕ) (s : ℕ) (x : Source)
-    → IsTaken front specs item s x → IsTaken (front ++ back) specs item s x
+    → IsTakenByPlace front specs item s x → IsTakenByPlace (front ++ back) specs item s x
 taken_of_whole front back specs None s (the_id id) h = h
 taken_of_whole front back specs None s (the_ref r) h = h
 taken_of_whole front back specs (Some i) s (the_id id) h = h
@@ -50,7 +50,7 @@ taken_of_whole front back specs (Some i) s (the_ref r) h = there_in_whole front 
 pub made_of_whole : (refs front back : List Ref) (specs : List Spec) (p : Place) (x : Mapping) → refs ≡ front ++ back
     → IsMade (map ref_value front) specs p x → IsMade (map ref_value refs) specs p x
 made_of_whole refs front back specs p x e h =
-    let P : List RefValue → Type 0 = λ rs. IsTaken rs specs p.item_index p.spec_index x.remote in
+    let P : List RefValue → Type 0 = λ rs. IsTakenByPlace rs specs p.item_index p.spec_index x.remote in
     record {
       remote = subst P (sym (map-append ref_value front back) ∙ sym (ap (map ref_value) e))
           (taken_of_whole (map ref_value front) (map ref_value back) specs p.item_index p.spec_index x.remote h.remote);

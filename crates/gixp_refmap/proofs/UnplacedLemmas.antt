@@ -28,7 +28,7 @@ use Rattle.gixp_refmap.specs.declared.refmap.mapping.Mapping.{Mapping}
 use Rattle.gixp_refmap.specs.declared.refmap.init.Error.{Error}
 use Rattle.gixp_refmap.specs.declared.refmap.init.Error.TheVariants.{MappingValidation}
 use Rattle.gixp_refmap.specs.Mapping.{value_name, value_names, found_in, spec_place, IsRemote, IsMapping, Maps}
-use Rattle.gixp_refmap.specs.Made.{taken_from, place_number, matched, in_its_list, IsItemThere, IsThere, IsTaken, IsMade, IsUnplaced}
+use Rattle.gixp_refmap.specs.Made.{taken_from, place_number, matched, in_its_list, IsItemThere, IsThere, IsTakenByPlace, IsMade, IsUnplaced}
 use Rattle.gixp_refmap.proofs.AllLemmas.{kept_are_good}
 use Rattle.gixp_refmap.proofs.FoundLemmas.{Good}
 use Rattle.gixp_refmap.proofs.BareLemmas.{flags_of_bare, firsts_by_flags, conflicts_of_bare, fixes_of_bare}
@@ -83,7 +83,7 @@ name_there refs i name r h t =
 
 -- what is taken by a place is what the mapping takes
 remote_of : (specs : List Spec) (refs : List RefValue) (item : Option ℕ) (s : ℕ) (source : SourceValue) (x : Source)
-    → IsSourceAt specs (value_names refs) item s source → IsTaken refs specs item s x
+    → IsSourceAt specs (value_names refs) item s source → IsTakenByPlace refs specs item s x
     → IsRemote refs item source x × (taken_from x ≡ source)
 remote_of specs refs (Some i) s (FullName name) (the_ref r) h t = (t, ap FullName (name_there refs i name r h t))
 remote_of specs refs (Some i) s (FullName name) (the_id id) h t = absurd t
@@ -96,8 +96,8 @@ remote_of specs refs None s (IdOf bytes) (the_id id) h t = let same : id.bytes �
 unplaced_of : (specs : List Spec) (refs : List RefValue) (p : Place) (m : Mapped) (x : Mapping) → p.item_index ≡ m.item
     → p.spec_index ≡ m.spec → FollowsFromPlace specs (value_names refs) m → IsMade refs specs p x → IsUnplaced refs m x
 unplaced_of specs refs p m x item spec f h =
-    let P : Option ℕ → Type 0 = λ i. IsTaken refs specs i p.spec_index x.remote in
-    let Q : ℕ → Type 0 = λ s. IsTaken refs specs m.item s x.remote in
+    let P : Option ℕ → Type 0 = λ i. IsTakenByPlace refs specs i p.spec_index x.remote in
+    let Q : ℕ → Type 0 = λ s. IsTakenByPlace refs specs m.item s x.remote in
     let found = remote_of specs refs m.item m.spec m.source x.remote f.source (subst Q spec (subst P item h.remote)) in
     record {
       remote = found.0;

@@ -43,14 +43,14 @@ abbrev pub IsThere : ℕ → List Spec → Place → Type 0
 IsThere count specs p = IsItemThere count specs p.item_index p.spec_index
 
 -- what a mapping takes by a place: the ref there, or the id of the refspec
-abbrev pub IsTaken : List RefValue → List Spec → Option ℕ → ℕ → Source → Type 0
-IsTaken refs specs (Some i) s (the_ref r) = slice_get refs i ≡ Some (ref_value r)
-IsTaken refs specs None s (the_id id) = id_for (slice_get specs s) ≡ Some id.bytes
-IsTaken refs specs _ s _ = ⊥
+abbrev pub IsTakenByPlace : List RefValue → List Spec → Option ℕ → ℕ → Source → Type 0
+IsTakenByPlace refs specs (Some i) s (the_ref r) = slice_get refs i ≡ Some (ref_value r)
+IsTakenByPlace refs specs None s (the_id id) = id_for (slice_get specs s) ≡ Some id.bytes
+IsTakenByPlace refs specs _ s _ = ⊥
 
 -- the mapping of a place
 pub record IsMade (refs : List RefValue) (specs : List Spec) (p : Place) (x : Mapping) : Type 0 where
-  pub remote : IsTaken refs specs p.item_index p.spec_index x.remote
+  pub remote : IsTakenByPlace refs specs p.item_index p.spec_index x.remote
   pub local : option_map bstring_bytes x.local ≡ local_for (slice_get specs p.spec_index) (taken_from x.remote)
   pub place : x.spec_index ≡ ExplicitInRemote p.spec_index
 
