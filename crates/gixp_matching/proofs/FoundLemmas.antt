@@ -1,25 +1,29 @@
 -- Conflicts as they are found: for each name those over it.
-use Rattle.std.proofs.Common.{◌≡◌, ℕ, ◌+◌, ◌<◌, ◌≤◌, Bool, true, false, cond, List, [], ◌∷◌, ◌++◌, length, take, map, get_or, Some, None, ap, sym, subst, ◌∙◌, refl, inl, inr, append_assoc, arith}
+use Rattle.std.proofs.Common.{◌≡◌, ℕ, suc, ◌+◌, ◌-◌, ◌<◌, ◌≤◌, Bool, true, false, cond, List, [], ◌∷◌, ◌++◌, length, take, drop, map, get_or, Some, ap, sym, subst, ◌∙◌, refl, inl, inr, append_assoc, arith}
 use Rattle.std.specs.Prelude.{◌||◌, ◌==◌, not, filter}
-use Rattle.std.specs.List.{AllByRecursion, IsDistinct, list_any, flat_map}
+use Rattle.std.specs.List.{AllByRecursion, IsDistinct, list_any}
+use Rattle.std.specs.Borrow.{Bor}
 use Rattle.std.specs.Str.{bytes_eq}
 use Rattle.std.proofs.lemmas.Bool.{cases_Bool, cond-true, cond-false, false≢true, or_parts, eqb-true, eq-eqb}
-use Rattle.std.proofs.lemmas.List.{append-nil, length-map, take-map}
+use Rattle.std.proofs.Math.Seq.{drop-cons, drop-append_seam, take-append_seam}
+use Rattle.std.proofs.lemmas.List.{append-nil, length-map, length-append, map_more, take-map, take-append-drop}
 use Rattle.std.proofs.lemmas.List.Elements.{filter-append, recursion_from_All, All-from_recursion}
 use Rattle.std.proofs.lemmas.List.Filters.{length-filter_both}
 use Rattle.std.proofs.lemmas.List.Folds.{list_any-append, list_any_kept}
+use Rattle.std.proofs.lemmas.Grind.{flat_map-append}
 use Rattle.std.proofs.lemmas.Slice.Eq.{bytes_eq-Decides}
 use Rattle.gixp_packetline.proofs.ListLemmas.{any_of_map, take-map_more}
 use Rattle.gixp_matching.specs.declared.match_group.validate.groups.Group.{Group}
 use Rattle.gixp_matching.specs.declared.match_group.validate.groups.Named.{Named}
 use Rattle.gixp_matching.specs.Digest.{digest}
-use Rattle.gixp_matching.specs.Found.{found_over, found_among, found_first, is_over, Adds}
-use Rattle.gixp_matching.specs.Groups.{behind, has_number, have_one_number, HasAll, ListsNumbered, AreGroups}
+use Rattle.gixp_matching.specs.Found.{found_over, found_among, found_first, found_in_groups, is_over, Adds}
+use Rattle.gixp_matching.specs.Groups.{behind, lent, mappings_of, grouped, has_number, have_one_number, HasAll, ListsNumbered, AreGroups}
 use Rattle.gixp_matching.specs.Mappings.{Mapped, local_eq}
 use Rattle.gixp_matching.specs.Validation.{Conflict, differ, has_local, of_local}
 use Rattle.gixp_matching.proofs.DifferLemmas.{differ-first}
 use Rattle.gixp_matching.proofs.FirstLemmas.{or_none}
 use Rattle.gixp_matching.proofs.GroupLemmas.{eqb_turned}
+use Rattle.gixp_matching.proofs.ListLemmas.{gathered_here, map_of_map}
 
 -- a step of a loop that keeps what passes
 pub kept_more : {A B : Type 0} (h : A → B) (p : B → Bool) (now new : List B) (xs : List A) (i : ℕ) (x : A) → x ≡ get_or xs i x
@@ -89,7 +93,8 @@ adds_one texts ms place m own old new next is fresh step name =
     ∙ ap (λ l. front ++ l) (elim (cases_Bool (bytes_eq own name)) [
       | inl t ↦ (
           let e : own ≡ name = (bytes_eq-Decides own name).0 t in
-          let early : list_any (has_local name) (take place ms) ≡ false = ap (λ n. list_any (has_local n) (take place ms)) (sym e) ∙ fresh in
+          let early : list_any (has_local name) (take place ms) ≡ false =
+          ap (λ n. list_any (has_local n) (take place ms)) (sym e) ∙ fresh in
           let late : list_any (has_local name) (take (place + 1) ms) ≡ true =
           next name ∙ ap (λ b. b || has_local name m) early ∙ has ∙ t in
           ap (λ n. filter (is_over name) (found_among texts ms n)) e ∙ over_own texts name (of_local name ms)
@@ -120,7 +125,8 @@ before_more texts ms i old now new kept step name =
     step name ∙ ap (λ l. l ++ found_first texts ms i name) (kept name)
     ∙ append_assoc front (found_before texts ms (take i ms) name) (found_first texts ms i name)
     ∙ ap (λ l. front ++ l) (elim (cases_Bool (list_any (has_local name) (take i ms))) [
-      | inl t ↦ ap (λ l. l ++ found_first texts ms i name) (cond-true _ _ _ t) ∙ ap (λ l. found_among texts ms name ++ l) (cond-true _ _ _ t)
+      | inl t ↦ ap (λ l. l ++ found_first texts ms i name) (cond-true _ _ _ t)
+          ∙ ap (λ l. found_among texts ms name ++ l) (cond-true _ _ _ t)
           ∙ append-nil (found_among texts ms name) ∙ sym (cond-true _ _ _ (list_any_kept (has_local name) ms i t))
       | inr f ↦ ap (λ l. l ++ found_first texts ms i name) (cond-false _ _ _ f) ∙ cond-false _ _ _ f
     ])
@@ -143,9 +149,70 @@ before_all texts ms old new kept name =
 
 -- ---- groups, one after the other
 
--- the conflicts over a name among the mappings of each group
-abbrev pub found_in_groups : {M : Type 0} → (M → Mapped) → List (List ℕ) → List (Group M) → List ℕ → List Conflict
-found_in_groups f texts groups name = flat_map (λ group. found_among texts (behind f group.rows.now) name) groups
+module _ {M : Type 0} where
+  -- the mapping of one row more
+  pub mappings_more : (old now new : List (Bor M)) (rows : List (Named M)) (i : ℕ) (row : Named M) → row ≡ get_or rows i row
+      → i < length rows
+      → now ≡ old ++ mappings_of (take i rows) → new ≡ now ++ row.mapping ∷ [] → new ≡ old ++ mappings_of (take (i + 1) rows)
+  mappings_more old now new rows i row is l kept step =
+      step ∙ ap (λ l. l ++ row.mapping ∷ []) kept ∙ append_assoc old (mappings_of (take i rows)) (row.mapping ∷ [])
+      ∙ ap (λ l. old ++ l) (ap (λ (r : Named M). mappings_of (take i rows) ++ r.mapping ∷ []) is
+      ∙ sym (map_more (λ r. r.mapping) rows i row l))
+
+  -- the mappings of a group
+  abbrev own : Group M → List (Bor M)
+  own group = mappings_of group.rows.now
+
+  own_length : (group : Group M) → length (own group) ≡ length group.rows.now
+  own_length group = length-map group.rows.now (λ row. row.mapping)
+
+  -- the mappings of the first groups, of one group and of the others
+  parted : (groups : List (Group M)) (i : ℕ) (group : Group M) → group ≡ get_or groups i group → i < length groups
+      → grouped groups ≡ grouped (take i groups) ++ (own group ++ grouped (drop (suc i) groups))
+  parted groups i group is l =
+      ap grouped (sym (take-append-drop i groups)) ∙ flat_map-append own (take i groups) (drop i groups)
+      ∙ ap (λ gs. grouped (take i groups) ++ grouped gs) (drop-cons groups i group l)
+      ∙ ap (λ one. grouped (take i groups) ++ (own one ++ grouped (drop (suc i) groups))) (sym is)
+
+  -- the mappings of a group end within those of all
+  pub ends_within : (groups : List (Group M)) (mappings : List (Bor M)) (i start : ℕ) (group : Group M)
+      → group ≡ get_or groups i group → i < length groups → mappings ≡ grouped groups → start ≡ length (grouped (take i groups))
+      → start + length group.rows.now ≤ length mappings
+  ends_within groups mappings i start group is l all here =
+      omega (
+        arith,
+        own_length group,
+        here,
+        ap length (all ∙ parted groups i group is l),
+        length-append (grouped (take i groups)) (own group ++ grouped (drop (suc i) groups)),
+        length-append (own group) (grouped (drop (suc i) groups)),
+      )
+
+  -- those of the next begin there
+  pub ends_at : (groups : List (Group M)) (i start : ℕ) (group : Group M) → group ≡ get_or groups i group → i < length groups
+      → start ≡ length (grouped (take i groups)) → start + length group.rows.now ≡ length (grouped (take (i + 1) groups))
+  ends_at groups i start group is l here =
+      let more : grouped (take i groups) ++ own (get_or groups i group) ≡ grouped (take (i + 1) groups) =
+      gathered_here own [] (grouped (take i groups)) (grouped (take i groups) ++ own (get_or groups i group)) groups i group l refl refl in
+      let same : length (own group) ≡ length (own (get_or groups i group)) = ap (λ one. length (own one)) is in
+      omega (arith, here, own_length group, same, ap length more, length-append (grouped (take i groups)) (own (get_or groups i group)))
+
+  -- they stand there
+  pub stands_at : (groups : List (Group M)) (mappings : List (Bor M)) (i start : ℕ) (group : Group M)
+      → group ≡ get_or groups i group → i < length groups → mappings ≡ grouped groups → start ≡ length (grouped (take i groups))
+      → take (start + length group.rows.now - start) (drop start mappings) ≡ own group
+  stands_at groups mappings i start group is l all here =
+      let front = grouped (take i groups) in
+      let back = own group ++ grouped (drop (suc i) groups) in
+      let count : start + length group.rows.now - start ≡ length (own group) = omega (arith, own_length group) in
+      ap (λ n. take n (drop start mappings)) count
+      ∙ ap (λ l. take (length (own group)) (drop start l)) (all ∙ parted groups i group is l)
+      ∙ ap (λ n. take (length (own group)) (drop n (front ++ back))) here
+      ∙ ap (take (length (own group))) (drop-append_seam front back)
+      ∙ take-append_seam (own group) (grouped (drop (suc i) groups))
+
+  pub lent_own : (f : M → Mapped) (group : Group M) → lent f (own group) ≡ behind f group.rows.now
+  lent_own f group = map_of_map (λ m. f m.now) (λ row. row.mapping) group.rows.now
 
 -- fewer than two mappings have one source
 few_agree : (ms : List Mapped) → length ms < 2 → differ ms ≡ false

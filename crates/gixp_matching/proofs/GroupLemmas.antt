@@ -49,7 +49,8 @@ module _ {M : Type 0} where
   pub other_or_end : (p : Named M → Bool) (rows : List (Named M)) → unwrap_or (position p rows) (length rows) ≡ position_or_len p rows
   other_or_end p rows = at_or_end (position_or_len p rows) (length rows) (prefix_len-le-length _ rows)
 
-  pub taken_run : (number : ℕ) (rows : List (Named M)) → take (position_or_len (λ row. not (has_number number row)) rows) rows ≡ run_of number rows
+  pub taken_run : (number : ℕ) (rows : List (Named M))
+      → take (position_or_len (λ row. not (has_number number row)) rows) rows ≡ run_of number rows
   taken_run number [] = refl
   taken_run number (row ∷ rows) = elim (cases_Bool (has_number number row)) [
     | inl t ↦ (
@@ -123,7 +124,8 @@ module _ {M : Type 0} where
   ]
 
   -- rows of one number have no other
-  other_number : (number other : ℕ) (row : Named M) → (number == other) ≡ false → has_number number row ≡ true → has_number other row ≡ false
+  other_number : (number other : ℕ) (row : Named M) → (number == other) ≡ false → has_number number row ≡ true
+      → has_number other row ≡ false
   other_number number other row different has = ap (λ n. (n == other)) (eqb-true row.number number has) ∙ different
 
   others_stay : (number other : ℕ) (rows : List (Named M)) → (number == other) ≡ false
@@ -157,7 +159,8 @@ pub record IsLeft {M : Type 0} (rows rest : List (Named M)) (groups : List (Grou
   pub once : IsDistinct have_one_number groups
   pub later : (number : ℕ) → list_any (has_number number) rest ≡ true
       → (filter (has_number number) rest ≡ filter (has_number number) rows) × has_none number groups
-  pub done : (number : ℕ) → list_any (has_number number) rest ≡ false → has_none number groups → length (filter (has_number number) rows) < 2
+  pub done : (number : ℕ) → list_any (has_number number) rest ≡ false → has_none number groups
+      → length (filter (has_number number) rows) < 2
 
 no_group : (M : Type 0) → IsDistinct (λ (a b : Group M). have_one_number a b) []
 unfolding IsDistinct
@@ -171,7 +174,8 @@ module _ {M : Type 0} where
     each = All-nil (HasAll rows);
     once = no_group M;
     later = λ number h. (refl, All-nil (λ group. is_group_of number group ≡ false));
-    done = λ number h none. (let e : length (filter (has_number number) rows) ≡ 0 = ap length (none_of_it number rows h) in omega (arith, e));
+    done = λ number h none.
+        let e : length (filter (has_number number) rows) ≡ 0 = ap length (none_of_it number rows h) in omega (arith, e);
   }
 
   -- one group more, of a number that none has
@@ -220,23 +224,24 @@ module _ {M : Type 0} where
               let both = all_less (λ g. is_group_of other g ≡ false) old group none in
               left.done other (any_stays number other rest (ap (λ n. (n == other)) (sym called) ∙ both.1) ∙ h) both.0;
         }
-        | inr f ↦ subst (IsLeft rows (after_run number rest)) (sym (step ∙ ap (λ l. old ++ l) (cond-false _ _ _ f) ∙ append-nil old)) record {
-          together = together_after number rest left.together;
-          each = left.each;
-          once = left.once;
-          later = λ other h.
-              let different = others other h in
-              let kept = left.later other (any_stays number other rest different ∙ h) in
-              (sym (others_stay number other rest different) ∙ kept.0, kept.1);
-          done = λ other h none. elim (cases_Bool ((number == other))) [
-            | inl t ↦ (
-                let few : length (filter (has_number number) rows) < 2 =
-                (let e : length group.rows.now ≡ length (filter (has_number number) rows) = ap length all in
-                omega (arith, e, ltb-false 1 (length group.rows.now) f)) in
-                subst (λ n. length (filter (has_number n) rows) < 2) (eqb-true number other t) few)
-            | inr different ↦ left.done other (any_stays number other rest different ∙ h) none
-          ];
-        }
+        | inr f ↦ subst (IsLeft rows (after_run number rest))
+            (sym (step ∙ ap (λ l. old ++ l) (cond-false _ _ _ f) ∙ append-nil old)) record {
+              together = together_after number rest left.together;
+              each = left.each;
+              once = left.once;
+              later = λ other h.
+                  let different = others other h in
+                  let kept = left.later other (any_stays number other rest different ∙ h) in
+                  (sym (others_stay number other rest different) ∙ kept.0, kept.1);
+              done = λ other h none. elim (cases_Bool ((number == other))) [
+                | inl t ↦ (
+                    let few : length (filter (has_number number) rows) < 2 =
+                    (let e : length group.rows.now ≡ length (filter (has_number number) rows) = ap length all in
+                    omega (arith, e, ltb-false 1 (length group.rows.now) f)) in
+                    subst (λ n. length (filter (has_number n) rows) < 2) (eqb-true number other t) few)
+                | inr different ↦ left.done other (any_stays number other rest different ∙ h) none
+              ];
+            }
       ]
 
   -- where none is left, each number that has several rows has a group
@@ -260,7 +265,8 @@ module _ {M : Type 0} where
       let rest : drop count (drop start rows) ≡ after_run row.number (drop start rows) =
       subst (λ l. drop count l ≡ after_run row.number l) (take_rest rows start) cut in
       let less : length (after_run row.number (drop start rows)) < length (drop start rows) =
-      subst (λ l. length (after_run row.number l) < length l) (sym (front_of rows start row within is)) (fewer row (drop (suc start) rows)) in
+      subst (λ l. length (after_run row.number l) < length l) (sym (front_of rows start row within is))
+      (fewer row (drop (suc start) rows)) in
       omega (arith, within, less, ap length rest, length-drop start rows, length-drop count (drop start rows))
 
   -- the rows of one number more, from a place on
@@ -286,7 +292,8 @@ module _ {M : Type 0} where
       ap (after_run row.number) (sym front) ∙ sym rest ∙ drop-drop count start rows in (
         omega (arith, inside, within, length-drop start rows),
         subst (λ l. IsLeft rows l new) end
-            (one_less rows row tail old new group (subst (λ l. IsLeft rows l old) front left) called (own ∙ ap (run_of row.number) front) step),
+            (one_less rows row tail old new group (subst (λ l. IsLeft rows l old) front left) called
+            (own ∙ ap (run_of row.number) front) step),
       )
 
   -- ---- groups in another order

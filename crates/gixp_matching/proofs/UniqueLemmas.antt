@@ -3,7 +3,7 @@ use Rattle.std.proofs.Common.{◌≡◌, ℕ, suc, ◌≤◌, ◌<◌, Bool, tru
 use Rattle.std.specs.declared.cmp.Ordering.TheVariants.{Less}
 use Rattle.std.specs.Prelude.{◌||◌, filter}
 use Rattle.std.specs.Cmp.Lexicographic.{slice_cmp}
-use Rattle.std.specs.List.{All, AllByRecursion, IsDistinct, list_any, list_all, flat_map, slice_get}
+use Rattle.std.specs.List.{All, AllByRecursion, IsDistinct, list_all, flat_map, slice_get}
 use Rattle.std.specs.List.Sorted.{IsPermutation, IsSortedByKey}
 use Rattle.std.specs.Option.{option_map, option_map_or}
 use Rattle.std.specs.Ordering.{is_lt, ordering_reverse}
@@ -21,7 +21,7 @@ use Rattle.gixp_matching.specs.Found.{text_in, found_over, found_among, is_over,
 use Rattle.gixp_matching.specs.Mappings.{Mapped}
 use Rattle.gixp_refspec.specs.Spec.{Spec, text_of}
 use Rattle.gixp_matching.specs.Validate.{conflict_of}
-use Rattle.gixp_matching.specs.Validation.{Conflict, is_below, of_local, has_local, differ, local_names, spec_text, conflict_over, conflicts}
+use Rattle.gixp_matching.specs.Validation.{Conflict, is_below, of_local, differ, local_names, spec_text, conflict_over, conflicts}
 use Rattle.gixp_matching.specs.RefspecLaws.{is_increasing}
 use Rattle.gixp_matching.proofs.FoundLemmas.{none_local}
 use Rattle.gixp_matching.proofs.KeyLemmas.{bytes_eq-turned}
@@ -163,7 +163,8 @@ module _ (F : List ℕ → List Conflict) (short : (name : List ℕ) → length 
   each_of front [] is = tt
   each_of front (issue ∷ back) is = (
     (one_of front back issue is).0,
-    each_of (front ++ issue ∷ []) back (λ name. ap (λ l. filter (is_over name) (map conflict_of l)) (append_assoc front (issue ∷ []) back) ∙ is name),
+    each_of (front ++ issue ∷ []) back
+        (λ name. ap (λ l. filter (is_over name) (map conflict_of l)) (append_assoc front (issue ∷ []) back) ∙ is name),
   )
 
   turned : (issue : Issue) (back : List Issue) → AllByRecursion (λ other. is_over (destination_of issue) (conflict_of other) ≡ false) back
@@ -177,7 +178,8 @@ module _ (F : List ℕ → List Conflict) (short : (name : List ℕ) → length 
   once_of front [] is = tt
   once_of front (issue ∷ back) is = (
     turned issue back (none_passed (destination_of issue) back (one_of front back issue is).1),
-    once_of (front ++ issue ∷ []) back (λ name. ap (λ l. filter (is_over name) (map conflict_of l)) (append_assoc front (issue ∷ []) back) ∙ is name),
+    once_of (front ++ issue ∷ []) back
+        (λ name. ap (λ l. filter (is_over name) (map conflict_of l)) (append_assoc front (issue ∷ []) back) ∙ is name),
   )
 
   -- issues that are found by their names
@@ -269,7 +271,8 @@ none_has name issues h = All-from_recursion _ issues (each issues h) where
   each (y ∷ ys) e = let both = or_parts (is_over name (conflict_of y)) (has name (map destination_of ys)) e in (both.0, each ys both.1)
 
 -- issues that were found by their names and sorted are the conflicts
-pub conflicts_from_issues : (specs : List Spec) (texts : List (List ℕ)) (ms : List Mapped) (old new : List Issue) → texts ≡ map text_of specs
+pub conflicts_from_issues : (specs : List Spec) (texts : List (List ℕ)) (ms : List Mapped) (old new : List Issue)
+    → texts ≡ map text_of specs
     → ((name : List ℕ) → filter (is_over name) (map conflict_of old) ≡ found_among texts ms name) → IsPermutation old new
     → IsSortedByKey destination_of (slice_cmp nat_cmp) new → map conflict_of new ≡ conflicts specs ms
 unfolding conflicts

@@ -1,9 +1,11 @@
 -- Conflicts as they are found, with the texts of all refspecs at hand.
 use Rattle.std.specs.Prelude.{ℕ, ◌≡◌, ◌+◌, Bool, if◌then◌else◌, List, [], ◌∷◌, ◌++◌, filter, map, take}
-use Rattle.std.specs.List.{slice_get, list_any}
+use Rattle.std.specs.List.{slice_get, list_any, flat_map}
 use Rattle.std.specs.Option.{option_map_or}
 use Rattle.std.specs.Str.{bytes_eq}
 use Rattle.gixp_matching.specs.declared.match_group.validate.Issue.{Issue}
+use Rattle.gixp_matching.specs.declared.match_group.validate.groups.Group.{Group}
+use Rattle.gixp_matching.specs.Groups.{behind}
 use Rattle.gixp_matching.specs.Mappings.{Mapped}
 use Rattle.gixp_matching.specs.Validate.{conflict_of}
 use Rattle.gixp_matching.specs.Validation.{Conflict, differ, has_local, of_local}
@@ -41,3 +43,7 @@ abbrev pub found_first : List (List ℕ) → List Mapped → ℕ → List ℕ �
 found_first texts ms place name =
     if list_any (has_local name) (take place ms) then []
     else if list_any (has_local name) (take (place + 1) ms) then found_among texts ms name else []
+
+-- the conflicts over a local name among the mappings of each group
+abbrev pub found_in_groups : {M : Type 0} → (M → Mapped) → List (List ℕ) → List (Group M) → List ℕ → List Conflict
+found_in_groups f texts groups name = flat_map (λ group. found_among texts (behind f group.rows.now) name) groups

@@ -1,7 +1,7 @@
 -- Mappings by the numbers of their local names.
 use Rattle.std.specs.Prelude.{ℕ, ◌≡◌, ◌==◌, ◌<◌, ⊤, Bool, false, nat_lt, if◌then◌else◌, List, [], ◌∷◌, filter, length, map, option_to_list}
 use Rattle.std.specs.Borrow.{Bor}
-use Rattle.std.specs.List.{All, IsDistinct, list_any}
+use Rattle.std.specs.List.{All, IsDistinct, list_any, flat_map}
 use Rattle.std.specs.Option.{option_map}
 use Rattle.gixp_matching.specs.declared.match_group.validate.groups.Group.{Group}
 use Rattle.gixp_matching.specs.declared.match_group.validate.groups.Named.{Named}
@@ -57,6 +57,13 @@ module _ {M : Type 0} where
   -- the rows are all those of the group's number
   abbrev pub HasAll : List (Named M) → Group M → Type 0
   HasAll rows group = group.rows.now ≡ filter (has_number group.number) rows
+
+  -- the mappings of rows, and those of groups
+  abbrev pub mappings_of : List (Named M) → List (Bor M)
+  mappings_of rows = map (λ row. row.mapping) rows
+
+  abbrev pub grouped : List (Group M) → List (Bor M)
+  grouped groups = flat_map (λ group. mappings_of group.rows.now) groups
 
   -- two groups have one number
   abbrev pub have_one_number : Group M → Group M → Bool

@@ -2,8 +2,8 @@
 ghost use Rattle.std.specs.Prelude.{◌≡◌, ◌<◌, ◌∷◌, ◌++◌, [], not, filter, map, length, IfOk, OnOk};
 ghost use Rattle.std.specs.List.{list_any};
 ghost use Rattle.bstr.specs.Owned.{bstring_bytes};
-ghost use Rattle.gixp_matching.specs.Found.{text_in, found, found_over, found_among, found_first, Adds};
-ghost use Rattle.gixp_matching.specs.Groups.{behind, lent};
+ghost use Rattle.gixp_matching.specs.Found.{text_in, found, found_over, found_among, found_first, found_in_groups, Adds};
+ghost use Rattle.gixp_matching.specs.Groups.{lent, grouped};
 ghost use Rattle.gixp_matching.specs.Mappings.{source_eq};
 ghost use Rattle.gixp_matching.specs.MatchGroup.{values};
 ghost use Rattle.gixp_refspec.specs.Spec.{text_of};
@@ -14,7 +14,7 @@ use crate::match_group::SourceRef;
 use crate::match_group::key::AsMapping;
 use crate::match_group::validate::Issue;
 use crate::match_group::validate::apart::are_apart;
-use crate::match_group::validate::groups::{Named, groups_of, table_of};
+use crate::match_group::validate::groups::{Group, groups_of, mappings_of, table_of};
 use crate::match_group::validate::order::sort_by_name;
 use bstr::BString;
 use gixp_refspec::spec::RefSpecRef;
@@ -70,7 +70,8 @@ fn push_text<M: AsMapping>(
     mapping: &M,
     found: &mut Vec<BString>,
 ) -> Result<(), AllocError>
-    ensures { OnOk result (map bstring_bytes found.new.items ≡ map bstring_bytes found.old.items ++ text_in (map bstring_bytes texts.now) (M.mapped mapping.now) ∷ []) }
+    ensures { OnOk result (map bstring_bytes found.new.items ≡ map bstring_bytes found.old.items
+        ++ text_in (map bstring_bytes texts.now) (M.mapped mapping.now) ∷ []) }
 {
     found.push(text_of(alloc, texts, mapping)?)?;
     Ok(())
@@ -171,66 +172,87 @@ fn push_with<'a, M: AsMapping>(
     Ok(())
 }
 
-/// The mappings of the rows that have the local name.
+/// Those of the mappings that have the local name.
 fn mappings_with<'a, M: AsMapping>(
     alloc: Global,
-    rows: &[Named<'a, M>],
+    mappings: &[&'a M],
     name: &[u8],
 ) -> Result<Vec<&'a M>, AllocError>
-    ensures { IfOk result (λ own. lent M.mapped own.items ≡ of_local name.now (behind M.mapped rows.now)) }
+    ensures { IfOk result (λ own. lent M.mapped own.items ≡ of_local name.now (lent M.mapped mappings.now)) }
 {
-    let mut own = Vec::with_capacity(alloc, rows.len())?;
-    'rows: for row in rows {
-        push_with(row.mapping, name, &mut own)?;
+    let mut own = Vec::with_capacity(alloc, mappings.len())?;
+    'mappings: for mapping in mappings {
+        push_with(*mapping, name, &mut own)?;
     }
     Ok(own)
 }
 
 /// Whether some mapping has the local name.
-fn is_among<M: AsMapping>(rows: &[Named<'_, M>], name: &[u8]) -> bool
-    ensures { result ≡ list_any (λ row. has_local name.now (M.mapped row.mapping.now)) rows.now }
+fn is_among<M: AsMapping>(mappings: &[&M], name: &[u8]) -> bool
+    ensures { result ≡ list_any (λ m. has_local name.now (M.mapped m.now)) mappings.now }
 {
-    rows.iter().any(|row| has_local(row.mapping, name))
+    mappings.iter().any(|mapping| has_local(*mapping, name))
 }
 
-/// Appends the conflict over the local name of a row, where no row before has that name.
+/// Appends the conflict over the local name of a mapping, where no mapping before has that name.
 fn push_first<M: AsMapping>(
     alloc: Global,
     texts: &[BString],
-    rows: &[Named<'_, M>],
+    mappings: &[&M],
     place: usize,
     issues: &mut Vec<Issue>,
 ) -> Result<(), AllocError>
-    requires { place < length rows.now }
-    ensures { OnOk result (Adds (found_first (map bstring_bytes texts.now) (behind M.mapped rows.now) place)
+    requires { place < length mappings.now }
+    ensures { OnOk result (Adds (found_first (map bstring_bytes texts.now) (lent M.mapped mappings.now) place)
         (conflicts_in issues.old) (conflicts_in issues.new)) }
 {
-    if let Some(name) = rows[place].mapping.key().1 {
-        if !is_among(&rows[..place], name.bytes) {
-            let own = mappings_with(alloc, rows, name.bytes)?;
+    if let Some(name) = mappings[place].key().1 {
+        if !is_among(&mappings[..place], name.bytes) {
+            let own = mappings_with(alloc, mappings, name.bytes)?;
             push_conflict(alloc, texts, name.bytes, &own, issues)?;
         }
     }
     Ok(())
 }
 
-/// Appends the conflicts over the local names of the rows. They have one number, so that hardly ever there are two.
+/// Appends the conflicts over the local names of mappings. The names have one number, so that hardly ever there are two.
 fn push_conflicts<M: AsMapping>(
     alloc: Global,
     texts: &[BString],
-    rows: &[Named<'_, M>],
+    mappings: &[&M],
     issues: &mut Vec<Issue>,
 ) -> Result<(), AllocError>
-    ensures { OnOk result (Adds (found_among (map bstring_bytes texts.now) (behind M.mapped rows.now))
+    ensures { OnOk result (Adds (found_among (map bstring_bytes texts.now) (lent M.mapped mappings.now))
         (conflicts_in issues.old) (conflicts_in issues.new)) }
 {
-    'rows: for place in 0..rows.len() {
-        push_first(alloc, texts, rows, place, issues)?;
+    'mappings: for place in 0..mappings.len() {
+        push_first(alloc, texts, mappings, place, issues)?;
     }
     Ok(())
 }
 
-/// The conflicts, in byte order of the local names, by the mappings of each number that several have.
+/// The conflicts over the local names of groups, whose mappings stand behind one another.
+fn conflicts_of_groups<M: AsMapping>(
+    alloc: Global,
+    texts: &[BString],
+    groups: &[Group<'_, '_, M>],
+    mappings: &[&M],
+) -> Result<Vec<Issue>, AllocError>
+    requires { mappings.now ≡ grouped groups.now }
+    ensures { IfOk result (λ v. Adds (found_in_groups M.mapped (map bstring_bytes texts.now) groups.now) [] (conflicts_in v)) }
+{
+    let mut issues = Vec::with_capacity(alloc, groups.len())?;
+    let mut start = 0;
+    'groups: for group in groups {
+        let end = start + group.rows.len();
+        push_conflicts(alloc, texts, &mappings[start..end], &mut issues)?;
+        start = end;
+    }
+    Ok(issues)
+}
+
+/// The conflicts, in byte order of the local names, by the mappings of each number that several have. These are listed
+/// one group after the other, since the rows of a group lie far from those of the next.
 fn conflicts_by_number<M: AsMapping>(
     alloc: Global,
     specs: &[RefSpecRef<'_>],
@@ -241,10 +263,8 @@ fn conflicts_by_number<M: AsMapping>(
     let texts = texts_of(alloc, specs)?;
     let rows = table_of(alloc, mappings)?;
     let groups = groups_of(alloc, &rows)?;
-    let mut issues = Vec::with_capacity(alloc, groups.len())?;
-    'groups: for group in &groups {
-        push_conflicts(alloc, &texts, group.rows, &mut issues)?;
-    }
+    let grouped = mappings_of(alloc, &groups)?;
+    let mut issues = conflicts_of_groups(alloc, &texts, &groups, &grouped)?;
     sort_by_name(&mut issues)?;
     Ok(issues)
 }

@@ -2,7 +2,7 @@
 ghost use Rattle.std.specs.Prelude.{ℕ, List, ◌≡◌, ◌++◌, ◌≤◌, not, drop, filter, length, map, OnOk, IfOk};
 ghost use Rattle.std.specs.List.{flat_map, position, position_or_len};
 ghost use Rattle.std.specs.List.Sorted.{IsPermutation};
-ghost use Rattle.gixp_matching.specs.Groups.{shown, numbered, has_number, run_of, after_run, several, AreTogether, AreGroups, ListsNumbered};
+ghost use Rattle.gixp_matching.specs.Groups.{shown, numbered, has_number, run_of, after_run, several, AreTogether, AreGroups, ListsNumbered, mappings_of, grouped};
 
 use crate::match_group::digest::name_digest;
 use crate::match_group::key::AsMapping;
@@ -146,8 +146,7 @@ fn sort_groups<M>(groups: &mut Vec<Group<'_, '_, M>>)
     groups.sort_unstable_by_key(|group| group.place);
 }
 
-/// The rows of each number that has several. They come in the order of the first row of each, so that the mappings are
-/// read as they lie in memory.
+/// The rows of each number that has several, in the order of the first rows.
 pub(crate) fn groups_of<'r, 'a, M>(
     alloc: Global,
     rows: &'r [Named<'a, M>],
@@ -158,4 +157,28 @@ pub(crate) fn groups_of<'r, 'a, M>(
     let mut groups = several_of(alloc, rows)?;
     sort_groups(&mut groups);
     Ok(groups)
+}
+
+/// Appends the mappings of rows.
+fn push_mappings<'a, M>(rows: &[Named<'a, M>], mappings: &mut Vec<&'a M>) -> Result<(), AllocError>
+    ensures { OnOk result (mappings.new.items ≡ mappings.old.items ++ mappings_of rows.now) }
+{
+    'rows: for row in rows {
+        mappings.push(row.mapping)?;
+    }
+    Ok(())
+}
+
+/// The mappings of groups, one after the other.
+pub(crate) fn mappings_of<'a, M>(
+    alloc: Global,
+    groups: &[Group<'_, 'a, M>],
+) -> Result<Vec<&'a M>, AllocError>
+    ensures { IfOk result (λ mappings. mappings.items ≡ grouped groups.now) }
+{
+    let mut mappings = Vec::new(alloc);
+    'groups: for group in groups {
+        push_mappings(group.rows, &mut mappings)?;
+    }
+    Ok(mappings)
 }

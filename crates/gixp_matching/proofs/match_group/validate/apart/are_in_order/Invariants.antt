@@ -8,4 +8,5 @@ use Rattle.gixp_matching.proofs.match_group.validate.apart.are_in_order.Given as
 
 abbrev pub invariant-mappings : goal.invariant-mappings
 invariant-mappings g l =
-    (keys : List KeyBytes) × (map key_bytes keys ≡ locals (take l.mapping-index (map g.M.AsMapping.mapped l.mappings))) × RisesTo by_bytes keys l.last
+    (keys : List KeyBytes) × (map key_bytes keys ≡ locals (take l.mapping-index (map g.M.AsMapping.mapped l.mappings)))
+    × RisesTo by_bytes keys l.last

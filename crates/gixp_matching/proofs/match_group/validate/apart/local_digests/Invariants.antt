@@ -6,4 +6,5 @@ use Rattle.gixp_matching.specs.Digest.{digest}
 use Rattle.gixp_matching.proofs.match_group.validate.apart.local_digests.Given as goal
 
 abbrev pub invariant-mappings : goal.invariant-mappings
-invariant-mappings g l = l.digests.items ≡ flat_map (λ m. map digest (option_to_list m.local)) (take l.mapping-index (map g.M.AsMapping.mapped l.mappings))
+invariant-mappings g l =
+    l.digests.items ≡ flat_map (λ m. map digest (option_to_list m.local)) (take l.mapping-index (map g.M.AsMapping.mapped l.mappings))

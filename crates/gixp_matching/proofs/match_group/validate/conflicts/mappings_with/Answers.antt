@@ -4,8 +4,9 @@ use Rattle.gixp_matching.specs.Validation.{has_local}
 use Rattle.gixp_matching.proofs.FoundLemmas.{kept_more}
 use Rattle.gixp_matching.proofs.match_group.validate.conflicts.mappings_with.Goals as goal
 
-pub rows-preserved : goal.rows-preserved
-rows-preserved g c =
+pub mappings-preserved : goal.mappings-preserved
+mappings-preserved g c =
     let f = g.M.AsMapping.mapped in
-    kept_more (λ row. f row.mapping.now) (has_local c.args.name.now) (lent f c.rows.own.items) (lent f c.push_with.new.own.items)
-    c.args.rows.now c.rows.row-index c.row-item.result c.row-item.is c.rows-test.true c.rows.invariant c.in_ok-push_with.ensures
+    kept_more (λ m. f m.now) (has_local c.args.name.now) (lent f c.mappings.own.items) (lent f c.push_with.new.own.items)
+    c.args.mappings.now c.mappings.mapping-index c.mapping-item.result c.mapping-item.is c.mappings-test.true c.mappings.invariant
+    c.in_ok-push_with.ensures
