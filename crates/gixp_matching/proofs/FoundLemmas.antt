@@ -1,5 +1,5 @@
 -- Conflicts as they are found: for each name those over it.
-use Rattle.std.proofs.Common.{◌≡◌, ℕ, suc, ◌+◌, ◌-◌, ◌<◌, ◌≤◌, Bool, true, false, cond, List, [], ◌∷◌, ◌++◌, length, take, drop, map, get_or, Some, ap, sym, subst, ◌∙◌, refl, inl, inr, append_assoc, arith}
+use Rattle.std.proofs.Common.{◌≡◌, ℕ, zero, suc, ◌+◌, ◌-◌, ◌<◌, ◌≤◌, Bool, true, false, cond, List, [], ◌∷◌, ◌++◌, length, take, drop, map, get_or, Some, ap, sym, subst, ◌∙◌, refl, inl, inr, append_assoc, arith}
 use Rattle.std.specs.Prelude.{◌||◌, ◌==◌, not, filter}
 use Rattle.std.specs.List.{AllByRecursion, IsDistinct, list_any}
 use Rattle.std.specs.Borrow.{Bor}
@@ -280,3 +280,15 @@ all_found f texts ms rows groups cs listed are kept name =
       length-map (filter (has_number n) rows) (λ row. f row.mapping.now),
     ) in
     cond-false _ _ _ (few_agree (of_local name ms) less)))
+
+-- what begins alike begins alike in fewer bytes
+pub shorter : (m n : ℕ) (xs ys : List ℕ) → m ≤ n → take n xs ≡ take n ys → take m xs ≡ take m ys
+shorter zero n xs ys l h = refl
+shorter (suc m) zero xs ys l h = absurd (omega (arith, l))
+shorter (suc m) (suc n) [] [] l h = refl
+shorter (suc m) (suc n) [] (y ∷ ys) l h = cc
+shorter (suc m) (suc n) (x ∷ xs) [] l h = cc
+shorter (suc m) (suc n) (x ∷ xs) (y ∷ ys) l h =
+    let same : x ≡ y = cc in
+    let rest : take n xs ≡ take n ys = cc in
+    ap (λ z. z ∷ take m xs) same ∙ ap (λ r. y ∷ r) (shorter m n xs ys (omega arith) rest)

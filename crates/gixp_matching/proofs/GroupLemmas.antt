@@ -28,7 +28,7 @@ at_or_end n l h = elim (cases_Bool (nat_lt n l)) [
 ]
 
 -- what holds of all and of one more
-all_more : {X : Type 0} (P : X → Type 0) (xs : List X) (x : X) → All P xs → P x → All P (xs ++ x ∷ [])
+pub all_more : {X : Type 0} (P : X → Type 0) (xs : List X) (x : X) → All P xs → P x → All P (xs ++ x ∷ [])
 all_more {X} P xs x all one = All-from_recursion P (xs ++ x ∷ []) (more xs (recursion_from_All P xs all)) where
   more : (ys : List X) → AllByRecursion P ys → AllByRecursion P (ys ++ x ∷ [])
   more [] h = (one, tt)

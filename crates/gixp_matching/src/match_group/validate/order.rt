@@ -1,10 +1,11 @@
 //! Conflicts in byte order of their local names.
-ghost use Rattle.std.specs.Prelude.{◌≡◌, OnOk};
+ghost use Rattle.std.specs.Prelude.{◌≡◌, drop, take, OnOk};
 ghost use Rattle.std.specs.Cmp.Lexicographic.{slice_cmp};
 ghost use Rattle.std.specs.List.Sorted.{IsPermutation, IsSortedByKey};
 ghost use Rattle.std.specs.Ordering.{nat_cmp};
-ghost use Rattle.gixp_matching.specs.Found.{destination_of};
+ghost use Rattle.gixp_matching.specs.Found.{destination_of, leading, ShareFront};
 
+use crate::match_group::digest::step;
 use crate::match_group::validate::Issue;
 use std::alloc::AllocError;
 use std::cmp::Ordering;
@@ -22,12 +23,21 @@ fn name_of(issue: &Issue) -> &[u8]
 }
 
 /// How many of the first bytes are the same in both names.
-fn shared_len(first: &[u8], name: &[u8]) -> usize {
-    first.iter().zip(name).take_while(|(a, b)| *a == *b).count()
+fn shared_len(first: &[u8], name: &[u8]) -> usize
+    ensures { take result name.now ≡ take result first.now }
+{
+    'bytes: for place in 0..first.len() {
+        if place >= name.len() || name[place] != first[place] {
+            return place;
+        }
+    }
+    first.len()
 }
 
 /// How many of the first bytes are the same in all local names.
-fn front_len(issues: &[Issue]) -> usize {
+fn front_len(issues: &[Issue]) -> usize
+    ensures { ShareFront result issues.now }
+{
     let Some(first) = issues.first() else {
         return 0;
     };
@@ -39,14 +49,24 @@ fn front_len(issues: &[Issue]) -> usize {
     front
 }
 
-/// The eight bytes from a place on as a number, the first one highest, as if zeros stood behind the name.
-fn number_at(name: &[u8], start: usize) -> u64 {
-    let mut number: u64 = 0;
+/// The first eight bytes as a number, the first one highest, as if zeros stood behind the last.
+#[tactic(auto, unfolding(crate::specs::Found::leading))]
+fn leading(bytes: &[u8]) -> u64
+    ensures { result ≡ leading 8 bytes.now }
+{
+    let mut number = 0;
     'places: for place in 0usize..8 {
-        let byte = name.get(start.saturating_add(place)).copied().unwrap_or(0);
-        number = number.wrapping_mul(256).wrapping_add(u64::from(byte));
+        number = step(number, bytes.get(place).copied().unwrap_or(0));
     }
     number
+}
+
+/// What is behind the first bytes of a local name, as a number.
+fn number_of(issue: &Issue, front: usize) -> u64
+    ensures { result ≡ leading 8 (drop front (destination_of issue.now)) }
+{
+    let name = name_of(issue);
+    leading(&name[front.min(name.len())..])
 }
 
 /// The byte order of the local names.
@@ -62,8 +82,8 @@ pub(crate) fn sort_by_name(issues: &mut Vec<Issue>) -> Result<(), AllocError>
     ensures permutation { IsPermutation issues.old.items issues.new.items }
     ensures order { OnOk result (IsSortedByKey destination_of (slice_cmp nat_cmp) issues.new.items) }
 {
-    let start = front_len(issues);
-    issues.sort_by_cached_key(|issue| number_at(name_of(issue), start))?;
+    let front = front_len(issues);
+    issues.sort_by_cached_key(|issue| number_of(issue, front))?;
     issues.sort_by(|a, b| by_name(a, b))?;
     Ok(())
 }
