@@ -16,7 +16,7 @@ use Rattle.gixp_packetline.proofs.ListLemmas.{any_of_map, take-map_more}
 use Rattle.gixp_matching.specs.declared.match_group.validate.groups.Group.{Group}
 use Rattle.gixp_matching.specs.declared.match_group.validate.groups.Named.{Named}
 use Rattle.gixp_matching.specs.Digest.{digest}
-use Rattle.gixp_matching.specs.Found.{found_over, found_among, found_first, found_in_groups, is_over, Adds}
+use Rattle.gixp_matching.specs.Found.{found_over, found_among, found_first, found_in_groups, is_over, AddsConflicts}
 use Rattle.gixp_matching.specs.Groups.{behind, lent, mappings_of, grouped, has_number, have_one_number, HasAll, ListsNumbered, AreGroups}
 use Rattle.gixp_matching.specs.Mappings.{Mapped, local_eq}
 use Rattle.gixp_matching.specs.Validation.{Conflict, differ, has_local, of_local}
@@ -70,7 +70,7 @@ over_other texts own name group other = elim (cases_Bool (differ group)) [
 pub adds_none : (texts : List (List ℕ)) (ms : List Mapped) (place : ℕ) (m : Mapped) (cs : List Conflict)
     → ((name : List ℕ) → list_any (has_local name) (take (place + 1) ms) ≡ (list_any (has_local name) (take place ms) || has_local name m))
     → ((name : List ℕ) → has_local name m ≡ true → list_any (has_local name) (take place ms) ≡ true)
-    → Adds (found_first texts ms place) cs cs
+    → AddsConflicts (found_first texts ms place) cs cs
 adds_none texts ms place m cs next known name = elim (cases_Bool (list_any (has_local name) (take place ms))) [
   | inl t ↦ sym (ap (λ l. filter (is_over name) cs ++ l) (cond-true _ _ _ t) ∙ append-nil (filter (is_over name) cs))
   | inr f ↦ elim (cases_Bool (has_local name m)) [
@@ -85,7 +85,7 @@ adds_none texts ms place m cs next known name = elim (cases_Bool (list_any (has_
 pub adds_one : (texts : List (List ℕ)) (ms : List Mapped) (place : ℕ) (m : Mapped) (own : List ℕ) (old new : List Conflict)
     → ((name : List ℕ) → list_any (has_local name) (take (place + 1) ms) ≡ (list_any (has_local name) (take place ms) || has_local name m))
     → m.local ≡ Some own → list_any (has_local own) (take place ms) ≡ false → new ≡ old ++ found_among texts ms own
-    → Adds (found_first texts ms place) old new
+    → AddsConflicts (found_first texts ms place) old new
 adds_one texts ms place m own old new next is fresh step name =
     let front = filter (is_over name) old in
     let has : has_local name m ≡ bytes_eq own name = ap (λ o. local_eq o (Some name)) is in
@@ -113,13 +113,13 @@ abbrev pub found_before : List (List ℕ) → List Mapped → List Mapped → Li
 found_before texts ms before name = cond (list_any (has_local name) before) (found_among texts ms name) []
 
 -- before the first there is none
-pub before_none : (texts : List (List ℕ)) (ms : List Mapped) (cs : List Conflict) → Adds (found_before texts ms []) cs cs
+pub before_none : (texts : List (List ℕ)) (ms : List Mapped) (cs : List Conflict) → AddsConflicts (found_before texts ms []) cs cs
 before_none texts ms cs name = sym (append-nil (filter (is_over name) cs))
 
 -- one place more
 pub before_more : (texts : List (List ℕ)) (ms : List Mapped) (i : ℕ) (old now new : List Conflict)
-    → Adds (found_before texts ms (take i ms)) old now → Adds (found_first texts ms i) now new
-    → Adds (found_before texts ms (take (i + 1) ms)) old new
+    → AddsConflicts (found_before texts ms (take i ms)) old now → AddsConflicts (found_first texts ms i) now new
+    → AddsConflicts (found_before texts ms (take (i + 1) ms)) old new
 before_more texts ms i old now new kept step name =
     let front = filter (is_over name) old in
     step name ∙ ap (λ l. l ++ found_first texts ms i name) (kept name)
@@ -139,8 +139,8 @@ none_local name (m ∷ ms) h =
     cond-false _ _ _ both.0 ∙ none_local name ms both.1
 
 -- after the last there are all
-pub before_all : (texts : List (List ℕ)) (ms : List Mapped) (old new : List Conflict) → Adds (found_before texts ms ms) old new
-    → Adds (found_among texts ms) old new
+pub before_all : (texts : List (List ℕ)) (ms : List Mapped) (old new : List Conflict) → AddsConflicts (found_before texts ms ms) old new
+    → AddsConflicts (found_among texts ms) old new
 before_all texts ms old new kept name =
     kept name ∙ ap (λ l. filter (is_over name) old ++ l) (elim (cases_Bool (list_any (has_local name) ms)) [
       | inl t ↦ cond-true _ _ _ t
@@ -263,7 +263,7 @@ module _ {M : Type 0} (f : M → Mapped) (texts : List (List ℕ)) (ms : List Ma
 
 -- the conflicts over each name are found
 pub all_found : {M : Type 0} (f : M → Mapped) (texts : List (List ℕ)) (ms : List Mapped) (rows : List (Named M)) (groups : List (Group M))
-    (cs : List Conflict) → ListsNumbered f ms rows → AreGroups rows groups → Adds (found_in_groups f texts groups) [] cs → (name : List ℕ)
+    (cs : List Conflict) → ListsNumbered f ms rows → AreGroups rows groups → AddsConflicts (found_in_groups f texts groups) [] cs → (name : List ℕ)
     → filter (is_over name) cs ≡ found_among texts ms name
 all_found f texts ms rows groups cs listed are kept name =
     kept name ∙ by_groups f texts ms rows listed name groups (recursion_from_All _ groups are.each) are.once (λ none. (

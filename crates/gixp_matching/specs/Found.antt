@@ -36,8 +36,8 @@ abbrev pub destination_of : Issue → List ℕ
 destination_of issue = (conflict_of issue).destination
 
 -- for each local name the conflicts over it are some more
-abbrev pub Adds : (List ℕ → List Conflict) → List Conflict → List Conflict → Type 0
-Adds more old new = (name : List ℕ) → filter (is_over name) new ≡ filter (is_over name) old ++ more name
+abbrev pub AddsConflicts : (List ℕ → List Conflict) → List Conflict → List Conflict → Type 0
+AddsConflicts more old new = (name : List ℕ) → filter (is_over name) new ≡ filter (is_over name) old ++ more name
 
 -- the conflict over a local name that the mapping at a place has, and none before it
 abbrev pub found_first : List (List ℕ) → List Mapped → ℕ → List ℕ → List Conflict

@@ -23,7 +23,7 @@ pub(crate) struct Prepared<'s> {
     pub(crate) others: Vec<Needle<'s>>,
 }
 
-/// Adds the source of a negative refspec.
+/// AddsConflicts the source of a negative refspec.
 fn push_negative<'s>(
     names: &mut Vec<Row<'s>>,
     others: &mut Vec<Needle<'s>>,

@@ -113,7 +113,7 @@ pub(crate) fn rows_named<'r, 'a>(rows: &'r [Row<'a>], name: &[u8]) -> &'r [Row<'
     &rest[..count]
 }
 
-/// Adds the place of a ref.
+/// AddsConflicts the place of a ref.
 fn add_place(places: &mut BTreeSet<usize>, row: &Row<'_>) -> Result<(), AllocError>
     ensures { OnOk result (AddsPlaces (shown row.now ∷ []) places.old places.new) }
 {
@@ -121,7 +121,7 @@ fn add_place(places: &mut BTreeSet<usize>, row: &Row<'_>) -> Result<(), AllocErr
     Ok(())
 }
 
-/// Adds the places of some refs.
+/// AddsConflicts the places of some refs.
 fn add_places(places: &mut BTreeSet<usize>, run: &[Row<'_>]) -> Result<(), AllocError>
     ensures { OnOk result (AddsPlaces (map shown run.now) places.old places.new) }
 {

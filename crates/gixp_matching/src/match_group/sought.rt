@@ -63,7 +63,7 @@ impl NameSet<'_> {
     }
 }
 
-/// Adds a name.
+/// AddsConflicts a name.
 fn add_name<'n>(set: &mut HashSet<&'n [u8]>, name: &'n BString) -> Result<(), AllocError>
     ensures { OnOk result ((text : List ℕ) → has_key set.new text ≡ (has_key set.old text || bytes_eq text (bstring_bytes name.now))) }
 {
@@ -82,7 +82,7 @@ fn names_of(alloc: Global, names: &[BString]) -> Result<HashSet<&[u8]>, AllocErr
     Ok(set)
 }
 
-/// Adds the last bytes of a name.
+/// AddsConflicts the last bytes of a name.
 fn add_tail(set: &mut HashSet<u64>, name: &BString) -> Result<(), AllocError>
     ensures own { OnOk result (has_tail set.new (tail (bstring_bytes name.now)) ≡ true) }
     ensures others { OnOk result ((number : ℕ) → has_tail set.old number ≡ true → has_tail set.new number ≡ true) }

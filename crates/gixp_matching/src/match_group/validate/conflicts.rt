@@ -2,7 +2,7 @@
 ghost use Rattle.std.specs.Prelude.{◌≡◌, ◌<◌, ◌∷◌, ◌++◌, [], not, filter, map, length, IfOk, OnOk};
 ghost use Rattle.std.specs.List.{list_any};
 ghost use Rattle.bstr.specs.Owned.{bstring_bytes};
-ghost use Rattle.gixp_matching.specs.Found.{text_in, found, found_over, found_among, found_first, found_in_groups, Adds};
+ghost use Rattle.gixp_matching.specs.Found.{text_in, found, found_over, found_among, found_first, found_in_groups, AddsConflicts};
 ghost use Rattle.gixp_matching.specs.Groups.{lent, grouped};
 ghost use Rattle.gixp_matching.specs.Mappings.{source_eq};
 ghost use Rattle.gixp_matching.specs.MatchGroup.{values};
@@ -203,7 +203,7 @@ fn push_first<M: AsMapping>(
     issues: &mut Vec<Issue>,
 ) -> Result<(), AllocError>
     requires { place < length mappings.now }
-    ensures { OnOk result (Adds (found_first (map bstring_bytes texts.now) (lent M.mapped mappings.now) place)
+    ensures { OnOk result (AddsConflicts (found_first (map bstring_bytes texts.now) (lent M.mapped mappings.now) place)
         (conflicts_in issues.old) (conflicts_in issues.new)) }
 {
     if let Some(name) = mappings[place].key().1 {
@@ -222,7 +222,7 @@ fn push_conflicts<M: AsMapping>(
     mappings: &[&M],
     issues: &mut Vec<Issue>,
 ) -> Result<(), AllocError>
-    ensures { OnOk result (Adds (found_among (map bstring_bytes texts.now) (lent M.mapped mappings.now))
+    ensures { OnOk result (AddsConflicts (found_among (map bstring_bytes texts.now) (lent M.mapped mappings.now))
         (conflicts_in issues.old) (conflicts_in issues.new)) }
 {
     'mappings: for place in 0..mappings.len() {
@@ -239,7 +239,7 @@ fn conflicts_of_groups<M: AsMapping>(
     mappings: &[&M],
 ) -> Result<Vec<Issue>, AllocError>
     requires { mappings.now ≡ grouped groups.now }
-    ensures { IfOk result (λ v. Adds (found_in_groups M.mapped (map bstring_bytes texts.now) groups.now) [] (conflicts_in v)) }
+    ensures { IfOk result (λ v. AddsConflicts (found_in_groups M.mapped (map bstring_bytes texts.now) groups.now) [] (conflicts_in v)) }
 {
     let mut issues = Vec::with_capacity(alloc, groups.len())?;
     let mut start = 0;

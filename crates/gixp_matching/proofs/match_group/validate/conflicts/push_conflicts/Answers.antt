@@ -2,7 +2,7 @@
 use Rattle.std.proofs.Common.{◌≤◌, length, map, subst, arith}
 use Rattle.std.proofs.lemmas.List.{take_all, length-map}
 use Rattle.bstr.specs.Owned.{bstring_bytes}
-use Rattle.gixp_matching.specs.Found.{Adds}
+use Rattle.gixp_matching.specs.Found.{AddsConflicts}
 use Rattle.gixp_matching.specs.Groups.{lent}
 use Rattle.gixp_matching.specs.Validate.{conflicts_in}
 use Rattle.gixp_matching.proofs.FoundLemmas.{found_before, before_none, before_more, before_all}
@@ -24,5 +24,5 @@ returns g c =
     let ms = lent g.M.AsMapping.mapped c.args.mappings.now in
     let all : length ms ≤ c.mappings.place = omega (arith, length-map c.args.mappings.now (λ m. g.M.AsMapping.mapped m.now)) in
     before_all texts ms (conflicts_in c.args.issues.now) (conflicts_in c.mappings.issues)
-    (subst (λ l. Adds (found_before texts ms l) (conflicts_in c.args.issues.now) (conflicts_in c.mappings.issues))
+    (subst (λ l. AddsConflicts (found_before texts ms l) (conflicts_in c.args.issues.now) (conflicts_in c.mappings.issues))
     (take_all c.mappings.place ms all) c.mappings.invariant)
