@@ -263,7 +263,8 @@ module _ {M : Type 0} (f : M → Mapped) (texts : List (List ℕ)) (ms : List Ma
 
 -- the conflicts over each name are found
 pub all_found : {M : Type 0} (f : M → Mapped) (texts : List (List ℕ)) (ms : List Mapped) (rows : List (Named M)) (groups : List (Group M))
-    (cs : List Conflict) → ListsNumbered f ms rows → AreGroups rows groups → AddsConflicts (found_in_groups f texts groups) [] cs → (name : List ℕ)
+    (cs : List Conflict) → ListsNumbered f ms rows → AreGroups rows groups → AddsConflicts (found_in_groups f texts groups) [] cs →
+    (name : List ℕ)
     → filter (is_over name) cs ≡ found_among texts ms name
 all_found f texts ms rows groups cs listed are kept name =
     kept name ∙ by_groups f texts ms rows listed name groups (recursion_from_All _ groups are.each) are.once (λ none. (

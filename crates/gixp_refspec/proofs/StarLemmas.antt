@@ -34,7 +34,8 @@ before_end (b ∷ bs) = elim (cases_Bool (is_star b)) [
       let there : position_or_len is_star (b ∷ bs) ≡ suc (position_or_len is_star bs) = rw f (omega arith) in
       let count : stars (b ∷ bs) ≡ 0 + stars bs = rw f at (stars-cons b bs) in
       let same : stars (b ∷ bs) ≡ stars bs = omega arith in
-      ap (λ n. nat_lt n (suc (length bs))) there ∙ lt_suc (position_or_len is_star bs) (length bs) ∙ before_end bs ∙ ap (nat_lt 0) (sym same))
+      ap (λ n. nat_lt n (suc (length bs))) there ∙ lt_suc (position_or_len is_star bs) (length bs) ∙ before_end bs ∙ ap (nat_lt 0)
+      (sym same))
 ]
 
 cond_some : {A : Type 0} (b : Bool) (x y : A) → cond b (Some x) None ≡ Some y → (b ≡ true) × (y ≡ x)

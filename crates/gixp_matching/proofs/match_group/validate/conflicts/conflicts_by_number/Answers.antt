@@ -24,6 +24,7 @@ returns g c =
     (all_found f texts ms c.in_ok-rows.rows.items groups (conflicts_in c.in_ok-issues.issues) c.in_ok-rows.ensures
     (subst (λ rows. AreGroups rows groups) c.deref.ensures.value
     (subst (AreGroups c.deref.result.now) (sym c.deref-4.ensures.value) c.in_ok-groups.ensures))
-    (subst (λ t. AddsConflicts (found_in_groups f (map bstring_bytes t) groups) [] (conflicts_in c.in_ok-issues.issues)) c.deref-3.ensures.value
+    (subst (λ t. AddsConflicts (found_in_groups f (map bstring_bytes t) groups) [] (conflicts_in c.in_ok-issues.issues))
+    c.deref-3.ensures.value
     c.in_ok-issues.ensures))
     c.in_ok-sort_by_name.ensures.permutation c.in_ok-sort_by_name.ensures.order

@@ -8,5 +8,6 @@ use Rattle.gixp_matching.proofs.match_group.validate.conflicts.conflicts_of_grou
 
 abbrev pub invariant-groups : goal.invariant-groups
 invariant-groups g l =
-    AddsConflicts (found_in_groups g.M.AsMapping.mapped (map bstring_bytes l.texts) (take l.group-index l.groups)) [] (conflicts_in l.issues)
+    AddsConflicts (found_in_groups g.M.AsMapping.mapped (map bstring_bytes l.texts) (take l.group-index l.groups)) []
+    (conflicts_in l.issues)
     × (l.start ≡ length (grouped (take l.group-index l.groups)))

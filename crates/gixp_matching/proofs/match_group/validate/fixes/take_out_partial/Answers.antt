@@ -11,7 +11,8 @@ pub returns-then-not-has_partial-clause-noted : goal.returns-then-not-has_partia
 returns-then-not-has_partial-clause-noted g c =
     ap (map removed_of) c.new.ensures.items
     ∙ no_fixes (values c.args.specs.now) g.M.AsMapping.mapped c.args.mappings.now.items c.has_partial.result
-    (c.has_partial.ensures ∙ ap (list_any (λ mapping. is_partial (g.M.AsMapping.mapped mapping))) c.deref.ensures.value) c.if-not-has_partial.true
+    (c.has_partial.ensures ∙ ap (list_any (λ mapping. is_partial (g.M.AsMapping.mapped mapping))) c.deref.ensures.value)
+    c.if-not-has_partial.true
 
 pub returns-then-not-has_partial-clause-kept : goal.returns-then-not-has_partial-clause-kept
 returns-then-not-has_partial-clause-kept g c =

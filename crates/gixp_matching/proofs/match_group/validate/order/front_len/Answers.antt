@@ -29,6 +29,7 @@ returns c =
     let name = c.name_of-name.result.now in
     let all : length issues ≤ c.issues.issue-index = omega arith in (
       take c.issues.front name,
-      subst (All (λ issue. take c.issues.front (destination_of issue) ≡ take c.issues.front name)) (take_all c.issues.issue-index issues all)
+      subst (All (λ issue. take c.issues.front (destination_of issue) ≡ take c.issues.front name))
+          (take_all c.issues.issue-index issues all)
           c.issues.invariant,
     )
