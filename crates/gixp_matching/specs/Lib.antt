@@ -15,3 +15,4 @@ pub mod Leaving
 pub mod RefspecLaws
 pub mod Digest
 pub mod Places
+pub mod Single
