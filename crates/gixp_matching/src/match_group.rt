@@ -29,11 +29,13 @@ use crate::match_group::local::{local_of_id, local_of_name};
 use crate::match_group::made::repeated_mappings;
 use crate::match_group::negatives::prepare;
 use crate::match_group::pairs::{Matching, push_ids};
+use crate::match_group::single::only_positive;
 use crate::match_group::validate::Fix;
 use bstr::{BStr, BString};
 pub use distinct::firsts;
 use gixp_hash::ObjectId;
 use gixp_refspec::name::is_partial_name;
+use gixp_refspec::needle::Needle;
 use gixp_refspec::spec::{RefSpecRef, id_in};
 pub use key::AsMapping;
 pub use single::Single;
@@ -188,7 +190,21 @@ impl<'s> MatchGroup<'s> {
     pub fn single(&self, alloc: Global) -> Result<Option<Single<'s>>, AllocError>
         ensures { IfOk result (λ found. IfSome found (IsSingle (group_specs self.now))) }
     {
-        Err(AllocError)
+        let Some(spec_index) = only_positive(self.specs) else {
+            return Ok(None);
+        };
+        let spec = &self.specs[spec_index];
+        let needle = Needle::new(spec.source);
+        if let Needle::Pattern { .. } = needle {
+            let prepared = prepare(alloc, self.specs)?;
+            return Ok(Some(Single {
+                spec_index,
+                spec,
+                needle,
+                prepared,
+            }));
+        }
+        Ok(None)
     }
 
     /// The local name that the refspec at a place gives the ref of this whole name.
