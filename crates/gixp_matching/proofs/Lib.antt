@@ -27,3 +27,4 @@ pub mod KeptLemmas
 pub mod BackedLemmas
 pub mod OriginLemmas
 pub mod FollowLemmas
+pub mod SingleLemmas

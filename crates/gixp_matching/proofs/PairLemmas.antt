@@ -1,4 +1,4 @@
--- The place of one refspec and one ref, case by case.
+-- The mapping of one refspec and one ref, and its place, case by case.
 use Rattle.std.proofs.Common.{◌≡◌, ℕ, Bool, true, false, cond, List, [], ◌∷◌, Option, Some, None, map, ap, sym, ◌∙◌, refl}
 use Rattle.std.specs.Prelude.{◌||◌, ◌&&◌, is_some, option_to_list, option_map}
 use Rattle.std.specs.Option.{option_copied}
@@ -22,28 +22,56 @@ none_made : (s : ℕ × Spec) (name : List ℕ) (i : ℕ) (b : Bool) → made s 
 none_made s name i true = refl
 none_made s name i false = refl
 
+-- no mapping without a middle
+pub unmapped_none : (specs : List Spec) (s : ℕ × Spec) (ref : ℕ × List ℕ) → middle_of s.1.source ref.1 ≡ None → [] ≡ pair specs s ref
+unfolding pair
+unmapped_none specs s ref none =
+    sym (ap (made s ref.1 ref.0 (is_negative s.1.sign || is_excluded specs ref.1)) none
+    ∙ none_made s ref.1 ref.0 (is_negative s.1.sign || is_excluded specs ref.1))
+
+-- no mapping of a negative refspec
+pub unmapped_negative : (specs : List Spec) (s : ℕ × Spec) (ref : ℕ × List ℕ) → is_negative s.1.sign ≡ true → [] ≡ pair specs s ref
+unfolding pair
+unmapped_negative specs s ref negative =
+    sym (ap (λ b. made s ref.1 ref.0 (b || is_excluded specs ref.1) (middle_of s.1.source ref.1)) negative)
+
+-- no mapping of a name that a negative refspec matches
+pub unmapped_excluded : (specs : List Spec) (s : ℕ × Spec) (ref : ℕ × List ℕ) → is_excluded specs ref.1 ≡ true → [] ≡ pair specs s ref
+unfolding pair
+unmapped_excluded specs s ref out =
+    sym (ap (λ b. made s ref.1 ref.0 b (middle_of s.1.source ref.1))
+    (ap (λ b. is_negative s.1.sign || b) out ∙ or_true (is_negative s.1.sign)))
+  where
+    or_true : (b : Bool) → (b || true) ≡ true
+    or_true true = refl
+    or_true false = refl
+
+-- the mapping where a positive refspec matches, and no negative one
+pub mapped_some : (specs : List Spec) (s : ℕ × Spec) (ref : ℕ × List ℕ) (m : List ℕ) → middle_of s.1.source ref.1 ≡ Some m
+    → is_negative s.1.sign ≡ false → is_excluded specs ref.1 ≡ false
+    → mapped (Some ref.0) (FullName ref.1) (local_of s.1 m) s.0 ∷ [] ≡ pair specs s ref
+unfolding pair
+mapped_some specs s ref m some positive kept =
+    sym (ap (made s ref.1 ref.0 (is_negative s.1.sign || is_excluded specs ref.1)) some
+    ∙ ap (λ b. made s ref.1 ref.0 (b || is_excluded specs ref.1) (Some m)) positive ∙ ap (λ b. made s ref.1 ref.0 b (Some m)) kept)
+
 -- no place where the source doesn't match
 pub pair_unmatched : (specs : List Spec) (s : ℕ × Spec) (name : List ℕ) (i : ℕ) (needle : Needle) (r : Option (Bor (List ℕ)))
     → IsNeedle s.1.source needle
     → option_copied r ≡ middle_with needle name → is_some r ≡ false → [] ≡ pair_places specs s (i, name)
-unfolding pair
 pair_unmatched specs s name i needle (Some m) made_of was is = absurd (false≢true (sym is))
 pair_unmatched specs s name i needle None made_of was is =
-    let none = found_is s.1.source name needle None None made_of was refl in
-    ap (map place_of) (sym (ap (made s name i (is_negative s.1.sign || is_excluded specs name)) none
-    ∙ none_made s name i (is_negative s.1.sign || is_excluded specs name)))
+    ap (map place_of) (unmapped_none specs s (i, name) (found_is s.1.source name needle None None made_of was refl))
 
 -- the place where it does, and no negative refspec matches the ref
 pub pair_matched : (specs : List Spec) (s : ℕ × Spec) (name : List ℕ) (i : ℕ) (needle : Needle) (r : Option (Bor (List ℕ)))
     → IsNeedle s.1.source needle
     → option_copied r ≡ middle_with needle name → is_some r ≡ true → is_negative s.1.sign ≡ false → is_excluded specs name ≡ false
     → (Some i, s.0) ∷ [] ≡ pair_places specs s (i, name)
-unfolding pair
 pair_matched specs s name i needle None made_of was is positive kept = absurd (false≢true is)
 pair_matched specs s name i needle (Some m) made_of was is positive kept =
     let some = found_is s.1.source name needle (Some m.now) (Some m.now) made_of was refl in
-    ap (map place_of) (sym (ap (made s name i (is_negative s.1.sign || is_excluded specs name)) some
-    ∙ ap (λ b. made s name i (b || is_excluded specs name) (Some m.now)) positive ∙ ap (λ b. made s name i b (Some m.now)) kept))
+    ap (map place_of) (mapped_some specs s (i, name) m.now some positive kept)
 
 -- a reference is there where its value is
 copied_some : (r : Option (Bor (List ℕ))) → is_some r ≡ is_some (option_copied r)
@@ -61,24 +89,12 @@ excludes_is sign source name destination needle r b made_of was is negative =
 -- no place without a middle
 pub pair_none : (specs : List Spec) (s : ℕ × Spec) (ref : ℕ × List ℕ) → middle_of s.1.source ref.1 ≡ None
     → [] ≡ pair_places specs s ref
-unfolding pair
-pair_none specs s ref none =
-    ap (map place_of) (sym (ap (made s ref.1 ref.0 (is_negative s.1.sign || is_excluded specs ref.1)) none
-    ∙ none_made s ref.1 ref.0 (is_negative s.1.sign || is_excluded specs ref.1)))
+pair_none specs s ref none = ap (map place_of) (unmapped_none specs s ref none)
 
 -- no place of a negative refspec
 pub pair_negative : (specs : List Spec) (s : ℕ × Spec) (ref : ℕ × List ℕ) → is_negative s.1.sign ≡ true → [] ≡ pair_places specs s ref
-unfolding pair
-pair_negative specs s ref negative =
-    ap (map place_of) (sym (ap (λ b. made s ref.1 ref.0 (b || is_excluded specs ref.1) (middle_of s.1.source ref.1)) negative))
+pair_negative specs s ref negative = ap (map place_of) (unmapped_negative specs s ref negative)
 
 -- no place of a name that a negative refspec matches
 pub pair_excluded : (specs : List Spec) (s : ℕ × Spec) (ref : ℕ × List ℕ) → is_excluded specs ref.1 ≡ true → [] ≡ pair_places specs s ref
-unfolding pair
-pair_excluded specs s ref out =
-    ap (map place_of) (sym (ap (λ b. made s ref.1 ref.0 b (middle_of s.1.source ref.1))
-    (ap (λ b. is_negative s.1.sign || b) out ∙ or_true (is_negative s.1.sign))))
-  where
-    or_true : (b : Bool) → (b || true) ≡ true
-    or_true true = refl
-    or_true false = refl
+pair_excluded specs s ref out = ap (map place_of) (unmapped_excluded specs s ref out)

@@ -15,3 +15,5 @@ pub mod Leaving
 pub mod RefspecLaws
 pub mod Digest
 pub mod Places
+pub mod Only
+pub mod Single

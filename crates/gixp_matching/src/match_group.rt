@@ -1,5 +1,5 @@
 //! What a list of refspecs maps of a list of refs.
-ghost use Rattle.std.specs.Prelude.{ℕ, ◌≡◌, List, IfOk, map};
+ghost use Rattle.std.specs.Prelude.{ℕ, ◌≡◌, List, IfOk, IfSome, map};
 ghost use Rattle.std.specs.Option.{option_copied, option_map};
 ghost use Rattle.std.specs.List.{AllByRecursion, slice_get};
 ghost use Rattle.bstr.specs.Owned.{bstring_bytes};
@@ -8,6 +8,7 @@ ghost use Rattle.gixp_refspec.specs.RefSpec.{value_of};
 ghost use Rattle.gixp_matching.specs.Leaving.{AnswersAll};
 ghost use Rattle.gixp_matching.specs.MatchGroup.{source_of, mapped_of, mapped_in, values, names, group_specs, outcome_specs};
 ghost use Rattle.gixp_matching.specs.Places.{repeated, place_of, place_value, local_for, id_for, FollowsFromPlace};
+ghost use Rattle.gixp_matching.specs.Single.{IsSingle};
 ghost use Rattle.gixp_matching.specs.Validation.{has_safe_local};
 
 mod digest;
@@ -19,6 +20,7 @@ mod negatives;
 mod pairs;
 mod repeats;
 mod rows;
+pub mod single;
 mod sorted;
 mod sought;
 pub mod validate;
@@ -27,13 +29,16 @@ use crate::match_group::local::{local_of_id, local_of_name};
 use crate::match_group::made::repeated_mappings;
 use crate::match_group::negatives::prepare;
 use crate::match_group::pairs::{Matching, push_ids};
+use crate::match_group::single::only_positive;
 use crate::match_group::validate::Fix;
 use bstr::{BStr, BString};
 pub use distinct::firsts;
 use gixp_hash::ObjectId;
 use gixp_refspec::name::is_partial_name;
+use gixp_refspec::needle::Needle;
 use gixp_refspec::spec::{RefSpecRef, id_in};
 pub use key::AsMapping;
+pub use single::Single;
 use std::alloc::{AllocError, Global};
 
 /// A ref of the remote. Matching reads its name alone.
@@ -175,6 +180,31 @@ impl<'s> MatchGroup<'s> {
         };
         matching.push_pairs(&mut found)?;
         Ok(found)
+    }
+
+    /// The one refspec that makes all mappings, where there is one that is a pattern, so that each ref is mapped once at most.
+    ///
+    /// # Errors
+    ///
+    /// Only when an allocation fails.
+    pub fn single(&self, alloc: Global) -> Result<Option<Single<'s>>, AllocError>
+        ensures { IfOk result (λ found. IfSome found (IsSingle (group_specs self.now))) }
+    {
+        let Some(spec_index) = only_positive(self.specs) else {
+            return Ok(None);
+        };
+        let spec = &self.specs[spec_index];
+        let needle = Needle::new(spec.source);
+        if let Needle::Pattern { .. } = needle {
+            let prepared = prepare(alloc, self.specs)?;
+            return Ok(Some(Single {
+                spec_index,
+                spec,
+                needle,
+                prepared,
+            }));
+        }
+        Ok(None)
     }
 
     /// The local name that the refspec at a place gives the ref of this whole name.

@@ -44,7 +44,7 @@ fn local_in(alloc: Global, middle: &[u8], destination: &[u8]) -> Result<BString,
 
 /// The local name, where there is a destination.
 #[inline(always)]
-fn local_of(
+pub(crate) fn local_of(
     alloc: Global,
     middle: &[u8],
     destination: Option<&[u8]>,

@@ -1,0 +1,15 @@
+-- The only positive refspec of a list.
+use Rattle.std.specs.Prelude.{ℕ, ◌≡◌, ◌+◌, ◌<◌, Bool, false, not, List, length, drop, Some}
+use Rattle.std.specs.List.{list_any, position}
+use Rattle.gixp_refspec.specs.declared.spec.RefSpecRef.{RefSpecRef}
+use Rattle.gixp_refspec.specs.Spec.{is_negative}
+
+-- it isn't negative
+abbrev pub is_positive : RefSpecRef → Bool
+is_positive s = not (is_negative s.sign)
+
+-- the refspec at this place is positive, and no other
+pub record IsOnlyPositive (specs : List RefSpecRef) (i : ℕ) : Type 0 where
+  pub within : i < length specs
+  pub first : position is_positive specs ≡ Some i
+  pub last : list_any is_positive (drop (i + 1) specs) ≡ false

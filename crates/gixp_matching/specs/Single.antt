@@ -1,0 +1,31 @@
+-- The one refspec of a group that maps refs.
+use Rattle.std.specs.Prelude.{ℕ, ◌≡◌, List, [], ◌∷◌, Option, Some, None}
+use Rattle.std.specs.List.{flat_map, enumerate_from}
+use Rattle.gixp_refspec.specs.Needle.{IsNeedle}
+use Rattle.gixp_refspec.specs.RefSpec.{value_of}
+use Rattle.gixp_refspec.specs.Spec.{Spec}
+use Rattle.gixp_matching.specs.declared.match_group.single.Single.{Single}
+use Rattle.gixp_matching.specs.Mappings.{FullName, Mapped, mapped, pair}
+use Rattle.gixp_matching.specs.MatchGroup.{values}
+use Rattle.gixp_matching.specs.Places.{repeated}
+use Rattle.gixp_matching.specs.Rows.{IsPrepared}
+
+-- the place of the refspec in its group
+abbrev pub single_index : Single → ℕ
+single_index single = single.spec_index
+
+-- the mapping of the ref at a place, where there is one
+abbrev pub single_pair : List Spec → Single → ℕ × List ℕ → List Mapped
+single_pair specs single ref = pair specs (single.spec_index, value_of single.spec.now) ref
+
+-- the mapping of the ref at a place, by the local name of a ref that is mapped
+abbrev pub mapped_by : ℕ → ℕ → List ℕ → Option (Option (List ℕ)) → List Mapped
+mapped_by spec_index i name None = []
+mapped_by spec_index i name (Some local) = mapped (Some i) (FullName name) local spec_index ∷ []
+
+-- all mappings of these refspecs are made by the one that was looked at
+pub record IsSingle (specs : List Spec) (single : Single) : Type 0 where
+  pub needle : IsNeedle single.spec.now.source.now single.needle
+  pub same : values single.prepared.specs.now ≡ specs
+  pub prepared : IsPrepared single.prepared
+  pub all : (names : List (List ℕ)) → repeated specs names ≡ flat_map (single_pair specs single) (enumerate_from 0 names)
