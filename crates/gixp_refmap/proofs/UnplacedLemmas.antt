@@ -66,7 +66,7 @@ places_are_there specs refs ps ms e h =
     subst P l (all_there specs names ps ms e h)
 
 -- the name of a ref
-name_of_value : (r : Ref) → unpacked_name r ≡ value_name (ref_value r)
+pub name_of_value : (r : Ref) → unpacked_name r ≡ value_name (ref_value r)
 name_of_value (Peeled name tag object) = refl
 name_of_value (Direct name object) = refl
 name_of_value (Symbolic name target None object) = refl
@@ -108,7 +108,7 @@ unplaced_of specs refs p m x item spec f h =
     }
 
 -- the same of lists
-unplaced_of_places : (specs : List Spec) (refs : List RefValue) (ps : List Place) (ms : List Mapped) (xs : List Mapping)
+pub unplaced_of_places : (specs : List Spec) (refs : List RefValue) (ps : List Place) (ms : List Mapped) (xs : List Mapping)
     → map place_value ps ≡ map place_of ms → AllByRecursion (FollowsFromPlace specs (value_names refs)) ms
     → AllZip (IsMade refs specs) ps xs → AllZip (IsUnplaced refs) ms xs
 unplaced_of_places specs refs [] [] xs e f h = h
@@ -256,7 +256,18 @@ maps_of_conflicts specs count refs xs ys error e v h =
     let same : conflicts specs (map matched ys) ≡ conflicts specs found = ap (conflicts specs) bare ∙ conflicts_of_bare specs found in
     (λ none. v.0 (same ∙ none), v.1 ∙ same)
 
--- what is told of what was made of all places is told of the refs
+-- what is told of all mappings is told of the refs
+pub maps_of_unplaced : (specs known told : List Spec) (count : ℕ) (refs : List RefValue) (xs : List Mapping)
+    (r : Result (Vec Mapping Global × Vec Fix Global) Error) → known ≡ specs → told ≡ specs
+    → AllZip (IsUnplaced refs) (repeated known (value_names refs)) xs
+    → ((rs : List RefValue) → AllZip (IsUnplaced rs) (repeated told (value_names rs)) xs → Maps told count rs r)
+    → Maps specs count refs r
+maps_of_unplaced specs known told count refs xs r e d made answers =
+    let P : List Spec → Type 0 = λ s. AllZip (IsUnplaced refs) (repeated s (value_names refs)) xs in
+    let Q : List Spec → Type 0 = λ s. Maps s count refs r in
+    subst Q d (answers refs (subst P (e ∙ sym d) made))
+
+-- the same of what was made of all places
 pub maps_of_places : (specs known told : List Spec) (count : ℕ) (refs : List RefValue) (ps : List Place) (xs : List Mapping)
     (r : Result (Vec Mapping Global × Vec Fix Global) Error) → known ≡ specs → told ≡ specs
     → map place_value ps ≡ map place_of (repeated known (value_names refs))
@@ -265,8 +276,5 @@ pub maps_of_places : (specs known told : List Spec) (count : ℕ) (refs : List R
     → ((rs : List RefValue) → AllZip (IsUnplaced rs) (repeated told (value_names rs)) xs → Maps told count rs r)
     → Maps specs count refs r
 maps_of_places specs known told count refs ps xs r e d places follows made answers =
-    let names = value_names refs in
-    let P : List Spec → Type 0 = λ s. AllZip (IsUnplaced refs) (repeated s names) xs in
-    let Q : List Spec → Type 0 = λ s. Maps s count refs r in
-    let same : known ≡ told = e ∙ sym d in
-    subst Q d (answers refs (subst P same (unplaced_of_places known refs ps (repeated known names) xs places follows made)))
+    maps_of_unplaced specs known told count refs xs r e d
+    (unplaced_of_places known refs ps (repeated known (value_names refs)) xs places follows made) answers

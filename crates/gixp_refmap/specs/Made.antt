@@ -1,7 +1,7 @@
 -- Mappings while they are made: each has its refspec's place among both lists as if all were explicit.
-use Rattle.std.specs.Prelude.{ℕ, ◌≡◌, ◌<◌, ⊤, List, [], ◌∷◌, take, Option, Some, None, IsSome}
+use Rattle.std.specs.Prelude.{ℕ, ◌≡◌, ◌<◌, ⊤, List, [], ◌∷◌, take, Option, Some, None, IsSome, option_to_list}
 use Rattle.std.specs.Option.{option_map}
-use Rattle.std.specs.List.{slice_get}
+use Rattle.std.specs.List.{slice_get, AllZip}
 use Rattle.bstr.specs.Owned.{bstring_bytes}
 use Rattle.gixp_refs.specs.declared.handshake.Ref.{Ref}
 use Rattle.gixp_refs.specs.Ref.{RefValue, ref_value, unpacked_name}
@@ -9,6 +9,8 @@ use Rattle.gixp_refspec.specs.Spec.{Spec}
 use Rattle.gixp_matching.specs.declared.match_group.Place.{Place}
 use Rattle.gixp_matching.specs.Mappings.{Source as SourceValue, FullName, ObjectId as IdOf, Mapped, mapped}
 use Rattle.gixp_matching.specs.Places.{local_for, id_for}
+use Rattle.gixp_matching.specs.declared.match_group.single.Single.{Single}
+use Rattle.gixp_matching.specs.Single.{IsSingle, single_pair}
 use Rattle.gixp_refmap.specs.declared.refmap.mapping.Source.{Source}
 use Rattle.gixp_refmap.specs.declared.refmap.mapping.Source.TheVariants.{ObjectId as the_id, Ref as the_ref}
 use Rattle.gixp_refmap.specs.declared.refmap.mapping.SpecIndex.{SpecIndex}
@@ -60,6 +62,11 @@ pub record IsUnplaced (refs : List RefValue) (m : Mapped) (x : Mapping) : Type 0
   pub source : taken_from x.remote ≡ m.source
   pub local : option_map bstring_bytes x.local ≡ m.local
   pub place : x.spec_index ≡ ExplicitInRemote m.spec
+
+-- what the one refspec that makes all mappings makes of a ref
+abbrev pub IsOfSingle : Single → Ref → Option Mapping → Type 0
+IsOfSingle single r one = (specs : List Spec) → IsSingle specs single → (refs : List RefValue) (i : ℕ)
+    → slice_get refs i ≡ Some (ref_value r) → AllZip (IsUnplaced refs) (single_pair specs single (i, unpacked_name r)) (option_to_list one)
 
 -- the refs of the places, from the last place on, are among as many, and each stands before the one that was taken before
 abbrev pub Falls : ℕ → List (Option ℕ) → Type 0

@@ -120,8 +120,8 @@ fn moved_one(
     }
 }
 
-// How many places are taken off between two times that memory is given back.
-const FREED_AT_ONCE: usize = 65_536;
+// How many places or refs are taken off between two times that memory is given back.
+pub(crate) const FREED_AT_ONCE: usize = 65_536;
 
 // Gives back the memory of places and refs that were taken.
 fn give_back(places: &mut Vec<Place>, refs: &mut Vec<Ref>)

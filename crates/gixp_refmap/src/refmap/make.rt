@@ -13,6 +13,7 @@ use crate::refmap::as_mapping::number;
 use crate::refmap::init::Error;
 use crate::refmap::made::{copied, moved_or_copied};
 use crate::refmap::mapping::{Mapping, SpecIndex};
+use crate::refmap::straight::straight;
 use gixp_hash::ObjectId;
 use gixp_matching::laws;
 use gixp_matching::match_group::validate::{Fix, validated};
@@ -150,6 +151,34 @@ pub(crate) fn find_mappings(
     finished(alloc, &specs, explicit.len(), made)
 }
 
+// The mappings of the refs themselves, by the places of all mappings.
+fn made_of_places(
+    alloc: Global,
+    group: &MatchGroup<'_>,
+    refs: Vec<Ref>,
+) -> Result<Vec<Mapping>, AllocError>
+    ensures { IfOk result (λ made. AllZip (IsUnplaced (map ref_value refs.items))
+        (repeated (group_specs group.now) (value_names (map ref_value refs.items))) made.items) }
+{
+    let places = places_of(alloc, group, &refs)?;
+    moved_or_copied(alloc, group, places, refs)
+}
+
+// The same, with no places where one refspec makes all mappings.
+fn made_of_refs(
+    alloc: Global,
+    group: &MatchGroup<'_>,
+    refs: Vec<Ref>,
+) -> Result<Vec<Mapping>, AllocError>
+    ensures { IfOk result (λ made. AllZip (IsUnplaced (map ref_value refs.items))
+        (repeated (group_specs group.now) (value_names (map ref_value refs.items))) made.items) }
+{
+    match group.single(alloc)? {
+        Some(single) => straight(alloc, &single, refs),
+        None => made_of_places(alloc, group, refs),
+    }
+}
+
 // The same of the refs themselves: those that are mapped move into the mappings.
 pub(crate) fn move_mappings(
     alloc: Global,
@@ -166,7 +195,6 @@ pub(crate) fn move_mappings(
     laws::mappings_have_origins();
     let specs = all_specs(alloc, explicit, extra)?;
     let group = MatchGroup::from_fetch_specs(&specs);
-    let places = places_of(alloc, &group, &refs)?;
-    let made = moved_or_copied(alloc, &group, places, refs)?;
+    let made = made_of_refs(alloc, &group, refs)?;
     finished(alloc, &specs, explicit.len(), made)
 }
