@@ -1,11 +1,12 @@
 -- Steps of loops that append what a function makes of each element.
-use Rattle.std.proofs.Common.{◌≡◌, cond, ℕ, ◌+◌, ◌<◌, List, [], ◌∷◌, ◌++◌, length, take, map, get_or, Bool, inl, inr, Some, ap, sym, ◌∙◌, refl, append_assoc}
+use Rattle.std.proofs.Common.{◌≡◌, cond, ℕ, ◌+◌, ◌<◌, List, [], ◌∷◌, ◌++◌, length, take, map, get_or, Bool, true, false, inl, inr, Some, ap, sym, ◌∙◌, refl, append_assoc}
 use Rattle.std.specs.Prelude.{◌||◌, filter}
 use Rattle.std.specs.List.{list_any, fold, flat_map, slice_get}
 use Rattle.std.proofs.lemmas.List.Sums.{fold_more}
 use Rattle.std.proofs.lemmas.Bool.{cases_Bool}
 use Rattle.std.proofs.lemmas.List.{take_more, get_or-map, length-map, map-append, append-nil}
 use Rattle.std.proofs.lemmas.List.Elements.{filter-append}
+use Rattle.std.proofs.lemmas.List.Folds.{list_any-append}
 use Rattle.gixp_packetline.proofs.ListLemmas.{take-map_more}
 
 -- a step of a loop that appends what it makes of each element that passes
@@ -137,3 +138,16 @@ pub numbered_more : {A B : Type 0} (f : A → B) (now new : List B) (xs : List A
     → new ≡ take (i + 1) (map f xs)
 numbered_more f now new xs i d made l kept is step =
     step ∙ ap (λ y. now ++ y ∷ []) is ∙ ap (λ z. z ++ f (get_or xs i d) ∷ []) kept ∙ sym (take-map_more f xs i d l)
+
+-- neither of two
+neither : (a b : Bool) → a ≡ false → b ≡ false → (a || (b || false)) ≡ false
+neither false false e f = refl
+neither true b e f = cc
+neither false true e f = cc
+
+-- a step of a loop that finds none, where the element was read as x
+pub none_more : {A B : Type 0} (h : A → B) (p : B → Bool) (xs : List A) (i : ℕ) (x : A) → x ≡ get_or xs i x → i < length xs
+    → list_any p (take i (map h xs)) ≡ false → p (h x) ≡ false → list_any p (take (i + 1) (map h xs)) ≡ false
+none_more h p xs i x e l none one =
+    ap (list_any p) (take-map_more h xs i x l) ∙ list_any-append p (take i (map h xs)) (h (get_or xs i x) ∷ [])
+    ∙ neither (list_any p (take i (map h xs))) (p (h (get_or xs i x))) none (ap (λ y. p (h y)) (sym e) ∙ one)

@@ -18,6 +18,7 @@ mod local;
 mod made;
 mod negatives;
 mod pairs;
+mod plain;
 mod repeats;
 mod rows;
 pub mod single;
@@ -38,6 +39,7 @@ use gixp_refspec::name::is_partial_name;
 use gixp_refspec::needle::Needle;
 use gixp_refspec::spec::{RefSpecRef, id_in};
 pub use key::AsMapping;
+pub use plain::checked;
 pub use single::Single;
 use std::alloc::{AllocError, Global};
 

@@ -3,7 +3,7 @@ ghost use Rattle.std.specs.Prelude.{◌≡◌, IfOk};
 ghost use Rattle.gixp_matching.specs.MatchGroup.{values};
 ghost use Rattle.gixp_matching.specs.Validate.{removed_of, ValidatesAs};
 
-mod apart;
+pub(crate) mod apart;
 pub(crate) mod conflicts;
 pub(crate) mod fixes;
 mod groups;

@@ -13,7 +13,7 @@ use crate::match_group::sorted::{are_distinct, rises};
 use std::alloc::{AllocError, Global};
 
 /// Takes the local name of a mapping, where it has one, as the last one, and tells whether it is above the one before.
-fn local_rises<'a, M: AsMapping>(last: &mut Option<KeyBytes<'a>>, mapping: &'a M) -> bool
+pub(crate) fn local_rises<'a, M: AsMapping>(last: &mut Option<KeyBytes<'a>>, mapping: &'a M) -> bool
     ensures { IsTrue result → (keys : List KeyBytes) → RisesTo by_bytes keys last.old → (more : List KeyBytes)
         × (map key_bytes more ≡ option_to_list (M.mapped mapping.now).local) × RisesTo by_bytes (keys ++ more) last.new }
 {

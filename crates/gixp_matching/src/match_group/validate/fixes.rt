@@ -29,7 +29,7 @@ pub(crate) fn spec_text<M: AsMapping>(
 }
 
 /// Whether the mapping has a local name that is no whole name of a ref.
-fn is_partial<M: AsMapping>(mapping: &M) -> bool
+pub(crate) fn is_partial<M: AsMapping>(mapping: &M) -> bool
     ensures { result ≡ is_partial (M.mapped mapping.now) }
 {
     match mapping.key().1 {
