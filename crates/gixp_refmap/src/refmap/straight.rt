@@ -17,6 +17,7 @@ use std::alloc::{AllocError, Global};
 // The mapping of a ref, where the refspec maps it.
 #[inline(always)]
 fn of_ref(alloc: Global, single: &Single<'_>, found: Ref) -> Result<Option<Mapping>, AllocError>
+    requires { (specs : List Spec) × IsSingle specs single.now }
     ensures { IfOk result (IsOfSingle single.now found) }
 {
     match single.local_name(alloc, found.name().as_bytes())? {
