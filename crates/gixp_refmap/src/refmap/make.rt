@@ -16,8 +16,8 @@ use crate::refmap::mapping::{Mapping, SpecIndex};
 use crate::refmap::straight::straight;
 use gixp_hash::ObjectId;
 use gixp_matching::laws;
-use gixp_matching::match_group::validate::{Fix, validated};
-use gixp_matching::match_group::{Item, MatchGroup, Place, firsts};
+use gixp_matching::match_group::validate::Fix;
+use gixp_matching::match_group::{Item, MatchGroup, Place, checked};
 use gixp_refs::handshake::Ref;
 use gixp_refspec::{RefSpec, RefSpecRef};
 use std::alloc::{AllocError, Global};
@@ -120,8 +120,7 @@ fn finished(
         → Maps (values specs.now) explicit refs result }
 {
     laws::mappings_have_origins();
-    let made = firsts(alloc, made)?;
-    let (mut mappings, fixes) = validated(alloc, specs, made)??;
+    let (mut mappings, fixes) = checked(alloc, specs, made)??;
     if specs.len() <= explicit {
         return Ok((mappings, fixes));
     }
