@@ -82,6 +82,7 @@ pub use Rattle.gixp_refspec.specs.Needle
 pub use Rattle.gixp_matching.specs.Rows
 pub use Rattle.gixp_matching.specs.Mappings
 pub use Rattle.gixp_matching.specs.Places
+pub use Rattle.gixp_matching.specs.Single
 pub use Rattle.gixp_matching.specs.Firsts
 pub use Rattle.gixp_matching.specs.MatchGroup
 pub use Rattle.gixp_matching.specs.Validation
@@ -230,6 +231,7 @@ pub use Rattle.gixp_refspec.specs.declared.spec.RefSpecRef as RefSpecRefType
 pub use Rattle.gixp_refspec.specs.declared.spec.RefSpec as RefSpecType
 pub use Rattle.gixp_matching.specs.declared.match_group.Item as ItemType
 pub use Rattle.gixp_matching.specs.declared.match_group.Place as PlaceType
+pub use Rattle.gixp_matching.specs.declared.match_group.single.Single as SingleType
 pub use Rattle.gixp_matching.specs.declared.match_group.SourceRef as SourceRefType
 pub use Rattle.gixp_matching.specs.declared.match_group.Mapping as GroupMappingType
 pub use Rattle.gixp_matching.specs.declared.match_group.Outcome as GroupOutcomeType
