@@ -40,7 +40,7 @@ conflict_over_bare specs name ms =
     ∙ ap (λ t. conflict_made (differ ms) name (map (spec_text specs) ms) t) (bare_map (λ m. m.source) (λ m. refl) ms)
 
 -- all conflicts, without the places
-conflicts_of_bare : (specs : List Spec) (ms : List Mapped) → conflicts specs (map without_item ms) ≡ conflicts specs ms
+pub conflicts_of_bare : (specs : List Spec) (ms : List Mapped) → conflicts specs (map without_item ms) ≡ conflicts specs ms
 unfolding conflicts
 conflicts_of_bare specs ms =
     ap (flat_map (λ name. conflict_over specs name (of_local name (map without_item ms)))) (names_of_bare ms)
@@ -48,7 +48,7 @@ conflicts_of_bare specs ms =
     ∙ conflict_over_bare specs name (of_local name ms)) (local_names ms)
 
 -- the fixes, without the places
-fixes_of_bare : (specs : List Spec) (ms : List Mapped) → fixes specs (map without_item ms) ≡ fixes specs ms
+pub fixes_of_bare : (specs : List Spec) (ms : List Mapped) → fixes specs (map without_item ms) ≡ fixes specs ms
 unfolding fixes
 fixes_of_bare specs ms =
     ap (map (removed_at specs)) (filter_of_map is_partial without_item ms)

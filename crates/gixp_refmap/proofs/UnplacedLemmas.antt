@@ -31,7 +31,8 @@ use Rattle.gixp_refmap.specs.Mapping.{value_name, value_names, found_in, spec_pl
 use Rattle.gixp_refmap.specs.Made.{taken_from, place_number, matched, in_its_list, IsItemThere, IsThere, IsTakenByPlace, IsMade, IsUnplaced}
 use Rattle.gixp_refmap.proofs.AllLemmas.{kept_are_good}
 use Rattle.gixp_refmap.proofs.FoundLemmas.{Good}
-use Rattle.gixp_refmap.proofs.BareLemmas.{flags_of_bare, firsts_by_flags, conflicts_of_bare, fixes_of_bare}
+use Rattle.gixp_matching.proofs.SameValidationLemmas.{conflicts_of_bare, fixes_of_bare}
+use Rattle.gixp_refmap.proofs.BareLemmas.{flags_of_bare, firsts_by_flags}
 
 -- where the source is told by its place, the place is there
 item_is_there : (specs : List Spec) (names : List (List ℕ)) (item : Option ℕ) (s : ℕ) (source : SourceValue)
