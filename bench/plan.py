@@ -6,14 +6,14 @@ Usage: plan.py PROGRAM [REFS] [RUNS]
 PROGRAM is the built gixp_plan (`rt run` in crates/gixp_plan leaves it in out/). The session is one of version 2: an
 `ls-refs` answer of REFS refs to the commits and the tag of a small repository, and a pack of all of it. git reads the
 same bodies from a script given as its --upload-pack, into an empty repository, with the same refspec
-`+refs/*:refs/mirror/*`. Each is run RUNS times in turn, and the best time of each counts. GNU time
-measures the memory.
+`+refs/*:refs/mirror/*`. Each is run RUNS times in turn, and the least processor time of each counts, user and system,
+with that of the script in git's. GNU time measures the memory.
 """
 import os
+import resource
 import subprocess
 import sys
 import tempfile
-import time
 
 SPEC = "+refs/*:refs/mirror/*"
 
@@ -61,13 +61,19 @@ def write_server(path, folder):
     os.chmod(path, 0o755)
 
 
+def processor_seconds():
+    """What the processes that have ended so far have used, user and system."""
+    used = resource.getrusage(resource.RUSAGE_CHILDREN)
+    return used.ru_utime + used.ru_stime
+
+
 def run(words, environment):
-    """Seconds of wall time, and the most memory in KiB, of one run with its output thrown away."""
+    """Seconds of the processor, and the most memory in KiB, of one run with its output thrown away."""
     with tempfile.NamedTemporaryFile("r") as memory:
         measured = ["time", "-o", memory.name, "-f", "%M", *words]
-        start = time.perf_counter()
+        start = processor_seconds()
         subprocess.run(measured, env=environment, check=True, stdout=subprocess.DEVNULL, stderr=subprocess.DEVNULL)
-        return time.perf_counter() - start, int(memory.read())
+        return processor_seconds() - start, int(memory.read())
 
 
 def main():
@@ -93,7 +99,7 @@ def main():
         size = os.path.getsize(os.path.join(folder, "1"))
     print(f"{refs} refs, a body of {size} bytes, best of {runs} runs each, load {os.getloadavg()[0]:.1f}")
     for name, (seconds, memory) in best.items():
-        print(f"{name}: {seconds:.3f} s, {memory} KiB at most, {memory * 1024 / refs:.0f} bytes a ref")
+        print(f"{name}: {seconds:.3f} s of the processor, {memory} KiB at most, {memory * 1024 / refs:.0f} bytes a ref")
     print(f"gixp_plan plan / git fetch --dry-run: {best['gixp_plan plan'][0] / best['git fetch --dry-run'][0]:.3f}")
 
 

@@ -121,7 +121,7 @@ fn moved_one(
 }
 
 // How many places or refs are taken off between two times that memory is given back.
-pub(crate) const FREED_AT_ONCE: usize = 65_536;
+pub(crate) const FREED_AT_ONCE: usize = 4_096;
 
 // Gives back the memory of places and refs that were taken.
 fn give_back(places: &mut Vec<Place>, refs: &mut Vec<Ref>)
