@@ -10,10 +10,11 @@ same bodies from a script given as its --upload-pack, into an empty repository, 
 with that of the script in git's. GNU time measures the memory.
 """
 import os
-import resource
 import subprocess
 import sys
 import tempfile
+
+from measure import run
 
 SPEC = "+refs/*:refs/mirror/*"
 
@@ -59,21 +60,6 @@ def write_server(path, folder):
     with open(path, "w") as out:
         out.write(f'#!/bin/sh\ncd "{folder}" && cat 0 1 2\ncat > /dev/null\n')
     os.chmod(path, 0o755)
-
-
-def processor_seconds():
-    """What the processes that have ended so far have used, user and system."""
-    used = resource.getrusage(resource.RUSAGE_CHILDREN)
-    return used.ru_utime + used.ru_stime
-
-
-def run(words, environment):
-    """Seconds of the processor, and the most memory in KiB, of one run with its output thrown away."""
-    with tempfile.NamedTemporaryFile("r") as memory:
-        measured = ["time", "-o", memory.name, "-f", "%M", *words]
-        start = processor_seconds()
-        subprocess.run(measured, env=environment, check=True, stdout=subprocess.DEVNULL, stderr=subprocess.DEVNULL)
-        return processor_seconds() - start, int(memory.read())
 
 
 def main():

@@ -6,7 +6,8 @@ Usage: refs.py PROGRAM [REFS] [RUNS]
 PROGRAM is the built gixp_plan (`rt run` in crates/gixp_plan leaves it in out/). The answer is a version 2
 `ls-refs` answer of REFS refs behind a symbolic HEAD. git reads it from a script given as its --upload-pack,
 which prints a version 2 advertisement and then the answer. The C program is built by `cc`, and left out where that
-isn't there. Each is run RUNS times in turn, and the best time of each counts. GNU time measures the memory.
+isn't there. Each is run RUNS times in turn, and the least processor time of each counts, user and system, with that of
+the script in git's. GNU time measures the memory.
 """
 import hashlib
 import os
@@ -14,7 +15,8 @@ import shutil
 import subprocess
 import sys
 import tempfile
-import time
+
+from measure import run
 
 
 def packet(text):
@@ -47,15 +49,6 @@ def write_server(path, answer):
     os.chmod(path, 0o755)
 
 
-def run(words, environment):
-    """Seconds of wall time, and the most memory in KiB, of one run with its output thrown away."""
-    with tempfile.NamedTemporaryFile("r") as memory:
-        measured = ["time", "-o", memory.name, "-f", "%M", *words]
-        start = time.perf_counter()
-        subprocess.run(measured, env=environment, check=True, stdout=subprocess.DEVNULL)
-        return time.perf_counter() - start, int(memory.read())
-
-
 def main():
     program = os.path.abspath(sys.argv[1])
     refs = int(sys.argv[2]) if len(sys.argv) > 2 else 1_000_000
@@ -86,7 +79,7 @@ def main():
     count = refs + 1
     print(f"{count} refs, {size} bytes, best of {runs} runs each")
     for name, (seconds, memory) in best.items():
-        print(f"{name}: {seconds:.3f} s, {size / seconds / 1e6:.0f} MB/s, {memory} KiB at most, {memory * 1024 / count:.0f} bytes a ref")
+        print(f"{name}: {seconds:.3f} s of the processor, {size / seconds / 1e6:.0f} MB/s, {memory} KiB at most, {memory * 1024 / count:.0f} bytes a ref")
     ours = best["gixp_plan refs"][0]
     for name in list(best)[1:]:
         print(f"gixp_plan refs / {name}: {ours / best[name][0]:.3f}")
