@@ -20,3 +20,5 @@ pub mod RefusedFetchLemmas
 pub mod AlikeLemmas
 pub mod LaterLemmas
 pub mod ListNegotiationLemmas
+pub mod StandInLemmas
+pub mod PrintedLemmas

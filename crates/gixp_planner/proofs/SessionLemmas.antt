@@ -1,5 +1,5 @@
 -- The steps of a session, one after another.
-use Rattle.std.proofs.Common.{◌≡◌, ℕ, Bool, true, false, List, [], ◌∷◌, map, Option, Some, None, Vec, vec_items, Result, Ok, Err, inl, inr, refl, sym, ap, ◌∙◌, subst}
+use Rattle.std.proofs.Common.{◌≡◌, ℕ, Bool, true, false, List, [], ◌∷◌, ◌++◌, map, Option, Some, None, Vec, vec_items, Result, Ok, Err, inl, inr, refl, sym, ap, ◌∙◌, subst}
 use Rattle.std.specs.declared.alloc.Global.{Global}
 use Rattle.gixp_packetline.specs.declared.protocol.Protocol.{Protocol}
 use Rattle.gixp_wire.specs.declared.bodies.Body.{Body}
@@ -27,7 +27,7 @@ use Rattle.gixp_planner.specs.declared.error.PlanError.{PlanError}
 use Rattle.gixp_planner.specs.Refusal.{PlanRefusal}
 use Rattle.gixp_planner.specs.Written.{WritesPlan}
 use Rattle.gixp_planner.specs.Specs.{IsContext}
-use Rattle.gixp_planner.specs.Text.{course_shown, course_of, ended_of}
+use Rattle.gixp_planner.specs.Text.{course_shown, course_of, ended_of, requests_shown, mapped_shown, end_shown}
 use Rattle.gixp_planner.specs.Session.{planner_agent, AreUnanswered, GreetsWithoutAccount, MapsRefs, Carries, FetchesOver, Runs, fetched, end_of, end_counted}
 use Rattle.gixp_planner.specs.PlannedText.{IsCourse, Shows, IsOutcome}
 
@@ -119,10 +119,18 @@ module _ {A X : Type 0} (Receives : RefMap → Handshake → Reading → Reading
   }
 
 -- its text, and its refusal
-pub shows : (old new : Option (List ℕ)) (requests : List (Vec ℕ Global)) (mapped : Option RefMap) (ended : Result Bool PlanError)
+shows : (old new : Option (List ℕ)) (requests : List (Vec ℕ Global)) (mapped : Option RefMap) (ended : Result Bool PlanError)
     (written r : Result (Unit {0}) PlanError)
     → WritesPlan old new (course_shown (course_of requests mapped ended)) written → IsOutcome written ended r
     → Shows old new (course_of requests mapped ended) r
 shows old new requests mapped ended (Err e) r w o = subst (Shows old new (course_of requests mapped ended)) (sym o) (inr w)
 shows old new requests mapped (Err e) (Ok x) r w o = subst (Shows old new (course_of requests mapped (Err e))) (sym o) (inl (w, refl))
 shows old new requests mapped (Ok pack) (Ok x) r w o = subst (Shows old new (course_of requests mapped (Ok pack))) (sym o) (w, refl)
+
+-- the same, by what was written of the ref map
+pub shows_printed : (old new : Option (List ℕ)) (requests : List (Vec ℕ Global)) (mapped : Option RefMap) (ended : Result Bool PlanError)
+    (text : List ℕ) (written r : Result (Unit {0}) PlanError) → text ≡ mapped_shown mapped
+    → WritesPlan old new (requests_shown (map vec_items requests) ++ text ++ end_shown (ended_of ended)) written
+    → IsOutcome written ended r → Shows old new (course_of requests mapped ended) r
+shows_printed old new requests mapped ended text written r e w o = shows old new requests mapped ended written r
+    (subst (λ t. WritesPlan old new (requests_shown (map vec_items requests) ++ t ++ end_shown (ended_of ended)) written) e w) o

@@ -11,3 +11,4 @@ pub mod Mapped
 pub mod Sought
 pub mod Follows
 pub mod Alike
+pub mod Printed

@@ -22,6 +22,7 @@ use Rattle.gixp_fetch.specs.FetchShallow.{no_change}
 use Rattle.gixp_fetch.specs.Fetch.{World, Parties}
 use Rattle.gixp_fetch.specs.Fetched.{FetchCall, Fetches}
 use Rattle.gixp_planner.specs.Refusal.{PlanRefusal, refusal, handshake_name, map_name, fetch_name}
+use Rattle.gixp_planner.specs.Text.{mapped_shown}
 
 -- how the planner names itself
 abbrev pub planner_agent : FeatureValue
@@ -115,3 +116,9 @@ module _ {A X : Type 0} (Receives : RefMap → Handshake → Reading → Reading
     fetched : (h : Handshake) (mid behind : Reading) (m : RefMap) (r : Result (Option Outcome) (FetchError A X))
         → GreetsWithoutAccount plain old mid (Ok h) → MapsRefs context h plain mid behind (Ok m)
         → Receives m (without_refs h) behind new r → mapped ≡ Some m → ended ≡ end_of r → Runs new mapped ended
+
+  -- a session of which this is printed of its ref map
+  pub record RunsPrinted (new : Reading) (text : List ℕ) (ended : Result Bool PlanRefusal) : Type 0 where
+    pub mapped : Option RefMap
+    pub runs : Runs new mapped ended
+    pub shown : text ≡ mapped_shown mapped

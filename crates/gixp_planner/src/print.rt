@@ -1,5 +1,5 @@
 //! What is printed of a session. The text goes through a buffer, so that little of it is held, however long it is.
-ghost use Rattle.std.specs.Prelude.{◌≡◌, ◌++◌, ◌≤◌, ◌<◌, OnOk, drop, flat_map, length, map, vec_items};
+ghost use Rattle.std.specs.Prelude.{◌≡◌, ◌++◌, ◌≤◌, ◌<◌, [], OnOk, drop, flat_map, length, map, vec_items};
 ghost use Rattle.std.specs.Option.{option_map};
 ghost use Rattle.bstr.specs.Owned.{bstring_bytes};
 ghost use Rattle.gixp_packetline.specs.Frames.{frames_of};
@@ -7,12 +7,13 @@ ghost use Rattle.gixp_packetline.specs.FrameText.{message_text};
 ghost use Rattle.gixp_packetline.specs.PacketLine.{frame_of};
 ghost use Rattle.gixp_refmap.specs.Mapping.{source_name};
 ghost use Rattle.gixp_planner.specs.Written.{HoldsRest, WritesPlan, WritesSome};
-ghost use Rattle.gixp_planner.specs.Text.{frame_content, frame_shown, request_shown, requests_shown, name_shown, mapping_shown, fix_shown, map_shown, mapped_shown, end_shown, ended_of, course_shown, course_of};
+ghost use Rattle.gixp_planner.specs.Text.{frame_content, frame_shown, request_shown, requests_shown, name_shown, mapping_shown, fix_shown, end_shown, ended_of};
+ghost use Rattle.gixp_planner.specs.Printed.{text_behind, printed_text, mapped_text};
 
 use crate::error::{PlanError, answered};
 use crate::haves::without_line_end;
+use crate::printed::PrintedMap;
 use bstr::BString;
-use gix_protocol::fetch::RefMap;
 use gix_protocol::fetch::refmap::{Mapping, Source};
 use gix_protocol::refspec::match_group::validate::Fix;
 use gixp_listing::append;
@@ -92,7 +93,17 @@ fn write_whole<W: Write>(writer: &mut W, text: &[u8]) -> Result<(), PlanError>
     }
 }
 
-// Writes what is pending once it is long. Its room is kept, and serves for what comes.
+// Writes what is pending. Its room is kept, and serves for what comes.
+fn write_pending<W: Write>(writer: &mut W, pending: &mut Vec<u8>) -> Result<(), PlanError>
+    ensures text { HoldsRest (W.contents writer.old) (W.contents writer.new) pending.new.items pending.old.items result }
+    ensures none { OnOk result (pending.new.items ≡ []) }
+{
+    write_text(writer, pending)?;
+    pending.clear();
+    Ok(())
+}
+
+// Writes what is pending once it is long.
 fn settle<W: Write>(writer: &mut W, pending: &mut Vec<u8>) -> Result<(), PlanError>
     ensures text { HoldsRest (W.contents writer.old) (W.contents writer.new) pending.new.items pending.old.items result }
     ensures short { OnOk result (length pending.new.items < LONG) }
@@ -100,9 +111,7 @@ fn settle<W: Write>(writer: &mut W, pending: &mut Vec<u8>) -> Result<(), PlanErr
     if pending.len() < LONG {
         return Ok(());
     }
-    write_text(writer, pending)?;
-    pending.clear();
-    Ok(())
+    write_pending(writer, pending)
 }
 
 // Puts the pieces behind what is pending.
@@ -196,8 +205,25 @@ fn local_name(local: &Option<BString>) -> &[u8]
     }
 }
 
+/// Appends what is printed of a mapping.
+#[inline(always)]
+pub(crate) fn append_mapping(text: &mut Vec<u8>, mapping: &Mapping) -> Result<(), AllocError>
+    ensures { OnOk result (text.new.items ≡ text.old.items ++ mapping_shown mapping.now) }
+{
+    let name = remote_name(&mapping.remote);
+    let local = local_name(&mapping.local);
+    match mapping.remote.as_id() {
+        Some(id) => append(
+            text,
+            &[b"map ", &id.to_hex(), b" ", name, b" ", local, b"\n"],
+        ),
+        None => append(text, &[b"map ", b"unborn", b" ", name, b" ", local, b"\n"]),
+    }
+}
+
 // A mapping.
 #[inline(always)]
+#[tactic(auto, using(crate::proofs::PrintLemmas::written_none))]
 fn write_mapping<W: Write>(
     writer: &mut W,
     pending: &mut Vec<u8>,
@@ -206,20 +232,10 @@ fn write_mapping<W: Write>(
     ensures { HoldsRest (W.contents writer.old) (W.contents writer.new) pending.new.items
         (pending.old.items ++ mapping_shown mapping.now) result }
 {
-    let name = remote_name(&mapping.remote);
-    let local = local_name(&mapping.local);
-    match mapping.remote.as_id() {
-        Some(id) => put(
-            writer,
-            pending,
-            &[b"map ", &id.to_hex(), b" ", name, b" ", local, b"\n"],
-        ),
-        None => put(
-            writer,
-            pending,
-            &[b"map ", b"unborn", b" ", name, b" ", local, b"\n"],
-        ),
-    }
+    let Ok(()) = append_mapping(pending, mapping) else {
+        return Err(PlanError::memory("file"));
+    };
+    settle(writer, pending)
 }
 
 // The mappings.
@@ -264,25 +280,73 @@ fn write_fixes<W: Write>(
     Ok(())
 }
 
-// The mappings, and then those that were taken out.
-fn write_map<W: Write>(writer: &mut W, pending: &mut Vec<u8>, map: &RefMap) -> Result<(), PlanError>
-    ensures { HoldsRest (W.contents writer.old) (W.contents writer.new) pending.new.items (pending.old.items ++ map_shown map.now) result }
+// Texts, which go past what is pending.
+fn write_texts<W: Write>(
+    writer: &mut W,
+    pending: &mut Vec<u8>,
+    texts: &[Vec<u8>],
+) -> Result<(), PlanError>
+    ensures { HoldsRest (W.contents writer.old) (W.contents writer.new) pending.new.items
+        (pending.old.items ++ flat_map vec_items texts.now) result }
 {
-    write_mappings(writer, pending, &map.mappings)?;
-    write_fixes(writer, pending, &map.fixes)
+    write_pending(writer, pending)?;
+    for text in texts {
+        write_text(writer, text)?;
+    }
+    Ok(())
+}
+
+// The mappings that are no text yet.
+fn write_left<W: Write>(
+    writer: &mut W,
+    pending: &mut Vec<u8>,
+    printed: &PrintedMap,
+) -> Result<(), PlanError>
+    ensures { HoldsRest (W.contents writer.old) (W.contents writer.new) pending.new.items
+        (pending.old.items ++ flat_map mapping_shown (printed.now.map.mappings.items ++ printed.now.later.items)) result }
+{
+    write_mappings(writer, pending, &printed.map.mappings)?;
+    write_mappings(writer, pending, &printed.later)
+}
+
+// These, and then those that were taken out.
+fn write_rest<W: Write>(
+    writer: &mut W,
+    pending: &mut Vec<u8>,
+    printed: &PrintedMap,
+) -> Result<(), PlanError>
+    ensures { HoldsRest (W.contents writer.old) (W.contents writer.new) pending.new.items
+        (pending.old.items ++ text_behind [] (printed.now.map.mappings.items ++ printed.now.later.items) printed.now.map.fixes.items)
+        result }
+{
+    write_left(writer, pending, printed)?;
+    write_fixes(writer, pending, &printed.map.fixes)
+}
+
+// The texts of mappings, and then the others and those that were taken out.
+fn write_map<W: Write>(
+    writer: &mut W,
+    pending: &mut Vec<u8>,
+    printed: &PrintedMap,
+) -> Result<(), PlanError>
+    ensures { HoldsRest (W.contents writer.old) (W.contents writer.new) pending.new.items
+        (pending.old.items ++ printed_text printed.now) result }
+{
+    write_texts(writer, pending, &printed.texts)?;
+    write_rest(writer, pending, printed)
 }
 
 // Where the refs were mapped.
 fn write_mapped<W: Write>(
     writer: &mut W,
     pending: &mut Vec<u8>,
-    mapped: &Option<RefMap>,
+    mapped: &Option<PrintedMap>,
 ) -> Result<(), PlanError>
     ensures { HoldsRest (W.contents writer.old) (W.contents writer.new) pending.new.items
-        (pending.old.items ++ mapped_shown mapped.now) result }
+        (pending.old.items ++ mapped_text mapped.now) result }
 {
     match mapped {
-        Some(map) => write_map(writer, pending, map),
+        Some(printed) => write_map(writer, pending, printed),
         None => Ok(()),
     }
 }
@@ -320,10 +384,10 @@ fn write_steps<W: Write>(
     writer: &mut W,
     pending: &mut Vec<u8>,
     requests: &[Vec<u8>],
-    mapped: &Option<RefMap>,
+    mapped: &Option<PrintedMap>,
 ) -> Result<(), PlanError>
     ensures { HoldsRest (W.contents writer.old) (W.contents writer.new) pending.new.items
-        (pending.old.items ++ (requests_shown (map vec_items requests.now) ++ mapped_shown mapped.now)) result }
+        (pending.old.items ++ (requests_shown (map vec_items requests.now) ++ mapped_text mapped.now)) result }
 {
     match write_requests(alloc, writer, pending, requests) {
         Ok(()) => write_mapped(writer, pending, mapped),
@@ -337,11 +401,11 @@ pub(crate) fn write_course<W: Write>(
     alloc: Global,
     writer: &mut W,
     requests: &[Vec<u8>],
-    mapped: &Option<RefMap>,
+    mapped: &Option<PrintedMap>,
     ended: &Result<bool, PlanError>,
 ) -> Result<(), PlanError>
     ensures { WritesPlan (W.contents writer.old) (W.contents writer.new)
-        (course_shown (course_of requests.now mapped.now ended.now)) result }
+        (requests_shown (map vec_items requests.now) ++ mapped_text mapped.now ++ end_shown (ended_of ended.now)) result }
 {
     let mut pending = Vec::new(alloc);
     write_steps(alloc, writer, &mut pending, requests, mapped)?;

@@ -3,16 +3,17 @@ ghost use Rattle.std.specs.Prelude.{◌≡◌, [], true, false, Some, None, Ok, 
 ghost use Rattle.gixp_fetch.specs.Fetch.{parties_of};
 ghost use Rattle.gixp_requests.specs.Feature.{feature_value};
 ghost use Rattle.gixp_handshake.specs.Taken.{without_refs};
-ghost use Rattle.gixp_planner.specs.Session.{planner_agent, GreetsWithoutAccount, MapsRefs, CarriesOn, FetchesMapped, Runs, end_of};
-ghost use Rattle.gixp_planner.specs.Text.{ended_of};
+ghost use Rattle.gixp_planner.specs.Session.{planner_agent, GreetsWithoutAccount, MapsRefs, CarriesOn, FetchesMapped, RunsPrinted, end_of};
+ghost use Rattle.gixp_planner.specs.Printed.{printed_text, mapped_text};
+ghost use Rattle.gixp_planner.specs.Text.{ended_of, map_shown};
 
 use crate::error::PlanError;
 use crate::names::{fetch_variant, handshake_variant, refs_variant};
+use crate::negotiation::PrintingNegotiation;
+use crate::printed::PrintedMap;
 use gix_protocol::command::{CommandTable, Feature};
 use gix_protocol::credentials::{self, Action};
-use gix_protocol::fetch::negotiate::{
-    Graph, Negotiate, NegotiateContext, Negotiation, Negotiator, NoRefs, Objects,
-};
+use gix_protocol::fetch::negotiate::{Graph, Negotiate, Negotiation, Negotiator, NoRefs, Objects};
 use gix_protocol::fetch::refmap::init;
 use gix_protocol::fetch::{
     self, ConsumePack, CopyError, Outcome, ReadToEnd, RefMap, Shallow, ShallowMemory, ShallowStore,
@@ -26,8 +27,8 @@ use std::alloc::{AllocError, Global};
 /// How far a session came.
 #[derive(Drop)]
 pub(crate) struct Course {
-    /// The ref map, where it was made.
-    pub(crate) mapped: Option<RefMap>,
+    /// The ref map, where it was made, or what is printed of it.
+    pub(crate) mapped: Option<PrintedMap>,
     /// Whether a pack came, or which step was refused.
     pub(crate) ended: Result<bool, PlanError>,
 }
@@ -118,46 +119,46 @@ fn fetch_over<N: Negotiate, T: Transport>(
     )
 }
 
-// The fetch of what is mapped.
+// The fetch of what is mapped, and the ref map after it, of which the same is printed.
 fn fetch_mapped<'a, O: Objects, G: Objects, N: Negotiator, T: Transport>(
     alloc: Global,
     objects: &'a O,
     graph: &'a mut Graph<G>,
     negotiator: &'a mut N,
-    map: &RefMap,
+    map: RefMap,
     handshake: &mut Handshake,
     transport: &mut T,
-) -> Result<Option<Outcome>, fetch::Error<AllocError, CopyError>>
-    ensures { FetchesMapped
+) -> (
+    PrintedMap,
+    Result<Option<Outcome>, fetch::Error<AllocError, CopyError>>,
+)
+    ensures { (printed_text result.0 ≡ map_shown map) × FetchesMapped
         (parties_of ⟦<Negotiation<'a, O, NoRefs, N, G, AllocError> as Negotiate>⟧.calls ⟦<ShallowMemory as ShallowStore>⟧.calls
         ⟦<NeverInterrupt as Interrupt>⟧.says ⟦<ReadToEnd as ConsumePack<Discard>>⟧.consumes T.is_plain)
         (λ n. (n.context.objects.now ≡ objects.now) × (n.context.graph.now ≡ graph.old) × (n.context.negotiator.now ≡ negotiator.old)
-        × (n.ref_map.now ≡ map.now) × (n.shallow.now ≡ Shallow.NoChange) × (n.tags ≡ Tags.None)
+        × (n.ref_map.now ≡ map) × (n.shallow.now ≡ Shallow.NoChange) × (n.tags ≡ Tags.None)
         × IfOk n.context.alternates (λ a. a.now ≡ []) × IsOk n.context.alternates)
-        (λ s. (s.ids.items ≡ []) × (s.locked ≡ false)) handshake.old (T.reading transport.old) (T.reading transport.new) result }
+        (λ s. (s.ids.items ≡ []) × (s.locked ≡ false)) handshake.old (T.reading transport.old) (T.reading transport.new) result.1 }
 {
-    let agent = agent_feature(alloc)?;
-    let mut refs = NoRefs;
-    let alternates: Result<&mut [NoRefs], AllocError> = Ok(&mut []);
-    let shallow = Shallow::NoChange;
-    let context = NegotiateContext {
-        objects,
-        refs: &mut refs,
-        alternates,
-        negotiator,
-        graph,
+    let printed = PrintedMap::new(alloc, map);
+    let Ok(agent) = agent_feature(alloc) else {
+        return (printed, Err(fetch::Error::Memory));
     };
-    let mut negotiation = Negotiation::new(context, map, &shallow, Tags::None);
+    let mut refs = NoRefs;
+    let mut negotiation = PrintingNegotiation::new(
+        alloc, objects, &mut refs, negotiator, graph, printed,
+    );
     let mut boundary = ShallowMemory::new(Vec::new(alloc));
-    fetch_over(
+    let fetched = fetch_over(
         alloc,
         &mut negotiation,
         agent,
         handshake,
         transport,
-        &shallow,
+        &Shallow::NoChange,
         &mut boundary,
-    )
+    );
+    (negotiation.into_printed(), fetched)
 }
 
 // How a fetch ended.
@@ -193,7 +194,7 @@ pub(crate) fn run<'a, O: Objects, G: Objects, N: Negotiator, T: Transport>(
     context: init::Context,
     transport: &mut T,
 ) -> Course
-    ensures { Runs
+    ensures { RunsPrinted
         (λ m h old new r. FetchesMapped
         (parties_of ⟦<Negotiation<'a, O, NoRefs, N, G, AllocError> as Negotiate>⟧.calls ⟦<ShallowMemory as ShallowStore>⟧.calls
         ⟦<NeverInterrupt as Interrupt>⟧.says ⟦<ReadToEnd as ConsumePack<Discard>>⟧.consumes T.is_plain)
@@ -201,7 +202,7 @@ pub(crate) fn run<'a, O: Objects, G: Objects, N: Negotiator, T: Transport>(
         × (n.ref_map.now ≡ m) × (n.shallow.now ≡ Shallow.NoChange) × (n.tags ≡ Tags.None)
         × IfOk n.context.alternates (λ a. a.now ≡ []) × IsOk n.context.alternates)
         (λ s. (s.ids.items ≡ []) × (s.locked ≡ false)) h old new r)
-        context T.is_plain (T.reading transport.old) (T.reading transport.new) result.mapped (ended_of result.ended) }
+        context T.is_plain (T.reading transport.old) (T.reading transport.new) (mapped_text result.mapped) (ended_of result.ended) }
 {
     let mut handshake = match greet(alloc, transport) {
         Ok(handshake) => handshake,
@@ -211,17 +212,17 @@ pub(crate) fn run<'a, O: Objects, G: Objects, N: Negotiator, T: Transport>(
         Ok(map) => map,
         Err(e) => return unmapped(PlanError::new("refs", refs_variant(&e))),
     };
-    let fetched = fetch_mapped(
+    let (printed, fetched) = fetch_mapped(
         alloc,
         objects,
         graph,
         negotiator,
-        &map,
+        map,
         &mut handshake,
         transport,
     );
     Course {
-        mapped: Some(map),
+        mapped: Some(printed),
         ended: ended(fetched),
     }
 }

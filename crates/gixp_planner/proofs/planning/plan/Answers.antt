@@ -3,7 +3,7 @@ use Rattle.bstr.specs.Owned.{bstring_bytes}
 use Rattle.std.proofs.lemmas.Result.{err_from_is_err_and}
 use Rattle.std.proofs.KnownBytes.{Keeps-refl}
 use Rattle.gixp_planner.specs.PlannedText.{shown, refused}
-use Rattle.gixp_planner.proofs.SessionLemmas.{is-course, shows}
+use Rattle.gixp_planner.proofs.SessionLemmas.{is-course, shows_printed}
 use Rattle.gixp_planner.proofs.MappedLemmas.{fetches-extend, shows-mapped}
 use Rattle.gixp_planner.proofs.StepLemmas.{not-begun, l-not-t, e-not-t}
 use Rattle.gixp_planner.proofs.planning.plan.Goals as goal
@@ -26,16 +26,16 @@ pub returns : goal.returns
 returns g c = record {
   text =
       shown _
-      (is-course _ _ _ c.in_ok-context.context c.in-Ok.transport _ _ _ c.sent.result.now c.run-course.result.mapped c.failures.result
+      (is-course _ _ _ c.in_ok-context.context c.in-Ok.transport _ _ _ c.sent.result.now c.run-course.ensures.mapped c.failures.result
       c.run-course.result.ended c.counted-ended.result c.in_ok-context.ensures
       (c.new-url.ensures ∙ c.new.ensures.items) c.new-2.ensures.items
-      c.in-Ok.ensures c.run-course.ensures c.failures.ensures c.counted-ended.ensures c.sent.ensures)
-      (shows _ _ _ _ _ _ _ c.write_course-written.ensures c.outcome.ensures);
+      c.in-Ok.ensures c.run-course.ensures.runs c.failures.ensures c.counted-ended.ensures c.sent.ensures)
+      (shows_printed _ _ _ _ _ _ _ _ c.run-course.ensures.shown c.write_course-written.ensures c.outcome.ensures);
   mapped =
       shows-mapped _ _ _ _ _ (λ m h from to r p it. fetches-extend _ (c.sessions_are_bounded.ensures true) _ _ h from to r p it) _ _
-      (is-course _ _ _ c.in_ok-context.context c.in-Ok.transport _ _ _ c.sent.result.now c.run-course.result.mapped c.failures.result
+      (is-course _ _ _ c.in_ok-context.context c.in-Ok.transport _ _ _ c.sent.result.now c.run-course.ensures.mapped c.failures.result
       c.run-course.result.ended c.counted-ended.result c.in_ok-context.ensures
       (c.new-url.ensures ∙ c.new.ensures.items) c.new-2.ensures.items
-      c.in-Ok.ensures c.run-course.ensures c.failures.ensures c.counted-ended.ensures c.sent.ensures)
-      (shows _ _ _ _ _ _ _ c.write_course-written.ensures c.outcome.ensures);
+      c.in-Ok.ensures c.run-course.ensures.runs c.failures.ensures c.counted-ended.ensures c.sent.ensures)
+      (shows_printed _ _ _ _ _ _ _ _ c.run-course.ensures.shown c.write_course-written.ensures c.outcome.ensures);
 }

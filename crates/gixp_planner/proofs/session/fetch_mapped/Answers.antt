@@ -1,19 +1,21 @@
-use Rattle.std.proofs.Common.{rules, inl, refl, ap, ◌∙◌}
-use Rattle.gixp_planner.proofs.SessionLemmas.{fetches-over}
+use Rattle.std.proofs.Common.{inr, refl, ap, ◌∙◌}
+use Rattle.gixp_planner.specs.Printed.{printed_text}
+use Rattle.gixp_planner.proofs.PrintedLemmas.{all_printed, fetched_printed}
 use Rattle.gixp_planner.proofs.session.fetch_mapped.Goals as goal
+
+pub returns-in_default : goal.returns-in_default
+returns-in_default g c =
+    let made = c.new-printed.ensures in (all_printed c.new-printed.result c.args.map made.map made.texts made.later, inr (refl, refl))
 
 pub returns : goal.returns
 returns g c =
-    let made = c.new-negotiation.ensures.context in
-    inl
-    (fetches-over _ _ _ _ _ _ _ _ _ _ c.fetch_over.ensures.carries (
-      ap (λ x. x.objects.now) made,
-      ap (λ x. x.graph.now) made,
-      ap (λ x. x.negotiator.now) made,
-      c.new-negotiation.ensures.ref_map,
-      c.new-negotiation.ensures.shallow,
-      c.new-negotiation.ensures.tags,
-      search rules,
-      search rules,
+    let made = c.new-printed.ensures in
+    let over = c.new-negotiation.ensures in
+    fetched_printed _ (λ a b n. refl) c.args.map _ _ _ _ _ _ _ _ _ c.new-negotiation.result _ _ _ c.into_printed.result _
+    c.fetch_over-fetched.ensures (
+      ap (λ p. p.map) over.printed ∙ made.map,
+      ap (λ p. p.later.items) over.printed ∙ made.later,
+      ap printed_text over.printed ∙ all_printed c.new-printed.result c.args.map made.map made.texts made.later,
     )
-    (c.new-boundary.ensures.ids ∙ c.new.ensures.items, c.new-boundary.ensures.locked) refl refl refl)
+    (over.objects, over.graph, over.negotiator, refl, refl, refl, over.alternates.0, over.alternates.1)
+    (c.new-boundary.ensures.ids ∙ c.new.ensures.items, c.new-boundary.ensures.locked) c.into_printed.ensures

@@ -1,0 +1,65 @@
+-- A ref map that gives way to what is printed of it, and a negotiation over such a map.
+use Rattle.std.specs.Prelude.{◌≡◌, ℕ, List, [], ◌++◌, flat_map, reverse, Option, Some, None, vec_items}
+use Rattle.std.specs.declared.alloc.AllocError.{AllocError}
+use Rattle.gixp_negotiate.specs.declared.negotiate.plain.NoRefs.{NoRefs}
+use Rattle.gixp_negotiate.specs.declared.negotiate.negotiation.Negotiation.{Negotiation}
+use Rattle.gixp_negotiate.specs.declared.shallow.Shallow.TheVariants.{NoChange}
+use Rattle.gixp_negotiate.specs.Negotiate.{NegotiationCalls}
+use Rattle.gixp_refmap.specs.declared.fetch.Tags.TheVariants as tags
+use Rattle.gixp_refmap.specs.declared.refmap.mapping.Mapping.{Mapping}
+use Rattle.gixp_refmap.specs.declared.refmap.map.RefMap.{RefMap}
+use Rattle.gixp_matching.specs.declared.match_group.validate.Fix.{Fix}
+use Rattle.gixp_planner.specs.declared.negotiation.PrintingNegotiation.{PrintingNegotiation}
+use Rattle.gixp_planner.specs.declared.printed.PrintedMap.{PrintedMap}
+use Rattle.gixp_planner.specs.Text.{mapping_shown, fix_shown}
+
+-- what is printed of mappings of which the first are a text, and of those that were taken out
+abbrev pub text_behind : List ℕ → List Mapping → List Fix → List ℕ
+text_behind text ms fixes = text ++ (flat_map mapping_shown ms ++ flat_map fix_shown fixes)
+
+-- what is printed of a ref map
+abbrev pub printed_text : PrintedMap → List ℕ
+printed_text p = text_behind (flat_map vec_items p.texts.items) (p.map.mappings.items ++ p.later.items) p.map.fixes.items
+
+-- where the refs were mapped
+abbrev pub mapped_text : Option PrintedMap → List ℕ
+mapped_text None = []
+mapped_text (Some p) = printed_text p
+
+-- the mappings that are left while they are taken
+abbrev pub left_of : PrintedMap → List Mapping
+left_of p = p.map.mappings.items ++ reverse p.later.items
+
+-- what is printed of it then
+abbrev pub taken_text : PrintedMap → List ℕ
+taken_text p = text_behind (flat_map vec_items p.texts.items) (left_of p) p.map.fixes.items
+
+module _ {O N G : Type 0} where
+  -- the same negotiation over a whole ref map, which asks for no tags and no change of the boundary
+  abbrev pub over : RefMap → PrintingNegotiation O N G → Negotiation O NoRefs N G AllocError
+  over map n = record {
+    context = n.context;
+    handed = n.handed;
+    ref_map = record { ref_ptr = (0, 0); now = map };
+    shallow = record { ref_ptr = (0, 0); now = NoChange };
+    tags = tags.None;
+  }
+
+  -- calls that do what those over the whole ref map do: the first step and rounds keep what is held of the map, and wants what is
+  -- printed of it
+  abbrev pub calls_over : NegotiationCalls (Negotiation O NoRefs N G AllocError) AllocError
+      → NegotiationCalls (PrintingNegotiation O N G) AllocError
+  calls_over calls = record {
+    count = λ n. calls.count (over n.printed.map n);
+    marks = λ n action m. calls.marks (over n.printed.map n) action (over n.printed.map m) × (m.printed ≡ n.printed);
+    adds = λ n known a is_any b m. (n.printed.later.items ≡ []
+        → calls.adds (over n.printed.map n) known a is_any b (over n.printed.map m)) × (printed_text m.printed ≡ printed_text n.printed);
+    goes = λ n s a p r done m t b. ((map : RefMap) → calls.goes (over map n) s a p r done (over map m) t b)
+        × (m.printed ≡ n.printed);
+    marking_fails = λ n e m. calls.marking_fails (over n.printed.map n) e (over n.printed.map m) × (m.printed ≡ n.printed);
+    adding_fails = λ n known a e b m. (n.printed.later.items ≡ []
+        → calls.adding_fails (over n.printed.map n) known a e b (over n.printed.map m))
+        × (printed_text m.printed ≡ printed_text n.printed);
+    round_fails = λ n s a p e m t b. ((map : RefMap) → calls.round_fails (over map n) s a p e (over map m) t b)
+        × (m.printed ≡ n.printed);
+  }

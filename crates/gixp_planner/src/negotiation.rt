@@ -1,0 +1,187 @@
+//! A negotiation over a ref map that gives way to its text once it is asked for.
+ghost use Rattle.std.specs.Prelude.{◌≡◌, ◌||◌, [], false, true, codes, drop, length, IfErr, IfOk, IsOk, OnErr};
+ghost use Rattle.gixp_requests.specs.Arguments.{can_use};
+ghost use Rattle.gixp_negotiate.specs.declared.negotiate.Error.TheVariants.{Memory};
+ghost use Rattle.gixp_negotiate.specs.Wants.{wishes, AddsWants, AddsSomeWants};
+ghost use Rattle.gixp_planner.specs.Printed.{left_of, taken_text};
+
+use crate::printed::PrintedMap;
+use gix_protocol::fetch::negotiate::one_round::{State, one_round};
+use gix_protocol::fetch::negotiate::{
+    Action, Error, Graph, Negotiate, NegotiateContext, Negotiation, Negotiator, NoRefs, Objects,
+    Round, add_wants, mark_complete_and_common_ref,
+};
+use gix_protocol::fetch::refmap::Mapping;
+use gix_protocol::fetch::{Arguments, Response, Shallow};
+use std::alloc::{AllocError, Global};
+use std::mem;
+
+/// A negotiation over a ref map whose mappings become their text as they are asked for.
+#[derive(Drop)]
+pub(crate) struct PrintingNegotiation<'a, O, N, G: Objects> {
+    context: NegotiateContext<'a, O, NoRefs, N, G, AllocError>,
+    // The alternates that the last first step was handed.
+    handed: Result<&'a mut [NoRefs], AllocError>,
+    alloc: Global,
+    printed: PrintedMap,
+}
+
+// Each mapping counts.
+fn is_never_ignored(_mapping: &Mapping) -> bool
+    ensures { result ≡ false }
+{
+    false
+}
+
+// What is known behind these mappings.
+fn known_behind<'a>(known: &'a [bool], mappings: &[Mapping]) -> &'a [bool]
+    ensures { result.now ≡ drop (length mappings.now) known.now }
+{
+    match known.get(mappings.len()..) {
+        Some(rest) => rest,
+        None => &[],
+    }
+}
+
+fn is_any(first: bool, second: bool) -> bool
+    ensures { result ≡ (first || second) }
+{
+    first || second
+}
+
+impl<'a, O, N, G: Objects> PrintingNegotiation<'a, O, N, G> {
+    /// A negotiation over these mappings, with no alternates. The context is made here, where all of it has one lifetime.
+    pub(crate) fn new(
+        alloc: Global,
+        objects: &'a O,
+        refs: &'a mut NoRefs,
+        negotiator: &'a mut N,
+        graph: &'a mut Graph<G>,
+        printed: PrintedMap,
+    ) -> Self
+        ensures objects { result.context.objects.now ≡ objects.now }
+        ensures negotiator { result.context.negotiator.now ≡ negotiator.old }
+        ensures graph { result.context.graph.now ≡ graph.old }
+        ensures alternates { IfOk result.context.alternates (λ a. a.now ≡ []) × IsOk result.context.alternates }
+        ensures printed { result.printed ≡ printed }
+    {
+        let alternates: Result<&'a mut [NoRefs], AllocError> = Ok(&mut []);
+        let context = NegotiateContext {
+            objects,
+            refs,
+            alternates,
+            negotiator,
+            graph,
+        };
+        PrintingNegotiation {
+            context,
+            handed: Ok(&mut []),
+            alloc,
+            printed,
+        }
+    }
+
+    /// What is left of the ref map, and the text of the rest.
+    pub(crate) fn into_printed(self) -> PrintedMap
+        ensures { result ≡ self.entry.printed }
+    {
+        self.printed
+    }
+}
+
+// Asks for what isn't there yet of the mappings, part by part.
+fn add_parts<O: Objects>(
+    alloc: Global,
+    objects: &O,
+    printed: &mut PrintedMap,
+    arguments: &mut Arguments,
+    known: &[bool],
+) -> Result<bool, Error<AllocError>>
+    ensures added { IfOk result (λ any. AddsWants
+        (wishes (λ _. false) (O.contents objects.now) (can_use (codes "ref-in-want") arguments.old) true (left_of printed.old) known.now)
+        any arguments.old arguments.new) }
+    ensures refused { OnErr result (AddsSomeWants
+        (wishes (λ _. false) (O.contents objects.now) (can_use (codes "ref-in-want") arguments.old) true (left_of printed.old) known.now)
+        arguments.old arguments.new) }
+    ensures failed { IfErr result (λ e. e ≡ Memory) }
+    ensures text { taken_text printed.new ≡ taken_text printed.old }
+{
+    let mut any = false;
+    let mut rest = known;
+    'parts: loop {
+        let more = add_wants(
+            objects,
+            arguments,
+            &printed.map,
+            rest,
+            &Shallow::NoChange,
+            &is_never_ignored,
+        )?;
+        any = is_any(any, more);
+        rest = known_behind(rest, &printed.map.mappings);
+        printed.print_part(alloc)?;
+        if !printed.next_part(alloc)? {
+            return Ok(any);
+        }
+    }
+}
+
+impl<'a, O: Objects, N: Negotiator, G: Objects> Negotiate for PrintingNegotiation<'a, O, N, G> {
+    ghost use Rattle.gixp_negotiate.specs.RoundLaws.{round_goes_on};
+    ghost use Rattle.gixp_planner.specs.Printed.{calls_over};
+
+    type AlternatesError = AllocError;
+
+    ghost calls = { calls_over ⟦<Negotiation<'a, O, NoRefs, N, G, AllocError> as Negotiate>⟧.calls };
+
+    fn mark_complete_and_common_ref(&mut self, alloc: Global) -> Result<Action, Error<AllocError>> {
+        let marked = mark_complete_and_common_ref(
+            alloc,
+            &mut self.context,
+            &self.printed.map,
+            &Shallow::NoChange,
+            &is_never_ignored,
+        );
+        let handed = mem::replace(&mut self.context.alternates, Ok(&mut []));
+        let _before = mem::replace(&mut self.handed, handed);
+        marked
+    }
+
+    fn add_wants(
+        &mut self,
+        arguments: &mut Arguments,
+        remote_ref_target_known: &[bool],
+    ) -> Result<bool, Error<AllocError>> {
+        self.printed.begin();
+        let any = add_parts(
+            self.alloc,
+            self.context.objects,
+            &mut self.printed,
+            arguments,
+            remote_ref_target_known,
+        );
+        self.printed.end();
+        any
+    }
+
+    fn one_round(
+        &mut self,
+        state: &mut State,
+        arguments: &mut Arguments,
+        previous_response: Option<&Response>,
+    ) -> Result<(Round, bool), Error<AllocError>> {
+        let context = &mut self.context;
+        one_round(
+            context.negotiator,
+            context.graph,
+            state,
+            arguments,
+            previous_response,
+        )
+    }
+
+    ghost goes_on = { λ n s a p r m t b h o.
+        round_goes_on N.calls N.learning_keeps N.offer_lowers N.none_keeps
+        n.context.negotiator.now n.context.graph.now.graph s a p r m.context.negotiator.now m.context.graph.now.graph t b h
+        (o.0 n.printed.map).0 };
+}
