@@ -40,10 +40,6 @@ part-behind a b left text more h = record {
   whole = ap (λ l. l ++ more) h.whole ∙ append_assoc h.done left more;
 }
 
--- where a beginning was written, one of a longer text was
-pub begun-behind : (a b : Option (List ℕ)) (text more : List ℕ) → WritesBeginning a b text → WritesBeginning a b (text ++ more)
-begun-behind a b text more h = (h.0 ++ more, part-behind a b h.0 text more h.1)
-
 -- none of it is written
 pub written_none : (a : Option (List ℕ)) (text : List ℕ) → WritesBeginning a a text
 written_none a text = (text, part-none a text)

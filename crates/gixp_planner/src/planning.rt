@@ -59,8 +59,8 @@ fn counted(failures: u64, ended: Result<bool, PlanError>) -> Result<bool, PlanEr
 /// payload without an ending LF, or its four digits where it has none. Then, where the refs were mapped, a line
 /// `map ID NAME LOCAL` for each mapping, with `unborn` for an id that isn't there and `-` for a name that isn't, and a line
 /// `fix LOCAL REFSPEC` for each that was taken out. Then `pack`, or `nothing` where there was nothing to ask for. All is
-/// written after the session, and the writer is flushed. The text goes through a buffer, in pieces of 64 KiB or a line more,
-/// or in one piece where it is shorter; of each a write may take less.
+/// written after the session, and the writer is flushed. The text goes through a buffer, in pieces of 64 KiB, or a line or the
+/// lines of 512 mappings more, or in one piece where it is shorter; of each a write may take less.
 ///
 /// Of a plan that isn't refused, or whose fetch is, the requests up to the ref map, the mappings and those taken out are a
 /// function of the bodies and the refspecs alone ([`mappings_follow_bodies`](crate::laws::mappings_follow_bodies)). With a

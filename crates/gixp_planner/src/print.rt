@@ -93,17 +93,7 @@ fn write_whole<W: Write>(writer: &mut W, text: &[u8]) -> Result<(), PlanError>
     }
 }
 
-// Writes what is pending. Its room is kept, and serves for what comes.
-fn write_pending<W: Write>(writer: &mut W, pending: &mut Vec<u8>) -> Result<(), PlanError>
-    ensures text { HoldsRest (W.contents writer.old) (W.contents writer.new) pending.new.items pending.old.items result }
-    ensures none { OnOk result (pending.new.items ≡ []) }
-{
-    write_text(writer, pending)?;
-    pending.clear();
-    Ok(())
-}
-
-// Writes what is pending once it is long.
+// Writes what is pending once it is long. Its room is kept, and serves for what comes.
 fn settle<W: Write>(writer: &mut W, pending: &mut Vec<u8>) -> Result<(), PlanError>
     ensures text { HoldsRest (W.contents writer.old) (W.contents writer.new) pending.new.items pending.old.items result }
     ensures short { OnOk result (length pending.new.items < LONG) }
@@ -111,7 +101,9 @@ fn settle<W: Write>(writer: &mut W, pending: &mut Vec<u8>) -> Result<(), PlanErr
     if pending.len() < LONG {
         return Ok(());
     }
-    write_pending(writer, pending)
+    write_text(writer, pending)?;
+    pending.clear();
+    Ok(())
 }
 
 // Puts the pieces behind what is pending.
@@ -280,7 +272,7 @@ fn write_fixes<W: Write>(
     Ok(())
 }
 
-// Texts, which go past what is pending.
+// Texts of mappings.
 fn write_texts<W: Write>(
     writer: &mut W,
     pending: &mut Vec<u8>,
@@ -289,9 +281,8 @@ fn write_texts<W: Write>(
     ensures { HoldsRest (W.contents writer.old) (W.contents writer.new) pending.new.items
         (pending.old.items ++ flat_map vec_items texts.now) result }
 {
-    write_pending(writer, pending)?;
     for text in texts {
-        write_text(writer, text)?;
+        put(writer, pending, &[text])?;
     }
     Ok(())
 }

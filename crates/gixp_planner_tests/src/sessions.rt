@@ -233,7 +233,8 @@ fn thousand_branches(alloc: Global) -> Result<(String, String), AllocError> {
     Ok((refs, lines))
 }
 
-// Of a long text a piece is written that ends with the line of 98 bytes by which it got long. It stands where the next write fails.
+// Of a long text a piece is written that ends with the lines of 98 bytes by which it got long, those of up to 512 mappings. It
+// stands where the next write fails.
 #[test]
 fn writes_a_long_text_in_pieces(rt: HostRuntime) -> Result<(), Fail> {
     let (refs, lines) = thousand_branches(rt.alloc())?;
@@ -248,7 +249,7 @@ fn writes_a_long_text_in_pieces(rt: HostRuntime) -> Result<(), Fail> {
     assert!(rt; answers == (Ok(()), Err(UNREAD)));
     assert!(rt; whole.bytes.as_slice().ends_with(lines.as_bytes()));
     assert!(rt; whole.bytes.as_slice().starts_with(&broken.bytes));
-    assert!(rt; (65_536..65_536 + 98).contains(&broken.bytes.len()));
+    assert!(rt; (65_536..65_536 + 512 * 98).contains(&broken.bytes.len()));
     Ok(())
 }
 
