@@ -46,13 +46,14 @@ def run(program, mode, commits):
 
 
 def compare(folder, mode, below, others, sizes):
-    """Prints a line for each program and size: the better of five runs each, in turn. The first count is what it is shared by."""
+    """Prints a line for each program and size: the best of five runs each, and of more of small sizes, in turn. The first count is
+    what it is shared by."""
     with tempfile.TemporaryDirectory() as work:
         programs = built(pathlib.Path(work), folder, mode, below, others)
         print("commits  counted  program  ms       ns/each  bytes/each  times of plain  other counts")
         for commits in sizes:
             best, memory, counts = {}, {}, {}
-            for _ in range(5):
+            for _ in range(max(5, 400_000 // commits)):
                 for name, program in programs.items():
                     micros, *counted, peak = (int(word) for word in run(program, mode, commits))
                     best[name] = min(best.get(name, micros), micros)
