@@ -89,4 +89,5 @@ def main():
     print(f"gixp_plan plan / git fetch --dry-run: {best['gixp_plan plan'][0] / best['git fetch --dry-run'][0]:.3f}")
 
 
-main()
+if __name__ == "__main__":
+    main()

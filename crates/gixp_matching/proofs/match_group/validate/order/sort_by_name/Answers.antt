@@ -10,10 +10,9 @@ use Rattle.gixp_matching.proofs.match_group.validate.order.sort_by_name.Goals as
 
 pub returns-clause-permutation : goal.returns-clause-permutation
 returns-clause-permutation c =
-    IsPermutation-trans c.args.issues.now.items c.sort_by_cached_key.new.self.items c.sort_by.new.self.items
-    c.in_ok-sort_by_cached_key.ensures.permutation c.in_ok-sort_by.ensures.permutation
+    IsPermutation-trans _ _ _ c.in_ok-sort_by_numbers.ensures c.sort_unstable_by.ensures.permutation
 
 pub returns-clause-order : goal.returns-clause-order
 returns-clause-order c =
-    c.in_ok-sort_by.ensures.sorted (λ x y. is_lt (slice_cmp nat_cmp (destination_of x) (destination_of y)))
+    c.sort_unstable_by.ensures.sorted (λ x y. is_lt (slice_cmp nat_cmp (destination_of x) (destination_of y)))
     (ranks_by nat_list_cmp_total destination_of) (always_returns_same _ _ _ (λ a r q k. search rules))
