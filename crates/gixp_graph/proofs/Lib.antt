@@ -8,7 +8,6 @@ pub mod LeftLemmas
 pub mod MarkLemmas
 pub mod NewestLemmas
 pub mod NodeLemmas
-pub mod QueueLemmas
 pub mod SlotLemmas
 pub mod StepLemmas
 pub mod TableLemmas

@@ -1,21 +1,22 @@
--- What the walk does with the commits of one time.
-use Rattle.std.proofs.Common.{◌≡◌, ℕ, ℤ, ◌+◌, ◌≤◌, ◌<◌, ◌∙◌, Bool, true, List, [], ◌++◌, length, length-append, map, Option, Some, sym, ap, subst, arith}
-use Rattle.std.specs.Prelude.{All, ◌≤ℤ◌}
+-- What the walk does with the newest commit.
+use Rattle.std.proofs.Common.{◌≡◌, ℤ, ◌+◌, ◌≤◌, ◌∙◌, Bool, true, List, [], ◌∷◌, length, suc, Option, Some, sym, ap, subst, arith}
+use Rattle.std.specs.Prelude.{◌≤ℤ◌}
 use Rattle.std.proofs.lemmas.List.{length-map}
-use Rattle.std.proofs.lemmas.List.Elements.{Contains-get_or, All-weaker}
-use Rattle.std.specs.List.{flat_map}
+use Rattle.std.proofs.lemmas.List.Elements.{Contains-get_or, All-head, All-weaker}
+use Rattle.std.specs.List.Sorted.{IsPermutation}
+use Rattle.std.proofs.lemmas.List.Sorted.{length_permutation}
 use Rattle.gixp_hash.specs.declared.object_id.ObjectId.{ObjectId}
 use Rattle.gixp_graph.specs.Object.{Objects}
 use Rattle.gixp_graph.specs.GraphData.{Commits, GraphData, parents_in, OnlyMarks}
 use Rattle.gixp_graph.specs.Complete.{IsDue}
-use Rattle.gixp_graph.specs.Table.{Table, ids_at}
-use Rattle.gixp_graph.specs.Queue.{Entry, entry_at}
+use Rattle.gixp_graph.specs.Table.{Table, id_at}
+use Rattle.gixp_graph.specs.declared.queue.Entry.{Entry}
 use Rattle.gixp_graph.specs.Visited.{is_visited}
-use Rattle.gixp_graph.specs.Waiting.{Waiting, waiting_of, waiting_in}
+use Rattle.gixp_graph.specs.Waiting.{waiting_of, waiting_in}
 use Rattle.gixp_graph.specs.Walk.{Walk, walk_of, IsMarking, IsQueued, IsWalk, AreDue, AllVisited, VisitsSome, VisitsEach, AsksAll, AsksSome, AsksDue, HasAsked, left}
 use Rattle.gixp_graph.proofs.AskedLemmas.{asks_none}
 use Rattle.gixp_graph.proofs.VisitedLemmas.{none_visited}
-use Rattle.gixp_graph.proofs.WalkLemmas.{stands, marking_start, walk_start, walk_permuted, walk_dropped, due_parents, expanded_each, all_left}
+use Rattle.gixp_graph.proofs.WalkLemmas.{stands, marking_start, walk_start, walk_permuted, walk_seen, due_parents, expanded_parents}
 use Rattle.gixp_graph.proofs.WaitingLemmas.{waiting_taken}
 
 -- the tips are looked for
@@ -53,42 +54,42 @@ module _ (g : GraphData) (ids : List ObjectId) (cutoff : Option ℤ) (objects : 
       (tips_due g ids cutoff)) (subst (OnlyMarks g) (sym first) (marking_start g ids cutoff).only_marks) (asks_none _ before)
 
 module _ (g : GraphData) (ids : List ObjectId) (cutoff : Option ℤ) (held : Commits) (visited : ObjectId → Bool) (names : List ObjectId)
-    (t : ℤ) (numbers : List ℕ) (old rest : List Entry) (taken : old ≡ rest ++ map (entry_at t) numbers)
+    (newest : Entry) (old rest : List Entry) (taken : IsPermutation old (newest ∷ rest))
     (w : IsWalk g ids cutoff (stands held visited (waiting_in names old))) where
-  -- those of the greatest time, before the others
-  newest_first : IsWalk g ids cutoff (stands held visited (waiting_in names (map (entry_at t) numbers) ++ waiting_in names rest))
-  newest_first = walk_permuted g ids cutoff held visited (waiting_in names old)
-      (waiting_in names (map (entry_at t) numbers) ++ waiting_in names rest) w (waiting_taken names t numbers old rest taken)
+  -- the commit that is taken, before the others
+  newest_first : IsWalk g ids cutoff (stands held visited (waiting_of names newest ∷ waiting_in names rest))
+  newest_first = walk_permuted g ids cutoff held visited (waiting_in names old) (waiting_of names newest ∷ waiting_in names rest) w
+      (waiting_taken names newest old rest taken)
 
-  -- those of the greatest time are complete and marked
-  newest_queued : All (IsQueued g ids cutoff held) (waiting_in names (map (entry_at t) numbers))
-  newest_queued = all_left (IsQueued g ids cutoff held) (waiting_in names (map (entry_at t) numbers))
-      (waiting_in names rest) newest_first.queued
+  -- it is complete and marked
+  newest_queued : IsQueued g ids cutoff held (waiting_of names newest)
+  newest_queued = All-head (IsQueued g ids cutoff held) (waiting_of names newest) (waiting_in names rest) newest_first.queued
 
-  -- from the cutoff on, their parents are looked for
-  pub newest_due : (least : ℤ) → cutoff ≡ Some least → least ≤ℤ t → AreDue g ids cutoff (flat_map (parents_in held) (ids_at names numbers))
-  newest_due least l b = due_parents g ids cutoff names t held w.marking.only_marks least l b numbers newest_queued
+  -- from the cutoff on, its parents are looked for
+  pub newest_due : (least : ℤ) → cutoff ≡ Some least → least ≤ℤ newest.time
+      → AreDue g ids cutoff (parents_in held (id_at names newest.number))
+  newest_due = due_parents g ids cutoff held w.marking.only_marks (waiting_of names newest) newest_queued
 
-  module _ (objects : Objects) (same : objects ≡ g.objects) (wanted : List ObjectId) (are : wanted ≡ flat_map (parents_in held)
-      (ids_at names numbers)) (new : Walk) (e : VisitsEach objects wanted (stands held visited (waiting_in names rest)) new) where
-    -- once their parents were visited, the walk goes on without them
+  module _ (objects : Objects) (same : objects ≡ g.objects) (wanted : List ObjectId)
+      (are : wanted ≡ parents_in held (id_at names newest.number)) (new : Walk)
+      (e : VisitsEach objects wanted (stands held visited (waiting_in names rest)) new) where
+    -- once they were visited, the walk goes on without it
     pub newest_walk : AreDue g ids cutoff wanted → IsWalk g ids cutoff new
     newest_walk due =
-        let others : List Waiting = waiting_in names (map (entry_at t) numbers) in
-        walk_dropped g ids cutoff new.held new.visited others new.waiting (e.walk g ids cutoff others same due newest_first)
-        (expanded_each g ids cutoff names t held w.marking.only_marks new.visited numbers newest_queued
+        walk_seen g ids cutoff new.held new.visited (waiting_of names newest) new.waiting
+        (e.walk g ids cutoff (waiting_of names newest ∷ []) same due newest_first)
+        (expanded_parents g ids cutoff held w.marking.only_marks (waiting_of names newest) newest_queued new.visited
         (subst (AllVisited new.visited) are e.visited))
 
     -- and there is less to do
-    pub newest_left : (after : List Entry) (names' : List ObjectId) → new.waiting ≡ waiting_in names' after → 0 < length numbers
+    pub newest_left : (after : List Entry) (names' : List ObjectId) → new.waiting ≡ waiting_in names' after
         → left g new.visited + length after + 1 ≤ left g visited + length old
-    newest_left after names' is some =
+    newest_left after names' is =
         let a : left g new.visited + length new.waiting ≤ left g visited + length (waiting_in names rest) =
         (e.less g same w.marking.only_marks).1 in
         let b : length new.waiting ≡ length after = ap length is ∙ length-map after (waiting_of names') in
         let c : length (waiting_in names rest) ≡ length rest = length-map rest (waiting_of names) in
-        let d : length old ≡ length rest + length numbers = ap length taken ∙ length-append rest (map (entry_at t) numbers)
-        ∙ ap (λ n. length rest + n) (length-map numbers (entry_at t)) in
+        let d : suc (length rest) ≡ length old = length_permutation old (newest ∷ rest) taken in
         omega arith
 
 -- what was visited stays so

@@ -1,14 +1,13 @@
 -- Walks: how they begin, drop what was seen to, and end.
-use Rattle.std.proofs.Common.{◌≡◌, ℕ, ℤ, ◌∙◌, inl, inr, ⊎_elim, Bool, true, false, true≢false, List, [], ◌∷◌, ◌++◌, map, Option, Some, None, refl, sym, ap, subst, append-nil, arith}
+use Rattle.std.proofs.Common.{◌≡◌, ℤ, ◌∙◌, inl, inr, ⊎_elim, Bool, true, false, true≢false, List, [], ◌∷◌, ◌++◌, Option, Some, None, refl, sym, ap, subst, append-nil, arith}
 use Rattle.std.specs.Prelude.{option_map, is_some, IsSome, Contains, All, ◌≤ℤ◌, unwrap_or}
 use Rattle.std.specs.Option.{option_or, option_map_or}
 use lib.Signed.{◌<ℤ◌}
 use Rattle.std.proofs.lemmas.Int.{ints}
-use Rattle.std.specs.List.{flat_map}
 use Rattle.std.specs.Ordering.{eq_by_cmp}
 use Rattle.std.specs.List.Sorted.{IsPermutation}
 use Rattle.std.proofs.lemmas.List.Sorted.{All-permutation, list_any-IsPermutation}
-use Rattle.std.proofs.lemmas.List.Elements.{All-nil, All-cons, All-head, All-tail, All-append, All-contains, Contains-get_or}
+use Rattle.std.proofs.lemmas.List.Elements.{All-nil, All-cons, All-head, All-tail, All-contains, Contains-get_or}
 use Rattle.std.proofs.lemmas.Bool.{or_cases}
 use Rattle.std.specs.FinMap as finite
 use Rattle.gixp_hash.specs.declared.object_id.ObjectId.{ObjectId}
@@ -16,9 +15,7 @@ use Rattle.gixp_hash.specs.ObjectId.{id_cmp}
 use Rattle.gixp_graph.specs.Object.{Commit, commit_at}
 use Rattle.gixp_graph.specs.GraphData.{HeldCommit, Commits, GraphData, commit_in, as_read, unmarked, parents_in, is_complete, is_marked, OnlyMarks}
 use Rattle.gixp_graph.specs.Complete.{IsComplete, IsDue}
-use Rattle.gixp_graph.specs.Table.{id_at, ids_at}
-use Rattle.gixp_graph.specs.Queue.{entry_at}
-use Rattle.gixp_graph.specs.Waiting.{Waiting, waiting_in}
+use Rattle.gixp_graph.specs.Waiting.{Waiting}
 use Rattle.gixp_graph.specs.Walk.{Walk, waits, IsExpanded, IsMarking, IsQueued, IsWalk, AreDue, AllVisited}
 use Rattle.gixp_graph.specs.GraphLaws.{same_from}
 use Rattle.gixp_graph.proofs.StepLemmas.{reads}
@@ -151,7 +148,7 @@ expanded_before g ids cutoff held visited x k least l b c most p r m t i =
     let a : least ≤ℤ x.time = subst (λ (z : ℤ). z ≤ℤ x.time) same (subst (λ (z : ℤ). most ≤ℤ z) time t) in
     absurd (omega (arith, ints))
 
--- ---- the commits of one time
+-- ---- the commit that is taken
 
 -- a list has what its two halves have
 pub all_left : {X : Type 0} (P : X → Type 0) (xs ys : List X) → All P (xs ++ ys) → All P xs
@@ -163,37 +160,20 @@ pub all_right : {X : Type 0} (P : X → Type 0) (xs ys : List X) → All P (xs +
 all_right P [] ys h = h
 all_right P (x ∷ xs) ys h = all_right P xs ys (All-tail P x (xs ++ ys) h)
 
-module _ (g : GraphData) (ids : List ObjectId) (cutoff : Option ℤ) (names : List ObjectId) (t : ℤ) (held : Commits)
-    (only : OnlyMarks g held) where
-  -- where they are queued and their time is at least the cutoff, their parents are looked for
-  pub due_parents : (least : ℤ) → cutoff ≡ Some least → least ≤ℤ t → (numbers : List ℕ) → All (IsQueued g ids cutoff held)
-      (waiting_in names (map (entry_at t) numbers)) → AreDue g ids cutoff (flat_map (parents_in held) (ids_at names numbers))
-  due_parents least l b [] q = All-nil (IsDue (commit_in g) ids cutoff)
-  due_parents least l b (n ∷ ns) q =
-      let x : Waiting = record { time = t; id = id_at names n } in
-      let first : IsQueued g ids cutoff held x = All-head (IsQueued g ids cutoff held) x (waiting_in names (map (entry_at t) ns)) q in
+module _ (g : GraphData) (ids : List ObjectId) (cutoff : Option ℤ) (held : Commits) (only : OnlyMarks g held) (x : Waiting)
+    (queued : IsQueued g ids cutoff held x) where
+  -- where its time is at least the cutoff, its parents are looked for
+  pub due_parents : (least : ℤ) → cutoff ≡ Some least → least ≤ℤ x.time → AreDue g ids cutoff (parents_in held x.id)
+  due_parents least l b k d i =
       let ps : List ObjectId = parents_in held x.id in
-      All-append (IsDue (commit_in g) ids cutoff) ps (flat_map (parents_in held) (ids_at names ns))
-      (λ k d i. due_parent g ids cutoff x first.complete ps (opened g ids cutoff held only x first ps refl) least l b _
-      (Contains-get_or ps k d i))
-      (due_parents least l b ns (All-tail (IsQueued g ids cutoff held) x (waiting_in names (map (entry_at t) ns)) q))
+      due_parent g ids cutoff x queued.complete ps (opened g ids cutoff held only x queued ps refl) least l b _
+      (Contains-get_or ps k d i)
 
-  -- once those were visited, they need not wait
-  pub expanded_each : (visited : ObjectId → Bool) (numbers : List ℕ)
-      → All (IsQueued g ids cutoff held) (waiting_in names (map (entry_at t) numbers))
-      → AllVisited visited (flat_map (parents_in held) (ids_at names numbers))
-      → All (λ (x : Waiting). IsExpanded g cutoff visited x.id) (waiting_in names (map (entry_at t) numbers))
-  expanded_each visited [] q m = All-nil (λ (x : Waiting). IsExpanded g cutoff visited x.id)
-  expanded_each visited (n ∷ ns) q m =
-      let x : Waiting = record { time = t; id = id_at names n } in
-      let first : IsQueued g ids cutoff held x = All-head (IsQueued g ids cutoff held) x (waiting_in names (map (entry_at t) ns)) q in
+  -- once those were visited, it need not wait
+  pub expanded_parents : (visited : ObjectId → Bool) → AllVisited visited (parents_in held x.id) → IsExpanded g cutoff visited x.id
+  expanded_parents visited m =
       let ps : List ObjectId = parents_in held x.id in
-      let P : ObjectId → Type 0 = λ id. visited id ≡ true in
-      All-cons (λ (x : Waiting). IsExpanded g cutoff visited x.id) x (waiting_in names (map (entry_at t) ns))
-      (expanded_all g cutoff visited x ps (opened g ids cutoff held only x first ps refl)
-      (all_left P ps (flat_map (parents_in held) (ids_at names ns)) m))
-      (expanded_each visited ns (All-tail (IsQueued g ids cutoff held) x (waiting_in names (map (entry_at t) ns)) q)
-      (all_right P ps (flat_map (parents_in held) (ids_at names ns)) m))
+      expanded_all g cutoff visited x ps (opened g ids cutoff held only x queued ps refl) m
 
 -- commits whose times are before the cutoff have no parents that have to be visited
 pub expanded_older : (g : GraphData) (ids : List ObjectId) (cutoff : Option ℤ) (held : Commits) (visited : ObjectId → Bool)

@@ -4,7 +4,7 @@ use Rattle.std.specs.List.Sorted.{IsPermutation}
 use Rattle.gixp_hash.specs.declared.object_id.ObjectId.{ObjectId}
 use Rattle.gixp_graph.specs.GraphData.{HeldCommit}
 use Rattle.gixp_graph.specs.Table.{id_at}
-use Rattle.gixp_graph.specs.Queue.{Entry}
+use Rattle.gixp_graph.specs.declared.queue.Entry.{Entry}
 
 -- a commit that waits, with its time
 pub record Waiting : Type 0 where

@@ -10,7 +10,7 @@ use Rattle.gixp_graph.specs.Asked.{AsksEach}
 use Rattle.gixp_graph.specs.GraphData.{Commits, GraphData, graph_of, found_in, commit_in, is_marked, marked_found, OnlyMarks}
 use Rattle.gixp_graph.specs.Complete.{IsComplete, IsDue}
 use Rattle.gixp_graph.specs.Table.{Table}
-use Rattle.gixp_graph.specs.Queue.{Entry}
+use Rattle.gixp_graph.specs.declared.queue.Entry.{Entry}
 use Rattle.gixp_graph.specs.Visited.{is_visited}
 use Rattle.gixp_graph.specs.Waiting.{Waiting, waiting_in, Queues}
 

@@ -1,6 +1,5 @@
 //! The commits that were looked up, with their marks, as numbered nodes.
 ghost use Rattle.std.specs.Prelude.{◌≡◌, ◌≤◌, ◌<◌, ◌⊎◌, ◌↔◌, IfOk, IfErr, IfSome, IfNone, OnOk, OnErr, option_map, IsSome, IsTrue, unwrap_or, [], ◌∷◌, ◌++◌, length, Some, None, map, take, drop, ◌-◌};
-ghost use Rattle.std.specs.List.{flat_map};
 ghost use Rattle.std.specs.FinMap as finite;
 ghost use Rattle.gixp_graph.specs.declared.objects.ObjectError.TheVariants.{Memory};
 ghost use Rattle.gixp_graph.specs.Object.{HasRisen};
@@ -315,18 +314,14 @@ impl Commits {
         ids_named(alloc, self.nodes.as_slice(), parents)
     }
 
-    /// The numbers of the parents of all commits of some numbers.
-    pub fn parent_numbers(&self, alloc: Global, numbers: &[usize]) -> Result<Vec<usize>, AllocError>
-        requires { AllNamed self.now.ids numbers.now }
-        ensures named { IfOk result (λ parents. AllNamed self.now.ids parents.items) }
-        ensures parents { IfOk result (λ parents. ids_at self.now.ids parents.items ≡ flat_map (parents_in self.now.held)
-            (ids_at self.now.ids numbers.now)) }
+    /// Replaces what a list has by the numbers of the parents of a number's commit.
+    pub fn parent_numbers(&self, number: usize, parents: &mut Vec<usize>) -> Result<(), AllocError>
+        requires { number < length self.now.ids }
+        ensures named { OnOk result (AllNamed self.now.ids parents.new.items) }
+        ensures parents { OnOk result (ids_at self.now.ids parents.new.items ≡ parents_in self.now.held (id_at self.now.ids number)) }
     {
-        let mut all = Vec::new(alloc);
-        for &number in numbers {
-            all.extend_from_slice(parents_of(&self.nodes[number], self.parents.as_slice()))?;
-        }
-        Ok(all)
+        parents.clear();
+        parents.extend_from_slice(parents_of(&self.nodes[number], self.parents.as_slice()))
     }
 
     /// Adds marks to a commit that is held.

@@ -174,11 +174,12 @@ pub(crate) fn mark_complete<O: Objects>(
     let Some(cutoff) = cutoff else {
         return Ok(());
     };
-    while let Some((time, newest)) = queue.pop_newest() {
-        if time < cutoff {
+    let mut parents = Vec::new(alloc);
+    while let Some(newest) = queue.pop_newest() {
+        if newest.time < cutoff {
             return Ok(());
         }
-        let Ok(parents) = commits.parent_numbers(alloc, newest.as_slice()) else {
+        let Ok(()) = commits.parent_numbers(newest.number, &mut parents) else {
             return Err(ObjectError::Memory);
         };
         visit_each(

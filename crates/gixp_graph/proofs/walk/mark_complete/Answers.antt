@@ -5,9 +5,9 @@ use lib.Signed.{◌<ℤ◌}
 use mir.Val.{SFits, to_z, of_z}
 use mir.Syntax.{w64}
 use Rattle.std.proofs.lemmas.Int.{ints, to_z-of_z}
-use Rattle.std.specs.List.{flat_map}
+use Rattle.gixp_graph.specs.declared.queue.Entry.{Entry}
 use Rattle.gixp_graph.specs.GraphData.{GraphData, graph_of, parents_in}
-use Rattle.gixp_graph.specs.Table.{ids_at, AllNamed}
+use Rattle.gixp_graph.specs.Table.{id_at, ids_at}
 use Rattle.gixp_graph.specs.Visited.{is_visited}
 use Rattle.gixp_graph.specs.Walk.{Walk, walk_of, IsWalk, AreDue, AllVisited}
 use Rattle.gixp_graph.proofs.WalkLemmas.{complete_marked, expanded_never, expanded_older}
@@ -51,8 +51,8 @@ returns-in_default-cutoff-clause-complete g c =
     (expanded_never start c.args.cutoff new.visited new.waiting c.in_default-cutoff.is)
     (subst (AllVisited new.visited) are c.in_ok-visit_each.ensures.each.visited)
 
-pub loop-time-init : goal.loop-time-init
-loop-time-init g c =
+pub loop-newest-init : goal.loop-newest-init
+loop-newest-init g c =
     let start : GraphData = graph_of (g.O.Objects.contents c.args.objects.now) c.args.commits.now.held in
     let are = ap (ids_at c.numbers.new.self.ids) c.as_slice.ensures.value ∙ c.in-Ok.ensures.named.1 in
     let new : Walk = walk_of c.visit_each.new.commits c.visit_each.new.visited c.visit_each.new.queue in
@@ -73,117 +73,106 @@ loop-time-init g c =
       tips = subst (AllVisited new.visited) are c.in_ok-visit_each.ensures.each.visited;
     }
 
-pub returns-then-time-cutoff-clause-complete : goal.returns-then-time-cutoff-clause-complete
-returns-then-time-cutoff-clause-complete g c =
+pub returns-then-newest-cutoff-clause-complete : goal.returns-then-newest-cutoff-clause-complete
+returns-then-newest-cutoff-clause-complete g c =
     let start : GraphData = graph_of (g.O.Objects.contents c.args.objects.now) c.args.commits.now.held in
-    let v = c.loop-time.invariant in
+    let v = c.loop-newest.invariant in
     let p = c.in-Some-pop_newest.ensures in
-    let t : ℤ = c.in-Some-pop_newest.time in
-    let at : Walk = walk_of c.loop-time.commits c.loop-time.visited c.loop-time.queue in
-    let fits : SFits w64 t = search rules in
-    let before : t <ℤ to_z w64 (of_z w64 c.in-Some.cutoff) = grind (arith, ints, c.if-time-cutoff.true) in
+    let newest : Entry = c.in-Some-pop_newest.newest in
+    let at : Walk = walk_of c.loop-newest.commits c.loop-newest.visited c.loop-newest.queue in
+    let fits : SFits w64 newest.time = search rules in
+    let before : newest.time <ℤ to_z w64 (of_z w64 c.in-Some.cutoff) = grind (arith, ints, c.if-newest-cutoff.true) in
     complete_marked start c.args.ids.now c.args.cutoff at.held at.visited at.waiting v.walk
-    (expanded_older start c.args.ids.now c.args.cutoff at.held at.visited t _ v.cut before at.waiting
-    (older_waiting c.loop-time.commits.ids t c.loop-time.queue
-    (older_all t c.in-Some-pop_newest.newest.items c.loop-time.queue c.pop_newest.new.self p.taken p.newest)) v.walk.queued)
+    (expanded_older start c.args.ids.now c.args.cutoff at.held at.visited newest.time _ v.cut before at.waiting
+    (older_waiting c.loop-newest.commits.ids newest.time c.loop-newest.queue
+    (older_all newest c.loop-newest.queue c.pop_newest.new.self p.taken p.newest)) v.walk.queued)
     v.tips
 
 pub parent_numbers-requires : goal.parent_numbers-requires
 parent_numbers-requires g c =
-    let v = c.loop-time.invariant in
-    subst (AllNamed c.loop-time.commits.ids) (sym c.as_slice-in-Some-pop_newest.ensures.value)
-    (named_taken c.loop-time.commits.ids c.in-Some-pop_newest.time c.in-Some-pop_newest.newest.items c.loop-time.queue
-    c.pop_newest.new.self c.in-Some-pop_newest.ensures.taken v.queue_named)
+    named_taken c.loop-newest.commits.ids c.in-Some-pop_newest.newest c.loop-newest.queue c.pop_newest.new.self
+    c.in-Some-pop_newest.ensures.taken c.loop-newest.invariant.queue_named
 
 pub visit_each-requires-in-Some-pop_newest-clause-queue_named :
     goal.visit_each-requires-in-Some-pop_newest-clause-queue_named
 visit_each-requires-in-Some-pop_newest-clause-queue_named g c =
-    let v = c.loop-time.invariant in
-    named_rest c.loop-time.commits.ids c.in-Some-pop_newest.time c.in-Some-pop_newest.newest.items c.loop-time.queue
-    c.pop_newest.new.self c.in-Some-pop_newest.ensures.taken v.queue_named
+    named_rest c.loop-newest.commits.ids c.in-Some-pop_newest.newest c.loop-newest.queue c.pop_newest.new.self
+    c.in-Some-pop_newest.ensures.taken c.loop-newest.invariant.queue_named
 
 pub returns-in_err-visit_each-2-clause-only_marks :
     goal.returns-in_err-visit_each-2-clause-only_marks
 returns-in_err-visit_each-2-clause-only_marks g c =
     let start : GraphData = graph_of (g.O.Objects.contents c.args.objects.now) c.args.commits.now.held in
-    let v = c.loop-time.invariant in
-    let t : ℤ = c.in-Some-pop_newest.time in
-    let ids = c.loop-time.commits.ids in
-    let held = c.loop-time.commits.held in
-    let newest = c.in-Some-pop_newest.newest.items in
-    let fits : SFits w64 t = search rules in
-    let late : to_z w64 (of_z w64 c.in-Some.cutoff) ≤ℤ t = grind (arith, ints, c.if-time-cutoff.false) in
-    let are : ids_at ids c.as_slice-in-Some-pop_newest-2.result.now ≡ flat_map (parents_in held) (ids_at ids newest) =
-    ap (ids_at ids) c.as_slice-in-Some-pop_newest-2.ensures.value ∙ c.in-Ok-parent_numbers.ensures.parents
-    ∙ ap (λ ns. flat_map (parents_in held) (ids_at ids ns)) c.as_slice-in-Some-pop_newest.ensures.value in
-    let due : AreDue start c.args.ids.now c.args.cutoff (ids_at ids c.as_slice-in-Some-pop_newest-2.result.now) =
+    let v = c.loop-newest.invariant in
+    let newest : Entry = c.in-Some-pop_newest.newest in
+    let ids = c.loop-newest.commits.ids in
+    let held = c.loop-newest.commits.held in
+    let fits : SFits w64 newest.time = search rules in
+    let late : to_z w64 (of_z w64 c.in-Some.cutoff) ≤ℤ newest.time = grind (arith, ints, c.if-newest-cutoff.false) in
+    let are : ids_at ids c.as_slice-in-Some-pop_newest.result.now ≡ parents_in held (id_at ids newest.number) =
+    ap (ids_at ids) c.as_slice-in-Some-pop_newest.ensures.value ∙ c.in-Ok-parent_numbers.ensures.parents in
+    let due : AreDue start c.args.ids.now c.args.cutoff (ids_at ids c.as_slice-in-Some-pop_newest.result.now) =
     subst (AreDue start c.args.ids.now c.args.cutoff) (sym are)
     (newest_due start c.args.ids.now c.args.cutoff held
-    (is_visited ids c.loop-time.visited) ids t newest c.loop-time.queue c.pop_newest.new.self c.in-Some-pop_newest.ensures.taken
+    (is_visited ids c.loop-newest.visited) ids newest c.loop-newest.queue c.pop_newest.new.self c.in-Some-pop_newest.ensures.taken
     v.walk _ v.cut late) in
     (c.visit_each-in-Some-pop_newest.ensures.some start c.args.ids.now c.args.cutoff v.same due v.walk.marking).only_marks
 
 pub returns-in_err-visit_each-2-clause-sound : goal.returns-in_err-visit_each-2-clause-sound
 returns-in_err-visit_each-2-clause-sound g c =
     let start : GraphData = graph_of (g.O.Objects.contents c.args.objects.now) c.args.commits.now.held in
-    let v = c.loop-time.invariant in
-    let t : ℤ = c.in-Some-pop_newest.time in
-    let ids = c.loop-time.commits.ids in
-    let held = c.loop-time.commits.held in
-    let newest = c.in-Some-pop_newest.newest.items in
-    let fits : SFits w64 t = search rules in
-    let late : to_z w64 (of_z w64 c.in-Some.cutoff) ≤ℤ t = grind (arith, ints, c.if-time-cutoff.false) in
-    let are : ids_at ids c.as_slice-in-Some-pop_newest-2.result.now ≡ flat_map (parents_in held) (ids_at ids newest) =
-    ap (ids_at ids) c.as_slice-in-Some-pop_newest-2.ensures.value ∙ c.in-Ok-parent_numbers.ensures.parents
-    ∙ ap (λ ns. flat_map (parents_in held) (ids_at ids ns)) c.as_slice-in-Some-pop_newest.ensures.value in
-    let due : AreDue start c.args.ids.now c.args.cutoff (ids_at ids c.as_slice-in-Some-pop_newest-2.result.now) =
+    let v = c.loop-newest.invariant in
+    let newest : Entry = c.in-Some-pop_newest.newest in
+    let ids = c.loop-newest.commits.ids in
+    let held = c.loop-newest.commits.held in
+    let fits : SFits w64 newest.time = search rules in
+    let late : to_z w64 (of_z w64 c.in-Some.cutoff) ≤ℤ newest.time = grind (arith, ints, c.if-newest-cutoff.false) in
+    let are : ids_at ids c.as_slice-in-Some-pop_newest.result.now ≡ parents_in held (id_at ids newest.number) =
+    ap (ids_at ids) c.as_slice-in-Some-pop_newest.ensures.value ∙ c.in-Ok-parent_numbers.ensures.parents in
+    let due : AreDue start c.args.ids.now c.args.cutoff (ids_at ids c.as_slice-in-Some-pop_newest.result.now) =
     subst (AreDue start c.args.ids.now c.args.cutoff) (sym are)
     (newest_due start c.args.ids.now c.args.cutoff held
-    (is_visited ids c.loop-time.visited) ids t newest c.loop-time.queue c.pop_newest.new.self c.in-Some-pop_newest.ensures.taken
+    (is_visited ids c.loop-newest.visited) ids newest c.loop-newest.queue c.pop_newest.new.self c.in-Some-pop_newest.ensures.taken
     v.walk _ v.cut late) in
     (c.visit_each-in-Some-pop_newest.ensures.some start c.args.ids.now c.args.cutoff v.same due v.walk.marking).sound
 
-pub loop-time-smaller : goal.loop-time-smaller
-loop-time-smaller g c =
+pub loop-newest-smaller : goal.loop-newest-smaller
+loop-newest-smaller g c =
     let start : GraphData = graph_of (g.O.Objects.contents c.args.objects.now) c.args.commits.now.held in
-    let v = c.loop-time.invariant in
-    let ids = c.loop-time.commits.ids in
-    let held = c.loop-time.commits.held in
-    let newest = c.in-Some-pop_newest.newest.items in
+    let v = c.loop-newest.invariant in
+    let ids = c.loop-newest.commits.ids in
+    let held = c.loop-newest.commits.held in
+    let newest : Entry = c.in-Some-pop_newest.newest in
     let new : Walk =
     walk_of c.visit_each-in-Some-pop_newest.new.commits c.visit_each-in-Some-pop_newest.new.visited
     c.visit_each-in-Some-pop_newest.new.queue in
-    let are : ids_at ids c.as_slice-in-Some-pop_newest-2.result.now ≡ flat_map (parents_in held) (ids_at ids newest) =
-    ap (ids_at ids) c.as_slice-in-Some-pop_newest-2.ensures.value ∙ c.in-Ok-parent_numbers.ensures.parents
-    ∙ ap (λ ns. flat_map (parents_in held) (ids_at ids ns)) c.as_slice-in-Some-pop_newest.ensures.value in
+    let are : ids_at ids c.as_slice-in-Some-pop_newest.result.now ≡ parents_in held (id_at ids newest.number) =
+    ap (ids_at ids) c.as_slice-in-Some-pop_newest.ensures.value ∙ c.in-Ok-parent_numbers.ensures.parents in
     let less =
     newest_left start c.args.ids.now c.args.cutoff held
-    (is_visited ids c.loop-time.visited) ids c.in-Some-pop_newest.time newest c.loop-time.queue c.pop_newest.new.self
+    (is_visited ids c.loop-newest.visited) ids newest c.loop-newest.queue c.pop_newest.new.self
     c.in-Some-pop_newest.ensures.taken v.walk _ v.same _ are
-    new c.in_ok-visit_each-2.ensures.each c.visit_each-in-Some-pop_newest.new.queue c.visit_each-in-Some-pop_newest.new.commits.ids refl
-    c.in-Some-pop_newest.ensures.filled in
+    new c.in_ok-visit_each-2.ensures.each c.visit_each-in-Some-pop_newest.new.queue c.visit_each-in-Some-pop_newest.new.commits.ids refl in
     omega (arith, less)
 
-pub loop-time-preserved : goal.loop-time-preserved
-loop-time-preserved g c =
+pub loop-newest-preserved : goal.loop-newest-preserved
+loop-newest-preserved g c =
     let start : GraphData = graph_of (g.O.Objects.contents c.args.objects.now) c.args.commits.now.held in
-    let v = c.loop-time.invariant in
-    let t : ℤ = c.in-Some-pop_newest.time in
-    let ids = c.loop-time.commits.ids in
-    let held = c.loop-time.commits.held in
-    let visited = is_visited ids c.loop-time.visited in
-    let newest = c.in-Some-pop_newest.newest.items in
+    let v = c.loop-newest.invariant in
+    let newest : Entry = c.in-Some-pop_newest.newest in
+    let ids = c.loop-newest.commits.ids in
+    let held = c.loop-newest.commits.held in
+    let visited = is_visited ids c.loop-newest.visited in
     let new : Walk =
     walk_of c.visit_each-in-Some-pop_newest.new.commits c.visit_each-in-Some-pop_newest.new.visited
     c.visit_each-in-Some-pop_newest.new.queue in
-    let fits : SFits w64 t = search rules in
-    let late : to_z w64 (of_z w64 c.in-Some.cutoff) ≤ℤ t = grind (arith, ints, c.if-time-cutoff.false) in
-    let are : ids_at ids c.as_slice-in-Some-pop_newest-2.result.now ≡ flat_map (parents_in held) (ids_at ids newest) =
-    ap (ids_at ids) c.as_slice-in-Some-pop_newest-2.ensures.value ∙ c.in-Ok-parent_numbers.ensures.parents
-    ∙ ap (λ ns. flat_map (parents_in held) (ids_at ids ns)) c.as_slice-in-Some-pop_newest.ensures.value in
-    let due : AreDue start c.args.ids.now c.args.cutoff (ids_at ids c.as_slice-in-Some-pop_newest-2.result.now) =
+    let fits : SFits w64 newest.time = search rules in
+    let late : to_z w64 (of_z w64 c.in-Some.cutoff) ≤ℤ newest.time = grind (arith, ints, c.if-newest-cutoff.false) in
+    let are : ids_at ids c.as_slice-in-Some-pop_newest.result.now ≡ parents_in held (id_at ids newest.number) =
+    ap (ids_at ids) c.as_slice-in-Some-pop_newest.ensures.value ∙ c.in-Ok-parent_numbers.ensures.parents in
+    let due : AreDue start c.args.ids.now c.args.cutoff (ids_at ids c.as_slice-in-Some-pop_newest.result.now) =
     subst (AreDue start c.args.ids.now c.args.cutoff) (sym are)
-    (newest_due start c.args.ids.now c.args.cutoff held visited ids t newest c.loop-time.queue c.pop_newest.new.self
+    (newest_due start c.args.ids.now c.args.cutoff held visited ids newest c.loop-newest.queue c.pop_newest.new.self
     c.in-Some-pop_newest.ensures.taken v.walk _ v.cut late) in
     let e = c.visit_each-in-Some-pop_newest.ensures in
     let each = c.in_ok-visit_each-2.ensures.each in
@@ -195,7 +184,7 @@ loop-time-preserved g c =
       visited_named = c.in_ok-visit_each-2.ensures.visited_named;
       queue_named = c.in_ok-visit_each-2.ensures.queue_named;
       walk =
-          newest_walk start c.args.ids.now c.args.cutoff held visited ids t newest c.loop-time.queue c.pop_newest.new.self
+          newest_walk start c.args.ids.now c.args.cutoff held visited ids newest c.loop-newest.queue c.pop_newest.new.self
           c.in-Some-pop_newest.ensures.taken v.walk _ v.same _ are new each due;
       asked = c.in_ok-visit_each-2.ensures.asked start c.args.ids.now c.args.cutoff _ v.same due v.walk.marking.only_marks v.asked;
       tips = still_visited _ _ c.args.ids.now _ new each v.tips;
@@ -204,10 +193,10 @@ loop-time-preserved g c =
 pub returns-clause-complete : goal.returns-clause-complete
 returns-clause-complete g c =
     let start : GraphData = graph_of (g.O.Objects.contents c.args.objects.now) c.args.commits.now.held in
-    let v = c.loop-time.invariant in
-    complete_marked start c.args.ids.now c.args.cutoff c.loop-time.commits.held (is_visited c.loop-time.commits.ids c.loop-time.visited) []
+    let v = c.loop-newest.invariant in
+    complete_marked start c.args.ids.now c.args.cutoff c.loop-newest.commits.held (is_visited c.loop-newest.commits.ids c.loop-newest.visited) []
     (subst (λ q. IsWalk start c.args.ids.now c.args.cutoff
-    (walk_of c.loop-time.commits c.loop-time.visited q)) c.in_default-pop_newest.ensures.none v.walk)
+    (walk_of c.loop-newest.commits c.loop-newest.visited q)) c.in_default-pop_newest.ensures.none v.walk)
     (λ k d l. absurd (omega arith)) v.tips
 
 -- ---- which ids were asked for
@@ -231,32 +220,30 @@ returns-in_default-cutoff-clause-asked g c =
     (tips_asked start c.args.ids.now c.args.cutoff _ refl _ are c.numbers.new.self c.new-visited.result new c.numbers.ensures.held _
     _ c.in_ok-visit_each.ensures.asked)
 
-pub returns-then-time-cutoff-clause-asked : goal.returns-then-time-cutoff-clause-asked
-returns-then-time-cutoff-clause-asked g c = asked_due _ _ _ _ _ _ c.loop-time.invariant.asked
+pub returns-then-newest-cutoff-clause-asked : goal.returns-then-newest-cutoff-clause-asked
+returns-then-newest-cutoff-clause-asked g c = asked_due _ _ _ _ _ _ c.loop-newest.invariant.asked
 
 pub returns-in_default-parent_numbers-clause-asked :
     goal.returns-in_default-parent_numbers-clause-asked
-returns-in_default-parent_numbers-clause-asked g c = asked_due _ _ _ _ _ _ c.loop-time.invariant.asked
+returns-in_default-parent_numbers-clause-asked g c = asked_due _ _ _ _ _ _ c.loop-newest.invariant.asked
 
 pub returns-in_err-visit_each-2-clause-asked : goal.returns-in_err-visit_each-2-clause-asked
 returns-in_err-visit_each-2-clause-asked g c =
     let start : GraphData = graph_of (g.O.Objects.contents c.args.objects.now) c.args.commits.now.held in
-    let v = c.loop-time.invariant in
-    let t : ℤ = c.in-Some-pop_newest.time in
-    let ids = c.loop-time.commits.ids in
-    let held = c.loop-time.commits.held in
-    let newest = c.in-Some-pop_newest.newest.items in
-    let fits : SFits w64 t = search rules in
-    let late : to_z w64 (of_z w64 c.in-Some.cutoff) ≤ℤ t = grind (arith, ints, c.if-time-cutoff.false) in
-    let are : ids_at ids c.as_slice-in-Some-pop_newest-2.result.now ≡ flat_map (parents_in held) (ids_at ids newest) =
-    ap (ids_at ids) c.as_slice-in-Some-pop_newest-2.ensures.value ∙ c.in-Ok-parent_numbers.ensures.parents
-    ∙ ap (λ ns. flat_map (parents_in held) (ids_at ids ns)) c.as_slice-in-Some-pop_newest.ensures.value in
-    let due : AreDue start c.args.ids.now c.args.cutoff (ids_at ids c.as_slice-in-Some-pop_newest-2.result.now) =
+    let v = c.loop-newest.invariant in
+    let newest : Entry = c.in-Some-pop_newest.newest in
+    let ids = c.loop-newest.commits.ids in
+    let held = c.loop-newest.commits.held in
+    let fits : SFits w64 newest.time = search rules in
+    let late : to_z w64 (of_z w64 c.in-Some.cutoff) ≤ℤ newest.time = grind (arith, ints, c.if-newest-cutoff.false) in
+    let are : ids_at ids c.as_slice-in-Some-pop_newest.result.now ≡ parents_in held (id_at ids newest.number) =
+    ap (ids_at ids) c.as_slice-in-Some-pop_newest.ensures.value ∙ c.in-Ok-parent_numbers.ensures.parents in
+    let due : AreDue start c.args.ids.now c.args.cutoff (ids_at ids c.as_slice-in-Some-pop_newest.result.now) =
     subst (AreDue start c.args.ids.now c.args.cutoff) (sym are)
     (newest_due start c.args.ids.now c.args.cutoff held
-    (is_visited ids c.loop-time.visited) ids t newest c.loop-time.queue c.pop_newest.new.self c.in-Some-pop_newest.ensures.taken
+    (is_visited ids c.loop-newest.visited) ids newest c.loop-newest.queue c.pop_newest.new.self c.in-Some-pop_newest.ensures.taken
     v.walk _ v.cut late) in
     c.in_err-visit_each-2.ensures.asked_some start c.args.ids.now c.args.cutoff _ v.same due v.walk.marking.only_marks v.asked
 
 pub returns-clause-asked : goal.returns-clause-asked
-returns-clause-asked g c = asked_due _ _ _ _ _ _ c.loop-time.invariant.asked
+returns-clause-asked g c = asked_due _ _ _ _ _ _ c.loop-newest.invariant.asked

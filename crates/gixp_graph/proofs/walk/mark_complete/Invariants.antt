@@ -7,8 +7,8 @@ use Rattle.gixp_graph.specs.Walk.{walk_of, IsWalk, AllVisited, HasAsked, left}
 use Rattle.gixp_graph.proofs.walk.mark_complete.Given as goal
 
 -- a walk from the tips
-abbrev pub invariant-loop-time : goal.invariant-loop-time
-invariant-loop-time g l =
+abbrev pub invariant-loop-newest : goal.invariant-loop-newest
+invariant-loop-newest g l =
     let start : GraphData = graph_of (g.O.Objects.contents l.fn.objects) l.fn.commits.held in
     record {
       same : g.O.Objects.contents l.objects ≡ g.O.Objects.contents l.fn.objects;
@@ -24,6 +24,6 @@ invariant-loop-time g l =
     }
 
 -- the commits that weren't visited, and those that wait
-abbrev pub decreases-loop-time : goal.decreases-loop-time
-decreases-loop-time g l =
+abbrev pub decreases-loop-newest : goal.decreases-loop-newest
+decreases-loop-newest g l =
     left (graph_of (g.O.Objects.contents l.fn.objects) l.fn.commits.held) (is_visited l.commits.ids l.visited) + length l.queue
