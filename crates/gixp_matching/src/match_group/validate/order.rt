@@ -112,11 +112,7 @@ fn run_end(numbers: &[u64], start: usize) -> usize
 /// Brings conflicts close to byte order of their local names, by numbers, which are compared faster than names: eight bytes
 /// behind those that all names share, and where these are equal, eight behind what those names share, for so many rounds.
 /// So names that a server chose to begin alike take no more comparisons of whole names than others.
-fn sort_by_numbers(
-    alloc: Global,
-    issues: &mut [Issue],
-    rounds: usize,
-) -> Result<(), AllocError>
+fn sort_by_numbers(alloc: Global, issues: &mut [Issue], rounds: usize) -> Result<(), AllocError>
     ensures { IsPermutation issues.old issues.new }
 {
     if rounds == 0 || issues.len() <= FEW {
