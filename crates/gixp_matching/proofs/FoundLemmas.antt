@@ -1,12 +1,13 @@
 -- Conflicts as they are found: for each name those over it.
 use Rattle.std.proofs.Common.{◌≡◌, ℕ, zero, suc, ◌+◌, ◌-◌, ◌<◌, ◌≤◌, Bool, true, false, cond, List, [], ◌∷◌, ◌++◌, length, take, drop, map, get_or, Some, ap, sym, subst, ◌∙◌, refl, inl, inr, append_assoc, arith}
-use Rattle.std.specs.Prelude.{◌||◌, ◌==◌, not, filter}
+use Rattle.std.specs.Prelude.{◌||◌, ◌==◌, min, not, filter, replicate}
 use Rattle.std.specs.List.{AllByRecursion, IsDistinct, list_any}
 use Rattle.std.specs.Borrow.{Bor}
 use Rattle.std.specs.Str.{bytes_eq}
-use Rattle.std.proofs.lemmas.Bool.{cases_Bool, cond-true, cond-false, false≢true, or_parts, eqb-true, eq-eqb}
-use Rattle.std.proofs.Math.Seq.{drop-cons, drop-append_seam, take-append_seam}
-use Rattle.std.proofs.lemmas.List.{append-nil, length-map, length-append, map_more, take-map, take-append-drop}
+use Rattle.std.proofs.lemmas.Bool.{cases_Bool, cases_lt, cond-true, cond-false, false≢true, or_parts, eqb-true, eq-eqb}
+use Rattle.std.proofs.Math.Seq.{drop-cons, drop-append_seam, take-append_seam, take-append-add}
+use Rattle.std.proofs.Math.Nat.{min-eq_left, min-eq_right}
+use Rattle.std.proofs.lemmas.List.{append-nil, drop_all, drop-replicate, length-map, length-append, length-replicate, map_more, take_all, take-map, take-append-drop, take-append-le, take-replicate}
 use Rattle.std.proofs.lemmas.List.Elements.{filter-append, recursion_from_All, All-from_recursion}
 use Rattle.std.proofs.lemmas.List.Filters.{length-filter_both}
 use Rattle.std.proofs.lemmas.List.Folds.{list_any-append, list_any_kept}
@@ -16,7 +17,7 @@ use Rattle.gixp_packetline.proofs.ListLemmas.{any_of_map, take-map_more}
 use Rattle.gixp_matching.specs.declared.match_group.validate.groups.Group.{Group}
 use Rattle.gixp_matching.specs.declared.match_group.validate.groups.Named.{Named}
 use Rattle.gixp_matching.specs.Digest.{digest}
-use Rattle.gixp_matching.specs.Found.{found_over, found_among, found_first, found_in_groups, is_over, AddsConflicts}
+use Rattle.gixp_matching.specs.Found.{found_over, found_among, found_first, found_in_groups, is_over, part, AddsConflicts}
 use Rattle.gixp_matching.specs.Groups.{behind, lent, mappings_of, grouped, has_number, have_one_number, HasAll, ListsNumbered, AreGroups}
 use Rattle.gixp_matching.specs.Mappings.{Mapped, local_eq}
 use Rattle.gixp_matching.specs.Validation.{Conflict, differ, has_local, of_local}
@@ -293,3 +294,22 @@ shorter (suc m) (suc n) (x ∷ xs) (y ∷ ys) l h =
     let same : x ≡ y = cc in
     let rest : take n xs ≡ take n ys = cc in
     ap (λ z. z ∷ take m xs) same ∙ ap (λ r. y ∷ r) (shorter m n xs ys (omega arith) rest)
+
+-- bytes, and behind them as many zeros as are lacking
+pub padded : (n : ℕ) (xs : List ℕ) → take (min (length xs) n) xs ++ drop (min (length xs) n) (replicate n 0) ≡ part n xs
+unfolding part
+padded n xs = elim (cases_lt (length xs) n) [
+  | inl short ↦ (
+      let behind : ℕ = n - length xs in
+      let all : min (length xs) n ≡ length xs = min-eq_left (omega (arith, short)) in
+      let count : length xs + behind ≡ n = omega (arith, short) in
+      ap (λ m. take m xs ++ drop m (replicate n 0)) all
+      ∙ ap (λ l. l ++ drop (length xs) (replicate n 0)) (take_all (length xs) xs (omega arith))
+      ∙ ap (λ l. xs ++ l) (drop-replicate (length xs) n 0 ∙ sym (take-replicate behind n 0 (omega arith)))
+      ∙ sym (take-append-add xs (replicate n 0) behind) ∙ ap (λ m. take m (xs ++ replicate n 0)) count)
+  | inr long ↦ (
+      let cut : min (length xs) n ≡ n = min-eq_right long in
+      let none : drop n (replicate n 0) ≡ [] = drop_all n (replicate n 0) (omega (arith, length-replicate {A = ℕ} n 0)) in
+      ap (λ m. take m xs ++ drop m (replicate n 0)) cut ∙ ap (λ l. take n xs ++ l) none ∙ append-nil (take n xs)
+      ∙ sym (take-append-le n xs (replicate n 0) long))
+]

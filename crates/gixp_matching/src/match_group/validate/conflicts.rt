@@ -265,7 +265,7 @@ fn conflicts_by_number<M: AsMapping>(
     let groups = groups_of(alloc, &rows)?;
     let grouped = mappings_of(alloc, &groups)?;
     let mut issues = conflicts_of_groups(alloc, &texts, &groups, &grouped)?;
-    sort_by_name(alloc, &mut issues)?;
+    sort_by_name(&mut issues)?;
     Ok(issues)
 }
 

@@ -1,13 +1,10 @@
 -- The conflicts over groups, sorted.
 use Rattle.std.proofs.Common.{[], ◌∙◌, ap, sym, subst, map}
-use Rattle.std.specs.List.Sorted.{IsPermutation}
-use Rattle.std.proofs.lemmas.List.{with_items_is}
-use Rattle.std.proofs.lemmas.List.Sorted.{length_permutation}
 use Rattle.bstr.specs.Owned.{bstring_bytes}
 use Rattle.gixp_matching.specs.Groups.{AreGroups, grouped}
 use Rattle.gixp_matching.specs.Found.{AddsConflicts, found_in_groups}
 use Rattle.gixp_matching.specs.MatchGroup.{values}
-use Rattle.gixp_matching.specs.Validate.{conflict_of, conflicts_in}
+use Rattle.gixp_matching.specs.Validate.{conflicts_in}
 use Rattle.gixp_matching.proofs.FoundLemmas.{all_found}
 use Rattle.gixp_matching.proofs.UniqueLemmas.{conflicts_from_issues}
 use Rattle.gixp_matching.proofs.match_group.validate.conflicts.conflicts_by_number.Goals as goal
@@ -22,16 +19,12 @@ returns g c =
     let texts = map bstring_bytes c.in_ok-texts.texts.items in
     let ms = map f c.args.mappings.now in
     let groups = c.deref-4.result.now in
-    let found = c.in_ok-issues.issues in
-    let ordered = c.sort_by_name.new.issues in
-    let permuted : IsPermutation found.items ordered =
-    subst (λ issues. IsPermutation issues ordered) c.deref_mut.ensures.value c.in_ok-sort_by_name.ensures.permutation in
-    ap (map conflict_of) (with_items_is found ordered (length_permutation found.items ordered permuted ∙ sym found.ok.0))
-    ∙ conflicts_from_issues (values c.args.specs.now) texts ms found.items ordered c.in_ok-texts.ensures
-    (all_found f texts ms c.in_ok-rows.rows.items groups (conflicts_in found) c.in_ok-rows.ensures
+    conflicts_from_issues (values c.args.specs.now) texts ms c.in_ok-issues.issues.items c.sort_by_name.new.issues.items
+    c.in_ok-texts.ensures
+    (all_found f texts ms c.in_ok-rows.rows.items groups (conflicts_in c.in_ok-issues.issues) c.in_ok-rows.ensures
     (subst (λ rows. AreGroups rows groups) c.deref.ensures.value
     (subst (AreGroups c.deref.result.now) (sym c.deref-4.ensures.value) c.in_ok-groups.ensures))
-    (subst (λ t. AddsConflicts (found_in_groups f (map bstring_bytes t) groups) [] (conflicts_in found))
+    (subst (λ t. AddsConflicts (found_in_groups f (map bstring_bytes t) groups) [] (conflicts_in c.in_ok-issues.issues))
     c.deref-3.ensures.value
     c.in_ok-issues.ensures))
-    permuted c.in_ok-sort_by_name.ensures.order
+    c.in_ok-sort_by_name.ensures.permutation c.in_ok-sort_by_name.ensures.order
