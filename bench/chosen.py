@@ -43,15 +43,17 @@ def both(branches, tags):
 
 
 def cases(refs):
-    """Names in no order; one of them again; all local names with two sources, in one order, in two, with one name that is
-    unlike the others, and alike in their beginnings by eight bytes, four times."""
-    yield "shuffled", shuffled(ordinary(refs, 29 * refs))
-    yield "repeated", [*(names := shuffled(ordinary(refs, 29 * refs))), names[0]]
+    """Ordinary names in no order, and one of them again. Then all local names with two sources: in one order, in two, and
+    with names that begin alike, in a few bytes or many but for one name, or in one of 16 ways."""
+    names = shuffled(ordinary(refs, 29 * refs))
+    yield "shuffled", names
+    yield "repeated", [*names, names[0]]
     names = shuffled(numbered(refs))
     yield "conflicting", both(names, names)
     yield "crossed", both(names, shuffled(names))
-    names = shuffled(numbered(refs, ["a" * 10])) + ["b"]
-    yield "unlike", both(names, shuffled(names))
+    for what, count in (("unlike", 10), ("long", 72)):
+        names = [*shuffled(numbered(refs, ["a" * count])), "b"]
+        yield what, both(names, shuffled(names))
     blocks = ["a" * 8, "b" * 8]
     names = shuffled(numbered(refs, [a + b + c + d for a in blocks for b in blocks for c in blocks for d in blocks]))
     yield "alike", both(names, shuffled(names))
@@ -65,6 +67,7 @@ def write_answer(path, names):
 
 
 def seconds(words):
+    """What a run takes of the processor, whether the plan is refused or not."""
     start = processor_seconds()
     subprocess.run(words, stdout=subprocess.DEVNULL, stderr=subprocess.DEVNULL)
     return processor_seconds() - start

@@ -1,10 +1,11 @@
 -- Conflicts as they are found, with the texts of all refspecs at hand.
-use Rattle.std.specs.Prelude.{ℕ, ◌≡◌, ◌+◌, Bool, if◌then◌else◌, List, [], ◌∷◌, ◌++◌, filter, map, replicate, take}
+use Rattle.std.specs.Prelude.{ℕ, zero, suc, ◌≡◌, ◌+◌, Bool, if◌then◌else◌, List, [], ◌∷◌, ◌++◌, filter, map, replicate, take, unwrap_or}
 use Rattle.std.specs.List.{All, slice_get, list_any, flat_map}
 use Rattle.std.specs.Option.{option_map_or}
 use Rattle.std.specs.Str.{bytes_eq}
 use Rattle.gixp_matching.specs.declared.match_group.validate.Issue.{Issue}
 use Rattle.gixp_matching.specs.declared.match_group.validate.groups.Group.{Group}
+use Rattle.gixp_matching.specs.Digest.{step}
 use Rattle.gixp_matching.specs.Groups.{behind}
 use Rattle.gixp_matching.specs.Mappings.{Mapped}
 use Rattle.gixp_matching.specs.Validate.{conflict_of}
@@ -47,6 +48,11 @@ found_first texts ms place name =
 -- the conflicts over a local name among the mappings of each group
 abbrev pub found_in_groups : {M : Type 0} → (M → Mapped) → List (List ℕ) → List (Group M) → List ℕ → List Conflict
 found_in_groups f texts groups name = flat_map (λ group. found_among texts (behind f group.rows.now) name) groups
+
+-- the first so many bytes as a number, the first one highest, as if zeros stood behind the last
+unfoldable pub leading : ℕ → List ℕ → ℕ
+leading zero bytes = 0
+leading (suc count) bytes = step (leading count bytes) (unwrap_or (slice_get bytes count) 0)
 
 -- the first so many bytes, as if zeros stood behind the last
 unfoldable pub part : ℕ → List ℕ → List ℕ

@@ -18,7 +18,7 @@ pub(crate) struct State {
 }
 
 /// The number with one byte more at its low end.
-fn step(number: u64, byte: u8) -> u64
+pub(crate) fn step(number: u64, byte: u8) -> u64
     ensures { result ≡ step number byte }
 {
     number.wrapping_mul(256).wrapping_add(u64::from(byte))

@@ -3,8 +3,9 @@ ghost use Rattle.std.specs.Prelude.{◌≡◌, drop, take, OnOk};
 ghost use Rattle.std.specs.Cmp.Lexicographic.{slice_cmp};
 ghost use Rattle.std.specs.List.Sorted.{IsPermutation, IsSortedByKey};
 ghost use Rattle.std.specs.Ordering.{nat_cmp};
-ghost use Rattle.gixp_matching.specs.Found.{destination_of, part, ShareFront};
+ghost use Rattle.gixp_matching.specs.Found.{destination_of, leading, part, ShareFront};
 
+use crate::match_group::digest::step;
 use crate::match_group::validate::Issue;
 use std::alloc::AllocError;
 use std::cmp::Ordering;
@@ -51,6 +52,26 @@ fn front_len(issues: &[Issue]) -> usize
     front
 }
 
+/// The first eight bytes as a number, the first one highest, as if zeros stood behind the last.
+#[tactic(auto, unfolding(crate::specs::Found::leading))]
+fn leading(bytes: &[u8]) -> u64
+    ensures { result ≡ leading 8 bytes.now }
+{
+    let mut number = 0;
+    'places: for place in 0usize..8 {
+        number = step(number, bytes.get(place).copied().unwrap_or(0));
+    }
+    number
+}
+
+/// What is behind the first bytes of a local name, as a number.
+fn number_of(issue: &Issue, front: usize) -> u64
+    ensures { result ≡ leading 8 (drop front (destination_of issue.now)) }
+{
+    let name = name_of(issue);
+    leading(&name[front.min(name.len())..])
+}
+
 /// The bytes behind the first ones of the local name, as if zeros stood behind the last.
 fn part_of(issue: &Issue, front: usize) -> [u8; WIDTH]
     ensures { result ≡ part 64 (drop front (destination_of issue.now)) }
@@ -70,15 +91,37 @@ fn by_name(a: &Issue, b: &Issue) -> Ordering
     name_of(a).cmp(name_of(b))
 }
 
-/// Puts conflicts into byte order of their local names. The parts behind the bytes that all names share mostly tell the order,
-/// and lie beside one another, so that the names themselves are mostly compared once. A server that makes all parts equal has to
-/// send names so long that comparing them costs less than what else is done with their bytes.
+/// Whether each local name is below the next.
+fn are_in_order(issues: &[Issue]) -> bool {
+    'places: for place in 1..issues.len() {
+        if by_name(&issues[place - 1], &issues[place]) != Ordering::Less {
+            return false;
+        }
+    }
+    true
+}
+
+/// Brings conflicts close to byte order of their local names. The eight bytes behind those that all names share mostly tell the
+/// order, else the part behind them: both lie beside one another, where names lie far apart.
+fn sort_by_parts(issues: &mut Vec<Issue>) -> Result<(), AllocError>
+    ensures { IsPermutation issues.old.items issues.new.items }
+{
+    let front = front_len(issues);
+    issues.sort_by_cached_key(|issue| number_of(issue, front))?;
+    if are_in_order(issues) {
+        return Ok(());
+    }
+    issues.sort_by_cached_key(|issue| part_of(issue, front))?;
+    Ok(())
+}
+
+/// Puts conflicts into byte order of their local names, which are mostly compared with their neighbours alone. A server that makes
+/// all parts equal has to send names so long that comparing them costs less than what else is done with their bytes.
 pub(crate) fn sort_by_name(issues: &mut Vec<Issue>) -> Result<(), AllocError>
     ensures permutation { IsPermutation issues.old.items issues.new.items }
     ensures order { OnOk result (IsSortedByKey destination_of (slice_cmp nat_cmp) issues.new.items) }
 {
-    let front = front_len(issues);
-    issues.sort_by_cached_key(|issue| part_of(issue, front))?;
+    sort_by_parts(issues)?;
     issues.sort_unstable_by(|a, b| by_name(a, b));
     Ok(())
 }

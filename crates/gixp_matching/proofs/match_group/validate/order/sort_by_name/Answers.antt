@@ -10,8 +10,8 @@ use Rattle.gixp_matching.proofs.match_group.validate.order.sort_by_name.Goals as
 
 pub returns-clause-permutation : goal.returns-clause-permutation
 returns-clause-permutation c =
-    IsPermutation-trans c.args.issues.now.items c.sort_by_cached_key.new.self.items c.sort_unstable_by.new.self.items
-    c.in_ok-sort_by_cached_key.ensures.permutation c.sort_unstable_by.ensures.permutation
+    IsPermutation-trans c.args.issues.now.items c.sort_by_parts.new.issues.items c.sort_unstable_by.new.self.items
+    c.in_ok-sort_by_parts.ensures c.sort_unstable_by.ensures.permutation
 
 pub returns-clause-order : goal.returns-clause-order
 returns-clause-order c =
