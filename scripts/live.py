@@ -180,16 +180,20 @@ def as_ssh():
     LIVE_MOST      how many bytes it says before it dies
     LIVE_PAD       how long a capability is that comes after `version 2`
     LIVE_BODIES    each request goes to a server of its own, as over HTTP, by version 2
+    LIVE_BOUNDARY  lines about the boundary that stand before the pack, whatever the server has to say of it
+    LIVE_SAYS      a band and a text that stand before the pack's last packet line
+    LIVE_ENDS      it ends right behind the pack
     """
     path = shlex.split(sys.argv[-1])[1]
-    wish = {name: os.environ.get(f"LIVE_{name}") for name in ("STARTS", "VERSION", "MOST", "PAD", "BODIES")}
+    wish = {name: os.environ.get(f"LIVE_{name}") for name in ("STARTS", "VERSION", "MOST", "PAD", "BODIES", "BOUNDARY", "SAYS", "ENDS")}
     if wish["STARTS"]:
         with open(wish["STARTS"], "a") as starts:
             starts.write("start\n")
-    if wish["VERSION"] or wish["BODIES"]:
+    edits = any(wish[name] for name in ("BOUNDARY", "SAYS", "ENDS"))
+    if wish["VERSION"] or wish["BODIES"] or edits:
         os.environ["GIT_PROTOCOL"] = f"version={wish['VERSION'] or 2}"
-    if wish["BODIES"]:
-        return answer_bodies(path)
+    if wish["BODIES"] or edits:
+        return answer_bodies(path, lambda answer: edited(answer, wish))
     if not (wish["MOST"] or wish["PAD"]):
         os.execvp("git", ["git", "upload-pack", path])
     server = subprocess.Popen(["git", "upload-pack", path], stdout=subprocess.PIPE)
@@ -207,10 +211,28 @@ def tell(said):
     sys.stdout.buffer.flush()
 
 
-def answer_bodies(path):
+def edited(answer, wish):
+    """An answer with a pack, as the environment has it."""
+    head = frame(b"packfile\n")
+    if head not in answer:
+        return answer
+    front, pack = answer.split(head, 1)
+    if wish["BOUNDARY"]:
+        lines = b"".join(frame(line.encode() + b"\n") for line in wish["BOUNDARY"].split(","))
+        front = front.split(frame(b"shallow-info\n"))[0] + frame(b"shallow-info\n") + lines + b"0001"
+    if wish["SAYS"]:
+        band, _, text = wish["SAYS"].partition(" ")
+        pack = pack[:-4] + frame(bytes([int(band)]) + text.encode("latin1").decode("unicode_escape").encode("latin1")) + b"0000"
+    return front + head + (pack[:-4] if wish["ENDS"] else pack)
+
+
+def answer_bodies(path, edit):
     """Tells what the server is capable of, and then answers each request."""
     def answer(word, request):
-        tell(subprocess.run(["git", "upload-pack", word, path], input=request, stdout=subprocess.PIPE).stdout)
+        said = edit(subprocess.run(["git", "upload-pack", word, path], input=request, stdout=subprocess.PIPE).stdout)
+        tell(said)
+        if said and not said.endswith(b"0000"):
+            sys.exit()
 
     answer("--http-backend-info-refs", b"")
     while (request := request_of(sys.stdin.buffer)) not in (b"", b"0000"):
@@ -231,7 +253,7 @@ def request_of(stream):
 def ssh(**wish):
     """What the helper is told, so that it starts such a server."""
     command = f"{sys.executable} {shlex.quote(str(pathlib.Path(__file__).resolve()))} as-ssh"
-    return {"GIT_SSH_COMMAND": command, **{f"LIVE_{name}": str(value) for name, value in wish.items()}}
+    return {"GIT_SSH_COMMAND": command, "GIT_SSH_VARIANT": "ssh", **{f"LIVE_{name}": str(value) for name, value in wish.items()}}
 
 
 def bodies(server):
@@ -715,6 +737,192 @@ def over_daemon(name, t, server):
         daemon.wait()
 
 
+# That nothing of the user's is harmed
+
+
+def by_both(t, server):
+    """The ways to a server of our own, in place of ssh: by git, and by us."""
+    return f"ssh://host{server}", f"gixp::ssh://host{server}"
+
+
+def left_of_packs(t, repository):
+    """What is left beside the packs."""
+    objects = pathlib.Path(t.git("rev-parse", "--path-format=absolute", "--git-path", "objects", at=repository).strip())
+    return sorted(found.name.split(".")[-1][:8] for found in (objects / "pack").iterdir() if found.suffix == ".keep" or found.name.startswith("tmp_"))
+
+
+def work_trees(name, t):
+    """Fetches in a linked work tree: what belongs to the repository goes to the repository."""
+    for words, cloned in (([], []), (["--unshallow"], ["--depth", "3"]), (["--depth", "2"], []), (["--depth", "5"], ["--depth", "2"])):
+        server = make(t, "server", 20)
+        by_git, by_us, first, second = clone_both(t, server, *cloned)
+        grow(t, server, 2)
+        linked = []
+        for client in (by_git, by_us):
+            linked.append(t.folder("linked"))
+            t.git("worktree", "add", "-q", "--detach", linked[-1], at=client)
+        first, second = t.run("git", "fetch", "-q", *words, at=linked[0]), t.run("git", "fetch", "-q", *words, at=linked[1])
+        same(t, f"{name}: fetch {' '.join(words)}", by_git, by_us, first, second)
+        strays = [path for path in (by_us / ".git" / "worktrees").rglob("shallow*")]
+        t.check(f"{name}: nothing in the work tree's folder, {' '.join(words)}", not strays, strays)
+
+
+def shallow_servers(name, t):
+    """A server whose repository is shallow, to a client that has all: no boundary is taken, and no history is lost."""
+    full = make(t, "full", 30)
+    server = t.folder("server")
+    t.git("clone", "-q", "--bare", "--depth", "2", f"file://{full}", server)
+    grow(t, server, 1)
+    for words in ([], ["--update-shallow"]):
+        by_git, by_us, first, second = clone_both(t, full)
+        for client, url in ((by_git, f"file://{server}"), (by_us, f"gixp::{server}")):
+            t.git("fetch", "-q", *words, url, "main:refs/x/main", at=client)
+        t.check(f"{name}: the same {words}", state(t, by_git) == state(t, by_us), state(t, by_us))
+        for client in (by_git, by_us):
+            t.git("gc", "-q", "--prune=now", at=client)
+        t.check(f"{name}: history {words}", t.git("rev-list", "--all", at=by_us) == t.git("rev-list", "--all", at=by_git) and is_clean(t, by_us)[0])
+    # one that has none of it: git leaves the ref alone, or takes the boundary where that was asked for
+    for words, wanted in (([], False), (["--update-shallow"], True)):
+        clients = [make(t, "client", 0, bare=False) for _ in range(2)]
+        ends = [t.run("git", "fetch", "-q", *words, url, "main:refs/x/main", at=client) for client, url in zip(clients, (f"file://{server}", f"gixp::{server}"))]
+        states = [state(t, client) for client in clients]
+        t.check(f"{name}: of an empty client {words}", states[0] == states[1] and (ends[1][0] == 0) == wanted and is_clean(t, clients[1])[0], f"{states} {ends}")
+
+
+def spoiled_boundaries(name, t):
+    """A server that names whatever it likes as its boundary, to clients that asked for none and to those that asked for a depth."""
+    server = make(t, "server", 9)
+    rows = [t.git("rev-parse", word, at=server).strip() for word in ("main", "main~3", "main~4:f1", "main^{tree}")] + ["1" * 40]
+    for words in ([], ["--update-shallow"], ["--depth", "3"]):
+        for kind in ("shallow", "unshallow"):
+            for number, id in enumerate(rows):
+                by_us = t.folder("us")
+                t.git("clone", "-q", f"file://{server}", by_us)
+                grown = t.folder("grown")
+                shutil.copytree(server, grown)
+                grow(t, grown, 1)
+                before = t.git("rev-list", "--all", at=by_us).split()
+                status, out, err = t.run("git", "fetch", "-q", *words, by_both(t, grown)[1], "main:refs/x/main", at=by_us, more=ssh(BOUNDARY=f"{kind} {id}"))
+                after = t.git("rev-list", "--all", at=by_us).split()
+                shallow = by_us / ".git" / "shallow"
+                ids = shallow.read_text().split() if shallow.exists() else []
+                # a commit that is here is a boundary that one may ask for
+                asked = "--depth" in words and kind == "shallow" and number < 2
+                kept = set(before) <= set(after) and not ids
+                whole = t.run("git", "fsck", "--connectivity-only", at=by_us)[0] == 0 and t.run("git", "gc", "-q", "--prune=now", at=by_us)[0] == 0
+                refused = (kind == "unshallow" or "--depth" in words) and not asked
+                t.check(f"{name}: {kind} {number} {words}", whole and (ids == [id] if asked else kept) and (status != 0) == refused and not left_of_packs(t, by_us), f"{status} {ids} {err}")
+
+
+def locked_boundary(name, t):
+    """A lock of the boundary that is there already: an error, and nothing is changed."""
+    server = make(t, "server", 9)
+    for cloned, words in ((["--depth", "3"], ["--unshallow"]), (["--depth", "2"], ["--depth", "5"]), ([], ["--depth", "2"])):
+        by_us = t.folder("us")
+        t.git("clone", "-q", *cloned, f"file://{server}", by_us)
+        t.git("remote", "set-url", "origin", f"gixp::{server}", at=by_us)
+        lock = by_us / ".git" / "shallow.lock"
+        lock.write_text("mine")
+        before = state(t, by_us)
+        status, out, err = t.run("git", "fetch", "-q", *words, at=by_us)
+        t.check(f"{name}: {words}", status != 0 and "shallow.lock" in err and state(t, by_us) == before and lock.read_text() == "mine" and not left_of_packs(t, by_us), f"{status} {err}")
+        lock.unlink()
+        status, out, err = t.run("git", "fetch", "-q", *words, at=by_us)
+        t.check(f"{name}: {words} later", status == 0 and is_clean(t, by_us)[0], err)
+
+
+def evil_objects(name, t):
+    """Objects that git refuses where the user's settings have them checked."""
+    server = make(t, "server", 3)
+    blob = t.git("hash-object", "-w", "--stdin", given=b"x", at=server).strip()
+    tree = t.git("hash-object", "-t", "tree", "-w", "--stdin", "--literally", given=b"100644 .git\0" + bytes.fromhex(blob), at=server).strip()
+    t.git("update-ref", "refs/heads/evil", t.git("commit-tree", "-m", "x", tree, at=server).strip(), at=server)
+    skipped = t.folder("skipped")
+    skipped.write_text(tree + "\n")
+    refuses_all = ["transfer.fsckObjects=true"]
+    for settings in ([], refuses_all, ["fetch.fsckObjects=true"], [*refuses_all, "fetch.fsckObjects=false"], [*refuses_all, "fetch.fsck.hasDotgit=warn"], [*refuses_all, "fetch.fsck.hasDotgit=ignore"],
+                     [*refuses_all, "fetch.fsck.missingEmail=ignore"], [*refuses_all, "fetch.fsck.nonsense=ignore"], [*refuses_all, f"fetch.fsck.skipList={skipped}"], ["transfer.fsckObjects=nonsense"]):
+        given = [word for setting in settings for word in ("-c", setting)]
+        ends = [t.run("git", *given, "clone", "-q", "--no-checkout", url, t.folder("to")) for url in (f"file://{server}", f"gixp::{server}")]
+        t.check(f"{name}: {settings}", (ends[0][0] == 0) == (ends[1][0] == 0) and ("hasDotgit" in ends[0][2]) == ("hasDotgit" in ends[1][2]), ends)
+
+
+def locks_of_packs(name, t):
+    """The lock of a pack is taken away on every end, and the user's own never is."""
+    server = make(t, "server", 200)
+    t.git("-c", "pack.threads=1", "repack", "-adfq", at=server)
+    client = make(t, "client", 0)
+    t.git("fetch", "-q", f"gixp::{server}", "main:refs/x/m", at=client)
+    pack = next((client / "objects" / "pack").glob("*.pack"))
+    pack.with_suffix(".keep").write_text("mine")
+    for words in (["main:refs/x/again"], ["--refetch", "main:refs/x/all"]):
+        t.git("update-ref", "-d", "refs/x/m", at=client)
+        status, out, err = t.run("git", "fetch", "-q", f"gixp::{server}", *words, at=client)
+        t.check(f"{name}: the user's {words}", status == 0 and pack.with_suffix(".keep").read_text() == "mine", err)
+    for wish in ({"ENDS": 1}, {"SAYS": "3 no more disk\\n"}, {"BOUNDARY": "unshallow " + "1" * 40}):
+        ends = []
+        for url in by_both(t, server):
+            client = make(t, "client", 0)
+            ends.append(t.run("git", "fetch", "-q", url, "main:refs/x/m", at=client, more=ssh(**wish)))
+        t.check(f"{name}: {wish}", ends[0][0] != 0 and ends[1][0] != 0 and not left_of_packs(t, client) and not t.run("git", "show-ref", at=client)[1] and leaves_nothing(t), f"{ends} {left_of_packs(t, client)}")
+    client = t.folder("client")
+    t.git("clone", "-q", f"file://{server}", client)
+    for words in (["1" * 40], ["nowhere"], ["main"]):
+        t.run("git", "fetch", "-q", f"gixp::{server}", *words, at=client)
+        t.check(f"{name}: no pack for {words[0][:8]}", not left_of_packs(t, client), left_of_packs(t, client))
+
+
+def environments(name, t):
+    """What git keeps from a server on this machine."""
+    server = make(t, "server", 10, tags=True)
+    client = make(t, "client", 0, bare=False)
+    for words, more in ((["-c", "transfer.hideRefs=refs/heads/side"], {}), ([], {"GIT_CONFIG_COUNT": "1", "GIT_CONFIG_KEY_0": "transfer.hideRefs", "GIT_CONFIG_VALUE_0": "refs/heads/side"}),
+                        ([], {"GIT_OBJECT_DIRECTORY": str(client / ".git" / "objects")}), ([], {"GIT_COMMON_DIR": str(client / ".git")}), ([], {"GIT_GRAFT_FILE": "/nowhere"}), ([], {"GIT_SHALLOW_FILE": "/nowhere"})):
+        ends = [t.run("git", *words, "ls-remote", url, at=client, more=more) for url in (f"file://{server}", f"gixp::{server}")]
+        t.check(f"{name}: {words} {list(more)}", ends[0][0] == ends[1][0] == 0 and sorted(ends[0][1].split()) == sorted(ends[1][1].split()), ends)
+
+
+def dates(name, t):
+    """Dates as git reads them."""
+    server = make(t, "server", 0, bare=False)
+    for days in (40, 20, 3, 1):
+        at = f"{int(time.time()) - days * 86400} +0000"
+        t.git("commit", "-q", "--allow-empty", "-m", "c", at=server, more={"GIT_COMMITTER_DATE": at, "GIT_AUTHOR_DATE": at})
+    for since in ("2 weeks", "2.weeks.ago", "2 weeks ago", "1.month", "yesterday", f"{int(time.time()) - 5 * 86400}", "1 year ago", "2 days ago noon", "never"):
+        by_git, by_us, first, second = clone_both(t, server, f"--shallow-since={since}")
+        same(t, f"{name}: {since}", by_git, by_us, first, second)
+
+
+def says(name, t):
+    """What a server says can't be taken for anything else."""
+    server = make(t, "server", 3)
+    for text, wanted in (("2 one\\nfatal: two\\n", "remote: one\nremote: fatal: two"), ("2 a\\033[31mb\\007\\n", "remote: a?[31mb?"), ("2 a\\rfatal: b\\n", "remote: a\rremote: fatal: b"), ("2 \\302\\233x\\n", "?x")):
+        status, out, err = t.run("git", "clone", "--progress", by_both(t, server)[1], t.folder("us"), more=ssh(SAYS=text))
+        t.check(f"{name}: {text}", status == 0 and wanted in err and "\033" not in err.replace("\033[K", ""), err)
+    for text in ("3 one\\nfatal: two\\n", "3 \\033[31mred\\n"):
+        ends = [t.run("git", "clone", "-q", url, t.folder("us"), more=ssh(SAYS=text)) for url in by_both(t, server)]
+        lines = ends[1][2].splitlines()
+        t.check(f"{name}: {text}", ends[0][0] != 0 and ends[1][0] != 0 and lines[0].startswith("remote: ") and not lines[1].startswith("fatal: two") and "\033" not in ends[1][2], ends)
+    tools = t.folder("ssh")
+    tools.mkdir()
+    (tools / "ssh").write_text('#!/bin/sh\ncat "$SAID"; exec > /dev/null; cat > /dev/null\n')
+    (tools / "ssh").chmod(0o755)
+    for text in (b"ERR \x1b]0;title\x07\x1b[31mred\x1b[2K\rfatal: fake\n", b"ERR access denied\n", b"ERR one\ttwo"):
+        (tools / "said").write_bytes(frame(text))
+        more = {"GIT_SSH_COMMAND": str(tools / "ssh"), "GIT_SSH_VARIANT": "ssh", "SAID": str(tools / "said")}
+        ends = [t.run("git", "ls-remote", url, more=more) for url in ("ssh://host/x", "gixp::ssh://host/x")]
+        t.check(f"{name}: {text}", ends[0][2].splitlines()[0] == ends[1][2].splitlines()[0] and ends[1][0] != 0, ends)
+    (tools / "said").write_bytes(frame(b"ERR one\nfatal: two\n"))
+    status, out, err = t.run("git", "ls-remote", "gixp::ssh://host/x", more=more)
+    t.check(f"{name}: two lines of an error", "fatal: remote error: one\nremote: fatal: two\n" in err, err)
+
+
+def try_harm(t):
+    for name, action in (("a linked work tree", work_trees), ("a shallow server", shallow_servers), ("a spoiled boundary", spoiled_boundaries), ("a locked boundary", locked_boundary), ("evil objects", evil_objects),
+                         ("locks of packs", locks_of_packs), ("the server's environment", environments), ("dates", dates), ("what a server says", says)):
+        t.case(name, action)
+
+
 def has_loopback():
     try:
         with socket.create_server(("127.0.0.1", 0)) as listener, socket.create_connection(listener.getsockname(), 5):
@@ -880,6 +1088,7 @@ def main():
         for version in ("0", "2"):
             t.case(f"6,000 haves in vain and 6,000 in common, version {version}", many_haves, version)
         try_bodies(t)
+        try_harm(t)
         t.case("connections", connections, lambda: make(t, "counted", 30, tags=True))
         if has_loopback():
             t.case("over git daemon", over_daemon, make(t, "served", 40, tags=True))

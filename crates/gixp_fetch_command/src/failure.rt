@@ -1,7 +1,8 @@
 //! Why the program ends with an error, and the sentence that says so.
 use bstr::BString;
 use gix_protocol::fetch::refs::update;
-use gix_protocol::transport::ServerMessage;
+use gix_protocol::transport::{ObjectId, ServerMessage};
+use gixp_fetch_parts::screened;
 use std::alloc::{AllocError, AllocFailed, Global};
 use std::fmt;
 use std::fmt::Display;
@@ -37,6 +38,14 @@ pub(crate) enum Failure {
         step: Step,
         why: String,
         said: Option<BString>,
+    },
+    /// The server ended the connection within a step.
+    HungUp,
+    /// The server reported an error beside the pack, which was shown.
+    ServerFailed,
+    /// The server takes this id out of the boundary, which doesn't have it.
+    UnknownUnshallow {
+        id: ObjectId,
     },
     /// A file, by its path.
     File {
@@ -126,17 +135,34 @@ impl Failure {
     }
 }
 
-// The text of an error, and what the server said.
+// Words without the line end behind them.
+pub(crate) fn front_of(words: &[u8]) -> &[u8] {
+    words.strip_suffix(b"\n".as_slice()).unwrap_or(words)
+}
+
+// The text of an error, and what the server said as it is shown.
 fn told<E: Display + ServerMessage>(
     alloc: Global,
     error: &E,
 ) -> Result<(String, Option<BString>), AllocError> {
     let why = format!(in alloc; "{error}")?;
     let said = match error.server_message() {
-        Some(words) => Some(BString::from_slice(alloc, words.as_bytes())?),
+        Some(words) => Some(screened(alloc, front_of(words.as_bytes()), false)?),
         None => None,
     };
     Ok((why, said))
+}
+
+impl Failure {
+    /// Who says it: what git says of a server too is said as git does.
+    pub(crate) fn speaker(&self) -> &'static str {
+        match self {
+            Failure::Step { said: Some(_), .. }
+            | Failure::HungUp
+            | Failure::UnknownUnshallow { .. } => "fatal",
+            _ => "gixp_fetch_pack",
+        }
+    }
 }
 
 impl Display for Failure {
@@ -148,10 +174,13 @@ impl Display for Failure {
                 said: None,
             } => write!(f, "{step} failed: {why}"),
             Failure::Step {
-                step,
-                why,
+                step: _,
+                why: _,
                 said: Some(said),
-            } => write!(f, "{step} failed: {why}; the server said: {said}"),
+            } => write!(f, "remote error: {said}"),
+            Failure::HungUp => write!(f, "the remote end hung up unexpectedly"),
+            Failure::ServerFailed => write!(f, "the server reported an error"),
+            Failure::UnknownUnshallow { id } => write!(f, "no shallow found: unshallow {id}"),
             Failure::File { path, kind } => write!(f, "{path}: {kind:?}"),
             Failure::Line { path, line } => write!(f, "{path}: line {line} isn't readable"),
             Failure::Missing { name } => write!(f, "couldn't find remote ref {name}"),

@@ -9,6 +9,7 @@ mod repository;
 mod session;
 mod shown;
 mod usage;
+mod watched;
 mod windows;
 
 use crate::ends::{Source, Target};
@@ -28,6 +29,7 @@ use gixp_fetch_parts::{
 };
 use gixp_pack::PackSummary;
 use std::alloc::Global;
+use std::cell::Cell;
 use std::fs::{File, OpenOptions};
 use std::io::{BufReader, BufWriter, Input, Printer, StdinLock, Write};
 use std::process::ExitCode;
@@ -96,10 +98,11 @@ fn tell(rt: &HostRuntime, output: &Output<'_>, text: &[u8]) -> Result<(), Failur
 }
 
 // What shows the server's progress.
-fn shown_of<'a>(rt: &'a HostRuntime, output: &Output<'_>) -> Shown<'a> {
+fn shown_of<'a>(rt: &'a HostRuntime, output: &Output<'_>, has_failed: &'a Cell<bool>) -> Shown<'a> {
     Shown {
         rt,
         shows_progress: output.shows_progress,
+        has_failed,
     }
 }
 
@@ -107,7 +110,8 @@ fn shown_of<'a>(rt: &'a HostRuntime, output: &Output<'_>) -> Shown<'a> {
 fn list(rt: &HostRuntime, options: &Options<'_>, keeps_open: bool) -> Result<(), Failure> {
     let alloc = rt.alloc();
     let transport = open_transport(rt, &options.server)?;
-    let mut shown = shown_of(rt, &options.output);
+    let has_failed = Cell::new(false);
+    let mut shown = shown_of(rt, &options.output, &has_failed);
     let mut session = Session::open(alloc, transport, options.server.agent, &mut shown)?;
     let refs = session.refs(&mut shown)?;
     if !keeps_open {
@@ -191,6 +195,7 @@ fn take_pack<T: Transport>(
     if let Ok(outcome) = &result {
         session.end(outcome.is_some());
     }
+    let result = unless_failed(result, shown.has_failed.get());
     match settle(
         rt,
         options.files.shallow,
@@ -206,6 +211,19 @@ fn take_pack<T: Transport>(
             sink.pack.give_up();
             Err(e)
         }
+    }
+}
+
+// What came of a fetch, unless the server reported an error beside it.
+fn unless_failed(
+    came: Result<Option<Outcome>, Failure>,
+    has_failed: bool,
+) -> Result<Option<Outcome>, Failure> {
+    let outcome = came?;
+    if has_failed {
+        Err(Failure::ServerFailed)
+    } else {
+        Ok(outcome)
     }
 }
 
@@ -226,7 +244,8 @@ fn fetch(rt: &HostRuntime, options: &Options<'_>, wish: &Wish<'_>) -> Result<(),
     let alloc = rt.alloc();
     let mut repository = Repository::read(rt, &options.files, wish.haves)?;
     let transport = open_transport(rt, &options.server)?;
-    let mut shown = shown_of(rt, &options.output);
+    let has_failed = Cell::new(false);
+    let mut shown = shown_of(rt, &options.output, &has_failed);
     let mut session = Session::open(alloc, transport, options.server.agent, &mut shown)?;
     let map = session.map(wish, &mut shown)?;
     if let Some(questions) = options.files.questions {
@@ -292,7 +311,7 @@ fn status(rt: &HostRuntime, done: Result<(), Failure>) -> ExitCode {
     match done {
         Ok(()) => ExitCode::SUCCESS,
         Err(e) => {
-            let _ = eprintln!(rt; "gixp_fetch_pack: {e}");
+            let _ = eprintln!(rt; "{}: {e}", e.speaker());
             ExitCode::FAILURE
         }
     }

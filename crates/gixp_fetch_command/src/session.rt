@@ -4,6 +4,7 @@ ghost use Rattle.std.specs.Prelude.{◌<◌};
 use crate::failure::{Failure, Step};
 use crate::receive::PackReceiver;
 use crate::repository::Repository;
+use crate::watched::Watched;
 use crate::windows::{MOST_HAVES, Windowed};
 use bstr::BString;
 use gix_protocol::command::{CommandTable, Feature};
@@ -15,12 +16,14 @@ use gix_protocol::fetch::{self, Context, Options, Outcome, RefMap, ShallowMemory
 use gix_protocol::handshake::{Ref, handshake, obtain};
 use gix_protocol::refspec::parse::{Operation, parse};
 use gix_protocol::transport::{
-    Connection, NestedProgress, NeverInterrupt, Opening, Progress, Protocol, Service, Transport,
+    Connection, NestedProgress, NeverInterrupt, ObjectId, Opening, Progress, Protocol, Service,
+    Transport,
 };
 use gix_protocol::{Handshake, LsRefsCommand, agent, indicate_end_of_interaction};
-use gixp_fetch_parts::{PackPlace, Server, Wish};
+use gixp_fetch_parts::{PackPlace, Server, Wish, unknown_unshallow};
 use std::alloc::{AllocError, Global};
-use std::io::{Read, Write};
+use std::collections::BTreeSet;
+use std::io::{ErrorKind, Read, Write};
 use std::mem;
 
 /// A server after the handshake.
@@ -157,7 +160,47 @@ where
         context,
         options,
     );
-    result.map_err(|e| Failure::of_step(alloc, Step::Fetch, &e))
+    result.map_err(|e| {
+        if has_hung_up(&e) {
+            Failure::HungUp
+        } else {
+            Failure::of_step(alloc, Step::Fetch, &e)
+        }
+    })
+}
+
+// What came of a fetch, unless the server takes an id out of the boundary that isn't in it: in an answer before the last, or
+// there.
+fn known_alone(
+    came: Result<Option<Outcome>, Failure>,
+    unknown: Option<ObjectId>,
+    boundary: &BTreeSet<ObjectId>,
+) -> Result<Option<Outcome>, Failure> {
+    let outcome = came?;
+    let last = match &outcome {
+        Some(outcome) => unknown_unshallow(outcome.last_response.shallow_updates(), boundary),
+        None => None,
+    };
+    match unknown.or(last) {
+        Some(id) => Err(Failure::UnknownUnshallow { id }),
+        None => Ok(outcome),
+    }
+}
+
+// Whether the server ended the connection within an answer.
+fn has_hung_up<A, E>(error: &fetch::Error<A, E>) -> bool {
+    match error {
+        fetch::Error::FetchResponse(answer) => is_end(answer),
+        _ => false,
+    }
+}
+
+// Whether an answer isn't whole.
+fn is_end(error: &fetch::response::Error) -> bool {
+    match error {
+        fetch::response::Error::Io(kind) => *kind == ErrorKind::UnexpectedEof,
+        _ => false,
+    }
 }
 
 impl<'a, T: Transport> Session<'a, T> {
@@ -267,23 +310,26 @@ impl<'a, T: Transport> Session<'a, T> {
         };
         let wish = asked.wish;
         let negotiation = Negotiation::new(context, asked.map, &wish.shallow, wish.tags);
-        let mut windowed = Windowed::new(negotiation, self.most_haves());
+        let boundary = repository.boundary.iter().copied().collect(alloc)?;
+        let windowed = Windowed::new(negotiation, self.most_haves());
+        let mut watched = Watched::new(windowed, &boundary);
         let request = Request {
             agent: self.agent,
             wish,
         };
         let result = fetch_over(
             alloc,
-            &mut windowed,
+            &mut watched,
             request,
             &mut self.shaken,
             &mut self.transport,
             sink,
             shown,
         );
-        drop(windowed);
+        let unknown = watched.unknown();
+        drop(watched);
         repository.refs = refs;
-        result
+        known_alone(result, unknown, &boundary)
     }
 
     /// Says that nothing more is asked for, unless a pack came under version 0 or 1, where the server ends by itself. A server

@@ -1,8 +1,11 @@
 //! What the server says of its progress, on standard error as git shows it.
 ghost use Rattle.std.specs.Prelude.{⊤, None};
 
+use crate::failure::front_of;
 use gix_protocol::transport::{NestedProgress, Progress};
+use gixp_fetch_parts::screened;
 use std::alloc::AllocError;
+use std::cell::Cell;
 
 /// Shows nothing of the client's own progress. Its parts show what the server says.
 #[derive(Drop)]
@@ -10,6 +13,8 @@ pub(crate) struct Shown<'a> {
     pub(crate) rt: &'a HostRuntime,
     /// Whether progress is shown; errors always are.
     pub(crate) shows_progress: bool,
+    /// Whether the server reported an error.
+    pub(crate) has_failed: &'a Cell<bool>,
 }
 
 impl Progress for Shown<'_> {
@@ -41,6 +46,7 @@ impl<'a> NestedProgress for Shown<'a> {
         Ok(Remote {
             rt: self.rt,
             shows_progress: self.shows_progress,
+            has_failed: self.has_failed,
             is_open: false,
             at_start: false,
             max: None,
@@ -52,6 +58,7 @@ impl<'a> NestedProgress for Shown<'a> {
 pub(crate) struct Remote<'a> {
     rt: &'a HostRuntime,
     shows_progress: bool,
+    has_failed: &'a Cell<bool>,
     // Whether a line was begun.
     is_open: bool,
     // Whether what comes next is written over it.
@@ -76,6 +83,7 @@ impl Drop for Remote<'_> {
         let Remote {
             rt: _,
             shows_progress: _,
+            has_failed: _,
             is_open: _,
             at_start: _,
             max: _,
@@ -115,7 +123,9 @@ impl Progress for Remote<'_> {
         if !self.at_start {
             self.end_line();
         }
-        let _ = eprint!(self.rt; "remote: {name}");
+        if let Ok(words) = screened(self.rt.alloc(), front_of(name.as_bytes()), true) {
+            let _ = eprint!(self.rt; "remote: {words}");
+        }
         self.is_open = true;
         self.at_start = false;
     }
@@ -126,6 +136,9 @@ impl Progress for Remote<'_> {
 
     fn fail(&mut self, message: String) {
         self.end_line();
-        let _ = eprintln!(self.rt; "remote: error: {message}");
+        self.has_failed.set(true);
+        if let Ok(words) = screened(self.rt.alloc(), front_of(message.as_bytes()), true) {
+            let _ = eprintln!(self.rt; "remote: {words}");
+        }
     }
 }

@@ -6,3 +6,5 @@ pub mod Changes
 pub mod Told
 pub mod Missing
 pub mod Choices
+pub mod Screened
+pub mod Unshallowed
