@@ -14,6 +14,6 @@ shown_byte keeps_returns before byte =
     else (if is_control before byte then 63 ∷ [] else byte ∷ [])))
 
 -- words behind a byte
-pub shown_behind : Bool → ℕ → List ℕ → List ℕ
+abbrev pub shown_behind : Bool → ℕ → List ℕ → List ℕ
 shown_behind keeps_returns before [] = []
 shown_behind keeps_returns before (byte ∷ rest) = shown_byte keeps_returns before byte ++ shown_behind keeps_returns byte rest

@@ -10,7 +10,7 @@ mod missing;
 mod options;
 mod place;
 mod report;
-mod screened;
+mod screen;
 mod unshallowed;
 
 pub use ask::{AskError, Witness, named_ids};
@@ -21,5 +21,5 @@ pub use missing::missing_name;
 pub use options::{Files, Haves, OptionError, Options, Output, Questions, Server, Task, Wish};
 pub use place::{PackFile, PackPlace};
 pub use report::{listing, report as fetch_report};
-pub use screened::screened;
+pub use screen::screened;
 pub use unshallowed::unknown_unshallow;
