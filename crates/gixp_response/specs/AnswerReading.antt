@@ -97,15 +97,15 @@ pub record LastRefused (found : Pieces → Found) (taken : List Piece) (refusal 
   pub always : (q : Pieces) → found (front taken q) ≡ refused refusal
   pub stopped : now.stopped ≡ last_stop taken
 
--- after these pieces something came from outside, which a plain reader has less of: a ReaderFailed. Where a read failed as at the
--- stream's end, the pieces before it are no answer with that end
+-- after these pieces something came from outside, which a plain reader has less of, as in ReaderFailed; and with that for their end
+-- they are no answer, as they may be with the stream's end
 pub record AnswerFailed (found : Pieces → Found) (plain : Bool) (old new : Reading) (e : Error) : Type 0 where
   pub taken : List Piece
   pub now : Reading
   pub read : Passed old now taken
   pub refusal : Refusal
   pub failed : IsOutside now new refusal
-  pub unended : refusal ≡ io UnexpectedEof → found (front taken (no_pieces refusal)) ≡ refused (from_reader refusal)
+  pub unended : found (front taken (no_pieces refusal)) ≡ refused (from_reader refusal)
   pub is_plain : plain ≡ true → IsPlain new refusal
   pub error : answer_refusal e ≡ from_reader refusal
 
