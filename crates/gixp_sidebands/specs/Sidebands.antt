@@ -1,6 +1,6 @@
 -- What a reader of bands means, and to whom it tells (gitprotocol-pack, "Packfile Data").
 use Rattle.std.specs.Prelude.{◌≡◌, ℕ, Bool, List, Option, Result}
-use Rattle.std.specs.Borrow.{Bor, GName}
+use Rattle.std.specs.Borrow.{Bor}
 use Rattle.std.specs.Option.{option_map}
 use Rattle.std.specs.declared.io.Error.{Error as io_error}
 use Rattle.gixp_packetline.specs.declared.read.Error.{Error}
@@ -16,6 +16,7 @@ module _ {T P I : Type 0} {b : _} where
   side reading s = record {
     place = s.front.place;
     name = s.front.at.ghost_name;
+    asks = s.interrupt.ghost_name;
     reading = reading s.front.at.now;
     fault = option_map refusal_of s.fault;
   }
@@ -27,16 +28,12 @@ module _ {T P I : Type 0} {b : _} where
   abbrev pub listener : WithSidebands T P I b → Listener P I
   listener s = record { progress = s.progress; interrupt = s.interrupt.now }
 
-  -- the reference through which its interrupt is reached
-  abbrev pub interrupt_name : WithSidebands T P I b → GName
-  interrupt_name s = s.interrupt.ghost_name
-
   -- its interrupt was asked after each packet of bands 2 and 3, and it is the same one
   abbrev pub sidebands_asks : (T → Reading) → Bool → (I → Bool → I → Type 0) → WithSidebands T P I b → Bool → WithSidebands T P I b
       → Type 0
   sidebands_asks reading plain says old stops new =
       AskedBelow says plain stops (side reading old).reading (side reading new).reading (listener old).interrupt (listener new).interrupt
-      × (interrupt_name new ≡ interrupt_name old)
+      × (new.interrupt.ghost_name ≡ old.interrupt.ghost_name)
 
   -- the reader below, as it is now
   abbrev pub transport_of : WithSidebands T P I b → T

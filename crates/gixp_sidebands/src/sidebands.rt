@@ -127,6 +127,7 @@ impl<'a, 'i, T: ExtendedBufRead, P: BandText + Drop, I: Interrupt> WithSidebands
         ensures side { side T.reading result ≡ record {
           place = None;
           name = transport.entry.ghost_name;
+          asks = interrupt.entry.ghost_name;
           reading = T.reading transport.old;
           fault = None;
         } }
