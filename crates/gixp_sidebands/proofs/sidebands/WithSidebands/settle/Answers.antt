@@ -41,8 +41,11 @@ returns-in_err-peek-clause-told g c = let p = err_from_is_err_and c.from_residua
 
 pub returns-in_err-peek-clause-asks : goal.returns-in_err-peek-clause-asks
 returns-in_err-peek-clause-asks g c = let p = err_from_is_err_and c.from_residual.result c.from_residual.ensures.1 in
-    rw (p.1, p.2) (asked-below g.I.Interrupt.says Bool _ _ _ _ _ _ c.in_err-peek.field-0.0 c.packets.invariant.asks
-    c.in_err-peek.ensures.peeks c.in_err-peek.ensures.plain, c.packets.invariant.interrupt)
+    rw (p.1, p.2) (
+      asked-below g.I.Interrupt.says Bool _ _ _ _ _ _ c.in_err-peek.field-0.0 c.packets.invariant.asks
+          c.in_err-peek.ensures.peeks c.in_err-peek.ensures.plain,
+      c.packets.invariant.interrupt,
+    )
 
 pub returns-in-Content-clause-peeks : goal.returns-in-Content-clause-peeks
 returns-in-Content-clause-peeks g c =
@@ -68,9 +71,11 @@ returns-in_err-tell-in-Text-clause-asks g c =
     let h = rw c.if-not-branch.false at c.in_ok-peek.ensures.peeks in
     let k = ap band_of (sym c.line.ensures) ∙ sym c.in-Text.ensures in
     let p = err_from_is_err_and c.from_residual-in_err-tell-in-Text.result c.from_residual-in_err-tell-in-Text.ensures.1 in
-    rw (p.1, p.2) (asked-tell g.I.Interrupt.says g.P.BandText.hears g.P.BandText.spares (Unit {0}) Bool _ _ _ _ _ _ _ _ _
-    c.in-Text.is_error c.in_err-tell-in-Text.field-0.0 c.packets.invariant.asks h k c.in_err-tell-in-Text.ensures.tells,
-    c.in_err-tell-in-Text.ensures.interrupt ∙ c.packets.invariant.interrupt)
+    rw (p.1, p.2) (
+      asked-tell g.I.Interrupt.says g.P.BandText.hears g.P.BandText.spares (Unit {0}) Bool _ _ _ _ _ _ _ _ _
+          c.in-Text.is_error c.in_err-tell-in-Text.field-0.0 c.packets.invariant.asks h k c.in_err-tell-in-Text.ensures.tells,
+      c.in_err-tell-in-Text.ensures.interrupt ∙ c.packets.invariant.interrupt,
+    )
 
 pub returns-in-Content-clause-asks : goal.returns-in-Content-clause-asks
 returns-in-Content-clause-asks g c =
