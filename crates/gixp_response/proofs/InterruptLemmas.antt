@@ -2,7 +2,6 @@
 use Rattle.std.proofs.Common.{◌≡◌, Bool, true, false, cond, sym, ap, subst, ◌∙◌, refl, List, ℕ, Option, Some, None, Result, Ok, Err, inl, inr}
 use Rattle.std.specs.Prelude.{◌&&◌, not}
 use Rattle.std.specs.Str.{is_utf8}
-use Rattle.std.specs.declared.io.ErrorKind.TheVariants.{UnexpectedEof}
 use Rattle.gixp_packetline.specs.declared.read.Error.{Error as ReadError}
 use Rattle.gixp_packetline.specs.declared.read.Error.TheVariants.{Io as ReadIo, Decode, Server, UnexpectedFrame, NotUtf8, BadBand, Interrupted, Memory as ReadMemory}
 use Rattle.gixp_packetline.specs.Pieces.{io, interrupted, not_utf8}
@@ -15,7 +14,7 @@ use Rattle.gixp_response.specs.AnswerReading.{Adds}
 use Rattle.gixp_response.specs.Beginnings.{is_at_end}
 use Rattle.gixp_response.specs.Sections.{header_of, item_of, or_refused, read_header, read_item}
 use Rattle.gixp_response.specs.AnswerLine.{trimmed}
-use Rattle.gixp_response.specs.ResponseError.{AnswerRefusal, io_failed, upload_pack, by_transport, missing_capability, unknown_line, unknown_header, by_reader, no_memory, answer_refusal, from_reader, is_no_memory, is_interruption, is_interrupted_answer, IsAnswerRefusal, AnswersResponse}
+use Rattle.gixp_response.specs.ResponseError.{AnswerRefusal, io_failed, upload_pack, by_transport, missing_capability, unknown_line, unknown_header, by_reader, no_memory, answer_refusal, from_reader, is_no_memory, is_interruption, is_interrupted_answer, AnswersResponse}
 
 -- no interrupt ends the call that takes a line that was peeked at
 pub peeked_asks : (A : Bool → Type 0) (old new : Reading) (r : Result Bool ReadError) → old.peeked ≡ true → Reads old new r

@@ -1,17 +1,14 @@
 -- Who is asked, call by call.
-use Rattle.std.proofs.Common.{◌≡◌, ℕ, ◌+◌, ◌^◌, ◌-◌, ◌<◌, ◌≤◌, inl, inr, ◌⊎◌, Bool, true, false, cond, List, [], ◌∷◌, ◌++◌, refl, sym, ap, subst, ◌∙◌, arith, Option, Some, None, IfSome, Err}
-use Rattle.std.specs.declared.io.ErrorKind.{ErrorKind}
-use Rattle.std.specs.declared.io.ErrorKind.TheVariants.{UnexpectedEof}
+use Rattle.std.proofs.Common.{◌≡◌, ℕ, inl, inr, ◌⊎◌, Bool, true, false, cond, List, [], ◌∷◌, refl, sym, ap, subst, ◌∙◌, arith, Option, Some, None, IfSome, Err}
 use Rattle.gixp_packetline.specs.declared.protocol.Protocol.{Protocol}
 use Rattle.gixp_packetline.specs.declared.protocol.MessageKind.{MessageKind}
-use Rattle.gixp_sidebands.specs.declared.sidebands.band.Band.{Band}
 use Rattle.gixp_sidebands.specs.declared.sidebands.band.Band.TheVariants.{Empty, Content, Text}
 use Rattle.gixp_packetline.specs.declared.read.Error.{Error}
 use Rattle.gixp_packetline.specs.declared.read.Error.TheVariants.{Io, Decode, Server, UnexpectedFrame, NotUtf8, BadBand, Interrupted, Memory}
 use Rattle.gixp_packetline.specs.Pieces.{Refusal, io, decode, server, unexpected_frame, not_utf8, bad_band, interrupted, memory, Piece, line, mark, Pieces, no_pieces, with_piece}
 use Rattle.gixp_packetline.specs.Items.{is_stop}
 use Rattle.gixp_packetline.specs.Lines.{gives, stops, refuses, next_from, next_of}
-use Rattle.gixp_packetline.specs.Reading.{Reading, TakesLine, ShowsLine, AtStop, Refuses, BreaksOff, Fails, IsFault, IsPlain, Rose, refusal_of, reset_to, is_interrupted}
+use Rattle.gixp_packetline.specs.Reading.{Reading, TakesLine, ShowsLine, AtStop, Fails, IsFault, IsPlain, Rose, refusal_of, reset_to, is_interrupted}
 use Rattle.gixp_sidebands.specs.Bands.{band_of, is_held, is_begun, IsUncounted, Message}
 use Rattle.gixp_sidebands.specs.Telling.{Listener, TellsPacket}
 use Rattle.gixp_sidebands.specs.Questions.{one_if, is_text, IsLeft, TakesTexts, NoFewer, Asked, AskedBelow}

@@ -1,11 +1,11 @@
 -- Questions after questions (gitprotocol-pack, "Packfile Data").
-use Rattle.std.proofs.Common.{subst, ap, sym, ◌∙◌, refl, inl, inr, arith, append_assoc, length-append, append-nil}
-use Rattle.std.specs.Prelude.{◌≡◌, ℕ, ◌+◌, ◌<◌, ◌≤◌, ◌⊎◌, Bool, true, false, List, [], ◌∷◌, ◌++◌, length, Option, Some, None, IfSome}
+use Rattle.std.proofs.Common.{subst, ap, sym, ◌∙◌, refl, inl, inr, arith, append_assoc, length-append}
+use Rattle.std.specs.Prelude.{◌≡◌, ℕ, ◌+◌, Bool, false, List, [], ◌∷◌, ◌++◌, length, Option, Some, None, IfSome}
 use Rattle.gixp_packetline.specs.Pieces.{Refusal, io, unexpected_frame, Piece, line, mark, Pieces, no_pieces}
 use Rattle.std.specs.declared.io.ErrorKind.TheVariants.{UnexpectedEof}
 use Rattle.gixp_packetline.specs.Reading.{Reading}
-use Rattle.gixp_sidebands.specs.Bands.{band_of, IsUncounted}
-use Rattle.gixp_sidebands.specs.Questions.{one_if, is_text, texts_in, IsLeft, TakesTexts, NoFewer, SaysEach, Asked, AskedBelow}
+use Rattle.gixp_sidebands.specs.Bands.{IsUncounted}
+use Rattle.gixp_sidebands.specs.Questions.{one_if, texts_in, IsLeft, TakesTexts, NoFewer, SaysEach, Asked, AskedBelow}
 
 texts-append : (xs ys : List Piece) → texts_in (xs ++ ys) ≡ texts_in xs + texts_in ys
 texts-append [] ys = omega arith
