@@ -4,7 +4,7 @@ use Rattle.std.specs.Prelude.{◌&&◌, not}
 use Rattle.std.specs.Str.{is_utf8}
 use Rattle.gixp_packetline.specs.declared.read.Error.{Error as ReadError}
 use Rattle.gixp_packetline.specs.declared.read.Error.TheVariants.{Io as ReadIo, Decode, Server, UnexpectedFrame, NotUtf8, BadBand, Interrupted, Memory as ReadMemory}
-use Rattle.gixp_packetline.specs.Pieces.{io, interrupted, not_utf8}
+use Rattle.gixp_packetline.specs.Pieces.{io, decode, server, unexpected_frame, not_utf8, bad_band, interrupted, memory}
 use Rattle.gixp_packetline.specs.Reading.{Reading, Reads, refusal_of, is_interrupted}
 use Rattle.gixp_response.specs.declared.fetch.response.error.Error.{Error}
 use Rattle.gixp_response.specs.declared.fetch.response.sections.Header.{Header}

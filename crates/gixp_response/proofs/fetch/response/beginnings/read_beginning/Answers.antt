@@ -67,7 +67,7 @@ loop-answer-preserved g c =
     (c.in-Some.ensures ∙ ap line_item c.line.ensures) c.next_line.ensures.reads in
     let shown = g.met.R.ExtendedBufRead.joins _ _ _ false c.loop-answer.invariant.2 c.in-Ok-true.ensures.asks in
     let went = g.met.R.ExtendedBufRead.joins _ _ _ false shown
-    (peeked_asks (λ b. g.R.ExtendedBufRead.asks c.peek_line.new.reader b c.next_line.new.reader) _ _ _ k.peeked
+    (peeked_asks (λ b. g.R.ExtendedBufRead.asks c.peek_line.new.self b c.next_line.new.self) _ _ _ k.peeked
     c.next_line.ensures.reads c.next_line.ensures.asks) in (
       amid-said _ _ _ _ _ _ _ c.in-Some.said _ _ _ c.loop-answer.invariant.0 t c.in_ok-keep.ensures.ok c.ready_by-came_ready.ensures
           c.if-ends_by_nak.ensures,
@@ -77,12 +77,12 @@ loop-answer-preserved g c =
 
 pub returns-in-Err-clause-asks : goal.returns-in-Err-clause-asks
 returns-in-Err-clause-asks g c =
-    reader_refused Response (λ b. g.R.ExtendedBufRead.asks c.args.reader.now b c.peek_line.new.reader) c.in-Err.e _ c.from.ensures
+    reader_refused Response (λ b. g.R.ExtendedBufRead.asks c.args.reader.now b c.peek_line.new.self) c.in-Err.e _ c.from.ensures
     (g.met.R.ExtendedBufRead.joins _ _ _ _ c.loop-answer.invariant.2 c.in-Err.ensures.asks)
 
 pub returns-then-ends_answer-clause-asks : goal.returns-then-ends_answer-clause-asks
 returns-then-ends_answer-clause-asks g c =
-    ended_asks (λ b. g.R.ExtendedBufRead.asks c.args.reader.now b c.peek_line.new.reader) c.in-Err.e _ (sym c.if-ends_answer.ensures)
+    ended_asks (λ b. g.R.ExtendedBufRead.asks c.args.reader.now b c.peek_line.new.self) c.in-Err.e _ (sym c.if-ends_answer.ensures)
     (g.met.R.ExtendedBufRead.joins _ _ _ _ c.loop-answer.invariant.2 c.in-Err.ensures.asks)
 
 pub returns-then-ends_by_nak-clause-asks : goal.returns-then-ends_by_nak-clause-asks
@@ -90,7 +90,7 @@ returns-then-ends_by_nak-clause-asks g c =
     let k = rw c.in-Ok-true.field-0-test at c.in-Ok-true.ensures.peeks in
     let shown = g.met.R.ExtendedBufRead.joins _ _ _ false c.loop-answer.invariant.2 c.in-Ok-true.ensures.asks in
     g.met.R.ExtendedBufRead.joins _ _ _ false shown
-    (peeked_asks (λ b. g.R.ExtendedBufRead.asks c.peek_line.new.reader b c.next_line.new.reader) _ _ _ k.peeked
+    (peeked_asks (λ b. g.R.ExtendedBufRead.asks c.peek_line.new.self b c.next_line.new.self) _ _ _ k.peeked
     c.next_line.ensures.reads c.next_line.ensures.asks)
 
 pub returns-in_err-keep-clause-asks : goal.returns-in_err-keep-clause-asks
@@ -99,5 +99,5 @@ returns-in_err-keep-clause-asks g c =
     let p = err_from_is_err_and c.from_residual.result c.from_residual.ensures.1 in
     let shown = g.met.R.ExtendedBufRead.joins _ _ _ false c.loop-answer.invariant.2 c.in-Ok-true.ensures.asks in
     rw (p.1, p.2) (g.met.R.ExtendedBufRead.joins _ _ _ false shown
-    (peeked_asks (λ b. g.R.ExtendedBufRead.asks c.peek_line.new.reader b c.next_line.new.reader) _ _ _ k.peeked
+    (peeked_asks (λ b. g.R.ExtendedBufRead.asks c.peek_line.new.self b c.next_line.new.self) _ _ _ k.peeked
     c.next_line.ensures.reads c.next_line.ensures.asks))

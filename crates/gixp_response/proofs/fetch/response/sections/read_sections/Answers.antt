@@ -78,13 +78,13 @@ returns-in_err-add_item-in-Some-at-clause-answers g c =
 
 pub returns-in-Err-clause-asks : goal.returns-in-Err-clause-asks
 returns-in-Err-clause-asks g c =
-    reader_refused Response (λ b. g.R.ExtendedBufRead.asks c.args.reader.now b c.next_line.new.reader) c.in-Err.e _ c.from.ensures
+    reader_refused Response (λ b. g.R.ExtendedBufRead.asks c.args.reader.now b c.next_line.new.self) c.in-Err.e _ c.from.ensures
     (g.met.R.ExtendedBufRead.joins _ _ _ _ c.loop-answer.invariant.1 c.in-Err.ensures.asks)
 
 pub returns-in_err-section-in-None-at-clause-asks : goal.returns-in_err-section-in-None-at-clause-asks
 returns-in_err-section-in-None-at-clause-asks g c =
     let p = err_from_is_err_and c.from_residual.result c.from_residual.ensures.1 in
-    rw (p.1, p.2) (header_asks Response (λ b. g.R.ExtendedBufRead.asks c.args.reader.now b c.next_line.new.reader)
+    rw (p.1, p.2) (header_asks Response (λ b. g.R.ExtendedBufRead.asks c.args.reader.now b c.next_line.new.self)
     c.line.result.now c.in_err-section-in-None-at.field-0.0 c.in_err-section-in-None-at.ensures
     (g.met.R.ExtendedBufRead.joins _ _ _ false c.loop-answer.invariant.1 c.in-Ok-true.ensures.asks))
 
@@ -92,6 +92,6 @@ pub returns-in_err-add_item-in-Some-at-clause-asks : goal.returns-in_err-add_ite
 returns-in_err-add_item-in-Some-at-clause-asks g c =
     let p =
     err_from_is_err_and c.from_residual-in_err-add_item-in-Some-at.result c.from_residual-in_err-add_item-in-Some-at.ensures.1 in
-    rw (p.1, p.2) (item_asks Response (λ b. g.R.ExtendedBufRead.asks c.args.reader.now b c.next_line.new.reader)
+    rw (p.1, p.2) (item_asks Response (λ b. g.R.ExtendedBufRead.asks c.args.reader.now b c.next_line.new.self)
     c.in-Some-at.section c.line-in-Some-at.result.now _ _ c.in_err-add_item-in-Some-at.field-0.0 c.in_err-add_item-in-Some-at.ensures
     (g.met.R.ExtendedBufRead.joins _ _ _ false c.loop-answer.invariant.1 c.in-Ok-true.ensures.asks))
