@@ -33,7 +33,7 @@ pub use Rattle.gixp_wire.specs.Handshake
 pub use Rattle.gixp_sidebands.specs.Bands
 pub use Rattle.gixp_sidebands.specs.Ends
 pub use Rattle.gixp_sidebands.specs.Telling
-pub use Rattle.gixp_sidebands.specs.SaidToGoOn
+pub use Rattle.gixp_sidebands.specs.Questions
 pub use Rattle.gixp_sidebands.specs.Sidebands
 pub use Rattle.gixp_refs.specs.Ref
 pub use Rattle.gixp_refs.specs.RefLine

@@ -225,10 +225,10 @@ PlainText plain old new (Ok x) = ⊤
 PlainText plain old new (Err Memory) = plain ≡ true → IsPlain new memory ⊎ ShowsLine old new
 PlainText plain old new (Err e) = plain ≡ true → IsPlain new (refusal_of e)
 
--- this holds, but where the call was interrupted
-abbrev pub UnlessInterrupted : {X : Type 0} → Result X Error → Type 0 → Type 0
-UnlessInterrupted (Err Interrupted) P = ⊤
-UnlessInterrupted _ P = P
+-- whether an interrupt ended the call
+abbrev pub is_interrupted : {X : Type 0} → Result X Error → Bool
+is_interrupted (Err Interrupted) = true
+is_interrupted _ = false
 
 -- a call that takes what comes next: true at a line, false at a stop
 abbrev pub Reads : Reading → Reading → Result Bool Error → Type 0

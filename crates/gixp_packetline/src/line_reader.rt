@@ -40,11 +40,11 @@ impl<'a, R: Read> ExtendedBufRead for LineReader<'a, R> {
 
     ghost is_plain = { true };
 
-    ghost goes_on = { λ a b. ⊤ };
+    ghost asks = { λ a stops b. ⊤ };
 
     ghost stays = { λ r. tt };
 
-    ghost joins = { λ a b c g h. tt };
+    ghost joins = { λ a b c stops g h. tt };
 
     fn next_line(&mut self) -> Result<bool, Error> {
         self.packets.next_line()

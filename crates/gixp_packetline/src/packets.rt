@@ -2,7 +2,7 @@
 ghost use Rattle.std.specs.Prelude.{◌≡◌, ◌≤◌, ◌<◌, ◌+◌, ◌-◌, ◌↔◌, false, length, take, Some, None, Ok, Err, [], IfOk, IsTrue, true, ◌⊎◌, ⊤};
 ghost use Rattle.gixp_packetline.specs.declared.packet.Head.TheVariants.{Partial};
 ghost use Rattle.gixp_packetline.specs.Frames.{head_of};
-ghost use Rattle.gixp_packetline.specs.Reading.{IsFresh, Rose, Reads, Peeks, PlainIf, UnlessInterrupted, refusal_of, is_end};
+ghost use Rattle.gixp_packetline.specs.Reading.{IsFresh, Rose, Reads, Peeks, PlainIf, refusal_of, is_end};
 ghost use Rattle.gixp_packetline.specs.Pieces.{is_error, error_message, server};
 ghost use Rattle.gixp_packetline.specs.Items.{is_stop};
 ghost use Rattle.std.specs.declared.io.ErrorKind.TheVariants.{Other};
@@ -253,16 +253,16 @@ impl<R: Read> ExtendedBufRead for Packets<R> {
 
     ghost is_plain = { true };
 
-    ghost goes_on = { λ a b. ⊤ };
+    ghost asks = { λ a stops b. ⊤ };
 
     ghost stays = { λ r. tt };
 
-    ghost joins = { λ a b c g h. tt };
+    ghost joins = { λ a b c stops g h. tt };
 
     fn next_line(&mut self) -> Result<bool, Error>
         ensures reads { Reads (packets_reading R.remaining self.old) (packets_reading R.remaining self.new) result }
         ensures plain { PlainIf true (packets_reading R.remaining self.new) result }
-        ensures goes_on { UnlessInterrupted result ⊤ }
+        ensures asks { ⊤ }
         ensures spends { Spends self.old self.new result }
     {
         match self.place {
@@ -279,7 +279,7 @@ impl<R: Read> ExtendedBufRead for Packets<R> {
     fn peek_line(&mut self) -> Result<bool, Error>
         ensures peeks { Peeks (packets_reading R.remaining self.old) (packets_reading R.remaining self.new) result }
         ensures plain { PlainIf true (packets_reading R.remaining self.new) result }
-        ensures goes_on { UnlessInterrupted result ⊤ }
+        ensures asks { ⊤ }
         ensures spends { Spends self.old self.new result }
     {
         match self.place {

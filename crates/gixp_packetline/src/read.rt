@@ -1,6 +1,6 @@
 //! Readers of lines.
-ghost use Rattle.std.specs.Prelude.{◌≡◌, Bool, string_bytes};
-ghost use Rattle.gixp_packetline.specs.Reading.{Reading, Reads, Peeks, ReadsLent, PeeksLent, ReadsText, PlainIf, PlainText, UnlessInterrupted, reset_to};
+ghost use Rattle.std.specs.Prelude.{◌≡◌, Bool, false, string_bytes};
+ghost use Rattle.gixp_packetline.specs.Reading.{Reading, Reads, Peeks, ReadsLent, PeeksLent, ReadsText, PlainIf, PlainText, is_interrupted, reset_to};
 
 use crate::packet::PacketError;
 use crate::protocol::{MessageKind, Protocol};
@@ -80,8 +80,8 @@ pub trait ExtendedBufRead {
     // Whether it knows no bands, asks no interrupt, and allocates for a server's error alone.
     ghost is_plain: { Bool };
 
-    // What calls leave beside the lines, where no interrupt ended one of them.
-    ghost goes_on: { Self → Self → Type 0 };
+    // What calls leave beside the lines: whom they asked. Where it says true the last of them was told to stop, and no other was.
+    ghost asks: { Self → Bool → Self → Type 0 };
 
     /// Takes the next line, which `line` then lends, and returns true; at a stop false.
     ///
@@ -91,7 +91,7 @@ pub trait ExtendedBufRead {
     fn next_line(&mut self) -> Result<bool, Error>
         ensures reads { Reads (reading self.old) (reading self.new) result }
         ensures plain { PlainIf is_plain (reading self.new) result }
-        ensures goes_on { UnlessInterrupted result (goes_on self.old self.new) };
+        ensures asks { asks self.old (is_interrupted result) self.new };
 
     /// Makes `line` lend the next line, which is still to come, and returns true; at a stop false.
     ///
@@ -101,7 +101,7 @@ pub trait ExtendedBufRead {
     fn peek_line(&mut self) -> Result<bool, Error>
         ensures peeks { Peeks (reading self.old) (reading self.new) result }
         ensures plain { PlainIf is_plain (reading self.new) result }
-        ensures goes_on { UnlessInterrupted result (goes_on self.old self.new) };
+        ensures asks { asks self.old (is_interrupted result) self.new };
 
     /// The line that the last call took or peeked at, its LF included.
     fn line(&self) -> &[u8]
@@ -114,7 +114,7 @@ pub trait ExtendedBufRead {
     /// Goes on after the stop, if the reader is at one, under the stops of this version.
     fn reset(&mut self, version: Protocol)
         ensures reading { reading self.new ≡ reset_to version (reading self.old) }
-        ensures goes_on { goes_on self.old self.new };
+        ensures asks { asks self.old false self.new };
 
     /// Lends the next line, which is still to come; at a stop none.
     ///
@@ -157,7 +157,7 @@ pub trait ExtendedBufRead {
     fn readline_str(&mut self, text: &mut String) -> Result<usize, Error>
         ensures text { ReadsText (reading self.old) (reading self.new) (string_bytes text.old) (string_bytes text.new) result }
         ensures plain { PlainText is_plain (reading self.old) (reading self.new) result }
-        ensures goes_on { UnlessInterrupted result (goes_on self.old self.new) }
+        ensures asks { asks self.old (is_interrupted result) self.new }
     {
         if !self.peek_line()? {
             return Ok(0);
@@ -175,8 +175,8 @@ pub trait ExtendedBufRead {
     }
 
     // No call at all leaves it as it is.
-    ghost stays: { (r : Self) → goes_on r r };
+    ghost stays: { (r : Self) → asks r false r };
 
-    // Calls after calls.
-    ghost joins: { (a b c : Self) → goes_on a b → goes_on b c → goes_on a c };
+    // Calls after calls that were not told to stop.
+    ghost joins: { (a b c : Self) (stops : Bool) → asks a false b → asks b stops c → asks a stops c };
 }

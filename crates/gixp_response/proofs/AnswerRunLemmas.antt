@@ -228,6 +228,7 @@ going-fails plain found k v taken old mid new r e h run n (inr t) p is = inr (in
   read = record { took = h.took; failures = h.failures };
   refusal = refusal_of r;
   failed = t;
+  unended = h.same (no_pieces (refusal_of r)) ∙ n (no_pieces (refusal_of r)) refl;
   is_plain = p;
   error = is;
 })))

@@ -1,65 +1,94 @@
--- What a reader leaves beside an answer, where no interrupt ended a call.
-use Rattle.std.proofs.Common.{◌≡◌, Bool, true, Result, Ok, Err, inl, inr}
+-- Whom a reader asked by the time that it gave an answer.
+use Rattle.std.proofs.Common.{◌≡◌, Bool, true, false, cond, sym, ap, subst, ◌∙◌, refl, List, ℕ, Option, Some, None, Result, Ok, Err, inl, inr}
+use Rattle.std.specs.Prelude.{◌&&◌, not}
+use Rattle.std.specs.Str.{is_utf8}
 use Rattle.gixp_packetline.specs.declared.read.Error.{Error as ReadError}
 use Rattle.gixp_packetline.specs.declared.read.Error.TheVariants.{Io as ReadIo, Decode, Server, UnexpectedFrame, NotUtf8, BadBand, Interrupted, Memory as ReadMemory}
-use Rattle.gixp_packetline.specs.Reading.{Reading, Reads, UnlessInterrupted, refusal_of}
+use Rattle.gixp_packetline.specs.Pieces.{io, decode, server, unexpected_frame, not_utf8, bad_band, interrupted, memory}
+use Rattle.gixp_packetline.specs.Reading.{Reading, Reads, refusal_of, is_interrupted}
 use Rattle.gixp_response.specs.declared.fetch.response.error.Error.{Error}
-use Rattle.gixp_response.specs.declared.fetch.response.error.Error.TheVariants.{Io, UploadPack, Transport, MissingServerCapability, UnknownLineType, UnknownSectionHeader, Reader, Memory}
-use Rattle.gixp_response.specs.ResponseError.{answer_refusal, from_reader, UnlessAnswerInterrupted}
+use Rattle.gixp_response.specs.declared.fetch.response.sections.Header.{Header}
+use Rattle.gixp_response.specs.declared.fetch.response.sections.Section.{Section}
+use Rattle.gixp_response.specs.Answer.{AnswerValue, is_of_line}
+use Rattle.gixp_response.specs.AnswerReading.{Adds}
+use Rattle.gixp_response.specs.Beginnings.{is_at_end}
+use Rattle.gixp_response.specs.Sections.{header_of, item_of, or_refused, read_header, read_item}
+use Rattle.gixp_response.specs.AnswerLine.{trimmed}
+use Rattle.gixp_response.specs.ResponseError.{AnswerRefusal, io_failed, upload_pack, by_transport, missing_capability, unknown_line, unknown_header, by_reader, no_memory, answer_refusal, from_reader, is_no_memory, is_interruption, is_interrupted_answer, AnswersResponse}
 
 -- no interrupt ends the call that takes a line that was peeked at
-pub peeked_goes : (P : Type 0) (old new : Reading) (r : Result Bool ReadError) → old.peeked ≡ true → Reads old new r
-    → UnlessInterrupted r P → P
-peeked_goes P old new (Ok b) p h k = k
-peeked_goes P old new (Err x) p (inl h) k = absurd (let e = h.unpeeked in cc)
-peeked_goes P old new (Err x) p (inr (inl h)) k = absurd (let e = h.stays.unpeeked in cc)
-peeked_goes P old new (Err x) p (inr (inr h)) k = absurd (let e = h.unpeeked in cc)
+pub peeked_asks : (A : Bool → Type 0) (old new : Reading) (r : Result Bool ReadError) → old.peeked ≡ true → Reads old new r
+    → A (is_interrupted r) → A false
+peeked_asks A old new (Ok b) p h k = k
+peeked_asks A old new (Err x) p (inl h) k = absurd (let e = h.unpeeked in cc)
+peeked_asks A old new (Err x) p (inr (inl h)) k = absurd (let e = h.stays.unpeeked in cc)
+peeked_asks A old new (Err x) p (inr (inr h)) k = absurd (let e = h.unpeeked in cc)
 
--- what holds is left by any error
-pub any_refused : (X P : Type 0) (e : Error) → P → UnlessAnswerInterrupted {X = X} (Err e) P
-any_refused X P (Io kind) h = h
-any_refused X P (UploadPack m) h = h
-any_refused X P (Transport x) h = h
-any_refused X P (MissingServerCapability f) h = h
-any_refused X P (UnknownLineType l) h = h
-any_refused X P (UnknownSectionHeader l) h = h
-any_refused X P (Reader (ReadIo kind)) h = h
-any_refused X P (Reader (Decode x)) h = h
-any_refused X P (Reader (Server m)) h = h
-any_refused X P (Reader UnexpectedFrame) h = h
-any_refused X P (Reader NotUtf8) h = h
-any_refused X P (Reader (BadBand b)) h = h
-any_refused X P (Reader Interrupted) h = tt
-any_refused X P (Reader ReadMemory) h = h
-any_refused X P Memory h = h
+-- a call that met the stream's end wasn't interrupted
+pub ended_asks : (A : Bool → Type 0) (e : ReadError) (behind : Bool) → (is_at_end (refusal_of e) && not behind) ≡ true
+    → A (is_interrupted {X = Bool} (Err e)) → A false
+ended_asks A (ReadIo kind) behind h k = k
+ended_asks A (Decode x) behind h k = k
+ended_asks A (Server m) behind h k = k
+ended_asks A UnexpectedFrame behind h k = k
+ended_asks A NotUtf8 behind h k = k
+ended_asks A (BadBand b) behind h k = k
+ended_asks A Interrupted behind h k = absurd (let x = h in cc)
+ended_asks A ReadMemory behind h k = k
 
--- an error that is no interrupt
-interrupted_alone : (X P : Type 0) (e : Error) → answer_refusal e ≡ from_reader (refusal_of Interrupted)
-    → UnlessAnswerInterrupted {X = X} (Err e) P
-interrupted_alone X P (Io kind) h = cc
-interrupted_alone X P (UploadPack m) h = cc
-interrupted_alone X P (Transport x) h = cc
-interrupted_alone X P (MissingServerCapability f) h = cc
-interrupted_alone X P (UnknownLineType l) h = cc
-interrupted_alone X P (UnknownSectionHeader l) h = cc
-interrupted_alone X P (Reader (ReadIo kind)) h = cc
-interrupted_alone X P (Reader (Decode x)) h = cc
-interrupted_alone X P (Reader (Server m)) h = cc
-interrupted_alone X P (Reader UnexpectedFrame) h = cc
-interrupted_alone X P (Reader NotUtf8) h = cc
-interrupted_alone X P (Reader (BadBand b)) h = cc
-interrupted_alone X P (Reader Interrupted) h = tt
-interrupted_alone X P (Reader ReadMemory) h = cc
-interrupted_alone X P Memory h = cc
+-- an interrupt of the reader is one of the answer, and nothing else is
+by_refusal : (e : ReadError) → is_interrupted {X = Bool} (Err e) ≡ is_interruption (from_reader (refusal_of e))
+by_refusal (ReadIo kind) = refl
+by_refusal (Decode x) = refl
+by_refusal (Server m) = refl
+by_refusal UnexpectedFrame = refl
+by_refusal NotUtf8 = refl
+by_refusal (BadBand b) = refl
+by_refusal Interrupted = refl
+by_refusal ReadMemory = refl
 
 -- a reader that was refused
-pub reader_refused : (X Y P Q : Type 0) (e : ReadError) (error : Error) → answer_refusal error ≡ from_reader (refusal_of e) → (P → Q)
-    → UnlessInterrupted {X = X} (Err e) P → UnlessAnswerInterrupted {X = Y} (Err error) Q
-reader_refused X Y P Q (ReadIo kind) error s f h = any_refused Y Q error (f h)
-reader_refused X Y P Q (Decode x) error s f h = any_refused Y Q error (f h)
-reader_refused X Y P Q (Server m) error s f h = any_refused Y Q error (f h)
-reader_refused X Y P Q UnexpectedFrame error s f h = any_refused Y Q error (f h)
-reader_refused X Y P Q NotUtf8 error s f h = any_refused Y Q error (f h)
-reader_refused X Y P Q (BadBand b) error s f h = any_refused Y Q error (f h)
-reader_refused X Y P Q Interrupted error s f h = interrupted_alone Y Q error s
-reader_refused X Y P Q ReadMemory error s f h = any_refused Y Q error (f h)
+pub reader_refused : (Y : Type 0) (A : Bool → Type 0) (e : ReadError) (error : Error) → answer_refusal error ≡ from_reader (refusal_of e)
+    → A (is_interrupted {X = Bool} (Err e)) → A (is_interrupted_answer {X = Y} (Err error))
+reader_refused Y A e error s k = subst A (by_refusal e ∙ ap is_interruption (sym s)) k
+
+-- a line's refusal is no interrupt
+of_line : (x r : AnswerRefusal) → (is_no_memory x ≡ false → x ≡ r) → is_of_line r ≡ true → is_interruption x ≡ false
+of_line (by_reader interrupted) r h l = absurd (let e = subst (λ y. is_of_line y ≡ true) (sym (h refl)) l in cc)
+of_line (by_reader (io kind)) r h l = refl
+of_line (by_reader (decode e)) r h l = refl
+of_line (by_reader (server m)) r h l = refl
+of_line (by_reader unexpected_frame) r h l = refl
+of_line (by_reader not_utf8) r h l = refl
+of_line (by_reader (bad_band b)) r h l = refl
+of_line (by_reader memory) r h l = refl
+of_line (io_failed kind) r h l = refl
+of_line (upload_pack m) r h l = refl
+of_line (by_transport e) r h l = refl
+of_line (missing_capability f) r h l = refl
+of_line (unknown_line t) r h l = refl
+of_line (unknown_header t) r h l = refl
+of_line no_memory r h l = refl
+
+-- nor is that of a header, or of an item
+pub header_asks : (Y : Type 0) (A : Bool → Type 0) (text : List ℕ) (e : Error) → AnswersResponse (λ (h : Header). h) (read_header text) (Err e)
+    → A false → A (is_interrupted_answer {X = Y} (Err e))
+header_asks Y A text e h k = subst A (sym (by (is_utf8 text) (header_of (trimmed text)) h)) k
+  where
+    by : (b : Bool) (o : Option Header)
+        → AnswersResponse (λ (h : Header). h) (cond b (or_refused (unknown_header text) o) (Err (by_reader not_utf8))) (Err e)
+        → is_interruption (answer_refusal e) ≡ false
+    by true (Some x) h = ap (λ x. is_interruption (answer_refusal x)) h
+    by true None h = of_line (answer_refusal e) (unknown_header text) h refl
+    by false o h = of_line (answer_refusal e) (by_reader not_utf8) h refl
+
+pub item_asks : (Y : Type 0) (A : Bool → Type 0) (s : Section) (text : List ℕ) (old new : AnswerValue) (e : Error)
+    → Adds (read_item s text) old new (Err e) → A false → A (is_interrupted_answer {X = Y} (Err e))
+item_asks Y A s text old new e h k = subst A (sym (by (is_utf8 text) (item_of s text) h)) k
+  where
+    by : (b : Bool) (o : Option AnswerValue)
+        → Adds (cond b (or_refused (unknown_line text) o) (Err (by_reader not_utf8))) old new (Err e)
+        → is_interruption (answer_refusal e) ≡ false
+    by true (Some x) h = ap (λ x. is_interruption (answer_refusal x)) h
+    by true None h = of_line (answer_refusal e) (unknown_line text) h refl
+    by false o h = of_line (answer_refusal e) (by_reader not_utf8) h refl

@@ -5,12 +5,12 @@ use Rattle.gixp_packetline.specs.declared.protocol.MessageKind.{MessageKind}
 use Rattle.gixp_packetline.specs.declared.protocol.MessageKind.TheVariants.{Flush}
 use Rattle.gixp_packetline.specs.declared.protocol.Protocol.{Protocol}
 use Rattle.gixp_packetline.specs.declared.protocol.Protocol.TheVariants.{V0, V1, V2}
-use Rattle.gixp_packetline.specs.Pieces.{io, Piece, line, mark, Pieces, no_pieces}
-use Rattle.gixp_packetline.specs.Reading.{Reading, BreaksOff, Rose}
+use Rattle.gixp_packetline.specs.Pieces.{Refusal, io, Piece, line, mark, Pieces, no_pieces}
+use Rattle.gixp_packetline.specs.Reading.{Reading, BreaksOff, IsOutside, IsPlain, Rose}
 use Rattle.gixp_response.specs.declared.fetch.response.error.Error.{Error}
 use Rattle.gixp_response.specs.declared.fetch.response.error.Error.TheVariants.{Memory}
-use Rattle.gixp_response.specs.ReadFails.{ReadFails}
-use Rattle.gixp_response.specs.ResponseError.{AnswerRefusal, answer_errors, IsAnswerRefusal}
+use Rattle.gixp_response.specs.ReadFails.{LineRefused, ReaderRefused, NoMemory}
+use Rattle.gixp_response.specs.ResponseError.{AnswerRefusal, answer_errors, answer_refusal, from_reader, IsAnswerRefusal}
 use Rattle.gixp_response.specs.Answer.{AnswerValue, Found, whole, refused, front, is_of_line, both}
 use Rattle.gixp_response.specs.Sections.{v2_answer}
 use Rattle.gixp_response.specs.Beginnings.{Expected, v1_answer}
@@ -97,9 +97,24 @@ pub record LastRefused (found : Pieces → Found) (taken : List Piece) (refusal 
   pub always : (q : Pieces) → found (front taken q) ≡ refused refusal
   pub stopped : now.stopped ≡ last_stop taken
 
--- the first refusal of what is to come, or something from outside, which a plain reader has less of
+-- after these pieces something came from outside, which a plain reader has less of, as in ReaderFailed; and with that for their end
+-- they are no answer, as they may be with the stream's end
+pub record AnswerFailed (found : Pieces → Found) (plain : Bool) (old new : Reading) (e : Error) : Type 0 where
+  pub taken : List Piece
+  pub now : Reading
+  pub read : Passed old now taken
+  pub refusal : Refusal
+  pub failed : IsOutside now new refusal
+  pub unended : found (front taken (no_pieces refusal)) ≡ refused (from_reader refusal)
+  pub is_plain : plain ≡ true → IsPlain new refusal
+  pub error : answer_refusal e ≡ from_reader refusal
+
+-- the first refusal of what is to come, or something from outside
 abbrev pub AnswerFails : (Pieces → Found) → Bool → Reading → Reading → Error → Type 0
-AnswerFails found plain old new e = ReadFails answer_errors Passed (λ _ p r. found p ≡ refused r) (LastRefused found) plain old new e
+AnswerFails found plain old new e =
+    LineRefused answer_errors Passed (λ _ p r. found p ≡ refused r) (LastRefused found) old new e
+    ⊎ ReaderRefused answer_errors Passed (λ _ p r. found p ≡ refused r) (LastRefused found) old new e
+    ⊎ AnswerFailed found plain old new e ⊎ NoMemory answer_errors Passed old new e
 
 -- how far an answer was read: these pieces were taken of it, and what is left of it to be found
 pub record Going (found rest : Pieces → Found) (taken : List Piece) (old now : Reading) : Type 0 where

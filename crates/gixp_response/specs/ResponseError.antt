@@ -1,10 +1,9 @@
 -- Why there is no answer to a fetch, and how errors of lines are compared (gitprotocol-v2, "fetch"; gitprotocol-pack, "Packfile
 -- Negotiation").
-use Rattle.std.specs.Prelude.{◌≡◌, ℕ, Bool, true, false, List, codes, Option, Some, None, Result, Ok, Err, string_bytes, ⊤}
+use Rattle.std.specs.Prelude.{◌≡◌, ℕ, Bool, true, false, List, codes, Option, Some, None, Result, Ok, Err, string_bytes}
 use Rattle.std.specs.declared.io.ErrorKind.{ErrorKind}
 use Rattle.bstr.specs.Owned.{bstring_bytes}
-use Rattle.gixp_packetline.specs.Pieces.{Refusal, io, server, memory}
-use Rattle.gixp_packetline.specs.declared.read.Error.TheVariants.{Interrupted}
+use Rattle.gixp_packetline.specs.Pieces.{Refusal, io, server, interrupted, memory}
 use Rattle.gixp_packetline.specs.Reading.{refusal_of}
 use Rattle.gixp_wire.specs.Spurious.{is_spurious_kind, is_spurious_client}
 use Rattle.gixp_capabilities.specs.Client.{ClientRefusal, no_memory as client_no_memory, client_refusal}
@@ -47,10 +46,15 @@ is_spurious_answer (Io kind) = is_spurious_kind kind
 is_spurious_answer (Transport e) = is_spurious_client e
 is_spurious_answer _ = false
 
--- this holds, but where the reader was interrupted
-abbrev pub UnlessAnswerInterrupted : {X : Type 0} → Result X Error → Type 0 → Type 0
-UnlessAnswerInterrupted (Err (Reader Interrupted)) P = ⊤
-UnlessAnswerInterrupted _ P = P
+-- whether a refusal is an interrupt of the reader
+abbrev pub is_interruption : AnswerRefusal → Bool
+is_interruption (by_reader interrupted) = true
+is_interruption _ = false
+
+-- whether one ended the call
+abbrev pub is_interrupted_answer : {X : Type 0} → Result X Error → Bool
+is_interrupted_answer (Ok x) = false
+is_interrupted_answer (Err e) = is_interruption (answer_refusal e)
 
 -- a reader's refusal among them
 abbrev pub from_reader : Refusal → AnswerRefusal

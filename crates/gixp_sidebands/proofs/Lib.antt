@@ -2,5 +2,6 @@ mod PieceLemmas
 mod BandLemmas
 mod ContentLemmas
 mod TellLemmas
+mod AskLemmas
 mod BandItemLemmas
 pub mod EndLemmas

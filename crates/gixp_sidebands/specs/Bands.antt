@@ -195,11 +195,12 @@ io_kind memory = OutOfMemory
 io_kind interrupted = Other
 io_kind _ = InvalidData
 
--- where a reader of bands stands: the place in the packet at hand, the name of the reference below, what the reader below means, and
--- the refusal of the latest call of `Read` or `BufRead`
+-- where a reader of bands stands: the place in the packet at hand, the names of the references below and to the interrupt that it asks,
+-- what the reader below means, and the refusal of the latest call of `Read` or `BufRead`
 pub record Side : Type 0 where
   pub place : Option ℕ
   pub name : GName
+  pub asks : GName
   pub reading : Reading
   pub fault : Option Refusal
 

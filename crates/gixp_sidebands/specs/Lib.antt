@@ -6,5 +6,6 @@ pub use Rattle.gixp_packetline.specs.Reading
 pub mod Bands
 pub mod Ends
 pub mod Telling
-pub mod SaidToGoOn
+pub mod Questions
+pub mod QuestionsAgain
 pub mod Sidebands

@@ -8,7 +8,7 @@ use Rattle.gixp_sidebands.specs.declared.sidebands.WithSidebands.{WithSidebands}
 use Rattle.gixp_packetline.specs.Reading.{Reading, PeeksLent, ReadsLent, refusal_of}
 use Rattle.gixp_sidebands.specs.Bands.{Side, FillsLent, side_reading}
 use Rattle.gixp_sidebands.specs.Telling.{Listener, Told, refusal_in}
-use Rattle.gixp_sidebands.specs.SaidToGoOn.{SaidToGoOn}
+use Rattle.gixp_sidebands.specs.Questions.{AskedBelow}
 
 module _ {T P I : Type 0} {b : _} where
   -- where it stands, over what its transport means
@@ -16,6 +16,7 @@ module _ {T P I : Type 0} {b : _} where
   side reading s = record {
     place = s.front.place;
     name = s.front.at.ghost_name;
+    asks = s.interrupt.ghost_name;
     reading = reading s.front.at.now;
     fault = option_map refusal_of s.fault;
   }
@@ -27,9 +28,11 @@ module _ {T P I : Type 0} {b : _} where
   abbrev pub listener : WithSidebands T P I b → Listener P I
   listener s = record { progress = s.progress; interrupt = s.interrupt.now }
 
-  -- whenever its interrupt was asked, that said to go on, and it is the same one
-  abbrev pub sidebands_goes_on : (I → Bool → I → Type 0) → WithSidebands T P I b → WithSidebands T P I b → Type 0
-  sidebands_goes_on says old new = SaidToGoOn says (listener old).interrupt (listener new).interrupt
+  -- its interrupt was asked after each packet of bands 2 and 3, and it is the same one
+  abbrev pub sidebands_asks : (T → Reading) → Bool → (I → Bool → I → Type 0) → WithSidebands T P I b → Bool → WithSidebands T P I b
+      → Type 0
+  sidebands_asks reading plain says old stops new =
+      AskedBelow says plain stops (side reading old).reading (side reading new).reading (listener old).interrupt (listener new).interrupt
       × (new.interrupt.ghost_name ≡ old.interrupt.ghost_name)
 
   -- the reader below, as it is now

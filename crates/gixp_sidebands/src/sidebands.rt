@@ -6,7 +6,7 @@ ghost use Rattle.std.specs.Io.KnownBytes.{ReadConsumes};
 ghost use Rattle.std.specs.Io.BufRead.{DropsConsumable, FillKeeps, Rests};
 ghost use types.Logic.{sem};
 ghost use mir.Syntax.{named};
-ghost use Rattle.gixp_packetline.specs.Reading.{Reading, Reads, Peeks, ReadsLent, PeeksLent, ReadsText, PlainIf, PlainText, TakesLine, UnlessInterrupted, refusal_of, reset_to};
+ghost use Rattle.gixp_packetline.specs.Reading.{Reading, Reads, Peeks, ReadsLent, PeeksLent, ReadsText, PlainIf, PlainText, TakesLine, is_interrupted, refusal_of, reset_to};
 ghost use Rattle.gixp_sidebands.specs.Bands.{FillsContent, ShowsFirst, ReadsContent, ReadsBytes, KeepsMessages, is_begun, place_after, shown, message_in, io_kind};
 ghost use Rattle.gixp_sidebands.specs.Telling.{Told, TellsPacket, refusal_in};
 
@@ -66,6 +66,7 @@ pub struct WithSidebands<'a, 'i, T: ExtendedBufRead, P, I> {
 }
 
 impl<'a, 'i, T: ExtendedBufRead, P: Drop, I> WithSidebands<'a, 'i, T, P, I> {
+    ghost use Rattle.gixp_sidebands.specs.Questions.{TakesTexts};
     ghost use Rattle.gixp_sidebands.specs.Sidebands.{side, listener, transport_of};
 
     /// Gives the transport back. A packet that was begun is taken.
@@ -90,6 +91,8 @@ impl<'a, 'i, T: ExtendedBufRead, P: Drop, I> WithSidebands<'a, 'i, T, P, I> {
         ensures begun { is_begun (side T.reading self.entry).place ≡ true
             → TakesLine (side T.reading self.entry).reading (T.reading result.0.now) }
         ensures fresh { is_begun (side T.reading self.entry).place ≡ false → result.0.now ≡ transport_of self.entry }
+        ensures texts { IfSome (side T.reading self.entry).reading.to_come
+            (TakesTexts 0 (side T.reading self.entry).reading (T.reading result.0.now)) }
         ensures same_interrupt { result.1.ghost_name ≡ self.entry.interrupt.ghost_name }
         ensures interrupt { result.1.now ≡ (listener self.entry).interrupt }
     {
@@ -117,13 +120,14 @@ impl<T: ExtendedBufRead, P: Drop, I> Drop for WithSidebands<'_, '_, T, P, I> {
 }
 
 impl<'a, 'i, T: ExtendedBufRead, P: BandText + Drop, I: Interrupt> WithSidebands<'a, 'i, T, P, I> {
-    ghost use Rattle.gixp_sidebands.specs.Sidebands.{side, sidebands_reading, sidebands_goes_on, listener, transport_of};
+    ghost use Rattle.gixp_sidebands.specs.Sidebands.{side, sidebands_reading, sidebands_asks, listener, transport_of};
 
     /// Reads what is to come of a banded stream. It allocates nothing, and reads nothing yet.
     pub fn new(transport: &'a mut T, progress: P, interrupt: &'i mut I) -> Self
         ensures side { side T.reading result ≡ record {
           place = None;
           name = transport.entry.ghost_name;
+          asks = interrupt.entry.ghost_name;
           reading = T.reading transport.old;
           fault = None;
         } }
@@ -240,7 +244,7 @@ impl<'a, 'i, T: ExtendedBufRead, P: BandText + Drop, I: Interrupt> WithSidebands
         ensures first { ShowsFirst (side T.reading self.old).reading (side T.reading self.new).reading result }
         ensures fault { self.new.fault ≡ self.old.fault }
         ensures place { self.new.front.place ≡ place_after result }
-        ensures goes_on { UnlessInterrupted result (sidebands_goes_on I.says self.old self.new) }
+        ensures asks { sidebands_asks T.reading T.is_plain I.says self.old (is_interrupted result) self.new }
     {
         self.front.leave();
         'packets: loop {
@@ -262,19 +266,19 @@ impl<'a, 'i, T: ExtendedBufRead, P: BandText + Drop, I: Interrupt> WithSidebands
 
 impl<'a, 'i, T: ExtendedBufRead, P: BandText + Drop, I: Interrupt> ExtendedBufRead
     for WithSidebands<'a, 'i, T, P, I> {
-    ghost use Rattle.std.proofs.Common.{refl, ◌∙◌};
-    ghost use Rattle.gixp_sidebands.specs.SaidToGoOn.{goes_on-joins};
-    ghost use Rattle.gixp_sidebands.specs.Sidebands.{side, sidebands_reading, sidebands_goes_on, listener, PeeksAndTells, ReadsAndTells};
+    ghost use Rattle.std.proofs.Common.{refl, inl, ◌∙◌};
+    ghost use Rattle.gixp_sidebands.specs.QuestionsAgain.{asked-stays, below-joins};
+    ghost use Rattle.gixp_sidebands.specs.Sidebands.{side, sidebands_reading, sidebands_asks, listener, PeeksAndTells, ReadsAndTells};
 
     ghost reading = { sidebands_reading T.reading };
 
     ghost is_plain = { false };
 
-    ghost goes_on = { sidebands_goes_on I.says };
+    ghost asks = { sidebands_asks T.reading T.is_plain I.says };
 
-    ghost stays = { λ r. (([], refl), refl) };
+    ghost stays = { λ r. (inl (asked-stays I.says _ _), refl) };
 
-    ghost joins = { λ a b c g h. (goes_on-joins I.says _ _ _ g.0 h.0, h.1 ∙ g.1) };
+    ghost joins = { λ a b c stops g h. (below-joins I.says _ _ _ _ _ _ _ _ g.0 h.0, h.1 ∙ g.1) };
 
     fn next_line(&mut self) -> Result<bool, Error>
         ensures reads { Reads (sidebands_reading T.reading self.old) (sidebands_reading T.reading self.new) result }
@@ -284,7 +288,7 @@ impl<'a, 'i, T: ExtendedBufRead, P: BandText + Drop, I: Interrupt> ExtendedBufRe
             (listener self.old) (listener self.new) }
         ensures fault { (side T.reading self.new).fault ≡ (side T.reading self.old).fault }
         ensures interrupt { self.new.interrupt.ghost_name ≡ self.old.interrupt.ghost_name }
-        ensures goes_on { UnlessInterrupted result (sidebands_goes_on I.says self.old self.new) }
+        ensures asks { sidebands_asks T.reading T.is_plain I.says self.old (is_interrupted result) self.new }
     {
         if !self.settle()? {
             return Ok(false);
@@ -303,7 +307,7 @@ impl<'a, 'i, T: ExtendedBufRead, P: BandText + Drop, I: Interrupt> ExtendedBufRe
         ensures place { (side T.reading self.new).place ≡ place_after result }
         ensures fault { (side T.reading self.new).fault ≡ (side T.reading self.old).fault }
         ensures interrupt { self.new.interrupt.ghost_name ≡ self.old.interrupt.ghost_name }
-        ensures goes_on { UnlessInterrupted result (sidebands_goes_on I.says self.old self.new) }
+        ensures asks { sidebands_asks T.reading T.is_plain I.says self.old (is_interrupted result) self.new }
     {
         self.settle()
     }
@@ -351,7 +355,7 @@ impl<'a, 'i, T: ExtendedBufRead, P: BandText + Drop, I: Interrupt> ExtendedBufRe
             (listener self.old) (listener self.new) }
         ensures fault { (side T.reading self.new).fault ≡ (side T.reading self.old).fault }
         ensures interrupt { self.new.interrupt.ghost_name ≡ self.old.interrupt.ghost_name }
-        ensures goes_on { UnlessInterrupted result (sidebands_goes_on I.says self.old self.new) }
+        ensures asks { sidebands_asks T.reading T.is_plain I.says self.old (is_interrupted result) self.new }
     {
         if !self.peek_line()? {
             return Ok(0);
@@ -374,7 +378,7 @@ impl<'a, 'i, T: ExtendedBufRead, P: BandText + Drop, I: Interrupt> ExtendedBufRe
         ensures fault { (side T.reading self.new).fault ≡ (side T.reading self.old).fault }
         ensures place { (side T.reading self.new).place ≡ (side T.reading self.old).place }
         ensures interrupt { self.new.interrupt.ghost_name ≡ self.old.interrupt.ghost_name }
-        ensures goes_on { sidebands_goes_on I.says self.old self.new }
+        ensures asks { sidebands_asks T.reading T.is_plain I.says self.old false self.new }
     {
         self.front.reset(version);
     }

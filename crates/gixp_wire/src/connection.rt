@@ -200,11 +200,11 @@ impl<R: Read, W: Write> ExtendedBufRead for Connection<R, W> {
 
     ghost is_plain = { true };
 
-    ghost goes_on = { λ a b. ⊤ };
+    ghost asks = { λ a stops b. ⊤ };
 
     ghost stays = { λ r. tt };
 
-    ghost joins = { λ a b c g h. tt };
+    ghost joins = { λ a b c stops g h. tt };
 
     fn next_line(&mut self) -> Result<bool, read::Error> {
         self.packets.next_line()

@@ -5,7 +5,7 @@ ghost use Rattle.gixp_response.specs.AnswerLine.{wanted_value};
 ghost use Rattle.gixp_response.specs.Answer.{no_more, update_items};
 ghost use Rattle.gixp_response.specs.Beginnings.{expected};
 ghost use Rattle.gixp_response.specs.Repeats.{flagged};
-ghost use Rattle.gixp_response.specs.ResponseError.{UnlessAnswerInterrupted};
+ghost use Rattle.gixp_response.specs.ResponseError.{is_interrupted_answer};
 ghost use Rattle.gixp_response.specs.AnswerReading.{answer_of, Answered, AnswerFails};
 ghost use Rattle.gixp_capabilities.specs.Capabilities.{is_text};
 ghost use Rattle.gixp_response.specs.Features.{feature_name, feature_names, has_name, missing_feature, Misses};
@@ -93,7 +93,7 @@ impl Response {
             (R.reading reader.new)) }
         ensures held { (R.reading reader.new).held ≡ (R.reading reader.old).held }
         ensures version { (R.reading reader.new).version ≡ version }
-        ensures goes_on { UnlessAnswerInterrupted result (R.goes_on reader.old reader.new) }
+        ensures asks { R.asks reader.old (is_interrupted_answer result) reader.new }
     {
         match version {
             Protocol::V2 => read_sections(alloc, reader),

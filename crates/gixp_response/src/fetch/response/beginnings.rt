@@ -4,7 +4,7 @@ ghost use Rattle.gixp_packetline.specs.Reading.{refusal_of};
 ghost use Rattle.gixp_packetline.specs.declared.protocol.Protocol.TheVariants.{V0, V1};
 ghost use Rattle.gixp_response.specs.Beginnings.{expected, is_at_end, is_ready, is_nak, line_item, item_said, said_with, acknowledged, v1_answer};
 ghost use Rattle.gixp_response.specs.Repeats.{AreNoted, without_repeats};
-ghost use Rattle.gixp_response.specs.ResponseError.{UnlessAnswerInterrupted};
+ghost use Rattle.gixp_response.specs.ResponseError.{is_interrupted_answer};
 ghost use Rattle.gixp_response.specs.AnswerReading.{Answered, AnswerFails};
 
 use crate::fetch::response::answer::Response;
@@ -55,7 +55,7 @@ pub(crate) fn read_beginning<R: ExtendedBufRead>(
         (AnswerFails (v1_answer version (expected expects_pack negotiates)) R.is_plain (R.reading reader.old) (R.reading reader.new)) }
     ensures held { (R.reading reader.new).held ≡ (R.reading reader.old).held }
     ensures version { (R.reading reader.new).version ≡ version }
-    ensures goes_on { UnlessAnswerInterrupted result (R.goes_on reader.old reader.new) }
+    ensures asks { R.asks reader.old (is_interrupted_answer result) reader.new }
 {
     reader.reset(version);
     let mut answer = Response::empty(alloc);

@@ -2,7 +2,7 @@
 ghost use Rattle.std.specs.Prelude.{◌≡◌, MatchOption, MatchResult, false, true};
 ghost use Rattle.std.specs.Str.{is_utf8};
 ghost use Rattle.gixp_packetline.specs.declared.protocol.Protocol.TheVariants.{V2};
-ghost use Rattle.gixp_response.specs.ResponseError.{AnswersResponse, IsAnswerRefusal, UnlessAnswerInterrupted, unknown_header, unknown_line};
+ghost use Rattle.gixp_response.specs.ResponseError.{AnswersResponse, IsAnswerRefusal, is_interrupted_answer, unknown_header, unknown_line};
 ghost use Rattle.gixp_response.specs.Sections.{header_of, item_of, or_refused, is_flush, read_header, read_item, v2_answer};
 ghost use Rattle.gixp_response.specs.AnswerReading.{Adds, Answered, AnswerFails};
 ghost use Rattle.gixp_response.specs.declared.fetch.response.sections.Header.{Header};
@@ -140,7 +140,7 @@ pub(crate) fn read_sections<R: ExtendedBufRead>(
         (AnswerFails v2_answer R.is_plain (R.reading reader.old) (R.reading reader.new)) }
     ensures held { (R.reading reader.new).held ≡ (R.reading reader.old).held }
     ensures version { (R.reading reader.new).version ≡ V2 }
-    ensures goes_on { UnlessAnswerInterrupted result (R.goes_on reader.old reader.new) }
+    ensures asks { R.asks reader.old (is_interrupted_answer result) reader.new }
 {
     reader.reset(Protocol::V2);
     let mut answer = Response::empty(alloc);

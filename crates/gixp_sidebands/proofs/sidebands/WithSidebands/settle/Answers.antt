@@ -1,11 +1,11 @@
-use Rattle.std.proofs.Common.{◌≡◌, ap, sym, subst, ◌∙◌, refl, Some, None, [], ◌∷◌}
+use Rattle.std.proofs.Common.{◌≡◌, ap, sym, subst, ◌∙◌, refl, inl, Bool, Some, None}
 use Rattle.std.proofs.lemmas.Result.{err_from_is_err_and}
-use Rattle.gixp_sidebands.specs.declared.sidebands.band.Band.TheVariants.{Text}
+use Rattle.gixp_sidebands.specs.declared.sidebands.band.Band.TheVariants.{Empty, Text}
 use Rattle.gixp_sidebands.specs.Bands.{band_of, IsPassed}
-use Rattle.gixp_sidebands.specs.SaidToGoOn.{goes_on-joins}
 use Rattle.gixp_sidebands.proofs.BandLemmas.{skipping-init, seen_by, fails_above, shows_content, skips_line}
 use Rattle.gixp_sidebands.proofs.ContentLemmas.{shows_first}
-use Rattle.gixp_sidebands.proofs.TellLemmas.{told-init, told-fails, told-tell, told-text, told-known}
+use Rattle.gixp_sidebands.proofs.AskLemmas.{asked-leave, asked-shown, asked-more, asked-empty, asked-stop, asked-tell, asked-below}
+use Rattle.gixp_sidebands.proofs.TellLemmas.{told-init, told-fails, told-tell, told-text, told-empty, told-known}
 use Rattle.gixp_sidebands.proofs.sidebands.WithSidebands.settle.Goals as goal
 
 pub packets-init : goal.packets-init
@@ -22,7 +22,8 @@ packets-init g c =
       interrupt = refl;
       fault = refl;
       place = c.leave.ensures.place;
-      goes_on = (([], refl), refl);
+      asks = asked-leave g.I.Interrupt.says s.front.place (reading s.front.at.now) (reading n.at.now) _ s.front.held c.leave.ensures.begun
+          (λ e. ap reading (c.leave.ensures.fresh e));
     }
 
 pub returns-in_err-peek-clause-peeks : goal.returns-in_err-peek-clause-peeks
@@ -37,6 +38,14 @@ pub returns-in_err-peek-clause-told : goal.returns-in_err-peek-clause-told
 returns-in_err-peek-clause-told g c = let p = err_from_is_err_and c.from_residual.result c.from_residual.ensures.1 in
     rw (p.1, p.2) (told-fails g.P.BandText.hears g.P.BandText.spares g.I.Interrupt.says _ _ _ _ _ _ _ c.packets.invariant.skips.failures
     c.packets.invariant.told c.in_err-peek.ensures.peeks c.in_err-peek.ensures.plain)
+
+pub returns-in_err-peek-clause-asks : goal.returns-in_err-peek-clause-asks
+returns-in_err-peek-clause-asks g c = let p = err_from_is_err_and c.from_residual.result c.from_residual.ensures.1 in
+    rw (p.1, p.2) (
+      asked-below g.I.Interrupt.says Bool _ _ _ _ _ _ c.in_err-peek.field-0.0 c.packets.invariant.asks
+          c.in_err-peek.ensures.peeks c.in_err-peek.ensures.plain,
+      c.packets.invariant.interrupt,
+    )
 
 pub returns-in-Content-clause-peeks : goal.returns-in-Content-clause-peeks
 returns-in-Content-clause-peeks g c =
@@ -57,6 +66,44 @@ returns-in_err-tell-in-Text-clause-told g c =
     rw (p.1, p.2) (told-tell g.P.BandText.hears g.P.BandText.spares g.I.Interrupt.says
     (Unit {0}) _ _ _ _ _ _ _ _ _ c.in_err-tell-in-Text.field-0.0 c.packets.invariant.told h k c.in_err-tell-in-Text.ensures.tells)
 
+pub returns-in_err-tell-in-Text-clause-asks : goal.returns-in_err-tell-in-Text-clause-asks
+returns-in_err-tell-in-Text-clause-asks g c =
+    let h = rw c.if-not-branch.false at c.in_ok-peek.ensures.peeks in
+    let k = ap band_of (sym c.line.ensures) ∙ sym c.in-Text.ensures in
+    let p = err_from_is_err_and c.from_residual-in_err-tell-in-Text.result c.from_residual-in_err-tell-in-Text.ensures.1 in
+    rw (p.1, p.2) (
+      asked-tell g.I.Interrupt.says g.P.BandText.hears g.P.BandText.spares (Unit {0}) Bool _ _ _ _ _ _ _ _ _
+          c.in-Text.is_error c.in_err-tell-in-Text.field-0.0 c.packets.invariant.asks h k c.in_err-tell-in-Text.ensures.tells,
+      c.in_err-tell-in-Text.ensures.interrupt ∙ c.packets.invariant.interrupt,
+    )
+
+pub returns-in-Content-clause-asks : goal.returns-in-Content-clause-asks
+returns-in-Content-clause-asks g c =
+    let h = rw c.if-not-branch.false at c.in_ok-peek.ensures.peeks in
+    rw c.open.ensures.now (inl (asked-shown g.I.Interrupt.says _ _ _ _ _ c.packets.invariant.asks h), c.packets.invariant.interrupt)
+
+pub returns-then-not-branch-clause-asks : goal.returns-then-not-branch-clause-asks
+returns-then-not-branch-clause-asks g c =
+    let h = rw c.if-not-branch.true at c.in_ok-peek.ensures.peeks in
+    (inl (asked-stop g.I.Interrupt.says _ _ _ _ _ c.packets.invariant.asks h), c.packets.invariant.interrupt)
+
+pub packets-preserved-in-Empty : goal.packets-preserved-in-Empty
+packets-preserved-in-Empty g c =
+    let h = rw c.if-not-branch.false at c.in_ok-peek.ensures.peeks in
+    let k : band_of (g.T.ExtendedBufRead.reading c.peek.new.self.at.now).line ≡ Empty =
+    ap band_of (sym c.line.ensures) ∙ sym c.in-Empty.ensures in
+    let t = c.take.ensures.takes in
+    let name = c.take.ensures.same ∙ c.peek.ensures.same in
+    record {
+      skips = rw name (skips_line _ _ _ _ _ c.packets.invariant.skips h (subst IsPassed (sym k) tt) t);
+      told = told-empty g.P.BandText.hears g.P.BandText.spares g.I.Interrupt.says _ _ _ _ _ _ c.packets.invariant.told h k t;
+      same = name ∙ c.packets.invariant.same;
+      interrupt = c.packets.invariant.interrupt;
+      fault = c.packets.invariant.fault;
+      place = c.take.ensures.place;
+      asks = asked-empty g.I.Interrupt.says _ _ _ _ _ _ c.packets.invariant.asks h k t;
+    }
+
 pub packets-preserved : goal.packets-preserved
 packets-preserved g c =
     let h = rw c.if-not-branch.false at c.in_ok-peek.ensures.peeks in
@@ -73,10 +120,7 @@ packets-preserved g c =
       interrupt = c.in_ok-tell-in-Text.ensures.interrupt ∙ c.packets.invariant.interrupt;
       fault = c.in_ok-tell-in-Text.ensures.fault ∙ c.packets.invariant.fault;
       place = c.in_ok-tell-in-Text.ensures.place;
-      goes_on = (
-        goes_on-joins g.I.Interrupt.says _ _ _ c.packets.invariant.goes_on.0 (_ ∷ [], (t.1.1, refl)),
-        c.in_ok-tell-in-Text.ensures.interrupt ∙ c.packets.invariant.goes_on.1,
-      );
+      asks = asked-more g.I.Interrupt.says _ _ _ _ _ _ _ c.in-Text.is_error c.packets.invariant.asks h k t.0 t.1.1;
     }
 
 pub returns-in-Content-clause-first : goal.returns-in-Content-clause-first

@@ -1,6 +1,7 @@
-use Rattle.std.proofs.Common.{◌≡◌, None}
+use Rattle.std.proofs.Common.{◌≡◌, false, None}
 use Rattle.gixp_sidebands.specs.Telling.{Told}
-use Rattle.gixp_sidebands.specs.Sidebands.{sidebands_reading, sidebands_goes_on, listener}
+use Rattle.gixp_sidebands.specs.Questions.{Asked}
+use Rattle.gixp_sidebands.specs.Sidebands.{sidebands_reading, listener}
 use Rattle.gixp_sidebands.proofs.BandLemmas.{Skipping}
 use Rattle.gixp_sidebands.proofs.sidebands.WithSidebands.settle.Given as goal
 
@@ -15,7 +16,8 @@ invariant-packets g l =
       interrupt : l.self.interrupt.ghost_name ≡ l.fn.self.interrupt.ghost_name;
       fault : l.self.fault ≡ l.fn.self.fault;
       place : l.self.front.place ≡ None;
-      goes_on : sidebands_goes_on g.I.Interrupt.says l.fn.self l.self;
+      asks : Asked g.I.Interrupt.says false (reading l.fn.self.front.at.now) (reading l.self.front.at.now) l.fn.self.interrupt.now
+          l.self.interrupt.now;
     }
 
 abbrev pub decreases-packets : goal.decreases-packets

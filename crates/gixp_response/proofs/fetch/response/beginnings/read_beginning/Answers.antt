@@ -1,16 +1,16 @@
-use Rattle.std.proofs.Common.{sym, ap, ◌∙◌, Bool}
+use Rattle.std.proofs.Common.{sym, ap, ◌∙◌, false}
 use Rattle.std.proofs.lemmas.Result.{err_from_is_err_and}
 use Rattle.gixp_response.specs.declared.fetch.response.answer.Response.{Response}
 use Rattle.gixp_response.specs.Beginnings.{line_item}
 use Rattle.gixp_response.proofs.BeginningLemmas.{amid-start, amid-stop, amid-stops, amid-end, amid-fails, amid-pack, amid-line, amid-said, amid-nak, amid-memory}
-use Rattle.gixp_response.proofs.InterruptLemmas.{peeked_goes, reader_refused}
+use Rattle.gixp_response.proofs.InterruptLemmas.{peeked_asks, ended_asks, reader_refused}
 use Rattle.gixp_response.proofs.fetch.response.beginnings.read_beginning.Goals as goal
 
 pub loop-answer-init : goal.loop-answer-init
 loop-answer-init g c = (
   rw c.empty-answer.ensures (amid-start _ _ _ _ c.reset.ensures.reading),
   rw c.empty-answer.ensures c.new-repeats.ensures,
-  c.reset.ensures.goes_on,
+  c.reset.ensures.asks,
 )
 
 pub returns-then-behind_stop-clause-answers : goal.returns-then-behind_stop-clause-answers
@@ -23,10 +23,10 @@ pub loop-answer-preserved-in-Ok-false : goal.loop-answer-preserved-in-Ok-false
 loop-answer-preserved-in-Ok-false g c =
     let k = rw c.in-Ok-false.field-0-test at c.in-Ok-false.ensures.peeks in
     let h = rw c.if-behind_stop.false at c.loop-answer.invariant.0 in
-    let went = g.met.R.ExtendedBufRead.joins _ _ _ c.loop-answer.invariant.2 c.in-Ok-false.ensures.goes_on in (
+    let went = g.met.R.ExtendedBufRead.joins _ _ _ false c.loop-answer.invariant.2 c.in-Ok-false.ensures.asks in (
       amid-stop _ _ _ _ _ _ _ _ h k c.reset-in-Ok-false.ensures.reading,
       c.loop-answer.invariant.1,
-      g.met.R.ExtendedBufRead.joins _ _ _ went c.reset-in-Ok-false.ensures.goes_on,
+      g.met.R.ExtendedBufRead.joins _ _ _ false went c.reset-in-Ok-false.ensures.asks,
     )
 
 pub returns-then-ends_answer-clause-answers : goal.returns-then-ends_answer-clause-answers
@@ -65,16 +65,39 @@ loop-answer-preserved g c =
     let k = rw c.in-Ok-true.field-0-test at c.in-Ok-true.ensures.peeks in
     let t = amid-line _ _ _ _ _ c.in-Some.said _ _ _ _ _ c.loop-answer.invariant.0 k
     (c.in-Some.ensures ∙ ap line_item c.line.ensures) c.next_line.ensures.reads in
-    let shown = g.met.R.ExtendedBufRead.joins _ _ _ c.loop-answer.invariant.2 c.in-Ok-true.ensures.goes_on in
-    let went = g.met.R.ExtendedBufRead.joins _ _ _ shown
-    (peeked_goes _ _ _ _ k.peeked c.next_line.ensures.reads c.next_line.ensures.goes_on) in (
+    let shown = g.met.R.ExtendedBufRead.joins _ _ _ false c.loop-answer.invariant.2 c.in-Ok-true.ensures.asks in
+    let went = g.met.R.ExtendedBufRead.joins _ _ _ false shown
+    (peeked_asks (λ b. g.R.ExtendedBufRead.asks c.peek_line.new.self b c.next_line.new.self) _ _ _ k.peeked
+    c.next_line.ensures.reads c.next_line.ensures.asks) in (
       amid-said _ _ _ _ _ _ _ c.in-Some.said _ _ _ c.loop-answer.invariant.0 t c.in_ok-keep.ensures.ok c.ready_by-came_ready.ensures
           c.if-ends_by_nak.ensures,
       c.in_ok-keep.ensures.noted,
       went,
     )
 
-pub returns-in-Err-clause-goes_on : goal.returns-in-Err-clause-goes_on
-returns-in-Err-clause-goes_on g c =
-    reader_refused Bool Response _ _ c.in-Err.e _ c.from.ensures
-    (λ k. g.met.R.ExtendedBufRead.joins _ _ _ c.loop-answer.invariant.2 k) c.in-Err.ensures.goes_on
+pub returns-in-Err-clause-asks : goal.returns-in-Err-clause-asks
+returns-in-Err-clause-asks g c =
+    reader_refused Response (λ b. g.R.ExtendedBufRead.asks c.args.reader.now b c.peek_line.new.self) c.in-Err.e _ c.from.ensures
+    (g.met.R.ExtendedBufRead.joins _ _ _ _ c.loop-answer.invariant.2 c.in-Err.ensures.asks)
+
+pub returns-then-ends_answer-clause-asks : goal.returns-then-ends_answer-clause-asks
+returns-then-ends_answer-clause-asks g c =
+    ended_asks (λ b. g.R.ExtendedBufRead.asks c.args.reader.now b c.peek_line.new.self) c.in-Err.e _ (sym c.if-ends_answer.ensures)
+    (g.met.R.ExtendedBufRead.joins _ _ _ _ c.loop-answer.invariant.2 c.in-Err.ensures.asks)
+
+pub returns-then-ends_by_nak-clause-asks : goal.returns-then-ends_by_nak-clause-asks
+returns-then-ends_by_nak-clause-asks g c =
+    let k = rw c.in-Ok-true.field-0-test at c.in-Ok-true.ensures.peeks in
+    let shown = g.met.R.ExtendedBufRead.joins _ _ _ false c.loop-answer.invariant.2 c.in-Ok-true.ensures.asks in
+    g.met.R.ExtendedBufRead.joins _ _ _ false shown
+    (peeked_asks (λ b. g.R.ExtendedBufRead.asks c.peek_line.new.self b c.next_line.new.self) _ _ _ k.peeked
+    c.next_line.ensures.reads c.next_line.ensures.asks)
+
+pub returns-in_err-keep-clause-asks : goal.returns-in_err-keep-clause-asks
+returns-in_err-keep-clause-asks g c =
+    let k = rw c.in-Ok-true.field-0-test at c.in-Ok-true.ensures.peeks in
+    let p = err_from_is_err_and c.from_residual.result c.from_residual.ensures.1 in
+    let shown = g.met.R.ExtendedBufRead.joins _ _ _ false c.loop-answer.invariant.2 c.in-Ok-true.ensures.asks in
+    rw (p.1, p.2) (g.met.R.ExtendedBufRead.joins _ _ _ false shown
+    (peeked_asks (λ b. g.R.ExtendedBufRead.asks c.peek_line.new.self b c.next_line.new.self) _ _ _ k.peeked
+    c.next_line.ensures.reads c.next_line.ensures.asks))

@@ -9,7 +9,7 @@ invariant-loop-answer g l =
     Amid l.version (expected l.expects_pack l.negotiates) (without_repeats l.answer) l.came_ready l.behind_stop
     (g.R.ExtendedBufRead.reading l.fn.reader) (g.R.ExtendedBufRead.reading l.reader)
     × AreNoted l.answer.acknowledgements l.repeats
-    × g.R.ExtendedBufRead.goes_on l.fn.reader l.reader
+    × g.R.ExtendedBufRead.asks l.fn.reader false l.reader
 
 abbrev stops_left : Bool → ℕ
 stops_left true = 0
