@@ -232,6 +232,7 @@ module _ {N I A S C P X : Type 0} (parties : Parties N I A S C P X) where
         read = h.read;
         begins = begins;
         all = reads_all from.to_come left.reading.to_come left h.read begins;
+        ending = h.reads.ending;
       }
 
   takes_all : (c : C) (from : Reading) (d : C) (new : Reading) (q : P) → from.stopped ≡ None → Received parties.consumes c from d new q

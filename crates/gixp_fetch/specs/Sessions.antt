@@ -10,7 +10,7 @@ use Rattle.gixp_packetline.specs.Pieces.{Pieces}
 use Rattle.gixp_packetline.specs.FrameText.{texts_of}
 use Rattle.gixp_packetline.specs.Reading.{Reading, lines_ahead}
 use Rattle.gixp_hash.specs.declared.object_id.ObjectId.{ObjectId}
-use Rattle.gixp_sidebands.specs.Bands.{Side, side_reading, side_content, content_of}
+use Rattle.gixp_sidebands.specs.Bands.{Side, side_reading, side_content, content_of, KeepsEndUncounted}
 use Rattle.gixp_response.specs.Answer.{AnswerValue, Found, whole}
 use Rattle.gixp_response.specs.Beginnings.{expected as flags}
 use Rattle.gixp_response.specs.AnswerReading.{answer_of, AnswerBrokeOff}
@@ -149,7 +149,8 @@ module _ {N I A S C P X : Type 0} (parties : Parties N I A S C P X) where
   -- ---- the pack
 
   -- the consumer was lent a reader of the bands that stands here. What it read begins the joined payloads of band 1, and the rest of
-  -- these is what its reader has left: where that is nothing it read all of them
+  -- these is what its reader has left: where that is nothing it read all of them. What ends them is what it was, unless a failure was
+  -- counted
   pub record TakesPack (c : C) (from : Reading) (returned : Result Bool X) (d : C) (left : Side) (progress : P) : Type 0 where
     pub name : GName
     pub before : P
@@ -157,6 +158,7 @@ module _ {N I A S C P X : Type 0} (parties : Parties N I A S C P X) where
     pub read : List ℕ
     pub begins : IfSome from.to_come (λ p. (q : Pieces) × (left.reading.to_come ≡ Some q) × (content_of p ≡ read ++ side_content left q))
     pub all : IfSome from.to_come (λ p. IfSome left.reading.to_come (λ q. side_content left q ≡ [] → content_of p ≡ read))
+    pub ending : KeepsEndUncounted from left.reading
 
   -- all lines up to a stop were read, and the stop, and no read failed
   pub record ReadsToStop (old new : Reading) : Type 0 where

@@ -56,10 +56,10 @@ impl ShallowStore for ShallowMemory {
     ghost calls = { record {
       failures = λ call s e t. RefusesInMemory call s e t;
       count = λ s. s.failures;
-      locks = λ s t. (s.locked ≡ false) × (t.locked ≡ true) × (t.ids.items ≡ s.ids.items);
+      locks = λ s t. (s.locked ≡ false) × (t ≡ record s { locked = true });
       reads = λ s ids t. (ids ≡ s.ids.items) × (t ≡ s);
-      writes = λ s ids t. (t.ids.items ≡ ids) × (t.locked ≡ s.locked);
-      releases = λ s t. (t.locked ≡ false) × (t.ids.items ≡ s.ids.items);
+      writes = λ s ids t. (t.ids.items ≡ ids) × (t ≡ record s { ids = t.ids });
+      releases = λ s t. t ≡ record s { locked = false };
     } };
 
     fn lock(&mut self) -> Result<(), ShallowError> {

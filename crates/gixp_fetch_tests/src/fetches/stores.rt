@@ -3,10 +3,11 @@ use crate::fetches::repository::sound;
 use crate::fetches::runs::{V2, run};
 use crate::transports::memory;
 use gixp_fetch::consume::ReadToEnd;
-use gixp_fetch::shallow::ShallowFile;
+use gixp_fetch::shallow::{ShallowError, ShallowFile, shallow_text};
+use gixp_hash::ObjectId;
 use gixp_negotiate::shallow::Shallow;
 use gixp_progress::Discard;
-use std::alloc::AllocError;
+use std::alloc::{AllocError, Global};
 use std::num::NonZeroU32;
 use std::test::Fail;
 use std::{env, fs, io, process};
@@ -99,5 +100,22 @@ fn keeps_away_from_a_lock_file(rt: HostRuntime) -> Result<(), Fail> {
     assert_eq!(rt; fetch_twice(&rt, path)?.as_str(), REFUSALS);
     assert_eq!(rt; fs::read_to_string(&rt, path)?.as_str(), "zz\n");
     fs::remove_file(&rt, path)?;
+    Ok(())
+}
+
+// The text of a boundary of one id, as a caller writes whose own error is that of a store.
+fn boundary_text(alloc: Global, id: ObjectId) -> Result<Vec<u8>, ShallowError> {
+    let text = shallow_text(alloc, &[id])?;
+    Ok(text)
+}
+
+#[test]
+fn text_of_a_boundary_fails_as_a_store_does(rt: HostRuntime) -> Result<(), Fail> {
+    let id = ObjectId::from_hex(b"cccccccccccccccccccccccccccccccccccccccc")?;
+    let text = boundary_text(rt.alloc(), id)?;
+    assert_eq!(rt;
+        str::from_utf8(&text)?,
+        "cccccccccccccccccccccccccccccccccccccccc\n"
+    );
     Ok(())
 }
