@@ -143,7 +143,8 @@ def check_lists(texts, wrong):
     table = texts[ARCHITECTURE].partition("\n## Crates\n")[2].partition("\n## ")[0]
     firsts = {name for line in table.splitlines() if line.startswith("| `") for name in re.findall(r"`(\w+)`", line.split("|")[1])}
     for name in sorted(crates().keys() ^ firsts):
-        wrong.append((ARCHITECTURE, texts[ARCHITECTURE].find("\n## Crates\n") + 1, 0, f"the crate {name} is in one of table and crates.txt"))
+        place = texts[ARCHITECTURE].find("\n## Crates\n") + 1
+        wrong.append((ARCHITECTURE, place, 0, f"the crate {name} is in one of table and crates.txt"))
     for crate in crates():
         if len(list((CRATES / crate / "must-fail").glob("*.edit"))) > 4:
             text = texts["CONTRIBUTING.md"]

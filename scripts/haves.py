@@ -206,7 +206,8 @@ def serve(git, folder, algorithm, wish):
     work = folder / algorithm
     os.mkfifo(work / "from"), os.mkfifo(work / "to")
     words = ["sh", "-c", 'exec "$@" < "$0/to" > "$0/from" 2> "$0/server"', str(work), "git", "upload-pack", str(folder / "server.git")]
-    return subprocess.Popen(words, env={**git.environment, "GIT_PROTOCOL": f"version={wish.protocol}", "GIT_TRACE_PACKET": str(work / "ours")})
+    environment = {**git.environment, "GIT_PROTOCOL": f"version={wish.protocol}", "GIT_TRACE_PACKET": str(work / "ours")}
+    return subprocess.Popen(words, env=environment)
 
 
 def distinct(ids):
