@@ -1,5 +1,5 @@
 #!/usr/bin/env python3
-"""Counts what documents give the number of: rows, tests, crates, edits, public functions and worked rows.
+"""Counts what documents give the number of: rows, tests, crates, edits, public functions, worked rows, claims, variants.
 
 Usage: counts.py [--write]
 
@@ -20,6 +20,8 @@ sys.path.insert(0, str(TOP / "models"))
 import rows as models_rows
 
 NUMBER = r"([0-9][0-9,]*)"
+WORDS = "no one two three four five six seven eight nine ten eleven twelve".split()
+WORD = rf"({'|'.join(WORDS)})"
 DOCUMENTS = ["README.md", "CONTRIBUTING.md", "docs/*.md", "models/README.md", "crates/*/README.md", "examples/**/*.md"]
 PROOFS, ARCHITECTURE = "docs/PROOFS.md", "docs/ARCHITECTURE.md"
 TEST_MODULES = {
@@ -70,6 +72,22 @@ def worked_rows():
     return int(re.search(r"([0-9]+) worked rows", said)[1])
 
 
+def variants(path, name):
+    """The variants of an enum."""
+    text = re.search(rf"(?ms)^pub enum {name} \{{\n(.*?)^\}}", (CRATES / path).read_text())[1]
+    return len(re.findall(r"(?m)^    [A-Z]\w*", text))
+
+
+def in_words(number):
+    return WORDS[number] if number < len(WORDS) else f"{number:,}"
+
+
+def rows_of_table(text, first):
+    """How many rows the table has that begins with this head."""
+    lines = text.partition(f"\n{first}\n")[2].partition("\n\n")[0].splitlines()
+    return len(lines) - 1
+
+
 def sentences():
     """The file of each sentence, a pattern of it with its numbers, and what they are to be."""
     rows = read_rows()
@@ -89,6 +107,11 @@ def sentences():
             parts = TEST_MODULES.get(crate, [])
             found = "".join(rf"[^|\n]*?\({NUMBER}\)" for _ in parts)
             yield PROOFS, rf"(?m)^\| `{crate}` \| {NUMBER} \|{found}", [tests(crate), *(tests(crate, part) for part in parts)]
+    yield "docs/DIFFERENCES.md", rf"one `read::Error` with {WORD} variants", [in_words(variants("gixp_packetline/src/read.rt", "Error"))]
+    claims = (TOP / "README.md").read_text().partition(" claims\n")[2].partition("\n## ")[0]
+    yield "README.md", rf"(?mi)^## {WORD} claims$", [in_words(len(re.findall(r"(?m)^[0-9]+\. ", claims))).capitalize()]
+    parts = rows_of_table((TOP / "docs/SESSION.md").read_text(), "| part of the sentence | clause of `headline` |")
+    yield "docs/SESSION.md", rf"in each of the {WORD} parts", [in_words(parts)]
     yield "models/README.md", rf"it checks {NUMBER} worked rows", [worked_rows()]
 
 
@@ -121,8 +144,9 @@ def check_sentences(texts, wrong):
         for group, number in enumerate(numbers, 1):
             start, end = found[0].span(group)
             known.add((file, start))
-            if found[0][group] != f"{number:,}":
-                wrong.append((file, start, end, f"{number:,}"))
+            right = number if isinstance(number, str) else f"{number:,}"
+            if found[0][group] != right:
+                wrong.append((file, start, end, right))
     return known
 
 
