@@ -1,16 +1,18 @@
 #!/usr/bin/env python3
 """Compares the haves of git's negotiators with this library's, over random histories.
 
-Usage: haves.py [--tags] [--seed N] [--keep FOLDER] [HISTORIES]
+Usage: haves.py [--protocol N] [--depth N] [--one] [--tags] [--seed N] [--keep FOLDER] [HISTORIES]
 
-Makes HISTORIES histories (200 unless another number is given) with a server and a client that have both gone on: linear, merged, with equal and
-with backward dates, with many tips, mixed, and rewritten by the server; a third of the clients have forgotten what they knew of
-the server. For each it runs `git fetch` with `fetch.negotiationAlgorithm` of `consecutive` and `skipping` under GIT_TRACE_PACKET, and
+Makes HISTORIES histories (200 unless another number is given) with a server and a client that have both gone on: linear, merged,
+with equal and with backward dates, with many tips, mixed, and rewritten by the server; a third of the clients have forgotten what
+they knew of the server. For each it runs `git fetch` with `fetch.negotiationAlgorithm` of `consecutive` and `skipping` under GIT_TRACE_PACKET, and
 the program in scripts/haves (built in a temporary folder by `rt try`, which proves nothing; RT names another command) against a
 `git upload-pack` of its own under the same trace. Compared are the different haves in their order: which of them stand in one
-request is the library's choice and git's, and git names those in common again with each request.
+request is the library's choice and git's, and git names those in common again with each request of version 2.
 
-With `--tags` the histories have tags, lightweight and annotated ones, which both fetch as they follow.
+`--protocol` is the version of the protocol, 2 unless it says otherwise. With `--depth` both fetch so many commits of each ref, with
+`--one` by one refspec, that of a branch which has moved, and with `--tags` the histories have tags, lightweight and annotated ones,
+which both fetch as they follow.
 
 Where the two differ, a model of both algorithms below says why. Over git's answers it has to send what git sent, and what the library sent
 over the library's. The causes are what the two models do unlike each other, and which commits were asked for:
@@ -18,6 +20,14 @@ over the library's. The causes are what the two models do unlike each other, and
     tags as listed     git takes of an annotated tag that the server lists the commit that it leads to as known to both sides, and for its
                        cutoff; the library takes the tag's own id
     marks left off     `skipping` of git 2.39 leaves off marking what is common at a commit that it marked before; the library goes on
+    nothing marked     with a depth git marks no commit as complete, and tells its negotiator of none that is common before it asks; the
+                       library does both
+    history cut        with a depth, under versions 0 and 1, git takes the new boundary into account while it offers haves
+    all that is listed under versions 0 and 1 git takes all refs that the server lists as known to both sides where it has them; the
+                       library takes those that are mapped
+    other windows      under versions 0 and 1 git sends a request more before it reads an answer, and its windows are 16, 16, 32, 32, ..;
+                       those of the library 16, 32, 64, 96, .., so that each hears of other commits in common by then
+    haves after ready  under versions 0 and 1 git sends no have after `ACK .. ready`; the library goes on
     other wants        git also asks for tags that follow, and for commits that are there and that it doesn't know as complete
 
 Prints a line for each difference, with its cause, and how many of how many agree. Ends with 1 where one has no cause.
@@ -33,14 +43,16 @@ import shutil
 import subprocess
 import sys
 import tempfile
+from collections import Counter
 
 TOP = pathlib.Path(__file__).resolve().parent.parent
 KINDS = ["linear", "merged", "equal", "backward", "tips", "mixed", "rewritten"]
 ALGORITHMS = ("consecutive", "skipping")
 BRANCHES = {"linear": 1, "tips": 8, "mixed": 4}
-SPEC = "+refs/heads/*:refs/remotes/o/*"
+BRANCHES_SPEC = "+refs/heads/*:refs/remotes/o/*"
 BATCH = 100
 FIRST_WINDOW, MOST_IN_VAIN = 16, 256
+RULES = {"tags as listed": "peels", "marks left off": "leaves_off", "nothing marked": "marks", "history cut": "cut"}
 
 
 class Git:
@@ -129,7 +141,7 @@ def make_history(git, folder, number, seed, has_tags):
     if has_tags:
         tag(git, rng, server, "t")
     git(client, "config", "remote.o.url", f"file://{server}")
-    git(client, "config", "remote.o.fetch", SPEC)
+    git(client, "config", "remote.o.fetch", BRANCHES_SPEC)
     git(client, "fetch", "-q", *([] if has_tags else ["--no-tags"]), "o")
     # The server goes on, on some branches; it may have gone back on them first.
     ours = History(kind, rng, base.time + rng.choice([0, 0, 500, -300]), "s")
@@ -151,7 +163,16 @@ def make_history(git, folder, number, seed, has_tags):
     if number % 3 == 2:
         for name in known:
             git(client, "update-ref", "-d", name)
+    (folder / "has").write_text(git(server, "cat-file", "--batch-all-objects", "--batch-check=%(objectname)"))
     return kind
+
+
+def moved_branch(git, folder):
+    """The refspec of the first branch whose commit the client doesn't have."""
+    heads = heads_of(git, folder / "server.git", "refs/heads")
+    there = set(git(folder / "client.git", "cat-file", "--batch-all-objects", "--batch-check=%(objectname)").split())
+    name = next((name for name, id in heads.items() if id not in there), "refs/heads/main")
+    return f"+{name}:{name.replace('refs/heads/', 'refs/remotes/o/')}"
 
 
 def export(git, repository, folder):
@@ -167,24 +188,26 @@ def export(git, repository, folder):
     (folder / "refs").write_text("".join(f"{line.split()[0]} {target} {line.split()[1]}\n" for line, target in zip(refs, peeled)))
 
 
-def fetch_by_git(git, folder, algorithm, has_tags):
+def fetch_by_git(git, folder, algorithm, wish):
     """A fetch on a copy of the client, with its packets in FOLDER/ALGORITHM/git."""
     work = folder / algorithm
     work.mkdir()
     copy = work / "git.git"
     shutil.copytree(folder / "client.git", copy)
-    words = ["-c", "protocol.version=2", "-c", f"fetch.negotiationAlgorithm={algorithm}", "fetch", "-q", *([] if has_tags else ["--no-tags"]), "o"]
-    git(copy, *words, more={"GIT_TRACE_PACKET": str(work / "git")})
+    words = ["-c", f"protocol.version={wish.protocol}", "-c", f"fetch.negotiationAlgorithm={algorithm}", "fetch", "-q"]
+    words += ([] if wish.tags else ["--no-tags"]) + ([f"--depth={wish.depth}"] if wish.depth else [])
+    git(copy, *words, "o", *([(folder / "spec").read_text()] if wish.one else []), more={"GIT_TRACE_PACKET": str(work / "git")})
     shutil.rmtree(copy)
     export(git, folder / "client.git", work / "texts")
 
 
-def serve(git, folder, algorithm):
+def serve(git, folder, algorithm, wish):
     """A server over two pipes, with its packets in FOLDER/ALGORITHM/ours."""
     work = folder / algorithm
     os.mkfifo(work / "from"), os.mkfifo(work / "to")
     words = ["sh", "-c", 'exec "$@" < "$0/to" > "$0/from" 2> "$0/server"', str(work), "git", "upload-pack", str(folder / "server.git")]
-    return subprocess.Popen(words, env={**git.environment, "GIT_PROTOCOL": "version=2", "GIT_TRACE_PACKET": str(work / "ours")})
+    environment = {**git.environment, "GIT_PROTOCOL": f"version={wish.protocol}", "GIT_TRACE_PACKET": str(work / "ours")}
+    return subprocess.Popen(words, env=environment)
 
 
 def distinct(ids):
@@ -195,32 +218,52 @@ def trace(path):
     return path.read_text(errors="replace") if path.exists() else ""
 
 
-def haves_of_git(text):
-    """The different haves of the first fetch of a trace: where tags are left over, git fetches these once more."""
-    requests = text.split(" fetch> command=fetch")[1:]
-    haves = []
-    for request in requests:
-        haves += re.findall(r" fetch> have ([0-9a-f]+)", request)
-        if " fetch< packfile" in request:
-            break
-    return distinct(haves)
+def first_fetch(text, wish):
+    """What stands of the first fetch in a trace: where tags are left over, git fetches these once more."""
+    if wish.protocol == 2:
+        front, _, rest = text.partition(" fetch> command=fetch")
+        return " fetch> command=fetch" + rest.partition(" fetch< packfile")[0] if rest else ""
+    front, _, rest = text.partition(" fetch> want ")
+    return " fetch> want " + rest.partition(" fetch> done")[0] if rest else ""
+
+
+def listed_of(text, wish):
+    """The refs that a server lists: name, id, and what a tag leads to."""
+    if wish.protocol == 2:
+        front = text.partition(" fetch> command=fetch")[0]
+        return re.findall(r" fetch< ([0-9a-f]{40}) (\S+)(?: symref-target:\S+)?(?: peeled:([0-9a-f]{40}))?", front)
+    front = text.partition(" fetch> want ")[0].partition(" fetch> 0000")[0]
+    refs = []
+    for id, name in re.findall(r" fetch< ([0-9a-f]{40}) ([^\s\\]+)", front):
+        if name.endswith("^{}"):
+            refs[-1] = refs[-1][:2] + (id,)
+        else:
+            refs.append((id, name, ""))
+    return refs
+
+
+def is_mapped(name, wish, spec):
+    source = spec[1:].partition(":")[0]
+    return name == source or source.endswith("*") and name.startswith(source[:-1]) or wish.tags and name.startswith("refs/tags/")
+
+
+def haves_of(text, wish):
+    """The different haves of the first fetch of a trace."""
+    return distinct(re.findall(r" fetch> have ([0-9a-f]+)", first_fetch(text, wish)))
 
 
 class Model:
     """git's two algorithms (negotiator/default.c and negotiator/skipping.c of git 2.39) as a plain program, over the answers of a trace."""
 
-    def __init__(self, folder, algorithm, text, peels, leaves_off):
+    def __init__(self, folder, algorithm, listed, leaves_off=True, marks=True, cut=()):
         self.skips, self.leaves_off = algorithm == "skipping", leaves_off
         self.commits = {}
         for line in (folder / algorithm / "texts" / "commits").read_text().splitlines():
             time, id, *parents = line.split()
-            self.commits[id] = (int(time), parents)
-        self.text = text
+            self.commits[id] = (int(time), [] if id in cut else parents)
         tips = [line.split()[1] for line in (folder / algorithm / "texts" / "refs").read_text().splitlines()]
-        listed = re.findall(r" fetch< ([0-9a-f]{40}) \S+(?: symref-target:\S+)?(?: peeled:([0-9a-f]{40}))?", self.text.split(" fetch> command=fetch")[0])
-        listed = [peeled if peeled and peels else id for id, peeled in listed]
-        complete = self.complete(tips, listed)
-        self.read = set(complete) | {id for id in listed if id in self.commits}
+        complete = self.complete(tips, listed) if marks else set()
+        self.read = set(complete) | {id for id in [*tips, *listed] if id in self.commits}
         self.flags = {id: set() for id in self.commits}
         self.queue, self.number, self.steps, self.open = [], itertools.count(), {}, 0
         for id in listed:
@@ -337,26 +380,63 @@ class Model:
                 self.steps[parent] = [step, left - 1 if left else step]
         return offered or ("COMMON" not in self.flags[id] and not pushed)
 
-    def haves(self):
-        """What it offers where as many were sent, over the answers of the trace."""
+    def offer(self, offered):
+        id = self.next()
+        offered += [id] if id else []
+        return id
+
+    def hear(self, id):
+        if "SEEN" in self.flags.get(id, ()):
+            self.common(id)
+
+    def haves(self, text, wish):
+        """What it offers where as many were sent, over the answers of the trace of a client under version 2."""
         sent, offered, window = [], [], FIRST_WINDOW
-        for request in self.text.split(" fetch> command=fetch")[1:]:
+        for request in first_fetch(text, wish).split(" fetch> command=fetch")[1:]:
             new = [id for id in re.findall(r" fetch> have ([0-9a-f]+)", request) if id not in sent]
             for _ in new:
-                id = self.next()
-                offered += [id] if id else []
+                self.offer(offered)
             sent += new
             # Haves run out where a window isn't filled, unless too many were in vain.
             if len(new) < window and len(sent) < MOST_IN_VAIN:
-                id = self.next()
-                offered += [id] if id else []
+                self.offer(offered)
             window *= 2
             for id in re.findall(r" fetch< ACK ([0-9a-f]+)", request):
-                if "SEEN" in self.flags.get(id, ()):
-                    self.common(id)
-            if " fetch< packfile" in request:
-                break
+                self.hear(id)
         return offered
+
+    def replayed(self, events, runs_out):
+        """The same under versions 0 and 1: haves, and acknowledgements where the client reads them."""
+        offered = []
+        for word, id in events:
+            if word == "have":
+                self.offer(offered)
+            else:
+                self.hear(id)
+        if runs_out:
+            self.offer(offered)
+        return offered
+
+    def alone(self, has, windows):
+        """What it offers in these windows to a server that has these commits, and acknowledges them at the end of each."""
+        offered = []
+        for window in windows:
+            new = []
+            while len(new) < window and self.offer(new):
+                pass
+            offered += new
+            if len(new) < window:
+                return offered
+            for id in new:
+                if id in has:
+                    self.hear(id)
+
+
+def windows_of_library():
+    window = FIRST_WINDOW
+    while True:
+        yield window
+        window += min(window, 32)
 
 
 def as_git_traces(text):
@@ -364,22 +444,83 @@ def as_git_traces(text):
     return text.replace(" upload-pack< ", " fetch> ").replace(" upload-pack> ", " fetch< ")
 
 
-def wants(text):
-    return set(re.findall(r" fetch> want ([0-9a-f]+)", text.partition(" fetch< packfile")[0]))
+def events_of(text, wish):
+    """Haves, acknowledgements and ends of requests in the order of a trace of versions 0 and 1."""
+    found = re.findall(r" fetch[<>] (have|ACK|0000)(?: ([0-9a-f]{40}))?( ready)?", first_fetch(text, wish))
+    return [("ready" if ready else word, id) for word, id, ready in found]
 
 
-def cause(folder, algorithm, ours, theirs):
+def runs_out(words):
+    """Whether haves end since there are no more, and not since too many were in vain."""
+    return len(words) - 1 - max([at for at, word in enumerate(words) if word != "have"], default=-1) < MOST_IN_VAIN
+
+
+def replay_git(model, text, wish):
+    if wish.protocol == 2 or not first_fetch(text, wish):
+        return model.haves(text, wish)
+    events = [it for it in events_of(text, wish) if it[0] != "0000"]
+    words = [word for word, _ in events]
+    return model.replayed(events, "ready" not in words and runs_out(words))
+
+
+def replay_library(model, text, wish):
+    """A server acknowledges while it still reads a request, and the library reads that once the request is sent."""
+    if wish.protocol == 2 or not first_fetch(text, wish):
+        return model.haves(text, wish)
+    events, haves, heard = [], [], []
+    for word, id in [*events_of(text, wish), ("0000", "")]:
+        if word == "have":
+            haves.append((word, id))
+        elif word == "ACK":
+            heard.append((word, id))
+        elif word == "0000":
+            events, haves, heard = events + haves + heard, [], []
+    return model.replayed(events, runs_out([word for word, _ in events]))
+
+
+def wants(text, wish):
+    return set(re.findall(r" fetch> want ([0-9a-f]+)", first_fetch(text, wish)))
+
+
+def goes_on_after_ready(text, wish):
+    """Whether haves come in a request after one that was answered by `ACK .. ready`."""
+    words = [word for word, _ in events_of(text, wish)]
+    after = words[words.index("ready"):] if "ready" in words else []
+    return "0000" in after and "have" in after[after.index("0000"):]
+
+
+def cause(folder, algorithm, ours, theirs, wish):
     """Why the haves differ: none where that isn't known."""
     by_git, by_us = trace(folder / algorithm / "git"), as_git_traces(trace(folder / algorithm / "ours"))
+    spec, early = (folder / "spec").read_text(), wish.protocol != 2
+    cut = set(re.findall(r" fetch< shallow ([0-9a-f]+)", first_fetch(by_git, wish))) if early and wish.depth else set()
+    refs, refs_here = listed_of(by_git, wish), listed_of(by_us, wish)
+    mapped, mapped_here = ([it for it in found if is_mapped(it[1], wish, spec)] for found in (refs, refs_here))
+    git_rules = {"listed": refs, "peels": True, "leaves_off": True, "marks": not wish.depth, "cut": cut}
+    our_rules = {"listed": mapped_here, "peels": False, "leaves_off": False, "marks": True, "cut": set()}
 
-    def git_haves(peels, leaves_off):
-        return Model(folder, algorithm, by_git, peels, leaves_off).haves()
+    def model(listed, peels, **rules):
+        return Model(folder, algorithm, [peeled if peeled and peels else id for id, _, peeled in listed], **rules)
 
-    if git_haves(True, True) != theirs or Model(folder, algorithm, by_us, False, False).haves() != ours:
+    def sends(**others):
+        return replay_git(model(**{**git_rules, **others}), by_git, wish)
+
+    def gives(**others):
+        return replay_library(model(**{**our_rules, **others}), by_us, wish)
+
+    if sends() != theirs or gives() != ours:
         return None
-    causes = ["tags as listed"] if git_haves(False, True) != theirs else []
-    causes += ["marks left off"] if git_haves(True, False) != theirs else []
-    causes += ["other wants"] if wants(by_git) != wants(by_us) else []
+    # The rules in which the two differ: each side is asked what it would send by that of the other.
+    causes = [name for name, rule in RULES.items() if git_rules[rule] != our_rules[rule]
+              and (sends(**{rule: our_rules[rule]}) != theirs or gives(**{rule: git_rules[rule]}) != ours)]
+    if early:
+        causes += ["all that is listed"] if sends(listed=mapped) != theirs or gives(listed=refs_here) != ours else []
+        has = set((folder / "has").read_text().split())
+        others = model(**git_rules).alone(has, windows_of_library())
+        ended = len(theirs) if "ready" in [word for word, _ in events_of(by_git, wish)] else None
+        causes += ["other windows"] if others[:ended] != theirs else []
+        causes += ["haves after ready"] if goes_on_after_ready(by_us, wish) else []
+    causes += ["other wants"] if wants(by_git, wish) != wants(by_us, wish) else []
     return ", ".join(causes) or None
 
 
@@ -399,7 +540,7 @@ def build(work):
     return source.parent
 
 
-def fetch_by_us(git, program, cases, has_tags):
+def fetch_by_us(git, program, cases, wish):
     """Runs the program once for each case, each with a server of its own."""
     folder = program / "cases"
     shutil.rmtree(folder, ignore_errors=True)
@@ -407,10 +548,11 @@ def fetch_by_us(git, program, cases, has_tags):
     servers = []
     for number, (history, algorithm) in enumerate(cases):
         work = history / algorithm
-        words = [work / "from", work / "to", work / "texts", algorithm, "included" if has_tags else "none", SPEC]
+        words = [work / "from", work / "to", work / "texts", algorithm, wish.depth, "included" if wish.tags else "none"]
+        words.append((history / "spec").read_text())
         (folder / f"{number:03d}").write_text("")
         (folder / f"{number:03d}.args").write_text("".join(f"{word}\n" for word in words))
-        servers.append(serve(git, history, algorithm))
+        servers.append(serve(git, history, algorithm, wish))
     ran = subprocess.run([os.environ.get("RT", "rt"), "try", "--cases", str(folder)], cwd=program, capture_output=True, text=True)
     for server in servers:
         server.kill()
@@ -418,27 +560,33 @@ def fetch_by_us(git, program, cases, has_tags):
     return ran.stdout + ran.stderr
 
 
-def compare(histories):
+def compare(histories, wish):
     agree, explained, unexplained = dict.fromkeys(ALGORITHMS, 0), dict.fromkeys(ALGORITHMS, 0), dict.fromkeys(ALGORITHMS, 0)
+    counts = {algorithm: Counter() for algorithm in ALGORITHMS}
     for folder, kind in histories:
         for algorithm in ALGORITHMS:
             said = trace(folder / algorithm / "ours")
-            ours = distinct(re.findall(r" upload-pack< have ([0-9a-f]+)", said))
-            theirs = haves_of_git(trace(folder / algorithm / "git"))
+            ours = haves_of(as_git_traces(said), wish)
+            theirs = haves_of(trace(folder / algorithm / "git"), wish)
             if said and ours == theirs:
                 agree[algorithm] += 1
                 continue
-            why = cause(folder, algorithm, ours, theirs) if said else None
+            why = cause(folder, algorithm, ours, theirs, wish) if said else None
             (explained if why else unexplained)[algorithm] += 1
+            counts[algorithm].update([*(why.split(", ") if why else []), "fewer here" if len(ours) < len(theirs) else "not fewer here"])
             print(f"{folder.name} {kind} {algorithm}: git sent {len(theirs)}, we sent {len(ours)}: {why or 'NO CAUSE'}")
     for algorithm in ALGORITHMS:
         print(f"{algorithm}: {agree[algorithm]} of {len(histories)} agree, {explained[algorithm]} differ by a cause, {unexplained[algorithm]} without one")
+        print("    " + ", ".join(f"{name}: {count}" for name, count in sorted(counts[algorithm].items())))
     return sum(unexplained.values())
 
 
 def main():
     parser = argparse.ArgumentParser(description=__doc__.splitlines()[0])
     parser.add_argument("histories", nargs="?", type=int, default=200)
+    parser.add_argument("--protocol", type=int, choices=[0, 1, 2], default=2, help="the version of the protocol")
+    parser.add_argument("--depth", type=int, default=0, help="how many commits of each ref are fetched")
+    parser.add_argument("--one", action="store_true", help="one branch is fetched, by its refspec")
     parser.add_argument("--tags", action="store_true", help="histories with tags")
     parser.add_argument("--seed", type=int, default=1000)
     parser.add_argument("--keep", type=pathlib.Path, help="a folder for the histories and traces, which stay")
@@ -453,14 +601,15 @@ def main():
             folder = room / f"{number:03d}"
             folder.mkdir()
             histories.append((folder, make_history(git, folder, number, words.seed, words.tags)))
+            (folder / "spec").write_text(moved_branch(git, folder) if words.one else BRANCHES_SPEC)
             for algorithm in ALGORITHMS:
-                fetch_by_git(git, folder, algorithm, words.tags)
+                fetch_by_git(git, folder, algorithm, words)
         cases = [(folder, algorithm) for folder, _ in histories for algorithm in ALGORITHMS]
         for at in range(0, len(cases), 2 * BATCH):
-            said = fetch_by_us(git, program, cases[at : at + 2 * BATCH], words.tags)
+            said = fetch_by_us(git, program, cases[at : at + 2 * BATCH], words)
             if "error" in said:
                 print(said, file=sys.stderr)
-        sys.exit(1 if compare(histories) else 0)
+        sys.exit(1 if compare(histories, words) else 0)
 
 
 main()

@@ -1,5 +1,6 @@
-//! Requests whose answers fail, updates of a handshake, and texts of errors.
+//! Requests whose answers fail, advertisements, updates of a handshake, and texts of errors.
 
+mod advertisements;
 mod answers;
 mod errors;
 mod requests;

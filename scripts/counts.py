@@ -1,0 +1,203 @@
+#!/usr/bin/env python3
+"""Counts what documents give the number of: rows, tests, crates, edits, public functions, worked rows, claims, variants.
+
+Usage: counts.py [--write]
+
+Prints each number that is wrong, with its file and line, and each sentence that isn't there any more. Beside the sentences below, a
+number in front of `rows`, `tests`, `crates`, `edits`, `must-fail edits` or `public functions` has to be that of the whole repository,
+but for one that a sentence below has, and for a line that names a commit, whose numbers are of that. The status is 1 where there is
+such a number. With `--write` it writes the right numbers into the documents.
+"""
+import re
+import subprocess
+import sys
+from pathlib import Path
+
+TOP = Path(__file__).resolve().parent.parent
+CRATES = TOP / "crates"
+DATA = CRATES / "gixp_replay" / "data"
+sys.path.insert(0, str(TOP / "models"))
+import rows as models_rows
+
+NUMBER = r"([0-9][0-9,]*)"
+WORDS = "no one two three four five six seven eight nine ten eleven twelve".split()
+WORD = rf"({'|'.join(WORDS)})"
+DOCUMENTS = ["README.md", "CONTRIBUTING.md", "docs/*.md", "models/README.md", "crates/*/README.md", "examples/**/*.md"]
+PROOFS, ARCHITECTURE = "docs/PROOFS.md", "docs/ARCHITECTURE.md"
+TEST_MODULES = {
+    "gixp_tests": ["streams", "fetch", "listing", "graph", "refspecs"],
+    "gixp_fetch_tests": ["handshakes", "negotiations", "fetches"],
+}
+
+
+def crates():
+    """The crates that crates.txt lists, each with what it depends on."""
+    lines = [line.partition(":") for line in (TOP / "crates.txt").read_text().splitlines() if line and not line.startswith("#")]
+    return {name: rest.split() for name, _, rest in lines}
+
+
+def sources(crate):
+    return sorted((CRATES / crate / "src").rglob("*.rt"))
+
+
+def tests(crate, module=None):
+    """The tests of a crate, or of one of its modules."""
+    count = 0
+    for path in sources(crate):
+        place = path.relative_to(CRATES / crate / "src").with_suffix("").parts
+        if module in (None, place[0]):
+            count += len(re.findall(r"(?m)^\s*#\[test\]", path.read_text()))
+    return count
+
+
+def public_functions():
+    """Those of gix_protocol and of the crates that it re-exports."""
+    names = [name for name in ["gix_protocol", *crates()["gix_protocol"]] if (CRATES / name / "src").is_dir()]
+    texts = (re.sub(r"(?m)^\s*//.*$", "", path.read_text()) for name in names for path in sources(name))
+    return sum(len(re.findall(r"(?m)^\s*pub (?:const )?fn ", text)) for text in texts)
+
+
+def edits():
+    return len(list((TOP / "wrong-bodies").rglob("*.edit"))), len(list(CRATES.glob("*/must-fail/*.edit")))
+
+
+def read_rows():
+    """The rows of each file that `args` names, as (name, mode)."""
+    files = (CRATES / "gixp_replay" / "args").read_text().split()
+    return {name: [(row.name, row.mode) for row in models_rows.read(DATA / name)[0]] for name in files}
+
+
+def worked_rows():
+    said = subprocess.run([sys.executable, TOP / "models" / "definitions.py"], capture_output=True, text=True).stdout
+    return int(re.search(r"([0-9]+) worked rows", said)[1])
+
+
+def variants(path, name):
+    """The variants of an enum."""
+    text = re.search(rf"(?ms)^pub enum {name} \{{\n(.*?)^\}}", (CRATES / path).read_text())[1]
+    return len(re.findall(r"(?m)^    [A-Z]\w*", text))
+
+
+def in_words(number):
+    return WORDS[number] if number < len(WORDS) else f"{number:,}"
+
+
+def rows_of_table(text, first):
+    """How many rows the table has that begins with this head."""
+    lines = text.partition(f"\n{first}\n")[2].partition("\n\n")[0].splitlines()
+    return len(lines) - 1
+
+
+def sentences():
+    """The file of each sentence, a pattern of it with its numbers, and what they are to be."""
+    rows = read_rows()
+    modes = [mode for _, mode in rows["refspecs"]]
+    peers = [name.partition("_")[0] for name, _ in rows["peers"]]
+    names = [mode for _, mode in rows["names"]]
+    yield PROOFS, rf"`crates/gixp_replay/data` has {NUMBER} rows", [sum(map(len, rows.values()))]
+    for name, found in rows.items():
+        yield PROOFS, rf"(?m)^\| `{name}` \| {NUMBER} \|", [len(found)]
+    yield PROOFS, rf"{NUMBER} texts with their value or error; {NUMBER} names with what .*? of them; {NUMBER} lists of refspecs", [
+        modes.count("refspec"), modes.count("ref-name"), modes.count("prefixes") + modes.count("matches")]
+    yield PROOFS, rf"`gogit_..`, {NUMBER} .*? `dulwich_..`, {NUMBER} .*? `git_..`, {NUMBER} ", [
+        peers.count("gogit"), peers.count("dulwich"), peers.count("git")]
+    yield PROOFS, rf"{NUMBER} names \(`git_name`\) and {NUMBER} refspecs", [names.count("ref-name"), names.count("refspec")]
+    for crate in crates():
+        if crate.endswith("_tests"):
+            parts = TEST_MODULES.get(crate, [])
+            found = "".join(rf"[^|\n]*?\({NUMBER}\)" for _ in parts)
+            yield PROOFS, rf"(?m)^\| `{crate}` \| {NUMBER} \|{found}", [tests(crate), *(tests(crate, part) for part in parts)]
+    yield "docs/DIFFERENCES.md", rf"one `read::Error` with {WORD} variants", [in_words(variants("gixp_packetline/src/read.rt", "Error"))]
+    claims = (TOP / "README.md").read_text().partition(" claims\n")[2].partition("\n## ")[0]
+    yield "README.md", rf"(?mi)^## {WORD} claims$", [in_words(len(re.findall(r"(?m)^[0-9]+\. ", claims))).capitalize()]
+    parts = rows_of_table((TOP / "docs/SESSION.md").read_text(), "| part of the sentence | clause of `headline` |")
+    yield "docs/SESSION.md", rf"in each of the {WORD} parts", [in_words(parts)]
+    yield "models/README.md", rf"it checks {NUMBER} worked rows", [worked_rows()]
+
+
+def wholes():
+    """What a number in front of these words is to be, anywhere."""
+    rows = sum(map(len, read_rows().values()))
+    others, must_fail = edits()
+    return {
+        "rows": rows,
+        "tests": sum(tests(crate) for crate in crates()),
+        "crates": len(crates()),
+        "must-fail edits": must_fail,
+        "edits": others + must_fail,
+        "public functions": public_functions(),
+    }
+
+
+def line_at(text, place):
+    return text.count("\n", 0, place) + 1
+
+
+def check_sentences(texts, wrong):
+    """Adds what is wrong of the sentences, as (file, place, end, right number or what is missing); returns where their numbers are."""
+    known = set()
+    for file, pattern, numbers in sentences():
+        found = list(re.finditer(pattern, texts[file]))
+        if len(found) != 1:
+            wrong.append((file, 0, 0, f"{len(found)} sentences like {pattern}"))
+            continue
+        for group, number in enumerate(numbers, 1):
+            start, end = found[0].span(group)
+            known.add((file, start))
+            right = number if isinstance(number, str) else f"{number:,}"
+            if found[0][group] != right:
+                wrong.append((file, start, end, right))
+    return known
+
+
+def check_wholes(texts, known, wrong):
+    counts = wholes()
+    pattern = re.compile(r"(?<![\w.,/-])" + NUMBER + r" (" + "|".join(sorted(counts, key=len, reverse=True)) + r")\b")
+    for file, text in texts.items():
+        for found in pattern.finditer(text):
+            line = text[text.rfind("\n", 0, found.start()) + 1:text.find("\n", found.end())]
+            if (file, found.start()) in known or re.search(r"`[0-9a-f]{8,40}`", line):
+                continue
+            if found[1] != f"{counts[found[2]]:,}":
+                wrong.append((file, *found.span(1), f"{counts[found[2]]:,}"))
+
+
+def check_lists(texts, wrong):
+    """Each crate stands in the table of crates, and no crate has more must-fail edits than CONTRIBUTING says."""
+    table = texts[ARCHITECTURE].partition("\n## Crates\n")[2].partition("\n## ")[0]
+    firsts = {name for line in table.splitlines() if line.startswith("| `") for name in re.findall(r"`(\w+)`", line.split("|")[1])}
+    for name in sorted(crates().keys() ^ firsts):
+        place = texts[ARCHITECTURE].find("\n## Crates\n") + 1
+        wrong.append((ARCHITECTURE, place, 0, f"the crate {name} is in one of table and crates.txt"))
+    for crate in crates():
+        if len(list((CRATES / crate / "must-fail").glob("*.edit"))) > 4:
+            text = texts["CONTRIBUTING.md"]
+            wrong.append(("CONTRIBUTING.md", text.find("at most four a crate"), 0, f"{crate} has more than four must-fail edits"))
+
+
+def write(texts, wrong):
+    for file in texts:
+        text = texts[file]
+        for _, start, end, right in sorted((it for it in wrong if it[0] == file and it[2]), reverse=True):
+            text = text[:start] + right + text[end:]
+        if text != texts[file]:
+            (TOP / file).write_text(text)
+
+
+def main():
+    paths = [path for pattern in DOCUMENTS for path in sorted(TOP.glob(pattern))]
+    texts = {str(path.relative_to(TOP)): path.read_text() for path in paths}
+    wrong = []
+    known = check_sentences(texts, wrong)
+    check_wholes(texts, known, wrong)
+    check_lists(texts, wrong)
+    for file, start, end, right in sorted(wrong):
+        said = f"{texts[file][start:end]}, and it is {right}" if end else right
+        print(f"{file}:{line_at(texts[file], start)}: {said}")
+    if sys.argv[1:] == ["--write"]:
+        write(texts, wrong)
+    return 1 if wrong else 0
+
+
+if __name__ == "__main__":
+    sys.exit(main())
