@@ -11,6 +11,7 @@ pub mod NodeLemmas
 pub mod SlotLemmas
 pub mod StepLemmas
 pub mod TableLemmas
+pub mod TimesLemmas
 pub mod VisitedLemmas
 pub mod WaitingLemmas
 pub mod WalkLemmas

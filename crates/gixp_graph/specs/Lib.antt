@@ -12,6 +12,7 @@ pub mod Refusals
 pub mod Run
 pub mod Slots
 pub mod Table
+pub mod Times
 pub mod Visited
 pub mod Waiting
 pub mod Walk

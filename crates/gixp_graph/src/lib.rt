@@ -11,6 +11,7 @@ mod queue;
 pub mod refs;
 mod same;
 pub mod shared;
+mod times;
 mod visited;
 mod walk;
 

@@ -41,6 +41,16 @@ impl<T: Drop> From<AllocFailed<T>> for NegotiatorError {
     }
 }
 
+impl From<ObjectError> for NegotiatorError {
+    ghost use Rattle.gixp_graph.specs.declared.negotiator.NegotiatorError.TheVariants.{Lookup};
+
+    ghost from_gives = { λ x e. e ≡ Lookup x };
+
+    fn from(error: ObjectError) -> NegotiatorError {
+        NegotiatorError::Lookup(error)
+    }
+}
+
 /// Chooses the commits to offer as haves (gitprotocol-pack, "Packfile Negotiation").
 ///
 /// Each call says what it does as a relation of the negotiator and the graph before and after it, a field of

@@ -1,37 +1,47 @@
 //! A queue by time.
-ghost use Rattle.std.specs.Prelude.{◌≡◌, ◌≤ℤ◌, IfSome, IfNone, OnOk, [], ◌∷◌, All};
+ghost use Rattle.std.specs.Prelude.{◌≡◌, ◌≤ℤ◌, ◌⊎◌, IfSome, IfNone, OnOk, [], ◌∷◌, All};
 ghost use Rattle.std.specs.List.Sorted.{IsPermutation};
 ghost use Rattle.gixp_graph.specs.Queue.{entry_at};
 
+use crate::times::Times;
 use std::alloc::{AllocError, Global};
-use std::collections::BinaryHeap;
 use std::marker::Model;
 
-/// A node number that waits, with a time. The greater entry is taken first: the newer one, and of two of
-/// one time the one of the greater number.
-#[derive(Clone, Copy, PartialEq, Eq, PartialOrd, Ord)]
+/// A node number that waits, with a time.
+#[derive(Clone, Copy)]
 pub(crate) struct Entry {
     pub time: i64,
     pub number: usize,
 }
 
 /// Node numbers that wait, by time.
+///
+/// The newest may stand before the map of the others: most commits of a history are taken right after they came, and so never come
+/// into the map.
 #[derive(Drop)]
 pub(crate) struct TimeQueue {
-    entries: BinaryHeap<Entry>,
+    newest: Option<Entry>,
+    others: Times,
 }
 
 impl Model for TimeQueue {
-    ghost use Rattle.std.specs.Prelude.{List};
-    ghost use Rattle.std.specs.BinaryHeap.{heap_items, IsHeap};
+    ghost use Rattle.std.specs.Prelude.{List, ◌++◌};
     ghost use Rattle.gixp_graph.specs.declared.queue.Entry.{Entry};
-    ghost use Rattle.gixp_graph.specs.Queue.{entry_cmp};
+    ghost use Rattle.gixp_graph.specs.Queue.{first_of, StandsFirst};
 
     ghost Value = { List Entry };
 
-    ghost view = { λ a. heap_items a.entries };
+    ghost view = { λ a. first_of a.newest ++ a.others };
 
-    ghost invariant = { λ a. IsHeap entry_cmp (heap_items a.entries) };
+    ghost invariant = { λ a. StandsFirst a.newest a.others };
+}
+
+/// Two entries, the newer one first.
+fn newer_first(a: Entry, b: Entry) -> (Entry, Entry)
+    ensures both { (result ≡ (a, b)) ⊎ (result ≡ (b, a)) }
+    ensures newer { result.1.time ≤ℤ result.0.time }
+{
+    if b.time <= a.time { (a, b) } else { (b, a) }
 }
 
 impl TimeQueue {
@@ -40,18 +50,28 @@ impl TimeQueue {
         ensures { result ≡ [] }
     {
         TimeQueue {
-            entries: BinaryHeap::new(alloc),
+            newest: None,
+            others: Times::new(alloc),
         }
     }
 
-    /// Adds a number.
+    /// Adds a number. After an error what waited may be gone.
     pub fn push(&mut self, time: i64, number: usize) -> Result<(), AllocError>
         ensures { OnOk result (IsPermutation (entry_at time number ∷ self.old) self.new) }
     {
-        match self.entries.push(Entry { time, number }) {
-            Ok(()) => Ok(()),
-            Err(_) => Err(AllocError),
-        }
+        let entry = Entry { time, number };
+        let Some(newest) = self.newest else {
+            if self.others.is_newest(time) {
+                self.newest = Some(entry);
+                return Ok(());
+            }
+            return self.others.push(entry);
+        };
+        let (first, later) = newer_first(entry, newest);
+        self.newest = None;
+        self.others.push(later)?;
+        self.newest = Some(first);
+        Ok(())
     }
 
     /// Takes an entry of the greatest time.
@@ -60,6 +80,10 @@ impl TimeQueue {
         ensures newest { IfSome result (λ newest. All (λ e. e.time ≤ℤ newest.time) self.new) }
         ensures none { IfNone result (self.old ≡ []) }
     {
-        self.entries.pop()
+        let Some(newest) = self.newest else {
+            return self.others.pop_newest();
+        };
+        self.newest = None;
+        Some(newest)
     }
 }

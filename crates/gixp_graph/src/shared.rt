@@ -1,7 +1,10 @@
 //! Objects over a shared reference: one repository serves a graph and whoever else reads it.
-ghost use Rattle.std.specs.Prelude.{◌≡◌, IfOk, option_map};
+ghost use Rattle.std.specs.Prelude.{◌≡◌, ◌≤◌, ◌⊎◌, ⊤, [], None, IfOk, IfErr, OnOk, option_map};
 ghost use Rattle.std.specs.FinMap as map;
-ghost use Rattle.gixp_graph.specs.Object.{Objects as ObjectMap, kind_at, commit_at, commit_of};
+ghost use Rattle.gixp_hash.specs.declared.object_id.ObjectId.{ObjectId};
+ghost use Rattle.gixp_graph.specs.declared.objects.ObjectError.{ObjectError};
+ghost use Rattle.gixp_graph.specs.declared.objects.ObjectError.TheVariants.{Memory};
+ghost use Rattle.gixp_graph.specs.Object.{Objects as ObjectMap, kind_at, commit_at, commit_of, HasRisen};
 
 use crate::objects::{CommitData, ObjectError, ObjectKind, Objects};
 use gixp_hash::ObjectId;
@@ -12,6 +15,9 @@ use std::alloc::Global;
 pub trait Find {
     /// The map.
     ghost contents: { Self → ObjectMap };
+
+    /// Which errors a read of an id may end in: any, unless an implementation says which.
+    ghost refuses: { Self → ObjectId → ObjectError → Type 0 } = { λ _ _ _. ⊤ };
 
     /// Whether there is an object of this name.
     fn has_object(&self, id: &ObjectId) -> bool
@@ -27,7 +33,8 @@ pub trait Find {
     ///
     /// Why it can't be read. A later call may succeed.
     fn find_commit(&self, alloc: Global, id: &ObjectId) -> Result<Option<CommitData>, ObjectError>
-        ensures { IfOk result (λ found. option_map commit_of found ≡ commit_at (contents self.now) id.now) };
+        ensures found { IfOk result (λ found. option_map commit_of found ≡ commit_at (contents self.now) id.now) }
+        ensures refused { IfErr result (λ e. refuses self.now id.now e) };
 }
 
 /// The objects of a repository over a shared reference to it.
@@ -58,6 +65,10 @@ impl<F: Find> Objects for Shared<'_, F> {
 
     ghost failures = { λ s. s.failures };
 
+    ghost asked = { λ _. [] };
+
+    ghost refusals = { λ _. None };
+
     fn exists(&self, id: &ObjectId) -> bool {
         self.objects.has_object(id)
     }
@@ -66,7 +77,19 @@ impl<F: Find> Objects for Shared<'_, F> {
         self.objects.find_kind(id)
     }
 
-    fn commit(&mut self, alloc: Global, id: &ObjectId) -> Result<Option<CommitData>, ObjectError> {
+    fn commit(&mut self, alloc: Global, id: &ObjectId) -> Result<Option<CommitData>, ObjectError>
+        ensures found { IfOk result (λ found. option_map commit_of found ≡ commit_at (F.contents self.old.objects.now) id.now) }
+        ensures objects { self.new.objects.now ≡ self.old.objects.now }
+        ensures failures { self.old.failures ≤ self.new.failures }
+
+        // Its error is one that the read of this id may end in.
+        ensures told { IfErr result (λ e. F.refuses self.old.objects.now id.now e) }
+
+        // Counted is each error but that of an allocation, and no success.
+        ensures counted { IfErr result (λ e. (e ≡ Memory) ⊎ HasRisen self.old.failures self.new.failures) }
+        ensures uncounted { OnOk result (self.new.failures ≡ self.old.failures) }
+        ensures memory { IfErr result (λ e. e ≡ Memory → self.new.failures ≡ self.old.failures) }
+    {
         match self.objects.find_commit(alloc, id) {
             Ok(found) => Ok(found),
             Err(ObjectError::Memory) => Err(ObjectError::Memory),

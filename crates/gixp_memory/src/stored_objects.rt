@@ -305,7 +305,11 @@ fn kind_in(alloc: Global, line: &[u8]) -> Result<Option<(ObjectId, ObjectKind)>,
 }
 
 impl Find for StoredObjects {
+    ghost use Rattle.gixp_graph.specs.declared.objects.ObjectError.TheVariants.{Memory};
+
     ghost contents = { λ s. s };
+
+    ghost refuses = { λ _ _ e. e ≡ Memory };
 
     fn has_object(&self, id: &ObjectId) -> bool {
         self.objects.contains_key(id)
