@@ -1,10 +1,11 @@
 //! Objects in memory.
-ghost use Rattle.std.specs.Prelude.{◌≡◌, ◌-◌, ◌^◌, [], Some, IfOk, IfErr, OnOk, OnErr, option_map};
+ghost use Rattle.std.specs.Prelude.{◌≡◌, ◌≤◌, ◌==◌, ◌+◌, ◌-◌, ◌^◌, ◌⊎◌, ◌∷◌, ◌++◌, [], Some, IfOk, IfErr, OnOk, OnErr, option_map, true, false};
 ghost use Rattle.std.specs.BTreeMap.{insert_entry};
 ghost use Rattle.gixp_hash.specs.ObjectId.{id_cmp};
-ghost use Rattle.gixp_graph.specs.Object.{commit_of};
-ghost use Rattle.gixp_graph.specs.declared.objects.ObjectError.TheVariants.{Memory};
-ghost use Rattle.gixp_memory.specs.Memory.{stored_commit};
+ghost use Rattle.gixp_graph.specs.Asked.{AsksOnce};
+ghost use Rattle.gixp_graph.specs.Object.{HasRisen, commit_at, commit_of};
+ghost use Rattle.gixp_graph.specs.declared.objects.ObjectError.TheVariants.{Corrupt, Memory};
+ghost use Rattle.gixp_memory.specs.Memory.{KeepsCalls, is_corrupt_in, objects_of, stored_commit};
 
 use gixp_graph::{CommitData, ObjectError, ObjectKind, Objects};
 use gixp_hash::ObjectId;
@@ -42,6 +43,8 @@ impl MemoryObjects {
         ensures objects { result.objects.entries ≡ [] }
         ensures looked_up { result.looked_up.items ≡ [] }
         ensures calls { result.calls ≡ 2 ^ 64 - 1 }
+        ensures error { result.error ≡ Corrupt }
+        ensures failures { result.failures ≡ 0 }
     {
         MemoryObjects {
             objects: BTreeMap::new(alloc),
@@ -60,6 +63,7 @@ impl MemoryObjects {
     pub fn add(&mut self, id: ObjectId, object: StoredObject) -> Result<(), AllocError>
         ensures added { OnOk result (self.new.objects.entries ≡ insert_entry id_cmp self.old.objects.entries id object) }
         ensures failed { OnErr result (self.new.objects.entries ≡ self.old.objects.entries) }
+        ensures kept { KeepsCalls self.old self.new }
     {
         self.objects.insert(id, object)?;
         Ok(())
@@ -73,6 +77,7 @@ impl MemoryObjects {
     pub fn add_commit(&mut self, id: ObjectId, commit: CommitData) -> Result<(), AllocError>
         ensures added { OnOk result (self.new.objects.entries ≡ insert_entry id_cmp self.old.objects.entries id (stored_commit commit)) }
         ensures failed { OnErr result (self.new.objects.entries ≡ self.old.objects.entries) }
+        ensures kept { KeepsCalls self.old self.new }
     {
         let object = StoredObject {
             kind: Some(ObjectKind::Commit),
@@ -81,10 +86,47 @@ impl MemoryObjects {
         };
         self.add(id, object)
     }
+
+    // What a call of `commit` answers: it is written down, and fails where it is to.
+    fn answer(&mut self, alloc: Global, id: &ObjectId) -> Result<Option<CommitData>, ObjectError>
+        ensures found { IfOk result (λ found. option_map commit_of found ≡ commit_at (objects_of self.old.objects.entries) id.now) }
+        ensures sound { OnOk result (is_corrupt_in self.old.objects.entries id.now ≡ false) }
+        ensures objects { self.new.objects ≡ self.old.objects }
+        ensures error { self.new.error ≡ self.old.error }
+        ensures asked { AsksOnce id.now self.old.looked_up.items self.new.looked_up.items }
+        ensures written { OnOk result (self.new.looked_up.items ≡ self.old.looked_up.items ++ id.now ∷ []) }
+        ensures counted { OnOk result (self.new.calls + 1 ≡ self.old.calls) }
+
+        // It is the call that is to fail, or the object is corrupt, or an allocation failed.
+        ensures told { IfErr result (λ e. (e ≡ Memory) ⊎ (((self.old.calls ≡ 0) × (e ≡ self.old.error))
+            ⊎ ((is_corrupt_in self.old.objects.entries id.now ≡ true) × (e ≡ Corrupt)))) }
+        ensures unfailed { OnOk result (self.new.failures ≡ self.old.failures) }
+        ensures failures { self.old.failures ≤ self.new.failures }
+        ensures failed { IfErr result (λ e. (e ≡ Memory) ⊎ HasRisen self.old.failures self.new.failures) }
+    {
+        self.looked_up.push(*id)?;
+        if fails(&mut self.calls) {
+            self.failures = self.failures.saturating_add(1);
+            return Err(self.error);
+        }
+        let object = match self.objects.get(id) {
+            Some(object) => object,
+            None => return Ok(None),
+        };
+        if object.is_corrupt {
+            self.failures = self.failures.saturating_add(1);
+            return Err(ObjectError::Corrupt);
+        }
+        copied(alloc, &object.commit)
+    }
 }
 
 // Whether a call fails that so many come before; one fewer then.
-fn fails(calls: &mut u64) -> bool {
+fn fails(calls: &mut u64) -> bool
+    ensures fails { result ≡ (calls.old == 0) }
+    ensures last { result ≡ true → calls.new ≡ 2 ^ 64 - 1 }
+    ensures counted { result ≡ false → calls.new + 1 ≡ calls.old }
+{
     if *calls == 0 {
         *calls = u64::MAX;
         return true;
@@ -114,20 +156,7 @@ impl Objects for MemoryObjects {
     }
 
     fn commit(&mut self, alloc: Global, id: &ObjectId) -> Result<Option<CommitData>, ObjectError> {
-        self.looked_up.push(*id)?;
-        if fails(&mut self.calls) {
-            self.failures = self.failures.saturating_add(1);
-            return Err(self.error);
-        }
-        let object = match self.objects.get(id) {
-            Some(object) => object,
-            None => return Ok(None),
-        };
-        if object.is_corrupt {
-            self.failures = self.failures.saturating_add(1);
-            return Err(ObjectError::Corrupt);
-        }
-        copied(alloc, &object.commit)
+        self.answer(alloc, id)
     }
 }
 

@@ -1,7 +1,9 @@
 //! Refs in memory.
-ghost use Rattle.std.specs.Prelude.{◌≡◌, [], None, OnOk, OnErr};
+ghost use Rattle.std.specs.Prelude.{◌≡◌, ◌≤◌, ◌⊎◌, [], None, IfOk, IfErr, IfSome, IfNone, OnOk, OnErr};
 ghost use Rattle.std.specs.BTreeMap.{insert_entry};
-ghost use Rattle.gixp_memory.specs.Memory.{name_cmp};
+ghost use Rattle.gixp_graph.specs.Object.{HasRisen};
+ghost use Rattle.gixp_graph.specs.declared.refs.RefStoreError.TheVariants.{Memory};
+ghost use Rattle.gixp_memory.specs.Memory.{KeepsTargets, name_cmp};
 
 use bstr::BStr;
 use gixp_graph::{RefStore, RefStoreError};
@@ -27,6 +29,7 @@ impl MemoryRefs {
         ensures names { result.names.entries ≡ [] }
         ensures targets { result.targets.items ≡ [] }
         ensures error { result.error ≡ None }
+        ensures failures { result.failures ≡ 0 }
     {
         MemoryRefs {
             names: BTreeMap::new(alloc),
@@ -44,9 +47,32 @@ impl MemoryRefs {
     pub fn add(&mut self, name: Vec<u8>, id: ObjectId) -> Result<(), AllocError>
         ensures added { OnOk result (self.new.names.entries ≡ insert_entry name_cmp self.old.names.entries name id) }
         ensures failed { OnErr result (self.new.names.entries ≡ self.old.names.entries) }
+        ensures kept { KeepsTargets self.old self.new }
     {
         self.names.insert(name, id)?;
         Ok(())
+    }
+
+    // What a call of `peeled` answers: it fails where there is an error, which stays.
+    fn list(&mut self, alloc: Global) -> Result<Vec<ObjectId>, RefStoreError>
+        ensures peeled { IfOk result (λ ids. ids.items ≡ self.old.targets.items) }
+        ensures names { self.new.names ≡ self.old.names }
+        ensures targets { self.new.targets ≡ self.old.targets }
+        ensures error { self.new.error ≡ self.old.error }
+        ensures refused { IfSome self.old.error (λ why. IfErr result (λ e. e ≡ why)) }
+        ensures fails { IfSome self.old.error (λ why. OnOk result ⊥) }
+        ensures memory { IfNone self.old.error (IfErr result (λ e. e ≡ Memory)) }
+        ensures unfailed { IfNone self.old.error (self.new.failures ≡ self.old.failures) }
+        ensures failures { self.old.failures ≤ self.new.failures }
+        ensures failed { IfErr result (λ e. (e ≡ Memory) ⊎ HasRisen self.old.failures self.new.failures) }
+    {
+        match self.error {
+            Some(error) => {
+                self.failures = self.failures.saturating_add(1);
+                Err(error)
+            }
+            None => Ok(Vec::from_slice(alloc, self.targets.as_slice())?),
+        }
     }
 }
 
@@ -67,12 +93,6 @@ impl RefStore for MemoryRefs {
     }
 
     fn peeled(&mut self, alloc: Global) -> Result<Vec<ObjectId>, RefStoreError> {
-        match self.error {
-            Some(error) => {
-                self.failures = self.failures.saturating_add(1);
-                Err(error)
-            }
-            None => Ok(Vec::from_slice(alloc, self.targets.as_slice())?),
-        }
+        self.list(alloc)
     }
 }

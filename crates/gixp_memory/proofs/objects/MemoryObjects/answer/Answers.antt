@@ -3,7 +3,7 @@ use Rattle.std.proofs.Common.{◌∙◌, ◌≡◌, sym, ap, subst}
 use Rattle.std.specs.Prelude.{IfOk, option_map}
 use Rattle.gixp_graph.specs.Object.{commit_of}
 use Rattle.gixp_memory.proofs.StoredLemmas.{commit_in, commit_stored}
-use Rattle.gixp_memory.proofs.objects.MemoryObjectsObjects.commit.Goals as goal
+use Rattle.gixp_memory.proofs.objects.MemoryObjects.answer.Goals as goal
 
 pub returns-in-None-clause-found : goal.returns-in-None-clause-found
 returns-in-None-clause-found c = ap commit_in c.in-None.ensures.value ∙ sym (commit_stored c.args.self.now.objects.entries c.args.id.now)
