@@ -1,5 +1,5 @@
 //! A text made of pieces.
-ghost use Rattle.std.specs.Prelude.{◌≡◌, ◌++◌, OnOk, flat_map};
+ghost use Rattle.std.specs.Prelude.{ℕ, ◌≡◌, ◌++◌, OnOk, OnErr, flat_map, take};
 
 use std::alloc::AllocError;
 
@@ -7,10 +7,11 @@ use std::alloc::AllocError;
 ///
 /// # Errors
 ///
-/// An allocation failure. The text may have some of the pieces then.
+/// An allocation failure. The text has the pieces before the one that failed then, behind what it had.
 #[inline(always)]
 pub fn append(text: &mut Vec<u8>, pieces: &[&[u8]]) -> Result<(), AllocError>
-    ensures { OnOk result (text.new.items ≡ text.old.items ++ flat_map (λ piece. piece.now) pieces.now) }
+    ensures all { OnOk result (text.new.items ≡ text.old.items ++ flat_map (λ piece. piece.now) pieces.now) }
+    ensures some { OnErr result ((n : ℕ) × (text.new.items ≡ text.old.items ++ flat_map (λ piece. piece.now) (take n pieces.now))) }
 {
     for piece in pieces {
         text.extend_from_slice(piece)?;

@@ -4,6 +4,7 @@
 
 mod objects;
 mod refs;
+mod same;
 mod stored_objects;
 mod stored_refs;
 mod texts;

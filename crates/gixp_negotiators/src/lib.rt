@@ -6,6 +6,7 @@ mod consecutive;
 mod marks;
 mod noop;
 mod queue;
+mod same;
 mod skipping;
 
 pub use algorithm::{Algorithm, AnyNegotiator};

@@ -2,5 +2,6 @@
 #![tactic(auto)]
 
 mod check;
+mod same;
 
 pub use check::{PackCheck, PackError, PackSummary};

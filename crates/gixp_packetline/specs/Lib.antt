@@ -10,6 +10,7 @@ pub mod TransportState
 pub mod Reading
 pub mod Window
 pub mod PacketLine
+pub mod Order
 pub mod Packets
 pub mod LineReader
 pub mod ServerMessage

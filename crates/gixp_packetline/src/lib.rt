@@ -13,6 +13,7 @@ mod packet_line;
 pub mod packets;
 mod protocol;
 pub mod read;
+mod same;
 mod window;
 
 pub use line_reader::LineReader;

@@ -1,9 +1,10 @@
-//! Equality and order of refs.
+//! Equality and order of refs; equality of reasons why there are none.
 ghost use Rattle.std.specs.Prelude.{◌≡◌, ◌↔◌, IsTrue};
 ghost use Rattle.gixp_refs.specs.Ref.{ref_value};
 ghost use Rattle.gixp_refs.specs.Order.{ref_cmp};
 
 use crate::handshake::Ref;
+use crate::handshake::refs::parse::Invariant;
 use std::cmp::Ordering;
 
 /// Two refs are equal exactly where they are one value.
@@ -18,4 +19,11 @@ fn order_of_refs(first: &Ref, second: &Ref) -> Ordering
     ensures { result ≡ ref_cmp (ref_value first.now) (ref_value second.now) }
 {
     first.cmp(second)
+}
+
+/// Two reasons why lines don't go together are equal exactly where they are one.
+fn is_same_invariant(left: &Invariant, right: &Invariant) -> bool
+    ensures { IsTrue result ↔ (left.now ≡ right.now) }
+{
+    left == right
 }

@@ -2,6 +2,7 @@
 pub mod Name
 pub mod Spec
 pub mod RefSpec
+pub mod Instruction
 pub mod PartialName
 pub mod Matching
 pub mod Texts

@@ -1,10 +1,13 @@
-//! Equality of refspecs.
+//! Equality of refspecs, of what they ask for, of names and errors.
 ghost use Rattle.std.specs.Prelude.{◌≡◌, ◌↔◌, IsTrue};
 ghost use Rattle.gixp_refspec.specs.RefSpec.{value_of, owned_value_of};
+ghost use Rattle.gixp_refspec.specs.Instruction.{asked_of};
 ghost use Rattle.gixp_refspec.specs.PartialName.{name_bytes};
 
+use crate::instruction::Instruction;
 use crate::name::PartialName;
-use crate::spec::{RefSpec, RefSpecRef};
+use crate::parse::Error;
+use crate::spec::{RefSpec, RefSpecRef, Sign};
 
 /// Two refspecs are equal exactly where they are one value.
 fn is_same(a: &RefSpecRef<'_>, b: &RefSpecRef<'_>) -> bool
@@ -25,4 +28,25 @@ fn is_same_name(x: &PartialName, y: &PartialName) -> bool
     ensures { IsTrue result ↔ (name_bytes x.now ≡ name_bytes y.now) }
 {
     x == y
+}
+
+/// Two signs are equal exactly where they are one.
+fn is_same_sign(one: &Sign, other: &Sign) -> bool
+    ensures { IsTrue result ↔ (one.now ≡ other.now) }
+{
+    one == other
+}
+
+/// Two instructions are equal exactly where they ask for the same, by the bytes of its names.
+fn is_same_instruction(first: &Instruction<'_>, second: &Instruction<'_>) -> bool
+    ensures { IsTrue result ↔ (asked_of first.now ≡ asked_of second.now) }
+{
+    first == second
+}
+
+/// Two errors are equal exactly where they are one.
+fn is_same_error(old: &Error, new: &Error) -> bool
+    ensures { IsTrue result ↔ (old.now ≡ new.now) }
+{
+    old == new
 }

@@ -4,6 +4,7 @@ ghost use Rattle.gixp_response.specs.AnswerLine.{wanted_value};
 ghost use Rattle.gixp_response.specs.Order.{acknowledgement_cmp, update_cmp, wanted_cmp};
 
 use crate::fetch::response;
+use crate::fetch::response::RequiredFeature;
 use std::cmp::Ordering;
 
 /// Two acknowledgements are equal exactly where they are one value.
@@ -52,4 +53,11 @@ fn order_of_wanted(x: &response::WantedRef, y: &response::WantedRef) -> Ordering
     ensures { result ≡ wanted_cmp (wanted_value x.now) (wanted_value y.now) }
 {
     x.cmp(y)
+}
+
+/// Two features are equal exactly where they are one.
+fn is_same_feature(feature: &RequiredFeature, next: &RequiredFeature) -> bool
+    ensures { IsTrue result ↔ (feature.now ≡ next.now) }
+{
+    feature == next
 }

@@ -10,6 +10,7 @@ mod frame_text;
 mod greeting;
 mod message;
 mod progress;
+mod same;
 mod service;
 mod spurious;
 mod transport;

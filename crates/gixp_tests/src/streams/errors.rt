@@ -1,8 +1,8 @@
-//! Texts of errors, and copies.
+//! Texts of errors and ids, and copies.
 use crate::shown::are_shown;
 use bstr::BString;
 use gixp_capabilities::client;
-use gixp_hash::decode;
+use gixp_hash::{ObjectId, decode};
 use gixp_packetline::PacketError;
 use gixp_packetline::read::Error as ReadError;
 use gixp_wire::{Account, Opening};
@@ -42,6 +42,18 @@ fn names_each_packet_error(rt: HostRuntime) -> Result<(), Fail> {
     let errors = [decode::Error::InvalidLength(3), decode::Error::InvalidDigit];
     let text = "InvalidLength\nInvalidDigit\n";
     assert!(rt; are_shown(a, &errors, text)?);
+    Ok(())
+}
+
+#[test]
+fn shows_an_id(rt: HostRuntime) -> Result<(), Fail> {
+    let text = "0123456789abcdef0123456789abcdef01234567";
+    let shown = match ObjectId::from_hex(text.as_bytes()) {
+        Ok(id) => format!(in rt.alloc(); "{id} {id:?}")?,
+        Err(e) => format!(in rt.alloc(); "{e}")?,
+    };
+    let twice = format!(in rt.alloc(); "{text} {text}")?;
+    assert_eq!(rt; shown.as_str(), twice.as_str());
     Ok(())
 }
 

@@ -139,14 +139,14 @@ fn several_of<'r, 'a, M>(
     Ok(groups)
 }
 
-/// Puts groups into the order of their first rows.
+/// Puts groups into the order of their first rows, so that their mappings are read as they lie; nothing promises an order.
 fn sort_groups<M>(groups: &mut Vec<Group<'_, '_, M>>)
     ensures { IsPermutation groups.old.items groups.new.items }
 {
     groups.sort_unstable_by_key(|group| group.place);
 }
 
-/// The rows of each number that has several, in the order of the first rows.
+/// The rows of each number that has several.
 pub(crate) fn groups_of<'r, 'a, M>(
     alloc: Global,
     rows: &'r [Named<'a, M>],
