@@ -98,6 +98,7 @@ pub use Rattle.gixp_progress.specs.Laws as ProgressLaws
 pub use Rattle.gixp_refmap.specs.ListError
 pub use Rattle.gixp_refmap.specs.Prefixes
 pub use Rattle.gixp_refmap.specs.Listing
+pub use Rattle.gixp_refmap.specs.ListingProgress
 pub use Rattle.gixp_refmap.specs.MapError
 pub use Rattle.gixp_refmap.specs.Mapping
 pub use Rattle.gixp_refmap.specs.RefMapItems
