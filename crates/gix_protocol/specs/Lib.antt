@@ -292,6 +292,7 @@ pub use Rattle.gixp_memory.specs.declared.stored_refs.NoAlternates as NoAlternat
 pub use Rattle.gixp_updates.specs.Ancestors
 pub use Rattle.gixp_updates.specs.LocalSide
 pub use Rattle.gixp_updates.specs.LookUps
+pub use Rattle.gixp_updates.specs.Limits
 pub use Rattle.gixp_updates.specs.Modes
 pub use Rattle.gixp_updates.specs.Unmatched
 pub use Rattle.gixp_updates.specs.UpdateError
