@@ -13,7 +13,7 @@ use Rattle.gixp_updates.specs.declared.refs.error.Error.{Error}
 use Rattle.gixp_updates.specs.declared.refs.error.Error.TheVariants.{FindObject, TooManyCommits, Memory}
 use Rattle.gixp_updates.specs.Ancestors.{IsAncestor, IsBeyond}
 use Rattle.gixp_updates.specs.Search.{Search, SeesMore, HasAskedFor}
-use Rattle.gixp_updates.specs.Limits.{LooksWithin, LooksBy, AsksWithin, AsksFew, KeepsLimit, AsksFewEach, IsMapped}
+use Rattle.gixp_updates.specs.Limits.{LooksWithin, LooksBy, AsksWithin, AsksFew, KeepsLimit, AsksFewEach, IsOfMapping}
 
 -- ---- one look at the ancestors of a commit
 
@@ -129,6 +129,6 @@ is_within ms k m e l = subst (Contains ms) (sym e) (Contains-get_or ms k m l)
 
 module _ (read : ObjectId → Option Commit) (ms : List Mapping) (limit : Option ℕ) where
   -- one more
-  pub each_more : {T : Type 0} (n : ℕ) (x : T) (a b c : List ObjectId) → AsksFewEach read (IsMapped ms) limit 2 n a b
-      → KeepsLimit read (IsMapped ms) limit {T = T} 2 (Ok x) b c → AsksFewEach read (IsMapped ms) limit 2 (n + 1) a c
-  each_more n x a b c h k = subst (λ m. AsksFewEach read (IsMapped ms) limit 2 m a c) (sym (add-one n)) (b, h, k)
+  pub each_more : {T : Type 0} (n : ℕ) (x : T) (a b c : List ObjectId) → AsksFewEach read (IsOfMapping ms) limit 2 n a b
+      → KeepsLimit read (IsOfMapping ms) limit {T = T} 2 (Ok x) b c → AsksFewEach read (IsOfMapping ms) limit 2 (n + 1) a c
+  each_more n x a b c h k = subst (λ m. AsksFewEach read (IsOfMapping ms) limit 2 m a c) (sym (add-one n)) (b, h, k)

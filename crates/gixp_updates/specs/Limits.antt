@@ -9,8 +9,8 @@ use Rattle.gixp_updates.specs.declared.refs.error.Error.TheVariants.{FindObject,
 use Rattle.gixp_updates.specs.Ancestors.{IsAncestor, ReachesMore}
 
 -- a mapping names the commit
-abbrev pub IsMapped : List Mapping → ObjectId → Type 0
-IsMapped ms id = (m : Mapping) × Contains ms m × (source_id m.remote ≡ Some id)
+abbrev pub IsOfMapping : List Mapping → ObjectId → Type 0
+IsOfMapping ms id = (m : Mapping) × Contains ms m × (source_id m.remote ≡ Some id)
 
 module _ (read : ObjectId → Option Commit) where
   -- the ids that a look at the ancestors of a commit came to last: that of the commit, or the parents of one of them
@@ -68,7 +68,7 @@ module _ (read : ObjectId → Option Commit) where
 
   -- of each mapping two ids at most are looked up, and then there is one look at the ancestors of its commit, or none
   abbrev pub KeepsLimitOfEach : {T : Type 0} → List Mapping → Option ℕ → Result T Error → List ObjectId → List ObjectId → Type 0
-  KeepsLimitOfEach ms limit (Ok x) old new = (n : ℕ) × (n ≤ length ms) × AsksFewEach (IsMapped ms) limit 2 n old new
-  KeepsLimitOfEach ms limit (Err TooManyCommits) old new = IsExceeded (IsMapped ms) limit
+  KeepsLimitOfEach ms limit (Ok x) old new = (n : ℕ) × (n ≤ length ms) × AsksFewEach (IsOfMapping ms) limit 2 n old new
+  KeepsLimitOfEach ms limit (Err TooManyCommits) old new = IsExceeded (IsOfMapping ms) limit
   KeepsLimitOfEach ms limit (Err (FindObject e)) old new = ⊤
   KeepsLimitOfEach ms limit (Err Memory) old new = ⊤

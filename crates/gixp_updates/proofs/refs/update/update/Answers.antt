@@ -9,7 +9,7 @@ use Rattle.gixp_updates.specs.declared.refs.edit.Update.{Update}
 use Rattle.gixp_updates.specs.Modes.{LocalSide, wanted_of, IsUpdate}
 use Rattle.gixp_updates.specs.LocalSide.{local_with}
 use Rattle.gixp_graph.specs.Object.{commit_at}
-use Rattle.gixp_updates.specs.Limits.{IsMapped}
+use Rattle.gixp_updates.specs.Limits.{IsOfMapping}
 use Rattle.gixp_updates.specs.declared.refs.mode.Wanted.{Wanted}
 use Rattle.gixp_updates.proofs.LimitLemmas.{limit_weaker, limit_read, each_more, is_within}
 use Rattle.gixp_updates.proofs.ModeLemmas.{consults_on, consults_as, update_moved, pushed}
@@ -43,7 +43,7 @@ loop-mapping-preserved g c =
           c.in_ok-update_of.field-0 c.in_ok-update_of.ensures.update)));
       asks = each_more (commit_at c.args.graph.now.graph.objects) items c.args.options.now.most_commits k c.in_ok-update_of.field-0 _ _ _ v.asks
           (limit_weaker (commit_at c.args.graph.now.graph.objects) (λ q. c.wanted_of-wanted.result.id ≡ Some q) c.args.options.now.most_commits
-          (IsMapped items) (λ q s. (m, is_within items k m is within, sym (ap (λ (w : Wanted). w.id) wanted) ∙ s)) 2
+          (IsOfMapping items) (λ q s. (m, is_within items k m is within, sym (ap (λ (w : Wanted). w.id) wanted) ∙ s)) 2
           (Ok c.in_ok-update_of.field-0) _ _
           (limit_read (commit_at c.args.graph.now.graph.objects) (commit_at c.loop-mapping.graph.graph.objects)
           (ap commit_at v.consults.looks.objects) (λ q. c.wanted_of-wanted.result.id ≡ Some q) c.args.options.now.most_commits 2
