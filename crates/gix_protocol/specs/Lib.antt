@@ -98,6 +98,7 @@ pub use Rattle.gixp_progress.specs.Laws as ProgressLaws
 pub use Rattle.gixp_refmap.specs.ListError
 pub use Rattle.gixp_refmap.specs.Prefixes
 pub use Rattle.gixp_refmap.specs.Listing
+pub use Rattle.gixp_refmap.specs.ListingProgress
 pub use Rattle.gixp_refmap.specs.MapError
 pub use Rattle.gixp_refmap.specs.Mapping
 pub use Rattle.gixp_refmap.specs.RefMapItems
@@ -291,6 +292,7 @@ pub use Rattle.gixp_memory.specs.declared.stored_refs.NoAlternates as NoAlternat
 pub use Rattle.gixp_updates.specs.Ancestors
 pub use Rattle.gixp_updates.specs.LocalSide
 pub use Rattle.gixp_updates.specs.LookUps
+pub use Rattle.gixp_updates.specs.Limits
 pub use Rattle.gixp_updates.specs.Modes
 pub use Rattle.gixp_updates.specs.Unmatched
 pub use Rattle.gixp_updates.specs.UpdateError

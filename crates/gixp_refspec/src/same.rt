@@ -1,7 +1,7 @@
 //! Equality of refspecs, of what they ask for, of names and errors.
 ghost use Rattle.std.specs.Prelude.{◌≡◌, ◌↔◌, IsTrue};
 ghost use Rattle.gixp_refspec.specs.RefSpec.{value_of, owned_value_of};
-ghost use Rattle.gixp_refspec.specs.Instruction.{asked_of};
+ghost use Rattle.gixp_refspec.specs.Instruction.{instruction_value};
 ghost use Rattle.gixp_refspec.specs.PartialName.{name_bytes};
 
 use crate::instruction::Instruction;
@@ -39,7 +39,7 @@ fn is_same_sign(one: &Sign, other: &Sign) -> bool
 
 /// Two instructions are equal exactly where they ask for the same, by the bytes of its names.
 fn is_same_instruction(first: &Instruction<'_>, second: &Instruction<'_>) -> bool
-    ensures { IsTrue result ↔ (asked_of first.now ≡ asked_of second.now) }
+    ensures { IsTrue result ↔ (instruction_value first.now ≡ instruction_value second.now) }
 {
     first == second
 }

@@ -3,3 +3,4 @@ mod AskLemmas
 mod SearchLemmas
 mod ModeLemmas
 mod NoteLemmas
+mod LimitLemmas

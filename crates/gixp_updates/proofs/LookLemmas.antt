@@ -3,24 +3,27 @@ use Rattle.std.proofs.Common.{◌≡◌, ℕ, ℤ, ◌+◌, ◌≤◌, ◌<◌, 
 use Rattle.std.specs.Prelude.{option_map, is_some, IsSome, IfSome, option_and_then, Contains}
 use Rattle.std.specs.Option.{option_or}
 use Rattle.std.specs.List.{list_any}
+use Rattle.std.specs.BinaryHeap.{heap_items}
 use Rattle.std.specs.List.Sorted.{IsPermutation}
 use Rattle.std.specs.Ordering.{eq_by_cmp}
 use Rattle.std.proofs.lemmas.Bool.{or_cases, or_left, or_right}
 use Rattle.std.proofs.lemmas.Cmp.{eq_by_cmp_equiv}
-use Rattle.std.proofs.lemmas.List.Sorted.{list_any-IsPermutation}
+use Rattle.std.proofs.lemmas.List.Sorted.{list_any-IsPermutation, All-permutation}
 use Rattle.std.proofs.lemmas.List.Elements.{All-nil, All-cons, All-push, All-weaker, Contains-append_left, Contains-append_right, Contains-get_or, All-contains}
 use Rattle.std.proofs.lemmas.List.{take_more, take-append-drop}
 use Rattle.std.specs.FinMap as finite
 use Rattle.std.specs.FinMap.{contains_key-keys, get-insert}
 use Rattle.gixp_hash.specs.declared.object_id.ObjectId.{ObjectId}
 use Rattle.gixp_hash.specs.ObjectId.{id_cmp}
-use Rattle.gixp_graph.specs.Object.{Objects, Object, Commit, commit_at}
+use Rattle.gixp_graph.specs.Object.{Objects, Object, Commit, commit_at, time_at}
 use Rattle.gixp_graph.specs.GraphData.{HeldCommit, GraphData, graph_of, found_in, looked_up, put, unmarked, shown}
 use Rattle.gixp_graph.specs.declared.flags.Flags.{Flags}
 use Rattle.gixp_graph.specs.GraphLaws.{ids_total, same_from, put_same}
 use Rattle.gixp_graph.specs.CountLaws.{count_le, count_lt}
 use Rattle.gixp_updates.specs.declared.refs.heap.Pending.{Pending}
-use Rattle.gixp_updates.specs.Search.{Search, unseen, LooksUp, SeesMore, Explores, HoldsWaiting}
+use Rattle.gixp_updates.specs.declared.refs.heap.Heap.{Heap}
+use Rattle.gixp_updates.specs.Pending.{pending_at}
+use Rattle.gixp_updates.specs.Search.{Search, WaitByTime, unseen, LooksUp, SeesMore, Explores, HoldsWaiting}
 
 -- a test that chooses true is a disjunction
 pub as_or : (b x : Bool) → cond b true x ≡ (b || x)
@@ -51,6 +54,15 @@ pub popped : (o : Option Pending) (old new : List Pending) → IfSome o (λ x. I
     ≡ (eq_by_cmp id_cmp q x.id || list_any (λ (p : Pending). eq_by_cmp id_cmp q p.id) new))
 popped None old new h = h
 popped (Some x) old new h = λ q. list_any-IsPermutation (λ (p : Pending). eq_by_cmp id_cmp q p.id) old (x ∷ new) h
+
+-- one more waits under its time
+pub waits_by_time : (objects : Objects) (id : ObjectId) (t : ℤ) (old new : Heap)
+    → IsPermutation (pending_at t id ∷ heap_items old.waiting) (heap_items new.waiting) → time_at objects id ≡ Some t
+    → WaitByTime objects old → WaitByTime objects new
+waits_by_time objects id t old new p e w =
+    let P : Pending → Type 0 = λ (x : Pending). time_at objects x.id ≡ Some x.time in
+    All-permutation P (pending_at t id ∷ heap_items old.waiting) (heap_items new.waiting) p
+    (All-cons P (pending_at t id) (heap_items old.waiting) e w)
 
 -- what shows no time isn't there
 pub absent : (o : Option Commit) → ◌≡◌ {A = Option ℤ} None (option_map (λ (c : Commit). c.time) o) → o ≡ None

@@ -3,6 +3,8 @@ pub mod LocalSide
 pub mod LookUps
 pub mod Modes
 pub mod Search
+pub mod Pending
+pub mod Limits
 pub use Rattle.gixp_graph.specs.Asked
 pub use Rattle.gixp_graph.specs.GraphData
 pub use Rattle.gixp_graph.specs.Object

@@ -7,7 +7,7 @@ use Rattle.std.specs.BTreeSet as tree
 use Rattle.std.specs.BinaryHeap.{heap_items, heap_len}
 use Rattle.gixp_hash.specs.declared.object_id.ObjectId.{ObjectId}
 use Rattle.gixp_hash.specs.ObjectId.{id_cmp}
-use Rattle.gixp_graph.specs.Object.{Objects, Commit, commit_at}
+use Rattle.gixp_graph.specs.Object.{Objects, Commit, commit_at, time_at}
 use Rattle.gixp_graph.specs.GraphData.{GraphData}
 use Rattle.gixp_graph.specs.Asked.{AsksEach}
 use Rattle.gixp_graph.specs.Walk.{count}
@@ -24,6 +24,10 @@ waits_in h id = list_any (λ (p : Pending). eq_by_cmp id_cmp id p.id) (heap_item
 -- how many wait
 abbrev pub waiting_len : Heap → ℕ
 waiting_len h = heap_len h.waiting
+
+-- each commit waits under its time
+abbrev pub WaitByTime : Objects → Heap → Type 0
+WaitByTime objects h = All (λ (p : Pending). time_at objects p.id ≡ Some p.time) (heap_items h.waiting)
 
 -- how far a walk has come: the ids that were looked for, the commits whose parents weren't, and how many these are
 pub record Search : Type 0 where

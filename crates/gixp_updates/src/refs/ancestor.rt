@@ -5,6 +5,7 @@ ghost use Rattle.gixp_hash.specs.declared.object_id.ObjectId.{ObjectId};
 ghost use Rattle.gixp_graph.specs.Asked.{AsksEach};
 ghost use Rattle.gixp_graph.specs.Object.{commit_at};
 ghost use Rattle.gixp_updates.specs.Ancestors.{IsAncestor, IsReachedFrom, ReachesMore, IsBeyond};
+ghost use Rattle.gixp_updates.specs.Limits.{AsksWithin};
 ghost use Rattle.gixp_updates.specs.LookUps.{LooksUp};
 ghost use Rattle.gixp_updates.specs.UpdateError.{TellsError};
 ghost use Rattle.gixp_updates.specs.declared.refs.error.Error.TheVariants.{TooManyCommits};
@@ -50,6 +51,9 @@ pub fn is_ancestor<O: Objects>(
     // No commit is read twice, and none but those that aren't held, of the ids that are come to.
     ensures asked { AsksEach (λ id. (finite.get graph.old.graph.held id ≡ None)
         × IsReachedFrom (commit_at graph.old.graph.objects) new.now id) graph.old.asked graph.new.asked }
+
+    // But for the ids that it comes to last, a success has come to no more than the caller allows.
+    ensures within { OnOk result (AsksWithin (commit_at graph.old.graph.objects) new.now most_commits graph.old.asked graph.new.asked) }
     ensures limited { result ≡ Err TooManyCommits → (most : ℕ) × (most_commits ≡ Some most)
         × ReachesMore (commit_at graph.old.graph.objects) new.now most }
     ensures unrefused { OnOk result (graph.new.refusals ≡ graph.old.refusals) }

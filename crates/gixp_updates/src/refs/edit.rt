@@ -1,5 +1,5 @@
 //! What is to be written.
-ghost use Rattle.std.specs.Prelude.{◌≡◌, ℕ, IfOk, if◌then◌else◌, None};
+ghost use Rattle.std.specs.Prelude.{◌≡◌, ℕ, IfOk, if◌then◌else◌, None, Some};
 ghost use Rattle.std.specs.Option.{option_copied, option_map};
 ghost use Rattle.bstr.specs.Owned.{bstring_bytes};
 ghost use Rattle.gixp_refspec.specs.RefSpec.{value_of, owned_value_of};
@@ -8,6 +8,8 @@ ghost use Rattle.gixp_refmap.specs.Mapping.{spec_at};
 ghost use Rattle.gixp_updates.specs.LocalSide.{local_of};
 ghost use Rattle.gixp_updates.specs.Modes.{is_text, is_tags_spec, includes, holds_at, wanted_of, edit_to, edit_of, IsUpdate};
 ghost use Rattle.gixp_updates.specs.UpdateError.{Consults};
+ghost use Rattle.gixp_updates.specs.Limits.{KeepsLimit};
+ghost use Rattle.gixp_graph.specs.Object.{commit_at};
 ghost use Rattle.std.specs.Prelude.{codes};
 
 use crate::refs::error::Error;
@@ -138,6 +140,8 @@ pub(crate) fn update_of<R: RefStore, O: Objects, P: Objects>(
 ) -> Result<Update, Error>
     ensures update { IfOk result (IsUpdate (local_of R.refs O.contents local.now graph.old.graph) wanted (option_copied name.entry)) }
     ensures consults { Consults local.now.most_commits result graph.old graph.new }
+    ensures limited { KeepsLimit (commit_at graph.old.graph.objects) (λ q. wanted.id ≡ Some q) local.now.most_commits 2 result
+        graph.old.asked graph.new.asked }
 {
     match mode_of(alloc, local, graph, wanted, name) {
         Ok(mode) => Ok(Update {

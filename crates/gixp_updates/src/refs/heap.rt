@@ -1,9 +1,7 @@
 //! Commits whose parents are still to be looked at.
-ghost use Rattle.std.specs.Prelude.{◌≡◌, ◌+◌, ◌||◌, IfSome, IfNone, OnOk, OnSome, false};
-ghost use Rattle.std.specs.Ordering.{eq_by_cmp};
-ghost use Rattle.gixp_hash.specs.ObjectId.{id_cmp};
-ghost use Rattle.gixp_hash.specs.declared.object_id.ObjectId.{ObjectId};
-ghost use Rattle.gixp_updates.specs.Search.{waits_in, waiting_len};
+ghost use Rattle.std.specs.BinaryHeap.{heap_items, IsHeap};
+ghost use Rattle.std.proofs.Props.{props};
+ghost use Rattle.gixp_updates.specs.Pending.{pending_cmp};
 
 use gixp_hash::ObjectId;
 use std::alloc::{AllocError, Global};
@@ -20,9 +18,18 @@ pub(crate) struct Pending {
 #[derive(Drop)]
 pub(crate) struct Heap {
     waiting: BinaryHeap<Pending>,
+    ghost ordered: { IsHeap pending_cmp (heap_items waiting) } by { Prim.hlevel props },
 }
 
 impl Heap {
+    ghost use Rattle.std.specs.Prelude.{◌≡◌, ◌+◌, ◌∷◌, ◌||◌, ◌≤ℤ◌, All, IfSome, IfNone, OnOk, OnSome, false};
+    ghost use Rattle.std.specs.Ordering.{eq_by_cmp};
+    ghost use Rattle.std.specs.List.Sorted.{IsPermutation};
+    ghost use Rattle.gixp_hash.specs.ObjectId.{id_cmp};
+    ghost use Rattle.gixp_hash.specs.declared.object_id.ObjectId.{ObjectId};
+    ghost use Rattle.gixp_updates.specs.Search.{waits_in, waiting_len};
+    ghost use Rattle.gixp_updates.specs.Pending.{pending_at};
+
     /// None waits.
     pub fn new(alloc: Global) -> Heap
         ensures len { waiting_len result ≡ 0 }
@@ -36,6 +43,7 @@ impl Heap {
     /// Adds a commit.
     pub fn push(&mut self, time: i64, id: ObjectId) -> Result<(), AllocError>
         ensures len { OnOk result (waiting_len self.new ≡ waiting_len self.old + 1) }
+        ensures added { OnOk result (IsPermutation (pending_at time id ∷ heap_items self.old.waiting) (heap_items self.new.waiting)) }
         ensures waits { OnOk result ((q : ObjectId) → waits_in self.new q ≡ (eq_by_cmp id_cmp q id || waits_in self.old q)) }
     {
         match self.waiting.push(Pending { time, id }) {
@@ -49,6 +57,7 @@ impl Heap {
         ensures len { OnSome result (waiting_len self.old ≡ waiting_len self.new + 1) }
         ensures taken { IfSome result (λ newest. (q : ObjectId)
             → waits_in self.old q ≡ (eq_by_cmp id_cmp q newest.id || waits_in self.new q)) }
+        ensures newest { IfSome result (λ newest. All (λ p. p.time ≤ℤ newest.time) (heap_items self.new.waiting)) }
         ensures none { IfNone result ((q : ObjectId) → waits_in self.old q ≡ false) }
     {
         self.waiting.pop()

@@ -1,5 +1,5 @@
 //! How a local ref is changed, or why it stays.
-ghost use Rattle.std.specs.Prelude.{◌≡◌, ℕ, ◌&&◌, ◌||◌, not, if◌then◌else◌, IfOk, Some, None, Option};
+ghost use Rattle.std.specs.Prelude.{◌≡◌, ◌≢◌, ℕ, ◌&&◌, ◌||◌, not, if◌then◌else◌, IfErr, IfOk, Some, None, Option};
 ghost use Rattle.std.specs.Option.{option_copied};
 ghost use Rattle.std.specs.FinMap as finite;
 ghost use Rattle.std.specs.Str.{bytes_eq};
@@ -8,6 +8,9 @@ ghost use Rattle.gixp_graph.specs.Object.{kind_at, commit_at};
 ghost use Rattle.gixp_updates.specs.Modes.{is_writable, is_tag_name, is_branch_name, is_among, is_commit, is_tree_or_blob, ByAncestry, Moves, made, ByOld, not_there, ByNew, IsMode};
 ghost use Rattle.gixp_updates.specs.LocalSide.{local_of};
 ghost use Rattle.gixp_updates.specs.UpdateError.{Consults};
+ghost use Rattle.gixp_updates.specs.Limits.{KeepsLimit};
+ghost use Rattle.gixp_updates.specs.declared.refs.error.Error.TheVariants.{TooManyCommits};
+ghost use Rattle.gixp_graph.specs.Asked.{AsksOnce};
 
 use crate::refs::ancestor::is_ancestor;
 use crate::refs::error::Error;
@@ -68,6 +71,8 @@ fn is_tree_or_blob<O: Objects>(objects: &O, id: &ObjectId) -> bool
 fn is_commit<P: Objects>(graph: &mut Graph<P>, id: &ObjectId) -> Result<bool, Error>
     ensures commit { IfOk result (λ is. is ≡ is_commit graph.old.graph.objects id.now) }
     ensures consults { (limit : Option ℕ) → Consults limit result graph.old graph.new }
+    ensures asked { AsksOnce id.now graph.old.asked graph.new.asked }
+    ensures unlimited { IfErr result (λ e. e ≢ TooManyCommits) }
 {
     Ok(graph.lookup(id)?.is_some())
 }
@@ -109,6 +114,7 @@ fn by_ancestry<P: Objects>(
 ) -> Result<Mode, Error>
     ensures mode { IfOk result (λ mode. ByAncestry graph.old.graph.objects is_forced old.now new.now mode) }
     ensures consults { Consults most_commits result graph.old graph.new }
+    ensures limited { KeepsLimit (commit_at graph.old.graph.objects) (λ q. q ≡ new.now) most_commits 0 result graph.old.asked graph.new.asked }
 {
     if is_ancestor(alloc, graph, old, new, most_commits)? {
         return Ok(Mode::FastForward);
@@ -155,6 +161,8 @@ fn moved<O: Objects, P: Objects>(
         (O.contents objects.now) graph.old.graph.objects target.entry.is_forced target.entry.name.now old.now target.entry.id.now
         mode) }
     ensures consults { Consults most_commits result graph.old graph.new }
+    ensures limited { KeepsLimit (commit_at graph.old.graph.objects) (λ q. q ≡ target.entry.id.now) most_commits 2 result
+        graph.old.asked graph.new.asked }
 {
     if is_tag_name(target.name) {
         return Ok(forced_or(target.is_forced, Mode::RejectedTagUpdate));
@@ -180,6 +188,8 @@ fn moved<O: Objects, P: Objects>(
 fn made<P: Objects>(graph: &mut Graph<P>, target: Target<'_>) -> Result<Mode, Error>
     ensures mode { IfOk result (λ mode. mode ≡ made graph.old.graph.objects target.entry.name.now target.entry.id.now) }
     ensures consults { (limit : Option ℕ) → Consults limit result graph.old graph.new }
+    ensures limited { (limit : Option ℕ) → KeepsLimit (commit_at graph.old.graph.objects) (λ q. q ≡ target.entry.id.now) limit 2 result
+        graph.old.asked graph.new.asked }
 {
     match is_commit(graph, target.id) {
         Ok(is_commit) => {
@@ -212,6 +222,8 @@ fn by_old<O: Objects, P: Objects>(
     ensures mode { IfOk result (λ mode. ByOld
         (O.contents objects.now) graph.old.graph.objects target.entry.is_forced target.entry.name.now old target.entry.id.now mode) }
     ensures consults { Consults most_commits result graph.old graph.new }
+    ensures limited { KeepsLimit (commit_at graph.old.graph.objects) (λ q. q ≡ target.entry.id.now) most_commits 2 result
+        graph.old.asked graph.new.asked }
 {
     let Some(old) = old else {
         return made(graph, target);
@@ -263,6 +275,8 @@ fn by_new<R: RefStore, O: Objects, P: Objects>(
 ) -> Result<Mode, Error>
     ensures mode { IfOk result (λ mode. ByNew (local_of R.refs O.contents local.now graph.old.graph) wanted name.now wanted.id mode) }
     ensures consults { Consults local.now.most_commits result graph.old graph.new }
+    ensures limited { KeepsLimit (commit_at graph.old.graph.objects) (λ q. wanted.id ≡ Some q) local.now.most_commits 2 result
+        graph.old.asked graph.new.asked }
 {
     let old = local.refs.find(BStr::new(name));
     let Some(id) = wanted.id else {
@@ -290,6 +304,8 @@ pub(crate) fn mode_of<R: RefStore, O: Objects, P: Objects>(
     ensures mode { IfOk result (λ mode. IsMode (local_of R.refs O.contents local.now graph.old.graph) wanted
         (option_copied name.entry) mode) }
     ensures consults { Consults local.now.most_commits result graph.old graph.new }
+    ensures limited { KeepsLimit (commit_at graph.old.graph.objects) (λ q. wanted.id ≡ Some q) local.now.most_commits 2 result
+        graph.old.asked graph.new.asked }
 {
     let Some(name) = name else {
         return Ok(Mode::NoChangeNeeded);

@@ -5,6 +5,8 @@ ghost use Rattle.bstr.specs.Owned.{bstring_bytes};
 ghost use Rattle.gixp_updates.specs.Modes.{writes, is_rejected, AreUpdates};
 ghost use Rattle.gixp_updates.specs.LocalSide.{local_with};
 ghost use Rattle.gixp_updates.specs.UpdateError.{Consults};
+ghost use Rattle.gixp_updates.specs.Limits.{KeepsLimitOfEach};
+ghost use Rattle.gixp_graph.specs.Object.{commit_at};
 
 use crate::refs::edit::{Update, update_of, wanted_of};
 pub use crate::refs::error::Error;
@@ -118,6 +120,11 @@ pub fn update<R: RefStore, O: Objects, P: Objects>(
         AreUpdates (local_with R.refs O.contents refs.now objects.now options.now graph.old.graph) options.now.tags
         map.now.refspecs.items map.now.extra_refspecs.items map.now.mappings.items updates.items) }
     ensures consults { Consults options.now.most_commits result graph.old graph.new }
+
+    // Of each mapping two ids at most are looked up, and then there is one look at the ancestors of its commit within the limit,
+    // or none. That the limit was exceeded is told only of a commit of a mapping from which more ids are come to.
+    ensures limited { KeepsLimitOfEach (commit_at graph.old.graph.objects) map.now.mappings.items options.now.most_commits result
+        graph.old.asked graph.new.asked }
 {
     let local = Local {
         refs,

@@ -1,6 +1,7 @@
 //! One walk from a commit to its ancestors.
-ghost use Rattle.std.specs.Prelude.{◌≡◌, ◌+◌, ◌≤◌, ◌⊎◌, ◌∷◌, ◌||◌, not, [], IfOk, IfErr, IfSome, IfNone, OnOk, OnErr, Some, IsSome, OnSome, true, false, length, All};
+ghost use Rattle.std.specs.Prelude.{◌≡◌, ◌+◌, ◌≤◌, ◌⊎◌, ◌∷◌, ◌||◌, ◌≤ℤ◌, not, [], IfOk, IfErr, IfSome, IfNone, OnOk, OnErr, Some, IsSome, OnSome, true, false, length, All, Contains};
 ghost use Rattle.std.specs.List.{IsDistinct};
+ghost use Rattle.std.specs.BinaryHeap.{heap_items};
 ghost use Rattle.std.specs.FinMap as finite;
 ghost use Rattle.std.specs.BTreeSet as tree;
 ghost use Rattle.std.specs.Ordering.{eq_by_cmp};
@@ -9,7 +10,7 @@ ghost use Rattle.gixp_hash.specs.ObjectId.{id_cmp};
 ghost use Rattle.gixp_graph.specs.declared.objects.ObjectError.TheVariants.{Memory};
 ghost use Rattle.gixp_graph.specs.Object.{Commit, HasRisen, commit_at};
 ghost use Rattle.gixp_graph.specs.Refusals.{TellsRefusal};
-ghost use Rattle.gixp_updates.specs.Search.{search_of, waits_in, waiting_len, LooksUp, SeesMore, Explores, HoldsWaiting, KeepsAsked};
+ghost use Rattle.gixp_updates.specs.Search.{search_of, waits_in, waiting_len, LooksUp, SeesMore, Explores, HoldsWaiting, KeepsAsked, WaitByTime};
 
 use crate::refs::heap::{Heap, Pending};
 use gixp_graph::{Graph, ObjectError, Objects};
@@ -54,6 +55,7 @@ impl Walk {
         ensures len { result ≡ length self.now.seen.keys }
         ensures distinct { IsDistinct (eq_by_cmp id_cmp) self.now.seen.keys }
         ensures each { All (λ q. (search_of self.now).seen q ≡ true) self.now.seen.keys }
+        ensures listed { (q : ObjectId) → (search_of self.now).seen q ≡ true → Contains self.now.seen.keys q }
     {
         self.seen.len()
     }
@@ -64,6 +66,7 @@ impl Walk {
         ensures len { OnSome result (waiting_len self.old.heap ≡ waiting_len self.new.heap + 1) }
         ensures taken { IfSome result (λ newest. (q : ObjectId)
             → waits_in self.old.heap q ≡ (eq_by_cmp id_cmp q newest.id || waits_in self.new.heap q)) }
+        ensures newest { IfSome result (λ newest. All (λ p. p.time ≤ℤ newest.time) (heap_items self.new.heap.waiting)) }
         ensures none { IfNone result ((q : ObjectId) → waits_in self.old.heap q ≡ false) }
     {
         self.heap.pop()
@@ -89,6 +92,7 @@ impl Walk {
         graph: &mut Graph<O>,
         id: &ObjectId,
     ) -> Result<(), ObjectError>
+        ensures by_time { OnOk result (WaitByTime graph.old.graph.objects self.old.heap → WaitByTime graph.old.graph.objects self.new.heap) }
         ensures explores { OnOk result (Explores graph.old.graph.objects (id.now ∷ []) (search_of self.old) (search_of self.new)) }
         ensures more { SeesMore (id.now ∷ []) (search_of self.old) (search_of self.new) }
         ensures holds { OnOk result (HoldsWaiting graph.old.graph (search_of self.old)

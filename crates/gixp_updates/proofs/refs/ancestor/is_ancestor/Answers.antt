@@ -1,5 +1,5 @@
 -- A search for one commit among the ancestors of another.
-use Rattle.std.proofs.Common.{◌≡◌, ◌≢◌, ◌∙◌, ap, sym, subst, refl, true, false, Some, arith, rules}
+use Rattle.std.proofs.Common.{◌≡◌, ◌≢◌, ◌∙◌, ap, sym, subst, refl, true, false, true≢false, Some, arith, rules}
 use Rattle.std.specs.Prelude.{IsSome}
 use Rattle.std.specs.BTreeSet as tree
 use Rattle.std.proofs.lemmas.List.Elements.{All-weaker}
@@ -11,7 +11,8 @@ use Rattle.gixp_updates.specs.Ancestors.{IsAncestor, IsReachedFrom}
 use Rattle.gixp_updates.specs.Search.{Search, search_of}
 use Rattle.gixp_updates.proofs.LookLemmas.{looks_none, looks_on}
 use Rattle.gixp_updates.proofs.AskLemmas.{asks_none}
-use Rattle.gixp_updates.proofs.SearchLemmas.{begun_reached, search_begun, taken_ancestor, step_reached, search_step, not_found, asked_reached, asked_seen, beyond, taken_waits, others_wait, explored}
+use Rattle.gixp_updates.proofs.LimitLemmas.{within_begun, within_step, asked_within}
+use Rattle.gixp_updates.proofs.SearchLemmas.{ancestor_there, the_commit, begun_reached, search_begun, taken_ancestor, step_reached, search_step, not_found, asked_reached, asked_seen, beyond, taken_waits, others_wait, explored}
 use Rattle.gixp_updates.proofs.refs.ancestor.is_ancestor.Goals as goal
 
 pub returns-in_err-look-clause-asked : goal.returns-in_err-look-clause-asked
@@ -34,6 +35,7 @@ loop-newest-init g c =
       holds = e.holds (λ q w. absurd (let t : none.waits q ≡ true = w in let f = c.new-walk.ensures.none q in cc));
       graph = e.graph;
       asked = e.asked c.args.graph.now.graph c.args.graph.now.asked (looks_none c.args.graph.now.graph) (asks_none _ _);
+      within = λ most _. within_begun (commit_at objects) c.args.new.now most none new c.new-walk.ensures.unseen c.look.ensures.more;
       refusals = e.unrefused;
       failures = e.failures;
     }
@@ -94,6 +96,10 @@ loop-newest-preserved g c =
     let parents : (c' : Commit) → commit_at objects id ≡ Some c' → c.as_slice.result.now ≡ c'.parents =
     λ c' r. c.as_slice.ensures.value ∙ c.in_ok-parents.ensures held c' (ap (λ (o : Objects). commit_at o id) v.graph.objects ∙ r) in
     let other : id ≢ c.args.old.now = search rules in
+    let ancestor : IsAncestor (commit_at objects) c.args.new.now id =
+    taken_ancestor objects c.args.new.now c.args.old.now a b new id v.search c.in-Some.ensures.taken same in
+    let commit : (k : Commit) × (commit_at objects id ≡ Some k) =
+    the_commit (commit_at objects id) (ancestor_there (commit_at objects) c.args.new.now id ancestor) in
     record {
       search =
           search_step objects c.args.new.now c.args.old.now a b new id v.search c.in-Some.ensures.taken same c.as_slice.result.now
@@ -101,6 +107,10 @@ loop-newest-preserved g c =
       holds = e.holds (λ q w. v.holds q (c.in-Some.ensures.taken q ∙ others_wait q id _ w));
       graph = looks_on _ _ _ v.graph e.graph;
       asked = e.asked c.args.graph.now.graph c.args.graph.now.asked v.graph (asked_seen c.args.graph.now.graph a b _ _ same v.asked);
+      within = λ most limited. within_step (commit_at objects) c.args.new.now most c.args.most_commits b new c.pop.new.self.seen.keys
+          c.seen.result id commit.0 c.as_slice.result.now limited
+          (λ beyond. true≢false (sym (c.is_beyond.ensures.1 beyond) ∙ c.if-is_beyond.false)) c.seen.ensures.len c.seen.ensures.listed
+          ancestor commit.1 (parents commit.0 commit.1) c.look_each.ensures.more;
       refusals = e.unrefused ∙ v.refusals;
       failures = omega (arith, e.failures, v.failures);
     }
@@ -112,3 +122,15 @@ returns-clause-ancestor g c =
       λ k. absurd (not_found c.args.graph.now.graph.objects c.args.new.now c.args.old.now
           (search_of c.loop-newest.walk) c.loop-newest.invariant.search idle k),
     )
+
+pub returns-then-eq-clause-within : goal.returns-then-eq-clause-within
+returns-then-eq-clause-within g c =
+    let v = c.loop-newest.invariant in
+    asked_within (commit_at c.args.graph.now.graph.objects) c.args.new.now c.args.graph.now.graph c.args.most_commits
+    (search_of c.loop-newest.walk) _ _ v.within v.asked
+
+pub returns-clause-within : goal.returns-clause-within
+returns-clause-within g c =
+    let v = c.loop-newest.invariant in
+    asked_within (commit_at c.args.graph.now.graph.objects) c.args.new.now c.args.graph.now.graph c.args.most_commits
+    (search_of c.loop-newest.walk) _ _ v.within v.asked

@@ -1,6 +1,7 @@
 -- What the loop keeps, and what is left of it.
-use Rattle.std.proofs.Common.{◌≡◌, ◌+◌, ◌≤◌}
+use Rattle.std.proofs.Common.{◌≡◌, ℕ, ◌+◌, ◌≤◌, true, Some}
 use Rattle.gixp_graph.specs.Object.{commit_at}
+use Rattle.gixp_updates.specs.Limits.{LooksWithin}
 use Rattle.gixp_updates.specs.Search.{search_of, unseen, waiting_len, IsSearch, HoldsWaiting, LooksUp, HasAskedFor}
 use Rattle.gixp_updates.proofs.refs.ancestor.is_ancestor.Given as goal
 
@@ -10,6 +11,8 @@ invariant-loop-newest g l = record {
   holds : HoldsWaiting l.graph.graph (search_of l.walk);
   graph : LooksUp l.fn.graph.graph l.graph.graph;
   asked : HasAskedFor l.fn.graph.graph (search_of l.walk) l.fn.graph.asked l.graph.asked;
+  within : (most : ℕ) → l.fn.most_commits ≡ Some most
+      → LooksWithin (commit_at l.fn.graph.graph.objects) l.fn.new most (λ q. (search_of l.walk).seen q ≡ true);
   refusals : l.graph.refusals ≡ l.fn.graph.refusals;
   failures : l.fn.graph.failures ≤ l.graph.failures;
 }

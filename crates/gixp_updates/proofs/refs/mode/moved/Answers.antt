@@ -1,10 +1,12 @@
 -- A ref that moves.
-use Rattle.std.proofs.Common.{◌≡◌, ◌∙◌, true, false, not, ◌&&◌, cond, None, sym, ap, subst}
+use Rattle.std.proofs.Common.{◌≡◌, ◌∙◌, true, false, not, ◌&&◌, cond, Option, None, sym, ap, subst, arith}
 use Rattle.std.specs.Prelude.{Ok, Err}
-use Rattle.gixp_graph.specs.Object.{Objects}
+use Rattle.gixp_hash.specs.declared.object_id.ObjectId.{ObjectId}
+use Rattle.gixp_graph.specs.Object.{Objects, Commit, commit_at}
 use Rattle.gixp_updates.specs.declared.refs.update.Mode.TheVariants.{Forced, RejectedNonFastForward}
 use Rattle.gixp_updates.specs.Modes.{is_tag_name, is_branch_name, is_commit, ByAncestry, Moves}
 use Rattle.gixp_updates.proofs.ModeLemmas.{on_true, on_false, ok_weaker, consults_on, consults_as, consults_err}
+use Rattle.gixp_updates.proofs.LimitLemmas.{limit_none, limit_after, limit_read}
 use Rattle.gixp_updates.proofs.refs.mode.moved.Goals as goal
 
 pub returns-in-Err-clause-consults : goal.returns-in-Err-clause-consults
@@ -79,3 +81,19 @@ returns-clause-consults g c =
     (c.in-Ok.ensures.consults c.args.most_commits)
     (consults_as c.args.most_commits c.in-Ok-is_commit.is_old_commit c.forced_or-2.result _ _
     (c.in-Ok-is_commit.ensures.consults c.args.most_commits))
+
+pub returns-then-is_tag_name-clause-limited : goal.returns-then-is_tag_name-clause-limited
+returns-then-is_tag_name-clause-limited g c =
+    limit_none (commit_at c.args.graph.now.graph.objects) (λ q. q ≡ c.args.target.id.now) c.args.most_commits 2 c.forced_or.result _
+
+pub returns-then-are_commits-clause-limited : goal.returns-then-are_commits-clause-limited
+returns-then-are_commits-clause-limited g c =
+    let read : ObjectId → Option Commit = commit_at c.args.graph.now.graph.objects in
+    let IsStart : ObjectId → Type 0 = λ q. q ≡ c.args.target.id.now in
+    let first : c.is_commit.new.graph.graph.objects ≡ c.args.graph.now.graph.objects = (c.in-Ok.ensures.consults None).looks.objects in
+    let second : c.is_commit-2.new.graph.graph.objects ≡ c.args.graph.now.graph.objects =
+    (c.in-Ok-is_commit.ensures.consults None).looks.objects ∙ first in
+    limit_after read IsStart c.args.most_commits 1 2 (omega arith) c.args.target.id.now c.by_ancestry.result _ _ _ c.is_commit.ensures.asked
+    (limit_after read IsStart c.args.most_commits 0 1 (omega arith) c.args.old.now c.by_ancestry.result _ _ _ c.is_commit-2.ensures.asked
+    (limit_read read (commit_at c.is_commit-2.new.graph.graph.objects) (ap commit_at second) IsStart c.args.most_commits 0
+    c.by_ancestry.result _ _ c.by_ancestry.ensures.limited))

@@ -1,15 +1,18 @@
 -- A look for an id.
-use Rattle.std.proofs.Common.{◌+◌, ◌∙◌, ◌||◌, inl, inr, ⊎_elim, not, ap, sym, subst}
+use Rattle.std.proofs.Common.{◌+◌, ◌∙◌, ◌||◌, inl, inr, ⊎_elim, not, ap, sym, subst, rules}
 use Rattle.std.specs.Prelude.{IsSome}
 use Rattle.std.specs.FinMap as finite
 use Rattle.std.specs.Ordering.{eq_by_cmp}
 use Rattle.std.proofs.lemmas.Bool.{or_cases}
+use Rattle.std.proofs.lemmas.Int.{to_z-of_z}
+use mir.Val.{SFits}
+use mir.Syntax.{w64}
 use Rattle.gixp_hash.specs.ObjectId.{id_cmp}
 use Rattle.gixp_graph.specs.Object.{commit_at}
 use Rattle.gixp_graph.specs.GraphData.{found_in}
 use Rattle.gixp_graph.specs.GraphLaws.{same_from}
-use Rattle.gixp_updates.specs.Search.{Search, search_of, waits_in, waiting_len}
-use Rattle.gixp_updates.proofs.LookLemmas.{absent, present, shows, noted_keeps, noted_here, more_one, explores_same, explores_found, looks_up, held_here, holds_on}
+use Rattle.gixp_updates.specs.Search.{Search, WaitByTime, search_of, waits_in, waiting_len}
+use Rattle.gixp_updates.proofs.LookLemmas.{absent, present, shows, noted_keeps, noted_here, more_one, explores_same, explores_found, looks_up, held_here, holds_on, waits_by_time}
 use Rattle.gixp_updates.proofs.AskLemmas.{asked_one}
 use Rattle.gixp_updates.proofs.refs.walk.Walk.look.Goals as goal
 
@@ -104,3 +107,16 @@ returns-in-Err-push-clause-asked g c =
     asked_one c.args.graph.now.graph c.args.id.now old new (c.in-Ok-true.ensures.added ∙ ap not c.in-Ok-true.field-0-test)
     (noted_here c.args.id.now old new c.in-Ok-true.ensures.ok)
     (noted_keeps c.args.id.now old new c.in-Ok-true.ensures.ok) _ _ c.lookup.ensures.asked
+
+pub returns-in-Ok-false-clause-by_time : goal.returns-in-Ok-false-clause-by_time
+returns-in-Ok-false-clause-by_time g c w = subst (WaitByTime c.args.graph.now.graph.objects) (sym c.note.ensures.heap) w
+
+pub returns-in_default-clause-by_time : goal.returns-in_default-clause-by_time
+returns-in_default-clause-by_time g c w = subst (WaitByTime c.args.graph.now.graph.objects) (sym c.note.ensures.heap) w
+
+pub returns-in-Ok-clause-by_time : goal.returns-in-Ok-clause-by_time
+returns-in-Ok-clause-by_time g c w =
+    let fits : SFits w64 c.in-Some.time = search rules in
+    waits_by_time c.args.graph.now.graph.objects c.args.id.now c.in-Some.time c.note.new.self.heap c.push.new.self
+    (rw (to_z-of_z w64 c.in-Some.time fits) at c.in-Ok.ensures.added)
+    (sym (rw c.in-Some.is at c.in_ok-time.ensures.time)) (subst (WaitByTime c.args.graph.now.graph.objects) (sym c.note.ensures.heap) w)
