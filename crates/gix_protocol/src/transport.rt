@@ -1,5 +1,7 @@
 //! Streams, and the lines and bands on them.
-pub use gixp_capabilities::{Capabilities, Capability, CapabilityIter, client};
+pub mod client;
+
+pub use gixp_capabilities::{Capabilities, Capability, CapabilityIter};
 pub use gixp_hash::{Kind, ObjectId, decode};
 pub use gixp_packetline::{
     ExtendedBufRead, Frame, LineReader, MessageKind, PacketError, PacketLine, Protocol,

@@ -9,6 +9,7 @@ pub use gixp_memory::{NoAlternates, StoredObjects, StoredRefs, TextError};
 pub use gixp_negotiate::negotiate::ignore::{IgnoreMapping, make_refmapping_ignore_predicate};
 pub use gixp_negotiate::negotiate::mark::mark_complete_and_common_ref;
 pub use gixp_negotiate::negotiate::negotiation::{NegotiateContext, Negotiation, PaysForHaves};
+pub use gixp_negotiate::negotiate::one_round::{State, window_size};
 pub use gixp_negotiate::negotiate::plain::{HaveList, NoObjects, NoRefs};
 pub use gixp_negotiate::negotiate::wants::add_wants;
 pub use gixp_negotiate::negotiate::{Action, Error, Negotiate, Round, one_round};

@@ -1,0 +1,5 @@
+//! What a client knows of a server: its capabilities, and the errors of a transport.
+pub use gixp_capabilities::client::Error;
+pub use gixp_capabilities::{Capabilities, Capability, CapabilityIter};
+pub use gixp_packetline::{ExtendedBufRead, MessageKind};
+pub use gixp_wire::{Account, SetServiceResponse, Transport};
