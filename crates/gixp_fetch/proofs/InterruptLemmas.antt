@@ -1,42 +1,64 @@
--- What an answer that is read through bands leaves of the interrupt.
-use Rattle.std.proofs.Common.{◌≡◌, ap, sym, subst, ◌∙◌, Bool}
-use Rattle.std.specs.Prelude.{Result, Ok, Err}
+-- Whom an answer asks that is read through bands.
+use Rattle.std.proofs.Common.{◌≡◌, ℕ, ◌+◌, ap, sym, subst, ◌∙◌, Bool, true, false, length, None, IfSome, refl, inl, inr, arith}
 use Rattle.std.specs.Borrow.{GName}
-use Rattle.gixp_packetline.specs.declared.read.Error.TheVariants.{Io as ReadIo, Decode, Server, UnexpectedFrame, NotUtf8, BadBand, Interrupted, Memory as ReadMemory}
+use Rattle.gixp_packetline.specs.Reading.{Reading, TakesLine}
+use Rattle.gixp_sidebands.specs.Bands.{Side, is_begun}
 use Rattle.gixp_sidebands.specs.Telling.{Listener}
-use Rattle.gixp_sidebands.specs.SaidToGoOn.{SaidToGoOn}
-use Rattle.gixp_response.specs.declared.fetch.response.error.Error.{Error}
-use Rattle.gixp_response.specs.declared.fetch.response.error.Error.TheVariants.{Io, UploadPack, Transport, MissingServerCapability, UnknownLineType, UnknownSectionHeader, Reader, Memory}
-use Rattle.gixp_response.specs.ResponseError.{UnlessAnswerInterrupted}
+use Rattle.gixp_sidebands.specs.Questions.{one_if, TakesTexts, NoFewer, Asked, AskedBelow}
+use Rattle.gixp_sidebands.specs.QuestionsAgain.{takes-all}
+use Rattle.gixp_fetch.specs.View.{AsksThrough}
 
--- the interrupt is given back by a reader of bands that was made over it
-pub back_goes : {P I : Type 0} (says : I → Bool → I → Type 0) (start : Listener P I) (first : P) (old end out new : I)
-    (name start_name end_name out_name : GName)
-    → start ≡ record { progress = first; interrupt = old } → start_name ≡ name → out_name ≡ end_name → out ≡ end
-    → (name ≡ out_name → new ≡ out)
-    → SaidToGoOn says start.interrupt end × (end_name ≡ start_name) → SaidToGoOn says old new
-back_goes {P} {I} says start first old end out new name start_name end_name out_name s n o e back g =
-    subst (λ x. SaidToGoOn says old x) (sym (back (sym n ∙ sym g.1 ∙ sym o) ∙ e))
-    (subst (λ x. SaidToGoOn says x end) (ap (λ (l : Listener P I). l.interrupt) s) g.0)
+module _ {I : Type 0} (says : I → Bool → I → Type 0) where
+  -- nobody is asked any more
+  asked-behind : (stops : Bool) (ra rb rc : Reading) (a b : I) → Asked says stops ra rb a b → NoFewer rb rc
+      → IfSome rb.to_come (TakesTexts 0 rb rc) → Asked says stops ra rc a b
+  asked-behind stops ra rb rc a b g f h = record {
+    after = g.after;
+    said = g.said;
+    failures = let x = g.failures in omega (arith, x, f);
+    each =
+        let n : (length g.after + one_if stops) + 0 ≡ length g.after + one_if stops = omega arith in
+        subst (λ n. IfSome ra.to_come (TakesTexts n ra rc)) n (takes-all (length g.after + one_if stops) 0 ra rb rc g.failures f g.each h);
+  }
 
--- what follows from what holds
-goes_by : (X Y P Q : Type 0) (e : Error) → (P → Q) → UnlessAnswerInterrupted {X = X} (Err e) P → UnlessAnswerInterrupted {X = Y} (Err e) Q
-goes_by X Y P Q (Io kind) f h = f h
-goes_by X Y P Q (UploadPack m) f h = f h
-goes_by X Y P Q (Transport x) f h = f h
-goes_by X Y P Q (MissingServerCapability s) f h = f h
-goes_by X Y P Q (UnknownLineType l) f h = f h
-goes_by X Y P Q (UnknownSectionHeader l) f h = f h
-goes_by X Y P Q (Reader (ReadIo kind)) f h = f h
-goes_by X Y P Q (Reader (Decode x)) f h = f h
-goes_by X Y P Q (Reader (Server m)) f h = f h
-goes_by X Y P Q (Reader UnexpectedFrame) f h = f h
-goes_by X Y P Q (Reader NotUtf8) f h = f h
-goes_by X Y P Q (Reader (BadBand b)) f h = f h
-goes_by X Y P Q (Reader Interrupted) f h = tt
-goes_by X Y P Q (Reader ReadMemory) f h = f h
-goes_by X Y P Q Memory f h = f h
+  below-behind : (plain stops : Bool) (ra rb rc : Reading) (a b : I) → AskedBelow says plain stops ra rb a b → NoFewer rb rc
+      → IfSome rb.to_come (TakesTexts 0 rb rc) → AskedBelow says plain stops ra rc a b
+  below-behind plain stops ra rb rc a b (inl g) f h = inl (asked-behind stops ra rb rc a b g f h)
+  below-behind plain stops ra rb rc a b (inr g) f h = inr (g.0, g.1, asked-behind false ra rb rc a b g.2 f h)
 
-pub goes_so : (X P Q : Type 0) (r : Result X Error) → (P → Q) → UnlessAnswerInterrupted r P → UnlessAnswerInterrupted r Q
-goes_so X P Q (Ok v) f h = f h
-goes_so X P Q (Err e) f h = goes_by X X P Q e f h
+  not_fewer : (end : Side) (out : Reading) → (is_begun end.place ≡ true → TakesLine end.reading out)
+      → (is_begun end.place ≡ false → out ≡ end.reading) → NoFewer end.reading out
+  not_fewer end out t f = by (is_begun end.place) t f
+    where
+      by : (b : Bool) → (b ≡ true → TakesLine end.reading out) → (b ≡ false → out ≡ end.reading) → NoFewer end.reading out
+      by true t f = let x = (t refl).failures in omega (arith, x)
+      by false t f = let x = ap (λ (r : Reading). r.failures) (f refl) in omega (arith, x)
+
+  -- the transport and the interrupt are given back by a reader of bands that was made over them
+  pub back_asks : {P : Type 0} (plain stops : Bool) (start end : Side) (from out new : Reading) (side_name side_asks : GName)
+      (heard : Listener P I) (first : P) (old last given now : I) (name start_name end_name out_name : GName)
+      → start ≡ record { place = None; name = side_name; asks = side_asks; reading = from; fault = None }
+      → (is_begun end.place ≡ true → TakesLine end.reading out) → (is_begun end.place ≡ false → out ≡ end.reading)
+      → IfSome end.reading.to_come (TakesTexts 0 end.reading out) → new ≡ out
+      → heard ≡ record { progress = first; interrupt = old } → start_name ≡ name → out_name ≡ end_name → given ≡ last
+      → (name ≡ out_name → now ≡ given)
+      → AskedBelow says plain stops start.reading end.reading heard.interrupt last × (end_name ≡ start_name)
+      → AskedBelow says plain stops from new old now
+  back_asks {P} plain stops start end from out new side_name side_asks heard first old last given now name start_name end_name out_name
+      made t f texts is_out s n o e back g =
+      let l : AskedBelow says plain stops start.reading out heard.interrupt last =
+      below-behind plain stops start.reading end.reading out heard.interrupt last g.0 (not_fewer end out t f) texts in
+      subst (λ x. AskedBelow says plain stops from new old x) (sym (back (sym n ∙ sym g.1 ∙ sym o) ∙ e))
+      (subst (λ x. AskedBelow says plain stops from x old last) (sym is_out)
+      (subst (λ (x : Listener P I). AskedBelow says plain stops from out x.interrupt last) s
+      (subst (λ (x : Side). AskedBelow says plain stops x.reading out heard.interrupt last) made l)))
+
+  -- as a session sees it
+  pub asks_banded : (b plain stops : Bool) (old new : Reading) (x y : I) → b ≡ true → AskedBelow says plain stops old new x y
+      → AsksThrough says b plain stops old new x y
+  asks_banded true plain stops old new x y e h = h
+  asks_banded false plain stops old new x y e h = absurd (let z = e in cc)
+
+  pub asks_nobody : (b plain stops : Bool) (old new : Reading) (x y : I) → b ≡ false → y ≡ x → AsksThrough says b plain stops old new x y
+  asks_nobody false plain stops old new x y e h = h
+  asks_nobody true plain stops old new x y e h = absurd (let z = e in cc)

@@ -66,7 +66,7 @@ back_held s new b = at (is_begun s.place) refl
 module _ {C P X : Type 0} (consumes : C → Side → P → Result Bool X → C → Side → P → Type 0) (c : C) where
   pub received_held : (from : Reading) (d : C) (new : Reading) (q : P) → Received consumes c from d new q → new.held ≡ from.held
   received_held from d new q r = back_held r.end new r.back ∙ finished_held r.finished r.mid r.end r.finishes
-      ∙ held_through (fresh_side r.name from) r.mid r.consumed.held
+      ∙ held_through (fresh_side r.name r.asks from) r.mid r.consumed.held
 
   pack_held : (start : Side) (p : P) (error : PackFailure X) (d : C) (end : Side) (q : P) → PackFails consumes c start p error d end q
       → end.reading.held ≡ start.reading.held
@@ -76,7 +76,7 @@ module _ {C P X : Type 0} (consumes : C → Side → P → Result Bool X → C �
 
   unreceived_held : {A : Type 0} (from : Reading) (e : Error A X) (d : C) (new : Reading) (q : P)
       → ReceiveFails consumes c from e d new q → new.held ≡ from.held
-  unreceived_held from e d new q (inl r) = back_held r.end new r.back ∙ pack_held (fresh_side r.name from) r.p r.error d r.end q r.fails
+  unreceived_held from e d new q (inl r) = back_held r.end new r.back ∙ pack_held (fresh_side r.name r.asks from) r.p r.error d r.end q r.fails
   unreceived_held from e d new q (inr m) = ap (λ (r : Reading). r.held) m.2
 
   module _ {S : Type 0} (store_calls : StoreCalls S) (ids : List ObjectId) (updates : List ShallowUpdate) (reject : Bool) (store : S)
@@ -220,13 +220,14 @@ reads_all (Some p) (Some q) end read h = λ e. h.2
     ∙ (ap (λ xs. read ++ xs) (subst (λ x. side_content end x ≡ []) (same_pieces h.1) e) ∙ append-nil read)
 
 module _ {N I A S C P X : Type 0} (parties : Parties N I A S C P X) where
-  taken : (c : C) (from : Reading) (d : C) (name : GName) (before : P) (returned : Result Bool X) (left : Side) (q : P)
-      → from.stopped ≡ None → Consumed parties.consumes c (fresh_side name from) before returned d left q
+  taken : (c : C) (from : Reading) (d : C) (name asks : GName) (before : P) (returned : Result Bool X) (left : Side) (q : P)
+      → from.stopped ≡ None → Consumed parties.consumes c (fresh_side name asks from) before returned d left q
       → TakesPack parties c from returned d left q
-  taken c from d name before returned left q e h =
+  taken c from d name asks before returned left q e h =
       let begins = begins_content from.to_come from.stopped left h.read e h.reads.content in
       record {
         name = name;
+        asks = asks;
         before = before;
         took = h.took;
         read = h.read;
@@ -241,18 +242,18 @@ module _ {N I A S C P X : Type 0} (parties : Parties N I A S C P X) where
     finished = r.finished;
     left = r.mid;
     end = r.end;
-    takes = taken c from d r.name r.p (Ok r.finished) r.mid q e r.consumed;
+    takes = taken c from d r.name r.asks r.p (Ok r.finished) r.mid q e r.consumed;
     drains = λ f. let x = r.finishes.drains f in record { kind = x.kind; stopped = x.stopped; failures = x.failures; rest = x.rest };
     stays = r.finishes.stays;
     back = r.back;
   }
 
   -- the consumer refused it, or what comes after it was refused
-  refuses_pack : (c : C) (from : Reading) (d : C) (new : Reading) (q : P) (name : GName) (p : P) (error : PackFailure X) (end : Side)
-      → from.stopped ≡ None → PackFails parties.consumes c (fresh_side name from) p error d end q
+  refuses_pack : (c : C) (from : Reading) (d : C) (new : Reading) (q : P) (name asks : GName) (p : P) (error : PackFailure X) (end : Side)
+      → from.stopped ≡ None → PackFails parties.consumes c (fresh_side name asks from) p error d end q
       → GivesBack end new → RefusesPack parties c from error d new q
-  refuses_pack c from d new q name p (Consumer x) end s f b = (end, taken c from d name p (Err x) end q s f, b)
-  refuses_pack c from d new q name p (Rest x) end s f b = (f.0, end, taken c from d name p (Ok true) f.0 q s f.1, f.2, b)
+  refuses_pack c from d new q name asks p (Consumer x) end s f b = (end, taken c from d name asks p (Err x) end q s f, b)
+  refuses_pack c from d new q name asks p (Rest x) end s f b = (f.0, end, taken c from d name asks p (Ok true) f.0 q s f.1, f.2, b)
 
   -- where the rounds begin
   abbrev begin_at : World N I S C → N → ArgumentsValue → At N I
@@ -413,7 +414,7 @@ module _ {N I A S C P X : Type 0} (parties : Parties N I A S C P X) where
           → Unpacks parties ids updates call.wishes.reject old.consumer read first from e last progress
       unpacks ids read updates from s (session.at_lock u d r) = lacks_lock u r d
       unpacks ids read updates from s (session.at_pack h (inl u)) = untaken h u.error u.gives
-          (refuses_pack old.consumer from last.consumer last.reading progress u.name u.p u.error u.end s u.fails u.back)
+          (refuses_pack old.consumer from last.consumer last.reading progress u.name u.asks u.p u.error u.end s u.fails u.back)
       unpacks ids read updates from s (session.at_pack h (inr u)) = lacks_room h u.0 u.2 u.1
       unpacks ids read updates from s (session.at_boundary kept h r u) =
           unwritten kept h (takes_all old.consumer from last.consumer last.reading progress s r) u

@@ -153,8 +153,9 @@ module _ {N I A S C P X : Type 0} (parties : Parties N I A S C P X) where
   -- counted
   pub record TakesPack (c : C) (from : Reading) (returned : Result Bool X) (d : C) (left : Side) (progress : P) : Type 0 where
     pub name : GName
+    pub asks : GName
     pub before : P
-    pub took : parties.consumes c (fresh_side name from) before returned d left progress
+    pub took : parties.consumes c (fresh_side name asks from) before returned d left progress
     pub read : List ℕ
     pub begins : IfSome from.to_come (λ p. (q : Pieces) × (left.reading.to_come ≡ Some q) × (content_of p ≡ read ++ side_content left q))
     pub all : IfSome from.to_come (λ p. IfSome left.reading.to_come (λ q. side_content left q ≡ [] → content_of p ≡ read))

@@ -100,7 +100,8 @@ module _ {N I A S C P : Type 0} (parties : Parties N I A S C P CopyError) (basis
     (reads : (s : S) (ids : List ObjectId) (t : S) → IsEmpty s → parties.store_calls.reads s ids t → ids ≡ [])
     (ids : List ObjectId) (same : (m k : RefMap) (n o : N) → IsOne m n → IsOther k o → LookAlike m.mappings.items k.mappings.items
     → SameBasis (basis n) (basis o) × (haves n ≡ ids) × (haves o ≡ ids))
-    (none : CountsNone parties.consumes) (follows : FollowsPack parties.consumes) (never : (i j : I) → parties.says i true j → ⊥)
+    (none : CountsNone parties.consumes) (follows : FollowsPack parties.consumes)
+    (never : ((i j : I) → parties.says i true j → ⊥) × (parties.plain ≡ true))
     (bodies : List Body) (words : List (List ℕ)) where
   -- its fetch went a way
   record Fetched (IsOver : RefMap → N → Type 0) (course : Course) : Type 0 where

@@ -218,7 +218,7 @@ module _ {C P : Type 0} (consumes : C → Side → P → Result Bool CopyError �
   taken-ends r = at from.to_come r.mid.reading.to_come t.1
     where
       t : IsSome r.mid.reading.stopped × KeepsEnd from r.mid.reading
-      t = follows.takes c (fresh_side r.name from) r.p r.finished d r.mid q r.consumed.took
+      t = follows.takes c (fresh_side r.name r.asks from) r.p r.finished d r.mid q r.consumed.took
 
       at : (a b : Option Pieces) → IfSome a (λ p. (x : Pieces) × (b ≡ Some x) × (end_left r.mid.reading x ≡ end_left from p))
           → IfSome a (λ p. Ok true ≡ pack_ended (end_left from p))
@@ -286,17 +286,17 @@ module _ {C P : Type 0} (consumes : C → Side → P → Result Bool CopyError �
 
     -- of known pieces, unless it was for memory
     module _ (is_other : e ≡ fetch.Memory → ⊥) (pieces : Pieces) (known : from.to_come ≡ Some pieces) where
-      by-consumer : (name : GName) (p : P) (x : CopyError) (end : Side) → Consumed consumes c (fresh_side name from) p (Err x) d end q
+      by-consumer : (name asks : GName) (p : P) (x : CopyError) (end : Side) → Consumed consumes c (fresh_side name asks from) p (Err x) d end q
           → e ≡ fetch.ConsumePack x → end.reading.failures ≡ 0 → Ended ≡ pack_ended (end_left from pieces)
-      by-consumer name p x end f g v =
+      by-consumer name asks p x end f g v =
           if-known (λ p. Ended ≡ pack_ended (end_left from p)) from.to_come pieces known
-          (refused-so x g (follows.refuses c (fresh_side name from) p x d end q f.took v))
+          (refused-so x g (follows.refuses c (fresh_side name asks from) p x d end q f.took v))
 
-      by-rest : (name : GName) (p : P) (x : read_error) (mid end : Side) → Consumed consumes c (fresh_side name from) p (Ok true) d mid q
+      by-rest : (name asks : GName) (p : P) (x : read_error) (mid end : Side) → Consumed consumes c (fresh_side name asks from) p (Ok true) d mid q
           → DrainFails (side_reading mid) (side_reading end) x → e ≡ of_read x → end.reading.failures ≡ 0
           → Ended ≡ pack_ended (end_left from pieces)
-      by-rest name p x mid end f h g v =
-          at (rest-so mid end x g (follows.takes c (fresh_side name from) p true d mid q f.took) h v)
+      by-rest name asks p x mid end f h g v =
+          at (rest-so mid end x g (follows.takes c (fresh_side name asks from) p true d mid q f.took) h v)
         where
           at : EndsWithPack from Ended ⊎ (e ≡ fetch.Memory) → Ended ≡ pack_ended (end_left from pieces)
           at (inl w) = if-known (λ p. Ended ≡ pack_ended (end_left from p)) from.to_come pieces known w

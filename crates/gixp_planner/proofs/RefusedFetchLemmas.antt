@@ -145,7 +145,7 @@ module _ {N I A S C P : Type 0} (parties : Parties N I A S C P CopyError) (basis
     (list : OffersList parties.negotiation_calls basis haves) (IsEmpty : S → Type 0)
     (reads : (s : S) (ids : List ObjectId) (t : S) → IsEmpty s → parties.store_calls.reads s ids t → ids ≡ [])
     (none : CountsNone parties.consumes) (follows : FollowsPack parties.consumes)
-    (never : (i j : I) → parties.says i true j → ⊥) where
+    (never : ((i j : I) → parties.says i true j → ⊥) × (parties.plain ≡ true)) where
   abbrev how : Protocol → Bool → Manner N I A
   how v banded = manner_of parties.negotiation_calls parties.says v banded parties.plain
 

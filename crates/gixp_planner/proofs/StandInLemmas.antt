@@ -15,7 +15,7 @@ use Rattle.gixp_fetch.specs.declared.options.Outcome.{Outcome}
 use Rattle.gixp_fetch.specs.Store.{StoreCalls}
 use Rattle.gixp_fetch.specs.Bound.{Bounded, but_last}
 use Rattle.gixp_fetch.specs.Session.{MakesReady, Idle, ReadyFails}
-use Rattle.gixp_fetch.specs.FetchRounds.{At, Turn, Manner, manner_of, Turns, Rounds, updates_of, Packed, DoneWithout, Interrupts, TurnFails, Breaks, told_of, RoundsFail, before_request, at_request, behind_request, at_answer, behind_answer, haves_of, windows_of}
+use Rattle.gixp_fetch.specs.FetchRounds.{At, Turn, Manner, manner_of, Turns, Rounds, updates_of, Packed, DoneWithout, Interrupts, TurnFails, Breaks, AsksBroken, told_of, RoundsFail, before_request, at_request, behind_request, at_answer, behind_answer, haves_of, windows_of}
 use Rattle.gixp_fetch.specs.Fetch.{World, Parties, parties_of, Wishes, start, Begun, Negotiated, Rests, FetchFails, unopened, unready, unpacked, untold, undelivered, SessionEnds}
 use Rattle.gixp_fetch.specs.Fetched.{FetchCall, CarriesOut, StartFails, unprepared, unlocked, Fetches}
 
@@ -189,6 +189,14 @@ module _ {N M I A : Type 0} (calls : NegotiationCalls N A) (others : Negotiation
     breaks old asked done e reading (at_answer sent s error a h g) = at_answer sent s error a h g
     breaks old asked done e reading (behind_answer sent s reply a h w) = behind_answer sent s reply a h w
 
+    asks_broken : (old : At N I) (asked : ArgumentsValue) (done : Bool) (e : FetchError A E) (reading : Reading)
+        (b : Breaks own old asked done e reading) → AsksBroken own b → AsksBroken other (breaks old asked done e reading b)
+    asks_broken old asked done e reading (before_request w r) k = k
+    asks_broken old asked done e reading (at_request error s g) k = k
+    asks_broken old asked done e reading (behind_request s w) k = k
+    asks_broken old asked done e reading (at_answer sent s error a h g) k = k
+    asks_broken old asked done e reading (behind_answer sent s reply a h w) k = k
+
     -- a round that is refused, what it told by then, and what stays
     record Refused (old : At N I) (e : FetchError A E) (n : N) (reading : Reading) (refused : TurnFails own old e n reading)
         : Type 0 where
@@ -215,6 +223,7 @@ module _ {N M I A : Type 0} (calls : NegotiationCalls N A) (others : Negotiation
             window = b.window;
             negotiated = r.0;
             breaks = breaks old b.asked b.done e reading b.breaks;
+            asks = asks_broken old b.asked b.done e reading b.breaks b.asks;
           });
           told = refl;
           stays = r.1;

@@ -1,14 +1,12 @@
 -- The rounds of two fetches whose negotiators offer the same list, refused ones too: each round has the same verdict, which is a
 -- function of what it asks for and of the answer to come, so they break off at the same round.
-use Rattle.std.proofs.Common.{◌≡◌, ◌⊎◌, ℕ, Bool, true, false, not, List, [], ◌∷◌, ◌++◌, codes, Option, Some, Result, Ok, Err, IfSome, inl, inr, refl, sym, ap, ◌∙◌, subst}
+use Rattle.std.proofs.Common.{◌≡◌, ◌⊎◌, ℕ, Bool, true, false, not, List, [], ◌∷◌, ◌++◌, codes, Option, Some, Result, Ok, Err, IfSome, inl, inr, refl, sym, ap, ◌∙◌, subst, true≢false}
 use Rattle.gixp_hash.specs.declared.object_id.ObjectId.{ObjectId}
 use Rattle.gixp_packetline.specs.declared.protocol.Protocol.{Protocol}
-use Rattle.gixp_packetline.specs.declared.read.Error.{Error as read_error}
-use Rattle.gixp_packetline.specs.declared.read.Error.TheVariants as read
 use Rattle.gixp_packetline.specs.FrameText.{texts_of}
 use Rattle.gixp_packetline.specs.Lines.{Ending}
 use Rattle.gixp_packetline.specs.Pieces.{Refusal, io, decode, server, unexpected_frame, not_utf8, bad_band, interrupted, memory, Pieces}
-use Rattle.gixp_packetline.specs.Reading.{Reading, IsOutside, refusal_of}
+use Rattle.gixp_packetline.specs.Reading.{Reading, IsOutside, IsPlain}
 use Rattle.gixp_packetline.specs.TransportState.{TransportState}
 use Rattle.gixp_capabilities.specs.declared.client.Error.{Error as client_error}
 use Rattle.gixp_capabilities.specs.declared.client.Error.TheVariants as client
@@ -18,7 +16,7 @@ use Rattle.gixp_response.specs.declared.fetch.response.error.Error.TheVariants a
 use Rattle.gixp_response.specs.Answer.{AnswerValue, Found, whole, refused}
 use Rattle.gixp_response.specs.AnswerReading.{answer_of, AnswerFails}
 use Rattle.gixp_response.specs.Beginnings.{expected as flags}
-use Rattle.gixp_response.specs.ResponseError.{AnswerRefusal, answer_refusal, from_reader, by_reader, no_memory}
+use Rattle.gixp_response.specs.ResponseError.{AnswerRefusal, answer_refusal, from_reader, no_memory, is_interruption}
 use Rattle.gixp_requests.specs.Arguments.{ArgumentsValue}
 use Rattle.gixp_requests.specs.Request.{request, request_fits}
 use Rattle.gixp_negotiate.specs.declared.negotiate.Round.{Round}
@@ -29,12 +27,13 @@ use Rattle.gixp_fetch.specs.declared.consume.copy.CopyError.{CopyError}
 use Rattle.gixp_fetch.specs.declared.error.Error.{Error as FetchError}
 use Rattle.gixp_fetch.specs.declared.error.Error.TheVariants as fetch
 use Rattle.gixp_fetch.specs.FetchError.{of_response, of_client, of_negotiate}
-use Rattle.gixp_fetch.specs.FetchRounds.{At, Turn, Manner, Turns, Rounds, DoneWithout, Interrupts, RoundsFail, TurnFails, SendsRound, Breaks, before_request, at_request, behind_request, at_answer, behind_answer}
-use Rattle.gixp_fetch.specs.View.{view, view_plain}
+use Rattle.gixp_fetch.specs.FetchRounds.{At, Turn, Manner, Turns, Rounds, DoneWithout, Interrupts, RoundsFail, TurnFails, SendsRound, Breaks, AsksBroken, before_request, at_request, behind_request, at_answer, behind_answer}
+use Rattle.gixp_fetch.specs.View.{view, view_plain, AsksThrough}
+use Rattle.gixp_sidebands.specs.Questions.{SaysEach}
 use Rattle.gixp_fetch.proofs.SentLemmas.{rounds_written}
 use Rattle.gixp_planner.specs.Refusal.{PlanRefusal, refusal}
 use Rattle.gixp_planner.specs.Session.{end_of}
-use Rattle.gixp_planner.specs.Alike.{IsDisturbed, IsAnswerInterrupted}
+use Rattle.gixp_planner.specs.Alike.{IsDisturbed}
 use Rattle.gixp_planner.proofs.MappedLemmas.{if-known}
 use Rattle.gixp_planner.proofs.DiscoveredLemmas.{next_pieces}
 use Rattle.gixp_planner.proofs.AnswerLemmas.{never-none, sent-failures, viewed, view-come, view-failures}
@@ -134,34 +133,27 @@ memory-response (response.UnknownSectionHeader x) h = cc
 memory-response (response.Reader r) h = cc
 memory-response response.Memory h = refl
 
-abbrev reader_refusal : Refusal → AnswerRefusal
-reader_refusal r = by_reader r
+-- an interrupt that never says to stop told no reader so
+said-stop : {I : Type 0} (says : I → Bool → I → Type 0) (never : (i j : I) → says i true j → ⊥) (after : List I) (a b : I)
+    → SaysEach says after true a b → ⊥
+said-stop says never [] a b h = never a b h
+said-stop says never (x ∷ xs) a b h = said-stop says never xs x b h.1
 
-interrupted-read : (r : read_error) → reader_refusal (refusal_of r) ≡ reader_refusal interrupted → IsAnswerInterrupted (response.Reader r)
-interrupted-read (read.Io kind) h = cc
-interrupted-read (read.Decode e) h = cc
-interrupted-read (read.Server m) h = cc
-interrupted-read read.UnexpectedFrame h = cc
-interrupted-read read.NotUtf8 h = cc
-interrupted-read (read.BadBand b) h = cc
-interrupted-read read.Interrupted h = tt
-interrupted-read read.Memory h = cc
+not-told : {I : Type 0} (says : I → Bool → I → Type 0) (never : (i j : I) → says i true j → ⊥) (banded plain stops : Bool)
+    (old new : Reading) (a b : I) → plain ≡ true → stops ≡ true → (banded ≡ false → ⊥) → AsksThrough says banded plain stops old new a b → ⊥
+not-told says never false plain stops old new a b p s f h = f refl
+not-told says never true plain stops old new a b p s f (inl h) =
+    said-stop says never h.after a b (subst (λ x. SaysEach says h.after x a b) s h.said)
+not-told says never true plain stops old new a b p s f (inr h) = true≢false (sym p ∙ h.0)
 
-interrupted-response : (A : Type 0) (e : response_error) → answer_refusal e ≡ reader_refusal interrupted
-    → IsDisturbed {A = A} (of_response e)
-interrupted-response A (response.Io kind) h = cc
-interrupted-response A (response.UploadPack m) h = cc
-interrupted-response A (response.Transport c) h = cc
-interrupted-response A (response.MissingServerCapability f) h = cc
-interrupted-response A (response.UnknownLineType l) h = cc
-interrupted-response A (response.UnknownSectionHeader x) h = cc
-interrupted-response A (response.Reader r) h = interrupted-read r h
-interrupted-response A response.Memory h = cc
+bands-or-plain : (banded plain : Bool) (P : Type 0) → plain ≡ true → (view_plain banded plain ≡ true → P) → (P → ⊥) → banded ≡ false → ⊥
+bands-or-plain false plain P p f n e = n (f p)
+bands-or-plain true plain P p f n e = absurd (let x = e in cc)
 
 -- what comes from outside and isn't counted: an allocation failure, or an interrupt
 outside-response : {A : Type 0} (old new : Reading) (r : Refusal) (e : response_error) → new.failures ≡ 0 → IsOutside old new r
     → answer_refusal e ≡ from_reader r
-    → IsDisturbed {A = A} (of_response e) ⊎ (◌≡◌ {A = FetchError A CopyError} (of_response e) fetch.Memory)
+    → (r ≡ interrupted) ⊎ (◌≡◌ {A = FetchError A CopyError} (of_response e) fetch.Memory)
 outside-response old new r e z (inr b) h = absurd (never-none old.failures new.failures b.failures z)
 outside-response old new (io kind) e z (inl f) h = absurd (never-none old.failures new.failures f.fault.2 z)
 outside-response old new (decode x) e z (inl f) h = absurd f.fault
@@ -169,7 +161,7 @@ outside-response old new (server m) e z (inl f) h = absurd f.fault
 outside-response old new unexpected_frame e z (inl f) h = absurd f.fault
 outside-response old new not_utf8 e z (inl f) h = absurd f.fault
 outside-response old new (bad_band b) e z (inl f) h = absurd f.fault
-outside-response {A} old new interrupted e z (inl f) h = inl (interrupted-response A e h)
+outside-response old new interrupted e z (inl f) h = inl refl
 outside-response old new memory e z (inl f) h = inr (ap of_response (memory-response e h))
 
 -- ---- the rounds of one fetch
@@ -254,8 +246,8 @@ module _ {N I A : Type 0} (m : Manner N I A) where
 
   -- a round that came to no answer
   module _ (x : At N I) (alone : x.reading.held.persists ≡ false) (new : Reading) (z : new.failures ≡ 0)
-      (e : FetchError A CopyError) (undisturbed : IsDisturbed e → ⊥) (round : Round) (done : Bool) (next : N) (window : Window)
-      (asked : ArgumentsValue)
+      (e : FetchError A CopyError) (undisturbed : IsDisturbed e → ⊥) (never : ((i j : I) → m.says i true j → ⊥) × (m.plain ≡ true))
+      (round : Round) (done : Bool) (next : N) (window : Window) (asked : ArgumentsValue)
       (negotiated : m.goes x.negotiate x.window x.asked x.previous round done next window asked) where
     abbrev Stops : Type 0
     Stops = (e ≡ fetch.Memory) ⊎ Last x new (end_of {A = A} {X = CopyError} (Err e))
@@ -311,27 +303,32 @@ module _ {N I A : Type 0} (m : Manner N I A) where
           (viewed m.banded (next_pieces x.reading)) (view-come m.banded sent (next_pieces x.reading) one-sent.0.to_come) k)
           (sym (view-failures m.banded sent) ∙ sym q ∙ view-failures m.banded new ∙ z) (named-response error)
 
-      or-disturbed : IsDisturbed {A = A} (of_response error) ⊎ (◌≡◌ {A = FetchError A CopyError} (of_response error) fetch.Memory) → Stops
-      or-disturbed (inl d) = absurd (undisturbed (subst (λ w. IsDisturbed w) (sym g) d))
-      or-disturbed (inr n) = inl (g ∙ n)
-
       at-response : AnswerFails (answer_of m.version (flags done (not done))) (view_plain m.banded m.plain) (view m.banded sent)
-          (view m.banded new) error → Stops
-      at-response (inl l) = refused-so l.refusal l.first l.read.failures
-      at-response (inr (inl l)) = refused-so (from_reader l.refusal) l.first (l.refused.failures ∙ l.read.failures)
-      at-response (inr (inr (inl l))) =
-          or-disturbed (outside-response l.now (view m.banded new) l.refusal error (view-failures m.banded new ∙ z) l.failed l.error)
-      at-response (inr (inr (inr l))) = inl (g ∙ ap of_response l.error)
+          (view m.banded new) error → (said now : I)
+          → AsksThrough m.says m.banded m.plain (is_interruption (answer_refusal error)) sent new said now → Stops
+      at-response (inl l) said now k = refused-so l.refusal l.first l.read.failures
+      at-response (inr (inl l)) said now k = refused-so (from_reader l.refusal) l.first (l.refused.failures ∙ l.read.failures)
+      at-response (inr (inr (inl l))) said now k =
+          at (outside-response l.now (view m.banded new) l.refusal error (view-failures m.banded new ∙ z) l.failed l.error)
+        where
+          at : (l.refusal ≡ interrupted) ⊎ (◌≡◌ {A = FetchError A CopyError} (of_response error) fetch.Memory) → Stops
+          at (inr n) = inl (g ∙ n)
+          at (inl i) =
+              absurd (not-told m.says never.0 m.banded m.plain (is_interruption (answer_refusal error)) sent new said now never.1
+              (ap is_interruption (l.error ∙ ap from_reader i))
+              (bands-or-plain m.banded m.plain (IsPlain (view m.banded new) l.refusal) never.1 l.is_plain
+              (λ q. subst (λ r. IsPlain (view m.banded new) r) i q)) k)
+      at-response (inr (inr (inr l))) said now k = inl (g ∙ ap of_response l.error)
 
-    stops : Breaks m x asked done e new → Stops
-    stops (before_request w r) = inl w
-    stops (at_request c s g) = at-client c s g
-    stops (behind_request s w) = inl w.1
-    stops (at_answer sent s error a h g) = at-response sent s error h g a
-    stops (behind_answer sent s reply a h w) = inl w
+    stops : (b : Breaks m x asked done e new) → AsksBroken m b → Stops
+    stops (before_request w r) k = inl w
+    stops (at_request c s g) k = at-client c s g
+    stops (behind_request s w) k = inl w.1
+    stops (at_answer sent s error a h g) k = at-response sent s error h g a k.0 k.1 k.2
+    stops (behind_answer sent s reply a h w) k = inl w
 
   -- how rounds fail
-  module _ (never : (i j : I) → m.says i true j → ⊥) (x : At N I) (alone : x.reading.held.persists ≡ false) (new : Reading)
+  module _ (never : ((i j : I) → m.says i true j → ⊥) × (m.plain ≡ true)) (x : At N I) (alone : x.reading.held.persists ≡ false) (new : Reading)
       (z : new.failures ≡ 0) (e : FetchError A CopyError) (undisturbed : IsDisturbed e → ⊥) where
     abbrev pub RunStops : Type 0
     RunStops = (e ≡ fetch.Memory) ⊎ Ran x new (end_of {A = A} {X = CopyError} (Err e))
@@ -355,14 +352,15 @@ module _ {N I A : Type 0} (m : Manner N I A) where
     turn-fails turns before next run (inl u) = own-stops u.error u.own u.gives
     turn-fails turns before next run (inr b) =
         ran-to turns before run
-        (stops before (alone-then before turns run) new z e undisturbed b.round b.done next b.window b.asked b.negotiated b.breaks)
+        (stops before (alone-then before turns run) new z e undisturbed never b.round b.done next b.window b.asked b.negotiated b.breaks
+        b.asks)
 
     pub rounds-fail : (rounds : List Round) (next : N) (interrupt : I) → RoundsFail m x e rounds next new interrupt → RunStops
     rounds-fail rounds next interrupt (inr l) = turn-fails l.turns l.before next l.run l.refused
     rounds-fail rounds next interrupt (inl f) = by-end f.ends
       where
         by-end : Interrupts m x rounds f.end ⊎ DoneWithout m x rounds f.end → RunStops
-        by-end (inl i) = absurd (never i.before.interrupt f.end.interrupt i.said)
+        by-end (inl i) = absurd (never.0 i.before.interrupt f.end.interrupt i.said)
         by-end (inr d) =
             let stands : new ≡ d.last.after.reading = f.reads ∙ ap (λ (a : At N I). a.reading) d.stands in
             let at : (end : Ending) → by_pack d.last.reply.pack d.last.done end ≡ lacks_pack =

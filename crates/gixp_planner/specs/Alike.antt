@@ -4,8 +4,6 @@ use Rattle.std.specs.Prelude.{ℕ, ◌≡◌, ◌⊎◌, ⊤, Bool, List, codes,
 use Rattle.gixp_packetline.specs.declared.read.Error.{Error as ReadError}
 use Rattle.gixp_packetline.specs.declared.read.Error.TheVariants as read
 use Rattle.gixp_wire.specs.declared.bodies.Body.{Body}
-use Rattle.gixp_response.specs.declared.fetch.response.error.Error.{Error as ResponseError}
-use Rattle.gixp_response.specs.declared.fetch.response.error.Error.TheVariants as response
 use Rattle.gixp_refmap.specs.declared.refmap.map.RefMap.{RefMap}
 use Rattle.gixp_negotiate.specs.Negotiate.{IsOwn}
 use Rattle.gixp_fetch.specs.declared.consume.copy.CopyError.{CopyError}
@@ -24,22 +22,17 @@ abbrev pub IsInterrupted : ReadError → Type 0
 IsInterrupted read.Interrupted = ⊤
 IsInterrupted _ = ⊥
 
--- an answer was
-abbrev pub IsAnswerInterrupted : ResponseError → Type 0
-IsAnswerInterrupted (response.Reader e) = IsInterrupted e
-IsAnswerInterrupted _ = ⊥
-
 -- a pack was, or since an allocation failed for what is told on the way
 abbrev pub IsPackDisturbed : CopyError → Type 0
 IsPackDisturbed (copy.Read read.Memory) = ⊤
 IsPackDisturbed (copy.Read e) = IsInterrupted e
 IsPackDisturbed (copy.Write kind) = ⊥
 
--- a fetch was refused by the repository or its boundary, or for an interrupt, or its pack since an allocation failed: no body has a part
+-- a fetch was refused by the repository or its boundary, or its pack for an interrupt or since an allocation failed: no body has a part
 -- in it
 abbrev pub IsDisturbed : {A : Type 0} → FetchError A CopyError → Type 0
 IsDisturbed (fetch.Negotiate e) = IsOwn e
-IsDisturbed (fetch.FetchResponse e) = IsAnswerInterrupted e
+IsDisturbed (fetch.FetchResponse e) = ⊥
 IsDisturbed (fetch.WriteShallowFile e) = ⊤
 IsDisturbed (fetch.ReadShallowFile e) = ⊤
 IsDisturbed (fetch.LockShallowFile e) = ⊤

@@ -63,8 +63,9 @@ pub fn texts_follow_bodies<'a, O: Objects + 'a, G: Objects + 'a>()
 /// same requests, the same is printed of their ref maps, and they end at the same step, with the same end there or by the same
 /// name. So [`plan`](crate::plan) writes the same text, of a pack too whether it was taken or refused.
 ///
-/// An allocation failure, a failure that the transport counted, one of the repository or its boundary, and an interrupt, of
-/// which there are none here, come from no body: sessions with such are left out, and so are those that end with `Memory`.
+/// An allocation failure, a failure that the transport counted, one of the repository or its boundary, and an interrupt of a pack,
+/// of which there are none here, come from no body: sessions with such are left out, and so are those that end with `Memory`.
+/// That an answer isn't interrupted follows, since the interrupt never says so.
 pub fn courses_follow_bodies<'a, O: Objects + 'a, G: Objects + 'a>()
     ensures { (bodies : List Body) (specs : List (List ℕ)) (haves : List ObjectId) (objects others : O) (graph another : GraphValue)
         → O.contents objects ≡ O.contents others → graph.graph.objects ≡ another.graph.objects

@@ -13,6 +13,7 @@ returns-in_err-send-clause-err g c =
       window = c.one_round.new.state;
       negotiated = c.in_ok-round.ensures.went;
       breaks = at_request c.in_err-send.field-0.0 c.in_err-send.ensures.sent refl;
+      asks = tt;
     }))
 
 pub returns-in_err-response-clause-err : goal.returns-in_err-response-clause-err
@@ -27,6 +28,7 @@ returns-in_err-response-clause-err g c =
       breaks =
           at_answer (g.T.ExtendedBufRead.reading c.send.new.transport) c.in_ok-send.ensures.sent c.in_err-response.field-0.0
           c.in_err-response.ensures.read c.in_err-response.ensures.held refl;
+      asks = (_, _, c.in_err-response.ensures.asks);
     }))
 
 pub returns-in_err-extend_from_slice-clause-err : goal.returns-in_err-extend_from_slice-clause-err
@@ -41,6 +43,7 @@ returns-in_err-extend_from_slice-clause-err g c =
       breaks =
           behind_answer (g.T.ExtendedBufRead.reading c.send.new.transport) c.in_ok-send.ensures.sent c.in_ok-response.response
           c.in_ok-response.ensures.read c.in_ok-response.ensures.held refl;
+      asks = tt;
     }))
 
 pub returns-clause-ok : goal.returns-clause-ok
@@ -51,7 +54,7 @@ returns-clause-ok g c = record {
   told = c.in_ok-push.ensures.items;
   gathered = c.in_ok-extend_from_slice.ensures.items ∙ ap (λ x. c.args.so_far.now.updates.items ++ x) c.shallow_updates.ensures;
   turn = λ start said. record {
-    asks = (c.args.self.now.interrupt.now, said, c.in_ok-response.ensures.goes_on, λ plain. c.in_ok-response.ensures.interrupt plain);
+    asks = (c.args.self.now.interrupt.now, said, c.in_ok-response.ensures.asks);
     negotiated = c.in_ok-round.ensures.went;
     sends = c.in_ok-send.ensures.sent;
     rest = c.in_ok-send.ensures.ok;
