@@ -6,5 +6,5 @@ pub returns-in-Ok : goal.returns-in-Ok
 returns-in-Ok g c =
     fetches_mappings (listing_of c.args.command) c.args.context g.T.ExtendedBufRead.is_plain
     (g.T.ExtendedBufRead.reading c.args.transport.now) (g.T.ExtendedBufRead.reading c.invoke_blocking.new.transport) c.in-Ok.refs
-    c.capabilities-capabilities.result.now c.in-Ok.ensures c.capabilities-capabilities.ensures c.make_mappings.result
+    c.capabilities-capabilities.result.now c.in-Ok.ensures.lists c.capabilities-capabilities.ensures c.make_mappings.result
     c.make_mappings.ensures
