@@ -1,7 +1,33 @@
 use Rattle.std.proofs.Common.{refl, ap, ◌∙◌, inr, ◌++◌}
 use Rattle.std.proofs.lemmas.Result.{err_from_is_err_and}
-use Rattle.gixp_fetch.specs.FetchRounds.{at_request, at_answer, behind_answer}
+use Rattle.gixp_fetch.specs.FetchRounds.{before_request, at_request, behind_request, at_answer, behind_answer}
 use Rattle.gixp_fetch.proofs.session.FetchSession.turn.Goals as goal
+
+pub returns-in_err-push-clause-err : goal.returns-in_err-push-clause-err
+returns-in_err-push-clause-err g c =
+    let p = err_from_is_err_and c.from_residual-in_err-push.result c.from_residual-in_err-push.ensures.1 in
+    rw (p.1, p.2) (λ start. inr (record {
+      asked = c.one_round.new.arguments;
+      round = c.in_ok-round.round;
+      done = c.in_ok-round.done;
+      window = c.one_round.new.state;
+      negotiated = c.in_ok-round.ensures.went;
+      breaks = before_request refl refl;
+      asks = tt;
+    }))
+
+pub returns-in_err-so_far-clause-err : goal.returns-in_err-so_far-clause-err
+returns-in_err-so_far-clause-err g c =
+    let p = err_from_is_err_and c.from_residual-in_err-so_far.result c.from_residual-in_err-so_far.ensures.1 in
+    rw (p.1, p.2) (λ start. inr (record {
+      asked = c.one_round.new.arguments;
+      round = c.in_ok-round.round;
+      done = c.in_ok-round.done;
+      window = c.one_round.new.state;
+      negotiated = c.in_ok-round.ensures.went;
+      breaks = behind_request c.in_ok-send.ensures.sent (c.in_err-so_far.ensures.refused, refl);
+      asks = tt;
+    }))
 
 pub returns-in_err-send-clause-err : goal.returns-in_err-send-clause-err
 returns-in_err-send-clause-err g c =
