@@ -191,6 +191,7 @@ module _ {N M I A : Type 0} (calls : NegotiationCalls N A) (others : Negotiation
 
     asks_broken : (old : At N I) (asked : ArgumentsValue) (done : Bool) (e : FetchError A E) (reading : Reading)
         (b : Breaks own old asked done e reading) → AsksBroken own b → AsksBroken other (breaks old asked done e reading b)
+    unfolding breaks
     asks_broken old asked done e reading (before_request w r) k = k
     asks_broken old asked done e reading (at_request error s g) k = k
     asks_broken old asked done e reading (behind_request s w) k = k
