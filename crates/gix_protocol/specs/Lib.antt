@@ -110,8 +110,10 @@ pub use Rattle.gixp_refmap.specs.Values
 pub use Rattle.gixp_handshake.specs.Credentials
 pub use Rattle.gixp_handshake.specs.ShakeError
 pub use Rattle.gixp_handshake.specs.Shake
+pub use Rattle.gixp_handshake.specs.ShakeProgress
 pub use Rattle.gixp_handshake.specs.Accepted
 pub use Rattle.gixp_handshake.specs.Obtain
+pub use Rattle.gixp_handshake.specs.ObtainProgress
 pub use Rattle.gixp_handshake.specs.Taken
 pub use Rattle.gixp_handshake.specs.HandshakeValues
 pub use Rattle.gixp_handshake.specs.Ending
