@@ -3,12 +3,11 @@
 
 Counted are the commits that are held, each of which is complete.
 """
-import pathlib
 import sys
+from pathlib import Path
 
-HERE = pathlib.Path(__file__).resolve().parent
+HERE = Path(__file__).resolve().parent
 sys.path.insert(0, str(HERE.parent / "history"))
 from compare import compare, sizes
 
-BELOW = ["gixp_hash", "gixp_graph", "gixp_memory"]
-compare(HERE, "walk", BELOW, ["bitflags", "anyhow"], sizes(250_000, 500_000, 1_000_000, 2_000_000))
+compare(HERE, "walk", sizes(250_000, 500_000, 1_000_000, 2_000_000))

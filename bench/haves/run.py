@@ -3,12 +3,11 @@
 
 Nothing is common, so that each commit is a have. Counted are the haves; the other count is how often a commit was looked up.
 """
-import pathlib
 import sys
+from pathlib import Path
 
-HERE = pathlib.Path(__file__).resolve().parent
+HERE = Path(__file__).resolve().parent
 sys.path.insert(0, str(HERE.parent / "history"))
 from compare import compare, sizes
 
-BELOW = ["gixp_hash", "gixp_graph", "gixp_memory", "gixp_negotiators"]
-compare(HERE, "walk", BELOW, ["anyhow"], sizes(10_000, 100_000, 1_000_000))
+compare(HERE, "walk", sizes(10_000, 100_000, 1_000_000))

@@ -3,38 +3,27 @@ decision and of the haves share.
 
 Each has a folder with `main.rt.in` of the program, over `history.rt.in`, and `baseline.rs`, over `history.rs`. A program
 takes a mode and the number of commits; with the mode `history` it makes its input alone, so that the memory of that can be
-taken off. Else it prints the microseconds of what is measured, and counts, in which both must agree. Files of the proved
-program end in `.in`, and it is built in a temporary folder, so that no check of the repository reads it. Needs `rt` (or what
-RT names), `rustc` and GNU time.
+taken off. Else it prints the microseconds of what is measured, and counts, in which both must agree. Needs `rustc`, GNU time,
+and what bench/build.py needs.
 """
-import os
-import pathlib
-import shutil
 import subprocess
 import sys
 import tempfile
+from contextlib import contextmanager
+from pathlib import Path
 
-HERE = pathlib.Path(__file__).resolve().parent
-TOP = HERE.parent.parent
+HERE = Path(__file__).resolve().parent
+sys.path.insert(0, str(HERE.parent))
+from build import built
 
 
-def built(work, folder, mode, below, others):
+@contextmanager
+def both(folder, mode):
     """The two programs: the proved one, over the crates below it, and the plain one."""
-    crates, name = work / "crates", f"{folder.name}_bench"
-    # The lines are those of the repository, and what is proved already comes along.
-    lines = [it for it in (TOP / "crates.txt").read_text().splitlines() if it.split(":")[0] in below]
-    for crate in below:
-        shutil.copytree(TOP / "crates" / crate, crates / crate, ignore=shutil.ignore_patterns("incremental", "must-fail"))
-    source = crates / name / "src"
-    source.mkdir(parents=True)
-    shutil.copy(folder / "main.rt.in", source / "main.rt")
-    shutil.copy(HERE / "history.rt.in", source / "history.rt")
-    (work / "HANDLES").write_text("Handles allowed: none.\n")
-    (work / "crates.txt").write_text("".join(f"{it}\n" for it in [*lines, f"{name}: {' '.join([*below, *others])}"]))
-    subprocess.run([os.environ.get("RT", "rt"), "run", "--", mode, "1000"], cwd=source.parent, check=True, stdout=sys.stderr)
-    plain = work / "plain"
-    subprocess.run(["rustc", "--edition", "2021", "-O", "-o", plain, folder / "baseline.rs"], check=True)
-    return {"proved": source.parent / "out" / name, "plain": plain}
+    with tempfile.TemporaryDirectory() as room, built(folder, mode, "1000", modules=[HERE / "history.rt.in"]) as proved:
+        plain = Path(room) / "plain"
+        subprocess.run(["rustc", "--edition", "2021", "-O", "-o", plain, folder / "baseline.rs"], check=True)
+        yield {"proved": proved, "plain": plain}
 
 
 def run(program, mode, commits):
@@ -45,11 +34,10 @@ def run(program, mode, commits):
         return printed + [int(memory.read()) * 1024]
 
 
-def compare(folder, mode, below, others, sizes):
+def compare(folder, mode, sizes):
     """Prints a line for each program and size: the best of five runs each, and of more of small sizes, in turn. The first count is
     what it is shared by."""
-    with tempfile.TemporaryDirectory() as work:
-        programs = built(pathlib.Path(work), folder, mode, below, others)
+    with both(folder, mode) as programs:
         print("commits  counted  program  ms       ns/each  bytes/each  times of plain  other counts")
         for commits in sizes:
             best, memory, counts = {}, {}, {}

@@ -4,13 +4,11 @@
 There is a local ref and a mapping for each ten commits. Counted are the commits that are held; the other counts are the
 complete ones, the known mappings, and the commits that the negotiator was told of as common and as tips.
 """
-import pathlib
 import sys
+from pathlib import Path
 
-HERE = pathlib.Path(__file__).resolve().parent
+HERE = Path(__file__).resolve().parent
 sys.path.insert(0, str(HERE.parent / "history"))
 from compare import compare, sizes
 
-NAMES = "hash packetline capabilities wire response refs requests graph refspec matching progress refmap negotiate memory doubles"
-BELOW = [f"gixp_{it}" for it in NAMES.split()]
-compare(HERE, "decide", BELOW, ["bstr", "anyhow"], sizes(10_000, 100_000, 1_000_000))
+compare(HERE, "decide", sizes(10_000, 100_000, 1_000_000))

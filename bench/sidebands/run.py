@@ -1,0 +1,15 @@
+#!/usr/bin/env python3
+"""Times a pack through its bands beside a copy of as many bytes; see bench/build.py.
+
+It prints five lines; the smallest time of each kind is what counts.
+"""
+import subprocess
+import sys
+from pathlib import Path
+
+HERE = Path(__file__).resolve().parent
+sys.path.insert(0, str(HERE.parent))
+from build import built
+
+with built(HERE) as program:
+    subprocess.run([program], check=True)
