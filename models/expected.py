@@ -25,7 +25,16 @@ CRATE = Path(__file__).resolve().parent.parent / "crates" / "gixp_replay"
 
 
 def line_of(row):
-    return "%s %s" % (row.name, LINES[row.mode](row))
+    line = LINES[row.mode](row)
+    if row["halves"] == "each":
+        line = halves_of(line, len(row.data))
+    return "%s %s" % (row.name, line)
+
+
+def halves_of(line, length):
+    """The line of bytes that come in two pieces, for each place where they can be cut: how they come has no part in a definition."""
+    places = "1-%d" % (length - 1) if length > 2 else "1"
+    return "%s: %s " % (places, line) if length > 1 else ""
 
 
 def lines_of_files(paths):

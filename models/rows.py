@@ -36,7 +36,8 @@ SETTINGS = {
     "plan": dict(refspecs=(None, 1), room=(None, 0), denied=(None, 0)),
 }
 EACH = {"pieces": (None, 0), "random-pieces": (None, 0), "fail-at": (None, 0),
-        "fail-as": (("interrupted", "timed-out", "denied"), "interrupted"), "again": (None, 0), "from": (None, 0)}
+        "fail-as": (("interrupted", "timed-out", "denied"), "interrupted"), "again": (None, 0), "from": (None, 0),
+        "halves": (NO_YES[:1] + ("each",), "no")}
 
 
 class Unreadable(Exception):

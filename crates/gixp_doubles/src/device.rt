@@ -11,6 +11,8 @@ pub enum Pieces {
     UpTo(usize),
     /// Another number each time, which follows from this one.
     Random(u64),
+    /// So many, but one at least, and then all others at once.
+    Two(usize),
 }
 
 /// Bytes that come in pieces. One read may fail.
@@ -75,6 +77,10 @@ impl<'a> Device<'a> {
                 let number = next_random(number);
                 self.pieces = Pieces::Random(number);
                 piece_of(number / 4_294_967_296)
+            }
+            Pieces::Two(first) => {
+                self.pieces = Pieces::UpTo(usize::MAX);
+                first.max(1)
             }
         }
     }

@@ -1,6 +1,11 @@
 -- What of a text is written so far, and what of it is held or to come.
-use Rattle.std.proofs.Common.{◌≡◌, ℕ, ◌+◌, List, [], ◌∷◌, ◌++◌, take, drop, flat_map, codes, Option, Result, Ok, Err, IfErr, refl, sym, ap, ◌∙◌, append_assoc, append-nil, length, get_or, ◌<◌, take-append-drop, subst}
-use Rattle.std.specs.Io.KnownBytes.{Appends, Keeps}
+use Rattle.std.proofs.Common.{inl, inr, ◌≡◌, ℕ, zero, suc, None, Some, ◌≤◌, arith, ◌+◌, List, [], ◌∷◌, ◌++◌, take, drop, flat_map, codes, Option, Result, Ok, Err, IfErr, refl, sym, ap, ◌∙◌, append_assoc, append-nil, length, get_or, ◌<◌, take-append-drop, subst}
+use Rattle.std.specs.Io.{WritesAtMost}
+use Rattle.std.specs.declared.io.Error.{Error as IoError}
+use Rattle.std.specs.declared.io.ErrorKind.{ErrorKind}
+use Rattle.std.specs.declared.io.ErrorKind.TheVariants.{Interrupted, OutOfMemory}
+use Rattle.std.specs.IoError.{error_kind}
+use Rattle.std.specs.Io.KnownBytes.{Appends, Keeps, WriteAppends}
 use Rattle.std.proofs.KnownBytes.{Appends-nil, Appends-trans, Appends-kept}
 use Rattle.gixp_packetline.specs.Frames.{Frame, frames_of, with_frame}
 use Rattle.std.specs.Option.{option_map}
@@ -10,8 +15,8 @@ use Rattle.gixp_matching.specs.Validate.{removed_of}
 use Rattle.gixp_refmap.specs.declared.refmap.mapping.Mapping.{Mapping}
 use Rattle.gixp_refmap.specs.Mapping.{source_id, source_name}
 use Rattle.gixp_planner.specs.declared.error.PlanError.{PlanError}
-use Rattle.gixp_planner.specs.Refusal.{IsUnwritten}
-use Rattle.gixp_planner.specs.Written.{WritesPart, WritesBeginning, WritesPlan, HoldsRest}
+use Rattle.gixp_planner.specs.Refusal.{refusal_of, IsUnwritten, amount_told, failed_amount, written_amount, device_refusal, AnswersWrite}
+use Rattle.gixp_planner.specs.Written.{WritesPart, WritesBeginning, WritesPlan, WritesSome, HoldsRest, EndsInFlush, flushed, unwritten}
 use Rattle.gixp_planner.proofs.ListLemmas.{left-at}
 use Rattle.gixp_planner.specs.Text.{joined, frame_content, frame_shown, request_shown, requests_behind, id_shown, name_shown, mapping_shown, fix_shown}
 
@@ -48,6 +53,36 @@ written_none a text = (text, part-none a text)
 pub written-all : (a b : Option (List ℕ)) (text : List ℕ) → Appends a b text → WritesBeginning a b text
 written-all a b text k = ([], part-all a b text k)
 
+-- where a write failed and isn't refused, it was interrupted, and took nothing
+none-taken : (kind : ErrorKind) (n : ℕ) → Ok n ≡ failed_amount kind → n ≡ 0
+none-taken Interrupted n h = cc
+none-taken _ n h = cc
+
+-- what is kept grows by nothing
+appends-nothing : (a b : Option (List ℕ)) → Keeps a b → Appends a b []
+appends-nothing None b k = tt
+appends-nothing (Some xs) None k = absurd k
+appends-nothing (Some xs) (Some ys) k = k ∙ sym (append-nil xs)
+
+keeps-nothing : (a b : Option (List ℕ)) → Appends a b [] → Keeps a b
+keeps-nothing None b k = tt
+keeps-nothing (Some xs) None k = absurd k
+keeps-nothing (Some xs) (Some ys) k = k ∙ append-nil xs
+
+-- what a write took of a text is as much as is told of it
+pub some-written : (a b : Option (List ℕ)) (text : List ℕ) (written : Result ℕ IoError) (r : Result ℕ PlanError)
+    → WritesAtMost written text → WriteAppends a b written text → amount_told r ≡ written_amount written → IfErr r IsUnwritten
+    → WritesSome a b text r
+some-written a b text (Ok zero) (Ok n) most k h u = cc
+some-written a b text (Ok zero) (Err e) most k h u = (keeps-nothing a b k, u)
+some-written a b text (Ok (suc m)) (Ok n) most k h u =
+    let same : n ≡ suc m = cc in
+    subst (λ it. (it ≤ length text) × Appends a b (take it text)) (sym same) (most, k)
+some-written a b text (Ok (suc m)) (Err e) most k h u = cc
+some-written a b text (Err x) (Ok n) most k h u =
+    subst (λ it. (it ≤ length text) × Appends a b (take it text)) (sym (none-taken (error_kind x) n h)) (omega arith, appends-nothing a b k)
+some-written a b text (Err x) (Err e) most k h u = (k, u)
+
 -- of a text so many bytes more are written
 pub written-more : (a b c : Option (List ℕ)) (left all : List ℕ) (n : ℕ) → WritesPart a b left all → Appends b c (take n left)
     → WritesPart a c (drop n left) all
@@ -59,6 +94,25 @@ pub written-flushed : (a b c : Option (List ℕ)) (text : List ℕ) (r : Result 
     → IfErr r IsUnwritten → WritesPlan a c text r
 written-flushed a b c text (Ok x) h k u = Appends-kept a b c text h k
 written-flushed a b c text (Err e) h k u = (written-all a c text (Appends-kept a b c text h k), u)
+
+-- by whichever kind a flush failed
+device-unwritten : (kind : ErrorKind) (e : PlanError) → refusal_of e ≡ device_refusal kind → IsUnwritten e
+device-unwritten OutOfMemory e h = inr h
+device-unwritten _ e h = inl h
+
+answer-unwritten : (answer : Result (Unit {0}) IoError) (r : Result (Unit {0}) PlanError) → AnswersWrite answer r → IfErr r IsUnwritten
+answer-unwritten answer (Ok x) h = tt
+answer-unwritten (Ok x) (Err e) h = cc
+answer-unwritten (Err x) (Err e) h = device-unwritten (error_kind x) e h
+
+-- a text is written, of which a flush that keeps what the writer has left none in it
+pub ended-in-flush : {W : Type 0} (contents : W → Option (List ℕ)) (Flushes : W → Result (Unit {0}) IoError → W → Type 0) (text : List ℕ)
+    (old new : W) (r : Result (Unit {0}) PlanError)
+    → ((mid : W) (answer : Result (Unit {0}) IoError) (last : W) → Flushes mid answer last → Keeps (contents mid) (contents last))
+    → EndsInFlush contents Flushes text old new r → WritesPlan (contents old) (contents new) text r
+ended-in-flush contents Flushes text old new r keeps (flushed mid answer written made h) =
+    written-flushed _ _ _ text r written (keeps mid answer new made) (answer-unwritten answer r h)
+ended-in-flush contents Flushes text old new r keeps (unwritten e is begun h) = rw is (begun, h)
 
 -- what was left is written at the end
 pub part-end : (a b c : Option (List ℕ)) (left text : List ℕ) (r : Result (Unit {0}) PlanError) → WritesPart a b left text

@@ -34,6 +34,12 @@ module _ (Gives : ℕ → Result (Option (Vec ℕ Global)) ErrorKind → Type 0)
   ReadsBodies (Ok bodies) = AreBodies 0 bodies.items (Ok None)
   ReadsBodies (Err kind) = ((before : List Body) × AreBodies 0 before (Err kind)) ⊎ (kind ≡ OutOfMemory)
 
+-- the bodies that were read, or by which kind they can't be
+abbrev pub TellsBodies : Result (Vec Body Global) ErrorKind → Result (Vec Body Global) PlanError → Type 0
+TellsBodies (Ok bodies) r = r ≡ Ok bodies
+TellsBodies (Err kind) (Ok bodies) = ⊥
+TellsBodies (Err kind) (Err e) = refusal_of e ≡ device_refusal kind
+
 -- the haves of what a file gives, none where it isn't there; or it can't be read
 abbrev pub ReadsGiven : Result (Option (Vec ℕ Global)) ErrorKind → Result (Vec ObjectId Global) PlanError → Type 0
 ReadsGiven (Ok None) r = ReadsHaves [] r

@@ -1,8 +1,8 @@
 -- Why a plan isn't made: which step was refused, and the name of the variant of its own error.
-use Rattle.std.specs.Prelude.{ℕ, ◌≡◌, ◌⊎◌, List, codes, Result, Ok, Err}
+use Rattle.std.specs.Prelude.{ℕ, zero, suc, ◌≡◌, ◌⊎◌, List, codes, Result, Ok, Err}
 use Rattle.std.specs.declared.io.Error.{Error as IoError}
 use Rattle.std.specs.declared.io.ErrorKind.{ErrorKind}
-use Rattle.std.specs.declared.io.ErrorKind.TheVariants.{OutOfMemory}
+use Rattle.std.specs.declared.io.ErrorKind.TheVariants.{Interrupted, OutOfMemory}
 use Rattle.std.specs.IoError.{error_kind}
 use Rattle.gixp_refspec.specs.declared.parse.Error.{Error as SpecError}
 use Rattle.gixp_refspec.specs.declared.parse.Error.TheVariants.{NegativeWithDestination, NegativeObjectHash, NegativePartialName, PatternUnbalanced, PatternUnsupported, InvalidName}
@@ -44,6 +44,22 @@ IsNoHave e = (refusal_of e ≡ refusal (codes "have") (codes "Decode")) ⊎ IsPl
 abbrev pub device_refusal : ErrorKind → PlanRefusal
 device_refusal OutOfMemory = refusal (codes "file") (codes "Memory")
 device_refusal _ = refusal (codes "file") (codes "Io")
+
+-- how many bytes are said to be taken, as plain data
+abbrev pub amount_told : Result ℕ PlanError → Result ℕ PlanRefusal
+amount_told (Ok n) = Ok n
+amount_told (Err e) = Err (refusal_of e)
+
+-- what a write comes to that failed by this kind: it took nothing where it was interrupted, and is refused else
+abbrev pub failed_amount : ErrorKind → Result ℕ PlanRefusal
+failed_amount Interrupted = Ok 0
+failed_amount kind = Err (device_refusal kind)
+
+-- how many bytes a write took; one that took none is refused
+abbrev pub written_amount : Result ℕ IoError → Result ℕ PlanRefusal
+written_amount (Ok zero) = Err (refusal (codes "file") (codes "Io"))
+written_amount (Ok (suc n)) = Ok (suc n)
+written_amount (Err e) = failed_amount (error_kind e)
 
 -- a flush is refused exactly where it failed, by its kind
 abbrev pub AnswersWrite : Result (Unit {0}) IoError → Result (Unit {0}) PlanError → Type 0

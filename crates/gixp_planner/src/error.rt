@@ -1,6 +1,6 @@
 //! Why a plan isn't made.
 ghost use Rattle.std.specs.Prelude.{◌≡◌, IfErr};
-ghost use Rattle.gixp_planner.specs.Refusal.{refusal, refusal_of, IsPlanMemory, FileIsUnread, IsUnwritten, device_refusal, AnswersWrite};
+ghost use Rattle.gixp_planner.specs.Refusal.{refusal, refusal_of, IsPlanMemory, FileIsUnread, IsUnwritten, device_refusal, amount_told, written_amount, AnswersWrite};
 
 use std::io;
 use std::io::ErrorKind;
@@ -40,6 +40,21 @@ impl PlanError {
             ErrorKind::OutOfMemory => PlanError::memory("file"),
             _ => PlanError::new("file", "Io"),
         }
+    }
+}
+
+// How many bytes a write took: none where it was interrupted. One of nothing is refused, and any other failure by its kind.
+pub(crate) fn amount_of(written: io::Result<usize>) -> Result<usize, PlanError>
+    ensures amount { amount_told result ≡ written_amount written }
+    ensures unwritten { IfErr result IsUnwritten }
+{
+    match written {
+        Ok(0) => Err(PlanError::new("file", "Io")),
+        Ok(amount) => Ok(amount),
+        Err(e) => match e.kind() {
+            ErrorKind::Interrupted => Ok(0),
+            kind => Err(PlanError::device(kind)),
+        },
     }
 }
 

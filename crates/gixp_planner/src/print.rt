@@ -1,16 +1,18 @@
 //! What is printed of a session. The text goes through a buffer, so that little of it is held, however long it is.
 ghost use Rattle.std.specs.Prelude.{◌≡◌, ◌++◌, ◌≤◌, ◌<◌, [], OnOk, drop, flat_map, length, map, vec_items};
+ghost use Rattle.std.specs.Fn.{FnOnceReturnsAtMut};
+ghost use Rattle.std.specs.Io.KnownBytes.{Keeps};
 ghost use Rattle.std.specs.Option.{option_map};
 ghost use Rattle.bstr.specs.Owned.{bstring_bytes};
 ghost use Rattle.gixp_packetline.specs.Frames.{frames_of};
 ghost use Rattle.gixp_packetline.specs.FrameText.{message_text};
 ghost use Rattle.gixp_packetline.specs.PacketLine.{frame_of};
 ghost use Rattle.gixp_refmap.specs.Mapping.{source_name};
-ghost use Rattle.gixp_planner.specs.Written.{HoldsRest, WritesPlan, WritesSome};
+ghost use Rattle.gixp_planner.specs.Written.{EndsInFlush, HoldsRest, WritesPlan, WritesSome};
 ghost use Rattle.gixp_planner.specs.Text.{frame_content, frame_shown, request_shown, requests_shown, name_shown, mapping_shown, fix_shown, end_shown, ended_of};
 ghost use Rattle.gixp_planner.specs.Printed.{text_behind, printed_text, mapped_text};
 
-use crate::error::{PlanError, answered};
+use crate::error::{PlanError, amount_of, answered};
 use crate::haves::without_line_end;
 use crate::printed::PrintedMap;
 use bstr::BString;
@@ -19,7 +21,8 @@ use gix_protocol::refspec::match_group::validate::Fix;
 use gixp_listing::append;
 use gixp_packetline::{MessageKind, PacketLine, split_packet_line};
 use std::alloc::{AllocError, Global};
-use std::io::{ErrorKind, Write};
+use std::io;
+use std::io::Write;
 
 // A text of this length or more is written before more is put behind it.
 const LONG: usize = 65_536;
@@ -50,14 +53,7 @@ fn content<'a>(line: PacketLine<'a>) -> &'a [u8]
 fn write_some<W: Write>(writer: &mut W, text: &[u8]) -> Result<usize, PlanError>
     ensures { WritesSome (W.contents writer.old) (W.contents writer.new) text.now result }
 {
-    match writer.write(text) {
-        Ok(0) => Err(PlanError::new("file", "Io")),
-        Ok(amount) => Ok(amount),
-        Err(e) => match e.kind() {
-            ErrorKind::Interrupted => Ok(0),
-            kind => Err(PlanError::device(kind)),
-        },
-    }
+    amount_of(writer.write(text))
 }
 
 // What is left behind so many bytes.
@@ -83,14 +79,32 @@ fn write_text<W: Write>(writer: &mut W, text: &[u8]) -> Result<(), PlanError>
     Err(PlanError::new("file", "Io"))
 }
 
+// The same, and then a flush, by this call of the writer.
+fn write_then_flush<W: Write, F: FnOnce(&mut W) -> io::Result<()>>(
+    writer: &mut W,
+    text: &[u8],
+    flush: F,
+) -> Result<(), PlanError>
+    requires { F.IsAlwaysCallable flush }
+    ensures { EndsInFlush W.contents (FnOnceReturnsAtMut F.FnOnce flush) text.now writer.old writer.new result }
+{
+    match write_text(writer, text) {
+        Ok(()) => answered(flush(writer)),
+        Err(e) => Err(e),
+    }
+}
+
 // The same, and no byte of it left in the writer.
 fn write_whole<W: Write>(writer: &mut W, text: &[u8]) -> Result<(), PlanError>
     ensures { WritesPlan (W.contents writer.old) (W.contents writer.new) text.now result }
 {
-    match write_text(writer, text) {
-        Ok(()) => answered(writer.flush()),
-        Err(e) => Err(e),
-    }
+    write_then_flush(
+        writer,
+        text,
+        |writer: &mut W| -> io::Result<()>
+            ensures { Keeps (W.contents writer.old) (W.contents writer.new) }
+        { writer.flush() },
+    )
 }
 
 // Writes what is pending once it is long. Its room is kept, and serves for what comes.

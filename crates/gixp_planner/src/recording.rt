@@ -1,7 +1,7 @@
 //! A recorded session in a folder: what a server sent, and the haves to offer.
 ghost use Rattle.std.specs.Prelude.{◌≡◌, ◌⊎◌, IfErr};
 ghost use Rattle.gixp_planner.specs.Refusal.{FileIsUnread, IsNoHave};
-ghost use Rattle.gixp_planner.specs.Recorded.{file_given, ReadsBodies, ReadsGiven};
+ghost use Rattle.gixp_planner.specs.Recorded.{file_given, ReadsBodies, ReadsGiven, TellsBodies};
 
 use crate::error::PlanError;
 use crate::haves::parse_haves;
@@ -62,6 +62,17 @@ fn bodies_of<F: Fn(u64) -> Result<Option<Vec<u8>>, ErrorKind>>(
     Err(ErrorKind::OutOfMemory)
 }
 
+// The bodies that were read, or why they can't be.
+fn told_bodies(read: Result<Vec<Body>, ErrorKind>) -> Result<Vec<Body>, PlanError>
+    ensures bodies { TellsBodies read result }
+    ensures unread { IfErr result FileIsUnread }
+{
+    match read {
+        Ok(bodies) => Ok(bodies),
+        Err(kind) => Err(PlanError::device(kind)),
+    }
+}
+
 /// The bodies of a folder: the files `0`, `1`, `2` and so on, up to the first that isn't there.
 ///
 /// # Errors
@@ -70,10 +81,7 @@ fn bodies_of<F: Fn(u64) -> Result<Option<Vec<u8>>, ErrorKind>>(
 pub fn read_bodies(rt: &HostRuntime, folder: &str) -> Result<Vec<Body>, PlanError>
     ensures { IfErr result FileIsUnread }
 {
-    match bodies_of(rt.alloc(), |number| read_body(rt, folder, number)) {
-        Ok(bodies) => Ok(bodies),
-        Err(kind) => Err(PlanError::device(kind)),
-    }
+    told_bodies(bodies_of(rt.alloc(), |number| { read_body(rt, folder, number) }))
 }
 
 // The ids of what a file gives, none where it isn't there.

@@ -35,8 +35,9 @@ mod shakes;
 mod telling;
 mod values;
 
-use crate::report::Report;
+use crate::report::{Report, Runs};
 use crate::rows::{Mode, Row, RowError, RowText, next_row};
+use gixp_doubles::Pieces;
 use std::alloc::{AllocError, Global};
 use std::io::{BufWriter, ErrorKind, Write};
 use std::process::ExitCode;
@@ -65,8 +66,8 @@ fn failure_of(error: &io::Error) -> Failure {
     }
 }
 
-// Writes what a row gives.
-fn replay_row(alloc: Global, row: &Row<'_>, report: &mut Report) -> Result<(), AllocError> {
+// Writes what a row gives, its bytes as they come.
+fn replay_whole(alloc: Global, row: &Row<'_>, report: &mut Report) -> Result<(), AllocError> {
     match row.mode {
         Mode::Lines => lines::report_calls(alloc, row, report),
         Mode::Bands => bands::report_calls(alloc, row, report),
@@ -97,6 +98,25 @@ fn replay_row(alloc: Global, row: &Row<'_>, report: &mut Report) -> Result<(), A
         Mode::Negotiation => negotiations::report_negotiation(alloc, row, report),
         Mode::Plan => plans::report_plan(alloc, row, report),
     }
+}
+
+// Writes what a row gives, or what it gives for each place where its bytes are cut.
+fn replay_row(alloc: Global, row: &Row<'_>, report: &mut Report) -> Result<(), AllocError> {
+    if !row.is_halved {
+        return replay_whole(alloc, row, report);
+    }
+    let mut result = Report::new(alloc);
+    let mut runs = Runs::new(alloc, 1);
+    for place in 1..row.payload.len() {
+        let mut one = *row;
+        one.pieces = Pieces::Two(place);
+        result.clear();
+        replay_whole(alloc, &one, &mut result)?;
+        report.is_unknown |= result.is_unknown;
+        runs.add(&result, report);
+    }
+    runs.finish(report);
+    Ok(())
 }
 
 // The failure of a row, with its number and its name.

@@ -8,10 +8,11 @@
 //!
 //! Each line after `|` ends in an LF, but for one that ends in `\`. `\HH` is a byte by two digits, `\*N;` makes the byte
 //! before it stand N times. Lines that are empty or begin with `#` say nothing. A value is a word or a number; the module
-//! of a mode has its settings. Each mode has six more:
+//! of a mode has its settings. Each mode has seven more:
 //!
 //! - `pieces=N`: the bytes come in pieces of N; `random-pieces=N`: of sizes that follow from N, a million or more. They
 //!   come all at once where a row says neither.
+//! - `halves=each`: they come in two pieces, for each place where they can be cut, with equal results together.
 //! - `fail-at=N`: the read of that number fails, from 1 on, and `fail-as=`: how. None fails where a row doesn't say.
 //! - `again=N` and `from=N`: the bytes come N times more, from that one on.
 use crate::{
@@ -124,6 +125,7 @@ const EACH: &[Setting] = &[
     ("fail-as", &["interrupted", "timed-out", "denied"], 0),
     ("again", &[], 0),
     ("from", &[], 0),
+    ("halves", &["no", "each"], 0),
 ];
 
 impl Mode {
@@ -177,6 +179,8 @@ pub(crate) struct Row<'a> {
     pub(crate) settings: Settings,
     /// How the bytes come.
     pub(crate) pieces: Pieces,
+    /// Whether they come in two pieces instead, cut at each place.
+    pub(crate) is_halved: bool,
     /// The number of the read that fails, from 1 on, or 0 for none.
     pub(crate) fail_at: u64,
     /// How it fails.
@@ -287,12 +291,10 @@ fn place_of(words: &[&str], word: &[u8]) -> Option<u64> {
     None
 }
 
-fn defaults_of(settings: &[Setting]) -> Settings {
-    let mut values = [0u64; 6];
+fn set_defaults(settings: &[Setting], values: &mut [u64]) {
     for (value, (_name, _words, default)) in values.iter_mut().zip(settings) {
         *value = *default;
     }
-    values
 }
 
 // Sets what a name stands for. False where there is no such setting.
@@ -300,7 +302,7 @@ fn set(
     settings: &[Setting],
     name: &[u8],
     text: &[u8],
-    values: &mut Settings,
+    values: &mut [u64],
 ) -> Result<bool, RowError> {
     for (value, (known, words, _default)) in values.iter_mut().zip(settings) {
         if known.as_bytes() != name {
@@ -344,8 +346,10 @@ fn kind_of(word: u64) -> ErrorKind {
 
 // A row of this mode and these words, without its bytes.
 fn row_of(mode: Mode, words: &[u8]) -> Result<Row<'static>, RowError> {
-    let mut settings = defaults_of(mode.settings());
-    let mut each = defaults_of(EACH);
+    let mut settings: Settings = [0; 6];
+    set_defaults(mode.settings(), &mut settings);
+    let mut each = [0u64; 7];
+    set_defaults(EACH, &mut each);
     for word in words.split(|b| *b == b' ') {
         if word.is_empty() {
             continue;
@@ -357,11 +361,20 @@ fn row_of(mode: Mode, words: &[u8]) -> Result<Row<'static>, RowError> {
             return Err(RowError::Setting);
         }
     }
-    let [pieces, random_pieces, fail_at, fail_as, times, start] = each;
+    let [
+        pieces,
+        random_pieces,
+        fail_at,
+        fail_as,
+        times,
+        start,
+        halves,
+    ] = each;
     Ok(Row {
         mode,
         settings,
         pieces: pieces_of(pieces, random_pieces),
+        is_halved: halves == 1,
         fail_at,
         fail_as: kind_of(fail_as),
         payload: &[],

@@ -102,11 +102,12 @@ fn texts_of_errors(rt: HostRuntime) -> Result<(), Fail> {
 #[test]
 fn writes_a_refused_acknowledgement(rt: HostRuntime) -> Result<(), Fail> {
     let a = rt.alloc();
-    let Err(e) = Acknowledgement::from_line(a, "ack \n") else {
-        return Err("accepted".into());
-    };
     let text = "Encountered an unknown line prefix in \"ack \\n\"";
-    assert!(rt; is_shown(a, e, text)?);
+    match Acknowledgement::from_line(a, "ack \n") {
+        Ok(_) => return Err("accepted".into()),
+        Err(Error::Memory) => return Err(Fail::from(AllocError)),
+        Err(e) => assert!(rt; is_shown(a, e, text)?),
+    }
     Ok(())
 }
 
