@@ -6,3 +6,4 @@ pub mod SeeLemmas
 pub mod SpreadLemmas
 pub mod StepLemmas
 pub mod PassingLemmas
+pub mod UnreadLemmas

@@ -25,6 +25,15 @@ looked_at g id None (Some c) e = grows_insert g id (unmarked c)
 pub grows_looked : (g h : GraphData) (id : ObjectId) → h ≡ graph_of g.objects (looked_up g id) → Grows g h
 grows_looked g h id is = subst (Grows g) (sym is) (looked_at g id (finite.get g.held id) (commit_at g.objects id) refl)
 
+-- nor does it change a graph that holds the commit
+held_at : (g : GraphData) (id : ObjectId) (o : Option HeldCommit) (p : Option Commit) → finite.get g.held id ≡ o → IsSome o
+    → graph_of g.objects (put g.held id (option_or o (option_map unmarked p))) ≡ g
+held_at g id None p e s = absurd (true≢false (sym s))
+held_at g id (Some k) p e s = ap (graph_of g.objects) (put_same g.held id k e)
+
+pub held_looked : (g h : GraphData) (id : ObjectId) → h ≡ graph_of g.objects (looked_up g id) → IsSome (finite.get g.held id) → h ≡ g
+held_looked g h id is s = is ∙ held_at g id (finite.get g.held id) (commit_at g.objects id) refl s
+
 -- a look adds no mark
 adds_at : (b : ℕ) → has_all b 0 ≡ false → (g : GraphData) (id : ObjectId) (o : Option HeldCommit) (p : Option Commit)
     → finite.get g.held id ≡ o → AddsNone b g (graph_of g.objects (put g.held id (option_or o (option_map unmarked p))))

@@ -1,12 +1,12 @@
 -- Distances that are handed on.
 use Rattle.std.proofs.Common.{◌≡◌, ℕ, ◌<◌, ◌≤◌, ◌+◌, ◌-◌, ◌||◌, Bool, true, false, cond, List, [], ◌∷◌, ◌++◌, length, take, get_or, Option, Some, refl, sym, ap, subst, ◌∙◌, ◌⊎◌, inl, inr, true≢false, arith}
-use Rattle.std.specs.Prelude.{nat_lt, unwrap_or, IsSome}
+use Rattle.std.specs.Prelude.{nat_lt, unwrap_or, IsSome, ◌≢◌}
 use Rattle.std.specs.Map.{lookup}
 use Rattle.std.specs.BTreeMap.{is_at}
 use Rattle.std.specs.Ordering.{eq_by_cmp}
 use Rattle.std.proofs.lemmas.List.{take_more, take_all}
 use Rattle.std.proofs.lemmas.Bool.{ltb-true, ltb-false}
-use Rattle.std.proofs.lemmas.List.Elements.{All-more, All-weaker}
+use Rattle.std.proofs.lemmas.List.Elements.{All-more, All-pop, All-weaker}
 use Rattle.gixp_hash.specs.declared.object_id.ObjectId.{ObjectId}
 use Rattle.gixp_hash.specs.ObjectId.{id_cmp}
 use Rattle.gixp_graph.specs.Object.{commit_at}
@@ -18,7 +18,7 @@ use Rattle.gixp_negotiators.specs.declared.skipping.Skip.{Skip}
 use Rattle.gixp_negotiators.specs.declared.skipping.Legacy.{Legacy}
 use Rattle.gixp_negotiators.specs.declared.skipping.Legacy.TheVariants.{Common, Skips}
 use Rattle.gixp_negotiators.specs.Distance.{distance_after, skip_of}
-use Rattle.gixp_negotiators.specs.Marks.{has_all, has_mark, AddsNone, Grows, Claims}
+use Rattle.gixp_negotiators.specs.Marks.{has_all, has_mark, AddsNone, SettlesNone, Grows, Claims}
 use Rattle.gixp_negotiators.specs.Passing.{Skipped, skip_in, longer, handed_on, is_among, HandsOne, Hands, AllTaken, Takes}
 
 -- a test that fails where another does
@@ -148,12 +148,13 @@ hands_all legacy ids k h old new l a = subst (λ xs. Hands legacy xs h old new) 
 -- ---- a commit that is taken
 
 pub takes_none : (old : Skipped) (g h : GraphData) (id : ObjectId) → (IsSome (commit_at g.objects id) → has_mark 16 g.held id ≡ true)
-    → Takes old g id false old h
-takes_none old g h id spent = record {
+    → SettlesNone g h → Takes old g id false old h
+takes_none old g h id spent none = record {
   hands = λ there lacks. absurd (true≢false (sym (spent there) ∙ lacks));
   others = λ q n. refl;
   reached = λ e. absurd (true≢false (sym e));
   passed = λ there lacks. absurd (true≢false (sym (spent there) ∙ lacks));
+  settles = λ two four. none;
 }
 
 -- what is handed on
@@ -166,6 +167,10 @@ legacy_is legacy s p r = at (nat_lt 0 s.left) refl
     at true e = p (ltb-true 0 s.left e)
     at false e = r (let k : s.left ≤ 0 = ltb-false 0 s.left e in omega arith)
 
+pub legacy_apart : (legacy : Legacy) (s : Skip) → (0 < s.left → legacy ≡ Skips (skip_of s.whole (s.left - 1)))
+    → (s.left ≡ 0 → legacy ≡ Skips (skip_of (distance_after s.whole) (distance_after s.whole))) → legacy ≢ Common
+legacy_apart legacy s p r e = let clash : Common ≡ Skips (handed_on s) = sym e ∙ legacy_is legacy s p r in cc
+
 pub takes_some : (old new : Skipped) (g i h : GraphData) (id : ObjectId) (flags : Flags) (legacy : Legacy) (parents : List ObjectId)
     (s : Skip) (is_common offered : Bool)
     → Claims 16 g i id flags → Grows i h → parents ≡ parents_in i.held id → s ≡ skip_in old id → Hands legacy parents h old new
@@ -174,18 +179,23 @@ pub takes_some : (old new : Skipped) (g i h : GraphData) (id : ObjectId) (flags 
     → (has_all 2 flags.0 ≡ false → has_all 4 flags.0 ≡ false → s.left ≡ 0
     → legacy ≡ Skips (skip_of (distance_after s.whole) (distance_after s.whole)))
     → (is_common ≡ false → s.left ≡ 0 → offered ≡ true) → (any : Bool) → (0 < s.left → any ≡ true → offered ≡ false)
-    → (any ≡ false → AllTaken h parents)
+    → (any ≡ false → AllTaken h parents) → (is_common ≡ false → any ≡ false → offered ≡ true) → (any ≡ true → AllTaken h parents → ⊥)
+    → SettlesNone g i → (legacy ≢ Common → SettlesNone i h)
     → Takes old g id offered new h
-takes_some old new g i h id flags legacy parents s is_common offered k w ps ss hands common p r reached any early taken = record {
-  hands = λ there lacks two four q among lacked.
-      subst (λ t. skip_in new q ≡ longer (skip_in old q) (handed_on t)) ss
-      (hands.handed (handed_on s) q (legacy_is legacy s (p (lack 2 two) (lack 4 four)) (r (lack 2 two) (lack 4 four)))
-      (ap (λ ids. is_among ids q) same ∙ among) lacked);
-  others = λ q n. hands.others q (ap (λ ids. is_among ids q) same ∙ n);
-  reached = λ e. subst (λ (t : Skip). (t.left ≡ 0) ⊎ AllTaken h (parents_in h.held id)) ss (last e (nat_lt 0 s.left) any refl refl);
-  passed = λ there lacks not two. subst (λ (t : Skip). 0 < t.left) ss
-      (some s.left (λ e. true≢false (sym (reached (common ∙ lack 2 two) e) ∙ not)));
-}
+takes_some old new g i h id flags legacy parents s is_common offered k w ps ss hands common p r reached any early taken ends left none lone
+    = record {
+      hands = λ there lacks two four q among lacked.
+          subst (λ t. skip_in new q ≡ longer (skip_in old q) (handed_on t)) ss
+          (hands.handed (handed_on s) q (legacy_is legacy s (p (lack 2 two) (lack 4 four)) (r (lack 2 two) (lack 4 four)))
+          (ap (λ ids. is_among ids q) same ∙ among) lacked);
+      others = λ q n. hands.others q (ap (λ ids. is_among ids q) same ∙ n);
+      reached = λ e. subst (λ (t : Skip). (t.left ≡ 0) ⊎ AllTaken h (parents_in h.held id)) ss (last e (nat_lt 0 s.left) any refl refl);
+      passed = λ there lacks not two. (
+        subst (λ (t : Skip). 0 < t.left) ss (some s.left (λ e. true≢false (sym (reached (common ∙ lack 2 two) e) ∙ not))),
+        waits (common ∙ lack 2 two) not any refl,
+      );
+      settles = λ two four q m. none q (lone (skips two four) q m);
+    }
   where
     same : parents ≡ parents_in h.held id
     same = ps ∙ sym (w.parents id k.held)
@@ -197,6 +207,16 @@ takes_some old new g i h id flags legacy parents s is_common offered k w ps ss h
 
     lack : (mark : ℕ) → has_mark mark h.held id ≡ false → has_all mark flags.0 ≡ false
     lack mark f = not_true (has_all mark flags.0) (has_mark mark h.held id) (λ t. w.marks mark id (k.had mark t)) f
+
+    waits : is_common ≡ false → offered ≡ false → (a : Bool) → any ≡ a → AllTaken h (parents_in h.held id) → ⊥
+    waits c not true e all = left e (subst (AllTaken h) (sym same) all)
+    waits c not false e all = true≢false (sym (ends c e) ∙ not)
+
+    skips : has_mark 2 g.held id ≡ false → has_mark 4 g.held id ≡ false → legacy ≢ Common
+    skips two four =
+        let a = not_true (has_all 2 flags.0) (has_mark 2 g.held id) (λ t. k.was 2 refl t) two in
+        let b = not_true (has_all 4 flags.0) (has_mark 4 g.held id) (λ t. k.was 4 refl t) four in
+        legacy_apart legacy s (p a b) (r a b)
 
     some : (n : ℕ) → (n ≡ 0 → ⊥) → 0 < n
     some n f = omega (arith, f)
@@ -224,3 +244,17 @@ taken_more ids k d i h l w all one = All-more (λ p. has_mark 16 h.held p ≡ tr
 
 pub taken_all : (ids : List ObjectId) (k : ℕ) (h : GraphData) → length ids ≤ k → AllTaken h (take k ids) → AllTaken h ids
 taken_all ids k h l a = subst (AllTaken h) (take_all k ids l) a
+
+-- a line that goes on: one of some commits wasn't taken
+pub left_more : (ids : List ObjectId) (k : ℕ) (d : ObjectId) (i h : GraphData) (any waits : Bool) → k < length ids → AddsNone 16 i h
+    → (any ≡ true → AllTaken i (take k ids) → ⊥) → (waits ≡ true → has_mark 16 h.held (get_or ids k d) ≡ false) → (any || waits) ≡ true
+    → AllTaken h (take (k + 1) ids) → ⊥
+left_more ids k d i h true waits l none before now e all =
+    before refl (All-weaker (λ p. has_mark 16 h.held p ≡ true) (λ p. has_mark 16 i.held p ≡ true) (λ q m. none q m) (take k ids)
+    (All-pop (λ p. has_mark 16 h.held p ≡ true) (take (k + 1) ids) (take k ids) (Some (get_or ids k d)) (take_more ids k d l) all).0)
+left_more ids k d i h false waits l none before now e all =
+    true≢false (sym (All-pop (λ p. has_mark 16 h.held p ≡ true) (take (k + 1) ids) (take k ids) (Some (get_or ids k d))
+    (take_more ids k d l) all).1 ∙ now e)
+
+pub left_all : (ids : List ObjectId) (k : ℕ) (h : GraphData) → length ids ≤ k → (AllTaken h (take k ids) → ⊥) → AllTaken h ids → ⊥
+left_all ids k h l a all = a (subst (AllTaken h) (sym (take_all k ids l)) all)

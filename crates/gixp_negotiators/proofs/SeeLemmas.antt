@@ -1,5 +1,5 @@
 -- Which commits come to be seen.
-use Rattle.std.proofs.Common.{◌≡◌, ◌∙◌, inl, inr, ⊎_elim, ℕ, ◌<◌, Bool, true, false, List, [], ◌∷◌, ◌++◌, length, get_or, Some, refl, sym, subst, true≢false}
+use Rattle.std.proofs.Common.{◌≡◌, ◌∙◌, inl, inr, ⊎_elim, ℕ, ◌<◌, Bool, true, false, List, [], ◌∷◌, ◌++◌, length, get_or, refl, sym, subst, true≢false}
 use Rattle.std.specs.Prelude.{◌||◌, All, Contains, not}
 use Rattle.std.specs.Ordering.{eq_by_cmp}
 use Rattle.std.proofs.lemmas.Bool.{or_cases, or_left, or_right}
@@ -8,8 +8,8 @@ use Rattle.gixp_hash.specs.declared.object_id.ObjectId.{ObjectId}
 use Rattle.gixp_hash.specs.ObjectId.{id_cmp}
 use Rattle.gixp_graph.specs.GraphData.{GraphData, parents_in}
 use Rattle.gixp_graph.specs.GraphLaws.{same_from}
-use Rattle.gixp_negotiators.specs.Marks.{has_mark, Grows, SeesNone, SeesOnly}
-use Rattle.gixp_negotiators.specs.Spread.{SeesCommon, SeesAmong, FindsCommon}
+use Rattle.gixp_negotiators.specs.Marks.{has_mark, Grows, SeesNone, SeesOnly, SettlesNone}
+use Rattle.gixp_negotiators.specs.Spread.{SeesCommon, SeesAmong, OpensParents}
 
 pub sees_same : (g h : GraphData) → SeesNone g h → SeesCommon g h
 unfolding SeesCommon
@@ -73,30 +73,18 @@ among_on ids g h k w a b id seen = ⊎_elim
 -- ---- an offer
 
 -- a commit was taken, and what comes to be seen is common or one of its parents
-pub finds_taken : (g h k : GraphData) (one : ObjectId) (parents : List ObjectId) (shared : Bool) → Grows h k → SeesNone g h
-    → (shared ≡ false → has_mark 4 g.held one ≡ false) → parents ≡ parents_in k.held one
-    → (shared ≡ true → SeesCommon h k) → (shared ≡ false → SeesAmong parents h k) → FindsCommon g (Some one) k
-finds_taken g h k one parents true w none lacks is common others = inl (sees_on g h k w (sees_same g h none) (common refl))
-finds_taken g h k one parents false w none lacks is common others = inr (
-  lacks refl,
-  subst (λ ids. SeesAmong ids g k) is (among_on parents g h k w (among_none parents g h (sees_same g h none)) (others refl)),
+pub opens_taken : (g h k : GraphData) (one : ObjectId) (parents : List ObjectId) (shared : Bool) → Grows h k → SeesNone g h
+    → SettlesNone g h → has_mark 4 g.held one ≡ shared → parents ≡ parents_in k.held one → (shared ≡ true → SeesCommon h k)
+    → (shared ≡ false → SettlesNone h k) → (shared ≡ false → SeesAmong parents h k) → OpensParents g one k
+opens_taken g h k one parents true w none settles listed is common lone others =
+    inl (listed, sees_on g h k w (sees_same g h none) (common refl))
+opens_taken g h k one parents false w none settles listed is common lone others = inr (
+  listed,
+  (
+    (λ id m. settles id (lone refl id m)),
+    subst (λ ids. SeesAmong ids g k) is (among_on parents g h k w (among_none parents g h (sees_same g h none)) (others refl)),
+  ),
 )
-
--- it is so from before earlier steps
-lacked : (a b : Bool) → (a ≡ true → b ≡ true) → b ≡ false → a ≡ false
-lacked true b k e = absurd (true≢false (sym (k refl) ∙ e))
-lacked false b k e = refl
-
-pub finds_since : (g h k : GraphData) (one : ObjectId) → Grows g h → Grows h k → SeesCommon g h → FindsCommon h (Some one) k
-    → FindsCommon g (Some one) k
-finds_since g h k one v w s f = ⊎_elim
-    (λ c. inl (sees_on g h k w s c))
-    (λ p. inr (
-      lacked (has_mark 4 g.held one) (has_mark 4 h.held one) (v.marks 4 one) p.0,
-      among_on (parents_in k.held one) g h k w
-          (among_none (parents_in k.held one) g h s) p.1,
-    ))
-    f
 
 -- ---- commits that are common
 

@@ -8,7 +8,7 @@ use Rattle.gixp_hash.specs.declared.object_id.ObjectId.{ObjectId}
 use Rattle.gixp_graph.specs.declared.flags.Flags.{Flags}
 use Rattle.gixp_graph.specs.Object.{commit_at}
 use Rattle.gixp_graph.specs.GraphData.{GraphData, parents_in}
-use Rattle.gixp_negotiators.specs.Marks.{has_all, has_mark, Grows, SeesNone, IsMarkedIfThere, IsFoundWith, Claims, IsOffered}
+use Rattle.gixp_negotiators.specs.Marks.{has_all, has_mark, Grows, AddsNone, SeesNone, SettlesNone, IsMarkedIfThere, IsFoundWith, Claims, IsOffered}
 use Rattle.gixp_negotiators.specs.MarkLaws.{grows_left, claimed_left}
 use Rattle.gixp_negotiators.proofs.GrowLemmas.{grows_on}
 
@@ -19,8 +19,9 @@ lacked false b k e = refl
 
 -- a mark that was lacked is added
 pub claims : (mark : ℕ) (g h k : GraphData) (id : ObjectId) (flags : Flags) → Grows g h → Grows h k → IsFoundWith h id flags
-    → SeesNone g h → has_all mark flags.0 ≡ false → has_mark mark k.held id ≡ true → Claims mark g k id flags
-claims mark g h k id flags v w f sees lacks has =
+    → ((b : ℕ) → has_all b 0 ≡ false → AddsNone b g h) → has_all mark flags.0 ≡ false → has_mark mark k.held id ≡ true
+    → Claims mark g k id flags
+claims mark g h k id flags v w f none lacks has =
     let read : IsSome (commit_at g.objects id) = subst (λ o. IsSome (commit_at o id)) v.objects f.read in
     let before : has_mark mark g.held id ≡ false = lacked (has_mark mark g.held id) (has_mark mark h.held id) (v.marks mark id)
     (f.marks mark ∙ lacks) in
@@ -32,18 +33,20 @@ claims mark g h k id flags v w f sees lacks has =
       less = claimed_left mark g k (grows_on g h k v w) id read before has;
       lacks = λ b e. lacked (has_mark b g.held id) (has_mark b h.held id) (v.marks b id) (f.marks b ∙ e);
       had = λ b e. w.marks b id (f.marks b ∙ e);
-      seen = λ e. sees id (f.marks 8 ∙ e);
+      was = λ b z e. none b z id (f.marks b ∙ e);
     }
 
 -- a commit that was taken is offered, also after further steps
 pub offered : (g h k : GraphData) (id : ObjectId) (flags : Flags) → Claims 16 g h id flags → has_all 2 flags.0 ≡ false → Grows h k
-    → All (IsMarkedIfThere 8 g k) (parents_in k.held id) → IsOffered g k id
-offered g h k id flags c lacks w parents = record {
+    → SettlesNone g h → (has_all 4 flags.0 ≡ false → SettlesNone h k) → All (IsMarkedIfThere 8 g k) (parents_in k.held id) → IsOffered g k id
+offered g h k id flags c lacks w none lone parents = record {
   read = c.read;
   held = w.held id c.held;
   uncommon = c.lacks 2 lacks;
   before = c.before;
   after = w.marks 16 id c.after;
+  stays = λ e. lacked (has_mark 2 k.held id) (has_mark 2 g.held id) (λ m. none id
+      (lone (lacked (has_all 4 flags.0) (has_mark 4 k.held id) (λ t. w.marks 4 id (c.had 4 t)) e) id m)) (c.lacks 2 lacks);
   less = omega (arith, c.less, grows_left 16 h k w);
   parents = parents;
 }
@@ -56,6 +59,7 @@ offered_since g h k id v o = record {
   uncommon = lacked (has_mark 2 g.held id) (has_mark 2 h.held id) (v.marks 2 id) o.uncommon;
   before = lacked (has_mark 16 g.held id) (has_mark 16 h.held id) (v.marks 16 id) o.before;
   after = o.after;
+  stays = o.stays;
   less = omega (arith, o.less, grows_left 16 g h v);
   parents = subst (λ m. All (λ q. IsSome (commit_at m q) → has_mark 8 k.held q ≡ true) (parents_in k.held id)) v.objects o.parents;
 }

@@ -5,6 +5,7 @@ pub mod Algorithm
 pub mod AlgorithmLaws
 pub mod Calls
 pub mod Distance
+pub mod Errors
 pub mod MarkLaws
 pub mod Marks
 pub mod Passing

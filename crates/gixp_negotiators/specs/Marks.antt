@@ -54,13 +54,29 @@ SettlesNone g h = AddsNone 2 g h
 abbrev pub SettlesOnly : ObjectId → GraphData → GraphData → Type 0
 SettlesOnly one g h = AddsOnly 2 one g h
 
+-- no commit is listed as a ref of the server that wasn't
+abbrev pub ListsNone : GraphData → GraphData → Type 0
+ListsNone g h = AddsNone 4 g h
+
+-- but for this one
+abbrev pub ListsOnly : ObjectId → GraphData → GraphData → Type 0
+ListsOnly one g h = AddsOnly 4 one g h
+
+-- no commit is taken from the queue
+abbrev pub PopsNone : GraphData → GraphData → Type 0
+PopsNone g h = AddsNone 16 g h
+
+-- but for this one
+abbrev pub PopsOnly : ObjectId → GraphData → GraphData → Type 0
+PopsOnly one g h = AddsOnly 16 one g h
+
 -- a commit is there and held, and has these marks
 pub record IsFoundWith (g : GraphData) (id : ObjectId) (flags : Flags) : Type 0 where
   pub read : IsSome (commit_at g.objects id)
   pub held : IsSome (finite.get g.held id)
   pub marks : (marks : ℕ) → has_mark marks g.held id ≡ has_all marks flags.0
 
--- a commit that is there was without a mark, and now has it. Of its marks before, those that are listed
+-- a commit that is there was without a mark, and now has it. Its marks before are these
 pub record Claims (mark : ℕ) (g h : GraphData) (id : ObjectId) (flags : Flags) : Type 0 where
   pub read : IsSome (commit_at g.objects id)
   pub held : IsSome (finite.get h.held id)
@@ -69,7 +85,7 @@ pub record Claims (mark : ℕ) (g h : GraphData) (id : ObjectId) (flags : Flags)
   pub less : left mark h + 1 ≤ left mark g
   pub lacks : (marks : ℕ) → has_all marks flags.0 ≡ false → has_mark marks g.held id ≡ false
   pub had : (marks : ℕ) → has_all marks flags.0 ≡ true → has_mark marks h.held id ≡ true
-  pub seen : has_all 8 flags.0 ≡ true → has_mark 8 g.held id ≡ true
+  pub was : (marks : ℕ) → has_all marks 0 ≡ false → has_all marks flags.0 ≡ true → has_mark marks g.held id ≡ true
 
 -- a commit that was seen has a mark
 abbrev pub IsMarkedIfSeen : ℕ → GraphData → ObjectId → Type 0
@@ -87,14 +103,19 @@ IsMarkedIfThere marks g h id = IsSome (commit_at g.objects id) → has_mark mark
 abbrev pub IsListedIfNew : GraphData → GraphData → ObjectId → Type 0
 IsListedIfNew g h id = IsMarkedIfNew 4 g h id
 
--- a commit is offered: it is there, wasn't common, and was never offered before; it is held, and won't be offered again; its parents
--- that are there were seen
+-- a commit that was seen before comes again: nothing changes
+abbrev pub StaysIfSeen : {N : Type 0} → N → GraphData → ObjectId → N → GraphData → Type 0
+StaysIfSeen n g id m h = has_mark 8 g.held id ≡ true → (m ≡ n) × (h ≡ g)
+
+-- a commit is offered: it is there, wasn't common, and was never offered before; it is held, and won't be offered again; it isn't common
+-- then either, unless a ref of the server is it, from whose parents marking may lead back to it; its parents that are there were seen
 pub record IsOffered (g h : GraphData) (id : ObjectId) : Type 0 where
   pub read : IsSome (commit_at g.objects id)
   pub held : IsSome (finite.get h.held id)
   pub uncommon : has_mark 2 g.held id ≡ false
   pub before : has_mark 16 g.held id ≡ false
   pub after : has_mark 16 h.held id ≡ true
+  pub stays : has_mark 4 h.held id ≡ false → has_mark 2 h.held id ≡ false
   pub less : left 16 h + 1 ≤ left 16 g
   pub parents : All (IsMarkedIfThere 8 g h) (parents_in h.held id)
 

@@ -1,11 +1,12 @@
 -- How what is common spreads from a commit to its ancestors (gitprotocol-pack, "Packfile Negotiation").
 use Rattle.std.specs.Prelude.{◌≡◌, ◌⊎◌, ◌||◌, Option, Some, None, Bool, true, false, List, [], ◌∷◌, ◌++◌, All, Contains, IsSome, is_some}
 use Rattle.std.specs.BTreeSet.{BTreeSet, contains}
+use Rattle.std.specs.FinMap as finite
 use Rattle.gixp_hash.specs.declared.object_id.ObjectId.{ObjectId}
 use Rattle.gixp_hash.specs.ObjectId.{id_cmp}
 use Rattle.gixp_graph.specs.Object.{commit_at}
 use Rattle.gixp_graph.specs.GraphData.{GraphData, parents_in}
-use Rattle.gixp_negotiators.specs.Marks.{has_mark, Grows}
+use Rattle.gixp_negotiators.specs.Marks.{has_mark, Grows, SettlesNone}
 
 -- which parents of a common commit become common: those that are there
 abbrev pub is_there : GraphData → ObjectId → Bool
@@ -78,6 +79,25 @@ StaysNewly before g due h = (f : GraphData) → Grows f g → All (IsNewlyCommon
 abbrev pub AllRead : BTreeSet ObjectId → GraphData → GraphData → Type 0
 AllRead unread g h = (id : ObjectId) → IsNewlyCommon g h id → contains id_cmp unread id ≡ false
 
+-- and was in the graph before
+abbrev pub AllHeld : BTreeSet ObjectId → GraphData → GraphData → Type 0
+AllHeld unread g h = (id : ObjectId) → IsNewlyCommon g h id → (contains id_cmp unread id ≡ false) × IsSome (finite.get g.held id)
+
+-- the commits that marking comes to from a commit: itself, and the parents of each of them that was read
+pub data MarksOn (unread : BTreeSet ObjectId) (g : GraphData) (id : ObjectId) : ObjectId → Type 0 where
+  itself : MarksOn unread g id id
+  parent : {child : ObjectId} {p : ObjectId} → MarksOn unread g id child → contains id_cmp unread child ≡ false
+      → Contains (parents_in g.held child) p → MarksOn unread g id p
+
+-- each commit that became common is one of these
+abbrev pub MarksThrough : BTreeSet ObjectId → GraphData → ObjectId → GraphData → Type 0
+MarksThrough unread g id h = (q : ObjectId) → IsNewlyCommon g h q → MarksOn unread g id q
+
+-- a commit becomes common only if it was seen and is one of these
+abbrev pub SettlesAmong : List ObjectId → GraphData → GraphData → Type 0
+SettlesAmong ids g h = (q : ObjectId) → has_mark 2 h.held q ≡ true → (has_mark 2 g.held q ≡ true)
+    ⊎ ((has_mark 8 g.held q ≡ true) × Contains ids q)
+
 -- the commits that a commit leads on to: itself, and the parents of each of them that was seen and wasn't common
 pub data LeadsTo (kind : GraphData → ObjectId → Bool) (g : GraphData) (id : ObjectId) : ObjectId → Type 0 where
   itself : LeadsTo kind g id id
@@ -93,7 +113,13 @@ unfoldable pub SeesAmong : List ObjectId → GraphData → GraphData → Type 0
 SeesAmong ids g h = (id : ObjectId) → has_mark 8 h.held id ≡ true → ((has_mark 8 g.held id || has_mark 2 h.held id) ≡ true)
     ⊎ Contains ids id
 
--- what comes to be seen by a call is common, but for the parents of the commit that is offered, where no ref of the server is it
+-- a commit is offered: where a ref of the server is it, what comes to be seen is common; where none is, it is a parent of the commit, and
+-- no commit becomes common
+abbrev pub OpensParents : GraphData → ObjectId → GraphData → Type 0
+OpensParents g one h = ((has_mark 4 g.held one ≡ true) × SeesCommon g h)
+    ⊎ ((has_mark 4 g.held one ≡ false) × (SettlesNone g h × SeesAmong (parents_in h.held one) g h))
+
+-- what comes to be seen by a call is common, but for what the commit opens that is offered
 abbrev pub FindsCommon : GraphData → Option ObjectId → GraphData → Type 0
 FindsCommon g None h = SeesCommon g h
-FindsCommon g (Some one) h = SeesCommon g h ⊎ ((has_mark 4 g.held one ≡ false) × SeesAmong (parents_in h.held one) g h)
+FindsCommon g (Some one) h = (i : GraphData) × (Grows g i × (SeesCommon g i × OpensParents i one h))

@@ -1,15 +1,14 @@
 //! Offers each commit that isn't known to be common, the newest first.
-ghost use Rattle.std.specs.Prelude.{◌≡◌, ◌≤◌, ◌+◌, ◌⊎◌, ◌∷◌, [], ◌||◌, length, bit_and, true, false};
-ghost use Rattle.std.specs.Prelude.{IfOk, IfErr, IfSome, IfNone, IsSome, OnOk, OnSome, IsTrue, All, Some};
+ghost use Rattle.std.specs.Prelude.{◌≡◌, ◌≤◌, ◌<◌, ◌+◌, ◌-◌, ◌⊎◌, ◌∷◌, [], ◌||◌, length, bit_and, true, false};
+ghost use Rattle.std.specs.Prelude.{IfOk, IfErr, IfSome, IfNone, OnOk, OnSome, IsTrue, All};
 ghost use Rattle.std.specs.BinaryHeap.{heap_len, heap_items};
 ghost use Rattle.std.specs.List.Sorted.{IsPermutation};
-ghost use Rattle.gixp_graph.specs.Object.{commit_at};
 ghost use Rattle.gixp_graph.specs.GraphData.{parents_in};
-ghost use Rattle.gixp_graph.specs.Negotiation.{IsRefusal};
-ghost use Rattle.gixp_negotiators.specs.Marks.{Grows, SeesNone, SeesOnly, SettlesNone, SettlesOnly, IsOffered, IsMarkedIfThere, IsMarkedIfNew, IsListedIfNew, has_mark, has_all, left};
-ghost use Rattle.gixp_negotiators.specs.Spread.{is_there, IsKnown, WhereOpen, WhereNew, AllCommonAmong, SeesCommon, SeesAmong, FindsCommon, HasCommonParents};
+ghost use Rattle.gixp_graph.specs.Negotiation.{IsMemory, IsRefusal};
+ghost use Rattle.gixp_negotiators.specs.Marks.{Grows, SeesNone, SeesOnly, SettlesNone, SettlesOnly, ListsNone, ListsOnly, PopsNone, StaysIfSeen, IsOffered, IsMarkedIfThere, IsMarkedIfNew, IsListedIfNew, has_mark, has_all, left};
+ghost use Rattle.gixp_negotiators.specs.Spread.{is_there, IsKnown, WhereOpen, WhereNew, AllCommonAmong, SeesCommon, SeesAmong, OpensParents, FindsCommon, HasCommonParents};
 ghost use Rattle.gixp_negotiators.specs.Spread.{KeepsSpread, SpreadsFrom, SpreadsAllFrom, StaysSpread};
-ghost use Rattle.gixp_negotiators.specs.Waiting.{Fits, AllCommon, IsNewest, IsNewestTimed};
+ghost use Rattle.gixp_negotiators.specs.Waiting.{Fits, AllCommon, EndsAtOnce, IsNewest, IsNewestTimed};
 ghost use Rattle.gixp_negotiators.specs.Calls.{Steps, StepsTaking};
 
 use crate::marks::{claim, either_has, has, look};
@@ -66,6 +65,10 @@ impl Consecutive {
         ensures marked { OnOk result (IsMarkedIfNew marks.0 graph.old.graph graph.new.graph id.now) }
         ensures sees_only { SeesOnly id.now graph.old.graph graph.new.graph }
         ensures finds { OnOk result (bit_and marks.0 2 ≡ 2 → SeesCommon graph.old.graph graph.new.graph) }
+        ensures lists { OnOk result (bit_and marks.0 4 ≡ 0 → ListsNone graph.old.graph graph.new.graph) }
+        ensures lists_only { OnOk result (ListsOnly id.now graph.old.graph graph.new.graph) }
+        ensures pops { OnOk result (PopsNone graph.old.graph graph.new.graph) }
+        ensures again { OnOk result (StaysIfSeen self.old graph.old.graph id.now self.new graph.new.graph) }
         ensures grows { Grows graph.old.graph graph.new.graph }
         ensures failures { graph.old.failures ≤ graph.new.failures }
         ensures failed { IfErr result (IsRefusal 0 0 graph.old.failures graph.new.failures) }
@@ -75,19 +78,15 @@ impl Consecutive {
         };
         let is_common = either_has(flags, marks, Flags(2));
         self.admit(is_common)?;
-        match self.queue.push(time, *id) {
-            Ok(()) => Ok(()),
-            Err(_) => Err(NegotiatorError::Memory),
-        }
+        Ok(self.queue.push(time, *id)?)
     }
 
     // One waits: it is counted, unless it is common.
     fn admit(&mut self, is_common: bool) -> Result<(), NegotiatorError>
         ensures queue { self.new.queue ≡ self.old.queue }
         ensures common { IsTrue is_common → OnOk result (self.new.uncommon ≡ self.old.uncommon) }
-        ensures counted { OnOk result (self.new.uncommon ≤ self.old.uncommon + 1) }
         ensures open { is_common ≡ false → OnOk result (self.new.uncommon ≡ self.old.uncommon + 1) }
-        ensures failed { IfErr result (IsRefusal 0 0 0 0) }
+        ensures failed { IfErr result IsMemory }
     {
         if is_common {
             return Ok(());
@@ -102,7 +101,7 @@ impl Consecutive {
     // One that has these marks and is now common: it isn't counted, where it waits.
     fn discount(&mut self, flags: Flags)
         ensures queue { self.new.queue ≡ self.old.queue }
-        ensures waits { has_all 8 flags.0 ≡ true → has_all 16 flags.0 ≡ false → self.old.uncommon ≤ self.new.uncommon + 1 }
+        ensures waits { has_all 8 flags.0 ≡ true → has_all 16 flags.0 ≡ false → self.new.uncommon ≡ self.old.uncommon - 1 }
         ensures unseen { has_all 8 flags.0 ≡ false → self.new.uncommon ≡ self.old.uncommon }
         ensures taken { has_all 16 flags.0 ≡ true → self.new.uncommon ≡ self.old.uncommon }
     {
@@ -127,6 +126,8 @@ impl Consecutive {
         ensures settles_only { SettlesOnly id.now graph.old.graph graph.new.graph }
         ensures sees { SeesNone graph.old.graph graph.new.graph }
         ensures settled { IfOk result (λ done. IsTrue done → has_mark 2 graph.new.graph.held id.now ≡ true) }
+        ensures lists { OnOk result (ListsNone graph.old.graph graph.new.graph) }
+        ensures pops { OnOk result (PopsNone graph.old.graph graph.new.graph) }
         ensures grows { Grows graph.old.graph graph.new.graph }
         ensures failures { graph.old.failures ≤ graph.new.failures }
         ensures failed { IfErr result (IsRefusal 0 0 graph.old.failures graph.new.failures) }
@@ -153,6 +154,8 @@ impl Consecutive {
         ensures marked { OnOk result (IsMarkedIfThere 2 graph.old.graph graph.new.graph id.now) }
         ensures sees { SeesNone graph.old.graph graph.new.graph }
         ensures common { OnOk result (AllCommonAmong graph.old.graph due.old.items → AllCommonAmong graph.new.graph due.new.items) }
+        ensures lists { OnOk result (ListsNone graph.old.graph graph.new.graph) }
+        ensures pops { OnOk result (PopsNone graph.old.graph graph.new.graph) }
         ensures grows { Grows graph.old.graph graph.new.graph }
         ensures failures { graph.old.failures ≤ graph.new.failures }
         ensures failed { IfErr result (IsRefusal 0 0 graph.old.failures graph.new.failures) }
@@ -160,10 +163,7 @@ impl Consecutive {
         if !self.settle(graph, id)? {
             return Ok(());
         }
-        match due.push(*id) {
-            Ok(()) => Ok(()),
-            Err(_) => Err(NegotiatorError::Memory),
-        }
+        Ok(due.push(*id)?)
     }
 
     // The parents of a commit that is held.
@@ -173,7 +173,7 @@ impl Consecutive {
         id: &ObjectId,
     ) -> Result<Vec<ObjectId>, NegotiatorError>
         ensures parents { IfOk result (λ parents. parents.items ≡ parents_in graph.now.graph.held id.now) }
-        ensures failed { IfErr result (IsRefusal 0 0 graph.now.failures graph.now.failures) }
+        ensures failed { IfErr result IsMemory }
     {
         Ok(graph.parents(self.alloc, id)?)
     }
@@ -193,6 +193,8 @@ impl Consecutive {
         ensures marked { OnOk result (All (IsMarkedIfThere 2 graph.old.graph graph.new.graph) ids.now) }
         ensures sees { SeesNone graph.old.graph graph.new.graph }
         ensures common { OnOk result (AllCommonAmong graph.old.graph due.old.items → AllCommonAmong graph.new.graph due.new.items) }
+        ensures lists { OnOk result (ListsNone graph.old.graph graph.new.graph) }
+        ensures pops { OnOk result (PopsNone graph.old.graph graph.new.graph) }
         ensures grows { Grows graph.old.graph graph.new.graph }
         ensures failures { graph.old.failures ≤ graph.new.failures }
         ensures failed { IfErr result (IsRefusal 0 0 graph.old.failures graph.new.failures) }
@@ -219,6 +221,8 @@ impl Consecutive {
             → HasCommonParents is_there graph.old.graph graph.new.graph id.now) }
         ensures finds { OnOk result (IsKnown graph.old.graph id.now → SeesCommon graph.old.graph graph.new.graph) }
         ensures common { OnOk result (AllCommonAmong graph.old.graph due.old.items → AllCommonAmong graph.new.graph due.new.items) }
+        ensures lists { OnOk result (ListsNone graph.old.graph graph.new.graph) }
+        ensures pops { OnOk result (PopsNone graph.old.graph graph.new.graph) }
         ensures grows { Grows graph.old.graph graph.new.graph }
         ensures failures { graph.old.failures ≤ graph.new.failures }
         ensures failed { IfErr result (IsRefusal 0 0 graph.old.failures graph.new.failures) }
@@ -248,6 +252,8 @@ impl Consecutive {
         ensures ancestors { OnOk result (has_mark 8 graph.old.graph.held id.now ≡ true
             → HasCommonParents is_there graph.old.graph graph.new.graph id.now) }
         ensures finds { OnOk result (IsKnown graph.old.graph id.now → SeesCommon graph.old.graph graph.new.graph) }
+        ensures lists { OnOk result (ListsNone graph.old.graph graph.new.graph) }
+        ensures pops { OnOk result (PopsNone graph.old.graph graph.new.graph) }
         ensures grows { Grows graph.old.graph graph.new.graph }
         ensures failures { graph.old.failures ≤ graph.new.failures }
         ensures failed { IfErr result (IsRefusal 0 0 graph.old.failures graph.new.failures) }
@@ -273,6 +279,8 @@ impl Consecutive {
         ensures ancestors { OnOk result (WhereOpen graph.old.graph id.now
             (HasCommonParents is_there graph.old.graph graph.new.graph id.now)) }
         ensures finds { OnOk result (IsKnown graph.old.graph id.now → SeesCommon graph.old.graph graph.new.graph) }
+        ensures lists { OnOk result (ListsNone graph.old.graph graph.new.graph) }
+        ensures pops { OnOk result (PopsNone graph.old.graph graph.new.graph) }
         ensures grows { Grows graph.old.graph graph.new.graph }
         ensures failures { graph.old.failures ≤ graph.new.failures }
         ensures failed { IfErr result (IsRefusal 0 0 graph.old.failures graph.new.failures) }
@@ -295,6 +303,9 @@ impl Consecutive {
     ) -> Result<(), NegotiatorError>
         ensures keeps { OnOk result (Steps self.old graph.old.graph self.new graph.new.graph) }
         ensures spreads { OnOk result (StaysSpread is_there graph.old.graph graph.new.graph) }
+        ensures lists { OnOk result (ListsNone graph.old.graph graph.new.graph) }
+        ensures pops { OnOk result (PopsNone graph.old.graph graph.new.graph) }
+        ensures finds { OnOk result (SeesCommon graph.old.graph graph.new.graph) }
         ensures grows { Grows graph.old.graph graph.new.graph }
         ensures common { OnOk result (IsMarkedIfThere 2 graph.old.graph graph.new.graph id.now) }
         ensures failures { graph.old.failures ≤ graph.new.failures }
@@ -321,6 +332,9 @@ impl Consecutive {
         ensures spreads { OnOk result (StaysSpread is_there graph.old.graph graph.new.graph) }
         ensures finds { IsTrue is_common → OnOk result (SeesCommon graph.old.graph graph.new.graph) }
         ensures others { is_common ≡ false → OnOk result (SeesOnly parent.now graph.old.graph graph.new.graph) }
+        ensures lists { OnOk result (ListsNone graph.old.graph graph.new.graph) }
+        ensures pops { OnOk result (PopsNone graph.old.graph graph.new.graph) }
+        ensures settles { is_common ≡ false → OnOk result (SettlesNone graph.old.graph graph.new.graph) }
         ensures grows { Grows graph.old.graph graph.new.graph }
         ensures failures { graph.old.failures ≤ graph.new.failures }
         ensures failed { IfErr result (IsRefusal 0 0 graph.old.failures graph.new.failures) }
@@ -348,6 +362,9 @@ impl Consecutive {
         ensures spreads { OnOk result (StaysSpread is_there graph.old.graph graph.new.graph) }
         ensures finds { IsTrue is_common → OnOk result (SeesCommon graph.old.graph graph.new.graph) }
         ensures others { is_common ≡ false → OnOk result (SeesAmong parents.now graph.old.graph graph.new.graph) }
+        ensures lists { OnOk result (ListsNone graph.old.graph graph.new.graph) }
+        ensures pops { OnOk result (PopsNone graph.old.graph graph.new.graph) }
+        ensures settles { is_common ≡ false → OnOk result (SettlesNone graph.old.graph graph.new.graph) }
         ensures grows { Grows graph.old.graph graph.new.graph }
         ensures failures { graph.old.failures ≤ graph.new.failures }
         ensures failed { IfErr result (IsRefusal 0 0 graph.old.failures graph.new.failures) }
@@ -362,7 +379,7 @@ impl Consecutive {
     fn release(&mut self, is_common: bool)
         ensures queue { self.new.queue ≡ self.old.queue }
         ensures common { IsTrue is_common → self.new.uncommon ≡ self.old.uncommon }
-        ensures open { self.old.uncommon ≤ self.new.uncommon + 1 }
+        ensures open { is_common ≡ false → self.new.uncommon ≡ self.old.uncommon - 1 }
     {
         if !is_common {
             self.uncommon = self.uncommon.saturating_sub(1);
@@ -381,7 +398,8 @@ impl Consecutive {
             ≤ left 8 graph.old.graph + heap_len self.old.queue.waiting) }
         ensures spreads { OnOk result (StaysSpread is_there graph.old.graph graph.new.graph) }
         ensures passes { IfOk result (λ offered. offered ≡ false → SeesCommon graph.old.graph graph.new.graph) }
-        ensures finds { IfOk result (λ offered. IsTrue offered → FindsCommon graph.old.graph (Some first.now.id) graph.new.graph) }
+        ensures opens { IfOk result (λ offered. IsTrue offered → OpensParents graph.old.graph first.now.id graph.new.graph) }
+        ensures lists { OnOk result (ListsNone graph.old.graph graph.new.graph) }
         ensures grows { Grows graph.old.graph graph.new.graph }
         ensures failures { graph.old.failures ≤ graph.new.failures }
         ensures failed { IfErr result (IsRefusal 0 0 graph.old.failures graph.new.failures) }
@@ -400,6 +418,7 @@ impl Consecutive {
     // The next that waits, unless all are common.
     fn pop(&mut self) -> Option<Waiting>
         ensures some { OnSome result (heap_len self.new.queue.waiting + 1 ≡ heap_len self.old.queue.waiting) }
+        ensures open { OnSome result (0 < self.old.uncommon) }
         ensures taken { IfSome result (λ first. IsPermutation (heap_items self.old.queue.waiting)
             (first ∷ heap_items self.new.queue.waiting)) }
         ensures newest { IfSome result (IsNewest (heap_items self.new.queue.waiting)) }
@@ -421,11 +440,14 @@ impl Consecutive {
         ensures offered { IfOk result (λ have. IfSome have (IsOffered graph.old.graph graph.new.graph)) }
         ensures newest { IfOk result (λ have. IfSome have
             (λ id. IsNewestTimed (heap_items self.old.queue.waiting) graph.old.graph id (heap_items self.new.queue.waiting))) }
-        ensures none { IfOk result (λ have. IfNone have (Fits self.old.uncommon (heap_items self.old.queue.waiting) graph.old.graph
+        ensures none { IfOk result (λ have. IfNone have (Fits 0 self.old.uncommon (heap_items self.old.queue.waiting) graph.old.graph
             → AllCommon graph.new.graph)) }
         ensures keeps { OnOk result (Steps self.old graph.old.graph self.new graph.new.graph) }
         ensures spreads { OnOk result (StaysSpread is_there graph.old.graph graph.new.graph) }
         ensures finds { IfOk result (λ have. FindsCommon graph.old.graph have graph.new.graph) }
+        ensures lists { OnOk result (ListsNone graph.old.graph graph.new.graph) }
+        ensures ends { IfOk result (λ have. EndsAtOnce self.old.uncommon (heap_items self.old.queue.waiting)
+            graph.old.graph have graph.new.graph) }
         ensures grows { Grows graph.old.graph graph.new.graph }
         ensures failures { graph.old.failures ≤ graph.new.failures }
         ensures failed { IfErr result (IsRefusal 0 0 graph.old.failures graph.new.failures) }
@@ -450,6 +472,10 @@ impl Consecutive {
         ensures ancestors { OnOk result (WhereNew graph.old.graph id.now
             (HasCommonParents is_there graph.old.graph graph.new.graph id.now)) }
         ensures listed { OnOk result (IsListedIfNew graph.old.graph graph.new.graph id.now) }
+        ensures lists { OnOk result (ListsOnly id.now graph.old.graph graph.new.graph) }
+        ensures pops { OnOk result (PopsNone graph.old.graph graph.new.graph) }
+        ensures finds { OnOk result (SeesAmong (id.now ∷ []) graph.old.graph graph.new.graph) }
+        ensures again { OnOk result (StaysIfSeen self.old graph.old.graph id.now self.new graph.new.graph) }
         ensures grows { Grows graph.old.graph graph.new.graph }
         ensures failures { graph.old.failures ≤ graph.new.failures }
         ensures failed { IfErr result (IsRefusal 0 0 graph.old.failures graph.new.failures) }

@@ -1,7 +1,7 @@
 -- Marks are added.
 use Rattle.std.proofs.Common.{◌≡◌, subst, sym, true}
 use Rattle.gixp_graph.specs.GraphData.{GraphData}
-use Rattle.gixp_negotiators.specs.Marks.{Grows, SeesNone, SeesOnly, SettlesNone, SettlesOnly, has_mark}
+use Rattle.gixp_negotiators.specs.Marks.{Grows, SeesNone, SeesOnly, SettlesNone, SettlesOnly, ListsNone, ListsOnly, PopsNone, PopsOnly, has_mark}
 use Rattle.gixp_negotiators.specs.MarkLaws.{grows_left}
 use Rattle.gixp_negotiators.proofs.GrowLemmas.{grows_flagged, has_flagged, only_flagged, none_flagged}
 use Rattle.gixp_negotiators.proofs.marks.add.Goals as goal
@@ -37,3 +37,19 @@ returns-clause-settles g c apart = subst (SettlesNone c.args.graph.now.graph) (s
 pub returns-clause-settles_only : goal.returns-clause-settles_only
 returns-clause-settles_only g c = subst (SettlesOnly c.args.id.now c.args.graph.now.graph) (sym c.insert_flags.ensures.flagged)
     (only_flagged 2 c.args.graph.now.graph c.args.id.now c.args.marks)
+
+pub returns-clause-lists : goal.returns-clause-lists
+returns-clause-lists g c apart = subst (ListsNone c.args.graph.now.graph) (sym c.insert_flags.ensures.flagged)
+    (none_flagged 4 c.args.graph.now.graph c.args.id.now c.args.marks apart)
+
+pub returns-clause-lists_only : goal.returns-clause-lists_only
+returns-clause-lists_only g c = subst (ListsOnly c.args.id.now c.args.graph.now.graph) (sym c.insert_flags.ensures.flagged)
+    (only_flagged 4 c.args.graph.now.graph c.args.id.now c.args.marks)
+
+pub returns-clause-pops : goal.returns-clause-pops
+returns-clause-pops g c apart = subst (PopsNone c.args.graph.now.graph) (sym c.insert_flags.ensures.flagged)
+    (none_flagged 16 c.args.graph.now.graph c.args.id.now c.args.marks apart)
+
+pub returns-clause-pops_only : goal.returns-clause-pops_only
+returns-clause-pops_only g c = subst (PopsOnly c.args.id.now c.args.graph.now.graph) (sym c.insert_flags.ensures.flagged)
+    (only_flagged 16 c.args.graph.now.graph c.args.id.now c.args.marks)

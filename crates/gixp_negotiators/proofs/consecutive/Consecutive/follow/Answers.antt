@@ -23,3 +23,9 @@ returns-then-is_common-clause-finds g c t = sees_on _ _ _ c.mark_ancestors.ensur
     (c.in_ok-mark_ancestors.ensures.finds (λ s. or_left (has_mark 8 c.push.new.graph.graph.held c.args.parent.now)
     (has_mark 2 c.push.new.graph.graph.held c.args.parent.now)
     (c.in_ok-push.ensures.waits (subst (λ (o : Objects). IsSome (commit_at o c.args.parent.now)) c.push.ensures.grows.objects s))))
+
+pub returns-then-is_common-clause-lists : goal.returns-then-is_common-clause-lists
+returns-then-is_common-clause-lists g c q m = c.in_ok-push.ensures.lists refl q (c.in_ok-mark_ancestors.ensures.lists q m)
+
+pub returns-then-is_common-clause-pops : goal.returns-then-is_common-clause-pops
+returns-then-is_common-clause-pops g c q m = c.in_ok-push.ensures.pops q (c.in_ok-mark_ancestors.ensures.pops q m)

@@ -3,6 +3,9 @@ use Rattle.gixp_negotiators.proofs.GrowLemmas.{grows_on}
 use Rattle.gixp_negotiators.proofs.FitLemmas.{timed_on}
 use Rattle.gixp_negotiators.specs.Spread.{is_there}
 use Rattle.gixp_negotiators.proofs.SpreadLemmas.{stays_there, stays_grown, stays_settled}
+use Rattle.std.proofs.lemmas.Bool.{or_right}
+use Rattle.gixp_negotiators.specs.Marks.{has_mark}
+use Rattle.gixp_negotiators.proofs.SeeLemmas.{sees_same, sees_on}
 use Rattle.gixp_negotiators.proofs.consecutive.Consecutive.mark_common.Goals as goal
 
 pub returns-in_err-spread_all-clause-grows : goal.returns-in_err-spread_all-clause-grows
@@ -25,3 +28,17 @@ returns-clause-spreads g c =
 pub returns-then-not-branch-clause-spreads : goal.returns-then-not-branch-clause-spreads
 returns-then-not-branch-clause-spreads g c =
     stays_grown is_there stays_there _ _ c.settle.ensures.grows (c.in_ok-settle.ensures.kept c.if-not-branch.true)
+
+pub returns-clause-lists : goal.returns-clause-lists
+returns-clause-lists g c q m = c.in_ok-settle.ensures.lists q (c.in_ok-spread_all.ensures.lists q m)
+
+pub returns-clause-pops : goal.returns-clause-pops
+returns-clause-pops g c q m = c.in_ok-settle.ensures.pops q (c.in_ok-spread_all.ensures.pops q m)
+
+pub returns-then-not-branch-clause-finds : goal.returns-then-not-branch-clause-finds
+returns-then-not-branch-clause-finds g c = sees_same _ _ c.settle.ensures.sees
+
+pub returns-clause-finds : goal.returns-clause-finds
+returns-clause-finds g c = sees_on _ _ _ c.spread_all.ensures.grows (sees_same _ _ c.settle.ensures.sees)
+    (c.in_ok-spread_all.ensures.finds (λ s. or_right (has_mark 8 c.settle.new.graph.graph.held c.args.id.now)
+    (has_mark 2 c.settle.new.graph.graph.held c.args.id.now) (c.in_ok-settle.ensures.settled c.if-not-branch.false)))

@@ -3,9 +3,9 @@ use Rattle.gixp_negotiators.specs.Spread.{is_there}
 use Rattle.gixp_negotiators.proofs.SpreadLemmas.{stays_there, kept_grown, kept_settled}
 use Rattle.gixp_negotiators.proofs.consecutive.Consecutive.reach.Goals as goal
 
-pub returns-in-Ok-clause-spreads : goal.returns-in-Ok-clause-spreads
-returns-in-Ok-clause-spreads g c =
-    kept_settled is_there stays_there _ _ c.args.id.now _ _ c.settle.ensures.grows c.settle.ensures.settles_only c.in-Ok.ensures.items
+pub returns-clause-spreads : goal.returns-clause-spreads
+returns-clause-spreads g c =
+    kept_settled is_there stays_there _ _ c.args.id.now _ _ c.settle.ensures.grows c.settle.ensures.settles_only c.in_ok-push.ensures.items
 
 pub returns-then-not-branch-clause-spreads : goal.returns-then-not-branch-clause-spreads
 returns-then-not-branch-clause-spreads g c =

@@ -18,6 +18,8 @@ loop-id-init g c = record {
   less = omega arith;
   seen = omega arith;
   queue = refl;
+  lists = λ q m. m;
+  pops = λ q m. m;
   grows = grows_none _;
   failures = omega arith;
 }
@@ -35,6 +37,8 @@ loop-id-preserved g c = record {
   queue = c.reach.ensures.queue ∙ c.loop-id.invariant.queue;
   sees = λ id s. c.loop-id.invariant.sees id (c.reach.ensures.sees id s);
   common = λ all. c.in_ok-reach.ensures.common (c.loop-id.invariant.common all);
+  lists = λ q m. c.loop-id.invariant.lists q (c.in_ok-reach.ensures.lists q m);
+  pops = λ q m. c.loop-id.invariant.pops q (c.in_ok-reach.ensures.pops q m);
   grows = grows_on _ _ _ c.loop-id.invariant.grows c.reach.ensures.grows;
   failures = omega (arith, c.loop-id.invariant.failures, c.reach.ensures.failures);
 }

@@ -2,7 +2,7 @@
 use Rattle.std.proofs.Common.{◌≡◌, ◌+◌, ◌≤◌, length, take, true}
 use Rattle.std.specs.Prelude.{All}
 use Rattle.std.specs.BinaryHeap.{heap_items}
-use Rattle.gixp_negotiators.specs.Marks.{Grows, SeesNone, has_mark, IsMarkedIfThere, left}
+use Rattle.gixp_negotiators.specs.Marks.{Grows, SeesNone, ListsNone, PopsNone, has_mark, IsMarkedIfThere, left}
 use Rattle.gixp_negotiators.specs.Waiting.{KeepsTimed}
 use Rattle.gixp_negotiators.specs.Spread.{is_there, KeepsSpread}
 use Rattle.gixp_negotiators.proofs.consecutive.Consecutive.reach_all.Given as goal
@@ -19,6 +19,8 @@ invariant-loop-id g l = record {
   sees : SeesNone l.fn.graph.graph l.graph.graph;
   common : All (λ q. has_mark 2 l.fn.graph.graph.held q ≡ true) l.fn.due.items
       → All (λ q. has_mark 2 l.graph.graph.held q ≡ true) l.due.items;
+  lists : ListsNone l.fn.graph.graph l.graph.graph;
+  pops : PopsNone l.fn.graph.graph l.graph.graph;
   grows : Grows l.fn.graph.graph l.graph.graph;
   failures : l.fn.graph.failures ≤ l.graph.failures;
 }

@@ -11,15 +11,15 @@ use Rattle.gixp_negotiators.proofs.SeeLemmas.{sees_same, sees_on, sees_one, near
 use Rattle.gixp_negotiators.proofs.consecutive.Consecutive.spread.Goals as goal
 
 pub returns-in_default-clause-keeps : goal.returns-in_default-clause-keeps
-returns-in_default-clause-keeps g c = timed_grown _ _ _ _ c.look.ensures.grows c.look.ensures.sees
+returns-in_default-clause-keeps g c = timed_grown _ _ _ _ c.look.ensures.grows c.look.ensures.sees c.look.ensures.settles c.look.ensures.pops
 
 pub returns-clause-keeps : goal.returns-clause-keeps
 returns-clause-keeps g c = timed_on _ _ _ _ _ _ _ _ _ c.look.ensures.grows
-    (timed_grown _ _ _ _ c.look.ensures.grows c.look.ensures.sees) c.in_ok-reach_all.ensures.keeps
+    (timed_grown _ _ _ _ c.look.ensures.grows c.look.ensures.sees c.look.ensures.settles c.look.ensures.pops) c.in_ok-reach_all.ensures.keeps
 
 pub returns-then-not-has-clause-keeps : goal.returns-then-not-has-clause-keeps
 returns-then-not-has-clause-keeps g c = timed_on _ _ _ _ _ _ _ _ _ c.look.ensures.grows
-    (timed_grown _ _ _ _ c.look.ensures.grows c.look.ensures.sees) c.in_ok-push.ensures.keeps
+    (timed_grown _ _ _ _ c.look.ensures.grows c.look.ensures.sees c.look.ensures.settles c.look.ensures.pops) c.in_ok-push.ensures.keeps
 
 pub returns-in_default-clause-spreads : goal.returns-in_default-clause-spreads
 returns-in_default-clause-spreads g c = from_unseen is_there stays_there c.args.id.now _ _ _ c.look.ensures.grows c.look.ensures.settles
@@ -61,3 +61,15 @@ returns-then-not-has-clause-finds g c near =
     (c.push.ensures.grows.marks 2 c.args.id.now
     (near_unseen c.args.graph.now.graph c.look.new.graph.graph c.args.id.now c.look.ensures.grows unseen
     (near (subst (λ (o : Objects). IsSome (commit_at o c.args.id.now)) c.look.ensures.grows.objects f.read))))))
+
+pub returns-clause-lists : goal.returns-clause-lists
+returns-clause-lists g c q m = c.look.ensures.lists q (c.in_ok-reach_all.ensures.lists q m)
+
+pub returns-clause-pops : goal.returns-clause-pops
+returns-clause-pops g c q m = c.look.ensures.pops q (c.in_ok-reach_all.ensures.pops q m)
+
+pub returns-then-not-has-clause-pops : goal.returns-then-not-has-clause-pops
+returns-then-not-has-clause-pops g c q m = c.look.ensures.pops q (c.in_ok-push.ensures.pops q m)
+
+pub returns-then-not-has-clause-lists : goal.returns-then-not-has-clause-lists
+returns-then-not-has-clause-lists g c q m = c.look.ensures.lists q (c.in_ok-push.ensures.lists refl q m)

@@ -20,6 +20,8 @@ loop-next-init g c = record {
   finds = c.in_ok-spread.ensures.finds;
   common = c.in_ok-spread.ensures.common (All-same (λ q. has_mark 2 c.args.graph.now.graph.held q ≡ true) _ [] c.new-due.ensures.items
       (All-nil (λ q. has_mark 2 c.args.graph.now.graph.held q ≡ true)));
+  lists = c.in_ok-spread.ensures.lists;
+  pops = c.in_ok-spread.ensures.pops;
   grows = c.spread.ensures.grows;
   failures = c.spread.ensures.failures;
 }
@@ -45,6 +47,8 @@ loop-next-preserved g c =
           (c.in_ok-spread-2.ensures.finds (λ s. or_right (has_mark 8 c.loop-next.graph.graph.held c.in-Some.next)
           (has_mark 2 c.loop-next.graph.graph.held c.in-Some.next) both.0));
       common = c.in_ok-spread-2.ensures.common both.1;
+      lists = λ q m. c.loop-next.invariant.lists q (c.in_ok-spread-2.ensures.lists q m);
+      pops = λ q m. c.loop-next.invariant.pops q (c.in_ok-spread-2.ensures.pops q m);
       grows = grows_on _ _ _ c.loop-next.invariant.grows c.spread-in-Some.ensures.grows;
       failures = omega (arith, c.loop-next.invariant.failures, c.spread-in-Some.ensures.failures);
     }

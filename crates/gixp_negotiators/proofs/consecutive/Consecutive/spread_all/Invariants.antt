@@ -2,7 +2,7 @@
 use Rattle.std.proofs.Common.{◌≡◌, ◌+◌, ◌≤◌, [], length, true}
 use Rattle.std.specs.Prelude.{All, IsSome, ◌||◌}
 use Rattle.std.specs.BinaryHeap.{heap_len, heap_items}
-use Rattle.gixp_negotiators.specs.Marks.{Grows, has_mark, left}
+use Rattle.gixp_negotiators.specs.Marks.{Grows, ListsNone, PopsNone, has_mark, left}
 use Rattle.gixp_negotiators.specs.Waiting.{KeepsTimed}
 use Rattle.gixp_graph.specs.Object.{commit_at}
 use Rattle.gixp_negotiators.specs.Spread.{is_there, SeesCommon, HasCommonParents, SpreadsFrom}
@@ -19,6 +19,8 @@ invariant-loop-next g l = record {
       → (has_mark 8 l.fn.graph.graph.held l.fn.id || has_mark 2 l.fn.graph.graph.held l.fn.id) ≡ true)
       → SeesCommon l.fn.graph.graph l.graph.graph;
   common : All (λ q. has_mark 2 l.graph.graph.held q ≡ true) l.due.items;
+  lists : ListsNone l.fn.graph.graph l.graph.graph;
+  pops : PopsNone l.fn.graph.graph l.graph.graph;
   grows : Grows l.fn.graph.graph l.graph.graph;
   failures : l.fn.graph.failures ≤ l.graph.failures;
 }

@@ -1,16 +1,22 @@
 -- What the loop keeps.
-use Rattle.std.proofs.Common.{◌≡◌, ◌+◌, ◌≤◌, length, true}
+use Rattle.std.proofs.Common.{◌≡◌, ◌+◌, ◌≤◌, ℕ, length, true}
 use Rattle.std.specs.Prelude.{All}
 use Rattle.std.specs.BinaryHeap.{heap_items}
-use Rattle.gixp_negotiators.specs.Marks.{Grows, has_mark, left}
-use Rattle.gixp_negotiators.specs.Waiting.{Fits, FitsOwing}
-use Rattle.gixp_negotiators.specs.Spread.{was_seen, SpreadsBut, IsNewlyCommon}
+use Rattle.gixp_negotiators.specs.Marks.{Grows, SeesNone, ListsNone, PopsNone, has_mark, left}
+use Rattle.gixp_hash.specs.declared.object_id.ObjectId.{ObjectId}
+use Rattle.gixp_negotiators.specs.Waiting.{FitsSeen, FitsOwing}
+use Rattle.gixp_negotiators.specs.Spread.{was_seen, SpreadsBut, MarksThrough, IsNewlyCommon}
 use Rattle.gixp_negotiators.proofs.skipping.Skipping.mark_common.Given as goal
 
 abbrev pub invariant-loop-next : goal.invariant-loop-next
 invariant-loop-next g l = record {
-  fits : Fits l.fn.self.uncommon (heap_items l.fn.self.queue.waiting) l.fn.graph.graph
-      → FitsOwing l.self.uncommon (heap_items l.fn.self.queue.waiting) l.graph.graph l.due.items;
+  fits : (lost : ℕ) → FitsSeen lost l.fn.self.uncommon (heap_items l.fn.self.queue.waiting) l.fn.graph.graph
+      → FitsOwing lost l.self.uncommon (heap_items l.fn.self.queue.waiting) l.graph.graph l.due.items;
+  through : MarksThrough l.fn.self.unread l.fn.graph.graph l.fn.id l.graph.graph;
+  old : (q : ObjectId) → IsNewlyCommon l.fn.graph.graph l.graph.graph q → has_mark 8 l.fn.graph.graph.held q ≡ true;
+  sees : SeesNone l.fn.graph.graph l.graph.graph;
+  lists : ListsNone l.fn.graph.graph l.graph.graph;
+  pops : PopsNone l.fn.graph.graph l.graph.graph;
   common : has_mark 8 l.fn.graph.graph.held l.fn.id ≡ true → has_mark 2 l.graph.graph.held l.fn.id ≡ true;
   spreads : SpreadsBut was_seen l.due.items l.fn.graph.graph l.graph.graph;
   newly : All (IsNewlyCommon l.fn.graph.graph l.graph.graph) l.due.items;
