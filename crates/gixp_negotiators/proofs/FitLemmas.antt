@@ -16,7 +16,7 @@ use Rattle.gixp_graph.specs.Object.{Objects, time_at}
 use Rattle.gixp_graph.specs.GraphData.{HeldCommit, Commits, GraphData, shown}
 use Rattle.gixp_graph.specs.GraphLaws.{same_from}
 use Rattle.gixp_negotiators.specs.declared.queue.Waiting.{Waiting}
-use Rattle.gixp_negotiators.specs.Marks.{has_all, has_mark, Grows, AddsNone, AddsOnly, SeesNone, SeesOnly, SettlesNone, SettlesOnly, PopsNone, PopsOnly, Claims}
+use Rattle.gixp_negotiators.specs.Marks.{COMMON, SEEN, POPPED, has_all, has_mark, Grows, AddsNone, AddsOnly, SeesNone, SeesOnly, SettlesNone, SettlesOnly, PopsNone, PopsOnly, Claims}
 use Rattle.gixp_negotiators.specs.Waiting.{waits_of, queued_one, open_one, open_in, Fits, FitsSeen, KeepsCount, KeepsQueue, KeepsTimed, AllTimed, NoneNewer, AllCommon, IsNewest, IsNewestAt, IsNewestIn, IsDated, QueuesNew}
 use Rattle.gixp_negotiators.proofs.GrowLemmas.{same_id, grows_on}
 
@@ -74,7 +74,7 @@ unfolding waits_of
 waits_nil id = refl
 
 -- as many are open where none becomes common
-pub open_kept : (g h : GraphData) → ((q : ObjectId) → has_mark 2 h.held q ≡ has_mark 2 g.held q) → (ws : List Waiting)
+pub open_kept : (g h : GraphData) → ((q : ObjectId) → has_mark COMMON h.held q ≡ has_mark COMMON g.held q) → (ws : List Waiting)
     → open_in h.held ws ≡ open_in g.held ws
 open_kept g h same [] = omega (arith, open_nil h.held, open_nil g.held)
 open_kept g h same (x ∷ xs) =
@@ -82,22 +82,25 @@ open_kept g h same (x ∷ xs) =
     omega (arith, open_cons h.held x xs, open_cons g.held x xs, open_kept g h same xs)
 
 -- one that becomes common is one less, as often as it waits
-pub open_settled : (g h : GraphData) → Grows g h → (id : ObjectId) → SettlesOnly id g h → has_mark 2 g.held id ≡ false
-    → has_mark 2 h.held id ≡ true → (ws : List Waiting) → open_in h.held ws + waits_of ws id ≡ open_in g.held ws
+pub open_settled : (g h : GraphData) → Grows g h → (id : ObjectId) → SettlesOnly id g h → has_mark COMMON g.held id ≡ false
+    → has_mark COMMON h.held id ≡ true → (ws : List Waiting) → open_in h.held ws + waits_of ws id ≡ open_in g.held ws
 open_settled g h w id only a b [] = omega (arith, open_nil h.held, open_nil g.held, waits_nil id)
 open_settled g h w id only a b (x ∷ xs) = at (eq_by_cmp id_cmp id x.id) refl (open_settled g h w id only a b xs)
   where
-    at : (c : Bool) → eq_by_cmp id_cmp id x.id ≡ c → open_in h.held xs + waits_of xs id ≡ open_in g.held xs → open_in h.held (x ∷ xs) + waits_of (x ∷ xs) id ≡ open_in g.held (x ∷ xs)
+    at : (c : Bool) → eq_by_cmp id_cmp id x.id ≡ c → open_in h.held xs + waits_of xs id ≡ open_in g.held xs → open_in h.held
+        (x ∷ xs) + waits_of (x ∷ xs) id ≡ open_in g.held (x ∷ xs)
     at true e rest =
         let same : id ≡ x.id = same_from id x.id e in
-        let none : ◌≡◌ {A = ℕ} (open_one h.held x.id) 0 = ap (λ c. cond {A = ℕ} c 0 1) (subst (λ i. has_mark 2 h.held i ≡ true) same b) in
-        let one : ◌≡◌ {A = ℕ} (open_one g.held x.id) 1 = ap (λ c. cond {A = ℕ} c 0 1) (subst (λ i. has_mark 2 g.held i ≡ false) same a) in
+        let none : ◌≡◌ {A = ℕ} (open_one h.held x.id) 0 = ap (λ c. cond {A = ℕ} c 0 1) (subst (λ i. has_mark COMMON h.held i ≡ true) same
+        b) in
+        let one : ◌≡◌ {A = ℕ} (open_one g.held x.id) 1 = ap (λ c. cond {A = ℕ} c 0 1) (subst (λ i. has_mark COMMON g.held i ≡ false) same
+        a) in
         let here : ◌≡◌ {A = ℕ} (waits_one x id) 1 = ap (λ c. cond {A = ℕ} c 1 0) e in
         omega (arith, open_cons h.held x xs, open_cons g.held x xs, waits_cons x xs id, rest)
     at false e rest =
         let other : eq_by_cmp id_cmp x.id id ≡ false = lacked (eq_by_cmp id_cmp x.id id) (eq_by_cmp id_cmp id x.id) (flip x.id id) e in
         let one : ◌≡◌ {A = ℕ} (open_one h.held x.id) (open_one g.held x.id) =
-        ap (λ c. cond {A = ℕ} c 0 1) (same_only 2 id g h w only x.id other) in
+        ap (λ c. cond {A = ℕ} c 0 1) (same_only COMMON id g h w only x.id other) in
         let here : ◌≡◌ {A = ℕ} (waits_one x id) 0 = ap (λ c. cond {A = ℕ} c 1 0) e in
         omega (arith, open_cons h.held x xs, open_cons g.held x xs, waits_cons x xs id, rest)
 
@@ -115,7 +118,7 @@ open_apart g h w id only (x ∷ xs) none = at (eq_by_cmp id_cmp id x.id) refl (o
     at false e more =
         let other : eq_by_cmp id_cmp x.id id ≡ false = lacked (eq_by_cmp id_cmp x.id id) (eq_by_cmp id_cmp id x.id) (flip x.id id) e in
         let one : ◌≡◌ {A = ℕ} (open_one h.held x.id) (open_one g.held x.id) =
-        ap (λ c. cond {A = ℕ} c 0 1) (same_only 2 id g h w only x.id other) in
+        ap (λ c. cond {A = ℕ} c 0 1) (same_only COMMON id g h w only x.id other) in
         let rest : waits_of xs id ≡ 0 = omega (arith, waits_cons x xs id, none) in
         omega (arith, open_cons h.held x xs, open_cons g.held x xs, more rest)
 
@@ -131,10 +134,11 @@ waits_moved id ws xs p = sum_by-IsPermutation (λ (w : Waiting). waits_one w id)
 -- ---- a step keeps what fits
 
 -- how often a commit is to wait follows from two marks
-pub same_queued : (g h : GraphData) (q : ObjectId) → has_mark 8 h.held q ≡ has_mark 8 g.held q → has_mark 16 h.held q ≡ has_mark 16 g.held q
+pub same_queued : (g h : GraphData) (q : ObjectId) → has_mark SEEN h.held q ≡ has_mark SEEN g.held q
+    → has_mark POPPED h.held q ≡ has_mark POPPED g.held q
     → queued_one g.held q ≡ queued_one h.held q
-same_queued g h q a b = sym (ap (λ c. cond {A = ℕ} (c && not (has_mark 16 h.held q)) 1 0) a
-    ∙ ap (λ c. cond {A = ℕ} (has_mark 8 g.held q && not c) 1 0) b)
+same_queued g h q a b = sym (ap (λ c. cond {A = ℕ} (c && not (has_mark POPPED h.held q)) 1 0) a
+    ∙ ap (λ c. cond {A = ℕ} (has_mark SEEN g.held q && not c) 1 0) b)
 
 queued_at : (a b : Bool) → a ≡ true → b ≡ false → cond {A = ℕ} (a && not b) 1 0 ≡ 1
 queued_at a b e f = ap (λ c. cond {A = ℕ} (c && not b) 1 0) e ∙ ap (λ c. cond {A = ℕ} (not c) 1 0) f
@@ -161,15 +165,15 @@ once_at true false = omega arith
 once_at false b = omega arith
 
 -- a commit that was seen and not taken waits once
-pub queued : (m : Commits) (id : ObjectId) → has_mark 8 m id ≡ true → has_mark 16 m id ≡ false → queued_one m id ≡ 1
-queued m id a b = queued_at (has_mark 8 m id) (has_mark 16 m id) a b
+pub queued : (m : Commits) (id : ObjectId) → has_mark SEEN m id ≡ true → has_mark POPPED m id ≡ false → queued_one m id ≡ 1
+queued m id a b = queued_at (has_mark SEEN m id) (has_mark POPPED m id) a b
 
 -- and no other
-pub unqueued : (m : Commits) (id : ObjectId) → has_mark 8 m id ≡ false → queued_one m id ≡ 0
-unqueued m id a = unseen_at (has_mark 8 m id) (has_mark 16 m id) a
+pub unqueued : (m : Commits) (id : ObjectId) → has_mark SEEN m id ≡ false → queued_one m id ≡ 0
+unqueued m id a = unseen_at (has_mark SEEN m id) (has_mark POPPED m id) a
 
-pub spent : (m : Commits) (id : ObjectId) → has_mark 16 m id ≡ true → queued_one m id ≡ 0
-spent m id b = spent_at (has_mark 8 m id) (has_mark 16 m id) b
+pub spent : (m : Commits) (id : ObjectId) → has_mark POPPED m id ≡ true → queued_one m id ≡ 0
+spent m id b = spent_at (has_mark SEEN m id) (has_mark POPPED m id) b
 
 -- what waits was seen and not taken
 first_waits : (ws : List Waiting) (g : GraphData) (first : Waiting) → ((id : ObjectId) → waits_of (first ∷ ws) id ≡ queued_one g.held id)
@@ -179,39 +183,39 @@ first_waits ws g first waiting =
     omega (arith, waits_cons first ws first.id, waiting first.id)
 
 pub first_seen : (ws : List Waiting) (g : GraphData) (first : Waiting)
-    → ((id : ObjectId) → waits_of (first ∷ ws) id ≡ queued_one g.held id) → has_mark 8 g.held first.id ≡ true
-first_seen ws g first waiting = seen_at (has_mark 8 g.held first.id) (has_mark 16 g.held first.id) (first_waits ws g first waiting)
+    → ((id : ObjectId) → waits_of (first ∷ ws) id ≡ queued_one g.held id) → has_mark SEEN g.held first.id ≡ true
+first_seen ws g first waiting = seen_at (has_mark SEEN g.held first.id) (has_mark POPPED g.held first.id) (first_waits ws g first waiting)
 
 pub first_left : (ws : List Waiting) (g : GraphData) (first : Waiting)
-    → ((id : ObjectId) → waits_of (first ∷ ws) id ≡ queued_one g.held id) → has_mark 16 g.held first.id ≡ false
-first_left ws g first waiting = left_at (has_mark 8 g.held first.id) (has_mark 16 g.held first.id) (first_waits ws g first waiting)
+    → ((id : ObjectId) → waits_of (first ∷ ws) id ≡ queued_one g.held id) → has_mark POPPED g.held first.id ≡ false
+first_left ws g first waiting = left_at (has_mark SEEN g.held first.id) (has_mark POPPED g.held first.id) (first_waits ws g first waiting)
 
 -- marks are added, but for those that count
 pub fits_grown : (lost u : ℕ) (ws : List Waiting) (g h : GraphData) → Grows g h → SeesNone g h → SettlesNone g h → PopsNone g h
     → Fits lost u ws g → Fits lost u ws h
 fits_grown lost u ws g h w s c p f = record {
-  waiting = λ id. f.waiting id ∙ same_queued g h id (same_none 8 g h w s id) (same_none 16 g h w p id);
-  taken = λ id t. w.marks 8 id (f.taken id (p id t));
-  counted = omega (arith, f.counted, open_kept g h (same_none 2 g h w c) ws);
+  waiting = λ id. f.waiting id ∙ same_queued g h id (same_none SEEN g h w s id) (same_none POPPED g h w p id);
+  taken = λ id t. w.marks SEEN id (f.taken id (p id t));
+  counted = omega (arith, f.counted, open_kept g h (same_none COMMON g h w c) ws);
 }
 
 -- one becomes common, and isn't counted any more where it waits
 pub fits_common : (lost u v : ℕ) (ws : List Waiting) (g h : GraphData) (id : ObjectId) → Grows g h → SeesNone g h → PopsNone g h
-    → SettlesOnly id g h → has_mark 2 g.held id ≡ false → has_mark 2 h.held id ≡ true → v ≡ u - queued_one g.held id
+    → SettlesOnly id g h → has_mark COMMON g.held id ≡ false → has_mark COMMON h.held id ≡ true → v ≡ u - queued_one g.held id
     → Fits lost u ws g → Fits lost v ws h
 fits_common lost u v ws g h id w s p only before after is f = record {
-  waiting = λ q. f.waiting q ∙ same_queued g h q (same_none 8 g h w s q) (same_none 16 g h w p q);
-  taken = λ q t. w.marks 8 q (f.taken q (p q t));
+  waiting = λ q. f.waiting q ∙ same_queued g h q (same_none SEEN g h w s q) (same_none POPPED g h w p q);
+  taken = λ q t. w.marks SEEN q (f.taken q (p q t));
   counted = omega (arith, f.counted, is, open_settled g h w id only before after ws, f.waiting id);
 }
 
 -- one comes to wait
 pub fits_pushed : (lost u v : ℕ) (ws xs : List Waiting) (g h : GraphData) (new : Waiting) → Grows g h → SeesOnly new.id g h
-    → PopsNone g h → SettlesOnly new.id g h → has_mark 8 g.held new.id ≡ false → has_mark 8 h.held new.id ≡ true
+    → PopsNone g h → SettlesOnly new.id g h → has_mark SEEN g.held new.id ≡ false → has_mark SEEN h.held new.id ≡ true
     → IsPermutation (new ∷ ws) xs → v ≡ u + open_one h.held new.id → Fits lost u ws g → Fits lost v xs h
 fits_pushed lost u v ws xs g h new w s p only before after m is f = record {
   waiting = λ id. waits_moved id (new ∷ ws) xs m ∙ at id (eq_by_cmp id_cmp id new.id) refl;
-  taken = λ id t. w.marks 8 id (f.taken id (p id t));
+  taken = λ id t. w.marks SEEN id (f.taken id (p id t));
   counted =
       let none : waits_of ws new.id ≡ 0 = f.waiting new.id ∙ unqueued g.held new.id before in
       omega (arith, f.counted, is, open_moved h.held (new ∷ ws) xs m, open_cons h.held new ws, open_apart g h w new.id only ws none);
@@ -220,9 +224,10 @@ fits_pushed lost u v ws xs g h new w s p only before after m is f = record {
     at : (id : ObjectId) (c : Bool) → eq_by_cmp id_cmp id new.id ≡ c → waits_of (new ∷ ws) id ≡ queued_one h.held id
     at id true e =
         let same : id ≡ new.id = same_from id new.id e in
-        let unseen : has_mark 8 g.held id ≡ false = subst (λ i. has_mark 8 g.held i ≡ false) (sym same) before in
-        let seen : has_mark 8 h.held id ≡ true = subst (λ i. has_mark 8 h.held i ≡ true) (sym same) after in
-        let free : has_mark 16 h.held id ≡ false = lacked (has_mark 16 h.held id) (has_mark 8 g.held id) (λ t. f.taken id (p id t)) unseen in
+        let unseen : has_mark SEEN g.held id ≡ false = subst (λ i. has_mark SEEN g.held i ≡ false) (sym same) before in
+        let seen : has_mark SEEN h.held id ≡ true = subst (λ i. has_mark SEEN h.held i ≡ true) (sym same) after in
+        let free : has_mark POPPED h.held id ≡ false = lacked (has_mark POPPED h.held id) (has_mark SEEN g.held id) (λ t. f.taken id
+        (p id t)) unseen in
         let here : ◌≡◌ {A = ℕ} (waits_one new id) 1 = ap (λ c. cond {A = ℕ} c 1 0) e in
         let none : waits_of ws id ≡ 0 = f.waiting id ∙ unqueued g.held id unseen in
         omega (arith, waits_cons new ws id, queued h.held id seen free)
@@ -232,49 +237,57 @@ fits_pushed lost u v ws xs g h new w s p only before after m is f = record {
           arith,
           waits_cons new ws id,
           f.waiting id,
-          same_queued g h id (same_only 8 new.id g h w s id e) (same_none 16 g h w p id),
+          same_queued g h id (same_only SEEN new.id g h w s id e) (same_none POPPED g h w p id),
         )
 
 -- the first is taken
 pub fits_taken : (lost u v : ℕ) (ws : List Waiting) (g h : GraphData) (first : Waiting) → Grows g h → SeesNone g h → SettlesNone g h
-    → PopsOnly first.id g h → has_mark 16 h.held first.id ≡ true → v ≡ u - open_one g.held first.id
+    → PopsOnly first.id g h → has_mark POPPED h.held first.id ≡ true → v ≡ u - open_one g.held first.id
     → Fits lost u (first ∷ ws) g → Fits lost v ws h
 fits_taken lost u v ws g h first w s c p after is f = record {
   waiting = λ id. at id (eq_by_cmp id_cmp id first.id) refl;
-  taken = λ id t. ⊎_elim (λ was. w.marks 8 id (f.taken id was))
-      (λ e. w.marks 8 id (subst (λ i. has_mark 8 g.held i ≡ true) (sym (same_from id first.id e)) (first_seen ws g first f.waiting)))
-      (or_cases (has_mark 16 g.held id) (eq_by_cmp id_cmp id first.id) (p id t));
-  counted = omega (arith, f.counted, is, open_cons g.held first ws, open_kept g h (same_none 2 g h w c) ws);
+  taken = λ id t. ⊎_elim (λ was. w.marks SEEN id (f.taken id was))
+      (λ e. w.marks SEEN id (subst (λ i. has_mark SEEN g.held i ≡ true) (sym (same_from id first.id e)) (first_seen ws g first f.waiting)))
+      (or_cases (has_mark POPPED g.held id) (eq_by_cmp id_cmp id first.id) (p id t));
+  counted = omega (arith, f.counted, is, open_cons g.held first ws, open_kept g h (same_none COMMON g h w c) ws);
 }
   where
     at : (id : ObjectId) (c : Bool) → eq_by_cmp id_cmp id first.id ≡ c → waits_of ws id ≡ queued_one h.held id
     at id true e =
-        let popped : has_mark 16 h.held id ≡ true = subst (λ i. has_mark 16 h.held i ≡ true) (sym (same_from id first.id e)) after in
+        let popped : has_mark POPPED h.held id ≡ true = subst (λ i. has_mark POPPED h.held i ≡ true) (sym
+        (same_from id first.id e)) after in
         let here : ◌≡◌ {A = ℕ} (waits_one first id) 1 = ap (λ c. cond {A = ℕ} c 1 0) e in
-        omega (arith, waits_cons first ws id, f.waiting id, once_at (has_mark 8 g.held id) (has_mark 16 g.held id), spent h.held id popped)
+        omega (
+          arith,
+          waits_cons first ws id,
+          f.waiting id,
+          once_at (has_mark SEEN g.held id) (has_mark POPPED g.held id),
+          spent h.held id
+              popped,
+        )
     at id false e =
         let here : ◌≡◌ {A = ℕ} (waits_one first id) 0 = ap (λ c. cond {A = ℕ} c 1 0) e in
         omega (
           arith,
           waits_cons first ws id,
           f.waiting id,
-          same_queued g h id (same_none 8 g h w s id) (same_only 16 first.id g h w p id e),
+          same_queued g h id (same_none SEEN g h w s id) (same_only POPPED first.id g h w p id e),
         )
 
 -- one that had been taken doesn't wait
 pub fits_spent : (lost u v : ℕ) (ws : List Waiting) (g h : GraphData) (first : Waiting) → Grows g h → PopsNone g h
-    → (has_mark 8 h.held first.id ≡ true → has_mark 16 h.held first.id ≡ true) → Fits lost u (first ∷ ws) g → Fits lost v ws h
+    → (has_mark SEEN h.held first.id ≡ true → has_mark POPPED h.held first.id ≡ true) → Fits lost u (first ∷ ws) g → Fits lost v ws h
 fits_spent lost u v ws g h first w p taken f = absurd (true≢false
-    (sym (p first.id (taken (w.marks 8 first.id (first_seen ws g first f.waiting)))) ∙ first_left ws g first f.waiting))
+    (sym (p first.id (taken (w.marks SEEN first.id (first_seen ws g first f.waiting)))) ∙ first_left ws g first f.waiting))
 
 -- ---- what a step adds wasn't seen
 
-pub order_pushed : (ws xs : List Waiting) (g : GraphData) (new : Waiting) → has_mark 8 g.held new.id ≡ false
+pub order_pushed : (ws xs : List Waiting) (g : GraphData) (new : Waiting) → has_mark SEEN g.held new.id ≡ false
     → IsPermutation (new ∷ ws) xs → (f : GraphData) (time : ℤ) → Grows f g → NoneNewer time f ws → NoneNewer time f xs
 order_pushed ws xs g new unseen p f time w all =
-    All-permutation (λ (x : Waiting). has_mark 8 f.held x.id ≡ true → x.time ≤ℤ time) (new ∷ ws) xs p
-    (All-cons (λ (x : Waiting). has_mark 8 f.held x.id ≡ true → x.time ≤ℤ time) new ws
-    (λ e. absurd (true≢false (sym (w.marks 8 new.id e) ∙ unseen))) all)
+    All-permutation (λ (x : Waiting). has_mark SEEN f.held x.id ≡ true → x.time ≤ℤ time) (new ∷ ws) xs p
+    (All-cons (λ (x : Waiting). has_mark SEEN f.held x.id ≡ true → x.time ≤ℤ time) new ws
+    (λ e. absurd (true≢false (sym (w.marks SEEN new.id e) ∙ unseen))) all)
 
 pub times_pushed : (ws xs : List Waiting) (objects : Objects) (new : Waiting) → time_at objects new.id ≡ Some new.time
     → IsPermutation (new ∷ ws) xs → AllTimed objects ws → AllTimed objects xs
@@ -307,13 +320,13 @@ pub keeps_popped : (u : ℕ) (ws xs : List Waiting) (g : GraphData) (first : Wai
     → KeepsQueue u ws g u (first ∷ xs) g
 keeps_popped u ws xs g first p = record {
   fits = fits_popped 0 u ws xs g first p;
-  order = λ f time w all. All-permutation (λ (x : Waiting). has_mark 8 f.held x.id ≡ true → x.time ≤ℤ time) ws (first ∷ xs) p all;
+  order = λ f time w all. All-permutation (λ (x : Waiting). has_mark SEEN f.held x.id ≡ true → x.time ≤ℤ time) ws (first ∷ xs) p all;
 }
 
 -- ---- an end
 
 -- where none is counted, all are common
-common_at : (m : Commits) (ws : List Waiting) → open_in m ws ≤ 0 → (id : ObjectId) → 1 ≤ waits_of ws id → has_mark 2 m id ≡ true
+common_at : (m : Commits) (ws : List Waiting) → open_in m ws ≤ 0 → (id : ObjectId) → 1 ≤ waits_of ws id → has_mark COMMON m id ≡ true
 common_at m [] le id e = absurd (omega (arith, e, waits_nil id))
 common_at m (x ∷ xs) le id e = at (eq_by_cmp id_cmp id x.id) refl (common_at m xs)
   where
@@ -322,9 +335,9 @@ common_at m (x ∷ xs) le id e = at (eq_by_cmp id_cmp id x.id) refl (common_at m
     is_zero false le = absurd (omega (arith, le))
 
     at : (c : Bool) → eq_by_cmp id_cmp id x.id ≡ c
-        → (open_in m xs ≤ 0 → (q : ObjectId) → 1 ≤ waits_of xs q → has_mark 2 m q ≡ true) → has_mark 2 m id ≡ true
-    at true is more = subst (λ i. has_mark 2 m i ≡ true) (sym (same_from id x.id is))
-        (is_zero (has_mark 2 m x.id) (omega (arith, open_cons m x xs, le)))
+        → (open_in m xs ≤ 0 → (q : ObjectId) → 1 ≤ waits_of xs q → has_mark COMMON m q ≡ true) → has_mark COMMON m id ≡ true
+    at true is more = subst (λ i. has_mark COMMON m i ≡ true) (sym (same_from id x.id is))
+        (is_zero (has_mark COMMON m x.id) (omega (arith, open_cons m x xs, le)))
     at false is more =
         let here : ◌≡◌ {A = ℕ} (waits_one x id) 0 = ap (λ c. cond {A = ℕ} c 1 0) is in
         more (omega (arith, open_cons m x xs, le)) id (omega (arith, e, waits_cons x xs id))
@@ -338,11 +351,11 @@ none_waits lost u ws g e f = λ id seen kept. absurd (let none : waits_of ws id 
     omega (arith, f.waiting id, queued g.held id seen kept))
 
 -- where all are common, none is counted
-all_common_at : (m : Commits) (ws : List Waiting) → ((id : ObjectId) → 1 ≤ waits_of ws id → has_mark 2 m id ≡ true) → open_in m ws ≡ 0
+all_common_at : (m : Commits) (ws : List Waiting) → ((id : ObjectId) → 1 ≤ waits_of ws id → has_mark COMMON m id ≡ true) → open_in m ws ≡ 0
 all_common_at m [] all = open_nil m
 all_common_at m (x ∷ xs) all =
     let here : ◌≡◌ {A = ℕ} (waits_one x x.id) 1 = ap (λ c. cond {A = ℕ} c 1 0) (same_id x.id) in
-    let first : has_mark 2 m x.id ≡ true = all x.id (omega (arith, waits_cons x xs x.id)) in
+    let first : has_mark COMMON m x.id ≡ true = all x.id (omega (arith, waits_cons x xs x.id)) in
     let none : ◌≡◌ {A = ℕ} (open_one m x.id) 0 = ap (λ c. cond {A = ℕ} c 0 1) first in
     let rest : open_in m xs ≡ 0 = all_common_at m xs (λ id l. all id (omega (arith, waits_cons x xs id, l))) in
     omega (arith, open_cons m x xs)
@@ -351,7 +364,8 @@ pub none_counted : (u : ℕ) (ws : List Waiting) (g : GraphData) → Fits 0 u ws
 none_counted u ws g f all =
     let none : open_in g.held ws ≡ 0 = all_common_at g.held ws (λ id l.
     let much : 1 ≤ queued_one g.held id = omega (arith, l, f.waiting id) in
-    all id (seen_at (has_mark 8 g.held id) (has_mark 16 g.held id) much) (left_at (has_mark 8 g.held id) (has_mark 16 g.held id) much)) in
+    all id (seen_at (has_mark SEEN g.held id) (has_mark POPPED g.held id) much) (left_at (has_mark SEEN g.held id)
+    (has_mark POPPED g.held id) much)) in
     omega (arith, f.counted)
 
 -- ---- steps of one that has each wait under its own time
@@ -377,7 +391,7 @@ timed_grown u ws g h w s c p = timed_fits u u ws g h w (fits_grown 0 u ws g h w 
 
 -- one comes to wait that wasn't seen
 pub timed_pushed : (u v : ℕ) (ws xs : List Waiting) (g h : GraphData) (new : Waiting) → Grows g h → SeesOnly new.id g h
-    → PopsNone g h → SettlesOnly new.id g h → has_mark 8 g.held new.id ≡ false → has_mark 8 h.held new.id ≡ true
+    → PopsNone g h → SettlesOnly new.id g h → has_mark SEEN g.held new.id ≡ false → has_mark SEEN h.held new.id ≡ true
     → IsPermutation (new ∷ ws) xs → v ≡ u + open_one h.held new.id → time_at g.objects new.id ≡ Some new.time → KeepsTimed u ws g v xs h
 timed_pushed u v ws xs g h new w s pops only unseen seen p is time = record {
   keeps = record {
@@ -401,7 +415,7 @@ pub timed_taken : (u v : ℕ) (ws : List Waiting) (g h : GraphData) (first : Wai
 timed_taken u v ws g h first w fits = record {
   keeps = record {
     fits = fits;
-    order = λ f time z all. All-tail (λ (x : Waiting). has_mark 8 f.held x.id ≡ true → x.time ≤ℤ time) first ws all;
+    order = λ f time z all. All-tail (λ (x : Waiting). has_mark SEEN f.held x.id ≡ true → x.time ≤ℤ time) first ws all;
   };
   timed = λ all. subst (λ o. AllTimed o ws) (sym w.objects) (All-tail (λ (x : Waiting). time_at g.objects x.id ≡ Some x.time) first ws all);
 }
@@ -410,29 +424,29 @@ timed_taken u v ws g h first w fits = record {
 
 -- a commit became common: it isn't counted any more, where it waits
 settled_at : (u v : ℕ) (g h : GraphData) (id : ObjectId) (flags : Flags) (seen taken : Bool)
-    → has_all 8 flags.0 ≡ seen → has_all 16 flags.0 ≡ taken → Claims 2 g h id flags
-    → (has_all 8 flags.0 ≡ true → has_all 16 flags.0 ≡ false → v ≡ u - 1) → (has_all 8 flags.0 ≡ false → v ≡ u)
-    → (has_all 16 flags.0 ≡ true → v ≡ u) → v ≡ u - queued_one g.held id
+    → has_all SEEN flags.0 ≡ seen → has_all POPPED flags.0 ≡ taken → Claims COMMON g h id flags
+    → (has_all SEEN flags.0 ≡ true → has_all POPPED flags.0 ≡ false → v ≡ u - 1) → (has_all SEEN flags.0 ≡ false → v ≡ u)
+    → (has_all POPPED flags.0 ≡ true → v ≡ u) → v ≡ u - queued_one g.held id
 settled_at u v g h id flags true false a b k waits unseen taken =
-    omega (arith, waits a b, queued g.held id (k.was 8 refl a) (k.lacks 16 b))
-settled_at u v g h id flags true true a b k waits unseen taken = omega (arith, taken b, spent g.held id (k.was 16 refl b))
-settled_at u v g h id flags false b a e k waits unseen taken = omega (arith, unseen a, unqueued g.held id (k.lacks 8 a))
+    omega (arith, waits a b, queued g.held id (k.was SEEN refl a) (k.lacks POPPED b))
+settled_at u v g h id flags true true a b k waits unseen taken = omega (arith, taken b, spent g.held id (k.was POPPED refl b))
+settled_at u v g h id flags false b a e k waits unseen taken = omega (arith, unseen a, unqueued g.held id (k.lacks SEEN a))
 
-pub settled : (u v : ℕ) (ws : List Waiting) (g h : GraphData) (id : ObjectId) (flags : Flags) → Claims 2 g h id flags → Grows g h
+pub settled : (u v : ℕ) (ws : List Waiting) (g h : GraphData) (id : ObjectId) (flags : Flags) → Claims COMMON g h id flags → Grows g h
     → SeesNone g h → PopsNone g h → SettlesOnly id g h
-    → (has_all 8 flags.0 ≡ true → has_all 16 flags.0 ≡ false → v ≡ u - 1) → (has_all 8 flags.0 ≡ false → v ≡ u)
-    → (has_all 16 flags.0 ≡ true → v ≡ u) → Fits 0 u ws g → Fits 0 v ws h
+    → (has_all SEEN flags.0 ≡ true → has_all POPPED flags.0 ≡ false → v ≡ u - 1) → (has_all SEEN flags.0 ≡ false → v ≡ u)
+    → (has_all POPPED flags.0 ≡ true → v ≡ u) → Fits 0 u ws g → Fits 0 v ws h
 settled u v ws g h id flags k w s p only waits unseen taken = fits_common 0 u v ws g h id w s p only k.before k.after
-    (settled_at u v g h id flags (has_all 8 flags.0) (has_all 16 flags.0) refl refl k waits unseen taken)
+    (settled_at u v g h id flags (has_all SEEN flags.0) (has_all POPPED flags.0) refl refl k waits unseen taken)
 
 -- one that comes to wait is counted, unless it is common
-pub admitted : (u v : ℕ) (m : Commits) (id : ObjectId) (common : Bool) → has_mark 2 m id ≡ common
+pub admitted : (u v : ℕ) (m : Commits) (id : ObjectId) (common : Bool) → has_mark COMMON m id ≡ common
     → (common ≡ true → v ≡ u) → (common ≡ false → v ≡ u + 1) → v ≡ u + open_one m id
 admitted u v m id true is none one = let e : ◌≡◌ {A = ℕ} (open_one m id) 0 = ap (λ c. cond {A = ℕ} c 0 1) is in omega (arith, none refl)
 admitted u v m id false is none one = let e : ◌≡◌ {A = ℕ} (open_one m id) 1 = ap (λ c. cond {A = ℕ} c 0 1) is in omega (arith, one refl)
 
 -- one that is taken isn't counted any more, unless it is common
-pub released : (u v : ℕ) (m : Commits) (id : ObjectId) (common : Bool) → has_mark 2 m id ≡ common
+pub released : (u v : ℕ) (m : Commits) (id : ObjectId) (common : Bool) → has_mark COMMON m id ≡ common
     → (common ≡ true → v ≡ u) → (common ≡ false → v ≡ u - 1) → v ≡ u - open_one m id
 released u v m id true is none one = let e : ◌≡◌ {A = ℕ} (open_one m id) 0 = ap (λ c. cond {A = ℕ} c 0 1) is in omega (arith, none refl)
 released u v m id false is none one = let e : ◌≡◌ {A = ℕ} (open_one m id) 1 = ap (λ c. cond {A = ℕ} c 0 1) is in omega (arith, one refl)
@@ -462,46 +476,47 @@ newest_at g l ws xs ys first w timed p n order time is =
     (All-permutation (λ (x : Waiting). time_at l.objects x.id ≡ Some x.time) ws (first ∷ xs) p timed) in
     let same : first.time ≡ time = some_same first.time time (sym own ∙ ap (λ (o : Objects). time_at o first.id) w.objects ∙ is) in
     order g time w
-    (All-cons (λ (x : Waiting). has_mark 8 g.held x.id ≡ true → x.time ≤ℤ time) first xs
+    (All-cons (λ (x : Waiting). has_mark SEEN g.held x.id ≡ true → x.time ≤ℤ time) first xs
     (λ s. subst (λ (z : ℤ). first.time ≤ℤ z) same (itself first.time))
-    (All-weaker (λ (x : Waiting). x.time ≤ℤ first.time) (λ (x : Waiting). has_mark 8 g.held x.id ≡ true → x.time ≤ℤ time)
+    (All-weaker (λ (x : Waiting). x.time ≤ℤ first.time) (λ (x : Waiting). has_mark SEEN g.held x.id ≡ true → x.time ≤ℤ time)
     (λ x le s. subst (λ (z : ℤ). x.time ≤ℤ z) same le) xs n.newest))
 
 -- ---- steps of one that counts all that wait
 
 -- one comes to wait, and is counted
 pub fits_admitted : (u v : ℕ) (ws xs : List Waiting) (g h : GraphData) (new : Waiting) → IsPermutation (new ∷ ws) xs → (id : ObjectId)
-    → new.id ≡ id → Grows g h → SeesOnly id g h → PopsNone g h → SettlesNone g h → has_mark 8 g.held id ≡ false
-    → has_mark 8 h.held id ≡ true → v ≡ u + 1 → (lost : ℕ) → FitsSeen lost u ws g → FitsSeen lost v xs h
+    → new.id ≡ id → Grows g h → SeesOnly id g h → PopsNone g h → SettlesNone g h → has_mark SEEN g.held id ≡ false
+    → has_mark SEEN h.held id ≡ true → v ≡ u + 1 → (lost : ℕ) → FitsSeen lost u ws g → FitsSeen lost v xs h
 fits_admitted u v ws xs g h new p id is w s pops none before after count lost f = record {
   fits = fits_pushed lost u v ws xs g h new w (subst (λ i. SeesOnly i g h) (sym is) s) pops
-      (λ q m. or_left (has_mark 2 g.held q) (eq_by_cmp id_cmp q new.id) (none q m)) unseen
-      (subst (λ i. has_mark 8 h.held i ≡ true) (sym is) after) p
+      (λ q m. or_left (has_mark COMMON g.held q) (eq_by_cmp id_cmp q new.id) (none q m)) unseen
+      (subst (λ i. has_mark SEEN h.held i ≡ true) (sym is) after) p
       (let e : ◌≡◌ {A = ℕ} (open_one h.held new.id) 1 = ap (λ c. cond {A = ℕ} c 0 1) lone in omega (arith, count)) f.fits;
-  seen = λ q m. w.marks 8 q (f.seen q (none q m));
+  seen = λ q m. w.marks SEEN q (f.seen q (none q m));
 }
   where
-    unseen : has_mark 8 g.held new.id ≡ false
-    unseen = subst (λ i. has_mark 8 g.held i ≡ false) (sym is) before
+    unseen : has_mark SEEN g.held new.id ≡ false
+    unseen = subst (λ i. has_mark SEEN g.held i ≡ false) (sym is) before
 
-    lone : has_mark 2 h.held new.id ≡ false
-    lone = lacked (has_mark 2 h.held new.id) (has_mark 8 g.held new.id) (λ m. f.seen new.id (none new.id m)) unseen
+    lone : has_mark COMMON h.held new.id ≡ false
+    lone = lacked (has_mark COMMON h.held new.id) (has_mark SEEN g.held new.id) (λ m. f.seen new.id (none new.id m)) unseen
 
 pub seen_grown : (lost u : ℕ) (ws : List Waiting) (g h : GraphData) → Grows g h → SeesNone g h → SettlesNone g h → PopsNone g h
     → FitsSeen lost u ws g → FitsSeen lost u ws h
 seen_grown lost u ws g h w s c p f =
-    record { fits = fits_grown lost u ws g h w s c p f.fits; seen = λ q m. w.marks 8 q (f.seen q (c q m)) }
+    record { fits = fits_grown lost u ws g h w s c p f.fits; seen = λ q m. w.marks SEEN q (f.seen q (c q m)) }
 
 pub seen_taken : (lost u v : ℕ) (ws : List Waiting) (g h : GraphData) (first : Waiting) → Grows g h → SeesNone g h → SettlesNone g h
-    → PopsOnly first.id g h → has_mark 16 h.held first.id ≡ true → v ≡ u - open_one g.held first.id
+    → PopsOnly first.id g h → has_mark POPPED h.held first.id ≡ true → v ≡ u - open_one g.held first.id
     → FitsSeen lost u (first ∷ ws) g → FitsSeen lost v ws h
 seen_taken lost u v ws g h first w s c p after is f =
-    record { fits = fits_taken lost u v ws g h first w s c p after is f.fits; seen = λ q m. w.marks 8 q (f.seen q (c q m)) }
+    record { fits = fits_taken lost u v ws g h first w s c p after is f.fits; seen = λ q m. w.marks SEEN q (f.seen q (c q m)) }
 
 pub seen_spent : (lost u v : ℕ) (ws : List Waiting) (g h : GraphData) (first : Waiting) → Grows g h → PopsNone g h
-    → (has_mark 8 h.held first.id ≡ true → has_mark 16 h.held first.id ≡ true) → FitsSeen lost u (first ∷ ws) g → FitsSeen lost v ws h
+    → (has_mark SEEN h.held first.id ≡ true → has_mark POPPED h.held first.id ≡ true) → FitsSeen lost u (first ∷ ws) g
+    → FitsSeen lost v ws h
 seen_spent lost u v ws g h first w p taken f = absurd (true≢false
-    (sym (p first.id (taken (w.marks 8 first.id (first_seen ws g first f.fits.waiting)))) ∙ first_left ws g first f.fits.waiting))
+    (sym (p first.id (taken (w.marks SEEN first.id (first_seen ws g first f.fits.waiting)))) ∙ first_left ws g first f.fits.waiting))
 
 pub seen_popped : (lost u : ℕ) (ws xs : List Waiting) (g : GraphData) (first : Waiting) → IsPermutation ws (first ∷ xs)
     → FitsSeen lost u ws g → FitsSeen lost u (first ∷ xs) g
@@ -568,7 +583,7 @@ queues_on ws ys xs g h v a b = record {
 }
 
 -- one comes that wasn't seen
-pub queues_pushed : (ws xs : List Waiting) (g : GraphData) (new : Waiting) → has_mark 8 g.held new.id ≡ false
+pub queues_pushed : (ws xs : List Waiting) (g : GraphData) (new : Waiting) → has_mark SEEN g.held new.id ≡ false
     → IsPermutation (new ∷ ws) xs → IsDated g new → QueuesNew ws g xs
 queues_pushed ws xs g new unseen p d = record {
   order = order_pushed ws xs g new unseen p;
@@ -595,8 +610,8 @@ shown_some (Some h) = refl
 -- the first is taken
 pub queues_taken : (ws xs : List Waiting) (g : GraphData) (first : Waiting) → IsPermutation ws (first ∷ xs) → QueuesNew ws g xs
 queues_taken ws xs g first p = record {
-  order = λ f time v all. All-tail (λ (w : Waiting). has_mark 8 f.held w.id ≡ true → w.time ≤ℤ time) first xs
-      (All-permutation (λ (w : Waiting). has_mark 8 f.held w.id ≡ true → w.time ≤ℤ time) ws (first ∷ xs) p all);
+  order = λ f time v all. All-tail (λ (w : Waiting). has_mark SEEN f.held w.id ≡ true → w.time ≤ℤ time) first xs
+      (All-permutation (λ (w : Waiting). has_mark SEEN f.held w.id ≡ true → w.time ≤ℤ time) ws (first ∷ xs) p all);
   dated = All-tail (λ (w : Waiting). Contains ws w ⊎ IsDated g w) first xs
       (All-permutation (λ (w : Waiting). Contains ws w ⊎ IsDated g w) ws (first ∷ xs) p
       (All-weaker (Contains ws) (λ (w : Waiting). Contains ws w ⊎ IsDated g w) (λ w c. inl c) ws (All-contains_itself ws)));
@@ -611,5 +626,5 @@ newest_in us ws xs ys g l first v q p n step = (
   All-head (λ (w : Waiting). Contains us w ⊎ IsDated g w) first xs
       (All-permutation (λ (w : Waiting). Contains us w ⊎ IsDated g w) ws (first ∷ xs) p q.dated),
   step.order g first.time v (All-weaker (λ (w : Waiting). w.time ≤ℤ first.time)
-      (λ (w : Waiting). has_mark 8 g.held w.id ≡ true → w.time ≤ℤ first.time) (λ w le s. le) xs n.newest),
+      (λ (w : Waiting). has_mark SEEN g.held w.id ≡ true → w.time ≤ℤ first.time) (λ w le s. le) xs n.newest),
 )

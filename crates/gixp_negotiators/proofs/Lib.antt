@@ -1,4 +1,5 @@
 pub mod FitLemmas
+pub mod FromLemmas
 pub mod GrowLemmas
 pub mod LookLemmas
 pub mod OweLemmas

@@ -6,8 +6,8 @@ use Rattle.gixp_graph.specs.GraphData.{GraphData}
 use Rattle.gixp_negotiators.specs.declared.consecutive.Consecutive.{Consecutive}
 use Rattle.gixp_negotiators.specs.declared.queue.Waiting.{Waiting}
 use Rattle.gixp_negotiators.specs.declared.skipping.Skipping.{Skipping}
-use Rattle.gixp_negotiators.specs.Marks.{Grows, Offers, SeesNone, SeesOnly, SettlesNone, ListsNone, ListsOnly, PopsNone, StaysIfSeen, IsMarkedIfThere, IsListedIfNew, has_mark}
-use Rattle.gixp_negotiators.specs.Spread.{is_there, was_seen, WhereNew, HasCommonParents, StaysSpread, Spreads, AllRead, AllHeld, MarksThrough, SeesCommon, SeesAmong, FindsCommon}
+use Rattle.gixp_negotiators.specs.Marks.{COMMON, SEEN, Grows, Offers, SeesNone, SeesOnly, SettlesNone, ListsNone, ListsOnly, PopsNone, StaysIfSeen, IsMarkedIfThere, IsListedIfNew, has_mark}
+use Rattle.gixp_negotiators.specs.Spread.{is_there, was_seen, WhereNew, HasCommonParents, StaysSpread, Spreads, AllRead, AllHeld, MarksThrough, SettlesFrom, SeesCommon, SeesAmong, FindsCommon}
 use Rattle.gixp_negotiators.specs.Passing.{Distances}
 use Rattle.gixp_negotiators.specs.Waiting.{FitsSeen, KeepsTimed, KeepsCount, Picks, EndsAtOnce, QueuesNew, PicksDated, KeepsUnread, IsUnreadIfNew}
 
@@ -22,15 +22,16 @@ abbrev pub StepsTaking : Waiting → Consecutive → GraphData → Consecutive �
 StepsTaking first n g m h = KeepsTimed n.uncommon (first ∷ heap_items n.queue.waiting) g m.uncommon (heap_items m.queue.waiting) h
 
 -- what `known_common` does: the commit waits, and is listed as a ref of the server, which no other is; its parents are common, unless it
--- is so itself; what else comes to wait is common
+-- is so itself; what else comes to wait is common, and only it and its ancestors become so
 pub record KnowsInTurn (n : Consecutive) (g : GraphData) (id : ObjectId) (m : Consecutive) (h : GraphData) : Type 0 where
   pub grows : Grows g h
-  pub seen : IsMarkedIfThere 8 g h id
+  pub seen : IsMarkedIfThere SEEN g h id
   pub listed : IsListedIfNew g h id
   pub lists : ListsOnly id g h
   pub pops : PopsNone g h
   pub parents : WhereNew g id (HasCommonParents is_there g h id)
   pub finds : SeesAmong (id ∷ []) g h
+  pub only : SettlesFrom id g h
   pub spreads : StaysSpread is_there g h
   pub again : StaysIfSeen n g id m h
   pub steps : Steps n g m h
@@ -38,7 +39,7 @@ pub record KnowsInTurn (n : Consecutive) (g : GraphData) (id : ObjectId) (m : Co
 -- what `add_tip` does: the commit waits and no other comes to; none becomes common, and none is listed as a ref of the server
 pub record AddsInTurn (n : Consecutive) (g : GraphData) (id : ObjectId) (m : Consecutive) (h : GraphData) : Type 0 where
   pub grows : Grows g h
-  pub seen : IsMarkedIfThere 8 g h id
+  pub seen : IsMarkedIfThere SEEN g h id
   pub sees : SeesOnly id g h
   pub settles : SettlesNone g h
   pub unlisted : ListsNone g h
@@ -46,12 +47,13 @@ pub record AddsInTurn (n : Consecutive) (g : GraphData) (id : ObjectId) (m : Con
   pub again : StaysIfSeen n g id m h
   pub steps : Steps n g m h
 
--- what `in_common_with_remote` does: the commit is common, and of each that was seen and became common the parents are; what comes to
--- wait is common
+-- what `in_common_with_remote` does: the commit is common, and of each that was seen and became common the parents are; only it and its
+-- ancestors become so; what comes to wait is common
 pub record LearnsInTurn (n : Consecutive) (g : GraphData) (id : ObjectId) (m : Consecutive) (h : GraphData) : Type 0 where
   pub grows : Grows g h
-  pub common : IsMarkedIfThere 2 g h id
+  pub common : IsMarkedIfThere COMMON g h id
   pub finds : SeesCommon g h
+  pub only : SettlesFrom id g h
   pub unlisted : ListsNone g h
   pub pops : PopsNone g h
   pub spreads : StaysSpread is_there g h
@@ -95,7 +97,7 @@ QueuesDated n g m = QueuesNew (heap_items n.queue.waiting) g (heap_items m.queue
 -- what `known_common` does: the commit waits, and is listed as a ref of the server; no other is
 pub record KnowsSkipping (n : Skipping) (g : GraphData) (id : ObjectId) (m : Skipping) (h : GraphData) : Type 0 where
   pub grows : Grows g h
-  pub seen : IsMarkedIfThere 8 g h id
+  pub seen : IsMarkedIfThere SEEN g h id
   pub sees : SeesOnly id g h
   pub listed : IsListedIfNew g h id
   pub lists : ListsOnly id g h
@@ -111,7 +113,7 @@ pub record KnowsSkipping (n : Skipping) (g : GraphData) (id : ObjectId) (m : Ski
 -- what `add_tip` does: the commit waits and no other comes to; none becomes common, and none is listed as a ref of the server
 pub record AddsSkipping (n : Skipping) (g : GraphData) (id : ObjectId) (m : Skipping) (h : GraphData) : Type 0 where
   pub grows : Grows g h
-  pub seen : IsMarkedIfThere 8 g h id
+  pub seen : IsMarkedIfThere SEEN g h id
   pub sees : SeesOnly id g h
   pub settles : SettlesNone g h
   pub unlisted : ListsNone g h
@@ -127,7 +129,7 @@ pub record AddsSkipping (n : Skipping) (g : GraphData) (id : ObjectId) (m : Skip
 -- were seen are, unless one of these commits wasn't read yet. No other becomes common: marking doesn't go through what wasn't read
 pub record LearnsSkipping (n : Skipping) (g : GraphData) (id : ObjectId) (m : Skipping) (h : GraphData) : Type 0 where
   pub grows : Grows g h
-  pub common : has_mark 8 g.held id ≡ true → has_mark 2 h.held id ≡ true
+  pub common : has_mark SEEN g.held id ≡ true → has_mark COMMON h.held id ≡ true
   pub spreads : AllRead n.unread g h → Spreads was_seen g h
   pub through : MarksThrough n.unread g id h
   pub sees : SeesNone g h

@@ -12,3 +12,4 @@ pub mod Passing
 pub mod Spread
 pub mod SpreadLaws
 pub mod Waiting
+pub mod WaitingLaws

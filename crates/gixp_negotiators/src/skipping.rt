@@ -11,7 +11,7 @@ ghost use Rattle.gixp_graph.specs.Object.{commit_at};
 ghost use Rattle.gixp_graph.specs.GraphData.{GraphData, parents_in};
 ghost use Rattle.gixp_negotiators.specs.declared.queue.Waiting.{Waiting};
 ghost use Rattle.gixp_graph.specs.Negotiation.{IsMemory, IsRefusal};
-ghost use Rattle.gixp_negotiators.specs.Marks.{Grows, SeesNone, SeesOnly, SettlesNone, ListsNone, ListsOnly, PopsNone, StaysIfSeen, IsOffered, IsMarkedIfThere, IsListedIfNew, has_all, has_mark, left};
+ghost use Rattle.gixp_negotiators.specs.Marks.{COMMON, COMMON_REF, SEEN, POPPED, Grows, SeesNone, SeesOnly, SettlesNone, ListsNone, ListsOnly, PopsNone, StaysIfSeen, IsOffered, IsMarkedIfThere, IsListedIfNew, has_all, has_mark, left};
 ghost use Rattle.gixp_negotiators.specs.Spread.{was_seen, BecomesCommon, KeepsSpread, SpreadsFrom, StaysNewly, AllRead, AllHeld, MarksThrough, SettlesAmong, Spreads};
 ghost use Rattle.gixp_negotiators.specs.Waiting.{FitsOwing, AllCommon, IsNewest, IsNewestIn, QueuesNew, KeepsUnread, IsUnreadIfNew};
 ghost use Rattle.gixp_negotiators.specs.Calls.{FitsSkipping, CountsStill, CountsTaking, CountsAll};
@@ -19,7 +19,7 @@ ghost use Rattle.gixp_negotiators.specs.declared.skipping.Legacy.TheVariants.{Co
 ghost use Rattle.gixp_negotiators.specs.Distance.{distance_after, skip_of};
 ghost use Rattle.gixp_negotiators.specs.Passing.{skip_in, HandsOne, Hands, AllTaken, Takes, Distances};
 
-use crate::marks::{add, claim, has, is_marked};
+use crate::marks::{SEEN_REF, add, claim, has, is_marked};
 use crate::queue::{Queue, Waiting};
 use gixp_graph::{Flags, Graph, Negotiator, NegotiatorError, Objects};
 use gixp_hash::ObjectId;
@@ -87,17 +87,17 @@ impl Skipping {
         id: &ObjectId,
         marks: Flags,
     ) -> Result<(), NegotiatorError>
-        requires { (marks.0 ≡ 8) ⊎ (marks.0 ≡ 12) }
+        requires { (marks.0 ≡ SEEN) ⊎ (marks.0 ≡ SEEN + COMMON_REF) }
         ensures fits { OnOk result (CountsAll self.old graph.old.graph self.new graph.new.graph) }
-        ensures room { OnOk result (left 8 graph.new.graph + heap_len self.new.queue.waiting
-            ≤ left 8 graph.old.graph + heap_len self.old.queue.waiting) }
-        ensures waits { OnOk result (IsMarkedIfThere 8 graph.old.graph graph.new.graph id.now) }
-        ensures listed { OnOk result (bit_and marks.0 4 ≡ 4 → IsListedIfNew graph.old.graph graph.new.graph id.now) }
+        ensures room { OnOk result (left SEEN graph.new.graph + heap_len self.new.queue.waiting
+            ≤ left SEEN graph.old.graph + heap_len self.old.queue.waiting) }
+        ensures waits { OnOk result (IsMarkedIfThere SEEN graph.old.graph graph.new.graph id.now) }
+        ensures listed { OnOk result (bit_and marks.0 COMMON_REF ≡ COMMON_REF → IsListedIfNew graph.old.graph graph.new.graph id.now) }
         ensures settles { SettlesNone graph.old.graph graph.new.graph }
         ensures queues { OnOk result (QueuesNew (heap_items self.old.queue.waiting) graph.old.graph (heap_items self.new.queue.waiting)) }
         ensures skips { OnOk result (self.new.skips ≡ self.old.skips) }
         ensures sees { SeesOnly id.now graph.old.graph graph.new.graph }
-        ensures lists { OnOk result (bit_and marks.0 4 ≡ 0 → ListsNone graph.old.graph graph.new.graph) }
+        ensures lists { OnOk result (bit_and marks.0 COMMON_REF ≡ 0 → ListsNone graph.old.graph graph.new.graph) }
         ensures lists_only { OnOk result (ListsOnly id.now graph.old.graph graph.new.graph) }
         ensures pops { OnOk result (PopsNone graph.old.graph graph.new.graph) }
         ensures unread { OnOk result (KeepsUnread self.old.unread graph.old.graph self.new.unread graph.new.graph) }
@@ -108,7 +108,7 @@ impl Skipping {
         ensures failed { IfErr result (IsRefusal 0 0 graph.old.failures graph.new.failures) }
     {
         let is_read = graph.get(id).is_some();
-        let Some((time, _)) = claim(graph, id, Flags(8), marks)? else {
+        let Some((time, _)) = claim(graph, id, Flags::SEEN, marks)? else {
             return Ok(());
         };
         self.admit()?;
@@ -173,8 +173,9 @@ impl Skipping {
     ) -> Result<(), NegotiatorError>
         ensures fits { OnOk result ((lost u : ℕ) (ws : List Waiting) → FitsOwing lost u ws graph.old.graph due.old.items
             → FitsOwing lost u ws graph.new.graph due.new.items) }
-        ensures less { OnOk result (left 2 graph.new.graph + length due.new.items ≤ left 2 graph.old.graph + length due.old.items) }
-        ensures seen { left 8 graph.new.graph ≤ left 8 graph.old.graph }
+        ensures less { OnOk result (left COMMON graph.new.graph + length due.new.items ≤ left COMMON graph.old.graph + length
+            due.old.items) }
+        ensures seen { left SEEN graph.new.graph ≤ left SEEN graph.old.graph }
         ensures spreads { OnOk result (SpreadsFrom was_seen id.now due.old.items graph.old.graph due.new.items graph.new.graph) }
         ensures newly { OnOk result (StaysNewly due.old.items graph.old.graph due.new.items graph.new.graph) }
         ensures among { OnOk result (SettlesAmong (parents_in graph.old.graph.held id.now) graph.old.graph graph.new.graph) }
@@ -211,8 +212,9 @@ impl Skipping {
     ) -> Result<(), NegotiatorError>
         ensures fits { OnOk result (CountsStill (AllRead self.old.unread graph.old.graph graph.new.graph)
             self.old graph.old.graph self.new graph.new.graph) }
-        ensures common { OnOk result (has_mark 8 graph.old.graph.held id.now ≡ true → has_mark 2 graph.new.graph.held id.now ≡ true) }
-        ensures seen { left 8 graph.new.graph ≤ left 8 graph.old.graph }
+        ensures common { OnOk result (has_mark SEEN graph.old.graph.held id.now ≡ true → has_mark COMMON graph.new.graph.held id.now ≡
+            true) }
+        ensures seen { left SEEN graph.new.graph ≤ left SEEN graph.old.graph }
         ensures queue { self.new.queue ≡ self.old.queue }
         ensures skips { self.new.skips ≡ self.old.skips }
         ensures spreads { OnOk result (AllRead self.old.unread graph.old.graph graph.new.graph
@@ -229,7 +231,7 @@ impl Skipping {
         let mut due = Vec::new(self.alloc);
         reach(graph, id, &mut due)?;
         while let Some(next) = due.pop() {
-            self.discount(is_marked(graph, &next, Flags(16)));
+            self.discount(is_marked(graph, &next, Flags::POPPED));
             if self.unread.contains(&next) {
                 return Ok(());
             }
@@ -272,7 +274,7 @@ impl Skipping {
     ) -> Result<(), NegotiatorError>
         ensures fits { OnOk result (CountsStill (AllRead self.old.unread graph.old.graph graph.new.graph)
             self.old graph.old.graph self.new graph.new.graph) }
-        ensures seen { left 8 graph.new.graph ≤ left 8 graph.old.graph }
+        ensures seen { left SEEN graph.new.graph ≤ left SEEN graph.old.graph }
         ensures queue { self.new.queue ≡ self.old.queue }
         ensures hands { OnOk result (HandsOne legacy id.now self.old.skips.entries self.new.skips.entries) }
         ensures settles { legacy ≢ Common → OnOk result (SettlesNone graph.old.graph graph.new.graph) }
@@ -305,11 +307,11 @@ impl Skipping {
     ) -> Result<bool, NegotiatorError>
         ensures fits { OnOk result (CountsStill (AllHeld self.old.unread graph.old.graph graph.new.graph)
             self.old graph.old.graph self.new graph.new.graph) }
-        ensures room { OnOk result (left 8 graph.new.graph + heap_len self.new.queue.waiting
-            ≤ left 8 graph.old.graph + heap_len self.old.queue.waiting) }
-        ensures waits { OnOk result (IsMarkedIfThere 8 graph.old.graph graph.new.graph parent.now) }
-        ensures left { IfOk result (λ waits. waits ≡ true → has_mark 16 graph.new.graph.held parent.now ≡ false) }
-        ensures taken { IfOk result (λ waits. waits ≡ false → has_mark 16 graph.new.graph.held parent.now ≡ true) }
+        ensures room { OnOk result (left SEEN graph.new.graph + heap_len self.new.queue.waiting
+            ≤ left SEEN graph.old.graph + heap_len self.old.queue.waiting) }
+        ensures waits { OnOk result (IsMarkedIfThere SEEN graph.old.graph graph.new.graph parent.now) }
+        ensures left { IfOk result (λ waits. waits ≡ true → has_mark POPPED graph.new.graph.held parent.now ≡ false) }
+        ensures taken { IfOk result (λ waits. waits ≡ false → has_mark POPPED graph.new.graph.held parent.now ≡ true) }
         ensures hands { OnOk result (Hands legacy (parent.now ∷ []) graph.new.graph self.old.skips.entries self.new.skips.entries) }
         ensures queues { OnOk result (QueuesNew (heap_items self.old.queue.waiting) graph.old.graph (heap_items self.new.queue.waiting)) }
         ensures settles { legacy ≢ Common → OnOk result (SettlesNone graph.old.graph graph.new.graph) }
@@ -320,8 +322,8 @@ impl Skipping {
         ensures failures { graph.old.failures ≤ graph.new.failures }
         ensures failed { IfErr result (IsRefusal 0 0 graph.old.failures graph.new.failures) }
     {
-        self.push(graph, parent, Flags(8))?;
-        if is_marked(graph, parent, Flags(16)) {
+        self.push(graph, parent, Flags::SEEN)?;
+        if is_marked(graph, parent, Flags::POPPED) {
             return Ok(false);
         }
         self.pass(graph, parent, legacy)?;
@@ -337,9 +339,9 @@ impl Skipping {
     ) -> Result<bool, NegotiatorError>
         ensures fits { OnOk result (CountsStill (AllHeld self.old.unread graph.old.graph graph.new.graph)
             self.old graph.old.graph self.new graph.new.graph) }
-        ensures room { OnOk result (left 8 graph.new.graph + heap_len self.new.queue.waiting
-            ≤ left 8 graph.old.graph + heap_len self.old.queue.waiting) }
-        ensures waits { OnOk result (All (IsMarkedIfThere 8 graph.old.graph graph.new.graph) parents.now) }
+        ensures room { OnOk result (left SEEN graph.new.graph + heap_len self.new.queue.waiting
+            ≤ left SEEN graph.old.graph + heap_len self.old.queue.waiting) }
+        ensures waits { OnOk result (All (IsMarkedIfThere SEEN graph.old.graph graph.new.graph) parents.now) }
         ensures left { IfOk result (λ any. any ≡ true → AllTaken graph.new.graph parents.now → ⊥) }
         ensures taken { IfOk result (λ any. any ≡ false → AllTaken graph.new.graph parents.now) }
         ensures hands { OnOk result (Hands legacy parents.now graph.new.graph self.old.skips.entries self.new.skips.entries) }
@@ -371,8 +373,8 @@ impl Skipping {
         ensures offered { IfOk result (λ offered. IsTrue offered → IsOffered graph.old.graph graph.new.graph first.now.id) }
         ensures takes { IfOk result
             (λ offered. Takes self.old.skips.entries graph.old.graph first.now.id offered self.new.skips.entries graph.new.graph) }
-        ensures room { OnOk result (left 8 graph.new.graph + heap_len self.new.queue.waiting
-            ≤ left 8 graph.old.graph + heap_len self.old.queue.waiting) }
+        ensures room { OnOk result (left SEEN graph.new.graph + heap_len self.new.queue.waiting
+            ≤ left SEEN graph.old.graph + heap_len self.old.queue.waiting) }
         ensures queues { OnOk result (QueuesNew (heap_items self.old.queue.waiting) graph.old.graph (heap_items self.new.queue.waiting)) }
         ensures lists { OnOk result (ListsNone graph.old.graph graph.new.graph) }
         ensures unread { OnOk result (KeepsUnread self.old.unread graph.old.graph self.new.unread graph.new.graph) }
@@ -380,12 +382,12 @@ impl Skipping {
         ensures failures { graph.old.failures ≤ graph.new.failures }
         ensures failed { IfErr result (IsRefusal 0 0 graph.old.failures graph.new.failures) }
     {
-        let Some((_, flags)) = claim(graph, &first.id, Flags(16), Flags(16))? else {
+        let Some((_, flags)) = claim(graph, &first.id, Flags::POPPED, Flags::POPPED)? else {
             return Ok(false);
         };
         self.unread.remove(&first.id);
         let skip = self.skip_of(&first.id);
-        let is_common = has(flags, Flags(2));
+        let is_common = has(flags, Flags::COMMON);
         self.discount(is_common);
         let parents = self.parents_of(graph, &first.id)?;
         let any = self.follow_all(graph, &parents, legacy_of(flags, skip))?;
@@ -421,7 +423,8 @@ impl Skipping {
             (λ id. IsNewestIn (heap_items self.old.queue.waiting) graph.old.graph id (heap_items self.new.queue.waiting))) }
         ensures distances { IfOk result (λ have.
             Distances self.old.skips.entries graph.old.graph have self.new.skips.entries graph.new.graph) }
-        ensures none { IfOk result (λ have. IfNone have ((lost : ℕ) → FitsSkipping lost self.old graph.old.graph → AllCommon graph.new.graph)) }
+        ensures none { IfOk result (λ have. IfNone have ((lost : ℕ) → FitsSkipping lost self.old graph.old.graph
+            → AllCommon graph.new.graph)) }
         ensures fits { OnOk result (CountsStill (AllHeld self.old.unread graph.old.graph graph.new.graph)
             self.old graph.old.graph self.new graph.new.graph) }
         ensures queues { OnOk result (QueuesNew (heap_items self.old.queue.waiting) graph.old.graph (heap_items self.new.queue.waiting)) }
@@ -448,9 +451,9 @@ fn reach<O: Objects>(
 ) -> Result<(), NegotiatorError>
     ensures fits { OnOk result ((lost u : ℕ) (ws : List Waiting) → FitsOwing lost u ws graph.old.graph due.old.items
         → FitsOwing lost u ws graph.new.graph due.new.items) }
-    ensures common { OnOk result (has_mark 8 graph.old.graph.held id.now ≡ true → has_mark 2 graph.new.graph.held id.now ≡ true) }
-    ensures less { OnOk result (left 2 graph.new.graph + length due.new.items ≤ left 2 graph.old.graph + length due.old.items) }
-    ensures seen { left 8 graph.new.graph ≤ left 8 graph.old.graph }
+    ensures common { OnOk result (has_mark SEEN graph.old.graph.held id.now ≡ true → has_mark COMMON graph.new.graph.held id.now ≡ true) }
+    ensures less { OnOk result (left COMMON graph.new.graph + length due.new.items ≤ left COMMON graph.old.graph + length due.old.items) }
+    ensures seen { left SEEN graph.new.graph ≤ left SEEN graph.old.graph }
     ensures spreads { OnOk result (KeepsSpread was_seen due.old.items graph.old.graph due.new.items graph.new.graph) }
     ensures newly { OnOk result (StaysNewly due.old.items graph.old.graph due.new.items graph.new.graph) }
     ensures among { OnOk result (SettlesAmong (id.now ∷ []) graph.old.graph graph.new.graph) }
@@ -464,19 +467,19 @@ fn reach<O: Objects>(
     if !is_due(graph, id) {
         return Ok(());
     }
-    add(graph, id, Flags(2));
+    add(graph, id, Flags::COMMON);
     Ok(due.push(*id)?)
 }
 
 // Whether a commit was seen, and isn't common.
 fn is_due<O: Objects>(graph: &Graph<O>, id: &ObjectId) -> bool
-    ensures seen { IsTrue result → has_mark 8 graph.now.graph.held id.now ≡ true }
-    ensures open { IsTrue result → has_mark 2 graph.now.graph.held id.now ≡ false }
+    ensures seen { IsTrue result → has_mark SEEN graph.now.graph.held id.now ≡ true }
+    ensures open { IsTrue result → has_mark COMMON graph.now.graph.held id.now ≡ false }
     ensures there { IsTrue result → IsSome (commit_at graph.now.graph.objects id.now) }
-    ensures other { result ≡ false → has_mark 8 graph.now.graph.held id.now ≡ true → has_mark 2 graph.now.graph.held id.now ≡ true }
+    ensures other { result ≡ false → has_mark SEEN graph.now.graph.held id.now ≡ true → has_mark COMMON graph.now.graph.held id.now ≡ true }
 {
-    if is_marked(graph, id, Flags(8)) {
-        let is_common = is_marked(graph, id, Flags(2));
+    if is_marked(graph, id, Flags::SEEN) {
+        let is_common = is_marked(graph, id, Flags::COMMON);
         return !is_common;
     }
     false
@@ -490,8 +493,8 @@ fn reach_all<O: Objects>(
 ) -> Result<(), NegotiatorError>
     ensures fits { OnOk result ((lost u : ℕ) (ws : List Waiting) → FitsOwing lost u ws graph.old.graph due.old.items
         → FitsOwing lost u ws graph.new.graph due.new.items) }
-    ensures less { OnOk result (left 2 graph.new.graph + length due.new.items ≤ left 2 graph.old.graph + length due.old.items) }
-    ensures seen { left 8 graph.new.graph ≤ left 8 graph.old.graph }
+    ensures less { OnOk result (left COMMON graph.new.graph + length due.new.items ≤ left COMMON graph.old.graph + length due.old.items) }
+    ensures seen { left SEEN graph.new.graph ≤ left SEEN graph.old.graph }
     ensures spreads { OnOk result (KeepsSpread was_seen due.old.items graph.old.graph due.new.items graph.new.graph) }
     ensures newly { OnOk result (StaysNewly due.old.items graph.old.graph due.new.items graph.new.graph) }
     ensures common { OnOk result (All (BecomesCommon was_seen graph.old.graph graph.new.graph) ids.now) }
@@ -534,14 +537,14 @@ fn next_distance(whole: u32) -> u32
 
 // What the parents of a commit with these marks get.
 fn legacy_of(flags: Flags, skip: Skip) -> Legacy
-    ensures common { has_all 2 flags.0 ≡ true → result ≡ Common }
-    ensures listed { has_all 4 flags.0 ≡ true → result ≡ Common }
-    ensures passes { has_all 2 flags.0 ≡ false → has_all 4 flags.0 ≡ false → 0 < skip.left
+    ensures common { has_all COMMON flags.0 ≡ true → result ≡ Common }
+    ensures listed { has_all COMMON_REF flags.0 ≡ true → result ≡ Common }
+    ensures passes { has_all COMMON flags.0 ≡ false → has_all COMMON_REF flags.0 ≡ false → 0 < skip.left
         → result ≡ Skips (skip_of skip.whole (skip.left - 1)) }
-    ensures grows { has_all 2 flags.0 ≡ false → has_all 4 flags.0 ≡ false → skip.left ≡ 0
+    ensures grows { has_all COMMON flags.0 ≡ false → has_all COMMON_REF flags.0 ≡ false → skip.left ≡ 0
         → result ≡ Skips (skip_of (distance_after skip.whole) (distance_after skip.whole)) }
 {
-    if has(flags, Flags(2)) || has(flags, Flags(4)) {
+    if has(flags, Flags::COMMON) || has(flags, Flags::COMMON_REF) {
         return Legacy::Common;
     }
     if skip.left > 0 {
@@ -556,12 +559,12 @@ fn legacy_of(flags: Flags, skip: Skip) -> Legacy
 
 impl Negotiator for Skipping {
     ghost use Rattle.gixp_negotiators.specs.MarkLaws.{offer_lowers, grows_left};
-    ghost use Rattle.gixp_negotiators.specs.Marks.{left};
+    ghost use Rattle.gixp_negotiators.specs.Marks.{POPPED, left};
     ghost use Rattle.gixp_negotiators.specs.Calls.{KnowsSkipping, AddsSkipping, LearnsSkipping, OffersSkipping};
     ghost use Rattle.gixp_graph.specs.Run.{AnyCallLeft, AnyOfferLeft};
 
     ghost calls = { record {
-      count = λ n g. left 16 g;
+      count = λ n g. left POPPED g;
       failures = λ n. 0;
       knows = KnowsSkipping;
       adds = AddsSkipping;
@@ -578,7 +581,7 @@ impl Negotiator for Skipping {
         id: ObjectId,
         graph: &mut Graph<O>,
     ) -> Result<(), NegotiatorError> {
-        self.push(graph, &id, Flags(12))
+        self.push(graph, &id, SEEN_REF)
     }
 
     fn add_tip<O: Objects>(
@@ -586,7 +589,7 @@ impl Negotiator for Skipping {
         id: ObjectId,
         graph: &mut Graph<O>,
     ) -> Result<(), NegotiatorError> {
-        self.push(graph, &id, Flags(8))
+        self.push(graph, &id, Flags::SEEN)
     }
 
     fn in_common_with_remote<O: Objects>(
@@ -610,7 +613,7 @@ impl Negotiator for Skipping {
 
     ghost offer_lowers = { λ n g id m h r. offer_lowers g h id r.offers };
 
-    ghost none_keeps = { λ n g m h r. grows_left 16 g h r.grows };
+    ghost none_keeps = { λ n g m h r. grows_left POPPED g h r.grows };
 
-    ghost learning_keeps = { λ n g id m h r. grows_left 16 g h r.grows };
+    ghost learning_keeps = { λ n g id m h r. grows_left POPPED g h r.grows };
 }

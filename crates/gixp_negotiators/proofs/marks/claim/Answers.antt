@@ -1,6 +1,6 @@
 -- A mark is given.
 use Rattle.gixp_negotiators.proofs.LookLemmas.{none_some}
-use Rattle.gixp_negotiators.specs.Marks.{has_all}
+use Rattle.gixp_negotiators.specs.Marks.{POPPED, has_all}
 use Rattle.std.proofs.Common.{ap}
 use Rattle.std.proofs.Common.{◌∙◌, sym}
 use Rattle.gixp_negotiators.specs.Marks.{IsFoundWith}
@@ -18,7 +18,8 @@ returns-clause-claimed g c =
 pub returns-then-has-clause-spent : goal.returns-then-has-clause-spent
 returns-then-has-clause-spent g c e =
     let f : IsFoundWith c.look.new.graph.graph c.args.id.now c.in-Some.flags = rw c.in-Some.is at c.in_ok-time.ensures.found in
-    λ s. c.look.ensures.pops c.args.id.now (f.marks 16 ∙ ap (λ m. has_all m c.in-Some.flags.0) (sym e) ∙ sym c.has.ensures ∙ c.if-has.true)
+    λ s. c.look.ensures.pops c.args.id.now (f.marks POPPED ∙ ap (λ m. has_all m c.in-Some.flags.0) (sym e) ∙ sym c.has.ensures ∙
+    c.if-has.true)
 
 pub returns-in_default-clause-spent : goal.returns-in_default-clause-spent
 returns-in_default-clause-spent g c e =

@@ -2,11 +2,13 @@
 use Rattle.std.proofs.Common.{refl}
 use Rattle.gixp_negotiators.specs.MarkLaws.{grows_left}
 use Rattle.gixp_negotiators.proofs.LookLemmas.{grows_looked, held_looked, found_looked, missing_looked, none_looked, absent_looked, timed_looked}
+use Rattle.gixp_negotiators.specs.Marks.{COMMON, COMMON_REF, SEEN, POPPED}
 use Rattle.gixp_negotiators.proofs.marks.look.Goals as goal
 
 pub returns-clause-found : goal.returns-clause-found
 returns-clause-found g c =
-    found_looked c.args.graph.now.graph c.lookup.new.self.graph c.args.id.now c.in_ok-lookup.field-0 c.in_ok-lookup.ensures.found c.in_ok-lookup.ensures.time
+    found_looked c.args.graph.now.graph c.lookup.new.self.graph c.args.id.now c.in_ok-lookup.field-0 c.in_ok-lookup.ensures.found
+    c.in_ok-lookup.ensures.time
     c.in_ok-lookup.ensures.ok
 
 pub returns-clause-none : goal.returns-clause-none
@@ -16,31 +18,33 @@ pub returns-clause-grows : goal.returns-clause-grows
 returns-clause-grows g c = grows_looked c.args.graph.now.graph c.lookup.new.self.graph c.args.id.now c.in_ok-lookup.ensures.ok
 
 pub returns-clause-seen : goal.returns-clause-seen
-returns-clause-seen g c = grows_left 8 c.args.graph.now.graph c.lookup.new.self.graph
+returns-clause-seen g c = grows_left SEEN c.args.graph.now.graph c.lookup.new.self.graph
     (grows_looked c.args.graph.now.graph c.lookup.new.self.graph c.args.id.now c.in_ok-lookup.ensures.ok)
 
 pub returns-clause-common : goal.returns-clause-common
-returns-clause-common g c = grows_left 2 c.args.graph.now.graph c.lookup.new.self.graph
+returns-clause-common g c = grows_left COMMON c.args.graph.now.graph c.lookup.new.self.graph
     (grows_looked c.args.graph.now.graph c.lookup.new.self.graph c.args.id.now c.in_ok-lookup.ensures.ok)
 
 pub returns-clause-sees : goal.returns-clause-sees
-returns-clause-sees g c = none_looked 8 refl c.args.graph.now.graph c.lookup.new.self.graph c.args.id.now c.in_ok-lookup.ensures.ok
+returns-clause-sees g c = none_looked SEEN refl c.args.graph.now.graph c.lookup.new.self.graph c.args.id.now c.in_ok-lookup.ensures.ok
 
 pub returns-clause-absent : goal.returns-clause-absent
 returns-clause-absent g c =
-    absent_looked c.args.graph.now.graph c.lookup.new.self.graph c.args.id.now c.in_ok-lookup.field-0 c.in_ok-lookup.ensures.found c.in_ok-lookup.ensures.ok
+    absent_looked c.args.graph.now.graph c.lookup.new.self.graph c.args.id.now c.in_ok-lookup.field-0 c.in_ok-lookup.ensures.found
+    c.in_ok-lookup.ensures.ok
 
 pub returns-clause-timed : goal.returns-clause-timed
 returns-clause-timed g c = timed_looked c.args.graph.now.graph c.args.id.now c.in_ok-lookup.field-0 c.in_ok-lookup.ensures.time
 
 pub returns-clause-settles : goal.returns-clause-settles
-returns-clause-settles g c = none_looked 2 refl c.args.graph.now.graph c.lookup.new.self.graph c.args.id.now c.in_ok-lookup.ensures.ok
+returns-clause-settles g c = none_looked COMMON refl c.args.graph.now.graph c.lookup.new.self.graph c.args.id.now c.in_ok-lookup.ensures.ok
 
 pub returns-clause-pops : goal.returns-clause-pops
-returns-clause-pops g c = none_looked 16 refl c.args.graph.now.graph c.lookup.new.self.graph c.args.id.now c.in_ok-lookup.ensures.ok
+returns-clause-pops g c = none_looked POPPED refl c.args.graph.now.graph c.lookup.new.self.graph c.args.id.now c.in_ok-lookup.ensures.ok
 
 pub returns-clause-lists : goal.returns-clause-lists
-returns-clause-lists g c = none_looked 4 refl c.args.graph.now.graph c.lookup.new.self.graph c.args.id.now c.in_ok-lookup.ensures.ok
+returns-clause-lists g c = none_looked COMMON_REF refl c.args.graph.now.graph c.lookup.new.self.graph c.args.id.now
+    c.in_ok-lookup.ensures.ok
 
 pub returns-clause-held : goal.returns-clause-held
 returns-clause-held g c = held_looked c.args.graph.now.graph c.lookup.new.self.graph c.args.id.now c.in_ok-lookup.ensures.ok

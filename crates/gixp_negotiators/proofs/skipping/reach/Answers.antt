@@ -1,7 +1,7 @@
 -- A commit becomes common that was seen.
 use Rattle.std.proofs.Common.{◌≡◌, ◌+◌, ◌≤◌, ◌∷◌, [], arith, refl, true}
 use Rattle.std.proofs.lemmas.List.{length-append}
-use Rattle.gixp_negotiators.specs.Marks.{has_mark, left}
+use Rattle.gixp_negotiators.specs.Marks.{COMMON, SEEN, has_mark, left}
 use Rattle.gixp_negotiators.specs.MarkLaws.{claimed_left, held_marked}
 use Rattle.gixp_negotiators.proofs.OweLemmas.{owing_reached}
 use Rattle.gixp_negotiators.specs.Spread.{was_seen}
@@ -13,7 +13,7 @@ pub returns-clause-fits : goal.returns-clause-fits
 returns-clause-fits g c lost u ws f =
     owing_reached lost u ws c.args.graph.now.graph c.add.new.graph.graph _ _ c.args.id.now c.add.ensures.grows (c.add.ensures.sees refl)
     (c.add.ensures.pops refl) c.add.ensures.settles_only (c.is_due.ensures.seen c.if-not-is_due.false)
-    (c.is_due.ensures.open c.if-not-is_due.false) (c.add.ensures.marked (held_marked c.args.graph.now.graph c.args.id.now 8
+    (c.is_due.ensures.open c.if-not-is_due.false) (c.add.ensures.marked (held_marked c.args.graph.now.graph c.args.id.now SEEN
     (c.is_due.ensures.seen c.if-not-is_due.false))) c.in_ok-push.ensures.items f
 
 pub returns-then-not-is_due-clause-among : goal.returns-then-not-is_due-clause-among
@@ -21,17 +21,18 @@ returns-then-not-is_due-clause-among g c = among_same (c.args.id.now ∷ []) c.a
 
 pub returns-clause-among : goal.returns-clause-among
 returns-clause-among g c =
-    among_one c.args.id.now c.args.graph.now.graph c.add.new.graph.graph (c.is_due.ensures.seen c.if-not-is_due.false) c.add.ensures.settles_only
+    among_one c.args.id.now c.args.graph.now.graph c.add.new.graph.graph (c.is_due.ensures.seen c.if-not-is_due.false)
+    c.add.ensures.settles_only
 
 pub returns-clause-common : goal.returns-clause-common
-returns-clause-common g c s = c.add.ensures.marked (held_marked c.args.graph.now.graph c.args.id.now 8 s)
+returns-clause-common g c s = c.add.ensures.marked (held_marked c.args.graph.now.graph c.args.id.now SEEN s)
 
 pub returns-clause-less : goal.returns-clause-less
 returns-clause-less g c =
-    let after : has_mark 2 c.add.new.graph.graph.held c.args.id.now ≡ true =
-    c.add.ensures.marked (held_marked c.args.graph.now.graph c.args.id.now 8 (c.is_due.ensures.seen c.if-not-is_due.false)) in
-    let less : left 2 c.add.new.graph.graph + 1 ≤ left 2 c.args.graph.now.graph =
-    claimed_left 2 c.args.graph.now.graph c.add.new.graph.graph c.add.ensures.grows c.args.id.now
+    let after : has_mark COMMON c.add.new.graph.graph.held c.args.id.now ≡ true =
+    c.add.ensures.marked (held_marked c.args.graph.now.graph c.args.id.now SEEN (c.is_due.ensures.seen c.if-not-is_due.false)) in
+    let less : left COMMON c.add.new.graph.graph + 1 ≤ left COMMON c.args.graph.now.graph =
+    claimed_left COMMON c.args.graph.now.graph c.add.new.graph.graph c.add.ensures.grows c.args.id.now
     (c.is_due.ensures.there c.if-not-is_due.false) (c.is_due.ensures.open c.if-not-is_due.false) after in
     rw (c.in_ok-push.ensures.items, length-append) (omega (arith, less))
 
@@ -43,7 +44,7 @@ pub returns-clause-newly : goal.returns-clause-newly
 returns-clause-newly g c f v all =
     newly_pushed f c.args.graph.now.graph c.add.new.graph.graph _ _ c.args.id.now v c.add.ensures.grows
     (c.is_due.ensures.open c.if-not-is_due.false)
-    (c.add.ensures.marked (held_marked c.args.graph.now.graph c.args.id.now 8
+    (c.add.ensures.marked (held_marked c.args.graph.now.graph c.args.id.now SEEN
     (c.is_due.ensures.seen c.if-not-is_due.false))) c.in_ok-push.ensures.items all
 
 pub returns-then-not-is_due-clause-spreads : goal.returns-then-not-is_due-clause-spreads

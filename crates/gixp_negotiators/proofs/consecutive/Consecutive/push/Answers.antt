@@ -10,7 +10,7 @@ use Rattle.gixp_hash.specs.declared.object_id.ObjectId.{ObjectId}
 use Rattle.gixp_graph.specs.declared.flags.Flags.{Flags}
 use Rattle.gixp_graph.specs.GraphData.{GraphData}
 use Rattle.gixp_graph.specs.Object.{time_at}
-use Rattle.gixp_negotiators.specs.Marks.{Claims, SettlesNone, has_all, has_mark}
+use Rattle.gixp_negotiators.specs.Marks.{COMMON, SEEN, Claims, SettlesNone, has_all, has_mark}
 use Rattle.gixp_negotiators.specs.MarkLaws.{held_marked}
 use Rattle.gixp_negotiators.specs.Waiting.{waiting_at, open_one}
 use Rattle.gixp_negotiators.proofs.GrowLemmas.{has_part, from_eq}
@@ -26,21 +26,21 @@ apart_pop : (m : ℕ) → (m ≡ 8) ⊎ ((m ≡ 10) ⊎ (m ≡ 12)) → bit_and 
 apart_pop m e = ⊎_elim (λ e. ap (λ n. bit_and n 16) e)
     (λ r. ⊎_elim (λ e. ap (λ n. bit_and n 16) e) (λ e. ap (λ n. bit_and n 16) e) r) e
 
-apart_two : (m : ℕ) → (m ≡ 8) ⊎ ((m ≡ 10) ⊎ (m ≡ 12)) → has_all 2 m ≡ false → bit_and m 2 ≡ 0
+apart_two : (m : ℕ) → (m ≡ 8) ⊎ ((m ≡ 10) ⊎ (m ≡ 12)) → has_all COMMON m ≡ false → bit_and m 2 ≡ 0
 apart_two m e f = ⊎_elim (λ e. ap (λ n. bit_and n 2) e)
-    (λ r. ⊎_elim (λ e. absurd (true≢false (sym (ap (has_all 2) e) ∙ f))) (λ e. ap (λ n. bit_and n 2) e) r) e
+    (λ r. ⊎_elim (λ e. absurd (true≢false (sym (ap (has_all COMMON) e) ∙ f))) (λ e. ap (λ n. bit_and n 2) e) r) e
 
 -- whether the commit is common then
-common_after : (g h : GraphData) (id : ObjectId) (flags : Flags) (marks : ℕ) → Claims 8 g h id flags → has_mark marks h.held id ≡ true
-    → (bit_and marks 2 ≡ 0 → SettlesNone g h) → (has_all 2 marks ≡ false → bit_and marks 2 ≡ 0)
-    → has_mark 2 h.held id ≡ (has_all 2 flags.0 || has_all 2 marks)
-common_after g h id flags marks k marked settles apart = at (has_all 2 flags.0) (has_all 2 marks) refl refl
+common_after : (g h : GraphData) (id : ObjectId) (flags : Flags) (marks : ℕ) → Claims SEEN g h id flags → has_mark marks h.held id ≡ true
+    → (bit_and marks 2 ≡ 0 → SettlesNone g h) → (has_all COMMON marks ≡ false → bit_and marks 2 ≡ 0)
+    → has_mark COMMON h.held id ≡ (has_all COMMON flags.0 || has_all COMMON marks)
+common_after g h id flags marks k marked settles apart = at (has_all COMMON flags.0) (has_all COMMON marks) refl refl
   where
-    at : (a b : Bool) → has_all 2 flags.0 ≡ a → has_all 2 marks ≡ b → has_mark 2 h.held id ≡ (a || b)
-    at true b e f = k.had 2 e
+    at : (a b : Bool) → has_all COMMON flags.0 ≡ a → has_all COMMON marks ≡ b → has_mark COMMON h.held id ≡ (a || b)
+    at true b e f = k.had COMMON e
     at false true e f = has_part marks 2 h.held id (from_eq _ _ f) marked
     at false false e f =
-        lacked (has_mark 2 h.held id) (has_mark 2 g.held id) (settles (apart f) id) (k.lacks 2 e)
+        lacked (has_mark COMMON h.held id) (has_mark COMMON g.held id) (settles (apart f) id) (k.lacks COMMON e)
 
 pub returns-in_default-clause-keeps : goal.returns-in_default-clause-keeps
 returns-in_default-clause-keeps g c =
@@ -49,15 +49,16 @@ returns-in_default-clause-keeps g c =
 
 pub returns-clause-keeps : goal.returns-clause-keeps
 returns-clause-keeps g c =
-    let k : Claims 8 c.args.graph.now.graph c.claim.new.graph.graph c.args.id.now c.in-Some.flags =
+    let k : Claims SEEN c.args.graph.now.graph c.claim.new.graph.graph c.args.id.now c.in-Some.flags =
     rw c.in-Some.is at c.in_ok-time.ensures.claimed in
     let marked : has_mark c.args.marks.0 c.claim.new.graph.graph.held c.args.id.now ≡ true =
     rw c.in-Some.is at c.in_ok-time.ensures.marked in
     let timed : time_at c.args.graph.now.graph.objects c.args.id.now ≡ Some c.in-Some.time =
     rw c.in-Some.is at c.in_ok-time.ensures.timed in
     let fits : SFits w64 c.in-Some.time = search rules in
-    let two : has_mark 2 c.claim.new.graph.graph.held c.args.id.now ≡ c.either_has-is_common.result =
-    common_after c.args.graph.now.graph c.claim.new.graph.graph c.args.id.now c.in-Some.flags c.args.marks.0 k marked c.claim.ensures.settles
+    let two : has_mark COMMON c.claim.new.graph.graph.held c.args.id.now ≡ c.either_has-is_common.result =
+    common_after c.args.graph.now.graph c.claim.new.graph.graph c.args.id.now c.in-Some.flags c.args.marks.0 k marked
+    c.claim.ensures.settles
     (apart_two c.args.marks.0 c.requires) ∙ sym c.either_has-is_common.ensures in
     let is : c.admit.new.self.uncommon ≡ c.args.self.now.uncommon + open_one c.claim.new.graph.graph.held c.args.id.now =
     admitted _ _ _ _ c.either_has-is_common.result two c.in_ok-admit.ensures.common c.in_ok-admit.ensures.open in
@@ -68,13 +69,13 @@ returns-clause-keeps g c =
 
 pub returns-clause-room : goal.returns-clause-room
 returns-clause-room g c =
-    let k : Claims 8 c.args.graph.now.graph c.claim.new.graph.graph c.args.id.now c.in-Some.flags =
+    let k : Claims SEEN c.args.graph.now.graph c.claim.new.graph.graph c.args.id.now c.in-Some.flags =
     rw c.in-Some.is at c.in_ok-time.ensures.claimed in
     omega (arith, k.less, c.in_ok-push.ensures.ok, ap (λ q. heap_len q.waiting) c.admit.ensures.queue)
 
 pub returns-clause-waits : goal.returns-clause-waits
 returns-clause-waits g c s =
-    let k : Claims 8 c.args.graph.now.graph c.claim.new.graph.graph c.args.id.now c.in-Some.flags =
+    let k : Claims SEEN c.args.graph.now.graph c.claim.new.graph.graph c.args.id.now c.in-Some.flags =
     rw c.in-Some.is at c.in_ok-time.ensures.claimed in
     k.after
 
@@ -84,7 +85,7 @@ returns-in_default-clause-spreads g c =
 
 pub returns-clause-spreads : goal.returns-clause-spreads
 returns-clause-spreads g c =
-    let k : Claims 8 c.args.graph.now.graph c.claim.new.graph.graph c.args.id.now c.in-Some.flags =
+    let k : Claims SEEN c.args.graph.now.graph c.claim.new.graph.graph c.args.id.now c.in-Some.flags =
     rw c.in-Some.is at c.in_ok-time.ensures.claimed in
     stays_pushed is_there stays_there c.args.id.now _ _ c.claim.ensures.grows c.claim.ensures.settles_only k.before
 
@@ -100,7 +101,7 @@ returns-in_default-clause-finds g c two = sees_same _ _ (rw c.in_default.is at c
 
 pub returns-clause-finds : goal.returns-clause-finds
 returns-clause-finds g c two = sees_one _ _ c.args.id.now c.claim.ensures.sees_only
-    (or_right (has_mark 8 c.args.graph.now.graph.held c.args.id.now) (has_mark 2 c.claim.new.graph.graph.held c.args.id.now)
+    (or_right (has_mark SEEN c.args.graph.now.graph.held c.args.id.now) (has_mark COMMON c.claim.new.graph.graph.held c.args.id.now)
     (has_part c.args.marks.0 2 c.claim.new.graph.graph.held c.args.id.now two (rw c.in-Some.is at c.in_ok-time.ensures.marked)))
 
 pub returns-in_default-clause-pops : goal.returns-in_default-clause-pops
@@ -113,11 +114,11 @@ pub returns-in_default-clause-again : goal.returns-in_default-clause-again
 returns-in_default-clause-again g c seen = (
   refl,
   (rw c.in_default.is at c.in_ok-time.ensures.again)
-      (held_marked c.args.graph.now.graph c.args.id.now 8 seen),
+      (held_marked c.args.graph.now.graph c.args.id.now SEEN seen),
 )
 
 pub returns-clause-again : goal.returns-clause-again
 returns-clause-again g c seen =
-    let k : Claims 8 c.args.graph.now.graph c.claim.new.graph.graph c.args.id.now c.in-Some.flags =
+    let k : Claims SEEN c.args.graph.now.graph c.claim.new.graph.graph c.args.id.now c.in-Some.flags =
     rw c.in-Some.is at c.in_ok-time.ensures.claimed in
     absurd (true≢false (sym seen ∙ k.before))

@@ -1,6 +1,6 @@
 -- A parent is handed a distance.
 use Rattle.std.proofs.Common.{◌∙◌, refl, sym, ap, subst}
-use Rattle.gixp_negotiators.specs.Marks.{has_mark}
+use Rattle.gixp_negotiators.specs.Marks.{POPPED, has_mark}
 use Rattle.gixp_negotiators.specs.Spread.{AllRead, AllHeld}
 use Rattle.gixp_negotiators.proofs.FitLemmas.{lacked, counts_all, counts_on}
 use Rattle.gixp_negotiators.proofs.UnreadLemmas.{unread_same, unread_on, read_then}
@@ -27,12 +27,13 @@ returns-clause-fits g c =
     counts_on (AllHeld c.args.self.now.unread c.args.graph.now.graph c.pass.new.graph.graph)
     (AllHeld c.args.self.now.unread c.args.graph.now.graph c.pass.new.graph.graph)
     (AllRead c.push.new.self.unread c.push.new.graph.graph c.pass.new.graph.graph) _ _ _ _ _ _ _ _ _ (λ e. e)
-    (read_then c.args.self.now.unread c.push.new.self.unread c.args.graph.now.graph c.push.new.graph.graph c.pass.new.graph.graph c.push.ensures.grows c.in_ok-push.ensures.unread)
+    (read_then c.args.self.now.unread c.push.new.self.unread c.args.graph.now.graph c.push.new.graph.graph c.pass.new.graph.graph
+    c.push.ensures.grows c.in_ok-push.ensures.unread)
     (counts_all _ _ _ _ _ _ _ c.in_ok-push.ensures.fits) c.in_ok-pass.ensures.fits
 
 pub returns-clause-left : goal.returns-clause-left
-returns-clause-left g c w = lacked (has_mark 16 c.pass.new.graph.graph.held c.args.parent.now)
-    (has_mark 16 c.push.new.graph.graph.held c.args.parent.now) (c.in_ok-pass.ensures.pops c.args.parent.now)
+returns-clause-left g c w = lacked (has_mark POPPED c.pass.new.graph.graph.held c.args.parent.now)
+    (has_mark POPPED c.push.new.graph.graph.held c.args.parent.now) (c.in_ok-pass.ensures.pops c.args.parent.now)
     (sym c.is_marked.ensures.value ∙ c.if-is_marked.false)
 
 pub returns-clause-settles : goal.returns-clause-settles

@@ -9,6 +9,7 @@ use Rattle.gixp_negotiators.specs.Spread.{was_seen, IsNewlyCommon}
 use Rattle.gixp_negotiators.proofs.SpreadLemmas.{stays_seen, spread_all, spread_popped, kept_from, from_step}
 use Rattle.gixp_negotiators.proofs.GrowLemmas.{grows_none, grows_on}
 use Rattle.gixp_negotiators.proofs.OweLemmas.{owing_none, owing_paid, owing_end}
+use Rattle.gixp_negotiators.specs.Marks.{COMMON}
 use Rattle.gixp_negotiators.proofs.skipping.Skipping.mark_common.Goals as goal
 
 pub loop-next-init : goal.loop-next-init
@@ -49,14 +50,16 @@ loop-next-preserved g c =
           (λ e. c.discount.ensures.taken (c.is_marked.ensures.value ∙ e)) (λ e. c.discount.ensures.waits (c.is_marked.ensures.value ∙ e))
           (c.loop-next.invariant.fits lost f));
       through =
-          through_more c.args.self.now.unread c.args.graph.now.graph c.loop-next.graph.graph c.spread.new.graph.graph c.args.id.now c.in-Some.next c.loop-next.invariant.grows newly read c.loop-next.invariant.old
+          through_more c.args.self.now.unread c.args.graph.now.graph c.loop-next.graph.graph c.spread.new.graph.graph c.args.id.now
+          c.in-Some.next c.loop-next.invariant.grows newly read c.loop-next.invariant.old
           c.in_ok-spread.ensures.among c.loop-next.invariant.through;
       old = seen_more c.args.graph.now.graph c.loop-next.graph.graph c.spread.new.graph.graph
-          (parents_in c.loop-next.graph.graph.held c.in-Some.next) c.loop-next.invariant.sees c.in_ok-spread.ensures.among c.loop-next.invariant.old;
+          (parents_in c.loop-next.graph.graph.held c.in-Some.next) c.loop-next.invariant.sees c.in_ok-spread.ensures.among
+          c.loop-next.invariant.old;
       sees = λ q m. c.loop-next.invariant.sees q (c.spread.ensures.sees q m);
       lists = λ q m. c.loop-next.invariant.lists q (c.in_ok-spread.ensures.lists q m);
       pops = λ q m. c.loop-next.invariant.pops q (c.in_ok-spread.ensures.pops q m);
-      common = λ s. c.spread.ensures.grows.marks 2 c.args.id.now (c.loop-next.invariant.common s);
+      common = λ s. c.spread.ensures.grows.marks COMMON c.args.id.now (c.loop-next.invariant.common s);
       spreads =
           from_step was_seen c.in-Some.next _ _ c.args.graph.now.graph c.loop-next.graph.graph c.spread.new.graph.graph
           c.loop-next.invariant.grows c.in_ok-spread.ensures.spreads

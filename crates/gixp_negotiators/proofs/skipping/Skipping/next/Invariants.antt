@@ -1,7 +1,7 @@
 -- What the loop keeps.
 use Rattle.std.proofs.Common.{◌+◌, ◌≤◌}
 use Rattle.std.specs.BinaryHeap.{heap_len, heap_items}
-use Rattle.gixp_negotiators.specs.Marks.{Grows, ListsNone, left}
+use Rattle.gixp_negotiators.specs.Marks.{SEEN, Grows, ListsNone, left}
 use Rattle.gixp_negotiators.specs.Spread.{AllHeld}
 use Rattle.gixp_negotiators.specs.Passing.{TakesUnoffered}
 use Rattle.gixp_negotiators.specs.Waiting.{KeepsCount, KeepsUnread, QueuesNew}
@@ -21,4 +21,4 @@ invariant-loop-first g l = record {
 
 -- the objects that weren't seen, and the commits that wait
 abbrev pub decreases-loop-first : goal.decreases-loop-first
-decreases-loop-first g l = left 8 l.graph.graph + heap_len l.self.queue.waiting
+decreases-loop-first g l = left SEEN l.graph.graph + heap_len l.self.queue.waiting

@@ -13,7 +13,7 @@ use Rattle.std.specs.BinaryHeap.{heap_len}
 use Rattle.gixp_graph.specs.Object.{time_at}
 use Rattle.gixp_negotiators.specs.declared.queue.Waiting.{Waiting}
 use Rattle.gixp_negotiators.specs.Waiting.{waiting_at}
-use Rattle.gixp_negotiators.specs.Marks.{Claims}
+use Rattle.gixp_negotiators.specs.Marks.{SEEN, Claims}
 use Rattle.gixp_negotiators.specs.MarkLaws.{held_marked}
 use Rattle.gixp_negotiators.proofs.GrowLemmas.{same_id, has_part}
 use Rattle.gixp_negotiators.proofs.UnreadLemmas.{unread_same, unread_timed}
@@ -35,7 +35,7 @@ returns-in_default-clause-fits g c lost f =
 
 pub returns-clause-fits : goal.returns-clause-fits
 returns-clause-fits g c lost f =
-    let k : Claims 8 c.args.graph.now.graph c.claim.new.graph.graph c.args.id.now _ = rw c.in-Some.is at c.in_ok-time.ensures.claimed in
+    let k : Claims SEEN c.args.graph.now.graph c.claim.new.graph.graph c.args.id.now _ = rw c.in-Some.is at c.in_ok-time.ensures.claimed in
     fits_admitted _ _ _ _ _ _ _ (rw (
       c.time_of.ensures.queue,
       c.admit.ensures.queue,
@@ -53,12 +53,12 @@ pub returns-in_default-clause-again : goal.returns-in_default-clause-again
 returns-in_default-clause-again g c seen = (
   refl,
   (rw c.in_default.is at c.in_ok-time.ensures.again)
-      (held_marked c.args.graph.now.graph c.args.id.now 8 seen),
+      (held_marked c.args.graph.now.graph c.args.id.now SEEN seen),
 )
 
 pub returns-clause-again : goal.returns-clause-again
 returns-clause-again g c seen =
-    let k : Claims 8 c.args.graph.now.graph c.claim.new.graph.graph c.args.id.now _ = rw c.in-Some.is at c.in_ok-time.ensures.claimed in
+    let k : Claims SEEN c.args.graph.now.graph c.claim.new.graph.graph c.args.id.now _ = rw c.in-Some.is at c.in_ok-time.ensures.claimed in
     absurd (true≢false (sym seen ∙ k.before))
 
 pub returns-in_default-clause-unread : goal.returns-in_default-clause-unread
@@ -76,7 +76,7 @@ returns-clause-unread g c =
 
 pub returns-in_default-clause-unread_if_new : goal.returns-in_default-clause-unread_if_new
 returns-in_default-clause-unread_if_new g c there new = absurd (true≢false
-    (sym (held_marked c.args.graph.now.graph c.args.id.now 8 ((rw c.in_default.is at c.in_ok-time.ensures.absent).0 c.args.id.now
+    (sym (held_marked c.args.graph.now.graph c.args.id.now SEEN ((rw c.in_default.is at c.in_ok-time.ensures.absent).0 c.args.id.now
     ((rw c.in_default.is at c.in_ok-time.ensures.none) there))) ∙ ap is_some new))
 
 pub returns-clause-unread_if_new : goal.returns-clause-unread_if_new
@@ -88,7 +88,7 @@ returns-clause-unread_if_new g c there new =
 
 pub returns-clause-room : goal.returns-clause-room
 returns-clause-room g c =
-    let k : Claims 8 c.args.graph.now.graph c.claim.new.graph.graph c.args.id.now _ = rw c.in-Some.is at c.in_ok-time.ensures.claimed in
+    let k : Claims SEEN c.args.graph.now.graph c.claim.new.graph.graph c.args.id.now _ = rw c.in-Some.is at c.in_ok-time.ensures.claimed in
     omega (
       arith,
       k.less,
@@ -99,7 +99,7 @@ returns-clause-room g c =
 
 pub returns-clause-waits : goal.returns-clause-waits
 returns-clause-waits g c s =
-    let k : Claims 8 c.args.graph.now.graph c.claim.new.graph.graph c.args.id.now _ = rw c.in-Some.is at c.in_ok-time.ensures.claimed in
+    let k : Claims SEEN c.args.graph.now.graph c.claim.new.graph.graph c.args.id.now _ = rw c.in-Some.is at c.in_ok-time.ensures.claimed in
     k.after
 
 pub returns-in_default-clause-queues : goal.returns-in_default-clause-queues
@@ -115,7 +115,7 @@ returns-in_default-clause-listed g c four s unseen = absurd (unseen_marked c.arg
 
 pub returns-clause-queues : goal.returns-clause-queues
 returns-clause-queues g c =
-    let k : Claims 8 c.args.graph.now.graph c.claim.new.graph.graph c.args.id.now _ = rw c.in-Some.is at c.in_ok-time.ensures.claimed in
+    let k : Claims SEEN c.args.graph.now.graph c.claim.new.graph.graph c.args.id.now _ = rw c.in-Some.is at c.in_ok-time.ensures.claimed in
     let timed : time_at c.args.graph.now.graph.objects c.args.id.now ≡ Some c.in-Some.time =
     rw c.in-Some.is at c.in_ok-time.ensures.timed in
     let fits : SFits w64 c.in_ok-due.due = search rules in

@@ -5,7 +5,7 @@ use Rattle.std.proofs.Common.{ap, subst}
 use Rattle.std.proofs.Common.{◌≡◌, ◌∙◌, ◌-◌, sym, refl, false}
 use Rattle.gixp_negotiators.specs.Spread.{AllHeld}
 use Rattle.gixp_negotiators.proofs.UnreadLemmas.{unread_same, unread_on, unread_taken, held_then}
-use Rattle.gixp_negotiators.specs.Marks.{Claims, has_all}
+use Rattle.gixp_negotiators.specs.Marks.{COMMON, POPPED, Claims, has_all}
 use Rattle.gixp_negotiators.specs.Waiting.{open_one}
 use Rattle.gixp_negotiators.proofs.StepLemmas.{offered, parents_marked}
 use Rattle.gixp_negotiators.proofs.FitLemmas.{seen_taken, seen_spent, released, was_mark, counts_all, counts_on, queues_on, queues_same}
@@ -20,7 +20,7 @@ returns-in_default-clause-unread g c = unread_same _ _ _ _ refl (rw c.in_default
 
 pub returns-clause-unread : goal.returns-clause-unread
 returns-clause-unread g c =
-    let k : Claims 16 c.args.graph.now.graph c.claim.new.graph.graph c.args.first.now.id c.in-Some.flags =
+    let k : Claims POPPED c.args.graph.now.graph c.claim.new.graph.graph c.args.first.now.id c.in-Some.flags =
     rw c.in-Some.is at c.in_ok-flags.ensures.claimed in
     unread_on _ c.remove.new.self _ _ _ _ c.claim.ensures.grows c.follow_all.ensures.grows
     (unread_taken _ c.remove.new.self _ _ c.args.first.now.id c.remove.ensures.updates.0 c.claim.ensures.pops_only k.after)
@@ -31,10 +31,10 @@ returns-clause-lists g c q m = c.claim.ensures.lists refl q (c.in_ok-any.ensures
 
 pub returns-clause-fits : goal.returns-clause-fits
 returns-clause-fits g c =
-    let k : Claims 16 c.args.graph.now.graph c.claim.new.graph.graph c.args.first.now.id c.in-Some.flags =
+    let k : Claims POPPED c.args.graph.now.graph c.claim.new.graph.graph c.args.first.now.id c.in-Some.flags =
     rw c.in-Some.is at c.in_ok-flags.ensures.claimed in
     let is : c.discount.new.self.uncommon ≡ c.args.self.now.uncommon - open_one c.args.graph.now.graph.held c.args.first.now.id =
-    released _ _ _ _ c.has-is_common.result (was_mark 16 2 _ c.claim.new.graph.graph _ _ k refl ∙ sym c.has-is_common.ensures)
+    released _ _ _ _ c.has-is_common.result (was_mark POPPED 2 _ c.claim.new.graph.graph _ _ k refl ∙ sym c.has-is_common.ensures)
     c.discount.ensures.taken c.discount.ensures.waits in
     counts_on (AllHeld c.args.self.now.unread c.args.graph.now.graph c.follow_all.new.graph.graph)
     (AllHeld c.args.self.now.unread c.args.graph.now.graph c.follow_all.new.graph.graph)
@@ -48,9 +48,9 @@ returns-clause-fits g c =
 
 pub returns-clause-offered : goal.returns-clause-offered
 returns-clause-offered g c t =
-    let k : Claims 16 c.args.graph.now.graph c.claim.new.graph.graph c.args.first.now.id c.in-Some.flags =
+    let k : Claims POPPED c.args.graph.now.graph c.claim.new.graph.graph c.args.first.now.id c.in-Some.flags =
     rw c.in-Some.is at c.in_ok-flags.ensures.claimed in
-    let lacks : has_all 2 c.in-Some.flags.0 ≡ false = sym c.has-is_common.ensures ∙ c.is_offered.ensures.common t in
+    let lacks : has_all COMMON c.in-Some.flags.0 ≡ false = sym c.has-is_common.ensures ∙ c.is_offered.ensures.common t in
     offered c.args.graph.now.graph c.claim.new.graph.graph c.follow_all.new.graph.graph c.args.first.now.id c.in-Some.flags k lacks
     c.follow_all.ensures.grows (c.claim.ensures.settles refl)
     (λ four. c.in_ok-any.ensures.settles (legacy_apart c.legacy_of.result c.skip_of-skip.result (c.legacy_of.ensures.passes lacks four)
@@ -70,7 +70,7 @@ returns-in_default-clause-takes g c =
 
 pub returns-clause-takes : goal.returns-clause-takes
 returns-clause-takes g c =
-    let k : Claims 16 c.args.graph.now.graph c.claim.new.graph.graph c.args.first.now.id c.in-Some.flags =
+    let k : Claims POPPED c.args.graph.now.graph c.claim.new.graph.graph c.args.first.now.id c.in-Some.flags =
     rw c.in-Some.is at c.in_ok-flags.ensures.claimed in
     takes_some c.args.self.now.skips.entries c.follow_all.new.self.skips.entries c.args.graph.now.graph c.claim.new.graph.graph
     c.follow_all.new.graph.graph c.args.first.now.id c.in-Some.flags c.legacy_of.result c.deref.result.now c.skip_of-skip.result
