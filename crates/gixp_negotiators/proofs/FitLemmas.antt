@@ -1,6 +1,6 @@
 -- A queue and its count fit a graph.
 use Rattle.std.proofs.Common.{◌≡◌, ℕ, ℤ, ◌+◌, ◌-◌, ◌≤◌, ◌∙◌, ◌&&◌, not, ◌⊎◌, inl, inr, ⊎_elim, Bool, true, false, cond, List, [], ◌∷◌, Option, Some, None, refl, sym, ap, subst, arith, true≢false}
-use Rattle.std.specs.Prelude.{◌≤ℤ◌, ◌||◌, pos, is_some, option_map, Contains}
+use Rattle.std.specs.Prelude.{◌≤ℤ◌, pos, is_some, option_map, Contains}
 use Rattle.std.specs.FinMap as finite
 use Rattle.std.specs.List.Sorted.{IsPermutation}
 use Rattle.std.specs.Ordering.{eq_by_cmp}

@@ -10,7 +10,7 @@ use Rattle.gixp_hash.specs.ObjectId.{id_cmp}
 use Rattle.gixp_graph.specs.GraphData.{HeldCommit, GraphData, parents_in}
 use Rattle.gixp_graph.specs.GraphLaws.{same_from}
 use Rattle.gixp_negotiators.specs.Marks.{COMMON, has_mark, Grows, SettlesNone, SettlesOnly}
-use Rattle.gixp_negotiators.specs.Spread.{IsNewlyCommon, IsFrom, SettlesFrom, SettlesWithin, OwesAmong}
+use Rattle.gixp_negotiators.specs.Spread.{IsFrom, SettlesFrom, SettlesWithin, OwesAmong}
 use Rattle.gixp_negotiators.proofs.FitLemmas.{lacked}
 
 no_element : (q : ObjectId) → Contains [] q → ⊥

@@ -1,5 +1,5 @@
 -- Commits that became common and are still counted.
-use Rattle.std.proofs.Common.{◌≡◌, ◌∙◌, ℕ, ◌+◌, ◌-◌, ◌≤◌, ⊎_elim, Bool, true, false, cond, List, [], ◌∷◌, ◌++◌, refl, sym, ap, subst, arith}
+use Rattle.std.proofs.Common.{◌≡◌, ◌∙◌, ℕ, ◌+◌, ◌-◌, ⊎_elim, Bool, true, false, cond, List, [], ◌∷◌, ◌++◌, refl, sym, ap, subst, arith}
 use Rattle.std.specs.Ordering.{eq_by_cmp}
 use Rattle.std.proofs.lemmas.Bool.{or_cases}
 use Rattle.std.proofs.lemmas.Grind.{common_steps}
@@ -9,7 +9,7 @@ use Rattle.gixp_graph.specs.GraphData.{Commits, GraphData}
 use Rattle.gixp_graph.specs.GraphLaws.{same_from}
 use Rattle.gixp_negotiators.specs.declared.queue.Waiting.{Waiting}
 use Rattle.gixp_negotiators.specs.Marks.{COMMON, SEEN, POPPED, has_mark, Grows, SeesNone, SettlesNone, SettlesOnly, PopsNone}
-use Rattle.gixp_negotiators.specs.Waiting.{queued_one, open_in, owed_by, Fits, FitsSeen, FitsOwing}
+use Rattle.gixp_negotiators.specs.Waiting.{queued_one, open_in, owed_by, FitsSeen, FitsOwing}
 use Rattle.gixp_negotiators.proofs.FitLemmas.{same_none, same_queued, queued, spent, open_kept, open_settled}
 
 -- one of these

@@ -1,6 +1,6 @@
 -- Commits that weren't read before they came to wait, and marking from a commit on.
-use Rattle.std.proofs.Common.{◌≡◌, ◌∙◌, ◌<◌, ℕ, length, get_or, ◌⊎◌, inl, inr, ⊎_elim, Bool, true, false, cond, List, [], ◌∷◌, ◌||◌, Option, Some, None, refl, sym, ap, subst, arith, true≢false}
-use Rattle.std.specs.Prelude.{All, Contains, IsSome, is_some}
+use Rattle.std.proofs.Common.{◌≡◌, ◌∙◌, ◌<◌, ℕ, length, get_or, inl, inr, ⊎_elim, Bool, true, false, cond, List, [], ◌∷◌, ◌||◌, Option, None, refl, sym, ap, subst, arith, true≢false}
+use Rattle.std.specs.Prelude.{Contains, is_some}
 use Rattle.std.specs.Option.{option_map_or}
 use Rattle.std.specs.FinMap as finite
 use Rattle.std.specs.BTreeSet.{BTreeSet, contains}
