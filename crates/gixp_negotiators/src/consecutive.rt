@@ -147,8 +147,8 @@ impl Consecutive {
         due: &mut Vec<ObjectId>,
     ) -> Result<(), NegotiatorError>
         ensures keeps { OnOk result (Steps self.old graph.old.graph self.new graph.new.graph) }
-        ensures less { OnOk result (left COMMON graph.new.graph + length due.new.items ≤ left COMMON graph.old.graph + length
-            due.old.items) }
+        ensures less { OnOk result (left COMMON graph.new.graph + length due.new.items
+            ≤ left COMMON graph.old.graph + length due.old.items) }
         ensures seen { left SEEN graph.new.graph ≤ left SEEN graph.old.graph }
         ensures queue { self.new.queue ≡ self.old.queue }
         ensures spreads { OnOk result (KeepsSpread is_there due.old.items graph.old.graph due.new.items graph.new.graph) }
@@ -189,8 +189,8 @@ impl Consecutive {
         due: &mut Vec<ObjectId>,
     ) -> Result<(), NegotiatorError>
         ensures keeps { OnOk result (Steps self.old graph.old.graph self.new graph.new.graph) }
-        ensures less { OnOk result (left COMMON graph.new.graph + length due.new.items ≤ left COMMON graph.old.graph + length
-            due.old.items) }
+        ensures less { OnOk result (left COMMON graph.new.graph + length due.new.items
+            ≤ left COMMON graph.old.graph + length due.old.items) }
         ensures seen { left SEEN graph.new.graph ≤ left SEEN graph.old.graph }
         ensures queue { self.new.queue ≡ self.old.queue }
         ensures spreads { OnOk result (KeepsSpread is_there due.old.items graph.old.graph due.new.items graph.new.graph) }
@@ -219,8 +219,8 @@ impl Consecutive {
         due: &mut Vec<ObjectId>,
     ) -> Result<(), NegotiatorError>
         ensures keeps { OnOk result (Steps self.old graph.old.graph self.new graph.new.graph) }
-        ensures less { OnOk result (left COMMON graph.new.graph + length due.new.items ≤ left COMMON graph.old.graph + length
-            due.old.items) }
+        ensures less { OnOk result (left COMMON graph.new.graph + length due.new.items
+            ≤ left COMMON graph.old.graph + length due.old.items) }
         ensures room { OnOk result (left SEEN graph.new.graph + heap_len self.new.queue.waiting
             ≤ left SEEN graph.old.graph + heap_len self.old.queue.waiting) }
         ensures spreads { OnOk result (SpreadsFrom is_there id.now due.old.items graph.old.graph due.new.items graph.new.graph) }

@@ -173,8 +173,8 @@ impl Skipping {
     ) -> Result<(), NegotiatorError>
         ensures fits { OnOk result ((lost u : ℕ) (ws : List Waiting) → FitsOwing lost u ws graph.old.graph due.old.items
             → FitsOwing lost u ws graph.new.graph due.new.items) }
-        ensures less { OnOk result (left COMMON graph.new.graph + length due.new.items ≤ left COMMON graph.old.graph + length
-            due.old.items) }
+        ensures less { OnOk result (left COMMON graph.new.graph + length due.new.items
+            ≤ left COMMON graph.old.graph + length due.old.items) }
         ensures seen { left SEEN graph.new.graph ≤ left SEEN graph.old.graph }
         ensures spreads { OnOk result (SpreadsFrom was_seen id.now due.old.items graph.old.graph due.new.items graph.new.graph) }
         ensures newly { OnOk result (StaysNewly due.old.items graph.old.graph due.new.items graph.new.graph) }
@@ -212,8 +212,8 @@ impl Skipping {
     ) -> Result<(), NegotiatorError>
         ensures fits { OnOk result (CountsStill (AllRead self.old.unread graph.old.graph graph.new.graph)
             self.old graph.old.graph self.new graph.new.graph) }
-        ensures common { OnOk result (has_mark SEEN graph.old.graph.held id.now ≡ true → has_mark COMMON graph.new.graph.held id.now ≡
-            true) }
+        ensures common { OnOk result (has_mark SEEN graph.old.graph.held id.now ≡ true
+            → has_mark COMMON graph.new.graph.held id.now ≡ true) }
         ensures seen { left SEEN graph.new.graph ≤ left SEEN graph.old.graph }
         ensures queue { self.new.queue ≡ self.old.queue }
         ensures skips { self.new.skips ≡ self.old.skips }
