@@ -1,0 +1,4 @@
+pub mod Windows
+pub mod Filters
+pub mod ClientError
+pub mod ClientCalls
