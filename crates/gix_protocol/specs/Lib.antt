@@ -304,6 +304,7 @@ pub use Rattle.gixp_updates.specs.declared.refs.update.Mode as ModeType
 pub use Rattle.gixp_updates.specs.declared.refs.update.Options as UpdateOptionsType
 pub use Rattle.gixp_client.specs.ClientCalls
 pub use Rattle.gixp_client.specs.ClientError
+pub use Rattle.gixp_client.specs.ClientPromise
 pub use Rattle.gixp_client.specs.Filters
 pub use Rattle.gixp_client.specs.Windows
 pub use Rattle.gixp_client.specs.declared.error.Error as SessionErrorType

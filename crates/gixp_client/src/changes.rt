@@ -58,7 +58,11 @@ pub trait ListedRefs: RefStore {
 
 impl ListedRefs for StoredRefs {
     fn list(&self, alloc: Global) -> Result<Vec<(BString, ObjectId)>, AllocError> {
-        self.to_vec(alloc)
+        let mut refs = Vec::new(alloc);
+        for (name, id) in self.to_vec(alloc)? {
+            refs.push((BString::from_slice(alloc, name.as_bytes())?, id))?;
+        }
+        Ok(refs)
     }
 }
 

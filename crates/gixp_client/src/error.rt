@@ -2,20 +2,22 @@
 ghost use Rattle.std.specs.Prelude.{◌≡◌};
 ghost use Rattle.std.specs.Option.{option_map};
 ghost use Rattle.bstr.specs.BStr.{bstr_bytes};
-ghost use Rattle.gixp_client.specs.ClientError.{said_in, of_shake, of_list, of_init, of_request, of_negotiation, of_refused_pack};
+ghost use Rattle.gixp_client.specs.ClientError.{said_in, of_shake, of_refs, of_list, of_init, of_request, of_negotiation, of_refused_pack};
 
 use crate::consumer::PackError;
-use crate::refusal::{answer_kind, client_kind, list_kind, pack_kind, parse_kind, write_words};
+use crate::refusal::{answer_kind, client_kind, pack_kind, parse_kind, write_words};
 use bstr::{BStr, BString};
 use gixp_capabilities::client;
 use gixp_fetch::consume::CopyError;
+use gixp_graph::{ObjectError, RefStoreError};
 use gixp_handshake::handshake;
-use gixp_memory::NoAlternates;
+use gixp_matching::match_group::validate;
 use gixp_negotiate::negotiate;
 use gixp_packetline::{ServerMessage, read};
 use gixp_refmap::ls_refs;
 use gixp_refmap::refmap::init;
-use gixp_refspec::parse;
+use gixp_refs::handshake::refs::parse;
+use gixp_refspec::parse as spec;
 use gixp_response::fetch::response;
 use std::alloc::{AllocError, AllocFailed};
 use std::fmt;
@@ -32,20 +34,34 @@ pub enum Error {
         /// The text.
         spec: BString,
         /// Why it is none.
-        why: parse::Error,
+        why: spec::Error,
     },
     /// The handshake was refused.
     Handshake(handshake::Error),
-    /// The refs weren't listed.
-    Refs(ls_refs::Error),
-    /// The refs aren't mapped: two go to one local name, or the server names objects otherwise.
-    Map(init::Error),
-    /// A request of the fetch wasn't sent.
+    /// The list of refs wasn't read.
+    Refs(parse::Error),
+    /// The server doesn't take the command that lists refs. Nothing was sent.
+    UnsupportedListing,
+    /// The server names objects by a hash function that isn't known.
+    UnknownObjectFormat {
+        /// What it calls the function.
+        format: BString,
+    },
+    /// Two refs go to one local name.
+    Conflicts(validate::Error),
+    /// A request wasn't sent.
     Request(client::Error),
-    /// The answer to one wasn't read.
+    /// The answer to a request for a pack wasn't read.
     Answer(response::Error),
-    /// The negotiation ended without a pack, or the repository can't be read.
-    Negotiate(negotiate::Error<NoAlternates>),
+    /// So many rounds of the negotiation went by, and no pack came.
+    Unnegotiated {
+        /// How many.
+        rounds: usize,
+    },
+    /// An object of the repository can't be read.
+    Objects(ObjectError),
+    /// The refs of the repository can't be read.
+    LocalRefs(RefStoreError),
     /// The server doesn't offer what was asked for. Nothing was sent.
     MissingFeature {
         /// What it doesn't offer.
@@ -103,7 +119,7 @@ impl Error {
         match self {
             Error::Handshake(handshake::Error::Transport(e)) => client_kind(e),
             Error::Handshake(handshake::Error::ParseRefs(e)) => parse_kind(e),
-            Error::Refs(e) => list_kind(e),
+            Error::Refs(e) => parse_kind(e),
             Error::Request(e) => client_kind(e),
             Error::Answer(e) => answer_kind(e),
             Error::Pack(e) => pack_kind(e),
@@ -118,10 +134,20 @@ impl Error {
             Error::Refspec { spec, why } => write!(f, "{spec:?} is no refspec: {why}"),
             Error::Handshake(e) => write!(f, "the handshake was refused: {e:?}"),
             Error::Refs(e) => write!(f, "the list of refs can't be read: {e:?}"),
-            Error::Map(e) => write!(f, "the refs can't be mapped: {e}"),
+            Error::UnsupportedListing => f.write_str(
+                "the server doesn't list refs as it is asked to",
+            ),
+            Error::UnknownObjectFormat { format } => {
+                write!(f, "the server names objects by {format}, which isn't known")
+            }
+            Error::Conflicts(e) => write!(f, "the refs can't be mapped: {e}"),
             Error::Request(e) => write!(f, "a request wasn't sent: {e:?}"),
             Error::Answer(e) => write!(f, "an answer can't be read: {e:?}"),
-            Error::Negotiate(e) => write!(f, "the negotiation failed: {e}"),
+            Error::Unnegotiated { rounds } => {
+                write!(f, "no pack came after {rounds} round(s) of the negotiation")
+            }
+            Error::Objects(e) => write!(f, "an object of the repository can't be read: {e:?}"),
+            Error::LocalRefs(e) => write!(f, "the refs of the repository can't be read: {e:?}"),
             Error::MissingFeature { feature } => write!(f, "the server doesn't offer {feature}"),
             Error::ShallowServer => f.write_str("the server's repository is shallow"),
             Error::Pack(PackError::Refused(why)) => write!(f, "the pack is refused: {why}"),
@@ -166,13 +192,27 @@ impl From<handshake::Error> for Error {
     }
 }
 
+impl From<parse::Error> for Error {
+    ghost from_gives = { λ e error. error ≡ of_refs e };
+
+    fn from(e: parse::Error) -> Error {
+        match e {
+            parse::Error::Memory => Error::Memory,
+            other => Error::Refs(other),
+        }
+    }
+}
+
 impl From<ls_refs::Error> for Error {
     ghost from_gives = { λ e error. error ≡ of_list e };
 
     fn from(e: ls_refs::Error) -> Error {
         match e {
+            ls_refs::Error::Io(kind) => Error::Request(client::Error::Io(kind)),
+            ls_refs::Error::Transport(e) => Error::from(e),
+            ls_refs::Error::Parse(e) => Error::from(e),
+            ls_refs::Error::ArgumentValidation(_) => Error::UnsupportedListing,
             ls_refs::Error::Memory => Error::Memory,
-            other => Error::Refs(other),
         }
     }
 }
@@ -182,9 +222,10 @@ impl From<init::Error> for Error {
 
     fn from(e: init::Error) -> Error {
         match e {
-            init::Error::Memory => Error::Memory,
+            init::Error::UnknownObjectFormat { format } => Error::UnknownObjectFormat { format },
+            init::Error::MappingValidation(e) => Error::Conflicts(e),
             init::Error::ListRefs(e) => Error::from(e),
-            other => Error::Map(other),
+            init::Error::Memory => Error::Memory,
         }
     }
 }
@@ -200,13 +241,21 @@ impl From<client::Error> for Error {
     }
 }
 
-impl From<negotiate::Error<NoAlternates>> for Error {
+impl<A: Drop> From<negotiate::Error<A>> for Error {
     ghost from_gives = { λ e error. error ≡ of_negotiation e };
 
-    fn from(e: negotiate::Error<NoAlternates>) -> Error {
+    fn from(e: negotiate::Error<A>) -> Error {
         match e {
+            negotiate::Error::NegotiationFailed { rounds } => Error::Unnegotiated { rounds },
+            negotiate::Error::LookupCommitInGraph(e) => Error::Objects(e),
+            negotiate::Error::OpenPackedRefsBuffer => {
+                Error::LocalRefs(RefStoreError::OpenPackedRefsBuffer)
+            }
+            negotiate::Error::IO(kind) => Error::LocalRefs(RefStoreError::Io(kind)),
+            negotiate::Error::InitRefIter => Error::LocalRefs(RefStoreError::Iter),
+            negotiate::Error::PeelToId => Error::LocalRefs(RefStoreError::Peel),
+            negotiate::Error::AlternateRefsAndObjects(_) => Error::LocalRefs(RefStoreError::Iter),
             negotiate::Error::Memory => Error::Memory,
-            other => Error::Negotiate(other),
         }
     }
 }

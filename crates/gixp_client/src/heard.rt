@@ -47,6 +47,20 @@ impl<T, L> Heard<T, L> {
     }
 }
 
+impl<T, L: Drop> Heard<T, L> {
+    /// The transport alone.
+    pub fn into_inner(self) -> T
+        ensures { result ≡ self.inner }
+    {
+        let Heard {
+            inner,
+            listener: _listener,
+            kept: _kept,
+        } = self;
+        inner
+    }
+}
+
 impl<T: ExtendedBufRead, L: Listener> Heard<T, L> {
     // Tells the text of the line that was taken, if it has one.
     fn tell(&mut self)

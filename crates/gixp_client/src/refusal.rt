@@ -1,10 +1,17 @@
 //! What lower errors say of a read or a write that failed, and the words of a server as they are shown.
+ghost use Rattle.std.specs.Prelude.{◌≡◌};
+ghost use Rattle.gixp_client.specs.ClientError.{NamesMissing, IsToldOf};
+ghost use Rattle.gixp_client.specs.ClientCalls.{IsToldCame};
+
 use crate::consumer::PackError;
+use crate::error::Error;
 use gixp_capabilities::client;
+use gixp_fetch::error::Error as FetchError;
+use gixp_fetch::options::Outcome;
 use gixp_packetline::read;
-use gixp_refmap::ls_refs;
 use gixp_refs::handshake::refs::parse;
 use gixp_response::fetch::response;
+use std::alloc::Global;
 use std::fmt;
 use std::io::ErrorKind;
 
@@ -21,16 +28,6 @@ pub(crate) fn client_kind(e: &client::Error) -> Option<ErrorKind> {
 pub(crate) fn parse_kind(e: &parse::Error) -> Option<ErrorKind> {
     match e {
         parse::Error::Io(kind) => Some(*kind),
-        _ => None,
-    }
-}
-
-/// That of a listing.
-pub(crate) fn list_kind(e: &ls_refs::Error) -> Option<ErrorKind> {
-    match e {
-        ls_refs::Error::Io(kind) => Some(*kind),
-        ls_refs::Error::Transport(e) => client_kind(e),
-        ls_refs::Error::Parse(e) => parse_kind(e),
         _ => None,
     }
 }
@@ -75,4 +72,50 @@ pub(crate) fn write_words<W: fmt::Write>(f: &mut fmt::Formatter<W>, words: &[u8]
         })?;
     }
     Ok(())
+}
+
+/// What the server doesn't offer.
+pub(crate) fn missing(alloc: Global, feature: &str) -> Error
+    ensures { NamesMissing feature.now result }
+{
+    match String::from_str(alloc, feature) {
+        Ok(feature) => Error::MissingFeature { feature },
+        Err(_) => Error::Memory,
+    }
+}
+
+// Why a fetch was refused, with nothing of the caller's in it. A boundary in memory that nobody else has is refused for want of
+// memory alone.
+fn refusal<A: Drop, E: Into<Error>>(alloc: Global, e: FetchError<A, E>) -> Error
+    ensures { IsToldOf e result }
+{
+    match e {
+        FetchError::FetchResponse(e) => Error::Answer(e),
+        FetchError::Negotiate(e) => Error::from(e),
+        FetchError::Client(e) => Error::from(e),
+        FetchError::MissingServerFeature {
+            feature,
+            description: _,
+        } => missing(alloc, feature),
+        FetchError::WriteShallowFile(_) => Error::Memory,
+        FetchError::ReadShallowFile(_) => Error::Memory,
+        FetchError::LockShallowFile(_) => Error::Memory,
+        FetchError::RejectShallowRemote => Error::ShallowServer,
+        FetchError::ConsumePack(e) => e.into(),
+        FetchError::ReadRemainingBytes(e) => Error::Rest(e),
+        FetchError::Memory => Error::Memory,
+    }
+}
+
+/// What came of a fetch, told with nothing of the caller's in it.
+pub(crate) fn told<A: Drop, E: Into<Error>>(
+    alloc: Global,
+    came: Result<Option<Outcome>, FetchError<A, E>>,
+) -> Result<Option<Outcome>, Error>
+    ensures { IsToldCame came result }
+{
+    match came {
+        Ok(outcome) => Ok(outcome),
+        Err(e) => Err(refusal(alloc, e)),
+    }
 }

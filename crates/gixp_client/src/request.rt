@@ -1,6 +1,9 @@
 //! What a session is asked for.
-ghost use Rattle.std.specs.Prelude.{◌≡◌, IfOk};
+ghost use Rattle.std.specs.Prelude.{◌≡◌, IfOk, map};
+ghost use Rattle.gixp_refspec.specs.RefSpec.{owned_value_of};
+ghost use Rattle.gixp_refmap.specs.Tags.{tags_asked};
 ghost use Rattle.gixp_refmap.specs.Values.{context_value};
+ghost use Rattle.gixp_client.specs.ClientCalls.{some_spec};
 
 use crate::error::Error;
 use bstr::{BStr, BString};
@@ -86,13 +89,34 @@ impl Request {
     pub(crate) fn context(&self) -> Result<init::Context, AllocError>
         ensures { IfOk result (λ c. context_value c ≡ asked_specs self.now) }
     {
-        let mut extra_refspecs = Vec::new(self.alloc);
-        if let Some(spec) = self.tags.to_refspec() {
-            extra_refspecs.push(spec.to_owned(self.alloc)?)?;
-        }
+        let fetch_refspecs = copied_specs(&self.refspecs)?;
+        let extra_refspecs = tag_specs(self.alloc, self.tags)?;
         Ok(init::Context {
-            fetch_refspecs: self.refspecs.clone()?,
+            fetch_refspecs,
             extra_refspecs,
         })
+    }
+}
+
+// Copies of refspecs.
+fn copied_specs(specs: &Vec<RefSpec>) -> Result<Vec<RefSpec>, AllocError>
+    ensures { IfOk result (λ copy. map owned_value_of copy.items ≡ map owned_value_of specs.now.items) }
+{
+    let copy = specs.clone()?;
+    Ok(copy)
+}
+
+// The refspec of the tags, if there is one.
+fn tag_specs(alloc: Global, tags: Tags) -> Result<Vec<RefSpec>, AllocError>
+    ensures { IfOk result (λ specs. map owned_value_of specs.items ≡ some_spec (tags_asked tags)) }
+{
+    let mut specs = Vec::new(alloc);
+    match tags.to_refspec() {
+        Some(spec) => {
+            let spec = spec.to_owned(alloc)?;
+            specs.push(spec)?;
+            Ok(specs)
+        }
+        None => Ok(specs),
     }
 }

@@ -1,16 +1,16 @@
 //! One fetch of a session.
-ghost use Rattle.std.specs.Prelude.{◌≡◌, ◌≤◌, IfOk, None};
+ghost use Rattle.std.specs.Prelude.{◌≡◌, ◌≤◌, None, string_bytes};
 ghost use Rattle.gixp_requests.specs.Feature.{feature_value};
 ghost use Rattle.gixp_fetch.specs.Fetch.{parties_of};
-ghost use Rattle.gixp_client.specs.ClientCalls.{HoldsFetch, FetchesMap, session_call};
+ghost use Rattle.gixp_client.specs.ClientCalls.{named_feature, HoldsAndTells, FetchesMap, session_call, session_knowledge};
 
-use crate::lent::LentRefs;
+use crate::error::Error;
 use crate::over::Filtered;
+use crate::refusal::told;
 use crate::repository::Repository;
 use crate::request::Request;
 use crate::windows::{MOST_HAVES, Windowed};
 use gixp_fetch::consume::ConsumePack;
-use gixp_fetch::error::Error;
 use gixp_fetch::fetch::fetch;
 use gixp_fetch::mapped::NegotiatesMap;
 use gixp_fetch::options::{Context, Options, Outcome};
@@ -31,7 +31,7 @@ use std::alloc::Global;
 /// The negotiation of a session's fetch.
 pub type SessionNegotiation<'a, F, R, N> = Filtered<
     'a,
-    Windowed<Negotiation<'a, Shared<'a, F>, LentRefs<'a, R>, N, Shared<'a, F>, NoAlternates>>,
+    Windowed<Negotiation<'a, Shared<'a, F>, R, N, Shared<'a, F>, NoAlternates>>,
 >;
 
 /// How many haves a request may have.
@@ -50,27 +50,31 @@ pub(crate) fn most_haves(version: Protocol, is_over_pipes: bool) -> usize
     }
 }
 
-// The refs of other repositories that lend objects: of none.
-fn lent<R>(refs: &mut [R]) -> Result<&mut [R], NoAlternates> {
-    Ok(refs)
+// The feature that names a client.
+fn named(agent: String) -> Feature
+    ensures { feature_value result ≡ named_feature (string_bytes agent) }
+{
+    ("agent", Some(agent))
 }
 
-// Fetches what a negotiation asks for.
+// Fetches what a negotiation asks for. No signature here names a static lifetime, which the negotiation's own stand beside.
 fn fetch_over<N: Negotiate, T: Transport, C: ConsumePack<Discard>>(
     alloc: Global,
     negotiation: &mut N,
-    name: Feature,
+    agent: String,
     request: &Request,
     shaken: &mut Handshake,
     transport: &mut T,
     store: &mut ShallowMemory,
     pack: &mut C,
-) -> Result<Option<Outcome>, Error<N::AlternatesError, C::Error>>
+) -> Result<Option<Outcome>, Error>
+where
+    C::Error: Into<Error>,
     ensures taken { shaken.new ≡ record shaken.old { v1_shallow_updates = None } }
-    ensures fetched { HoldsFetch
+    ensures fetched { HoldsAndTells
         (parties_of N.calls ⟦<ShallowMemory as ShallowStore>⟧.calls ⟦<NeverInterrupt as Interrupt>⟧.says C.consumes T.is_plain)
-        (session_call shaken.old (feature_value name.entry) request.now) negotiation.old (T.reading transport.old) store.old pack.old
-        result negotiation.new (T.reading transport.new) store.new pack.new }
+        (session_call shaken.old (named_feature (string_bytes agent)) request.now) negotiation.old (T.reading transport.old) store.old
+        pack.old result negotiation.new (T.reading transport.new) store.new pack.new }
 {
     let context = Context {
         handshake: shaken,
@@ -85,20 +89,22 @@ fn fetch_over<N: Negotiate, T: Transport, C: ConsumePack<Discard>>(
     };
     let mut never = NeverInterrupt;
     let mut quiet = Discard;
-    fetch(
+    let came = fetch(
         alloc,
         negotiation,
         pack,
         &mut quiet,
         &mut never,
-        name,
+        named(agent),
         context,
         options,
-    )
+    );
+    told(alloc, came)
 }
 
 /// Fetches what is mapped. All that the negotiation borrows is a local here.
 pub(crate) fn fetch_mapped<
+    'a,
     F: Find,
     R: RefStore,
     N: Negotiator,
@@ -106,22 +112,24 @@ pub(crate) fn fetch_mapped<
     C: ConsumePack<Discard>,
 >(
     alloc: Global,
-    map: &RefMap,
-    repository: Repository<'_, F, R>,
-    request: &Request,
-    negotiator: &mut N,
-    name: Feature,
+    map: &'a RefMap,
+    repository: Repository<'a, F, R>,
+    request: &'a Request,
+    negotiator: &'a mut N,
+    agent: String,
     shaken: &mut Handshake,
     transport: &mut T,
     store: &mut ShallowMemory,
     pack: &mut C,
-) -> Result<Option<Outcome>, Error<NoAlternates, C::Error>>
+) -> Result<Option<Outcome>, Error>
+where
+    C::Error: Into<Error>,
     ensures taken { shaken.new ≡ record shaken.old { v1_shallow_updates = None } }
     ensures fetched { FetchesMap
-        (parties_of ⟦<SessionNegotiation<'static, F, R, N> as Negotiate>⟧.calls ⟦<ShallowMemory as ShallowStore>⟧.calls
+        (parties_of ⟦<SessionNegotiation<'a, F, R, N> as Negotiate>⟧.calls ⟦<ShallowMemory as ShallowStore>⟧.calls
         ⟦<NeverInterrupt as Interrupt>⟧.says C.consumes T.is_plain)
-        ⟦<SessionNegotiation<'static, F, R, N> as NegotiatesMap>⟧.map_of ⟦<SessionNegotiation<'static, F, R, N> as NegotiatesMap>⟧.knows
-        (session_call shaken.old (feature_value name.entry) request.now) map.now
+        ⟦<SessionNegotiation<'a, F, R, N> as NegotiatesMap>⟧.map_of ⟦<SessionNegotiation<'a, F, R, N> as NegotiatesMap>⟧.knows
+        (session_call shaken.old (named_feature (string_bytes agent)) request.now) map.now
         (record {
           tags = request.now.tags;
           shallow = request.now.shallow;
@@ -139,12 +147,10 @@ pub(crate) fn fetch_mapped<
     let most = most_haves(shaken.server_protocol_version, request.is_over_pipes);
     let shared = Shared::new(objects);
     let mut graph = Graph::new(alloc, Shared::new(objects));
-    let mut refs = LentRefs { to: refs };
-    let mut none = Vec::new(alloc);
     let context = NegotiateContext {
         objects: &shared,
-        refs: &mut refs,
-        alternates: lent(&mut none),
+        refs,
+        alternates: Ok::<_, NoAlternates>(&mut []),
         negotiator,
         graph: &mut graph,
     };
@@ -154,7 +160,7 @@ pub(crate) fn fetch_mapped<
     fetch_over(
         alloc,
         &mut filtered,
-        name,
+        agent,
         request,
         shaken,
         transport,

@@ -5,29 +5,35 @@ ghost use Rattle.gixp_wire.specs.Greeting.{parameters_of};
 ghost use Rattle.gixp_requests.specs.Feature.{feature_value};
 ghost use Rattle.gixp_refmap.specs.declared.refmap.init.Error.{Error as MapError};
 ghost use Rattle.gixp_handshake.specs.HandshakeValues.{refs_value};
-ghost use Rattle.gixp_handshake.specs.Ending.{EndsInteraction};
 ghost use Rattle.gixp_client.specs.ClientError.{of_list, of_init};
-ghost use Rattle.gixp_client.specs.ClientCalls.{client_feature, OpensSession, MapsInSession, behind_list, behind_init, behind_init_if, behind_fetch};
+ghost use Rattle.std.specs.Prelude.{Option, Result};
+ghost use Rattle.gixp_fetch.specs.declared.options.Outcome.{Outcome};
+ghost use Rattle.gixp_fetch.specs.Fetch.{parties_of};
+ghost use Rattle.gixp_client.specs.ClientError.{IsUnsent};
+ghost use Rattle.gixp_client.specs.ClientCalls.{session_call, session_knowledge, named_feature, FetchesMap, FetchesInSession, ClosesSession, client_feature, OpensSession, MapsInSession, behind_list, behind_init, behind_init_if, behind_fetch};
 
 use crate::boundary::Boundary;
 use crate::error::Error;
 use crate::fetched::Fetched;
 use crate::heard::Heard;
 use crate::listen::{Kept, Listener};
+use crate::refusal::missing;
 use crate::repository::Repository;
 use crate::request::Request;
-use crate::run::fetch_mapped;
+use crate::run::{SessionNegotiation, fetch_mapped};
 use gixp_capabilities::Capabilities;
 use gixp_fetch::consume::ConsumePack;
-use gixp_fetch::error::Error as FetchError;
+use gixp_fetch::mapped::NegotiatesMap;
 use gixp_fetch::options::Outcome;
-use gixp_fetch::shallow::ShallowMemory;
+use gixp_fetch::shallow::{ShallowMemory, ShallowStore};
 use gixp_graph::{Find, Negotiator, RefStore};
 use gixp_handshake::credentials::{self, Action};
 use gixp_handshake::handshake::{self, handshake, obtain};
 use gixp_handshake::{Handshake, indicate_end_of_interaction};
-use gixp_memory::NoAlternates;
+use gixp_hash::ObjectId;
+use gixp_negotiate::negotiate::Negotiate;
 use gixp_negotiate::shallow::Shallow;
+use gixp_negotiators::AnyNegotiator;
 use gixp_packetline::Protocol;
 use gixp_progress::Discard;
 use gixp_refmap::refmap::{copied_refs, init};
@@ -36,9 +42,9 @@ use gixp_refs::handshake::Ref;
 use gixp_requests::command::{CommandTable, Feature};
 use gixp_requests::fetch::Arguments;
 use gixp_requests::{Command, agent};
+use gixp_sidebands::{Interrupt, NeverInterrupt};
 use gixp_wire::{Service, Transport};
 use std::alloc::{AllocError, Global};
-use std::mem;
 
 /// Where a session stands.
 #[derive(Clone, Copy, Debug, PartialEq, Eq, Drop)]
@@ -64,11 +70,30 @@ pub struct Session<T: Transport + Drop, L: Listener + Drop> {
     state: State,
 }
 
-// The feature that names a client.
-fn named(alloc: Global, name: &str) -> Result<Feature, AllocError>
-    ensures { IfOk result (λ f. feature_value f ≡ client_feature name.now) }
+// The name of a client as the server is told it.
+fn client_name(alloc: Global, name: &String) -> Result<String, AllocError>
+    ensures { IfOk result (λ text. named_feature (string_bytes text) ≡ client_feature (string_bytes name.now)) }
 {
-    Ok(("agent", Some(agent(alloc, name)?)))
+    let text = agent(alloc, name.as_str())?;
+    Ok(text)
+}
+
+// The feature that names a client.
+fn named(alloc: Global, name: &String) -> Result<Feature, AllocError>
+    ensures { IfOk result (λ f. feature_value f ≡ client_feature (string_bytes name.now)) }
+{
+    let text = agent(alloc, name.as_str())?;
+    Ok(("agent", Some(text)))
+}
+
+// Whether refs are here.
+fn has_refs(refs: &Option<Vec<Ref>>) -> bool
+    ensures { result ≡ is_some refs.now }
+{
+    match refs {
+        Some(_) => true,
+        None => false,
+    }
 }
 
 // Where a session stands behind a refused listing. That of a command that the server doesn't take was sent nothing of.
@@ -94,6 +119,17 @@ fn behind_map(e: &init::Error) -> State
     }
 }
 
+// Where it stands behind one of refs that are here, for which nothing was sent, or of others.
+fn behind_mapping(is_here: bool, e: &init::Error) -> State
+    ensures { result ≡ behind_init_if is_here e.now }
+{
+    if is_here {
+        State::AtStop
+    } else {
+        behind_map(e)
+    }
+}
+
 // Where it stands behind a fetch. A server of version 0 or 1 ends behind a pack.
 fn behind_fetch(version: Protocol, came: &Result<Option<Outcome>, Error>) -> State
     ensures { result ≡ behind_fetch version came.now }
@@ -105,6 +141,7 @@ fn behind_fetch(version: Protocol, came: &Result<Option<Outcome>, Error>) -> Sta
             Protocol::V0 | Protocol::V1 => State::Ended,
         },
         Err(Error::MissingFeature { .. }) => State::AtStop,
+        Err(Error::LocalRefs(_)) => State::AtStop,
         Err(_) => State::Broken,
     }
 }
@@ -213,7 +250,7 @@ impl<T: Transport + Drop, L: Listener + Drop> Session<T, L> {
     fn list(&mut self) -> Result<Vec<Ref>, Error> {
         self.expect_open()?;
         let table = CommandTable::git();
-        let name = named(self.alloc, self.agent.as_str())?;
+        let name = named(self.alloc, &self.agent)?;
         let command = LsRefsCommand::new(
             self.alloc,
             &table,
@@ -235,7 +272,7 @@ impl<T: Transport + Drop, L: Listener + Drop> Session<T, L> {
     ///
     /// # Errors
     ///
-    /// `Refs` where they can't be listed, `Over`, or `Memory`.
+    /// `Refs`, `Request` or `UnsupportedListing` where they can't be listed, `Over`, or `Memory`.
     pub fn refs(&mut self) -> Result<&[Ref], Error> {
         if self.shaken.refs.is_none() {
             let refs = self.list()?;
@@ -263,8 +300,8 @@ impl<T: Transport + Drop, L: Listener + Drop> Session<T, L> {
     ///
     /// # Errors
     ///
-    /// `Refs` where they can't be listed, `Map` where two refs go to one local name or the server names objects by another hash
-    /// function, `Over`, or `Memory`.
+    /// `Refs`, `Request` or `UnsupportedListing` where they can't be listed, `Conflicts` where two refs go to one local name,
+    /// `UnknownObjectFormat` where the server names objects by another hash function, `Over`, or `Memory`.
     pub fn map(&mut self, request: &Request) -> Result<RefMap, Error>
         ensures over { self.old.state ≢ State.AtStop → (result ≡ Err Error.Over) × (self.new ≡ self.old) }
         ensures mapped { IfOk result (λ m. MapsInSession request.now (client_feature (string_bytes self.old.agent)) self.old.shaken T.is_plain
@@ -280,9 +317,9 @@ impl<T: Transport + Drop, L: Listener + Drop> Session<T, L> {
     {
         self.expect_open()?;
         let context = request.context()?;
-        let name = named(self.alloc, self.agent.as_str())?;
+        let name = named(self.alloc, &self.agent)?;
         let here = self.refs_here()?;
-        let is_here = here.is_some();
+        let is_here = has_refs(&self.shaken.refs);
         let made = obtain(
             self.alloc,
             &mut self.shaken,
@@ -296,12 +333,49 @@ impl<T: Transport + Drop, L: Listener + Drop> Session<T, L> {
         match made {
             Ok(map) => Ok(map),
             Err(e) => {
-                if !is_here {
-                    self.state = behind_map(&e);
-                }
+                self.state = behind_mapping(is_here, &e);
                 Err(Error::from(e))
             }
         }
+    }
+
+    // A fetch, and where the session then stands.
+    fn carry_out<'a, F: Find, R: RefStore, N: Negotiator, C: ConsumePack<Discard>>(
+        &mut self,
+        map: &'a RefMap,
+        repository: Repository<'a, F, R>,
+        request: &'a Request,
+        negotiator: &'a mut N,
+        agent: String,
+        store: &mut ShallowMemory,
+        pack: &mut C,
+    ) -> Result<Option<Outcome>, Error>
+    where
+        C::Error: Into<Error>,
+        ensures fetched { FetchesMap
+            (parties_of ⟦<SessionNegotiation<'a, F, R, N> as Negotiate>⟧.calls ⟦<ShallowMemory as ShallowStore>⟧.calls
+            ⟦<NeverInterrupt as Interrupt>⟧.says C.consumes T.is_plain)
+            ⟦<SessionNegotiation<'a, F, R, N> as NegotiatesMap>⟧.map_of ⟦<SessionNegotiation<'a, F, R, N> as NegotiatesMap>⟧.knows
+            (session_call self.old.shaken (named_feature (string_bytes agent)) request.now) map.now
+            (session_knowledge request.now (F.contents repository.entry.objects.now) (R.refs repository.entry.refs.now))
+            (T.reading self.old.transport.inner) store.old pack.old result (T.reading self.new.transport.inner) store.new pack.new }
+        ensures state { self.new.state ≡ behind_fetch self.old.shaken.server_protocol_version result }
+    {
+        let version = self.shaken.server_protocol_version;
+        let came = fetch_mapped(
+            self.alloc,
+            map,
+            repository,
+            request,
+            negotiator,
+            agent,
+            &mut self.shaken,
+            &mut self.transport,
+            store,
+            pack,
+        );
+        self.state = behind_fetch(version, &came);
+        came
     }
 
     /// Fetches what is mapped, as the request asks for it: the pack goes to its consumer, as a `CopyPack` of a writer. Where nothing
@@ -310,15 +384,33 @@ impl<T: Transport + Drop, L: Listener + Drop> Session<T, L> {
     /// # Errors
     ///
     /// Those of [`Error`]. What the consumer has is then to be thrown away, and the boundary and the refs are to stay as they are.
-    pub fn fetch<F: Find, R: RefStore, C: ConsumePack<Discard>>(
+    pub fn fetch<'a, F: Find, R: RefStore, C: ConsumePack<Discard>>(
         &mut self,
-        map: &RefMap,
-        repository: Repository<'_, F, R>,
-        request: &Request,
+        map: &'a RefMap,
+        repository: Repository<'a, F, R>,
+        request: &'a Request,
         pack: &mut C,
     ) -> Result<Fetched, Error>
     where
         C::Error: Into<Error>,
+        ensures over { self.old.state ≢ State.AtStop → (result ≡ Err Error.Over) × (self.new ≡ self.old) × (pack.new ≡ pack.old) }
+        ensures fetched { IfOk result (λ f. ((map.now.mappings.items ≡ []) × (f.outcome ≡ None) × (self.new ≡ self.old) × (pack.new ≡ pack.old))
+            ⊎ FetchesInSession (parties_of ⟦<SessionNegotiation<'a, F, R, AnyNegotiator> as Negotiate>⟧.calls ⟦<ShallowMemory as ShallowStore>⟧.calls
+            ⟦<NeverInterrupt as Interrupt>⟧.says C.consumes T.is_plain)
+            ⟦<SessionNegotiation<'a, F, R, AnyNegotiator> as NegotiatesMap>⟧.map_of ⟦<SessionNegotiation<'a, F, R, AnyNegotiator> as NegotiatesMap>⟧.knows
+            (session_call self.old.shaken (client_feature (string_bytes self.old.agent)) request.now) map.now
+            (session_knowledge request.now (F.contents repository.entry.objects.now) (R.refs repository.entry.refs.now))
+            repository.entry.boundary.now (T.reading self.old.transport.inner) pack.old (Ok f.outcome)
+            (T.reading self.new.transport.inner) pack.new) }
+        ensures refused { IfErr result (λ e. (IsUnsent e × (self.new ≡ self.old) × (pack.new ≡ pack.old))
+            ⊎ ((told : Result (Option Outcome) Error) × FetchesInSession (parties_of ⟦<SessionNegotiation<'a, F, R, AnyNegotiator> as Negotiate>⟧.calls ⟦<ShallowMemory as ShallowStore>⟧.calls
+            ⟦<NeverInterrupt as Interrupt>⟧.says C.consumes T.is_plain)
+            ⟦<SessionNegotiation<'a, F, R, AnyNegotiator> as NegotiatesMap>⟧.map_of ⟦<SessionNegotiation<'a, F, R, AnyNegotiator> as NegotiatesMap>⟧.knows
+            (session_call self.old.shaken (client_feature (string_bytes self.old.agent)) request.now) map.now
+            (session_knowledge request.now (F.contents repository.entry.objects.now) (R.refs repository.entry.refs.now))
+            repository.entry.boundary.now (T.reading self.old.transport.inner) pack.old told
+            (T.reading self.new.transport.inner) pack.new
+            × (self.new.state ≡ behind_fetch self.old.shaken.server_protocol_version told))) }
     {
         let mut negotiator = request.algorithm.negotiator(self.alloc);
         self.fetch_with(map, repository, request, &mut negotiator, pack)
@@ -329,16 +421,34 @@ impl<T: Transport + Drop, L: Listener + Drop> Session<T, L> {
     /// # Errors
     ///
     /// As `fetch`.
-    pub fn fetch_with<F: Find, R: RefStore, N: Negotiator, C: ConsumePack<Discard>>(
+    pub fn fetch_with<'a, F: Find, R: RefStore, N: Negotiator, C: ConsumePack<Discard>>(
         &mut self,
-        map: &RefMap,
-        repository: Repository<'_, F, R>,
-        request: &Request,
-        negotiator: &mut N,
+        map: &'a RefMap,
+        repository: Repository<'a, F, R>,
+        request: &'a Request,
+        negotiator: &'a mut N,
         pack: &mut C,
     ) -> Result<Fetched, Error>
     where
         C::Error: Into<Error>,
+        ensures over { self.old.state ≢ State.AtStop → (result ≡ Err Error.Over) × (self.new ≡ self.old) × (pack.new ≡ pack.old) }
+        ensures fetched { IfOk result (λ f. ((map.now.mappings.items ≡ []) × (f.outcome ≡ None) × (self.new ≡ self.old) × (pack.new ≡ pack.old))
+            ⊎ FetchesInSession (parties_of ⟦<SessionNegotiation<'a, F, R, N> as Negotiate>⟧.calls ⟦<ShallowMemory as ShallowStore>⟧.calls
+            ⟦<NeverInterrupt as Interrupt>⟧.says C.consumes T.is_plain)
+            ⟦<SessionNegotiation<'a, F, R, N> as NegotiatesMap>⟧.map_of ⟦<SessionNegotiation<'a, F, R, N> as NegotiatesMap>⟧.knows
+            (session_call self.old.shaken (client_feature (string_bytes self.old.agent)) request.now) map.now
+            (session_knowledge request.now (F.contents repository.entry.objects.now) (R.refs repository.entry.refs.now))
+            repository.entry.boundary.now (T.reading self.old.transport.inner) pack.old (Ok f.outcome)
+            (T.reading self.new.transport.inner) pack.new) }
+        ensures refused { IfErr result (λ e. (IsUnsent e × (self.new ≡ self.old) × (pack.new ≡ pack.old))
+            ⊎ ((told : Result (Option Outcome) Error) × FetchesInSession (parties_of ⟦<SessionNegotiation<'a, F, R, N> as Negotiate>⟧.calls ⟦<ShallowMemory as ShallowStore>⟧.calls
+            ⟦<NeverInterrupt as Interrupt>⟧.says C.consumes T.is_plain)
+            ⟦<SessionNegotiation<'a, F, R, N> as NegotiatesMap>⟧.map_of ⟦<SessionNegotiation<'a, F, R, N> as NegotiatesMap>⟧.knows
+            (session_call self.old.shaken (client_feature (string_bytes self.old.agent)) request.now) map.now
+            (session_knowledge request.now (F.contents repository.entry.objects.now) (R.refs repository.entry.refs.now))
+            repository.entry.boundary.now (T.reading self.old.transport.inner) pack.old told
+            (T.reading self.new.transport.inner) pack.new
+            × (self.new.state ≡ behind_fetch self.old.shaken.server_protocol_version told))) }
     {
         self.expect_open()?;
         let alloc = self.alloc;
@@ -351,30 +461,30 @@ impl<T: Transport + Drop, L: Listener + Drop> Session<T, L> {
             });
         }
         expect_filter(alloc, &self.shaken, request)?;
-        let name = named(alloc, self.agent.as_str())?;
-        let mut store = ShallowMemory::new(Vec::from_slice(alloc, before)?);
-        let came = fetch_mapped(
-            alloc,
-            map,
-            repository,
-            request,
-            negotiator,
-            name,
-            &mut self.shaken,
-            &mut self.transport,
-            &mut store,
-            pack,
+        let agent = client_name(alloc, &self.agent)?;
+        let mut store = store_of(alloc, before)?;
+        let came = self.carry_out(
+            map, repository, request, negotiator, agent, &mut store, pack,
         );
-        let came = came.map_err(|e| of_fetch(alloc, e));
-        self.state = behind_fetch(self.shaken.server_protocol_version, &came);
         let messages = self.transport.take_kept(alloc);
-        let outcome = unless_reported(came, &messages, request.goes_on)?;
-        let is_asked = !matches!(request.shallow, Shallow::NoChange);
-        Ok(Fetched {
-            outcome,
-            boundary: Boundary::changed(alloc, before, store.ids(), is_asked)?,
-            messages,
-        })
+        match settled(alloc, came, messages, request, before, store.ids()) {
+            Ok(fetched) => Ok(fetched),
+            Err(e) => Err(e),
+        }
+    }
+
+    /// The transport, with nothing said of the end.
+    pub fn into_transport(self) -> T
+        ensures { result ≡ self.transport.inner }
+    {
+        let Session {
+            alloc: _alloc,
+            transport,
+            shaken: _shaken,
+            agent: _agent,
+            state: _state,
+        } = self;
+        transport.into_inner()
     }
 
     /// Says that nothing more is asked for, where the server waits for a request (gitprotocol-v2, "Command Request";
@@ -384,14 +494,20 @@ impl<T: Transport + Drop, L: Listener + Drop> Session<T, L> {
     /// # Errors
     ///
     /// `Request` where the write failed.
-    pub fn close(&mut self) -> Result<(), Error> {
-        match mem::replace(&mut self.state, State::Ended) {
-            State::AtStop => Ok(indicate_end_of_interaction(&mut self.transport)?),
-            State::Ended => Ok(()),
-            State::Broken => {
-                self.state = State::Broken;
-                Ok(())
+    pub fn close(&mut self) -> Result<(), Error>
+        ensures closes { ClosesSession self.old.state (T.reading self.old.transport.inner) (T.reading self.new.transport.inner) result }
+        ensures over { self.new.state ≢ State.AtStop }
+    {
+        match self.state {
+            State::AtStop => {
+                self.state = State::Ended;
+                match indicate_end_of_interaction(&mut self.transport) {
+                    Ok(()) => Ok(()),
+                    Err(e) => Err(Error::from(e)),
+                }
             }
+            State::Ended => Ok(()),
+            State::Broken => Ok(()),
         }
     }
 }
@@ -415,7 +531,9 @@ fn unless_reported(
     came: Result<Option<Outcome>, Error>,
     messages: &Kept,
     goes_on: bool,
-) -> Result<Option<Outcome>, Error> {
+) -> Result<Option<Outcome>, Error>
+    ensures { IfOk result (λ outcome. came ≡ Ok outcome) }
+{
     if goes_on {
         return came;
     }
@@ -427,16 +545,39 @@ fn unless_reported(
     }
 }
 
-// What the server doesn't offer.
-fn missing(alloc: Global, feature: &str) -> Error {
-    match String::from_str(alloc, feature) {
-        Ok(feature) => Error::MissingFeature { feature },
-        Err(_) => Error::Memory,
-    }
+// A store of a boundary.
+fn store_of(alloc: Global, boundary: &[ObjectId]) -> Result<ShallowMemory, AllocError>
+    ensures { IfOk result (λ store. store.ids.items ≡ boundary.now) }
+{
+    let ids = Vec::from_slice(alloc, boundary)?;
+    Ok(ShallowMemory::new(ids))
+}
+
+// What came of a fetch, and what becomes of the boundary.
+fn settled(
+    alloc: Global,
+    came: Result<Option<Outcome>, Error>,
+    messages: Kept,
+    request: &Request,
+    before: &[ObjectId],
+    after: &[ObjectId],
+) -> Result<Fetched, Error>
+    ensures { IfOk result (λ f. came ≡ Ok f.outcome) }
+{
+    let outcome = unless_reported(came, &messages, request.goes_on)?;
+    let is_asked = !matches!(request.shallow, Shallow::NoChange);
+    let boundary = Boundary::changed(alloc, before, after, is_asked)?;
+    Ok(Fetched {
+        outcome,
+        boundary,
+        messages,
+    })
 }
 
 // Refuses a filter where the server offers none.
-fn expect_filter(alloc: Global, shaken: &Handshake, request: &Request) -> Result<(), Error> {
+fn expect_filter(alloc: Global, shaken: &Handshake, request: &Request) -> Result<(), Error>
+    ensures { IfErr result IsUnsent }
+{
     if request.filter.is_none() {
         return Ok(());
     }
@@ -448,26 +589,5 @@ fn expect_filter(alloc: Global, shaken: &Handshake, request: &Request) -> Result
         Ok(())
     } else {
         Err(missing(alloc, "filter"))
-    }
-}
-
-// Why a fetch was refused, with nothing of the caller's in it. A boundary in memory that nobody else has is refused for want of
-// memory alone.
-fn of_fetch<E: Into<Error>>(alloc: Global, e: FetchError<NoAlternates, E>) -> Error {
-    match e {
-        FetchError::FetchResponse(e) => Error::Answer(e),
-        FetchError::Negotiate(e) => Error::from(e),
-        FetchError::Client(e) => Error::from(e),
-        FetchError::MissingServerFeature {
-            feature,
-            description: _,
-        } => missing(alloc, feature),
-        FetchError::WriteShallowFile(_)
-        | FetchError::ReadShallowFile(_)
-        | FetchError::LockShallowFile(_) => Error::Memory,
-        FetchError::RejectShallowRemote => Error::ShallowServer,
-        FetchError::ConsumePack(e) => e.into(),
-        FetchError::ReadRemainingBytes(e) => Error::Rest(e),
-        FetchError::Memory => Error::Memory,
     }
 }

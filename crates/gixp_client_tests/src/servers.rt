@@ -34,6 +34,12 @@ pub(crate) const PACK: &[&[u8]] = &[
 /// The same with an error beside the pack.
 pub(crate) const REPORTED: &[&[u8]] = &[b"packfile\n", b"\x01PA", b"\x03disk full\n\0", b""];
 
+/// The list of an empty repository.
+pub(crate) const EMPTY: &[&[u8]] = &[b""];
+
+/// A refusal.
+pub(crate) const DENIED: &[&[u8]] = &[b"ERR access denied\n"];
+
 /// A transport over the answers of a server, each the packet lines of these payloads.
 pub(crate) fn server(alloc: Global, answers: &[&[&[u8]]]) -> Result<Bodies, AllocError> {
     let mut bodies = Vec::new(alloc);

@@ -74,7 +74,10 @@ impl StoredRefs {
     pub fn to_vec(&self, alloc: Global) -> Result<Vec<(BStr<'_>, ObjectId)>, AllocError>
         ensures { IfOk result (λ refs. map named_id_of refs.items ≡ map held_ref self.now) }
     {
-        named_ids_of(alloc, &self.names)
+        match named_ids_of(alloc, &self.names) {
+            Ok(refs) => Ok(refs),
+            Err(e) => Err(e),
+        }
     }
 
     // The id that the ref of a name holds.
