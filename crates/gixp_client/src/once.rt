@@ -1,6 +1,6 @@
 //! A session of one fetch.
-ghost use Rattle.std.specs.Prelude.{◌≡◌, ◌⊎◌, [], None, Ok, IfOk, Option, Result};
-ghost use Rattle.gixp_refmap.specs.declared.refmap.map.RefMap.{RefMap};
+ghost use Rattle.std.specs.Prelude.{◌≡◌, ◌⊎◌, [], None, Ok, IfOk};
+ghost use Rattle.gixp_packetline.specs.Reading.{Reading};
 ghost use Rattle.gixp_fetch.specs.Fetch.{parties_of};
 ghost use Rattle.gixp_client.specs.ClientCalls.{client_feature, session_knowledge};
 ghost use Rattle.gixp_client.specs.ClientPromise.{IsOneRun};

@@ -19,7 +19,7 @@ use std::alloc::{AllocError, Global};
 #[derive(Debug, Drop)]
 pub struct Request {
     alloc: Global,
-    /// The refspecs. None are all refs, which go nowhere.
+    /// The refspecs. Where there are none, nothing but tags is mapped.
     pub refspecs: Vec<RefSpec>,
     /// Which tags come along: those that lead to what is fetched, unless it is set otherwise.
     pub tags: Tags,
