@@ -304,3 +304,12 @@ pub use Rattle.gixp_updates.specs.declared.refs.error.Error as UpdateErrorType
 pub use Rattle.gixp_updates.specs.declared.refs.unmatched.UnmatchedSpec as UnmatchedSpecType
 pub use Rattle.gixp_updates.specs.declared.refs.update.Mode as ModeType
 pub use Rattle.gixp_updates.specs.declared.refs.update.Options as UpdateOptionsType
+pub use Rattle.gixp_client.specs.ClientCalls
+pub use Rattle.gixp_client.specs.ClientError
+pub use Rattle.gixp_client.specs.ClientPromise
+pub use Rattle.gixp_client.specs.Filters
+pub use Rattle.gixp_client.specs.Windows
+pub use Rattle.gixp_client.specs.declared.error.Error as SessionErrorType
+pub use Rattle.gixp_client.specs.declared.request.Request as RequestType
+pub use Rattle.gixp_client.specs.declared.session.State as SessionStateType
+pub use Rattle.gixp_client.specs.declared.session.Session as SessionType
