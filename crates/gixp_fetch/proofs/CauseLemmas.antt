@@ -1,6 +1,6 @@
 -- Why a fetch failed, by its error.
-use Rattle.std.proofs.Common.{◌≡◌, ◌⊎◌, inl, inr, ℕ, ◌+◌, Bool, true, false, not, List, [], ◌∷◌, ◌++◌, length, map, refl, sym, ap, subst, ◌∙◌, Option, Some, None}
-use Rattle.std.specs.Prelude.{Result, Ok, Err, ℤ, IfSome, codes, ◌||◌, ◌&&◌, if◌then◌else◌}
+use Rattle.std.proofs.Common.{◌≡◌, ◌⊎◌, inl, inr, ℕ, ◌+◌, Bool, true, false, not, List, [], ◌∷◌, ◌++◌, length, refl, sym, ap, subst, ◌∙◌, Option, Some, None}
+use Rattle.std.specs.Prelude.{Ok, Err, ℤ, IfSome, codes, ◌||◌, ◌&&◌, if◌then◌else◌}
 use Rattle.std.proofs.lemmas.List.{append-nil, length-append}
 use Rattle.std.proofs.lemmas.Bool.{false≢true}
 use Rattle.gixp_hash.specs.declared.object_id.ObjectId.{ObjectId}
@@ -10,15 +10,14 @@ use Rattle.gixp_packetline.specs.declared.read.Error.TheVariants.{Memory as read
 use Rattle.gixp_packetline.specs.FrameText.{texts_of}
 use Rattle.gixp_packetline.specs.Items.{is_stop}
 use Rattle.gixp_packetline.specs.Pieces.{Refusal, unexpected_frame, Piece, line, mark, Pieces, no_pieces}
-use Rattle.gixp_packetline.specs.Lines.{refusal as ends_refused, gives, stops, refuses, next_from, next_of, lines_from, lines_of}
+use Rattle.gixp_packetline.specs.Lines.{refusal as ends_refused, gives, stops, refuses, next_from, next_of, lines_from}
 use Rattle.gixp_packetline.specs.Reading.{Reading, Fails as reader_fails, refusal_of, lines_ahead, lines_from_stop}
 use Rattle.gixp_capabilities.specs.declared.client.Error.{Error as client_error}
 use Rattle.gixp_capabilities.specs.declared.client.Error.TheVariants.{Memory as client_memory}
-use Rattle.gixp_sidebands.specs.Bands.{Side, side_reading}
+use Rattle.gixp_sidebands.specs.Bands.{side_reading}
 use Rattle.gixp_response.specs.declared.fetch.response.error.Error.{Error as answer_error}
 use Rattle.gixp_response.specs.declared.fetch.response.error.Error.TheVariants.{Memory as answer_memory}
 use Rattle.gixp_response.specs.declared.fetch.response.line.ShallowUpdate.{ShallowUpdate}
-use Rattle.gixp_response.specs.Answer.{AnswerValue}
 use Rattle.gixp_response.specs.Features.{Feature, missing_feature, Misses}
 use Rattle.gixp_response.specs.Beginnings.{expected as flags}
 use Rattle.gixp_response.specs.AnswerReading.{answer_of}
@@ -31,7 +30,7 @@ use Rattle.gixp_refmap.specs.declared.fetch.Tags.TheVariants.{Included, All, Non
 use Rattle.gixp_negotiate.specs.declared.negotiate.Round.{Round}
 use Rattle.gixp_negotiate.specs.declared.negotiate.Error.{Error as negotiate_error}
 use Rattle.gixp_negotiate.specs.declared.negotiate.Error.TheVariants.{NegotiationFailed, Memory as negotiate_memory}
-use Rattle.gixp_negotiate.specs.Negotiate.{ActionValue, IsOwn}
+use Rattle.gixp_negotiate.specs.Negotiate.{IsOwn}
 use Rattle.gixp_fetch.specs.declared.shallow.ShallowError.{ShallowError}
 use Rattle.gixp_fetch.specs.declared.shallow.ShallowError.TheVariants.{Memory as store_memory}
 use Rattle.gixp_fetch.specs.declared.error.Error.{Error}
@@ -39,20 +38,20 @@ use Rattle.gixp_fetch.specs.declared.error.Error.TheVariants.{FetchResponse, Neg
 use Rattle.gixp_fetch.specs.declared.receive.PackFailure.{PackFailure}
 use Rattle.gixp_fetch.specs.declared.receive.PackFailure.TheVariants.{Consumer, Rest}
 use Rattle.gixp_fetch.specs.FetchError.{of_response, of_client, of_negotiate, of_read, of_lock, of_store_read, of_write}
-use Rattle.gixp_fetch.specs.FetchRounds.{At, Turn, Manner, Turns, Rounds, Interrupts, DoneWithout, TurnFails, RoundsFail, Breaks, before_request, at_request, behind_request, at_answer, behind_answer}
+use Rattle.gixp_fetch.specs.FetchRounds.{At, Turn, Manner, Rounds, Interrupts, DoneWithout, TurnFails, RoundsFail, Breaks, before_request, at_request, behind_request, at_answer, behind_answer}
 use Rattle.gixp_fetch.specs.FetchShallow.{Asking, ShallowValue, no_change, at_remote, deepens, since, excludes, is_change, is_some_id, if_can, with_boundary, with_excluded, asks_since, asks_excluded, then_asks, asks_depth, shallow_asks, IsMissing, description_of}
 use Rattle.gixp_fetch.specs.Prepare.{PrepareFails, no_room, unneeded, untagged, LocksFirst, ReleasesIf, asks_tags}
-use Rattle.gixp_fetch.specs.Receive.{DrainFails, GivesBack}
+use Rattle.gixp_fetch.specs.Receive.{DrainFails}
 use Rattle.gixp_fetch.specs.Received.{PackRefused, of_pack}
 use Rattle.gixp_fetch.specs.View.{view, view_plain}
 use Rattle.gixp_fetch.specs.Sent.{request_of, requests_of, WroteRequests}
 use Rattle.gixp_fetch.specs.Store.{to_lock}
-use Rattle.gixp_fetch.specs.Session.{OpensFetch, OpenFails, ReadyFails, is_any, HoldsBy, UnheldBy, SettleFails, DeliverFails, at_lock, at_pack, at_boundary}
-use Rattle.gixp_fetch.specs.Fetch.{World, Parties, Begun, Negotiated, Rests, FetchFails, unopened, unready, unpacked, untold, undelivered}
-use Rattle.gixp_fetch.specs.Fetched.{FetchCall, features, CarriesOut, StartFails, unprepared, unlocked, Fetches}
+use Rattle.gixp_fetch.specs.Session.{OpenFails, ReadyFails, is_any, HoldsBy, UnheldBy, DeliverFails, at_lock, at_pack, at_boundary}
+use Rattle.gixp_fetch.specs.Fetch.{World, Parties, Rests, FetchFails, unopened, unready, unpacked, untold, undelivered}
+use Rattle.gixp_fetch.specs.Fetched.{FetchCall, features, StartFails, unprepared, unlocked, Fetches}
 use Rattle.gixp_fetch.specs.Sessions.{AreAnswers, manner_of, RefusesPack}
-use Rattle.gixp_fetch.specs.Causes.{EndsShort, StopsShort, IsLockedFirst, IsGivenBack, LacksRequired, AnswerRefused, RequestRefused, NoPackAfter, NegotiationRefused, NegotiationCause, BoundaryUnread, BoundaryUnwritten, LockRefused, IsRejected, FeatureLacked, RestRefused, IsCause}
-use Rattle.gixp_fetch.proofs.SentLemmas.{one_request, both_written, held_written, rounds_written, last_written}
+use Rattle.gixp_fetch.specs.Causes.{EndsShort, StopsShort, IsGivenBack, LacksRequired, AnswerRefused, RequestRefused, NegotiationRefused, BoundaryUnread, BoundaryUnwritten, LockRefused, FeatureLacked, RestRefused, IsCause}
+use Rattle.gixp_fetch.proofs.SentLemmas.{one_request, both_written, rounds_written, last_written}
 use Rattle.gixp_fetch.proofs.SessionLemmas.{fails_held, is_answer, rounds_answers, count_same, count_more, refuses_pack, packed_running, begin_at}
 use Rattle.gixp_fetch.proofs.KeptLemmas.{may_change, stays_same}
 use Rattle.gixp_fetch.proofs.HeadlineLemmas.{answers_refused}

@@ -14,7 +14,7 @@ use Rattle.gixp_capabilities.specs.declared.client.Error.{Error as client_error}
 use Rattle.gixp_wire.specs.declared.bodies.Body.{Body}
 use Rattle.gixp_wire.specs.declared.bodies.Body.TheVariants.{Bytes, Fail}
 use Rattle.gixp_wire.specs.Bodies.{answer_of as body_answer}
-use Rattle.gixp_packetline.specs.TransportState.{Answer, body}
+use Rattle.gixp_packetline.specs.TransportState.{body}
 use Rattle.gixp_wire.specs.declared.service.Service.{Service}
 use Rattle.gixp_wire.specs.declared.service.SetServiceResponse.{SetServiceResponse}
 use Rattle.gixp_wire.specs.Greeting.{Parameter}

@@ -1,5 +1,5 @@
 -- Why a fetch failed, by its error alone: which call gave it, and what that call was about (gitprotocol-pack, "Packfile Negotiation").
-use Rattle.std.specs.Prelude.{◌≡◌, ◌⊎◌, ⊤, ℕ, Bool, true, false, not, codes, length, List, [], ◌∷◌, ◌++◌, Option, Some, None, IfSome, Result, Ok, Err}
+use Rattle.std.specs.Prelude.{◌≡◌, ◌⊎◌, ⊤, ℕ, Bool, true, false, not, codes, length, List, [], ◌∷◌, ◌++◌, Option, Some, IfSome, Ok, Err}
 use Rattle.gixp_packetline.specs.Lines.{refusal as ends_refused}
 use Rattle.gixp_packetline.specs.Pieces.{Refusal, Pieces}
 use Rattle.gixp_packetline.specs.Reading.{Reading, IsOutside, refusal_of, lines_ahead}
@@ -17,7 +17,7 @@ use Rattle.gixp_response.specs.Beginnings.{expected as flags}
 use Rattle.gixp_response.specs.AnswerReading.{answer_of}
 use Rattle.gixp_requests.specs.Feature.{feature_values, has_feature}
 use Rattle.gixp_requests.specs.Arguments.{ArgumentsValue}
-use Rattle.gixp_negotiate.specs.Negotiate.{ActionValue, Window, negotiate}
+use Rattle.gixp_negotiate.specs.Negotiate.{Window, negotiate}
 use Rattle.gixp_negotiate.specs.declared.negotiate.Error.{Error as negotiate_error}
 use Rattle.gixp_negotiate.specs.declared.negotiate.Error.TheVariants.{NegotiationFailed, Memory as negotiate_memory}
 use Rattle.gixp_response.specs.Answer.{AnswerValue, refused as answer_refused}

@@ -1,6 +1,5 @@
 -- What a fetch does to the store of the shallow boundary, call by call, and how often it asks the interrupt.
-use Rattle.std.specs.Prelude.{◌≡◌, ◌⊎◌, ⊤, ℕ, zero, suc, ◌+◌, Bool, true, false, length, map, List, [], ◌∷◌, ◌++◌, Option, Some, None, IfSome, Result, Ok, Err}
-use Rattle.std.specs.List.{Contains}
+use Rattle.std.specs.Prelude.{◌≡◌, ◌⊎◌, ⊤, ℕ, zero, suc, ◌+◌, Bool, true, false, List, [], ◌∷◌, ◌++◌, Option, Some, None, IfSome, Result, Ok, Err}
 use Rattle.gixp_hash.specs.declared.object_id.ObjectId.{ObjectId}
 use Rattle.gixp_sidebands.specs.Questions.{TakesTexts}
 use Rattle.gixp_response.specs.declared.fetch.response.line.ShallowUpdate.{ShallowUpdate}
@@ -10,7 +9,7 @@ use Rattle.gixp_fetch.specs.FetchRounds.{Turn}
 use Rattle.gixp_fetch.specs.FetchShallow.{no_change}
 use Rattle.gixp_fetch.specs.Boundary.{IsBoundary}
 use Rattle.gixp_fetch.specs.Store.{StoreCalls}
-use Rattle.gixp_fetch.specs.Fetch.{World, Parties, Wishes}
+use Rattle.gixp_fetch.specs.Fetch.{Parties, Wishes}
 use Rattle.gixp_fetch.specs.Fetched.{FetchCall}
 use Rattle.gixp_fetch.specs.Sessions.{AreAnswers, rounds_of}
 
@@ -35,7 +34,7 @@ module _ {S : Type 0} (calls : StoreCalls S) (wishes : Wishes) (updates : List S
     pub writes : ((updates ≡ []) × (wrote ≡ had)) ⊎ ((updates ≡ [] → ⊥) × (set : List ObjectId) × IsBoundary ids updates set
         × calls.writes had set wrote)
     pub last : ((updates ≡ []) × (wishes.shallow ≡ no_change) × (new ≡ wrote))
-        ⊎ ((((updates ≡ [] → ⊥)) ⊎ (wishes.shallow ≡ no_change → ⊥)) × calls.releases wrote new)
+        ⊎ (((updates ≡ [] → ⊥) ⊎ (wishes.shallow ≡ no_change → ⊥)) × calls.releases wrote new)
 
 module _ {N I S A C P X : Type 0} (parties : Parties N I A S C P X) (call : FetchCall) where
   -- of a fetch that isn't refused: changes are those of all answers, and then those of the handshake

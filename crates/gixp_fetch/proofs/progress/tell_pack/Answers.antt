@@ -1,4 +1,4 @@
-use Rattle.std.proofs.Common.{◌≡◌, ◌+◌, ◌∷◌, ◌++◌, [], length, subst, codes, rules}
+use Rattle.std.proofs.Common.{◌≡◌, ◌∷◌, [], subst, codes, rules}
 use Rattle.std.specs.String.{string_bytes}
 use Rattle.gixp_wire.specs.Progress.{step, set_name, ToldCalls}
 use Rattle.gixp_fetch.proofs.progress.tell_pack.Goals as goal

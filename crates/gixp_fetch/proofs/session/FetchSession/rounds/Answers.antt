@@ -1,6 +1,6 @@
 use Rattle.std.proofs.Common.{◌≡◌, refl, sym, ◌∙◌, subst, inl, inr, length, arith}
 use Rattle.std.proofs.lemmas.Result.{err_from_is_err_and}
-use Rattle.gixp_fetch.proofs.RoundLemmas.{manner_still, turn_by, refusal_by, running_none, running_more, unnamed_by, packed_by, done_by, interrupts_by, fails_by, failed_by, turn_at, refused_at}
+use Rattle.gixp_fetch.proofs.RoundLemmas.{manner_still, turn_by, refusal_by, running_more, unnamed_by, packed_by, done_by, interrupts_by, fails_by, failed_by, turn_at, refused_at}
 use Rattle.gixp_fetch.proofs.ProgressLemmas.{named_as, tells_more}
 use Rattle.gixp_fetch.proofs.session.FetchSession.rounds.Goals as goal
 
