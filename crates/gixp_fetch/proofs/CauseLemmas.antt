@@ -1,5 +1,5 @@
 -- Why a fetch failed, by its error.
-use Rattle.std.proofs.Common.{◌≡◌, ◌⊎◌, inl, inr, ℕ, ◌+◌, Bool, true, false, not, List, [], ◌∷◌, ◌++◌, length, refl, sym, ap, subst, ◌∙◌, Option, Some, None}
+use Rattle.std.proofs.Common.{◌≡◌, ◌⊎◌, inl, inr, arith, ℕ, suc, ◌+◌, Bool, true, false, not, List, [], ◌∷◌, ◌++◌, length, refl, sym, ap, subst, ◌∙◌, Option, Some, None}
 use Rattle.std.specs.Prelude.{Ok, Err, ℤ, IfSome, codes, ◌||◌, ◌&&◌, if◌then◌else◌}
 use Rattle.std.proofs.lemmas.List.{append-nil, length-append}
 use Rattle.std.proofs.lemmas.Bool.{false≢true}
@@ -15,6 +15,8 @@ use Rattle.gixp_packetline.specs.Reading.{Reading, Fails as reader_fails, refusa
 use Rattle.gixp_capabilities.specs.declared.client.Error.{Error as client_error}
 use Rattle.gixp_capabilities.specs.declared.client.Error.TheVariants.{Memory as client_memory}
 use Rattle.gixp_sidebands.specs.Bands.{side_reading}
+use Rattle.gixp_sidebands.specs.Questions.{one_if, SaysEach, Asked, TakesTexts}
+use Rattle.gixp_response.specs.ResponseError.{answer_refusal, is_interruption}
 use Rattle.gixp_response.specs.declared.fetch.response.error.Error.{Error as answer_error}
 use Rattle.gixp_response.specs.declared.fetch.response.error.Error.TheVariants.{Memory as answer_memory}
 use Rattle.gixp_response.specs.declared.fetch.response.line.ShallowUpdate.{ShallowUpdate}
@@ -38,22 +40,23 @@ use Rattle.gixp_fetch.specs.declared.error.Error.TheVariants.{FetchResponse, Neg
 use Rattle.gixp_fetch.specs.declared.receive.PackFailure.{PackFailure}
 use Rattle.gixp_fetch.specs.declared.receive.PackFailure.TheVariants.{Consumer, Rest}
 use Rattle.gixp_fetch.specs.FetchError.{of_response, of_client, of_negotiate, of_read, of_lock, of_store_read, of_write}
-use Rattle.gixp_fetch.specs.FetchRounds.{At, Turn, Manner, Rounds, Interrupts, DoneWithout, TurnFails, RoundsFail, Breaks, before_request, at_request, behind_request, at_answer, behind_answer}
+use Rattle.gixp_fetch.specs.FetchRounds.{At, Turn, Manner, Rounds, Interrupts, DoneWithout, TurnFails, RoundsFail, Breaks, AsksBroken, before_request, at_request, behind_request, at_answer, behind_answer}
 use Rattle.gixp_fetch.specs.FetchShallow.{Asking, ShallowValue, no_change, at_remote, deepens, since, excludes, is_change, is_some_id, if_can, with_boundary, with_excluded, asks_since, asks_excluded, then_asks, asks_depth, shallow_asks, IsMissing, description_of}
 use Rattle.gixp_fetch.specs.Prepare.{PrepareFails, no_room, unneeded, untagged, LocksFirst, ReleasesIf, asks_tags}
 use Rattle.gixp_fetch.specs.Receive.{DrainFails}
 use Rattle.gixp_fetch.specs.Received.{PackRefused, of_pack}
-use Rattle.gixp_fetch.specs.View.{view, view_plain}
+use Rattle.gixp_fetch.specs.View.{view, view_plain, AsksThrough}
+use Rattle.gixp_fetch.specs.Kept.{SaysGoOn}
 use Rattle.gixp_fetch.specs.Sent.{request_of, requests_of, WroteRequests}
 use Rattle.gixp_fetch.specs.Store.{to_lock}
 use Rattle.gixp_fetch.specs.Session.{OpenFails, ReadyFails, is_any, HoldsBy, UnheldBy, DeliverFails, at_lock, at_pack, at_boundary}
 use Rattle.gixp_fetch.specs.Fetch.{World, Parties, Rests, FetchFails, unopened, unready, unpacked, untold, undelivered}
 use Rattle.gixp_fetch.specs.Fetched.{FetchCall, features, StartFails, unprepared, unlocked, Fetches}
 use Rattle.gixp_fetch.specs.Sessions.{AreAnswers, manner_of, RefusesPack}
-use Rattle.gixp_fetch.specs.Causes.{EndsShort, StopsShort, IsGivenBack, LacksRequired, AnswerRefused, RequestRefused, NegotiationRefused, BoundaryUnread, BoundaryUnwritten, LockRefused, FeatureLacked, RestRefused, IsCause}
+use Rattle.gixp_fetch.specs.Causes.{EndsShort, StopsShort, AsksPackets, AsksAnswer, IsGivenBack, LacksRequired, AnswerRefused, RequestRefused, NegotiationRefused, BoundaryUnread, BoundaryUnwritten, LockRefused, FeatureLacked, RestRefused, IsCause}
 use Rattle.gixp_fetch.proofs.SentLemmas.{one_request, both_written, rounds_written, last_written}
 use Rattle.gixp_fetch.proofs.SessionLemmas.{fails_held, is_answer, rounds_answers, count_same, count_more, refuses_pack, packed_running, begin_at}
-use Rattle.gixp_fetch.proofs.KeptLemmas.{may_change, stays_same}
+use Rattle.gixp_fetch.proofs.KeptLemmas.{may_change, stays_same, goes_each}
 use Rattle.gixp_fetch.proofs.HeadlineLemmas.{answers_refused}
 
 -- ---- the end of what comes after a pack
@@ -299,6 +302,39 @@ module _ {N I S A C P X : Type 0} (parties : Parties N I A S C P X) (call : Fetc
           by_this (MissingServerFeature f d) g (subst (λ n. FeatureLacked parties call old new n d.now) (sym m.0) (l d.now m.1))
       at d g m = absurd m
 
+-- ---- whom a refused answer asked
+
+module _ {I : Type 0} (says : I → Bool → I → Type 0) where
+  none_more : (xs : List I) (a b : I) → SaysEach says xs false a b → SaysGoOn says (length xs) a b
+  none_more xs a b s =
+      let k : length xs + 0 ≡ length xs = omega arith in
+      subst (λ n. SaysGoOn says n a b) k (goes_each says xs a b b 0 s refl)
+
+  -- up to the last question
+  parts : (xs : List I) (a b : I) → SaysEach says xs true a b → (mid : I) × SaysEach says xs false a mid × says mid true b
+  parts [] a b s = (a, refl, s)
+  parts (x ∷ xs) a b s = let r = parts xs x b s.1 in (r.0, (s.0, r.1), r.2)
+
+  packets_by : (told : Bool) (old new : Reading) (a b : I) → Asked says told old new a b → AsksPackets says told old new a b
+  packets_by false old new a b h =
+      let k : length h.after + one_if false ≡ length h.after = omega arith in
+      (length h.after, subst (λ n. IfSome old.to_come (TakesTexts n old new)) k h.each, none_more h.after a b h.said)
+  packets_by true old new a b h =
+      let k : length h.after + one_if true ≡ suc (length h.after) = omega arith in
+      let r = parts h.after a b h.said in (
+        length h.after,
+        r.0,
+        subst (λ n. IfSome old.to_come (TakesTexts n old new)) k h.each,
+        none_more h.after a r.0 r.1,
+        r.2,
+      )
+
+  asks_answer : (banded plain told : Bool) (old new : Reading) (a b : I) → AsksThrough says banded plain told old new a b
+      → AsksAnswer says banded plain told old new a b
+  asks_answer false plain told old new a b h = h
+  asks_answer true plain told old new a b (inl h) = inl (packets_by told old new a b h)
+  asks_answer true plain told old new a b (inr h) = inr (h.0, h.1, packets_by false old new a b h.2)
+
 -- ---- the lock
 
 module _ {S : Type 0} (locks releases : S → S → Type 0) (s : ShallowValue) (old new : S) where
@@ -337,6 +373,7 @@ module _ {N I S A C P X : Type 0} (parties : Parties N I A S C P X) (call : Fetc
         reading = ap (λ (w : World N I S C). w.reading) s;
         interrupt = ap (λ (w : World N I S C). w.interrupt) s;
         consumer = ap (λ (w : World N I S C). w.consumer) s;
+        store = inl (ap (λ (w : World N I S C). w.store) s);
       }
 
       misses : (raw : List Feature) → feature_values raw ≡ features call → (error : answer_error) (o : Option (List ℕ))
@@ -398,6 +435,15 @@ module _ {N I S A C P X : Type 0} (parties : Parties N I A S C P X) (call : Fetc
           reading = r.reading;
           interrupt = r.interrupt;
           consumer = r.consumer;
+          store = inr (
+            u.ids,
+            held,
+            last.store,
+            locked_by parties.store_calls.locks parties.store_calls.releases call.wishes.shallow old.store released
+                (is_change call.wishes.shallow) first held refl locks,
+            u.reads,
+            back_as r.locked,
+          );
         })
 
     unready_cause : (a : ArgumentsValue) → ReadyFails parties.negotiation_calls old.negotiate a e last.negotiate → Caused
@@ -411,23 +457,39 @@ module _ {N I S A C P X : Type 0} (parties : Parties N I A S C P X) (call : Fetc
       begun_at = begin_at parties old ready wanted
 
       unanswered_cause : (turns : List (Turn N I)) (before : At N I) (i : I) → Rounds how begun_at turns before
+          → parties.says before.interrupt false i
           → TurnFails how (record before { interrupt = i }) e last.negotiate last.reading last.interrupt → Caused
-      unanswered_cause turns before i run (inl u) = by_negotiation parties call old new progress e u.error u.own u.gives
-          (inr (inr (before.negotiate, before.window, before.asked, before.previous, u.window, u.asked, u.refused)))
-      unanswered_cause turns before i run (inr b) = at b.breaks
+      unanswered_cause turns before i run said (inl u) = by_negotiation parties call old new progress e u.error u.own u.gives
+          (inr (inr (
+            before.negotiate,
+            before.window,
+            before.asked,
+            before.previous,
+            u.window,
+            u.asked,
+            u.refused,
+            (
+              requests_of turns,
+              subst (λ (x : Reading). WroteRequests old.reading x (requests_of turns)) (sym u.stands)
+                  (rounds_written how begun_at before turns run),
+            ),
+            (before.interrupt, subst (λ x. parties.says before.interrupt false x) (sym u.unasked) said),
+          )))
+      unanswered_cause turns before i run said (inr b) = at b.breaks b.asks
         where
-          at : Breaks how (record before { interrupt = i }) b.asked b.done e last.reading → Caused
-          at (before_request m r) = by_memory parties call old new progress e m
-          at (at_request error s g) = by_client parties call old new progress e error g (record {
+          at : (k : Breaks how (record before { interrupt = i }) b.asked b.done e last.reading) → AsksBroken how k last.interrupt → Caused
+          at (before_request m r) asks = by_memory parties call old new progress e m
+          at (at_request error s g) asks = by_client parties call old new progress e error g (record {
             before = before.reading;
             requests = requests_of turns;
             wrote = rounds_written how begun_at before turns run;
             asked = b.asked;
             done = b.done;
             refused = s;
+            asks = (before.interrupt, subst (λ x. parties.says before.interrupt false x) (sym asks) said);
           })
-          at (behind_request s m) = by_memory parties call old new progress e m.1
-          at (at_answer sent s error a h g) = by_answer parties call old new progress e error g (inr (record {
+          at (behind_request s m) asks = by_memory parties call old new progress e m.1
+          at (at_answer sent s error a h g) asks = by_answer parties call old new progress e error g (inr (record {
             banded = banded;
             bands = bands;
             requests = requests_of turns ++ texts_of (request b.asked b.done) ∷ [];
@@ -439,8 +501,13 @@ module _ {N I S A C P X : Type 0} (parties : Parties N I A S C P X) (call : Fetc
             why = answers_refused (answer_of call.version (flags b.done (not b.done))) (view_plain banded parties.plain) (view banded sent)
                 (view banded last.reading) error a;
             held = h;
+            before = before.interrupt;
+            first = i;
+            goes_on = said;
+            asks = asks_answer parties.says banded parties.plain (is_interruption (answer_refusal error)) sent last.reading i last.interrupt
+                asks;
           }))
-          at (behind_answer sent s reply a h m) = by_memory parties call old new progress e m
+          at (behind_answer sent s reply a h m) asks = by_memory parties call old new progress e m
 
       packless_cause : (rounds : List Round) (n : ℕ) (end : At N I) → n ≡ length rounds → e ≡ Negotiate (NegotiationFailed n)
           → last.reading ≡ end.reading → last.interrupt ≡ end.interrupt
@@ -469,7 +536,7 @@ module _ {N I S A C P X : Type 0} (parties : Parties N I A S C P X) (call : Fetc
 
       unpacked_cause : (rounds : List Round) → RoundsFail how begun_at e rounds last.negotiate last.reading last.interrupt → Caused
       unpacked_cause rounds (inl f) = packless_cause rounds f.count f.end f.counted f.gives f.reads f.asks f.ends
-      unpacked_cause rounds (inr (inl l)) = unanswered_cause l.turns l.before l.asked l.run l.refused
+      unpacked_cause rounds (inr (inl l)) = unanswered_cause l.turns l.before l.asked l.run l.said l.refused
       unpacked_cause rounds (inr (inr u)) = by_memory parties call old new progress e u.gives
 
     -- ---- what follows a pack

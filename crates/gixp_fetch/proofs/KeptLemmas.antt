@@ -162,7 +162,7 @@ module _ {N I S A C P X : Type 0} (parties : Parties N I A S C P X) (call : Fetc
 -- ---- the interrupt
 
 module _ {I : Type 0} (says : I → Bool → I → Type 0) where
-  goes_each : (xs : List I) (a b c : I) (n : ℕ) → SaysEach says xs false a b → SaysGoOn says n b c → SaysGoOn says (length xs + n) a c
+  pub goes_each : (xs : List I) (a b c : I) (n : ℕ) → SaysEach says xs false a b → SaysGoOn says n b c → SaysGoOn says (length xs + n) a c
   goes_each [] a b c n s g =
       let none : List I = [] in
       let k : n ≡ length none + n = omega arith in

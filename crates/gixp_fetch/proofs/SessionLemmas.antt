@@ -496,7 +496,8 @@ module _ {N I A S C P X : Type 0} (parties : Parties N I A S C P X) where
             haves = n.bounded.haves lawful;
             windows = n.bounded.windows lawful;
             few = few_packed p.turns p.last _ _ p.told (n.bounded.requests lawful wide);
-            says = s.answers;
+            says = s.answers
+                ∙ ap (λ (a : AnswerValue). record a { shallow_updates = a.shallow_updates ++ call.wishes.told }) p.answer;
             stands = s.stands;
             held = s.delivered.held;
             holds = s.delivered.holds;

@@ -1,5 +1,5 @@
 -- Why a fetch failed, by its error alone: which call gave it, and what that call was about (gitprotocol-pack, "Packfile Negotiation").
-use Rattle.std.specs.Prelude.{◌≡◌, ◌⊎◌, ⊤, ℕ, Bool, true, false, not, codes, length, List, [], ◌∷◌, ◌++◌, Option, Some, IfSome, Ok, Err}
+use Rattle.std.specs.Prelude.{◌≡◌, ◌⊎◌, ⊤, ℕ, suc, Bool, true, false, not, codes, length, List, [], ◌∷◌, ◌++◌, Option, Some, IfSome, Ok, Err}
 use Rattle.gixp_packetline.specs.Lines.{refusal as ends_refused}
 use Rattle.gixp_packetline.specs.Pieces.{Refusal, Pieces}
 use Rattle.gixp_packetline.specs.Reading.{Reading, IsOutside, refusal_of, lines_ahead}
@@ -9,9 +9,10 @@ use Rattle.gixp_capabilities.specs.declared.client.Error.{Error as client_error}
 use Rattle.gixp_capabilities.specs.declared.client.Error.TheVariants.{Memory as client_memory}
 use Rattle.gixp_hash.specs.declared.object_id.ObjectId.{ObjectId}
 use Rattle.gixp_sidebands.specs.Bands.{Side, side_reading}
+use Rattle.gixp_sidebands.specs.Questions.{TakesTexts}
 use Rattle.gixp_response.specs.declared.fetch.response.error.Error.{Error as answer_error}
 use Rattle.gixp_response.specs.declared.fetch.response.error.Error.TheVariants.{Memory as answer_memory}
-use Rattle.gixp_response.specs.ResponseError.{AnswerRefusal, answer_refusal, missing_capability, IsAnswerRefusal}
+use Rattle.gixp_response.specs.ResponseError.{AnswerRefusal, answer_refusal, missing_capability, is_interruption, IsAnswerRefusal}
 use Rattle.gixp_response.specs.Features.{Feature, missing_feature}
 use Rattle.gixp_response.specs.Beginnings.{expected as flags}
 use Rattle.gixp_response.specs.AnswerReading.{answer_of}
@@ -35,6 +36,7 @@ use Rattle.gixp_fetch.specs.Store.{to_lock, to_read, to_write}
 use Rattle.gixp_fetch.specs.Fetch.{World, Parties}
 use Rattle.gixp_fetch.specs.Fetched.{FetchCall, features}
 use Rattle.gixp_fetch.specs.Sessions.{AreAnswers, TakesPack, RefusesPack}
+use Rattle.gixp_fetch.specs.Kept.{SaysGoOn}
 use Rattle.gixp_fetch.specs.Headline.{AnswerFromOutside}
 
 -- lines aren't read up to a stop, for this reason: it is what ends them, or after some of them something came from outside
@@ -48,6 +50,21 @@ pub record StopsShort (old new : Reading) (e : Refusal) : Type 0 where
   pub why : EndsShort old new e
   pub version : new.version ≡ old.version
   pub held : new.held ≡ old.held
+
+module _ {I : Type 0} (says : I → Bool → I → Type 0) where
+  -- the interrupt was asked once after each packet of bands 2 and 3 that was taken, and said each time to go on, or the last time to
+  -- stop
+  abbrev pub AsksPackets : Bool → Reading → Reading → I → I → Type 0
+  AsksPackets false old new first last = (n : ℕ) × IfSome old.to_come (TakesTexts n old new) × SaysGoOn says n first last
+  AsksPackets true old new first last = (n : ℕ) × (mid : I) × IfSome old.to_come (TakesTexts (suc n) old new)
+      × SaysGoOn says n first mid × says mid true last
+
+  -- a refused answer asked it so where all is banded, and else not at all; and said to stop where it is refused as interrupted, unless
+  -- that is another's doing below
+  abbrev pub AsksAnswer : (banded plain stops : Bool) → Reading → Reading → I → I → Type 0
+  AsksAnswer false plain stops old new first last = last ≡ first
+  AsksAnswer true plain stops old new first last = AsksPackets stops old new first last
+      ⊎ ((plain ≡ false) × (stops ≡ true) × AsksPackets false old new first last)
 
 module _ {N I A S C P X : Type 0} (parties : Parties N I A S C P X) (call : FetchCall) (old new : World N I S C) where
   -- whether the boundary may change
@@ -108,6 +125,10 @@ module _ {N I A S C P X : Type 0} (parties : Parties N I A S C P X) (call : Fetc
     pub why : ((r : AnswerRefusal) × IfSome (view banded sent).to_come (λ p. answer_of call.version (flags done (not done)) p ≡ answer_refused r)
         × IsAnswerRefusal e r) ⊎ AnswerFromOutside (view_plain banded parties.plain) (view banded sent) (view banded new.reading) e
     pub held : new.reading.held ≡ sent.held
+    pub before : I
+    pub first : I
+    pub goes_on : parties.says before false first
+    pub asks : AsksAnswer parties.says banded parties.plain (is_interruption (answer_refusal e)) sent new.reading first new.interrupt
 
   -- a request wasn't sent, after others
   pub record RequestRefused (e : client_error) : Type 0 where
@@ -117,6 +138,7 @@ module _ {N I A S C P X : Type 0} (parties : Parties N I A S C P X) (call : Fetc
     pub asked : ArgumentsValue
     pub done : Bool
     pub refused : SendsRound before new.reading asked done (Err e)
+    pub asks : (first : I) × parties.says first false new.interrupt
 
   -- the rounds were this many, and the caller stopped them, or the last was done without a pack
   pub record NoPackAfter (n : ℕ) : Type 0 where
@@ -135,7 +157,9 @@ module _ {N I A S C P X : Type 0} (parties : Parties N I A S C P X) (call : Fetc
       × parties.negotiation_calls.marks old.negotiate (negotiate known) marked
       × parties.negotiation_calls.adding_fails marked known given e asked new.negotiate)
       ⊎ ((from : N) × (window : Window) × (given : ArgumentsValue) × (previous : Option AnswerValue) × (next : Window)
-      × (asked : ArgumentsValue) × parties.negotiation_calls.round_fails from window given previous e new.negotiate next asked)
+      × (asked : ArgumentsValue) × parties.negotiation_calls.round_fails from window given previous e new.negotiate next asked
+      × ((requests : List (List ℕ)) × WroteRequests old.reading new.reading requests)
+      × ((before : I) × parties.says before false new.interrupt))
 
   -- or there was no pack
   abbrev pub NegotiationCause : negotiate_error A → Type 0
@@ -150,6 +174,8 @@ module _ {N I A S C P X : Type 0} (parties : Parties N I A S C P X) (call : Fetc
     pub reading : new.reading ≡ old.reading
     pub interrupt : new.interrupt ≡ old.interrupt
     pub consumer : new.consumer ≡ old.consumer
+    pub store : (new.store ≡ old.store) ⊎ ((ids : List ObjectId) × (held : S) × (read : S) × IsLockedFirst held
+        × parties.store_calls.reads held ids read × IsGivenBack read)
 
   -- the consumer took the pack to its end, and what it left ends otherwise than at a stop
   pub record RestRefused (e : read_error) (progress : P) : Type 0 where

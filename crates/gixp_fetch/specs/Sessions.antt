@@ -207,7 +207,7 @@ module _ {N I A S C P X : Type 0} (parties : Parties N I A S C P X) where
     pub haves : haves_of rounds ≤ parties.negotiation_calls.count start.negotiate
     pub windows : windows_of (but_last rounds) ≤ parties.negotiation_calls.count start.negotiate
     pub few : length (requests_of (packed.turns ++ packed.last ∷ [])) ≤ parties.negotiation_calls.count start.negotiate / 16 + 1
-    pub says : answer ≡ record reply { shallow_updates = reply.shallow_updates ++ call.wishes.told }
+    pub says : answer ≡ record packed.last.reply { shallow_updates = packed.last.reply.shallow_updates ++ call.wishes.told }
     pub stands : last.negotiate ≡ end.negotiate
     pub held : S
     pub holds : Holds parties.store_calls (updates ++ call.wishes.told) call.wishes.reject read locked held last.locked

@@ -5,6 +5,6 @@ pub returns : goal.returns
 returns g c = record {
   rounds = λ version banded plain start turns end s r. rounds_name _ g.met.N.NamesCommons.renames start end turns s r;
   last = λ version banded plain start turns before last s r h. last_names _ g.met.N.NamesCommons.renames start before turns last s r h;
-  unanswered = λ version banded plain start turns before round done after window asked s r goes.
-      unanswered_names _ g.met.N.NamesCommons.renames start before turns round done after window asked s r goes;
+  unanswered = λ version banded plain start turns before asked e negotiate reading interrupt s r b.
+      unanswered_names _ g.met.N.NamesCommons.renames start before turns b.round b.done negotiate b.window b.asked s r b.negotiated;
 }
