@@ -6,6 +6,7 @@ takes a mode and the number of commits; with the mode `history` it makes its inp
 taken off. Else it prints the microseconds of what is measured, and counts, in which both must agree. Needs `rustc`, GNU time,
 and what bench/build.py needs.
 """
+import os
 import subprocess
 import sys
 import tempfile
@@ -27,33 +28,46 @@ def both(folder, mode):
 
 
 def run(program, mode, commits):
-    """What a run printed, and its peak memory in bytes."""
+    """The numbers that a run printed; its peak memory in bytes, and its processor time outside of the kernel in seconds."""
     with tempfile.NamedTemporaryFile("r") as memory:
         words = ["time", "-o", memory.name, "-f", "%M", str(program), mode, str(commits)]
-        printed = subprocess.run(words, capture_output=True, text=True, check=True).stdout.split()
-        return printed + [int(memory.read()) * 1024]
+        running = subprocess.Popen(words, stdout=subprocess.PIPE, text=True)
+        printed = [int(word) for word in running.stdout.read().split()]
+        _, status, used = os.wait4(running.pid, 0)
+        running.returncode = os.waitstatus_to_exitcode(status)
+        if running.returncode:
+            raise subprocess.CalledProcessError(running.returncode, words)
+        return printed, [int(memory.read()) * 1024, used.ru_utime]
+
+
+def least(first, second):
+    return [min(pair) for pair in zip(first, second)]
 
 
 def compare(folder, mode, sizes):
     """Prints a line for each program and size: the best of five runs each, and of more of small sizes, in turn. The first count is
-    what it is shared by."""
+    what it is shared by. Memory and processor time are those of a run without those of one that makes the history alone; where the
+    machine has other work, processor time tells more than wall time does."""
     with both(folder, mode) as programs:
-        print("commits  counted  program  ms       ns/each  bytes/each  times of plain  other counts")
+        print("commits  counted  program  ms       ns/each  bytes/each  times of plain  processor ms  times of plain  other counts")
         for commits in sizes:
-            best, memory, counts = {}, {}, {}
+            best, counts, whole, before = {}, {}, {}, {}
             for _ in range(max(5, 400_000 // commits)):
                 for name, program in programs.items():
-                    micros, *counted, peak = (int(word) for word in run(program, mode, commits))
+                    (micros, *counted), used = run(program, mode, commits)
                     best[name] = min(best.get(name, micros), micros)
-                    memory[name] = min(memory.get(name, peak), peak)
+                    whole[name] = least(whole.get(name, used), used)
+                    _, used = run(program, "history", commits)
+                    before[name] = least(before.get(name, used), used)
                     counts[name] = counted
             assert counts["proved"] == counts["plain"], f"the two programs differ: {counts}"
             count, *more = counts["plain"]
-            for name, program in programs.items():
-                added = memory[name] - int(run(program, "history", commits)[-1])
+            added = {name: [all_of_it - part for all_of_it, part in zip(whole[name], before[name])] for name in programs}
+            for name, (memory, processor) in added.items():
                 print(
                     f"{commits:<8} {count:<8} {name:<8} {best[name] / 1000:<8.1f} {best[name] * 1000 / count:<8.0f} "
-                    f"{added / count:<11.0f} {best[name] / best['plain']:<15.2f} {' '.join(map(str, more))}"
+                    f"{memory / count:<11.0f} {best[name] / best['plain']:<15.2f} {processor * 1000:<13.1f} "
+                    f"{processor / added['plain'][1]:<15.2f} {' '.join(map(str, more))}"
                 )
 
 
