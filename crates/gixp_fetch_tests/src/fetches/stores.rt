@@ -69,7 +69,11 @@ fn keeps_a_boundary_in_a_file(rt: HostRuntime) -> Result<(), Fail> {
 // What became of such a fetch, and whether there is a lock after it.
 fn fetch_and_look(rt: &HostRuntime, path: &str, lock: &str) -> Result<String, AllocError> {
     let text = fetch_into(rt, path, GOES)?;
-    let is_locked = fs::read(rt, lock).is_ok();
+    let is_locked = match fs::read(rt, lock) {
+        Ok(_) => true,
+        Err(e) if e.kind() == io::ErrorKind::OutOfMemory => return Err(AllocError),
+        Err(_) => false,
+    };
     format!(in rt.alloc(); "{text}, locked {is_locked}")
 }
 

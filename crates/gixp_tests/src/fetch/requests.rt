@@ -40,18 +40,17 @@ fn failing_bodies(alloc: Global) -> Result<Bodies, AllocError> {
 }
 
 // Whether a send fails where the answer does, with the request sent and its haves kept.
-fn fails_once(transport: &mut Bodies, asked: &mut Arguments) -> bool {
-    fails_with(asked.send(transport, true), ErrorKind::TimedOut)
-        && transport.sent().len() == 1
-        && asked.has_haves()
+fn fails_once(transport: &mut Bodies, asked: &mut Arguments) -> Result<bool, Error> {
+    let is_failed = fails_with(asked.send(transport, true), ErrorKind::TimedOut)?;
+    Ok(is_failed && transport.sent().len() == 1 && asked.has_haves())
 }
 
 // Whether the whole request is the last one sent.
-fn sends_again(transport: &mut Bodies, asked: &mut Arguments) -> bool {
-    let is_sent = asked.send(transport, true).is_ok();
+fn sends_again(transport: &mut Bodies, asked: &mut Arguments) -> Result<bool, Error> {
+    asked.send(transport, true)?;
     match transport.sent().last() {
-        Some(sent) => is_sent && sent.as_slice() == REQUEST,
-        None => false,
+        Some(sent) => Ok(sent.as_slice() == REQUEST),
+        None => Ok(false),
     }
 }
 
@@ -59,12 +58,16 @@ fn sends_again(transport: &mut Bodies, asked: &mut Arguments) -> bool {
 fn keeps_all_where_the_answer_fails(rt: HostRuntime) -> Result<(), Fail> {
     let mut transport = failing_bodies(rt.alloc())?;
     let mut asked = asked(rt.alloc())?;
-    assert!(rt; fails_once(&mut transport, &mut asked));
-    assert!(rt; sends_again(&mut transport, &mut asked));
+    assert!(rt; fails_once(&mut transport, &mut asked)?);
+    assert!(rt; sends_again(&mut transport, &mut asked)?);
     Ok(())
 }
 
-// Whether an answer fails with an I/O error of this kind.
-fn fails_with<T: Drop>(answer: Result<T, Error>, kind: ErrorKind) -> bool {
-    matches!(answer, Err(Error::Io(found)) if found == kind)
+// Whether an answer fails with an I/O error of this kind; an allocation failure is told as it is.
+fn fails_with<T: Drop>(answer: Result<T, Error>, kind: ErrorKind) -> Result<bool, Error> {
+    match answer {
+        Err(Error::Io(found)) => Ok(found == kind),
+        Err(Error::Memory) => Err(Error::Memory),
+        _ => Ok(false),
+    }
 }

@@ -156,6 +156,9 @@ fn marked_by(
     };
     let mut graph = Graph::new(alloc, repository);
     let marked = graph.mark_complete(&[id(1), id(9)], Some(5));
+    if marked == Err(ObjectError::Memory) {
+        return Err(AllocError);
+    }
     let complete = [
         is_complete(&graph, 1),
         is_complete(&graph, 2),

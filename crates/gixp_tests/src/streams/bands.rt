@@ -60,6 +60,9 @@ fn heeds_the_flag(
     let mut lines = LineReader::new(alloc, &mut device)?;
     let mut texts = String::new(alloc);
     let got = two_reads(&mut lines, &flag, &mut texts);
+    if let (_, [Ok(_), Err(ErrorKind::OutOfMemory)]) = got {
+        return Err(AllocError);
+    }
     Ok(got == (interrupted, [Ok(1), second]) && texts.as_str() == "[2:hi]")
 }
 

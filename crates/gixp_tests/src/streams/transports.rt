@@ -52,8 +52,13 @@ fn bodies(
     Bodies::new(alloc, list, url, accepted)
 }
 
-fn fails_with<T: Drop>(answer: Result<T, Error>, kind: ErrorKind) -> bool {
-    matches!(answer, Err(Error::Io(found)) if found == kind)
+// Whether an answer fails with an I/O error of this kind, unless an allocation failed, here or in a writer.
+fn fails_with<T: Drop>(answer: Result<T, Error>, kind: ErrorKind) -> Result<bool, AllocError> {
+    match answer {
+        Err(Error::Memory | Error::Io(ErrorKind::OutOfMemory)) => Err(AllocError),
+        Err(Error::Io(found)) => Ok(found == kind),
+        _ => Ok(false),
+    }
 }
 
 // A connection of which the write with this number fails.
@@ -64,29 +69,31 @@ fn broken_at(alloc: Global, fails: u64) -> Result<Connection<Device<'static>, Pa
 }
 
 // Whether three requests all tell of a broken pipe.
-fn refuses_requests<T: Transport>(over: &mut T) -> bool {
+fn refuses_requests<T: Transport>(over: &mut T) -> Result<bool, AllocError> {
     let messages = [Message::Line(b"a"), Message::Delimiter, Message::Flush];
     for _ in 0..3 {
-        if !fails_with(over.request(&messages), ErrorKind::BrokenPipe) {
-            return false;
+        if !fails_with(over.request(&messages), ErrorKind::BrokenPipe)? {
+            return Ok(false);
         }
     }
-    true
+    Ok(true)
 }
 
 // Whether the steps of a request and a handshake all tell of a broken pipe.
-fn refuses_steps<T: Transport>(alloc: Global, over: &mut T) -> bool {
+fn refuses_steps<T: Transport>(alloc: Global, over: &mut T) -> Result<bool, AllocError> {
     let kind = ErrorKind::BrokenPipe;
-    fails_with(over.begin_request(), kind)
-        && fails_with(over.write_message(MessageKind::Flush), kind)
-        && fails_with(over.end_request(), kind)
-        && fails_with(over.handshake(alloc, Service::UploadPack, &[]), kind)
+    Ok(
+        fails_with(over.begin_request(), kind)?
+            && fails_with(over.write_message(MessageKind::Flush), kind)?
+            && fails_with(over.end_request(), kind)?
+            && fails_with(over.handshake(alloc, Service::UploadPack, &[]), kind)?,
+    )
 }
 
 // Whether every request and step fails over a connection of which the write with this number fails.
 fn stays_broken(alloc: Global, fails: u64) -> Result<bool, AllocError> {
     let mut over = broken_at(alloc, fails)?;
-    Ok(refuses_requests(&mut over) && refuses_steps(alloc, &mut over))
+    Ok(refuses_requests(&mut over)? && refuses_steps(alloc, &mut over)?)
 }
 
 #[test]
@@ -116,7 +123,7 @@ fn writes_on_where_a_write_comes_short(rt: HostRuntime) -> Result<(), Fail> {
 // Whether a request over this writer fails by this kind.
 fn refuses(alloc: Global, paper: Paper, kind: ErrorKind) -> Result<bool, AllocError> {
     let mut over = silent(alloc, paper)?;
-    Ok(fails_with(over.request(&[Message::Flush]), kind))
+    fails_with(over.request(&[Message::Flush]), kind)
 }
 
 #[test]
@@ -153,6 +160,9 @@ fn asked(
     calls: usize,
 ) -> Result<String, AllocError> {
     let answer = memory.request(&[message]);
+    if let Err(Error::Memory) = &answer {
+        return Err(AllocError);
+    }
     let lines = read_all(alloc, memory, calls)?;
     format!(in alloc; "{answer:?} {lines}")
 }
