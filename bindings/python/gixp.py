@@ -289,7 +289,8 @@ class Session:
         for answer in self.answers:
             end += len(answer)
             ends.append(end)
-        places, room, step = (c_size_t * max(len(ends), 1))(*ends), 4096, _Step()
+        # A want for each ref of the answers and a have for each id fit, so that mostly one call does.
+        places, room, step = (c_size_t * max(len(ends), 1))(*ends), 4096 + len(data) + 3 * len(self.haves), _Step()
         while True:
             request = ctypes.create_string_buffer(room)
             code = _lib.gixp_next(data, len(data), places, len(ends), self.specs, len(self.specs), self.haves, len(self.haves),
@@ -297,7 +298,7 @@ class Session:
             if code != _NO_ROOM:
                 break
             room = step.length
-        text = request.raw[:step.length]
+        text = request[:step.length]
         if code != _OK:
             raise GixpError(code, text if step.length <= room else b"")
         if step.kind == 1:

@@ -87,7 +87,8 @@ impl Session {
     /// What the client does next. Of the last answer a beginning will do that reaches to the pack; of a shorter one the error
     /// is [`Kind::Incomplete`](crate::Kind::Incomplete).
     pub fn step(&self) -> Result<Step, Error> {
-        let mut request = vec![0; 4096];
+        // A want for each ref of the answers and a have for each id fit, so that mostly one call does.
+        let mut request = vec![0; 4096 + self.answers.len() + 3 * self.haves.len()];
         loop {
             let mut step = StepRecord::default();
             // SAFETY: all are whole slices, of which the request is this call's alone, as is `step`.
