@@ -1,5 +1,5 @@
 //! The number of each outcome.
-ghost use Rattle.std.specs.Prelude.{◌≡◌, ◌≤◌};
+ghost use Rattle.std.specs.Prelude.{◌≡◌, ◌<◌};
 ghost use Rattle.gixp_c.specs.Codes.{packet_code, line_code, refs_code};
 
 use gix_protocol::fetch::{self, refmap, response};
@@ -30,7 +30,8 @@ pub(crate) const SERVER: u32 = 15;
 
 // Of a packet line.
 pub(crate) fn packet_code(e: PacketRefused) -> u32
-    ensures { result ≡ packet_code e }
+    ensures code { result ≡ packet_code e }
+    ensures high { 2 < result }
 {
     match e {
         PacketRefused::Incomplete => 10,
@@ -67,7 +68,9 @@ pub(crate) fn refs_code(e: RefsRefused) -> u32
 }
 
 // Of a refspec.
-pub(crate) fn spec_code(e: &parse::Error) -> u32 {
+pub(crate) fn spec_code(e: &parse::Error) -> u32
+    ensures { 2 < result }
+{
     match e {
         parse::Error::NegativeWithDestination => 32,
         parse::Error::NegativeObjectHash => 33,
@@ -79,7 +82,9 @@ pub(crate) fn spec_code(e: &parse::Error) -> u32 {
 }
 
 // Of a handshake.
-fn handshake_code(e: &handshake::Error) -> u32 {
+fn handshake_code(e: &handshake::Error) -> u32
+    ensures { 2 < result }
+{
     match e {
         handshake::Error::Credentials(_) => 40,
         handshake::Error::EmptyCredentials => 41,
@@ -93,7 +98,9 @@ fn handshake_code(e: &handshake::Error) -> u32 {
 }
 
 // Of a ref map.
-fn refs_map_code(e: &refmap::init::Error) -> u32 {
+fn refs_map_code(e: &refmap::init::Error) -> u32
+    ensures { 2 < result }
+{
     match e {
         refmap::init::Error::UnknownObjectFormat { .. } => 50,
         refmap::init::Error::MappingValidation(_) => 51,
@@ -103,7 +110,9 @@ fn refs_map_code(e: &refmap::init::Error) -> u32 {
 }
 
 // Of a fetch.
-fn fetch_code(e: &fetch::Error<AllocError, Left>) -> u32 {
+fn fetch_code(e: &fetch::Error<AllocError, Left>) -> u32
+    ensures { 2 < result }
+{
     match e {
         fetch::Error::FetchResponse(response::Error::Io(ErrorKind::UnexpectedEof)) => 10,
         fetch::Error::FetchResponse(_) => 60,
@@ -121,7 +130,9 @@ fn fetch_code(e: &fetch::Error<AllocError, Left>) -> u32 {
 }
 
 // Of a session.
-pub(crate) fn engine_code(e: &EngineError) -> u32 {
+pub(crate) fn engine_code(e: &EngineError) -> u32
+    ensures { 2 < result }
+{
     match e {
         EngineError::Lengths => BAD_PLACE,
         EngineError::Memory => 4,

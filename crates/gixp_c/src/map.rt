@@ -1,4 +1,6 @@
 //! The mappings of refspecs over refs, and their prefixes.
+ghost use Rattle.std.specs.Prelude.{◌≡◌, ◌<◌, length};
+
 use crate::code::{BAD_PLACE, CONFLICT, NO_MEMORY, NO_ROOM, OK, spec_code};
 use crate::texts::copy_text;
 use bstr::{BStr, BString};
@@ -47,7 +49,6 @@ enum MapRefused {
 }
 
 impl From<AllocError> for MapRefused {
-    ghost use Rattle.std.specs.Prelude.{◌≡◌};
     ghost use Rattle.gixp_c.specs.declared.map.MapRefused.TheVariants.{Memory};
 
     ghost from_gives = { λ _ error. error ≡ Memory };
@@ -58,7 +59,6 @@ impl From<AllocError> for MapRefused {
 }
 
 impl<T: Drop> From<AllocFailed<T>> for MapRefused {
-    ghost use Rattle.std.specs.Prelude.{◌≡◌};
     ghost use Rattle.gixp_c.specs.declared.map.MapRefused.TheVariants.{Memory};
 
     ghost from_gives = { λ _ error. error ≡ Memory };
@@ -350,7 +350,10 @@ pub extern "C" fn gixp_prefixes(
     specs: &[u8],
     buffer: &mut [u8],
     len: &mut usize,
-) -> u32 {
+) -> u32
+    ensures no_room { result ≡ 2 → (buffer.new ≡ buffer.old) × (length buffer.old < len.new) }
+    ensures refused { 2 < result → (buffer.new ≡ buffer.old) × (len.new ≡ len.old) }
+{
     match prefix_text(alloc, specs) {
         Ok(text) => {
             *len = text.len();

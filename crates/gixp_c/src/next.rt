@@ -1,4 +1,6 @@
 //! The next request of a session.
+ghost use Rattle.std.specs.Prelude.{◌≡◌, ◌<◌, length};
+
 use crate::code::{NO_ROOM, OK, SERVER, engine_code};
 use crate::texts::copy_text;
 use gix_protocol::fetch::Shallow;
@@ -61,7 +63,10 @@ fn step_of(
 }
 
 // Puts the step into the buffer and the record.
-fn tell_step(found: &Step, request: &mut [u8], step: &mut StepRecord) -> u32 {
+fn tell_step(found: &Step, request: &mut [u8], step: &mut StepRecord) -> u32
+    ensures no_room { result ≡ 2 → (request.new ≡ request.old) × (step.new ≡ record step.old { length = step.new.length })
+        × (length request.old < step.new.length) }
+{
     match found {
         Step::Nothing => {
             *step = StepRecord {
@@ -92,7 +97,10 @@ fn tell_step(found: &Step, request: &mut [u8], step: &mut StepRecord) -> u32 {
 }
 
 // Puts the server's own words into the buffer, if it has room for them, and tells the number.
-fn tell_refusal(e: &EngineError, request: &mut [u8], step: &mut StepRecord) -> u32 {
+fn tell_refusal(e: &EngineError, request: &mut [u8], step: &mut StepRecord) -> u32
+    ensures code { 2 < result }
+    ensures step { step.new ≡ record step.old { length = step.new.length } }
+{
     match e.server_message() {
         Some(words) => {
             step.length = words.as_bytes().len();
@@ -125,7 +133,9 @@ pub extern "C" fn gixp_next(
     depth: u32,
     request: &mut [u8],
     step: &mut StepRecord,
-) -> u32 {
+) -> u32
+    ensures no_room { result ≡ 2 → (request.new ≡ request.old) × (length request.old < step.new.length) }
+{
     match step_of(alloc, answers, ends, specs, haves, boundary, depth) {
         Ok(found) => tell_step(&found, request, step),
         Err(e) => tell_refusal(&e, request, step),

@@ -1,5 +1,5 @@
 //! The text of each number.
-ghost use Rattle.std.specs.Prelude.{◌≡◌, ◌≤◌, ◌++◌, ◌↔◌, IsTrue, false, length, drop};
+ghost use Rattle.std.specs.Prelude.{◌≡◌, ◌<◌, ◌≤◌, ◌++◌, ℕ, List, ◌↔◌, IsTrue, false, length, drop};
 ghost use Rattle.std.specs.Bool.{OnTrue};
 
 use crate::code::{NO_ROOM, OK};
@@ -67,7 +67,10 @@ pub(crate) fn copy_text(text: &[u8], buffer: &mut [u8]) -> bool
 ///
 /// 0 where it is there. 2 where it has too little room: nothing else is changed then.
 #[unsafe(no_mangle)]
-pub extern "C" fn gixp_error_text(code: u32, buffer: &mut [u8], len: &mut usize) -> u32 {
+pub extern "C" fn gixp_error_text(code: u32, buffer: &mut [u8], len: &mut usize) -> u32
+    ensures told { result ≡ 0 → (text : List ℕ) × (length text ≡ len.new) × (buffer.new ≡ text ++ drop (length text) buffer.old) }
+    ensures no_room { result ≡ 2 → (buffer.new ≡ buffer.old) × (length buffer.old < len.new) }
+{
     let text = text_of(code).as_bytes();
     *len = text.len();
     if copy_text(text, buffer) { OK } else { NO_ROOM }

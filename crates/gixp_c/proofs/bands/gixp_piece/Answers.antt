@@ -7,4 +7,4 @@ returns-in-Ok c =
     read c.in-Ok.found c.in-Ok.next (omega arith) c.in-Ok.ensures refl (rw (c.band_of.ensures, c.text_of.ensures) refl)
 
 pub returns-in-Err : goal.returns-in-Err
-returns-in-Err c = refused c.in-Err.e (omega arith) c.in-Err.ensures c.packet_code.ensures (rw c.words_or-piece.ensures refl)
+returns-in-Err c = refused c.in-Err.e (omega arith) c.in-Err.ensures c.packet_code.ensures.code (rw c.words_or-piece.ensures refl)
