@@ -10,7 +10,7 @@ use std::io::ErrorKind;
 
 /// What was being done.
 #[derive(Clone, Copy, Debug, PartialEq, Eq)]
-pub(crate) enum Step {
+pub enum Step {
     Refspec,
     Handshake,
     Listing,
@@ -32,7 +32,7 @@ impl Display for Step {
 
 /// What was refused.
 #[derive(Debug, Drop)]
-pub(crate) enum Failure {
+pub enum Failure {
     /// A step of the session, and the server's own words where there are any.
     Step {
         step: Step,
@@ -81,7 +81,7 @@ impl<T: Drop> From<AllocFailed<T>> for Failure {
 
 impl Failure {
     /// A step was refused with this error.
-    pub(crate) fn of_step<E: Display + ServerMessage>(
+    pub fn of_step<E: Display + ServerMessage>(
         alloc: Global,
         step: Step,
         error: &E,
@@ -93,7 +93,7 @@ impl Failure {
     }
 
     /// A step was refused, as the text says.
-    pub(crate) fn of_text(alloc: Global, step: Step, text: &str) -> Failure {
+    pub fn of_text(alloc: Global, step: Step, text: &str) -> Failure {
         match String::from_str(alloc, text) {
             Ok(why) => Failure::Step {
                 step,
@@ -105,7 +105,7 @@ impl Failure {
     }
 
     /// A file was refused.
-    pub(crate) fn of_file(alloc: Global, path: &str, kind: ErrorKind) -> Failure {
+    pub fn of_file(alloc: Global, path: &str, kind: ErrorKind) -> Failure {
         if kind == ErrorKind::OutOfMemory {
             return Failure::Memory;
         }
@@ -116,7 +116,7 @@ impl Failure {
     }
 
     /// A line of a text was refused.
-    pub(crate) fn of_line(alloc: Global, path: &str, line: usize) -> Failure {
+    pub fn of_line(alloc: Global, path: &str, line: usize) -> Failure {
         match String::from_str(alloc, path) {
             Ok(path) => Failure::Line { path, line },
             Err(_) => Failure::Memory,
@@ -124,7 +124,7 @@ impl Failure {
     }
 
     /// It can't be said what becomes of the local refs.
-    pub(crate) fn of_update(alloc: Global, error: update::Error) -> Failure {
+    pub fn of_update(alloc: Global, error: update::Error) -> Failure {
         if error == update::Error::Memory {
             return Failure::Memory;
         }
@@ -136,7 +136,7 @@ impl Failure {
 }
 
 // Words without the line end behind them.
-pub(crate) fn front_of(words: &[u8]) -> &[u8] {
+pub fn front_of(words: &[u8]) -> &[u8] {
     words.strip_suffix(b"\n".as_slice()).unwrap_or(words)
 }
 
@@ -155,7 +155,7 @@ fn told<E: Display + ServerMessage>(
 
 impl Failure {
     /// Who says it: what git says of a server too is said as git does.
-    pub(crate) fn speaker(&self) -> &'static str {
+    pub fn speaker(&self) -> &'static str {
         match self {
             Failure::Step { said: Some(_), .. }
             | Failure::HungUp
