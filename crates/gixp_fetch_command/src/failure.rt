@@ -57,6 +57,8 @@ pub enum Failure {
         path: String,
         line: usize,
     },
+    /// git refused the pack, and said why.
+    PackRefused,
     /// A ref that is asked for isn't there.
     Missing {
         name: BString,
@@ -81,11 +83,7 @@ impl<T: Drop> From<AllocFailed<T>> for Failure {
 
 impl Failure {
     /// A step was refused with this error.
-    pub fn of_step<E: Display + ServerMessage>(
-        alloc: Global,
-        step: Step,
-        error: &E,
-    ) -> Failure {
+    pub fn of_step<E: Display + ServerMessage>(alloc: Global, step: Step, error: &E) -> Failure {
         match told(alloc, error) {
             Ok((why, said)) => Failure::Step { step, why, said },
             Err(_) => Failure::Memory,
@@ -159,6 +157,7 @@ impl Failure {
         match self {
             Failure::Step { said: Some(_), .. }
             | Failure::HungUp
+            | Failure::PackRefused
             | Failure::UnknownUnshallow { .. } => "fatal",
             _ => "gixp_fetch_pack",
         }
@@ -183,6 +182,7 @@ impl Display for Failure {
             Failure::UnknownUnshallow { id } => write!(f, "no shallow found: unshallow {id}"),
             Failure::File { path, kind } => write!(f, "{path}: {kind:?}"),
             Failure::Line { path, line } => write!(f, "{path}: line {line} isn't readable"),
+            Failure::PackRefused => write!(f, "git refused the pack"),
             Failure::Missing { name } => write!(f, "couldn't find remote ref {name}"),
             Failure::Io(kind) => write!(f, "standard input or output: {kind:?}"),
             Failure::Memory => write!(f, "out of memory"),

@@ -102,11 +102,7 @@ fn refs_in(rt: &HostRuntime, path: Option<&str>) -> Result<StoredRefs, Failure> 
 
 impl Repository {
     /// Reads the texts, but for that of the commits where they are to be offered in its order.
-    pub fn read(
-        rt: &HostRuntime,
-        files: &Files<'_>,
-        haves: Haves,
-    ) -> Result<Repository, Failure> {
+    pub fn read(rt: &HostRuntime, files: &Files<'_>, haves: Haves) -> Result<Repository, Failure> {
         let objects = objects_in(rt, files, haves)?;
         let mut refs = refs_in(rt, files.refs)?;
         let tips = match files.refs {

@@ -258,11 +258,7 @@ impl<'a, T: Transport> Session<'a, T> {
     }
 
     /// What the refspecs map of the refs of the server.
-    pub fn map<P: Progress>(
-        &mut self,
-        wish: &Wish<'_>,
-        shown: &mut P,
-    ) -> Result<RefMap, Failure> {
+    pub fn map<P: Progress>(&mut self, wish: &Wish<'_>, shown: &mut P) -> Result<RefMap, Failure> {
         let alloc = self.alloc;
         let specs = specs_of(alloc, wish)?;
         let name = self.name()?;

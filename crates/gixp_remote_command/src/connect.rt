@@ -104,7 +104,12 @@ fn before(text: &[u8], byte: u8) -> &[u8] {
 }
 
 // The kind of ssh.
-fn ssh_variant(reach: Reach<'_>, shell: &mut Shell, command: &[u8], program: Program) -> Result<Variant, Trouble> {
+fn ssh_variant(
+    reach: Reach<'_>,
+    shell: &mut Shell,
+    command: &[u8],
+    program: Program,
+) -> Result<Variant, Trouble> {
     let named = variable(reach.rt, "GIT_SSH_VARIANT");
     let chosen = match &named {
         Some(word) => Some(word.as_bytes()),
@@ -121,7 +126,12 @@ fn ssh_variant(reach: Reach<'_>, shell: &mut Shell, command: &[u8], program: Pro
 }
 
 // Asks a program whether it is OpenSSH.
-fn probe(reach: Reach<'_>, shell: &mut Shell, command: &[u8], program: Program) -> Result<Variant, Trouble> {
+fn probe(
+    reach: Reach<'_>,
+    shell: &mut Shell,
+    command: &[u8],
+    program: Program,
+) -> Result<Variant, Trouble> {
     let alloc = reach.rt.alloc();
     let mut words = owned(alloc, &[command, b"-G"])?;
     add_ssh_words(reach, Variant::Ssh, &mut words)?;
@@ -134,14 +144,24 @@ fn probe(reach: Reach<'_>, shell: &mut Shell, command: &[u8], program: Program) 
 }
 
 // The options of ssh, and the host.
-fn add_ssh_words(reach: Reach<'_>, variant: Variant, words: &mut Vec<BString>) -> Result<(), Trouble> {
+fn add_ssh_words(
+    reach: Reach<'_>,
+    variant: Variant,
+    words: &mut Vec<BString>,
+) -> Result<(), Trouble> {
     let alloc = reach.rt.alloc();
     let port = match &reach.address.port {
         Some(port) => Some(port.as_bytes()),
         None => None,
     };
     let sends_version = version_word(reach.version).is_some();
-    match ssh_words(alloc, variant, sends_version, port, reach.address.host.as_bytes())? {
+    match ssh_words(
+        alloc,
+        variant,
+        sends_version,
+        port,
+        reach.address.host.as_bytes(),
+    )? {
         Some(more) => {
             for word in more {
                 words.push(word)?;
@@ -199,7 +219,12 @@ fn start_socket(reach: Reach<'_>, shell: &mut Shell) -> Result<(), Trouble> {
 }
 
 // Starts a server.
-fn start(reach: Reach<'_>, shell: &mut Shell, program: Program, words: &[BString]) -> Result<(), Trouble> {
+fn start(
+    reach: Reach<'_>,
+    shell: &mut Shell,
+    program: Program,
+    words: &[BString],
+) -> Result<(), Trouble> {
     let variables = server_variables(reach.rt.alloc(), reach.version)?;
     let status = shell.ask(&Request::Start(Start {
         task: Task::Server,

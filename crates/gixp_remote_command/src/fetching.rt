@@ -24,6 +24,7 @@ use std::alloc::Global;
 use std::cell::Cell;
 use std::collections::BTreeSet;
 use std::fs;
+use std::io::ErrorKind;
 
 /// A session that may be there.
 pub(crate) type Open = Option<Session<'static, Wire>>;
@@ -77,7 +78,10 @@ fn wish_of(alloc: Global, order: Order<'_>, shallow: Shallow, haves: Haves) -> W
 // Lets git list the commits, which are read as they are offered.
 fn start_listing(order: Order<'_>, shell: &mut Shell, has_alternates: bool) -> Result<(), Trouble> {
     let alloc = order.reach.rt.alloc();
-    let mut words = owned(alloc, &[b"rev-list", b"--all", b"--timestamp", b"--parents"])?;
+    let mut words = owned(
+        alloc,
+        &[b"rev-list", b"--all", b"--timestamp", b"--parents"],
+    )?;
     if has_alternates {
         words.push(BString::from_slice(alloc, b"--alternate-refs")?)?;
     }
@@ -97,7 +101,12 @@ fn start_listing(order: Order<'_>, shell: &mut Shell, has_alternates: bool) -> R
 }
 
 // What is known of the repository that fetches.
-fn known(order: Order<'_>, shell: &mut Shell, boundary: &[ObjectId], haves: Haves) -> Result<Repository, Trouble> {
+fn known(
+    order: Order<'_>,
+    shell: &mut Shell,
+    boundary: &[ObjectId],
+    haves: Haves,
+) -> Result<Repository, Trouble> {
     let alloc = order.reach.rt.alloc();
     let boundary = Vec::from_slice(alloc, boundary)?;
     if order.choices.is_cloning || order.choices.is_refetch {
@@ -145,19 +154,31 @@ fn checks_of(order: Order<'_>, shell: &mut Shell) -> Result<Vec<BString>, Troubl
 
 // One of the messages whose severity the user chose. git tells whether it knows it: with a word that isn't there it tells its
 // usage, but not where it doesn't know the message.
-fn add_check(order: Order<'_>, shell: &mut Shell, list: &mut Vec<u8>, name: &[u8], value: &[u8]) -> Result<(), Trouble> {
+fn add_check(
+    order: Order<'_>,
+    shell: &mut Shell,
+    list: &mut Vec<u8>,
+    name: &[u8],
+    value: &[u8],
+) -> Result<(), Trouble> {
     let rt = order.reach.rt;
     let alloc = rt.alloc();
     let mark: &[u8] = if list.is_empty() { b"=" } else { b"," };
     if name == b"skiplist".as_slice() {
-        let told = shell.git(rt, &[b"config", b"--type=path", b"--get", b"fetch.fsck.skiplist"])?;
+        let told = shell.git(
+            rt,
+            &[b"config", b"--type=path", b"--get", b"fetch.fsck.skiplist"],
+        )?;
         list.extend_from_slice(mark)?;
         list.extend_from_slice(b"skiplist=")?;
-        list.extend_from_slice(told.text.trim_end())?;
+        list.extend_from_slice(told.text.as_slice().trim_end())?;
         return Ok(());
     }
     let strict = joined(alloc, &[b"--strict=", name, b"=ignore"])?;
-    let words = owned(alloc, &[b"index-pack", strict.as_bytes(), b"--no-such-word"])?;
+    let words = owned(
+        alloc,
+        &[b"index-pack", strict.as_bytes(), b"--no-such-word"],
+    )?;
     let told = shell.tell(rt, Task::Probe, Program::Git, NOTHING, &[], &words)?;
     if told.status != 129 {
         let name = BString::from_slice(alloc, name)?;
@@ -172,15 +193,24 @@ fn add_check(order: Order<'_>, shell: &mut Shell, list: &mut Vec<u8>, name: &[u8
 }
 
 // Those of the ids whose objects are here, or the commits among them, as git sees them with these variables.
-fn here(order: Order<'_>, shell: &mut Shell, variables: &[BString], ids: &[ObjectId], commits_alone: bool) -> Result<BTreeSet<ObjectId>, Trouble> {
+fn here(
+    order: Order<'_>,
+    shell: &mut Shell,
+    variables: &[BString],
+    ids: &[ObjectId],
+    commits_alone: bool,
+) -> Result<BTreeSet<ObjectId>, Trouble> {
     let rt = order.reach.rt;
     let alloc = rt.alloc();
     let text = shallow_text(alloc, ids)?;
     fs::write(rt, "ids", text.as_slice())?;
-    let words = owned(alloc, &[b"cat-file", b"--batch-check=%(objecttype) %(objectname)"])?;
+    let words = owned(
+        alloc,
+        &[b"cat-file", b"--batch-check=%(objecttype) %(objectname)"],
+    )?;
     let told = shell.tell(rt, Task::Question, Program::Git, "ids", variables, &words)?;
     let mut found = BTreeSet::new(alloc);
-    for line in told.text.lines() {
+    for line in told.text.as_slice().lines() {
         if let Some((kind, id)) = line.split_once_str(b" ") {
             if kind == b"commit".as_slice() || !commits_alone {
                 if let Ok(id) = ObjectId::from_hex(id) {
@@ -221,13 +251,29 @@ fn fetch_over(
         boundary: ShallowMemory::new(Vec::from_slice(alloc, &repository.boundary)?),
         pack: PackReceiver::new(alloc, IndexedPack::new(rt, shell, plan, state)),
     };
-    let came = negotiate(rt, session, repository, asked, Some("commits"), &mut sink, &mut shown);
+    let came = negotiate(
+        rt,
+        session,
+        repository,
+        asked,
+        Some("commits"),
+        &mut sink,
+        &mut shown,
+    );
     match unless_failed(came, has_failed.get()) {
         Ok(outcome) => keep_pack(alloc, &mut sink, outcome, state),
         Err(e) => {
             sink.pack.give_up();
             Err(e)
         }
+    }
+}
+
+// Why the pack isn't kept: git says so itself.
+fn refused(kind: ErrorKind) -> Failure {
+    match kind {
+        ErrorKind::OutOfMemory => Failure::Memory,
+        _ => Failure::PackRefused,
     }
 }
 
@@ -240,7 +286,7 @@ fn keep_pack(
 ) -> Result<Came, Failure> {
     match sink.pack.keep() {
         Ok(_) => {}
-        Err(e) => return Err(Failure::Io(e.kind())),
+        Err(e) => return Err(refused(e.kind())),
     }
     let kept = match state.get() {
         PackState::Kept(kept) => Some(kept),
@@ -280,7 +326,11 @@ fn fetch_once_more(
 }
 
 // Keeps a session of version 2, and ends any other.
-fn settle(mut session: Session<'static, Wire>, open: &mut Open, came: Result<Came, Failure>) -> Result<Came, Trouble> {
+fn settle(
+    mut session: Session<'static, Wire>,
+    open: &mut Open,
+    came: Result<Came, Failure>,
+) -> Result<Came, Trouble> {
     let came = came?;
     if session.version() == Protocol::V2 {
         *open = Some(session);
@@ -291,7 +341,12 @@ fn settle(mut session: Session<'static, Wire>, open: &mut Open, came: Result<Cam
 }
 
 // Begins a list of the commits anew.
-fn list_commits(order: Order<'_>, shell: &mut Shell, wish: &Wish<'_>, has_alternates: bool) -> Result<(), Trouble> {
+fn list_commits(
+    order: Order<'_>,
+    shell: &mut Shell,
+    wish: &Wish<'_>,
+    has_alternates: bool,
+) -> Result<(), Trouble> {
     shell.end(Task::Listing)?;
     if wish.haves == Haves::InOrder {
         start_listing(order, shell, has_alternates)?;
@@ -322,18 +377,29 @@ fn taking_of(choices: &Choices) -> Taking {
 }
 
 // What becomes of the boundary, before the pack is put beside the others.
-fn boundary_of(order: Order<'_>, shell: &mut Shell, plan: &PackPlan, old: &[ObjectId], came: &Came) -> Result<Boundary, Trouble> {
+fn boundary_of(
+    order: Order<'_>,
+    shell: &mut Shell,
+    plan: &PackPlan,
+    old: &[ObjectId],
+    came: &Came,
+) -> Result<Boundary, Trouble> {
     let alloc = order.reach.rt.alloc();
-    let ids = added(alloc, old, &came.boundary)?;
+    let known: BTreeSet<ObjectId> = old.iter().copied().collect(alloc)?;
+    let ids = added(alloc, &known, &came.boundary)?;
     let taking = taking_of(order.choices);
     let mut before = BTreeSet::new(alloc);
     let mut commits = BTreeSet::new(alloc);
     if !ids.is_empty() && taking != Taking::Nothing {
         before = here(order, shell, &[], &ids, false)?;
-        let variables: &[BString] = if came.kept.is_some() { &plan.variables } else { &[] };
+        let variables: &[BString] = if came.kept.is_some() {
+            &plan.variables
+        } else {
+            &[]
+        };
         commits = here(order, shell, variables, &ids, true)?;
     }
-    Ok(boundary_after(alloc, taking, old, &came.boundary, &before, &commits)?)
+    Ok(boundary_after(alloc, taking, &known, &came.boundary, &before, &commits)?)
 }
 
 // Takes the lock of the boundary, which is git's own.
@@ -341,12 +407,22 @@ fn lock_boundary(alloc: Global, shell: &mut Shell, lock: &[u8]) -> Result<(), Tr
     if shell.ask(&Request::Hold(lock))? == 0 {
         Ok(())
     } else {
-        Err(Trouble::of_word(alloc, "Unable to create (it exists, or can't be written)", lock))
+        Err(Trouble::of_word(
+            alloc,
+            "Unable to create (it exists, or can't be written)",
+            lock,
+        ))
     }
 }
 
 // Puts a new boundary in the place of the old one, whose lock is held.
-fn write_boundary(order: Order<'_>, shell: &mut Shell, places: &Places, lock: &[u8], ids: &[ObjectId]) -> Result<(), Trouble> {
+fn write_boundary(
+    order: Order<'_>,
+    shell: &mut Shell,
+    places: &Places,
+    lock: &[u8],
+    ids: &[ObjectId],
+) -> Result<(), Trouble> {
     let rt = order.reach.rt;
     let text = shallow_text(rt.alloc(), ids)?;
     if text.is_empty() {
@@ -363,7 +439,14 @@ fn write_boundary(order: Order<'_>, shell: &mut Shell, places: &Places, lock: &[
 }
 
 // Changes the boundary, where it isn't the same.
-fn change_boundary(order: Order<'_>, shell: &mut Shell, places: &Places, lock: &[u8], ids: &[ObjectId], is_same: bool) -> Result<(), Trouble> {
+fn change_boundary(
+    order: Order<'_>,
+    shell: &mut Shell,
+    places: &Places,
+    lock: &[u8],
+    ids: &[ObjectId],
+    is_same: bool,
+) -> Result<(), Trouble> {
     let has_lock = order.choices.has_depth();
     if is_same {
         if has_lock {
@@ -399,12 +482,24 @@ fn flags_of<'a>(alloc: Global, choices: &Choices) -> Result<Vec<&'a [u8]>, Troub
 }
 
 // Puts the pack and the boundary where git finds them.
-fn finish(order: Order<'_>, shell: &mut Shell, places: &Places, plan: &PackPlan, lock: &[u8], old: &[ObjectId], came: &Came) -> Result<Fetched, Trouble> {
+fn finish(
+    order: Order<'_>,
+    shell: &mut Shell,
+    places: &Places,
+    plan: &PackPlan,
+    lock: &[u8],
+    old: &[ObjectId],
+    came: &Came,
+) -> Result<Fetched, Trouble> {
     let rt = order.reach.rt;
     let boundary = boundary_of(order, shell, plan, old, came)?;
     if let Boundary::Refused(id) = &boundary {
         let digits = id.to_hex();
-        return Err(Trouble::of_word(rt.alloc(), "the server's boundary names, which is no commit here,", &digits));
+        return Err(Trouble::of_word(
+            rt.alloc(),
+            "the server's boundary names, which is no commit here,",
+            &digits,
+        ));
     }
     let pack_lock = match &came.kept {
         Some(kept) => place(rt, shell, places, plan, &kept.hash)?,
@@ -415,7 +510,12 @@ fn finish(order: Order<'_>, shell: &mut Shell, places: &Places, plan: &PackPlan,
             let is_same = ids.as_slice() == old;
             change_boundary(order, shell, places, lock, ids, is_same)?;
         }
-        _ => {}
+        Boundary::Grows(more) => {
+            let mut ids = Vec::from_slice(rt.alloc(), old)?;
+            ids.extend_from_slice(more)?;
+            change_boundary(order, shell, places, lock, &ids, more.is_empty())?;
+        }
+        Boundary::Stays | Boundary::Refused(_) => {}
     }
     let is_closed = match &came.kept {
         Some(kept) => kept.is_closed && order.choices.checks && !order.choices.has_depth(),
@@ -428,7 +528,12 @@ fn finish(order: Order<'_>, shell: &mut Shell, places: &Places, plan: &PackPlan,
 }
 
 /// Fetches the objects of these ids.
-pub(crate) fn fetch(order: Order<'_>, shell: &mut Shell, open: &mut Open, folder: &[u8]) -> Result<Fetched, Trouble> {
+pub(crate) fn fetch(
+    order: Order<'_>,
+    shell: &mut Shell,
+    open: &mut Open,
+    folder: &[u8],
+) -> Result<Fetched, Trouble> {
     let rt = order.reach.rt;
     let alloc = rt.alloc();
     let places = Places::ask(rt, shell)?;
@@ -445,7 +550,15 @@ pub(crate) fn fetch(order: Order<'_>, shell: &mut Shell, open: &mut Open, folder
     let flags = flags_of(alloc, order.choices)?;
     let plan = PackPlan::new(rt, &places, folder, &checks, &flags)?;
     let has_alternates = places.has_alternates(rt);
-    let came = fetch_once_more(order, shell, open, &wish, &mut repository, &plan, has_alternates)?;
+    let came = fetch_once_more(
+        order,
+        shell,
+        open,
+        &wish,
+        &mut repository,
+        &plan,
+        has_alternates,
+    )?;
     shell.end(Task::Listing)?;
     finish(order, shell, &places, &plan, lock.as_bytes(), &old, &came)
 }

@@ -14,7 +14,7 @@ fn seconds_of(rt: &HostRuntime, shell: &mut Shell, since: &[u8]) -> Result<i64, 
     let alloc = rt.alloc();
     let word = joined(alloc, &[b"--since=", since])?;
     let told = shell.git(rt, &[b"rev-parse", word.as_bytes()])?;
-    let line = told.text.trim();
+    let line = told.text.as_slice().trim();
     let Some(digits) = line.strip_prefix(b"--max-age=") else {
         return Err(Trouble::of_word(alloc, "this is no time:", since));
     };
@@ -33,7 +33,11 @@ fn names_of(alloc: Global, words: &[BString]) -> Result<Vec<PartialName>, Troubl
     for word in words {
         match PartialName::new(word.clone()?) {
             Ok(name) => names.push(name)?,
-            Err(_) => return Err(Trouble::of_word(alloc, "this is no name of a ref:", word.as_bytes())),
+            Err(_) => return Err(Trouble::of_word(
+                alloc,
+                "this is no name of a ref:",
+                word.as_bytes(),
+            )),
         }
     }
     Ok(names)
@@ -58,7 +62,11 @@ fn cut(rt: &HostRuntime, shell: &mut Shell, choices: &Choices) -> Result<Shallow
 }
 
 /// What git's options ask for.
-pub(crate) fn shallow_of(rt: &HostRuntime, shell: &mut Shell, choices: &Choices) -> Result<Shallow, Trouble> {
+pub(crate) fn shallow_of(
+    rt: &HostRuntime,
+    shell: &mut Shell,
+    choices: &Choices,
+) -> Result<Shallow, Trouble> {
     match choices.depth {
         Depth::All => Ok(Shallow::undo()),
         Depth::Commits(count) => match NonZeroU32::new(count) {

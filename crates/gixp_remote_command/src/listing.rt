@@ -11,7 +11,12 @@ fn is_plain(name: &[u8]) -> bool {
 }
 
 // A line of an id and a name.
-fn append_id(text: &mut Vec<u8>, id: &ObjectId, name: &[u8], mark: &[u8]) -> Result<(), AllocError> {
+fn append_id(
+    text: &mut Vec<u8>,
+    id: &ObjectId,
+    name: &[u8],
+    mark: &[u8],
+) -> Result<(), AllocError> {
     text.extend_from_slice(&id.to_hex())?;
     text.extend_from_slice(b" ")?;
     text.extend_from_slice(name)?;
@@ -43,7 +48,11 @@ fn holders(alloc: Global, refs: &[Ref]) -> Result<BTreeSet<Vec<u8>>, AllocError>
 }
 
 // The lines of a ref. A symbolic ref is told by its target where that holds an object itself, else by what it leads to.
-fn append_ref(text: &mut Vec<u8>, found: &Ref, holders: &BTreeSet<Vec<u8>>) -> Result<(), AllocError> {
+fn append_ref(
+    text: &mut Vec<u8>,
+    found: &Ref,
+    holders: &BTreeSet<Vec<u8>>,
+) -> Result<(), AllocError> {
     match found {
         Ref::Direct {
             full_ref_name,
@@ -98,7 +107,11 @@ pub(crate) struct RefsTold {
 }
 
 /// The lines of the refs, with the hash function where git asks for it, and the empty line behind them.
-pub(crate) fn refs_told(alloc: Global, refs: &[Ref], tells_format: bool) -> Result<RefsTold, AllocError> {
+pub(crate) fn refs_told(
+    alloc: Global,
+    refs: &[Ref],
+    tells_format: bool,
+) -> Result<RefsTold, AllocError> {
     let holders = holders(alloc, refs)?;
     let mut text = Vec::new(alloc);
     let mut funny = Vec::new(alloc);

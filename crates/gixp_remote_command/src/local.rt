@@ -44,7 +44,7 @@ impl Places {
                 b"objects",
             ],
         )?;
-        let mut lines = told.text.lines();
+        let mut lines = told.text.as_slice().lines();
         let shallow = path_of(rt.alloc(), lines.next())?;
         let objects = path_of(rt.alloc(), lines.next())?;
         Ok(Places { shallow, objects })

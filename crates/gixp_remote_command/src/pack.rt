@@ -11,10 +11,9 @@ use gixp_fetch_parts::PackPlace;
 use gixp_remote_parts::{Program, Request, Start, Task};
 use std::alloc::Global;
 use std::cell::Cell;
-use std::fs;
 use std::fs::{File, OpenOptions};
-use std::io;
 use std::io::{ErrorKind, Read};
+use std::{fs, io};
 
 /// What git is told of the pack, and where it is put.
 #[derive(Drop)]
@@ -168,7 +167,11 @@ impl<'a> IndexedPack<'a> {
 
     // Starts git, and opens the two pipes.
     fn start(&mut self) -> Result<File, Trouble> {
-        if self.shell.ask(&Request::Folder(self.plan.folder.as_bytes()))? != 0 {
+        if self
+            .shell
+            .ask(&Request::Folder(self.plan.folder.as_bytes()))?
+            != 0
+        {
             return Err(Trouble::Io(ErrorKind::PermissionDenied));
         }
         self.shell.ask(&Request::Start(Start {
@@ -268,5 +271,9 @@ pub(crate) fn place(
             fs::rename(rt, one.as_str(), other.as_str())?;
         }
     }
-    if status == 0 { Ok(Some(lock)) } else { Ok(None) }
+    if status == 0 {
+        Ok(Some(lock))
+    } else {
+        Ok(None)
+    }
 }

@@ -11,12 +11,11 @@ use gixp_fetch_command::shown::Shown;
 use gixp_remote_parts::{Choices, Command, Program, Request, Settings, Start, Task, read_command};
 use gixp_url::Address;
 use std::cell::Cell;
-use std::io;
 use std::io::{BufRead, BufReader, Input, Write};
-use std::mem;
+use std::{io, mem};
 
 // What the helper can do.
-const CAPABILITIES: &[u8] = b"fetch\noption\ncheck-connectivity\nobject-format\n\n";
+const CAPABILITIES: &[u8] = b"fetch\noption\nobject-format\n\n";
 
 // The helper between two commands.
 #[derive(Drop)]

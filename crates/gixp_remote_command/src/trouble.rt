@@ -3,10 +3,9 @@ use bstr::BString;
 use gixp_fetch_command::failure::Failure;
 use gixp_url::UrlError;
 use std::alloc::{AllocError, AllocFailed, Global};
-use std::fmt;
 use std::fmt::Display;
-use std::io;
 use std::io::ErrorKind;
+use std::{fmt, io};
 
 /// What was refused.
 #[derive(Debug, Drop)]

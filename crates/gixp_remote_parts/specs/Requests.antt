@@ -38,26 +38,32 @@ task_name Listing = codes "listing"
 task_name Pack = codes "pack"
 task_name Watch = codes "watch"
 
+-- a name, and a byte behind it
+abbrev pub named : List ℕ → ℕ → List ℕ
+named name end = name ++ end ∷ []
+
+-- two names, with a blank between them
+abbrev pub named_two : List ℕ → List ℕ → ℕ → List ℕ
+named_two one other end = named one 32 ++ named other end
+
+abbrev pub start_line : Start → List ℕ
+start_line s = named_two (codes "start") (task_name s.task) 32 ++ (named (program_name s.program) 32 ++ named_two s.input.now s.output.now 10)
+
 -- a program that is to be started: its names, then its variables behind an equals sign, then its words behind a blank
 abbrev pub started : Start → List ℕ
-started s =
-    flat_map (λ p. p) (codes "start " ∷ task_name s.task ∷ codes " " ∷ program_name s.program ∷ codes " " ∷ s.input.now ∷ codes " " ∷ s.output.now ∷ codes "\n" ∷ [])
-    ++ marked_lines 61 s.variables.now ++ marked_lines 32 s.words.now
-
-abbrev pub asked_of : List ℕ → Task → List ℕ
-asked_of verb task = verb ++ codes " " ++ task_name task ++ codes "\n"
+started s = start_line s ++ (marked_lines 61 s.variables.now ++ marked_lines 32 s.words.now)
 
 abbrev pub asked_path : List ℕ → List ℕ → List ℕ
 asked_path verb path = verb ++ marked_line 32 path
 
 abbrev pub asked_paths : List ℕ → List ℕ → List ℕ → List ℕ
-asked_paths verb from to = verb ++ marked_line 32 from ++ marked_line 32 to
+asked_paths verb from to = asked_path verb from ++ marked_line 32 to
 
 -- a request, but for its last line
 abbrev pub asked : Request → List ℕ
 asked (StartRequest start) = started start
-asked (Status task) = asked_of (codes "status") task
-asked (End task) = asked_of (codes "end") task
+asked (Status task) = named_two (codes "status") (task_name task) 10
+asked (End task) = named_two (codes "end") (task_name task) 10
 asked (Hold path) = asked_path (codes "hold\n") path.now
 asked (Replace from to) = asked_paths (codes "replace\n") from.now to.now
 asked (Free path) = asked_path (codes "free\n") path.now

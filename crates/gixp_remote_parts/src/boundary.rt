@@ -25,6 +25,8 @@ pub enum Boundary {
     Stays,
     /// It becomes this.
     Becomes(Vec<ObjectId>),
+    /// These come to it.
+    Grows(Vec<ObjectId>),
     /// The server names an id that is no commit here.
     Refused(ObjectId),
 }
@@ -32,7 +34,7 @@ pub enum Boundary {
 /// The ids of a new boundary that the old one doesn't have.
 pub fn added(
     alloc: Global,
-    old: &[ObjectId],
+    old: &BTreeSet<ObjectId>,
     new: &[ObjectId],
 ) -> Result<Vec<ObjectId>, AllocError>
     ensures { IfOk result (λ ids. ids.items ≡ added old.now new.now) }
@@ -55,24 +57,19 @@ fn first_stranger(ids: &[ObjectId], commits: &BTreeSet<ObjectId>) -> Option<Obje
     None
 }
 
-// The boundary with the commits that came.
-fn with_came(
+// The commits that came, and weren't here before.
+fn came(
     alloc: Global,
-    old: &[ObjectId],
-    added: &[ObjectId],
+    ids: &[ObjectId],
     before: &BTreeSet<ObjectId>,
     commits: &BTreeSet<ObjectId>,
 ) -> Result<Vec<ObjectId>, AllocError>
-    ensures { IfOk result (λ ids. ids.items ≡ old.now ++ came before.now commits.now added.now) }
+    ensures { IfOk result (λ found. found.items ≡ came before.now commits.now ids.now) }
 {
-    let found: Vec<ObjectId> = added
-        .iter()
+    ids.iter()
         .copied()
         .filter(|id| commits.contains(id) && !before.contains(id))
-        .collect(alloc)?;
-    let mut ids = Vec::from_slice(alloc, old)?;
-    ids.extend_from_slice(&found)?;
-    Ok(ids)
+        .collect(alloc)
 }
 
 /// What becomes of a boundary where the server would make another one of it, by which of the ids that it would add were here
@@ -84,7 +81,7 @@ fn with_came(
 pub fn boundary_after(
     alloc: Global,
     taking: Taking,
-    old: &[ObjectId],
+    old: &BTreeSet<ObjectId>,
     new: &[ObjectId],
     before: &BTreeSet<ObjectId>,
     commits: &BTreeSet<ObjectId>,
@@ -98,8 +95,6 @@ pub fn boundary_after(
             Some(id) => Ok(Boundary::Refused(id)),
             None => Ok(Boundary::Becomes(Vec::from_slice(alloc, new)?)),
         },
-        Taking::Came => Ok(Boundary::Becomes(with_came(
-            alloc, old, &ids, before, commits,
-        )?)),
+        Taking::Came => Ok(Boundary::Grows(came(alloc, &ids, before, commits)?)),
     }
 }

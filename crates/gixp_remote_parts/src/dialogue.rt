@@ -247,7 +247,12 @@ impl Choices {
     }
 
     // Keeps an option of the history, where it is one.
-    fn take_history(&mut self, alloc: Global, name: &[u8], value: &[u8]) -> Result<Option<Reply>, AllocError> {
+    fn take_history(
+        &mut self,
+        alloc: Global,
+        name: &[u8],
+        value: &[u8],
+    ) -> Result<Option<Reply>, AllocError> {
         if name == b"depth".as_slice() {
             match depth_of(value) {
                 Some(depth) => {
@@ -282,9 +287,9 @@ impl Choices {
         }
     }
 
-    // The hash function: git 2.39 gives the option's own name for a value.
+    // The hash function: git 2.39 gives no value where it is to be told.
     fn take_format(&mut self, value: &[u8]) -> Reply {
-        if value == b"true".as_slice() || value == b"object-format".as_slice() {
+        if value == b"true".as_slice() || value.is_empty() {
             self.tells_format = true;
             Reply::Ok
         } else if value == b"sha1".as_slice() {

@@ -26,7 +26,11 @@ fn is_of(domain: &[u8], host: &[u8]) -> bool {
 
 /// The program that connects with a host: that of `GIT_PROXY_COMMAND`, else of the first setting for it. None where it is
 /// connected with at once, as `none` says too.
-pub fn proxy_for<'a>(settings: &Settings<'a>, variable: Option<&'a [u8]>, host: &[u8]) -> Option<&'a [u8]> {
+pub fn proxy_for<'a>(
+    settings: &Settings<'a>,
+    variable: Option<&'a [u8]>,
+    host: &[u8],
+) -> Option<&'a [u8]> {
     let mut found = variable;
     for entry in settings.entries() {
         if found.is_none() && entry.name == b"core.gitproxy".as_slice() {

@@ -1,7 +1,7 @@
 //! What the shell beside the program is asked to do, as text: a line that says it, a line for each variable and each word, and a
 //! line that ends it.
 ghost use Rattle.std.specs.Prelude.{◌≡◌, ◌++◌, IfOk, OnOk, flat_map};
-ghost use Rattle.gixp_remote_parts.specs.Requests.{shown_byte, marked_line, marked_lines, task_name, program_name, started, asked_of, asked, request_lines};
+ghost use Rattle.gixp_remote_parts.specs.Requests.{shown_byte, marked_line, marked_lines, named, named_two, task_name, program_name, start_line, started, asked_path, asked_paths, asked, request_lines};
 
 use bstr::BString;
 use std::alloc::{AllocError, Global};
@@ -146,48 +146,51 @@ fn program_name(program: Program) -> &'static [u8]
     }
 }
 
-// Parts, one behind the other.
-fn append_all(text: &mut Vec<u8>, parts: &[&[u8]]) -> Result<(), AllocError>
-    ensures { OnOk result (text.new.items ≡ text.old.items ++ flat_map (λ p. p.now) parts.now) }
+// A name, and a byte behind it.
+fn append_name(text: &mut Vec<u8>, name: &[u8], end: u8) -> Result<(), AllocError>
+    ensures { OnOk result (text.new.items ≡ text.old.items ++ named name.now end) }
 {
-    for part in parts {
-        text.extend_from_slice(part)?;
-    }
+    text.extend_from_slice(name)?;
+    text.push(end)?;
     Ok(())
+}
+
+// Two names.
+fn append_names(text: &mut Vec<u8>, one: &[u8], other: &[u8], end: u8) -> Result<(), AllocError>
+    ensures { OnOk result (text.new.items ≡ text.old.items ++ named_two one.now other.now end) }
+{
+    append_name(text, one, b' ')?;
+    append_name(text, other, end)
+}
+
+// The first line of a program that is to be started.
+fn append_start_line(text: &mut Vec<u8>, start: &Start<'_>) -> Result<(), AllocError>
+    ensures { OnOk result (text.new.items ≡ text.old.items ++ start_line start.now) }
+{
+    append_names(text, b"start", task_name(start.task), b' ')?;
+    append_name(text, program_name(start.program), b' ')?;
+    append_names(text, start.input.as_bytes(), start.output.as_bytes(), b'\n')
 }
 
 // A program that is to be started, but for the last line.
 fn append_start(text: &mut Vec<u8>, start: &Start<'_>) -> Result<(), AllocError>
     ensures { OnOk result (text.new.items ≡ text.old.items ++ started start.now) }
 {
-    append_all(
-        text,
-        &[
-            b"start ",
-            task_name(start.task),
-            b" ",
-            program_name(start.program),
-            b" ",
-            start.input.as_bytes(),
-            b" ",
-            start.output.as_bytes(),
-            b"\n",
-        ],
-    )?;
+    append_start_line(text, start)?;
     append_lines(text, b'=', start.variables)?;
     append_lines(text, b' ', start.words)
 }
 
 // A request about a task, but for the last line.
 fn append_task(text: &mut Vec<u8>, verb: &[u8], task: Task) -> Result<(), AllocError>
-    ensures { OnOk result (text.new.items ≡ text.old.items ++ asked_of verb.now task) }
+    ensures { OnOk result (text.new.items ≡ text.old.items ++ named_two verb.now (task_name task) 10) }
 {
-    append_all(text, &[verb, b" ", task_name(task), b"\n"])
+    append_names(text, verb, task_name(task), b'\n')
 }
 
 // A request about a path, but for the last line.
 fn append_path(text: &mut Vec<u8>, verb: &[u8], path: &[u8]) -> Result<(), AllocError>
-    ensures { OnOk result (text.new.items ≡ text.old.items ++ (verb.now ++ marked_line 32 path.now)) }
+    ensures { OnOk result (text.new.items ≡ text.old.items ++ asked_path verb.now path.now) }
 {
     text.extend_from_slice(verb)?;
     append_line(text, b' ', path)
@@ -195,7 +198,7 @@ fn append_path(text: &mut Vec<u8>, verb: &[u8], path: &[u8]) -> Result<(), Alloc
 
 // A request about two paths, but for the last line.
 fn append_paths(text: &mut Vec<u8>, verb: &[u8], from: &[u8], to: &[u8]) -> Result<(), AllocError>
-    ensures { OnOk result (text.new.items ≡ text.old.items ++ (verb.now ++ marked_line 32 from.now ++ marked_line 32 to.now)) }
+    ensures { OnOk result (text.new.items ≡ text.old.items ++ asked_paths verb.now from.now to.now) }
 {
     append_path(text, verb, from)?;
     append_line(text, b' ', to)

@@ -85,9 +85,17 @@ form_by text (Some p) = if list_all is_scheme_byte p.0 then form_behind text p.0
 abbrev pub form_of : List ℕ → Result FormOf UrlError
 form_of text = form_by text (cut 58 text)
 
+abbrev pub shifted : ℕ → Option ℕ → Option ℕ
+shifted from None = None
+shifted from (Some at) = Some (from + at)
+
+-- where a separator stands first from a place on
+abbrev pub separator_from : ℕ → List ℕ → ℕ → Option ℕ
+separator_from from text separator = shifted from (position (λ b. b == separator) (drop from text))
+
 -- where the path begins: at the first separator behind the host
 abbrev pub path_at : ℕ → List ℕ → Option ℕ
-path_at separator text = option_map (λ at. search_from text + at) (position (λ b. b == separator) (drop (search_from text) text))
+path_at separator text = separator_from (search_from text) text separator
 
 -- a path, from its tilde on where one follows its first byte
 abbrev pub home_path : List ℕ → List ℕ
@@ -146,10 +154,13 @@ abbrev pub local : List ℕ → Result Server UrlError
 local [] = Err NoPath
 local (b ∷ bytes) = server File [] (b ∷ bytes)
 
+abbrev pub server_by : FormOf → Result Server UrlError
+server_by (path_form path) = local path
+server_by (host_form text) = remote Ssh text 58
+server_by (url_form transport rest) = remote transport (decoded 0 rest) 47
+
 abbrev pub server_of : Result FormOf UrlError → Result Server UrlError
-server_of (Ok (path_form path)) = local path
-server_of (Ok (host_form text)) = remote Ssh text 58
-server_of (Ok (url_form transport rest)) = remote transport (decoded 0 rest) 47
+server_of (Ok form) = server_by form
 server_of (Err e) = Err e
 
 -- the server that a URL names

@@ -1,9 +1,9 @@
 //! What a URL means.
-ghost use Rattle.std.specs.Prelude.{◌≡◌, ◌<◌, length, IfOk, IfSome};
-
+ghost use Rattle.std.specs.Prelude.{◌≡◌, ◌<◌, ◌≤◌, length, IfOk, IfSome};
 ghost use Rattle.std.specs.List.{list_all};
+ghost use Rattle.gixp_url.specs.Decoded.{decoded};
 ghost use Rattle.gixp_url.specs.Host.{host_value};
-ghost use Rattle.gixp_url.specs.Url.{is_scheme_byte, transport_of, has_separator, is_local, map_form, form_without_scheme, form_behind, form_of, path_at, home_path, path_there, fault_of, host_by, GivesAddress, server, remote, local, reading};
+ghost use Rattle.gixp_url.specs.Url.{is_scheme_byte, transport_of, has_separator, is_local, map_form, form_without_scheme, form_behind, form_of, separator_from, path_at, home_path, path_there, fault_of, host_by, GivesAddress, server, remote, local, form_value, server_by, reading};
 ghost use Rattle.gixp_url.specs.declared.address.UrlError.TheVariants.{Memory};
 
 use crate::decode::decoded;
@@ -151,11 +151,7 @@ fn form_without_scheme(text: &[u8]) -> Result<Form<'_>, UrlError>
 }
 
 // What stands behind a scheme and its colon.
-fn form_behind<'a>(
-    text: &'a [u8],
-    scheme: &'a [u8],
-    behind: &'a [u8],
-) -> Result<Form<'a>, UrlError>
+fn form_behind<'a>(text: &'a [u8], scheme: &'a [u8], behind: &'a [u8]) -> Result<Form<'a>, UrlError>
     ensures { map_form result ≡ form_behind text.now scheme.now behind.now }
 {
     if let Some(rest) = behind.strip_prefix(b"//") {
@@ -186,16 +182,24 @@ fn form_of(text: &[u8]) -> Result<Form<'_>, UrlError>
     }
 }
 
+// Where a separator stands first from a place on.
+fn separator_from(text: &[u8], from: usize, separator: u8) -> Option<usize>
+    requires { from ≤ length text.now }
+    ensures place { result ≡ separator_from from text.now separator }
+    ensures within { IfSome result (λ at. at < length text.now) }
+{
+    match place_of(&text[from..], separator) {
+        Some(at) => Some(from + at),
+        None => None,
+    }
+}
+
 // Where the path begins: at the first separator behind the host.
 fn path_at(text: &[u8], separator: u8) -> Option<usize>
     ensures place { result ≡ path_at separator text.now }
     ensures within { IfSome result (λ at. at < length text.now) }
 {
-    let from = search_from(text);
-    match place_of(&text[from..], separator) {
-        Some(at) => Some(from + at),
-        None => None,
-    }
+    separator_from(text, search_from(text), separator)
 }
 
 // A path, from its tilde on where one follows its first byte.
@@ -203,13 +207,7 @@ fn home_path(path: &[u8]) -> &[u8]
     ensures { result.now ≡ home_path path.now }
 {
     match path {
-        [_, second, ..] => {
-            if *second == b'~' {
-                &path[1..]
-            } else {
-                path
-            }
-        }
+        [_, second, ..] => { if *second == b'~' { &path[1..] } else { path } }
         _ => path,
     }
 }
@@ -308,6 +306,25 @@ fn local(alloc: Global, path: &[u8]) -> Result<Address, UrlError>
     server(alloc, Transport::File, b"", path)
 }
 
+// What stands behind a scheme, with its escaped bytes as they are.
+fn remote_url(alloc: Global, transport: Transport, rest: &[u8]) -> Result<Address, UrlError>
+    ensures { GivesAddress (remote transport (decoded 0 rest.now) 47) result }
+{
+    let text = decoded(alloc, rest)?;
+    remote(alloc, transport, &text, b'/')
+}
+
+// The server that a text names, by its form.
+fn read_form(alloc: Global, form: Form<'_>) -> Result<Address, UrlError>
+    ensures { GivesAddress (server_by (form_value form.entry)) result }
+{
+    match form {
+        Form::Path(path) => local(alloc, path),
+        Form::HostPath(text) => remote(alloc, Transport::Ssh, text, b':'),
+        Form::Url(transport, rest) => remote_url(alloc, transport, rest),
+    }
+}
+
 impl Address {
     /// The server that a URL names, as git reads it (git-clone, "GIT URLS"; git-fetch-pack, `--diag-url`). Escaped bytes are
     /// read in what a scheme begins alone. A path of this machine is taken as it is.
@@ -319,12 +336,7 @@ impl Address {
         ensures { GivesAddress (reading url.now) result }
     {
         match form_of(url) {
-            Ok(Form::Path(path)) => local(alloc, path),
-            Ok(Form::HostPath(text)) => remote(alloc, Transport::Ssh, text, b':'),
-            Ok(Form::Url(transport, rest)) => {
-                let text = decoded(alloc, rest)?;
-                remote(alloc, transport, &text, b'/')
-            }
+            Ok(form) => read_form(alloc, form),
             Err(e) => Err(e),
         }
     }

@@ -131,13 +131,7 @@ fn without_colon(text: &[u8]) -> &[u8]
     ensures { result.now ≡ without_colon text.now (cut 58 text.now) }
 {
     match cut(text, b':') {
-        Some((host, port)) => {
-            if port.is_empty() {
-                host
-            } else {
-                text
-            }
-        }
+        Some((host, port)) => { if port.is_empty() { host } else { text } }
         None => text,
     }
 }
