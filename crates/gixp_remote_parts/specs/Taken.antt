@@ -1,5 +1,6 @@
 -- What becomes of the shallow boundary of the repository that fetches.
-use Rattle.std.specs.Prelude.{◌&&◌, not, List, [], ◌∷◌, filter, if◌then◌else◌, Option, Some, None}
+use Rattle.std.specs.Prelude.{ℕ, ◌&&◌, not, List, filter, slice_get, Option, Some, None}
+use Rattle.std.specs.List.{position}
 use Rattle.std.specs.BTreeSet.{BTreeSet, contains}
 use Rattle.gixp_hash.specs.declared.object_id.ObjectId.{ObjectId}
 use Rattle.gixp_hash.specs.ObjectId.{id_cmp}
@@ -29,10 +30,17 @@ added old new = filter (λ id. not (contains id_cmp old id)) new
 abbrev pub came : BTreeSet ObjectId → BTreeSet ObjectId → List ObjectId → List ObjectId
 came before commits ids = filter (λ id. contains id_cmp commits id && not (contains id_cmp before id)) ids
 
--- the first that is no commit here
+-- where the first id stands that is no commit here
+abbrev pub stranger_at : BTreeSet ObjectId → List ObjectId → Option ℕ
+stranger_at commits ids = position (λ id. not (contains id_cmp commits id)) ids
+
+abbrev pub id_at : List ObjectId → Option ℕ → Option ObjectId
+id_at ids None = None
+id_at ids (Some at) = slice_get ids at
+
+-- the first of these
 abbrev pub first_stranger : BTreeSet ObjectId → List ObjectId → Option ObjectId
-first_stranger commits [] = None
-first_stranger commits (id ∷ ids) = if contains id_cmp commits id then first_stranger commits ids else Some id
+first_stranger commits ids = id_at ids (stranger_at commits ids)
 
 abbrev pub unless_stranger : List ObjectId → Option ObjectId → AfterFetch
 unless_stranger new None = becomes new

@@ -1,7 +1,7 @@
 //! What becomes of the shallow boundary of the repository that fetches (gitrepository-layout, "shallow"; git-fetch, `--depth`,
 //! `--update-shallow`).
 ghost use Rattle.std.specs.Prelude.{◌≡◌, ◌++◌, IfOk};
-ghost use Rattle.gixp_remote_parts.specs.Taken.{added, came, boundary_after, boundary_value, first_stranger};
+ghost use Rattle.gixp_remote_parts.specs.Taken.{added, came, boundary_after, boundary_value, first_stranger, stranger_at};
 
 use gixp_hash::ObjectId;
 use std::alloc::{AllocError, Global};
@@ -45,16 +45,21 @@ pub fn added(
         .collect(alloc)
 }
 
+// Where the first id stands that is no commit here.
+fn stranger_at(ids: &[ObjectId], commits: &BTreeSet<ObjectId>) -> Option<usize>
+    ensures { result ≡ stranger_at commits.now ids.now }
+{
+    ids.iter().position(|id| !commits.contains(id))
+}
+
 // The first id that is no commit here.
 fn first_stranger(ids: &[ObjectId], commits: &BTreeSet<ObjectId>) -> Option<ObjectId>
     ensures { result ≡ first_stranger commits.now ids.now }
 {
-    for id in ids {
-        if !commits.contains(id) {
-            return Some(*id);
-        }
+    match stranger_at(ids, commits) {
+        Some(at) => ids.get(at).copied(),
+        None => None,
     }
-    None
 }
 
 // The commits that came, and weren't here before.

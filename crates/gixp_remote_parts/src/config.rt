@@ -2,6 +2,7 @@
 ghost use Rattle.std.specs.Prelude.{◌≡◌};
 ghost use Rattle.gixp_remote_parts.specs.Config.{entry_of, setting_value};
 
+use crate::text::place_of;
 use std::alloc::{AllocError, Global};
 
 /// A setting: its name, and its value where it has one.
@@ -23,7 +24,7 @@ pub struct Settings<'a> {
 fn entry_of(text: &[u8]) -> Setting<'_>
     ensures { setting_value result ≡ entry_of text.now }
 {
-    match text.iter().position(|b| *b == b'\n') {
+    match place_of(text, b'\n') {
         Some(at) => Setting {
             name: &text[..at],
             value: Some(&text[at + 1..]),

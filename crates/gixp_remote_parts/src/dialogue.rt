@@ -2,6 +2,7 @@
 ghost use Rattle.std.specs.Prelude.{◌≡◌};
 ghost use Rattle.gixp_remote_parts.specs.Dialogue.{cut_blank, command_value, command_of, switch_of, depth_of, put, reply_text, with_digit, number_behind, number_of};
 
+use crate::text::place_of;
 use bstr::BString;
 use std::alloc::{AllocError, Global};
 
@@ -26,7 +27,7 @@ pub enum Command<'a> {
 fn cut_blank(text: &[u8]) -> (&[u8], &[u8])
     ensures { (result.0.now, result.1.now) ≡ cut_blank text.now }
 {
-    match text.iter().position(|b| *b == b' ') {
+    match place_of(text, b' ') {
         Some(at) => (&text[..at], &text[at + 1..]),
         None => (text, b""),
     }

@@ -10,6 +10,7 @@ mod proxy;
 mod request;
 mod server;
 mod ssh;
+mod text;
 
 pub use boundary::{Boundary, Taking, added, boundary_after};
 pub use config::{Setting, Settings, is_true};

@@ -1,6 +1,7 @@
 //! What the shell beside the program is asked to do, as text: a line that says it, a line for each variable and each word, and a
 //! line that ends it.
 ghost use Rattle.std.specs.Prelude.{◌≡◌, ◌++◌, IfOk, OnOk, flat_map};
+ghost use Rattle.bstr.specs.Owned.{bstring_bytes};
 ghost use Rattle.gixp_remote_parts.specs.Requests.{shown_byte, marked_line, marked_lines, named, named_two, task_name, program_name, start_line, started, asked_path, asked_paths, asked, request_lines};
 
 use bstr::BString;
@@ -109,12 +110,19 @@ fn append_line(text: &mut Vec<u8>, mark: u8, word: &[u8]) -> Result<(), AllocErr
     Ok(())
 }
 
+// The same of a word that is its own.
+fn append_own_line(text: &mut Vec<u8>, mark: u8, word: &BString) -> Result<(), AllocError>
+    ensures { OnOk result (text.new.items ≡ text.old.items ++ marked_line mark (bstring_bytes word.now)) }
+{
+    append_line(text, mark, word.as_bytes())
+}
+
 // A line for each word.
 fn append_lines(text: &mut Vec<u8>, mark: u8, words: &[BString]) -> Result<(), AllocError>
     ensures { OnOk result (text.new.items ≡ text.old.items ++ marked_lines mark words.now) }
 {
     for word in words {
-        append_line(text, mark, word.as_bytes())?;
+        append_own_line(text, mark, word)?;
     }
     Ok(())
 }
