@@ -11,6 +11,7 @@ use gixp_fetch_command::shown::Shown;
 use gixp_remote_parts::{Choices, Command, Program, Request, Settings, Start, Task, read_command};
 use gixp_url::Address;
 use std::cell::Cell;
+use std::collections::BTreeSet;
 use std::io::{BufRead, BufReader, Input, Write};
 use std::{io, mem};
 
@@ -24,7 +25,8 @@ struct Helper<'a> {
     shell: Shell,
     choices: Choices,
     open: Open,
-    wanted: Vec<ObjectId>,
+    // What the batch asks for, each id once.
+    wanted: BTreeSet<ObjectId>,
     // How many batches were fetched.
     batches: u64,
     // The name of the helper's folder.
@@ -83,7 +85,7 @@ impl Helper<'_> {
     fn want(&mut self, id: &[u8], line: &[u8]) -> Result<(), Trouble> {
         match ObjectId::from_hex(id) {
             Ok(id) => {
-                self.wanted.push(id)?;
+                self.wanted.insert(id)?;
                 Ok(())
             }
             Err(_) => self.refuse(line),
@@ -104,7 +106,8 @@ impl Helper<'_> {
         let number = format!(in alloc; "-{count}")?;
         let mut folder = Vec::from_slice(alloc, &self.folder)?;
         folder.extend_from_slice(number.as_bytes())?;
-        let ids = mem::replace(&mut self.wanted, Vec::new(alloc));
+        let wanted = mem::replace(&mut self.wanted, BTreeSet::new(alloc));
+        let ids: Vec<ObjectId> = wanted.into_iter().collect(alloc)?;
         let order = Order {
             reach: self.reach,
             choices: &self.choices,
@@ -183,7 +186,7 @@ pub(crate) fn converse(rt: &HostRuntime) -> Result<(), Trouble> {
         shell,
         choices: Choices::new(alloc),
         open: None,
-        wanted: Vec::new(alloc),
+        wanted: BTreeSet::new(alloc),
         batches: 0,
         folder: Vec::from_slice(alloc, folder.as_bytes())?,
     };
