@@ -23,6 +23,7 @@ import random
 import re
 import shlex
 import shutil
+import signal
 import socket
 import subprocess
 import sys
@@ -919,7 +920,62 @@ def says(name, t):
     t.check(f"{name}: two lines of an error", "fatal: remote error: one\nremote: fatal: two\n" in err, err)
 
 
+def running(word, room):
+    """The processes with this word among theirs that stand in this room, or were started for it."""
+    found = []
+    for process in pathlib.Path("/proc").glob("[0-9]*"):
+        try:
+            words = (process / "cmdline").read_bytes().decode("latin1").split("\0")
+            place = os.readlink(process / "cwd") + " " + " ".join(words)
+            if str(room) in place and any(word in one.split("/")[-1] for one in words[:3]):
+                found.append(int(process.name))
+        except OSError:
+            pass
+    return found
+
+
+def is_left(t, client):
+    """What a fetch that was ended left behind: processes, folders, locks."""
+    for _ in range(60):
+        processes = [id for word in ("git-remote-gixp", t.remote.name, "index-pack", "upload-pack", "rev-list") for id in running(word, t.room)]
+        left = [*client.glob("objects/pack/*.keep"), *client.glob("objects/pack/tmp_*"), *client.glob("objects/tmp_objdir*"), *client.glob("*.lock"), *t.room.glob("gixp.*")]
+        if not processes and not left:
+            return ""
+        time.sleep(0.1)
+    return f"{processes} {left}"
+
+
+def killed(name, t, who, hard):
+    """One of the processes of a fetch is ended, at 20 moments of it."""
+    server = make(t, "server", 400)
+    for number in range(20):
+        client = make(t, "client", 0)
+        words = ["git", "fetch", "-q", *(["--depth", "3"] if number % 2 else []), f"gixp::file://{server}", "main:refs/x/m"]
+        begun = subprocess.Popen(words, cwd=client, env=t.environment, stdout=subprocess.DEVNULL, stderr=subprocess.DEVNULL, start_new_session=True)
+        time.sleep(0.004 * number)
+        for _ in range(200):
+            found = [begun.pid] if who == "git" else running(who, t.room)
+            if found or begun.poll() is not None:
+                break
+        for one in found:
+            try:
+                os.kill(one, signal.SIGKILL if hard else signal.SIGTERM)
+            except OSError:
+                pass
+        try:
+            begun.wait(20)
+        except subprocess.TimeoutExpired:
+            begun.kill()
+            t.check(f"{name}, moment {number}", False, "no end")
+            continue
+        left = is_left(t, client)
+        clean = t.run("git", "fsck", "--connectivity-only", at=client)[0] == 0
+        t.check(f"{name}, moment {number}", not left and clean, left)
+
+
 def try_harm(t):
+    for who, hard in (("git-remote-gixp", False), (t.remote.name, False), (t.remote.name, True), ("index-pack", False), ("index-pack", True), ("upload-pack", False), ("git", False), ("git", True)):
+        t.case(f"a kill of {who}{', at once' if hard else ''}", killed, who, hard)
     for name, action in (("a linked work tree", work_trees), ("a shallow server", shallow_servers), ("a spoiled boundary", spoiled_boundaries), ("a locked boundary", locked_boundary), ("evil objects", evil_objects),
                          ("locks of packs", locks_of_packs), ("the server's environment", environments), ("dates", dates), ("what a server says", says)):
         t.case(name, action)
