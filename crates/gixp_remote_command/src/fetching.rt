@@ -8,7 +8,7 @@ use crate::shell::{NOTHING, Shell, owned};
 use crate::trouble::Trouble;
 use bstr::{BString, ByteSlice};
 use gix_protocol::fetch::refmap::{Mapping, Source, SpecIndex};
-use gix_protocol::fetch::{Outcome, RefMap, Shallow, ShallowMemory, Tags, shallow_text};
+use gix_protocol::fetch::{RefMap, Shallow, ShallowMemory, Tags, shallow_text};
 use gix_protocol::transport::{Kind, ObjectId, Protocol};
 use gixp_fetch_command::failure::Failure;
 use gixp_fetch_command::receive::PackReceiver;
@@ -229,6 +229,19 @@ struct Came {
     boundary: Vec<ObjectId>,
 }
 
+/// What shows the server's progress.
+pub(crate) fn shown_of<'a>(
+    rt: &'a HostRuntime,
+    shows_progress: bool,
+    has_failed: &'a Cell<bool>,
+) -> Shown<'a> {
+    Shown {
+        rt,
+        shows_progress,
+        has_failed,
+    }
+}
+
 // Fetches over a session.
 fn fetch_over(
     order: Order<'_>,
@@ -236,20 +249,15 @@ fn fetch_over(
     session: &mut Session<'static, Wire>,
     asked: Asked<'_>,
     repository: &mut Repository,
-    plan: &PackPlan,
-    state: &Cell<PackState>,
-) -> Result<Came, Failure> {
+    plan: PackPlan,
+) -> Result<Vec<ObjectId>, Failure> {
     let rt = order.reach.rt;
     let alloc = rt.alloc();
     let has_failed = Cell::new(false);
-    let mut shown = Shown {
-        rt,
-        shows_progress: order.choices.shows_progress && !order.choices.is_quiet,
-        has_failed: &has_failed,
-    };
+    let mut shown = shown_of(rt, order.choices.tells_progress(), &has_failed);
     let mut sink = Sink {
         boundary: ShallowMemory::new(Vec::from_slice(alloc, &repository.boundary)?),
-        pack: PackReceiver::new(alloc, IndexedPack::new(rt, shell, plan, state)),
+        pack: PackReceiver::new(alloc, IndexedPack::new(rt.clone()?, shell, plan)),
     };
     let came = negotiate(
         rt,
@@ -261,7 +269,7 @@ fn fetch_over(
         &mut shown,
     );
     match unless_failed(came, has_failed.get()) {
-        Ok(outcome) => keep_pack(alloc, &mut sink, outcome, state),
+        Ok(_) => keep_pack(alloc, &mut sink),
         Err(e) => {
             sink.pack.give_up();
             Err(e)
@@ -277,25 +285,47 @@ fn refused(kind: ErrorKind) -> Failure {
     }
 }
 
-// Waits until the pack is indexed that came.
-fn keep_pack(
-    alloc: Global,
-    sink: &mut Sink<IndexedPack<'_>>,
-    _outcome: Option<Outcome>,
-    state: &Cell<PackState>,
-) -> Result<Came, Failure> {
+// Waits until the pack is indexed that came, and gives the new boundary.
+fn keep_pack(alloc: Global, sink: &mut Sink<IndexedPack<'_>>) -> Result<Vec<ObjectId>, Failure> {
     match sink.pack.keep() {
         Ok(_) => {}
         Err(e) => return Err(refused(e.kind())),
     }
-    let kept = match state.get() {
+    Ok(Vec::from_slice(alloc, sink.boundary.ids())?)
+}
+
+// A fetch over one session, and what became of the pack.
+fn fetch_by(
+    order: Order<'_>,
+    shell: &mut Shell,
+    session: &mut Session<'static, Wire>,
+    wish: &Wish<'_>,
+    repository: &mut Repository,
+    plan: &PackPlan,
+    has_alternates: bool,
+) -> Result<Came, Trouble> {
+    let alloc = order.reach.rt.alloc();
+    list_commits(order, shell, wish, has_alternates)?;
+    let map = map_of(alloc, order.ids)?;
+    let asked = Asked {
+        map: &map,
+        wish: &*wish,
+    };
+    let plan = plan.copy(alloc)?;
+    let boundary = fetch_over(order, shell, session, asked, repository, plan)?;
+    let kept = match shell.pack {
         PackState::Kept(kept) => Some(kept),
         PackState::Begun | PackState::Unbegun => None,
     };
-    Ok(Came {
-        kept,
-        boundary: Vec::from_slice(alloc, sink.boundary.ids())?,
-    })
+    Ok(Came { kept, boundary })
+}
+
+// Whether a fetch failed since the server had left, before a pack came.
+fn was_left(came: &Result<Came, Trouble>, shell: &Shell) -> bool {
+    match came {
+        Err(Trouble::Fetch(Failure::HungUp)) => shell.pack == PackState::Unbegun,
+        _ => false,
+    }
 }
 
 // Fetches over the session that is there, or over a new one, also where the one that is there was left by the server.
@@ -308,20 +338,30 @@ fn fetch_once_more(
     plan: &PackPlan,
     has_alternates: bool,
 ) -> Result<Came, Trouble> {
-    let map = map_of(order.reach.rt.alloc(), order.ids)?;
-    let asked = Asked { map: &map, wish };
-    let state = Cell::new(PackState::Unbegun);
     if let Some(mut session) = open.take() {
-        list_commits(order, shell, wish, has_alternates)?;
-        let came = fetch_over(order, shell, &mut session, asked, repository, plan, &state);
-        match came {
-            Err(Failure::HungUp) if state.get() == PackState::Unbegun => drop(session),
-            came => return settle(session, open, came),
+        let came = fetch_by(
+            order,
+            shell,
+            &mut session,
+            wish,
+            repository,
+            plan,
+            has_alternates,
+        );
+        if !was_left(&came, shell) {
+            return settle(session, open, came?);
         }
     }
     let mut session = open_session(order, shell)?;
-    list_commits(order, shell, wish, has_alternates)?;
-    let came = fetch_over(order, shell, &mut session, asked, repository, plan, &state);
+    let came = fetch_by(
+        order,
+        shell,
+        &mut session,
+        wish,
+        repository,
+        plan,
+        has_alternates,
+    )?;
     settle(session, open, came)
 }
 
@@ -329,9 +369,8 @@ fn fetch_once_more(
 fn settle(
     mut session: Session<'static, Wire>,
     open: &mut Open,
-    came: Result<Came, Failure>,
+    came: Came,
 ) -> Result<Came, Trouble> {
-    let came = came?;
     if session.version() == Protocol::V2 {
         *open = Some(session);
     } else {
@@ -357,11 +396,7 @@ fn list_commits(
 // Connects with the server.
 fn open_session(order: Order<'_>, shell: &mut Shell) -> Result<Session<'static, Wire>, Trouble> {
     let has_failed = Cell::new(false);
-    let mut shown = Shown {
-        rt: order.reach.rt,
-        shows_progress: false,
-        has_failed: &has_failed,
-    };
+    let mut shown = shown_of(order.reach.rt, false, &has_failed);
     connect(order.reach, shell, &mut shown)
 }
 
@@ -475,7 +510,7 @@ fn flags_of<'a>(alloc: Global, choices: &Choices) -> Result<Vec<&'a [u8]>, Troub
     if choices.checks && !choices.has_depth() {
         flags.push(b"--check-self-contained-and-connected")?;
     }
-    if choices.shows_progress && !choices.is_quiet {
+    if choices.tells_progress() {
         flags.push(b"-v")?;
     }
     Ok(flags)

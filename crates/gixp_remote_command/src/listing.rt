@@ -3,7 +3,6 @@ use bstr::BString;
 use gix_protocol::handshake::Ref;
 use gix_protocol::transport::ObjectId;
 use std::alloc::{AllocError, Global};
-use std::collections::BTreeSet;
 
 // Whether a name fits the lines of git's: git leaves out others too, as names that no ref may have (git-check-ref-format).
 fn is_plain(name: &[u8]) -> bool {
@@ -33,26 +32,23 @@ fn append_symbolic(text: &mut Vec<u8>, target: &[u8], name: &[u8]) -> Result<(),
     text.extend_from_slice(b"\n")
 }
 
-// The names of the refs that hold an object themselves.
-fn holders(alloc: Global, refs: &[Ref]) -> Result<BTreeSet<Vec<u8>>, AllocError> {
-    let mut names = BTreeSet::new(alloc);
+// The names of the refs that hold an object themselves, in order.
+fn holders(alloc: Global, refs: &[Ref]) -> Result<Vec<BString>, AllocError> {
+    let mut names = Vec::new(alloc);
     for found in refs {
         match found {
             Ref::Peeled { full_ref_name, .. } | Ref::Direct { full_ref_name, .. } => {
-                names.insert(Vec::from_slice(alloc, full_ref_name.as_bytes())?)?;
+                names.push(full_ref_name.clone()?)?;
             }
             Ref::Symbolic { .. } | Ref::Unborn { .. } => {}
         }
     }
+    names.sort()?;
     Ok(names)
 }
 
 // The lines of a ref. A symbolic ref is told by its target where that holds an object itself, else by what it leads to.
-fn append_ref(
-    text: &mut Vec<u8>,
-    found: &Ref,
-    holders: &BTreeSet<Vec<u8>>,
-) -> Result<(), AllocError> {
+fn append_ref(text: &mut Vec<u8>, found: &Ref, holders: &[BString]) -> Result<(), AllocError> {
     match found {
         Ref::Direct {
             full_ref_name,
@@ -83,9 +79,9 @@ fn append_link(
     target: &BString,
     tag: &Option<ObjectId>,
     object: &ObjectId,
-    holders: &BTreeSet<Vec<u8>>,
+    holders: &[BString],
 ) -> Result<(), AllocError> {
-    if holders.contains(target.as_bytes()) {
+    if holders.binary_search(target).is_ok() {
         return append_symbolic(text, target.as_bytes(), name.as_bytes());
     }
     match tag {

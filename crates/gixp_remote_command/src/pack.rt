@@ -10,7 +10,6 @@ use gix_protocol::transport::ObjectId;
 use gixp_fetch_parts::PackPlace;
 use gixp_remote_parts::{Program, Request, Start, Task};
 use std::alloc::Global;
-use std::cell::Cell;
 use std::fs::{File, OpenOptions};
 use std::io::{ErrorKind, Read};
 use std::{fs, io};
@@ -63,7 +62,25 @@ fn variables_of(rt: &HostRuntime, folder: &str, objects: &str) -> Result<Vec<BSt
     Ok(variables)
 }
 
+// Words once more.
+fn copied(alloc: Global, words: &[BString]) -> Result<Vec<BString>, Trouble> {
+    let mut all = Vec::new(alloc);
+    for word in words {
+        all.push(word.clone()?)?;
+    }
+    Ok(all)
+}
+
 impl PackPlan {
+    /// The same once more.
+    pub(crate) fn copy(&self, alloc: Global) -> Result<PackPlan, Trouble> {
+        Ok(PackPlan {
+            folder: self.folder.clone()?,
+            words: copied(alloc, &self.words)?,
+            variables: copied(alloc, &self.variables)?,
+        })
+    }
+
     /// A pack for the folder of this name. `checks` are the words for what is checked of its objects.
     pub(crate) fn new(
         rt: &HostRuntime,
@@ -100,13 +117,11 @@ impl PackPlan {
 /// A pack that git indexes as it comes.
 #[derive(Drop)]
 pub(crate) struct IndexedPack<'a> {
-    pub(crate) rt: &'a HostRuntime,
-    pub(crate) shell: &'a mut Shell,
-    pub(crate) plan: &'a PackPlan,
+    rt: HostRuntime,
+    shell: &'a mut Shell,
+    plan: PackPlan,
     /// What git says of the pack, once it is begun.
     told: Option<File>,
-    /// Whether one was begun, and what became of it.
-    pub(crate) state: &'a Cell<PackState>,
 }
 
 /// What became of a pack.
@@ -150,18 +165,13 @@ fn kind_of(e: Trouble) -> io::Error {
 
 impl<'a> IndexedPack<'a> {
     /// Before a pack comes.
-    pub(crate) fn new(
-        rt: &'a HostRuntime,
-        shell: &'a mut Shell,
-        plan: &'a PackPlan,
-        state: &'a Cell<PackState>,
-    ) -> IndexedPack<'a> {
+    pub(crate) fn new(rt: HostRuntime, shell: &'a mut Shell, plan: PackPlan) -> IndexedPack<'a> {
+        shell.pack = PackState::Unbegun;
         IndexedPack {
             rt,
             shell,
             plan,
             told: None,
-            state,
         }
     }
 
@@ -182,9 +192,9 @@ impl<'a> IndexedPack<'a> {
             variables: &self.plan.variables,
             words: &self.plan.words,
         }))?;
-        let writer = OpenOptions::new().write(true).open(self.rt, "pack")?;
-        self.told = Some(File::open(self.rt, "kept")?);
-        self.state.set(PackState::Begun);
+        let writer = OpenOptions::new().write(true).open(&self.rt, "pack")?;
+        self.told = Some(File::open(&self.rt, "kept")?);
+        self.shell.pack = PackState::Begun;
         Ok(writer)
     }
 
@@ -223,7 +233,7 @@ impl PackPlace for IndexedPack<'_> {
         drop(writer);
         match self.finish() {
             Ok(kept) => {
-                self.state.set(PackState::Kept(kept));
+                self.shell.pack = PackState::Kept(kept);
                 Ok(())
             }
             Err(e) => Err(kind_of(e)),

@@ -1,13 +1,12 @@
 //! The conversation with git.
 use crate::connect::{Reach, connect};
-use crate::fetching::{Open, Order, fetch};
+use crate::fetching::{Open, Order, fetch, shown_of};
 use crate::listing::refs_told;
 use crate::setup::{settings_text, url_of, version_of};
 use crate::shell::{NOTHING, Shell};
 use crate::trouble::Trouble;
 use bstr::{BString, ByteSlice};
 use gix_protocol::transport::ObjectId;
-use gixp_fetch_command::shown::Shown;
 use gixp_remote_parts::{Choices, Command, Program, Request, Settings, Start, Task, read_command};
 use gixp_url::Address;
 use std::cell::Cell;
@@ -59,11 +58,7 @@ impl Helper<'_> {
     fn list(&mut self) -> Result<(), Trouble> {
         self.watch()?;
         let has_failed = Cell::new(false);
-        let mut shown = Shown {
-            rt: self.reach.rt,
-            shows_progress: self.choices.shows_progress,
-            has_failed: &has_failed,
-        };
+        let mut shown = shown_of(self.reach.rt, self.choices.tells_progress(), &has_failed);
         let mut session = connect(self.reach, &mut self.shell, &mut shown)?;
         let refs = session.refs(&mut shown)?;
         self.open = Some(session);
@@ -167,6 +162,43 @@ impl Helper<'_> {
     }
 }
 
+// What the helper begins with.
+#[derive(Drop)]
+struct Begun {
+    shell: Shell,
+    // The name of the helper's folder.
+    folder: String,
+}
+
+// Speaks with git.
+fn serve<'a>(
+    rt: &'a HostRuntime,
+    address: &'a Address,
+    settings: &'a Settings<'a>,
+    begun: Begun,
+) -> Result<(), Trouble> {
+    let alloc = rt.alloc();
+    let version = version_of(rt, settings);
+    let mut helper = Helper {
+        reach: Reach {
+            rt,
+            address,
+            settings,
+            version,
+        },
+        shell: begun.shell,
+        choices: Choices::new(alloc),
+        open: None,
+        wanted: BTreeSet::new(alloc),
+        batches: 0,
+        folder: Vec::from_slice(alloc, begun.folder.as_bytes())?,
+    };
+    let mut lines = BufReader::new(alloc, rt.reader())?;
+    let done = helper.obey_all(&mut lines);
+    helper.close();
+    done
+}
+
 /// Speaks with git until it has nothing more to ask.
 pub(crate) fn converse(rt: &HostRuntime) -> Result<(), Trouble> {
     let alloc = rt.alloc();
@@ -175,23 +207,6 @@ pub(crate) fn converse(rt: &HostRuntime) -> Result<(), Trouble> {
     let address = Address::read(alloc, url.as_bytes())?;
     let text = settings_text(rt, &mut shell)?;
     let settings = Settings::read(alloc, &text)?;
-    let version = version_of(rt, &settings);
-    let mut helper = Helper {
-        reach: Reach {
-            rt,
-            address: &address,
-            settings: &settings,
-            version,
-        },
-        shell,
-        choices: Choices::new(alloc),
-        open: None,
-        wanted: BTreeSet::new(alloc),
-        batches: 0,
-        folder: Vec::from_slice(alloc, folder.as_bytes())?,
-    };
-    let mut lines = BufReader::new(alloc, rt.reader())?;
-    let done = helper.obey_all(&mut lines);
-    helper.close();
-    done
+    let begun = Begun { shell, folder };
+    serve(&*rt, &address, &settings, begun)
 }

@@ -1,4 +1,5 @@
 //! The shell beside the program: it starts and ends programs, and answers each request with a number.
+use crate::pack::PackState;
 use crate::trouble::Trouble;
 use bstr::BString;
 use gixp_remote_parts::{Program, Request, Start, Task, request_text};
@@ -17,6 +18,8 @@ pub(crate) struct Shell {
     requests: File,
     answers: BufReader<File>,
     line: Vec<u8>,
+    /// What became of the pack that git was given last.
+    pub(crate) pack: PackState,
 }
 
 /// What a program said, and its status.
@@ -51,6 +54,7 @@ impl Shell {
             requests,
             answers,
             line: Vec::new(alloc),
+            pack: PackState::Unbegun,
         })
     }
 

@@ -1,5 +1,5 @@
 //! What git asks of a remote helper, and what it is told (gitremote-helpers).
-ghost use Rattle.std.specs.Prelude.{◌≡◌};
+ghost use Rattle.std.specs.Prelude.{◌≡◌, ◌&&◌, not};
 ghost use Rattle.gixp_remote_parts.specs.Dialogue.{cut_blank, command_value, command_of, switch_of, depth_of, put, reply_text, with_digit, number_behind, number_of};
 
 use crate::text::place_of;
@@ -219,6 +219,13 @@ impl Choices {
             tells_format: false,
             is_refetch: false,
         }
+    }
+
+    /// Whether progress is shown.
+    pub fn tells_progress(&self) -> bool
+        ensures { result ≡ (self.now.shows_progress && not self.now.is_quiet) }
+    {
+        self.shows_progress && !self.is_quiet
     }
 
     /// Whether a depth of some kind is wanted.
