@@ -66,6 +66,7 @@ fn step_of(
 fn tell_step(found: &Step, request: &mut [u8], step: &mut StepRecord) -> u32
     ensures no_room { result ≡ 2 → (request.new ≡ request.old) × (step.new ≡ record step.old { length = step.new.length })
         × (length request.old < step.new.length) }
+    ensures few { result < 3 }
 {
     match found {
         Step::Nothing => {
@@ -135,6 +136,7 @@ pub extern "C" fn gixp_next(
     step: &mut StepRecord,
 ) -> u32
     ensures no_room { result ≡ 2 → (request.new ≡ request.old) × (length request.old < step.new.length) }
+    ensures refused { 2 < result → step.new ≡ record step.old { length = step.new.length } }
 {
     match step_of(alloc, answers, ends, specs, haves, boundary, depth) {
         Ok(found) => tell_step(&found, request, step),
