@@ -244,17 +244,15 @@ pub(crate) fn shown_of<'a>(
 
 // Fetches over a session.
 fn fetch_over(
-    order: Order<'_>,
+    rt: &HostRuntime,
     shell: &mut Shell,
     session: &mut Session<'static, Wire>,
     asked: Asked<'_>,
     repository: &mut Repository,
     plan: PackPlan,
+    shown: &mut Shown<'_>,
 ) -> Result<Vec<ObjectId>, Failure> {
-    let rt = order.reach.rt;
     let alloc = rt.alloc();
-    let has_failed = Cell::new(false);
-    let mut shown = shown_of(rt, order.choices.tells_progress(), &has_failed);
     let mut sink = Sink {
         boundary: ShallowMemory::new(Vec::from_slice(alloc, &repository.boundary)?),
         pack: PackReceiver::new(alloc, IndexedPack::new(rt.clone()?, shell, plan)),
@@ -266,9 +264,9 @@ fn fetch_over(
         asked,
         Some("commits"),
         &mut sink,
-        &mut shown,
+        shown,
     );
-    match unless_failed(came, has_failed.get()) {
+    match unless_failed(came, shown.has_failed.get()) {
         Ok(_) => keep_pack(alloc, &mut sink),
         Err(e) => {
             sink.pack.give_up();
@@ -312,7 +310,17 @@ fn fetch_by(
         wish: &*wish,
     };
     let plan = plan.copy(alloc)?;
-    let boundary = fetch_over(order, shell, session, asked, repository, plan)?;
+    let has_failed = Cell::new(false);
+    let mut shown = shown_of(order.reach.rt, order.choices.tells_progress(), &has_failed);
+    let boundary = fetch_over(
+        order.reach.rt,
+        shell,
+        session,
+        asked,
+        repository,
+        plan,
+        &mut shown,
+    )?;
     let kept = match shell.pack {
         PackState::Kept(kept) => Some(kept),
         PackState::Begun | PackState::Unbegun => None,

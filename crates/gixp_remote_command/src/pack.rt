@@ -155,9 +155,9 @@ fn hash_of(line: &[u8]) -> Option<ObjectId> {
 }
 
 // The kind of a trouble, for a call that reports kinds alone.
-fn kind_of(e: Trouble) -> io::Error {
+fn kind_of(e: &Trouble) -> io::Error {
     match e {
-        Trouble::Io(kind) => io::Error::from(kind),
+        Trouble::Io(kind) => io::Error::from(*kind),
         Trouble::Memory => io::Error::from(ErrorKind::OutOfMemory),
         _ => io::Error::from(ErrorKind::Other),
     }
@@ -226,7 +226,10 @@ impl PackPlace for IndexedPack<'_> {
     ghost gives_up = { λ p w q. ⊤ };
 
     fn begin(&mut self) -> io::Result<File> {
-        self.start().map_err(kind_of)
+        match self.start() {
+            Ok(writer) => Ok(writer),
+            Err(e) => Err(kind_of(&e)),
+        }
     }
 
     fn keep(&mut self, writer: File) -> io::Result<()> {
@@ -236,7 +239,7 @@ impl PackPlace for IndexedPack<'_> {
                 self.shell.pack = PackState::Kept(kept);
                 Ok(())
             }
-            Err(e) => Err(kind_of(e)),
+            Err(e) => Err(kind_of(&e)),
         }
     }
 

@@ -208,5 +208,6 @@ pub(crate) fn converse(rt: &HostRuntime) -> Result<(), Trouble> {
     let text = settings_text(rt, &mut shell)?;
     let settings = Settings::read(alloc, &text)?;
     let begun = Begun { shell, folder };
-    serve(&*rt, &address, &settings, begun)
+    let own = rt.clone()?;
+    serve(&own, &address, &settings, begun)
 }
