@@ -23,7 +23,7 @@ pub(crate) type Wire = Connection<File, BufWriter<File>>;
 pub(crate) struct Reach<'a> {
     pub(crate) rt: &'a HostRuntime,
     pub(crate) address: &'a Address,
-    pub(crate) settings: &'a Settings<'a>,
+    pub(crate) settings: &'a Settings,
     pub(crate) version: Protocol,
 }
 

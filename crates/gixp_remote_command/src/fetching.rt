@@ -139,12 +139,12 @@ fn checks_of(order: Order<'_>, shell: &mut Shell) -> Result<Vec<BString>, Troubl
     match is_true(chosen) {
         Some(false) => return Ok(Vec::new(alloc)),
         Some(true) => {}
-        None => return Err(Trouble::of_word(alloc, "bad boolean value of", chosen.name)),
+        None => return Err(Trouble::of_word(alloc, "bad boolean value of", chosen.name.as_bytes())),
     }
     let mut list = Vec::new(alloc);
     for entry in settings.entries() {
-        if let Some(name) = entry.name.strip_prefix(b"fetch.fsck.") {
-            add_check(order, shell, &mut list, name, entry.value.unwrap_or(b""))?;
+        if let Some(name) = entry.name.as_bytes().strip_prefix(b"fetch.fsck.") {
+            add_check(order, shell, &mut list, name, entry.text())?;
         }
     }
     let mut words = Vec::new(alloc);
@@ -253,9 +253,11 @@ fn fetch_over(
     shown: &mut Shown<'_>,
 ) -> Result<Vec<ObjectId>, Failure> {
     let alloc = rt.alloc();
+    let boundary = Vec::from_slice(alloc, &repository.boundary)?;
+    let place = IndexedPack::new(rt.clone()?, shell, plan);
     let mut sink = Sink {
-        boundary: ShallowMemory::new(Vec::from_slice(alloc, &repository.boundary)?),
-        pack: PackReceiver::new(alloc, IndexedPack::new(rt.clone()?, shell, plan)),
+        boundary: ShallowMemory::new(boundary),
+        pack: PackReceiver::new(alloc, place),
     };
     let came = negotiate(
         rt,

@@ -11,7 +11,7 @@ use gixp_fetch_parts::PackPlace;
 use gixp_remote_parts::{Program, Request, Start, Task};
 use std::alloc::Global;
 use std::fs::{File, OpenOptions};
-use std::io::{ErrorKind, Read};
+use std::io::{ErrorKind, Read, Write};
 use std::{fs, io};
 
 /// What git is told of the pack, and where it is put.
@@ -155,11 +155,37 @@ fn hash_of(line: &[u8]) -> Option<ObjectId> {
 }
 
 // The kind of a trouble, for a call that reports kinds alone.
-fn kind_of(e: &Trouble) -> io::Error {
+fn kind_of(e: &Trouble) -> ErrorKind {
     match e {
-        Trouble::Io(kind) => io::Error::from(*kind),
-        Trouble::Memory => io::Error::from(ErrorKind::OutOfMemory),
-        _ => io::Error::from(ErrorKind::Other),
+        Trouble::Io(kind) => *kind,
+        Trouble::Memory => ErrorKind::OutOfMemory,
+        _ => ErrorKind::Other,
+    }
+}
+
+/// What the pack is written into: the pipe to git. Where it can't be opened, each write says why, since a pack is begun in any
+/// case.
+#[derive(Drop)]
+pub(crate) enum PackWriter {
+    /// The pipe.
+    Open(File),
+    /// It can't be opened, with this kind.
+    Failed(ErrorKind),
+}
+
+impl Write for PackWriter {
+    fn write(&mut self, buf: &[u8]) -> io::Result<usize> {
+        match self {
+            PackWriter::Open(file) => file.write(buf),
+            PackWriter::Failed(kind) => Err(io::Error::from(*kind)),
+        }
+    }
+
+    fn flush(&mut self) -> io::Result<()> {
+        match self {
+            PackWriter::Open(file) => file.flush(),
+            PackWriter::Failed(kind) => Err(io::Error::from(*kind)),
+        }
     }
 }
 
@@ -217,7 +243,7 @@ impl<'a> IndexedPack<'a> {
 }
 
 impl PackPlace for IndexedPack<'_> {
-    type Writer = File;
+    type Writer = PackWriter;
 
     ghost begins = { λ p w q. ⊤ };
 
@@ -225,25 +251,25 @@ impl PackPlace for IndexedPack<'_> {
 
     ghost gives_up = { λ p w q. ⊤ };
 
-    fn begin(&mut self) -> io::Result<File> {
+    fn begin(&mut self) -> io::Result<PackWriter> {
         match self.start() {
-            Ok(writer) => Ok(writer),
-            Err(e) => Err(kind_of(&e)),
+            Ok(file) => Ok(PackWriter::Open(file)),
+            Err(e) => Ok(PackWriter::Failed(kind_of(&e))),
         }
     }
 
-    fn keep(&mut self, writer: File) -> io::Result<()> {
+    fn keep(&mut self, writer: PackWriter) -> io::Result<()> {
         drop(writer);
         match self.finish() {
             Ok(kept) => {
                 self.shell.pack = PackState::Kept(kept);
                 Ok(())
             }
-            Err(e) => Err(kind_of(&e)),
+            Err(e) => Err(io::Error::from(kind_of(&e))),
         }
     }
 
-    fn give_up(&mut self, _writer: File) {
+    fn give_up(&mut self, _writer: PackWriter) {
         let _ = self.shell.end(Task::Pack);
         self.told = None;
     }

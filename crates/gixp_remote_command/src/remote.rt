@@ -165,35 +165,32 @@ impl Helper<'_> {
 // What the helper begins with.
 #[derive(Drop)]
 struct Begun {
-    shell: Shell,
+    rt: HostRuntime,
+    address: Address,
+    settings: Settings,
     // The name of the helper's folder.
     folder: String,
 }
 
 // Speaks with git.
-fn serve<'a>(
-    rt: &'a HostRuntime,
-    address: &'a Address,
-    settings: &'a Settings<'a>,
-    begun: Begun,
-) -> Result<(), Trouble> {
-    let alloc = rt.alloc();
-    let version = version_of(rt, settings);
+fn serve(begun: &Begun, shell: Shell) -> Result<(), Trouble> {
+    let alloc = begun.rt.alloc();
+    let version = version_of(&begun.rt, &begun.settings);
+    let mut lines = BufReader::new(alloc, begun.rt.reader())?;
     let mut helper = Helper {
         reach: Reach {
-            rt,
-            address,
-            settings,
+            rt: &begun.rt,
+            address: &begun.address,
+            settings: &begun.settings,
             version,
         },
-        shell: begun.shell,
+        shell,
         choices: Choices::new(alloc),
         open: None,
         wanted: BTreeSet::new(alloc),
         batches: 0,
         folder: Vec::from_slice(alloc, begun.folder.as_bytes())?,
     };
-    let mut lines = BufReader::new(alloc, rt.reader())?;
     let done = helper.obey_all(&mut lines);
     helper.close();
     done
@@ -207,7 +204,11 @@ pub(crate) fn converse(rt: &HostRuntime) -> Result<(), Trouble> {
     let address = Address::read(alloc, url.as_bytes())?;
     let text = settings_text(rt, &mut shell)?;
     let settings = Settings::read(alloc, &text)?;
-    let begun = Begun { shell, folder };
-    let own = rt.clone()?;
-    serve(&own, &address, &settings, begun)
+    let begun = Begun {
+        rt: rt.clone()?,
+        address,
+        settings,
+        folder,
+    };
+    serve(&begun, shell)
 }

@@ -36,7 +36,7 @@ pub(crate) fn settings_text(rt: &HostRuntime, shell: &mut Shell) -> Result<Vec<u
 }
 
 /// The version of the protocol that is asked for.
-pub(crate) fn version_of(rt: &HostRuntime, settings: &Settings<'_>) -> Protocol {
+pub(crate) fn version_of(rt: &HostRuntime, settings: &Settings) -> Protocol {
     if let Some(word) = variable(rt, "GIXP_VERSION") {
         return protocol_of(word.as_bytes());
     }
@@ -65,7 +65,7 @@ pub(crate) fn version_word(version: Protocol) -> Option<&'static [u8]> {
 }
 
 /// Who chooses the haves.
-pub(crate) fn haves_of(rt: &HostRuntime, settings: &Settings<'_>) -> Haves {
+pub(crate) fn haves_of(rt: &HostRuntime, settings: &Settings) -> Haves {
     use gix_protocol::fetch::negotiate::Algorithm;
     if let Some(word) = variable(rt, "GIXP_NEGOTIATOR") {
         return match Algorithm::from_name(word.as_str()) {

@@ -2,6 +2,7 @@
 use Rattle.std.specs.Prelude.{ℕ, ◌+◌, ◌==◌, List, take, drop, Option, Some, None}
 use Rattle.std.specs.Option.{option_map}
 use Rattle.std.specs.List.{position}
+use Rattle.bstr.specs.Owned.{bstring_bytes}
 use Rattle.gixp_remote_parts.specs.declared.config.Setting.{Setting}
 
 -- a setting: its name, and its value where it has one
@@ -10,7 +11,7 @@ pub record SettingOf : Type 0 where
   pub value : Option (List ℕ)
 
 abbrev pub setting_value : Setting → SettingOf
-setting_value s = record { name = s.name.now; value = option_map (λ v. v.now) s.value }
+setting_value s = record { name = bstring_bytes s.name; value = option_map bstring_bytes s.value }
 
 abbrev pub entry_at : List ℕ → Option ℕ → SettingOf
 entry_at text None = record { name = text; value = None }

@@ -54,7 +54,7 @@ fn lists(list: &[u8], word: &[u8]) -> bool {
 pub fn is_allowed(
     alloc: Global,
     transport: &[u8],
-    settings: &Settings<'_>,
+    settings: &Settings,
     list: Option<&[u8]>,
     is_from_user: bool,
 ) -> Result<Option<bool>, AllocError> {

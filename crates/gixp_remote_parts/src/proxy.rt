@@ -27,14 +27,14 @@ fn is_of(domain: &[u8], host: &[u8]) -> bool {
 /// The program that connects with a host: that of `GIT_PROXY_COMMAND`, else of the first setting for it. None where it is
 /// connected with at once, as `none` says too.
 pub fn proxy_for<'a>(
-    settings: &Settings<'a>,
+    settings: &'a Settings,
     variable: Option<&'a [u8]>,
     host: &[u8],
 ) -> Option<&'a [u8]> {
     let mut found = variable;
     for entry in settings.entries() {
-        if found.is_none() && entry.name == b"core.gitproxy".as_slice() {
-            found = command_for(entry.value.unwrap_or(b""), host);
+        if found.is_none() && entry.name.as_bytes() == b"core.gitproxy".as_slice() {
+            found = command_for(entry.text(), host);
         }
     }
     match found {

@@ -16,6 +16,12 @@ fn name_of(transport: Transport) -> &'static [u8] {
     }
 }
 
+// A part of a line, and a tab.
+fn append_part(text: &mut Vec<u8>, part: &[u8]) -> Result<(), AllocError> {
+    text.extend_from_slice(part)?;
+    text.extend_from_slice(b"\t")
+}
+
 // A line of an address.
 fn append_address(text: &mut Vec<u8>, address: &Address) -> Result<(), AllocError> {
     let is_ssh = address.transport == Transport::Ssh;
@@ -28,10 +34,9 @@ fn append_address(text: &mut Vec<u8>, address: &Address) -> Result<(), AllocErro
         Some(port) if is_ssh => port.as_bytes(),
         _ => b"NONE",
     };
-    for part in [name_of(address.transport), host.as_bytes(), port] {
-        text.extend_from_slice(part)?;
-        text.extend_from_slice(b"\t")?;
-    }
+    append_part(text, name_of(address.transport))?;
+    append_part(text, host.as_bytes())?;
+    append_part(text, port)?;
     text.extend_from_slice(address.path.as_bytes())
 }
 
