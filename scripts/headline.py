@@ -1,17 +1,23 @@
 #!/usr/bin/env python3
-"""Weakens what `fetch`, `handshake` and `obtain` promise, and says whether `fetch::laws::headline` is still proved.
+"""Weakens what `fetch`, `handshake` and `obtain` promise, and says whether the laws of gixp_fetch are still proved.
 
 Usage: headline.py [WORD]
+       headline.py --fields [RECORD..]
 
-Each change weakens one clause of a definition that these promise, or of a premise of the law, by the part of the law's
+Each change weakens one clause of a definition that these promise, or of a premise of a law, by the part of the law's
 sentence that rests on it. It is applied by itself to a copy of gixp_fetch and of the crates below it with what their out/
-folders keep, and `rt check --only laws::headline` must then refuse a proof. With WORD only those are tried that have it in
-their part or name. RT names another command than `rt`.
+folders keep, and `rt check` of the laws must then refuse a proof. With WORD only those are tried that have it in their part
+or name. RT names another command than `rt`.
 
-A change of a definition that the law itself cites turns both sides, so it shows nothing unless the law says more of it.
+With --fields the changes are made of the definitions: of each record that `Fetches` reaches each field that is a fact is
+replaced by what always holds, one at a time; with RECORD only of these records. A field whose replacement leaves the laws
+proved bears nothing. Those of `BEARS_NOTHING` are known, each with its reason.
 
-A line says of a change `refused`, with the proof's first error; `PROVED`; or `BAD CHANGE`, where its text isn't there or a
-definition can't be read. The last line counts them. The status is 1 where one isn't refused.
+A change of a definition that a law itself cites turns both sides, so it shows nothing unless the law says more of it.
+
+A line says of a change `refused`, with the proof's first error; `PROVED`; `known`, where that is known of a field; or
+`BAD CHANGE`, where its text isn't there or a definition can't be read, as where a field is no fact but what others speak of.
+The last line counts them. The status is 1 where one is `PROVED`, or a change isn't readable without --fields.
 """
 import re
 import sys
@@ -22,11 +28,21 @@ from pathlib import Path
 
 from wrong_bodies import TOP, check, copy_with_those_below
 
+LAWS = [f"laws::{name}" for name in ("headline", "errors_have_causes", "stores_are_called", "interrupts_are_asked", "requests_go_out",
+                                    "requests_name_all_again", "rounds_are_bounded", "sessions_are_bounded",
+                                    "all_but_the_last_are_counted")]
+
+# fields of records that bear nothing, and why they stand
+BEARS_NOTHING = {}
+
+# what a field is whose type begins with one of these, or is a word alone: what others speak of, and no fact
+DATA = {"List", "Option", "Turn", "At", "PackFailure", "negotiate_error"}
+
 CHANGES = {
     "every server stream, however cut": [
         ("a connection's bytes aren't known", "Headline", "IsNewConnection (Some bytes)", "IsNewConnection None"),
         ("the bodies are others", "Headline", "IsNewBodies given at", "IsNewBodies [] at"),
-        ("a stream has no frames of the grammar", "Headline", "AreFrames bytes frames end", "AreFrames [] frames end"),
+        ("a reader's frames aren't those of the grammar", "Headline", "→ AreFrames bytes frames end → (r : Reading)", "→ AreFrames [] frames end → (r : Reading)"),
     ],
     "every lawful repository, negotiator and refspec list": [
         ("the negotiation is over another map", "Headline", "map_of old.negotiate ≡ made", "map_of old.negotiate ≡ map_of old.negotiate"),
@@ -35,11 +51,16 @@ CHANGES = {
     ],
     "the refs": [
         ("the handshake began elsewhere", "Headline", "parties.plain start shaken credentials", "parties.plain shaken shaken credentials"),
+        ("the fetch is of another version", "Headline", "version : call.version ≡ handshake.server_protocol_version", "version : call.version ≡ call.version"),
+        ("the fetch is of other capabilities", "Headline", "capabilities : call.capabilities ≡ handshake.capabilities", "capabilities : call.capabilities ≡ call.capabilities"),
+        ("the fetch is of other changes of the boundary", "Headline", "told : call.wishes.told ≡ update_items handshake.v1_shallow_updates", "told : call.wishes.told ≡ call.wishes.told"),
         ("the map ends elsewhere", "Headline", "shaken old.reading (Ok made)", "shaken shaken (Ok made)"),
         ("the first words were read elsewhere", "Headline", "Handshakes service parameters old new r → SaysBy", "Handshakes service parameters new new r → SaysBy"),
     ],
     "responses": [
         ("an answer is that of no reading", "FetchRounds", "(view m.banded t.after.reading) t.reply", "(view m.banded t.sent) t.reply"),
+        ("the interrupt isn't asked", "FetchRounds", "pub asks : (told : I) × m.says old.interrupt false told\n        × AsksThrough", "pub asks : (told : I) × (told ≡ old.interrupt)\n        × AsksThrough"),
+        ("the interrupt is asked at any packet", "FetchRounds", "× AsksThrough m.says m.banded m.plain false t.sent t.after.reading told t.after.interrupt", "× (told ≡ told)"),
         ("a round before the last is done", "FetchRounds", "Turns old t × (t.done ≡ false)", "Turns old t × (t.done ≡ t.done)"),
         ("a round before the last has a pack", "FetchRounds", "× (t.reply.pack ≡ false) × Rounds", "× (t.reply.pack ≡ t.reply.pack) × Rounds"),
     ],
@@ -55,7 +76,20 @@ CHANGES = {
         ("any refusal after the rounds", "Fetch", "rounds updates reply end → e ≡ Memory", "rounds updates reply end → e ≡ e"),
         ("any refusal where the lock isn't had", "Session", "at_lock : HoldFails store_calls updates reject store locked e store' locked' →", "at_lock : e ≡ e →"),
         ("any refusal of the pack", "Received", "gives : e ≡ of_pack error", "gives : e ≡ e"),
-        ("any refusal of the boundary", "Session", "→ SettleFails store_calls held e store'", "→ e ≡ e"),
+        ("any refusal of the boundary", "Session", "→ SettleFails store_calls updates held e store'", "→ e ≡ e"),
+        ("a round is refused of itself", "FetchRounds", "pub refused : m.fails old.negotiate old.window old.asked old.previous error negotiate window asked", "pub refused : error ≡ error"),
+        ("an answer is refused of itself", "FetchRounds", "          → AnswerFails (answer_of m.version (flags done (not done))) (view_plain m.banded m.plain) (view m.banded sent)\n          (view m.banded reading) error\n", "          → error ≡ error\n"),
+        ("the boundary is unread of itself", "Session", "pub refused : store_calls.failures to_read store error store'", "pub refused : error ≡ error"),
+        ("the depth is refused of itself", "Session", "pub why : ((name : List ℕ) × (shallow_asks shallow ids given ≡ Err name) × IsMissing name e) ⊎ (e ≡ Memory)", "pub why : ((name : List ℕ) × (name ≡ name) × IsMissing name e) ⊎ (e ≡ Memory)"),
+        ("the depth is refused by any error", "Session", "pub why : ((name : List ℕ) × (shallow_asks shallow ids given ≡ Err name) × IsMissing name e) ⊎ (e ≡ Memory)", "pub why : e ≡ e"),
+        ("the first step is refused of itself", "Session", "pub refused : negotiation_calls.marking_fails first error last", "pub refused : error ≡ error"),
+        ("changes come unasked with any error", "Session", "UnheldBy true true store locked e store' locked' = (e ≡ RejectShallowRemote) ×", "UnheldBy true true store locked e store' locked' = (e ≡ e) ×"),
+        ("the lock isn't had with any error", "Session", "× (e ≡ of_lock error) × (locked' ≡ locked)", "× (e ≡ e) × (locked' ≡ locked)"),
+        ("the lock is refused though it is had", "Session", "UnheldBy false reject store locked e store' locked' = ⊥", "UnheldBy false reject store locked e store' locked' = e ≡ e"),
+        ("a feature that answers need is missing with any error", "Prepare", "→ Misses (missing_feature version raw) (Err error) → e ≡ of_response error", "→ Misses (missing_feature version raw) (Err error) → e ≡ e"),
+        ("no feature is missing", "Prepare", "→ Misses (missing_feature version raw) (Err error) → e ≡ of_response error", "→ error ≡ error → e ≡ of_response error"),
+        ("the first lock is refused with any error", "Prepare", "gives : e ≡ of_lock error", "gives : e ≡ e"),
+        ("any lines were passed", "Receive", "rest : IfSome old.to_come (λ p. (q : Pieces) × (now.to_come ≡ Some q) × ((lines_ahead old p).ending ≡ (lines_ahead now q).ending))", "rest : old ≡ old"),
     ],
     "each request": [
         ("the first request has no wants", "Fetch", "    asked = wanted;", "    asked = given;"),
@@ -73,17 +107,80 @@ CHANGES = {
         ("the rest isn't read", "Received", "finishes : Finishes finished mid end", "finishes : finished ≡ finished"),
         ("the rest isn't read up to a stop", "Receive", "rest : IfSome old.to_come (λ p. (q : Pieces) × (new.to_come ≡ Some q) × ((lines_ahead old p).ending ≡ stop kind q))", "rest : kind ≡ kind"),
         ("the reader isn't at the stop", "Receive", "stopped : new.stopped ≡ Some kind", "stopped : kind ≡ kind"),
+        ("the lock isn't got", "Session", "HoldsBy true false store locked store' locked' = store_calls.locks store store' ×", "HoldsBy true false store locked store' locked' = (store' ≡ store') ×"),
+        ("changes come unasked though they weren't to", "Session", "HoldsBy true true store locked store' locked' = ⊥", "HoldsBy true true store locked store' locked' = store' ≡ store'"),
+        ("any boundary is written", "Session", "SettlesBy true ids updates store store' = store_calls.writes store (boundary ids updates) store'", "SettlesBy true ids updates store store' = store' ≡ store'"),
         ("the boundary isn't written", "Session", "settles : SettlesBoundary store_calls ids updates held store'", "settles : store' ≡ held"),
     ],
     "at most n / 16 + 1 requests": [
         ("as many requests as haves", "Bound", "length rounds ≤ count first / 16 + 1", "length rounds ≤ count first + 1"),
         ("more haves than were on offer", "Bound", "haves_of rounds ≤ count first", "haves_of rounds ≤ count first + 1"),
+        ("no round but the first is left out", "Bound", "but_last (r ∷ s ∷ rs) = r ∷ but_last (s ∷ rs)", "but_last (r ∷ s ∷ rs) = but_last (s ∷ rs)"),
         ("wider windows than were on offer", "Bound", "windows_of (but_last rounds) ≤ count first", "windows_of (but_last rounds) ≤ count first + 1"),
     ],
     "a prefix-filtered answer": [
         ("a map, or its refusal, is that of another place", "Headline", "handshake plain shaken reached r → FindsRefMap", "handshake plain shaken shaken r → FindsRefMap"),
     ],
 }
+
+
+def items_of(text):
+    """The items of a file of definitions: the name of each, and its lines, which those set in further belong to."""
+    found, name, depth = {}, "", 0
+    for line in text.splitlines():
+        head = re.match(r"( *)(?:abbrev pub|pub abbrev|unfoldable pub|pub (?:record|data)|abbrev|record|data) (\w\S*)", line)
+        if head:
+            name, depth = head[2], len(head[1])
+        elif line.strip() and len(line) - len(line.lstrip()) <= depth and line.split()[0] != name:
+            name = ""
+        if name:
+            found.setdefault(name, []).append(line)
+    return found
+
+
+def fields_of(lines):
+    """The fields of a record that are facts: the name of each, and its lines."""
+    found = []
+    for line in lines[1:]:
+        head = re.match(r"( *)pub (\S+) : (.*)", line)
+        if head:
+            found.append((head[2], [line]))
+        elif found and line.strip() and not line.lstrip().startswith("--"):
+            found[-1][1].append(line)
+    for name, its in found:
+        first, *more = re.sub(r"^ *pub \S+ : ", "", its[0]).split()
+        if (more or len(its) > 1) and first not in DATA:
+            yield name, its
+
+
+def field_changes(words):
+    """For each field of each record that `Fetches` reaches its record, its name, its file, its lines and what replaces them."""
+    files = {it.stem: it.read_text() for it in sorted((TOP / "crates/gixp_fetch/specs").glob("*.antt"))}
+    places = {name: (stem, lines) for stem, text in files.items() for name, lines in items_of(text).items()}
+    reached, new = set(), {"Fetches"}
+    while new:
+        reached |= new
+        new = {it for name in new for it in re.findall(r"[\w']+", "\n".join(places[name][1])) if it in places} - reached
+    for name in sorted(reached):
+        stem, lines = places[name]
+        if (words and name not in words) or not re.match(r" *(pub )?record ", lines[0]) or " : Type 1 where" in lines[0]:
+            continue
+        for field, its in fields_of(lines):
+            nothing = re.match(r"( *pub \S+ : )", its[0])[1] + "Unit {0}"
+            yield name, field, stem, "\n".join([*lines[:lines.index(its[0])], *its]), "\n".join([*lines[:lines.index(its[0])], nothing])
+
+
+def try_fields(crate, words):
+    """Tries the fields of records."""
+    counts = Counter()
+    for record, field, *change in field_changes(words):
+        began = time.monotonic()
+        verdict, error = try_change(crate, *change)
+        if verdict == "PROVED" and (record, field) in BEARS_NOTHING:
+            verdict, error = "known", BEARS_NOTHING[record, field]
+        counts[verdict] += 1
+        print(f"{verdict:11}{record}: {field} ({time.monotonic() - began:.0f} s) {error[:120]}".rstrip(), flush=True)
+    return counts
 
 
 def try_change(crate, file, old, new):
@@ -93,7 +190,7 @@ def try_change(crate, file, old, new):
     if kept.count(old) != 1:
         return "BAD CHANGE", f"its text stands {kept.count(old)} times in {file}"
     path.write_text(kept.replace(old, new))
-    is_proved, lines = check(crate, ["laws::headline"])
+    is_proved, lines = check(crate, LAWS)
     path.write_text(kept)
     error = next((it for it in lines if ": error" in it), "")
     if is_proved:
@@ -101,26 +198,33 @@ def try_change(crate, file, old, new):
     return ("refused" if re.match(r"(\./)?proofs/", error) else "BAD CHANGE"), error
 
 
+def try_parts(crate, word):
+    """Tries the changes that have this word."""
+    counts = Counter()
+    for part, changes in CHANGES.items():
+        for name, *change in changes:
+            if word in part or word in name:
+                began = time.monotonic()
+                verdict, error = try_change(crate, *change)
+                counts[verdict] += 1
+                print(f"{verdict:11}{part}: {name} ({time.monotonic() - began:.0f} s) {error[:120]}".rstrip(), flush=True)
+    return counts
+
+
 def main(words):
-    word = words[0] if words else ""
+    of_fields = words[:1] == ["--fields"]
     lines = [it.partition(":") for it in (TOP / "crates.txt").read_text().splitlines() if not it.startswith("#")]
     crates = {name.split()[0]: below.split() for name, colon, below in lines if colon}
-    counts = Counter()
     with tempfile.TemporaryDirectory(prefix="headline-") as room:
         crate = copy_with_those_below("gixp_fetch", crates, Path(room))
-        is_proved, said = check(crate, ["laws::headline"])
+        is_proved, said = check(crate, LAWS)
         if not is_proved:
-            sys.exit("\n".join(["the law isn't proved without a change"] + [it for it in said if ": error" in it]))
-        for part, changes in CHANGES.items():
-            for name, *change in changes:
-                if word in part or word in name:
-                    began = time.monotonic()
-                    verdict, error = try_change(crate, *change)
-                    counts[verdict] += 1
-                    print(f"{verdict:11}{part}: {name} ({time.monotonic() - began:.0f} s) {error[:120]}".rstrip(), flush=True)
+            sys.exit("\n".join(["the laws aren't proved without a change"] + [it for it in said if ": error" in it]))
+        counts = try_fields(crate, words[1:]) if of_fields else try_parts(crate, words[0] if words else "")
+    known = f", {counts['known']} known" if counts["known"] else ""
     bad = f", {counts['BAD CHANGE']} bad" if counts["BAD CHANGE"] else ""
-    print(f"{counts['refused']} refused, {counts['PROVED']} proved{bad}")
-    return 1 if sum(counts.values()) != counts["refused"] else 0
+    print(f"{counts['refused']} refused, {counts['PROVED']} proved{known}{bad}")
+    return 1 if counts["PROVED"] or (counts["BAD CHANGE"] and not of_fields) else 0
 
 
 if __name__ == "__main__":

@@ -110,8 +110,10 @@ pub use Rattle.gixp_refmap.specs.Values
 pub use Rattle.gixp_handshake.specs.Credentials
 pub use Rattle.gixp_handshake.specs.ShakeError
 pub use Rattle.gixp_handshake.specs.Shake
+pub use Rattle.gixp_handshake.specs.ShakeProgress
 pub use Rattle.gixp_handshake.specs.Accepted
 pub use Rattle.gixp_handshake.specs.Obtain
+pub use Rattle.gixp_handshake.specs.ObtainProgress
 pub use Rattle.gixp_handshake.specs.Taken
 pub use Rattle.gixp_handshake.specs.HandshakeValues
 pub use Rattle.gixp_handshake.specs.Ending
@@ -302,3 +304,12 @@ pub use Rattle.gixp_updates.specs.declared.refs.error.Error as UpdateErrorType
 pub use Rattle.gixp_updates.specs.declared.refs.unmatched.UnmatchedSpec as UnmatchedSpecType
 pub use Rattle.gixp_updates.specs.declared.refs.update.Mode as ModeType
 pub use Rattle.gixp_updates.specs.declared.refs.update.Options as UpdateOptionsType
+pub use Rattle.gixp_client.specs.ClientCalls
+pub use Rattle.gixp_client.specs.ClientError
+pub use Rattle.gixp_client.specs.ClientPromise
+pub use Rattle.gixp_client.specs.Filters
+pub use Rattle.gixp_client.specs.Windows
+pub use Rattle.gixp_client.specs.declared.error.Error as SessionErrorType
+pub use Rattle.gixp_client.specs.declared.request.Request as RequestType
+pub use Rattle.gixp_client.specs.declared.session.State as SessionStateType
+pub use Rattle.gixp_client.specs.declared.session.Session as SessionType

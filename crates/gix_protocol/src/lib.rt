@@ -2,6 +2,7 @@
 //! `gix-protocol`.
 #![tactic(auto)]
 
+pub mod client;
 pub mod fetch;
 pub mod handshake;
 pub mod refspec;

@@ -3,14 +3,17 @@ use Rattle.std.proofs.Common.{◌≡◌, ◌⊎◌, inl, inr, ℕ, Bool, true, f
 use Rattle.std.specs.Prelude.{◌||◌, if◌then◌else◌}
 use Rattle.std.specs.List.{Contains}
 use Rattle.std.specs.Cmp.Lexicographic.{texts_ties}
+use Rattle.std.proofs.lemmas.List.{append-nil, append_assoc}
 use Rattle.std.proofs.lemmas.List.Elements.{Contains-append_left, Contains-append_right, Contains-append_cases}
 use Rattle.gixp_hash.specs.declared.object_id.ObjectId.{ObjectId}
 use Rattle.gixp_requests.specs.Arguments.{ArgumentsValue, is_v2}
 use Rattle.gixp_requests.specs.Request.{sent_off}
 use Rattle.gixp_graph.specs.GraphLaws.{same_from}
+use Rattle.gixp_negotiate.specs.declared.negotiate.Round.{Round}
+use Rattle.gixp_negotiate.specs.Negotiate.{Window}
 use Rattle.gixp_negotiate.specs.Rounds.{commons, commons_of, is_same_id, has_id, keeping, keeping_all, kept_with, kept_ids, have_line}
 use Rattle.gixp_fetch.specs.FetchRounds.{At, Turn, Manner, Turns, Rounds}
-use Rattle.gixp_fetch.specs.Again.{Renames, StandsAlone, NamesAgain}
+use Rattle.gixp_fetch.specs.Again.{Renames, StandsAlone, NamesAgain, NamesAll, named_in}
 use Rattle.gixp_fetch.proofs.SetLemmas.{no_member, first_member, later_member, member_cases}
 use Rattle.gixp_fetch.proofs.SentLemmas.{turn_written}
 
@@ -87,15 +90,17 @@ module _ {N I A : Type 0} (m : Manner N I A) (law : Renames m.goes) where
   now_kept : (old : At N I) (lines : List (List ℕ)) (ids : List ObjectId) → Knows old lines ids → List ObjectId
   now_kept old lines ids k = keeping_all k.kept (commons_of old.previous)
 
-  one_names : (old : At N I) (t : Turn N I) (lines : List (List ℕ)) (ids : List ObjectId) (k : Knows old lines ids) → Turns m old t
-      → (t.after.window.kept ≡ Some (keeping_all k.kept (commons_of old.previous)))
-      × (t.asked.lines ≡ lines) × (t.asked.version ≡ old.asked.version)
+  goes_names : (old : At N I) (lines : List (List ℕ)) (ids : List ObjectId) (k : Knows old lines ids) (round : Round) (done : Bool)
+      (next : N) (window : Window) (asked : ArgumentsValue)
+      → m.goes old.negotiate old.window old.asked old.previous round done next window asked
+      → (window.kept ≡ Some (keeping_all k.kept (commons_of old.previous)))
+      × (asked.lines ≡ lines) × (asked.version ≡ old.asked.version)
       × ((id : ObjectId) → Contains ids id → Contains (keeping_all k.kept (commons_of old.previous)) id)
-      × ((id : ObjectId) → Contains ids id → Contains t.asked.haves (have_line id))
-  one_names old t lines ids k h =
-      let kept : t.after.window.kept ≡ Some (keeping_all k.kept (commons_of old.previous)) = law.keeps _ _ _ _ _ _ _ _ _ h.negotiated
+      × ((id : ObjectId) → Contains ids id → Contains asked.haves (have_line id))
+  goes_names old lines ids k round done next window asked goes =
+      let kept : window.kept ≡ Some (keeping_all k.kept (commons_of old.previous)) = law.keeps _ _ _ _ _ _ _ _ _ goes
       ∙ ap (λ o. kept_with o (commons_of old.previous)) k.is_kept in
-      let names = law.names _ _ _ _ _ _ _ _ _ h.negotiated in
+      let names = law.names _ _ _ _ _ _ _ _ _ goes in
       let all : (id : ObjectId) → Contains ids id → Contains (keeping_all k.kept (commons_of old.previous)) id =
       λ id c. by_known id (k.known id c) in (
         kept,
@@ -103,9 +108,9 @@ module _ {N I A : Type 0} (m : Manner N I A) (law : Renames m.goes) where
         ap (λ (a : ArgumentsValue). a.version) names.1,
         all,
         λ id c. subst (λ (a : ArgumentsValue). Contains a.haves (have_line id)) (sym names.1)
-            (Contains-append_right old.asked.haves (map have_line (kept_ids t.after.window.kept ++ names.0)) (have_line id)
-            (lines_of_haves (kept_ids t.after.window.kept ++ names.0) id
-            (Contains-append_left (kept_ids t.after.window.kept) names.0 id
+            (Contains-append_right old.asked.haves (map have_line (kept_ids window.kept ++ names.0)) (have_line id)
+            (lines_of_haves (kept_ids window.kept ++ names.0) id
+            (Contains-append_left (kept_ids window.kept) names.0 id
             (subst (λ o. Contains (kept_ids o) id) (sym kept) (all id c))))),
       )
     where
@@ -113,6 +118,14 @@ module _ {N I A : Type 0} (m : Manner N I A) (law : Renames m.goes) where
           → Contains (keeping_all k.kept (commons_of old.previous)) id
       by_known id (inl a) = all_stay k.kept (commons_of old.previous) id a
       by_known id (inr b) = all_join k.kept (commons_of old.previous) id b
+
+  one_names : (old : At N I) (t : Turn N I) (lines : List (List ℕ)) (ids : List ObjectId) (k : Knows old lines ids) → Turns m old t
+      → (t.after.window.kept ≡ Some (keeping_all k.kept (commons_of old.previous)))
+      × (t.asked.lines ≡ lines) × (t.asked.version ≡ old.asked.version)
+      × ((id : ObjectId) → Contains ids id → Contains (keeping_all k.kept (commons_of old.previous)) id)
+      × ((id : ObjectId) → Contains ids id → Contains t.asked.haves (have_line id))
+  one_names old t lines ids k h =
+      goes_names old lines ids k t.round t.done t.after.negotiate t.after.window t.asked h.negotiated
 
   next_knows : (old : At N I) (t : Turn N I) (lines : List (List ℕ)) (ids : List ObjectId) → Knows old lines ids → Turns m old t
       → Knows t.after lines (ids ++ commons t.reply.acknowledgements)
@@ -164,6 +177,24 @@ module _ {N I A : Type 0} (m : Manner N I A) (law : Renames m.goes) where
             (next_knows old t lines ids k r.0) r.3 h,
       )
 
+  -- what is negotiated after these rounds
+  then_names : (old before : At N I) (ts : List (Turn N I)) (lines : List (List ℕ)) (ids : List ObjectId) → Knows old lines ids
+      → Rounds m old ts before → (round : Round) (done : Bool) (next : N) (window : Window) (asked : ArgumentsValue)
+      → m.goes before.negotiate before.window before.asked before.previous round done next window asked
+      → NamesAll lines (ids ++ named_in ts) asked
+  then_names old before [] lines ids k r round done next window asked goes =
+      let one = goes_names old lines ids k round done next window asked
+      (subst (λ (a : At N I). m.goes a.negotiate a.window a.asked a.previous round done next window asked) r goes) in
+      record { same = one.1; haves = λ id c. one.4 id (subst (λ xs. Contains xs id) (append-nil ids) c) }
+  then_names old before (t ∷ ts) lines ids k r round done next window asked goes =
+      let rest = then_names t.after before ts lines (ids ++ commons t.reply.acknowledgements) (next_knows old t lines ids k r.0) r.3
+      round done next window asked goes in
+      record {
+        same = rest.same;
+        haves = λ id c. rest.haves id
+            (subst (λ xs. Contains xs id) (sym (append_assoc ids (commons t.reply.acknowledgements) (named_in ts))) c);
+      }
+
   first_knows : (start : At N I) → StandsAlone start → Knows start start.asked.lines []
   first_knows start s = record {
     kept = [];
@@ -180,3 +211,10 @@ module _ {N I A : Type 0} (m : Manner N I A) (law : Renames m.goes) where
   pub last_names : (start before : At N I) (ts : List (Turn N I)) (last : Turn N I) → StandsAlone start → Rounds m start ts before
       → Turns m before last → NamesAgain start.asked.lines [] (ts ++ last ∷ [])
   last_names start before ts last s r h = more_names start before ts last start.asked.lines [] (first_knows start s) r h
+
+  pub unanswered_names : (start before : At N I) (ts : List (Turn N I)) (round : Round) (done : Bool) (next : N) (window : Window)
+      (asked : ArgumentsValue) → StandsAlone start → Rounds m start ts before
+      → m.goes before.negotiate before.window before.asked before.previous round done next window asked
+      → NamesAll start.asked.lines (named_in ts) asked
+  unanswered_names start before ts round done next window asked s r goes =
+      then_names start before ts start.asked.lines [] (first_knows start s) r round done next window asked goes

@@ -1,13 +1,20 @@
 -- What is true of a client's whole run.
-use Rattle.std.proofs.Common.{◌≡◌, ◌⊎◌, inl, inr, Bool, true, false, List, [], ◌∷◌, map, refl, sym, ap, subst, ◌∙◌, Option, Some, None}
+use Rattle.std.proofs.Common.{◌≡◌, ◌⊎◌, inl, inr, ℕ, Bool, true, false, List, [], ◌∷◌, map, refl, sym, ap, subst, ◌∙◌, Option, Some, None}
 use Rattle.std.specs.Prelude.{Result, Ok, Err, IfSome, Vec}
 use Rattle.std.specs.declared.alloc.Global.{Global}
 use Rattle.gixp_hash.specs.declared.object_id.ObjectId.{ObjectId}
+use Rattle.gixp_packetline.specs.declared.protocol.Protocol.{Protocol}
+use Rattle.gixp_packetline.specs.Frames.{Frame, Frames, End, frames_of}
+use Rattle.gixp_packetline.specs.Grammar.{AreFrames}
 use Rattle.gixp_packetline.specs.Lines.{stop, lines_to}
-use Rattle.gixp_packetline.specs.Pieces.{Pieces}
+use Rattle.gixp_packetline.specs.Pieces.{Pieces, pieces_of, pieces_from}
 use Rattle.gixp_packetline.specs.Reading.{Reading, lines_ahead}
 use Rattle.gixp_capabilities.specs.Capabilities.{CapabilityValue}
 use Rattle.gixp_capabilities.specs.declared.client.Error.{Error as client_error}
+use Rattle.gixp_wire.specs.declared.bodies.Body.{Body}
+use Rattle.gixp_wire.specs.declared.bodies.Body.TheVariants.{Bytes, Fail}
+use Rattle.gixp_wire.specs.Bodies.{answer_of as body_answer}
+use Rattle.gixp_packetline.specs.TransportState.{body}
 use Rattle.gixp_wire.specs.declared.service.Service.{Service}
 use Rattle.gixp_wire.specs.declared.service.SetServiceResponse.{SetServiceResponse}
 use Rattle.gixp_wire.specs.Greeting.{Parameter}
@@ -52,8 +59,22 @@ use Rattle.gixp_fetch.specs.Fetch.{World, Parties}
 use Rattle.gixp_fetch.specs.Fetched.{FetchCall}
 use Rattle.gixp_fetch.specs.Mapped.{Knowledge, decided, lines_of, FollowsMap}
 use Rattle.gixp_fetch.specs.Sessions.{Starts, SessionFails, at_depth, at_wants, in_session, HoldsSession}
-use Rattle.gixp_fetch.specs.Headline.{IsOfAll, FindsRefMap, of_shown, of_listed, unlisted, unmade, MapsAreOfAll, AnswersAreRefused, RefsAreRefused, AdvertisementsAreRefused, WordsAreSaid, SaysBy, Greeted, ShownByHandshake, ListedByCommand, RefsRefused, AsksAccount, HasAccount, IsErased, NoAccount, unanswered, none_known, untaken, unheard_again, bad, unkept, HandshakeFails, unbegun, unheard, denied, unaccepted, unread, HandshakesAreRefused, WantsOfMap, NoWants, NoneOfMap, DecidesOfMap, RefusalOfMap, AsksOfMap, Run, Promise}
+use Rattle.gixp_fetch.specs.Headline.{AnswerBodies, said_call, IsOfAll, FindsRefMap, of_shown, of_listed, unlisted, unmade, MapsAreOfAll, AnswersAreRefused, RefsAreRefused, AdvertisementsAreRefused, WordsAreSaid, SaysBy, Greeted, ShownByHandshake, ListedByCommand, RefsRefused, AsksAccount, HasAccount, IsErased, NoAccount, unanswered, none_known, untaken, unheard_again, bad, unkept, HandshakeFails, unbegun, unheard, denied, unaccepted, unread, HandshakesAreRefused, WantsOfMap, NoWants, NoneOfMap, DecidesOfMap, RefusalOfMap, AsksOfMap, Run, Promise}
 use Rattle.gixp_fetch.proofs.SessionLemmas.{session_held}
+
+-- ---- frames
+
+module _ (no_others : (bytes : List ℕ) (frames : List Frame) (end : End) → AreFrames bytes frames end
+    → frames_of bytes ≡ record { list = frames; end = end }) where
+  -- the pieces of any frames that the grammar has of some bytes
+  pub pieces_are : (bytes : List ℕ) (frames : List Frame) (end : End) → AreFrames bytes frames end
+      → pieces_of (frames_of bytes) ≡ pieces_from frames end
+  pieces_are bytes frames end h = ap (λ (fs : Frames). pieces_of fs) (no_others bytes frames end h)
+
+  pub answer_bodies : (given : List Body) → AnswerBodies given (map body_answer given)
+  answer_bodies [] = tt
+  answer_bodies (Bytes bytes ∷ bs) = (λ frames end h. ap body (pieces_are bytes.items frames end h), answer_bodies bs)
+  answer_bodies (Fail kind ∷ bs) = (refl, answer_bodies bs)
 
 -- ---- refusals
 
@@ -481,7 +502,12 @@ module _ {N I A S C P X : Type 0} (parties : Parties N I A S C P X) (map_of : N 
       let s =
       by_prepared parties.plain g.greeted.found g.greeted.from run.shaken old.reading run.handshake call.table call.agent context
       made o.prepared run.handshake.refs refl g.refs o.prepares o.obtains in
-      let held = session_held parties lawful wide call old result new progress run.fetches in
+      let said : call ≡ said_call call run.handshake = ap (λ (v : Protocol). record call { version = v }) run.version
+      ∙ ap (λ (c : List CapabilityValue). record call { version = run.handshake.server_protocol_version; capabilities = c })
+      run.capabilities
+      ∙ ap (λ (us : List ShallowUpdate). record (said_call call run.handshake) { wishes = record call.wishes { told = us } }) run.told in
+      let held = subst (λ (c : FetchCall). HoldsSession parties c old result new progress) said
+      (session_held parties lawful wide call old result new progress run.fetches) in
       record {
         greeted = g.greeted;
         refs = s.came;
@@ -490,5 +516,5 @@ module _ {N I A S C P X : Type 0} (parties : Parties N I A S C P X) (map_of : N 
         explicit = s.maps.explicit;
         extra = s.maps.extra;
         conversation = held;
-        asks = asks_of_map parties map_of knows follows made call old result new progress run.negotiates held;
+        asks = asks_of_map parties map_of knows follows made (said_call call run.handshake) old result new progress run.negotiates held;
       }

@@ -35,7 +35,7 @@ use Rattle.gixp_fetch.specs.Fetch.{World, Parties, Begun, Negotiated, FetchFails
 use Rattle.gixp_fetch.specs.Fetched.{FetchCall, features, Fetches}
 use Rattle.gixp_packetline.specs.TransportState.{TransportState as held_data}
 use Rattle.gixp_fetch.specs.Session as session
-use Rattle.gixp_fetch.specs.Sessions.{IsAnswer, AreAnswers, GoOn, begun_by, begun_in, AreNegotiated, manner_of, Asks, Starts, TakesPack, TakesAll, RefusesPack, Unpacks, lacks_memory, lacks_lock, lacks_room, untaken, unwritten, Unlent, RoundsBreakOff, by_caller, exhausted, at_round, behind_pack, one_more, answered_at, unanswered, told_last, BrokenOff, SessionFails, at_depth, at_wants, in_session, HoldsSession}
+use Rattle.gixp_fetch.specs.Sessions.{IsAnswer, AreAnswers, GoOn, begun_by, begun_in, AreNegotiated, manner_of, Asks, Starts, TakesPack, TakesAll, RefusesPack, Unpacks, lacks_memory, lacks_lock, lacks_room, untaken, unwritten, Unlent, RoundsBreakOff, unnamed, by_caller, exhausted, at_round, behind_pack, one_more, answered_at, unanswered, told_last, BrokenOff, SessionFails, at_depth, at_wants, in_session, HoldsSession}
 use Rattle.gixp_fetch.proofs.SentLemmas.{none_written, both_written, held_written, turn_written}
 
 -- ---- what a transport holds stays while a pack is read
@@ -47,7 +47,7 @@ held_through : (s t : Side) → (side_reading t).held ≡ (side_reading s).held 
 unfolding inner
 held_through s t e = ap inner e
 
-fails_held : (old new : Reading) (e : Refusal) → reader_fails old new e → new.held ≡ old.held
+pub fails_held : (old new : Reading) (e : Refusal) → reader_fails old new e → new.held ≡ old.held
 fails_held old new e (inl r) = r.held
 fails_held old new e (inr (inl f)) = f.stays.held
 fails_held old new e (inr (inr b)) = b.held
@@ -89,7 +89,7 @@ module _ {C P X : Type 0} (consumes : C → Side → P → Result Bool X → C �
 
 -- ---- answers
 
-is_answer : (found : Pieces → Found) (version : Protocol) (old new : Reading) (value : AnswerValue)
+pub is_answer : (found : Pieces → Found) (version : Protocol) (old new : Reading) (value : AnswerValue)
     → Answered found version old new value → IsAnswer found version old new value
 is_answer found version old new value (inl r) = inl r.answer
 is_answer found version old new value (inr b) = inr b
@@ -105,14 +105,14 @@ rounds_length : {N I : Type 0} (ts : List (Turn N I)) (rs : List Round) → leng
 rounds_length [] rs = let n = length rs in omega arith
 rounds_length (t ∷ ts) rs = let h = rounds_length ts rs in omega arith
 
-count_same : {N I : Type 0} (ts : List (Turn N I)) (rounds : List Round) (n : ℕ) → n ≡ length rounds
+pub count_same : {N I : Type 0} (ts : List (Turn N I)) (rounds : List Round) (n : ℕ) → n ≡ length rounds
     → rounds ≡ map (λ (t : Turn N I). t.round) ts → n ≡ length ts
 count_same ts rounds n c e =
     let a = rounds_length ts [] in
     let b = ap length (e ∙ sym (append-nil (map (λ (t : Turn _ _). t.round) ts))) in
     omega arith
 
-count_more : {N I : Type 0} (ts : List (Turn N I)) (r : Round) (rounds : List Round) (n : ℕ) → n ≡ length rounds
+pub count_more : {N I : Type 0} (ts : List (Turn N I)) (r : Round) (rounds : List Round) (n : ℕ) → n ≡ length rounds
     → rounds ≡ map (λ (t : Turn N I). t.round) ts ++ r ∷ [] → n ≡ length ts + 1
 count_more ts r rounds n c e =
     let a = rounds_length ts (r ∷ []) in
@@ -160,15 +160,15 @@ module _ {N I A E : Type 0} (m : Manner N I A) where
   few_broken old asked done e reading (at_answer sent s error a h g) = one_of_one
   few_broken old asked done e reading (behind_answer sent s reply a h w) = one_of_one
 
-  few_begun : (old : At N I) (e : Error A E) (negotiate : N) (reading : Reading) (f : TurnFails m old e negotiate reading)
-      → length (begun_in m f) ≤ length (told_of m f)
-  few_begun old e negotiate reading (inl u) = none_of_none
-  few_begun old e negotiate reading (inr b) = few_broken old b.asked b.done e reading b.breaks
+  few_begun : (old : At N I) (e : Error A E) (negotiate : N) (reading : Reading) (interrupt : I)
+      (f : TurnFails m old e negotiate reading interrupt) → length (begun_in m f) ≤ length (told_of m f)
+  few_begun old e negotiate reading interrupt (inl u) = none_of_none
+  few_begun old e negotiate reading interrupt (inr b) = few_broken old b.asked b.done e reading b.breaks
 
 -- ---- rounds
 
 module _ {N I A : Type 0} (m : Manner N I A) where
-  rounds_answers : (start end : At N I) (ts more : List (Turn N I)) → Rounds m start ts end → AreAnswers m.version m.banded more
+  pub rounds_answers : (start end : At N I) (ts more : List (Turn N I)) → Rounds m start ts end → AreAnswers m.version m.banded more
       → AreAnswers m.version m.banded (ts ++ more)
   rounds_answers start end [] more r a = a
   rounds_answers start end (t ∷ ts) more r a = (is_answer _ _ _ _ _ r.0.answer, rounds_answers t.after end ts more r.3 a)
@@ -249,14 +249,14 @@ module _ {N I A S C P X : Type 0} (parties : Parties N I A S C P X) where
   }
 
   -- the consumer refused it, or what comes after it was refused
-  refuses_pack : (c : C) (from : Reading) (d : C) (new : Reading) (q : P) (name asks : GName) (p : P) (error : PackFailure X) (end : Side)
+  pub refuses_pack : (c : C) (from : Reading) (d : C) (new : Reading) (q : P) (name asks : GName) (p : P) (error : PackFailure X) (end : Side)
       → from.stopped ≡ None → PackFails parties.consumes c (fresh_side name asks from) p error d end q
       → GivesBack end new → RefusesPack parties c from error d new q
   refuses_pack c from d new q name asks p (Consumer x) end s f b = (end, taken c from d name asks p (Err x) end q s f, b)
   refuses_pack c from d new q name asks p (Rest x) end s f b = (f.0, end, taken c from d name asks p (Ok true) f.0 q s f.1, f.2, b)
 
   -- where the rounds begin
-  abbrev begin_at : World N I S C → N → ArgumentsValue → At N I
+  abbrev pub begin_at : World N I S C → N → ArgumentsValue → At N I
   begin_at old ready wanted = record {
     negotiate = ready;
     window = first_window (not old.reading.held.persists || is_v2 wanted.version);
@@ -266,7 +266,7 @@ module _ {N I A S C P X : Type 0} (parties : Parties N I A S C P X) where
     interrupt = old.interrupt;
   }
 
-  packed_running : (m : Manner N I A) (start : At N I) (rounds : List Round) (updates : List ShallowUpdate) (reply : AnswerValue)
+  pub packed_running : (m : Manner N I A) (start : At N I) (rounds : List Round) (updates : List ShallowUpdate) (reply : AnswerValue)
       (end : At N I) → Packed m start rounds updates reply end → end.reading.stopped ≡ None
   packed_running m start rounds updates reply end p = ap (λ (a : At N I). a.reading.stopped) p.stands
       ∙ (sym (view_stopped m.banded p.last.after.reading) ∙ runs_on _ _ _ _ _ p.pack p.lasts.answer)
@@ -385,10 +385,16 @@ module _ {N I A S C P X : Type 0} (parties : Parties N I A S C P X) where
               }) (f.asks ∙ ap (λ (a : At N I). a.interrupt) d.stands) unlent_so)
               d.told one_of_one (d.lasts.negotiated, d.lasts.rest, d.lasts.previous, tt) (is_answer _ _ _ _ _ d.lasts.answer, tt)
               (turn_written manner d.before d.last d.lasts)
-      broken_rounds ids action ready wanted rounds b bounded l c (inr f) =
-          let few = add_none _ _ (few_begun manner f.before e last.negotiate last.reading f.refused) in
+      broken_rounds ids action ready wanted rounds b bounded l c (inr (inr f)) =
           broken_by ids last.store action ready wanted rounds b bounded f.turns f.before f.run
-          (at_round f.refused (record { consumer = c; store = refl; lock = l })) f.told few tt tt (none_written f.before.reading)
+          (unnamed f.gives (record { negotiate = f.negotiates; reading = f.reads }) f.asks
+          (record { consumer = c; store = refl; lock = l }))
+          (f.told ∙ sym (append-nil (map (λ (t : Turn N I). t.round) f.turns))) none_of_none tt tt (none_written f.before.reading)
+      broken_rounds ids action ready wanted rounds b bounded l c (inr (inl f)) =
+          let few = add_none _ _ (few_begun manner (record f.before { interrupt = f.asked }) e last.negotiate last.reading last.interrupt
+          f.refused) in
+          broken_by ids last.store action ready wanted rounds b bounded f.turns f.before f.run
+          (at_round f.asked f.said f.refused (record { consumer = c; store = refl; lock = l })) f.told few tt tt (none_written f.before.reading)
 
       broken_packed : (ids : List ObjectId) (read : S) (action : ActionValue) (rounds : List Round) (updates : List ShallowUpdate)
           (reply : AnswerValue) (end : At N I)
@@ -429,7 +435,7 @@ module _ {N I A S C P X : Type 0} (parties : Parties N I A S C P X) where
       refused (unready ids asked o u r) = at_wants banded ids asked (asks_so ids asked last.locked last.store (locks_so r.locked) o) u
           (record { reading = r.reading; interrupt = r.interrupt; consumer = r.consumer })
       refused (unpacked rounds u l c) = in_session (broken_rounds u.ids u.action u.ready u.wanted rounds u.begun u.bounded l c u.fails)
-      refused (untold ids action rounds updates reply end n w g r l c) =
+      refused (untold ids action rounds updates reply end n w g r i l c) =
           in_session (broken_packed ids last.store action rounds updates reply end n g (ap (λ (r : Reading). r.held) r)
           (lacks_memory w r (record { consumer = c; store = refl; lock = l })))
       refused (undelivered ids read action rounds updates reply end n g u) =
@@ -490,7 +496,8 @@ module _ {N I A S C P X : Type 0} (parties : Parties N I A S C P X) where
             haves = n.bounded.haves lawful;
             windows = n.bounded.windows lawful;
             few = few_packed p.turns p.last _ _ p.told (n.bounded.requests lawful wide);
-            says = s.answers;
+            says = s.answers
+                ∙ ap (λ (a : AnswerValue). record a { shallow_updates = a.shallow_updates ++ call.wishes.told }) p.answer;
             stands = s.stands;
             held = s.delivered.held;
             holds = s.delivered.holds;

@@ -30,3 +30,13 @@ NamesAgain lines ids [] = ⊤
 NamesAgain lines ids (t ∷ ts) =
     (t.asked.lines ≡ lines) × ((id : ObjectId) → Contains ids id → Contains t.asked.haves (have_line id))
     × NamesAgain lines (ids ++ commons t.reply.acknowledgements) ts
+
+-- what the answers of these rounds named as common
+abbrev pub named_in : {N I : Type 0} → List (Turn N I) → List ObjectId
+named_in [] = []
+named_in (t ∷ ts) = commons t.reply.acknowledgements ++ named_in ts
+
+-- what one more round asks for, whether its request is answered or not: these lines, and a have for each of these commits
+pub record NamesAll (lines : List (List ℕ)) (ids : List ObjectId) (asked : ArgumentsValue) : Type 0 where
+  pub same : asked.lines ≡ lines
+  pub haves : (id : ObjectId) → Contains ids id → Contains asked.haves (have_line id)

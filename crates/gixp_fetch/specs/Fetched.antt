@@ -76,7 +76,7 @@ module _ {N I A S C P X : Type 0} (parties : Parties N I A S C P X) (call : Fetc
   pub data StartFails (e : Error A X) (new : World N I S C) : Type 0 where
     unprepared : PrepareFails call.table call.version (features call) call.tags e → new ≡ old → StartFails e new
     unlocked : (asked : ArgumentsValue) (banded : Bool) → Prepared call.table call.version (features call) call.tags asked banded
-        → LockFails parties.store_calls.failures old.store e new.store
+        → is_change call.wishes.shallow ≡ true → LockFails parties.store_calls.failures old.store e new.store
         → new ≡ record old { store = new.store } → StartFails e new
 
   -- by its result, before and after which no lock is had

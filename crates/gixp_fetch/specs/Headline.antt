@@ -8,7 +8,8 @@ use Rattle.std.specs.Prelude.{Vec, ◌≡◌, ◌⊎◌, ⊤, ℕ, Bool, true, f
 use Rattle.gixp_packetline.specs.declared.protocol.Protocol.{Protocol}
 use Rattle.gixp_packetline.specs.Frames.{Frame, End, frames_of}
 use Rattle.gixp_packetline.specs.Grammar.{AreFrames}
-use Rattle.gixp_packetline.specs.Pieces.{Refusal, Piece, Pieces, stream_pieces}
+use Rattle.gixp_packetline.specs.Pieces.{Refusal, Piece, Pieces, pieces_from}
+use Rattle.gixp_packetline.specs.TransportState.{Answer, body, fails}
 use Rattle.gixp_packetline.specs.Reading.{Reading, IsFresh, IsOutside, IsPlain, AtStop, lines_ahead}
 use Rattle.bstr.specs.Owned.{bstring_bytes}
 use Rattle.bstr.specs.declared.bstring.BString.{BString}
@@ -21,8 +22,9 @@ use Rattle.gixp_wire.specs.declared.service.Service.{Service}
 use Rattle.gixp_wire.specs.declared.service.SetServiceResponse.{SetServiceResponse}
 use Rattle.gixp_wire.specs.declared.service.Opening.{Opening}
 use Rattle.gixp_wire.specs.declared.bodies.Body.{Body}
+use Rattle.gixp_wire.specs.declared.bodies.Body.TheVariants.{Bytes, Fail}
 use Rattle.gixp_wire.specs.declared.bodies.Bodies.{Bodies}
-use Rattle.gixp_wire.specs.Bodies.{answer_of as body_answer, bodies_reading, IsNewBodies}
+use Rattle.gixp_wire.specs.Bodies.{bodies_reading, IsNewBodies}
 use Rattle.gixp_wire.specs.Connection.{IsNewConnection}
 use Rattle.gixp_wire.specs.Greeting.{Parameter}
 use Rattle.gixp_wire.specs.CapabilityAdvertisement.{Advertised, advertisement, Answers, Says, IsFromDevice, IsCaused}
@@ -73,21 +75,31 @@ use Rattle.gixp_fetch.specs.declared.error.Error.{Error}
 use Rattle.gixp_fetch.specs.FetchRounds.{At}
 use Rattle.gixp_fetch.specs.Session.{Idle, ReadyFails}
 use Rattle.gixp_fetch.specs.Fetch.{World, Parties}
-use Rattle.gixp_fetch.specs.Fetched.{FetchCall, Fetches}
+use Rattle.gixp_fetch.specs.Fetched.{FetchCall, call_of, Fetches}
 use Rattle.gixp_fetch.specs.Mapped.{Knowledge, decided, lines_of}
 use Rattle.gixp_fetch.specs.Sessions.{Starts, SessionFails, at_depth, at_wants, in_session, HoldsSession}
 
 -- ---- frames
 
--- what a connection that has read nothing has to come are the pieces of its bytes' frames, and where each request has its own answer
--- those of each body's; and these are those of the grammar, and no others
+-- these answers are those bodies' pieces, one for one: of a body's bytes those of the frames that the grammar has of them, or none comes
+abbrev pub AnswerBodies : List Body → List Answer → Type 0
+AnswerBodies [] [] = ⊤
+AnswerBodies [] (a ∷ rest) = ⊥
+AnswerBodies (b ∷ bs) [] = ⊥
+AnswerBodies (Bytes bytes ∷ bs) (a ∷ rest) =
+    ((frames : List Frame) (end : End) → AreFrames bytes.items frames end → a ≡ body (pieces_from frames end)) × AnswerBodies bs rest
+AnswerBodies (Fail kind ∷ bs) (a ∷ rest) = (a ≡ fails kind) × AnswerBodies bs rest
+
+-- what a connection that has read nothing has to come are the pieces of the frames that the grammar has of its bytes, whichever way
+-- these are found, and where each request has its own answer those of each body's; each text has such frames, and no others
 pub record FramesAreGrammar : Type 0 where
-  pub connections : (bytes : List ℕ) (holds : Option (List ℕ)) (at : List ℕ) (asked : Protocol) (versions : List Protocol)
-      (opening : Option Opening) (r : Reading) → IsNewConnection (Some bytes) holds at asked versions opening r
-      → r.to_come ≡ Some (stream_pieces bytes)
+  pub connections : (bytes : List ℕ) (frames : List Frame) (end : End) → AreFrames bytes frames end → (holds : Option (List ℕ))
+      (at : List ℕ) (asked : Protocol) (versions : List Protocol) (opening : Option Opening) (r : Reading)
+      → IsNewConnection (Some bytes) holds at asked versions opening r → r.to_come ≡ Some (pieces_from frames end)
   pub bodies : (given : List Body) (at : List ℕ) (versions : List Protocol) (b : Bodies) → IsNewBodies given at versions b
-      → (bodies_reading b).held.answers ≡ map body_answer given
-  pub readers : (bytes : List ℕ) (r : Reading) → IsFresh (Some bytes) r → r.to_come ≡ Some (stream_pieces bytes)
+      → AnswerBodies given (bodies_reading b).held.answers
+  pub readers : (bytes : List ℕ) (frames : List Frame) (end : End) → AreFrames bytes frames end → (r : Reading)
+      → IsFresh (Some bytes) r → r.to_come ≡ Some (pieces_from frames end)
   pub grammar : (bytes : List ℕ) → AreFrames bytes (frames_of bytes).list (frames_of bytes).end
   pub no_others : (bytes : List ℕ) (frames : List Frame) (end : End) → AreFrames bytes frames end
       → frames_of bytes ≡ record { list = frames; end = end }
@@ -345,6 +357,10 @@ module _ {N I A S C P X : Type 0} (parties : Parties N I A S C P X) (k : Knowled
 
 -- ---- a run
 
+-- what a fetch is handed in of this handshake
+abbrev pub said_call : FetchCall → Handshake → FetchCall
+said_call call handshake = call_of call.table handshake call.agent call.tags call.wishes.shallow call.wishes.reject
+
 module _ {N I A S C P X : Type 0} (parties : Parties N I A S C P X) (map_of : N → RefMap) (knows : N → Knowledge) where
   -- a handshake, the ref map that stands on it, and a fetch whose negotiation is over this map, each where the one before left the
   -- transport
@@ -376,5 +392,6 @@ module _ {N I A S C P X : Type 0} (parties : Parties N I A S C P X) (map_of : N 
         (spec_at m.spec_index made.refspecs.items made.extra_refspecs.items)) made.mappings.items
     pub explicit : made.refspecs ≡ context.fetch_refspecs
     pub extra : made.extra_refspecs ≡ context.extra_refspecs
-    pub conversation : HoldsSession parties call old result new progress
-    pub asks : AsksOfMap parties (knows old.negotiate) made call old result new progress conversation
+    -- of the version, the capabilities and the changes of the boundary that the server said first
+    pub conversation : HoldsSession parties (said_call call run.handshake) old result new progress
+    pub asks : AsksOfMap parties (knows old.negotiate) made (said_call call run.handshake) old result new progress conversation

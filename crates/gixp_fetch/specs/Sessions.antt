@@ -81,8 +81,8 @@ module _ {N I A : Type 0} (m : Manner N I A) where
     begun_by {old} {asked} {done} (at_answer sent s error a h g) = texts_of (request asked done) ∷ []
     begun_by {old} {asked} {done} (behind_answer sent s reply a h w) = texts_of (request asked done) ∷ []
 
-    abbrev pub begun_in : {old : At N I} {e : Error A E} {negotiate : N} {reading : Reading} → TurnFails m old e negotiate reading
-        → List (List ℕ)
+    abbrev pub begun_in : {old : At N I} {e : Error A E} {negotiate : N} {reading : Reading} {interrupt : I}
+        → TurnFails m old e negotiate reading interrupt → List (List ℕ)
     begun_in (inl u) = []
     begun_in (inr b) = begun_by b.breaks
 
@@ -207,7 +207,7 @@ module _ {N I A S C P X : Type 0} (parties : Parties N I A S C P X) where
     pub haves : haves_of rounds ≤ parties.negotiation_calls.count start.negotiate
     pub windows : windows_of (but_last rounds) ≤ parties.negotiation_calls.count start.negotiate
     pub few : length (requests_of (packed.turns ++ packed.last ∷ [])) ≤ parties.negotiation_calls.count start.negotiate / 16 + 1
-    pub says : answer ≡ record reply { shallow_updates = reply.shallow_updates ++ call.wishes.told }
+    pub says : answer ≡ record packed.last.reply { shallow_updates = packed.last.reply.shallow_updates ++ call.wishes.told }
     pub stands : last.negotiate ≡ end.negotiate
     pub held : S
     pub holds : Holds parties.store_calls (updates ++ call.wishes.told) call.wishes.reject read locked held last.locked
@@ -241,21 +241,25 @@ module _ {N I A S C P X : Type 0} (parties : Parties N I A S C P X) where
         → RefusesPack c from error last.consumer last.reading progress
         → Unpacks ids updates reject c read locked from e last progress
     unwritten : (held : S) → Holds parties.store_calls updates reject read locked held last.locked
-        → TakesAll c from last.consumer last.reading progress → SettleFails parties.store_calls held e last.store
+        → TakesAll c from last.consumer last.reading progress → SettleFails parties.store_calls updates held e last.store
         → Unpacks ids updates reject c read locked from e last progress
 
-  -- after rounds that were neither the last nor had a pack, with this refusal: the caller stopped it; one more round was the last and
-  -- had no pack; one more was refused, by the negotiation, in its request or in its answer; or one more had a pack, and the rest was
-  -- refused
+  -- after rounds that were neither the last nor had a pack, with this refusal: the name of one more wasn't allocated; the caller
+  -- stopped it; one more round was the last and had no pack; one more was refused, by the negotiation, in its request or in its answer;
+  -- or one more had a pack, and the rest was refused
   pub data RoundsBreakOff (call : FetchCall) (banded : Bool) (ids : List ObjectId) (c : C) (read : S) (locked : Bool)
       (turns : List (Turn N I)) (before : At N I) (e : Error A X) (last : World N I S C) (progress : P) : Type 0 where
+    unnamed : e ≡ Memory → StandsAt before last → last.interrupt ≡ before.interrupt → Unlent c read locked last
+        → RoundsBreakOff call banded ids c read locked turns before e last progress
     by_caller : parties.says before.interrupt true last.interrupt → e ≡ Negotiate (NegotiationFailed (length turns))
         → StandsAt before last → Unlent c read locked last
         → RoundsBreakOff call banded ids c read locked turns before e last progress
     exhausted : (t : Turn N I) → Turns (manner_of call banded) before t → t.done ≡ true → t.reply.pack ≡ false → e ≡ Negotiate
         (NegotiationFailed (length turns + 1)) → StandsAt t.after last → last.interrupt ≡ t.after.interrupt → Unlent c read locked last
         → RoundsBreakOff call banded ids c read locked turns before e last progress
-    at_round : TurnFails (manner_of call banded) before e last.negotiate last.reading → Unlent c read locked last
+    at_round : (asked : I) → parties.says before.interrupt false asked
+        → TurnFails (manner_of call banded) (record before { interrupt = asked }) e last.negotiate last.reading last.interrupt
+        → Unlent c read locked last
         → RoundsBreakOff call banded ids c read locked turns before e last progress
     behind_pack : (t : Turn N I) → Turns (manner_of call banded) before t → t.reply.pack ≡ true → last.negotiate ≡ t.after.negotiate
         → last.reading.held ≡ t.after.reading.held
@@ -267,30 +271,34 @@ module _ {N I A S C P X : Type 0} (parties : Parties N I A S C P X) where
       (Turn N I)} {before : At N I} {e : Error A X} {last : World N I S C} {progress : P} where
     -- the one round more that was answered, if there is one
     abbrev pub one_more : RoundsBreakOff call banded ids c read locked turns before e last progress → List (Turn N I)
+    one_more (unnamed g at i u) = []
     one_more (by_caller s g at u) = []
     one_more (exhausted t r d n g at i u) = t ∷ []
-    one_more (at_round f u) = []
+    one_more (at_round i s f u) = []
     one_more (behind_pack t r p n h u) = t ∷ []
 
     -- where the transport stood after the last answer
     abbrev pub answered_at : RoundsBreakOff call banded ids c read locked turns before e last progress → Reading
+    answered_at (unnamed g at i u) = before.reading
     answered_at (by_caller s g at u) = before.reading
     answered_at (exhausted t r d n g at i u) = t.after.reading
-    answered_at (at_round f u) = before.reading
+    answered_at (at_round i s f u) = before.reading
     answered_at (behind_pack t r p n h u) = t.after.reading
 
     -- the one request more that was begun and not answered, if there is one
     abbrev pub unanswered : RoundsBreakOff call banded ids c read locked turns before e last progress → List (List ℕ)
+    unanswered (unnamed g at i u) = []
     unanswered (by_caller s g at u) = []
     unanswered (exhausted t r d n g at i u) = []
-    unanswered (at_round f u) = begun_in (manner_of call banded) f
+    unanswered (at_round i s f u) = begun_in (manner_of call banded) f
     unanswered (behind_pack t r p n h u) = []
 
     -- what the last round told, if it told anything
     abbrev pub told_last : RoundsBreakOff call banded ids c read locked turns before e last progress → List Round
+    told_last (unnamed g at i u) = []
     told_last (by_caller s g at u) = []
     told_last (exhausted t r d n g at i u) = t.round ∷ []
-    told_last (at_round f u) = told_of (manner_of call banded) f
+    told_last (at_round i s f u) = told_of (manner_of call banded) f
     told_last (behind_pack t r p n h u) = t.round ∷ []
 
   -- its rounds one after another, each with its request and its answer, and why there is no pack or the rest was refused

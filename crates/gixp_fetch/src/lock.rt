@@ -66,7 +66,7 @@ impl<S: ShallowStore> StoreLock<'_, S> {
         ensures locked { self.new.locked ≡ self.old.locked }
         ensures settled { MatchResult result
             (λ _. SettlesBoundary S.calls ids.now updates.now self.old.store.now self.new.store.now)
-            (λ e. SettleFails S.calls self.old.store.now e self.new.store.now) }
+            (λ e. SettleFails S.calls updates.now self.old.store.now e self.new.store.now) }
     {
         if is_none(updates) {
             return Ok(());

@@ -1,23 +1,42 @@
 //! What a fetch tells of its own progress.
+ghost use Rattle.std.specs.Prelude.{◌≡◌, ◌+◌, ◌∷◌, [], OnOk, OnErr, length};
+ghost use Rattle.std.specs.String.{string_bytes};
+ghost use Rattle.gixp_wire.specs.Progress.{ToldCalls, step, set_name};
+ghost use Rattle.gixp_fetch.specs.FetchProgress.{round_calls, pack_calls};
+
 use gixp_negotiate::negotiate::Round;
 use gixp_wire::Progress;
-use std::alloc::Global;
+use std::alloc::{AllocError, Global};
 
-/// One more round begins. Where the name can't be allocated, the step alone is reported.
-pub(crate) fn tell_round<P: Progress>(alloc: Global, progress: &mut P, rounds: &[Round]) {
+// One more step was made, and this is done now.
+fn tell_step<P: Progress>(progress: &mut P, name: String)
+    ensures { ToldCalls P.told progress.old (step ∷ set_name (string_bytes name) ∷ []) progress.new }
+{
     progress.step();
-    let round = rounds.len().saturating_add(1);
-    match format!(in alloc; "negotiate (round {round})") {
-        Ok(name) => progress.set_name(name),
-        Err(_) => {}
-    }
+    progress.set_name(name);
 }
 
-/// A pack comes. Where the name can't be allocated, the step alone is reported.
-pub(crate) fn tell_pack<P: Progress>(alloc: Global, progress: &mut P) {
-    progress.step();
-    match String::from_str(alloc, "receiving pack") {
-        Ok(name) => progress.set_name(name),
-        Err(_) => {}
-    }
+/// One more round begins after these. Where the name can't be allocated, nothing is reported.
+pub(crate) fn tell_round<P: Progress>(
+    alloc: Global,
+    progress: &mut P,
+    rounds: &[Round],
+) -> Result<(), AllocError>
+    ensures ok { OnOk result (ToldCalls P.told progress.old (round_calls (length rounds.now + 1)) progress.new) }
+    ensures err { OnErr result (progress.new ≡ progress.old) }
+{
+    let round = rounds.len() + 1;
+    let name = format!(in alloc; "negotiate (round {round})")?;
+    tell_step(progress, name);
+    Ok(())
+}
+
+/// A pack comes. Where the name can't be allocated, nothing is reported.
+pub(crate) fn tell_pack<P: Progress>(alloc: Global, progress: &mut P) -> Result<(), AllocError>
+    ensures ok { OnOk result (ToldCalls P.told progress.old pack_calls progress.new) }
+    ensures err { OnErr result (progress.new ≡ progress.old) }
+{
+    let name = String::from_str(alloc, "receiving pack")?;
+    tell_step(progress, name);
+    Ok(())
 }

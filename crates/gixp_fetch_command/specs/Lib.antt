@@ -1,4 +1,3 @@
-pub mod Windows
 pub mod Received
 pub mod Listed
 pub mod Watched

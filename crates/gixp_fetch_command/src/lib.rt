@@ -10,7 +10,6 @@ mod session;
 mod shown;
 mod usage;
 mod watched;
-mod windows;
 
 use crate::ends::{Source, Target};
 use crate::failure::Failure;

@@ -1,12 +1,12 @@
 //! A session with a server: the handshake, the refs or a ref map, and the fetch.
-ghost use Rattle.std.specs.Prelude.{◌<◌};
+ghost use Rattle.std.specs.Prelude.{◌≤◌};
 
 use crate::failure::{Failure, Step};
 use crate::receive::PackReceiver;
 use crate::repository::Repository;
 use crate::watched::Watched;
-use crate::windows::{MOST_HAVES, Windowed};
 use bstr::BString;
+use gix_protocol::client::{MOST_HAVES, Windowed};
 use gix_protocol::command::{CommandTable, Feature};
 use gix_protocol::fetch::negotiate::{
     Graph, Negotiate, NegotiateContext, Negotiation, Negotiator, NoAlternates, Shared, StoredRefs,
@@ -275,7 +275,7 @@ impl<'a, T: Transport> Session<'a, T> {
 
     // How many haves a request may have.
     fn most_haves(&self) -> usize
-        ensures { 0 < result }
+        ensures { 16 ≤ result }
     {
         match self.shaken.server_protocol_version {
             Protocol::V2 => usize::MAX,

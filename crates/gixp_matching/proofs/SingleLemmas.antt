@@ -1,23 +1,25 @@
 -- All mappings are those of the only positive refspec, where its source is a pattern.
-use Rattle.std.proofs.Common.{◌≡◌, ℕ, zero, suc, ◌+◌, ◌<◌, Bool, true, false, List, [], ◌∷◌, ◌++◌, length, drop, map, get_or, cond, Option, Some, None, ap, sym, ◌∙◌, refl, inl, inr, subst, arith, add-one}
-use Rattle.std.specs.Prelude.{not, is_some, option_map, option_to_list}
-use Rattle.std.specs.List.{list_any, flat_map, enumerate_from}
+use Rattle.std.proofs.Common.{◌≡◌, ℕ, zero, suc, ◌+◌, ◌<◌, ◌≤◌, Bool, true, false, List, [], ◌∷◌, ◌++◌, length, drop, map, get_or, cond, Option, Some, None, ap, sym, ◌∙◌, refl, inl, inr, subst, arith, add-one}
+use Rattle.std.specs.Prelude.{not, filter, is_some, option_map, option_to_list, position}
+use Rattle.std.specs.List.{list_any, flat_map, enumerate_from, position_or_len}
 use Rattle.std.proofs.lemmas.Bool.{cases_Bool, false≢true, true≢false}
+use Rattle.std.proofs.lemmas.Grind.{common_steps}
 use Rattle.std.proofs.lemmas.List.{append-nil}
 use Rattle.std.proofs.lemmas.List.Quantifiers.{position-Some}
 use Rattle.std.specs.Borrow.{Bor}
 use Rattle.gixp_hash.specs.ObjectId.{id_of}
 use Rattle.gixp_refspec.specs.declared.needle.Needle.{Needle}
-use Rattle.gixp_refspec.specs.declared.needle.Needle.TheVariants.{Pattern as the_pattern}
+use Rattle.gixp_refspec.specs.declared.needle.Needle.TheVariants.{Id as the_id, Pattern as the_pattern, Exact as the_exact, Short as the_short}
 use Rattle.gixp_refspec.specs.declared.spec.RefSpecRef.{RefSpecRef}
-use Rattle.gixp_refspec.specs.Matching.{Pattern, kind_of, local_of}
+use Rattle.gixp_refspec.specs.Matching.{Id, Pattern, Exact, Short, kind_of, local_of}
 use Rattle.gixp_refspec.specs.Needle.{IsNeedle}
 use Rattle.gixp_refspec.specs.RefSpec.{value_of}
 use Rattle.gixp_refspec.specs.Spec.{Spec, is_id, is_negative}
 use Rattle.gixp_matching.specs.Mappings.{ObjectId, mapped, id_mapping, pair, pairs, pairs_of}
 use Rattle.gixp_matching.specs.MatchGroup.{values}
-use Rattle.gixp_matching.specs.Only.{is_positive, IsOnlyPositive}
+use Rattle.gixp_matching.specs.Only.{is_positive, IsOnlyPositive, IsPlaceOfOnly}
 use Rattle.gixp_matching.specs.Places.{repeated}
+use Rattle.gixp_matching.specs.Single.{maps_refs, HasLonePattern}
 use Rattle.gixp_matching.proofs.PairLemmas.{unmapped_negative}
 
 -- ---- lists of which just one item passes, where the others give nothing
@@ -94,6 +96,14 @@ pub pattern_source : (source : List ℕ) (needle : Needle) (before after : Bor (
     → needle ≡ the_pattern before after → kind_of source ≡ Pattern
 pattern_source source needle before after made is = (subst (IsNeedle source) is made).0
 
+-- another needle's source is no pattern
+pub other_source : (source : List ℕ) (needle : Needle) → IsNeedle source needle
+    → ((before after : Bor (List ℕ)) → ¬ (needle ≡ the_pattern before after)) → ¬ (kind_of source ≡ Pattern)
+other_source source the_id made other pattern = let id : kind_of source ≡ Id = made in cc
+other_source source (the_pattern before after) made other pattern = other before after refl
+other_source source (the_exact name) made other pattern = let exact : kind_of source ≡ Exact = made.0 in cc
+other_source source (the_short name) made other pattern = let short : kind_of source ≡ Short = made.0 in cc
+
 -- ---- what all refspecs map
 
 -- a group's mappings are those of its only positive refspec, where this is a pattern
@@ -110,3 +120,86 @@ single_makes specs names i d only pattern =
     ∙ pattern_id (i, value_of (get_or specs i d)) pattern)
     ∙ one_gives is_positive value_of (pairs_of all names)
     (λ n x h. negative_pairs all (n, value_of x) (enumerate_from 0 names) (is_negative_of _ h)) 0 i i specs d here found.0 found.2 last
+
+-- ---- that no other answer was left
+
+module _ {A : Type 0} (p : A → Bool) where
+  -- none passes before the end
+  none_kept : (xs : List A) → length xs ≤ position_or_len p xs → filter p xs ≡ []
+  none_kept [] h = refl
+  none_kept (x ∷ xs) h = elim (cases_Bool (p x)) [
+    | inl t ↦ absurd (let none = rw t at h in omega arith)
+    | inr f ↦ rw f (none_kept xs (let more = rw f at h in omega arith))
+  ]
+
+  -- some item passes, so that the passing ones aren't none
+  some_kept : (xs : List A) → list_any p xs ≡ true → ¬ (filter p xs ≡ [])
+  some_kept [] any none = false≢true any
+  some_kept (x ∷ xs) any none = elim (cases_Bool (p x)) [
+    | inl t ↦ (let kept = rw t at none in cc)
+    | inr f ↦ some_kept xs (rw f at any) (rw f at none)
+  ]
+
+  -- one passes, and a later one too
+  two_kept : (i : ℕ) (xs : List A) (d s : A) → i < length xs → p (get_or xs i d) ≡ true → ((j : ℕ) → j < i → p (get_or xs j d) ≡ false)
+      → list_any p (drop (suc i) xs) ≡ true → ¬ (filter p xs ≡ s ∷ [])
+  two_kept i [] d s within here before after lone = omega arith
+  two_kept zero (x ∷ xs) d s within here before after lone =
+      some_kept xs after (let kept = rw here at lone in cc)
+  two_kept (suc i) (x ∷ xs) d s within here before after lone =
+      two_kept i xs d s (omega arith) here (λ j l. before (suc j) (omega arith)) after
+      (let first : p x ≡ false = before 0 (omega arith) in rw first at lone)
+
+  -- one passes, and no other
+  one_kept : (i : ℕ) (xs : List A) (d : A) → i < length xs → p (get_or xs i d) ≡ true → ((j : ℕ) → j < i → p (get_or xs j d) ≡ false)
+      → list_any p (drop (suc i) xs) ≡ false → filter p xs ≡ get_or xs i d ∷ []
+  one_kept i [] d within here before after = absurd (omega arith)
+  one_kept zero (x ∷ xs) d within here before after =
+      rw here (ap (λ l. x ∷ l) (filter_none xs after)) where
+        filter_none : (ys : List A) → list_any p ys ≡ false → filter p ys ≡ []
+        filter_none [] h = refl
+        filter_none (y ∷ ys) h = elim (cases_Bool (p y)) [
+          | inl t ↦ absurd (true≢false (rw t at h))
+          | inr f ↦ rw f (filter_none ys (rw f at h))
+        ]
+  one_kept (suc i) (x ∷ xs) d within here before after =
+      let first : p x ≡ false = before 0 (omega arith) in
+      rw first (one_kept i xs d (omega arith) here (λ j l. before (suc j) (omega arith)) after)
+
+-- what passes among the values of refspecs
+kept_values : (specs : List RefSpecRef) → filter maps_refs (values specs) ≡ values (filter is_positive specs)
+kept_values [] = refl
+kept_values (s ∷ specs) = elim (cases_Bool (is_positive s)) [
+  | inl t ↦ rw (t, kept_values specs) refl
+  | inr f ↦ rw (f, kept_values specs) refl
+]
+
+-- no refspec is positive
+pub none_positive : (specs : List RefSpecRef) (s : RefSpecRef) → position is_positive specs ≡ None → ¬ (filter is_positive specs ≡ s ∷ [])
+none_positive specs s none lone =
+    let no : filter is_positive specs ≡ [] = none_kept is_positive specs (grind (arith, common_steps)) in cc
+
+-- two are
+pub two_positive : (specs : List RefSpecRef) (s d : RefSpecRef) (i : ℕ) → position is_positive specs ≡ Some i
+    → list_any is_positive (drop (i + 1) specs) ≡ true → ¬ (filter is_positive specs ≡ s ∷ [])
+two_positive specs s d i first another =
+    let found = position-Some is_positive specs i d first in
+    two_kept is_positive i specs d s found.0 found.1 found.2 (rw add-one at another)
+
+-- no lone refspec is positive
+pub no_lone : (specs : List RefSpecRef) → IsPlaceOfOnly specs None → ¬ HasLonePattern (values specs)
+no_lone specs none has = one_value (filter is_positive specs) none (sym (kept_values specs) ∙ has.lone) where
+  one_value : (kept : List RefSpecRef) → ((s : RefSpecRef) → ¬ (kept ≡ s ∷ [])) → ¬ (values kept ≡ has.spec ∷ [])
+  one_value [] none same = cc
+  one_value (s ∷ []) none same = none s refl
+  one_value (s ∷ t ∷ more) none same = cc
+
+-- the only positive refspec is no pattern
+pub no_pattern : (specs : List RefSpecRef) (i : ℕ) (d : RefSpecRef) → IsOnlyPositive specs i
+    → ¬ (kind_of (get_or specs i d).source.now ≡ Pattern) → ¬ HasLonePattern (values specs)
+no_pattern specs i d only other has =
+    let found = position-Some is_positive specs i d only.first in
+    let last : list_any is_positive (drop (suc i) specs) ≡ false = rw add-one at only.last in
+    let lone : filter is_positive specs ≡ get_or specs i d ∷ [] = one_kept is_positive i specs d found.0 found.1 found.2 last in
+    let same : value_of (get_or specs i d) ∷ [] ≡ has.spec ∷ [] = sym (ap values lone) ∙ sym (kept_values specs) ∙ has.lone in
+    other (ap (λ s. kind_of s.source) (let one : value_of (get_or specs i d) ≡ has.spec = cc in one) ∙ has.pattern)

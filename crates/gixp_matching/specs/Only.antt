@@ -1,5 +1,5 @@
 -- The only positive refspec of a list.
-use Rattle.std.specs.Prelude.{ℕ, ◌≡◌, ◌+◌, ◌<◌, Bool, false, not, List, length, drop, Some}
+use Rattle.std.specs.Prelude.{ℕ, ◌≡◌, ◌+◌, ◌<◌, Bool, false, not, List, [], ◌∷◌, length, drop, filter, Option, Some, None}
 use Rattle.std.specs.List.{list_any, position}
 use Rattle.gixp_refspec.specs.declared.spec.RefSpecRef.{RefSpecRef}
 use Rattle.gixp_refspec.specs.Spec.{is_negative}
@@ -13,3 +13,8 @@ pub record IsOnlyPositive (specs : List RefSpecRef) (i : ℕ) : Type 0 where
   pub within : i < length specs
   pub first : position is_positive specs ≡ Some i
   pub last : list_any is_positive (drop (i + 1) specs) ≡ false
+
+-- the place of the only positive refspec; none where none is positive, or more than one
+abbrev pub IsPlaceOfOnly : List RefSpecRef → Option ℕ → Type 0
+IsPlaceOfOnly specs (Some i) = IsOnlyPositive specs i
+IsPlaceOfOnly specs None = (s : RefSpecRef) → ¬ (filter is_positive specs ≡ s ∷ [])

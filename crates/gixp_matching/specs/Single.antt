@@ -1,9 +1,10 @@
 -- The one refspec of a group that maps refs.
-use Rattle.std.specs.Prelude.{ℕ, ◌≡◌, List, [], ◌∷◌, Option, Some, None}
+use Rattle.std.specs.Prelude.{ℕ, ◌≡◌, Bool, not, List, [], ◌∷◌, filter, Option, Some, None}
 use Rattle.std.specs.List.{flat_map, enumerate_from}
 use Rattle.gixp_refspec.specs.Needle.{IsNeedle}
+use Rattle.gixp_refspec.specs.Matching.{Pattern, kind_of}
 use Rattle.gixp_refspec.specs.RefSpec.{value_of}
-use Rattle.gixp_refspec.specs.Spec.{Spec}
+use Rattle.gixp_refspec.specs.Spec.{Spec, is_negative}
 use Rattle.gixp_matching.specs.declared.match_group.single.Single.{Single}
 use Rattle.gixp_matching.specs.Mappings.{FullName, Mapped, mapped, pair}
 use Rattle.gixp_matching.specs.MatchGroup.{values}
@@ -29,3 +30,18 @@ pub record IsSingle (specs : List Spec) (single : Single) : Type 0 where
   pub same : values single.prepared.specs.now ≡ specs
   pub prepared : IsPrepared single.prepared
   pub all : (names : List (List ℕ)) → repeated specs names ≡ flat_map (single_pair specs single) (enumerate_from 0 names)
+
+-- it has no sign `^`
+abbrev pub maps_refs : Spec → Bool
+maps_refs s = not (is_negative s.sign)
+
+-- just one refspec is positive, and its source is a pattern
+pub record HasLonePattern (specs : List Spec) : Type 0 where
+  pub spec : Spec
+  pub lone : filter maps_refs specs ≡ spec ∷ []
+  pub pattern : kind_of spec.source ≡ Pattern
+
+-- the one refspec that makes all mappings; none where no lone positive pattern is there
+abbrev pub SinglesOut : List Spec → Option Single → Type 0
+SinglesOut specs (Some single) = IsSingle specs single
+SinglesOut specs None = ¬ HasLonePattern specs

@@ -1,5 +1,5 @@
 //! What a list of refspecs maps of a list of refs.
-ghost use Rattle.std.specs.Prelude.{ℕ, ◌≡◌, List, IfOk, IfSome, map};
+ghost use Rattle.std.specs.Prelude.{ℕ, ◌≡◌, List, IfOk, map};
 ghost use Rattle.std.specs.Option.{option_copied, option_map};
 ghost use Rattle.std.specs.List.{AllByRecursion, slice_get};
 ghost use Rattle.bstr.specs.Owned.{bstring_bytes};
@@ -8,7 +8,7 @@ ghost use Rattle.gixp_refspec.specs.RefSpec.{value_of};
 ghost use Rattle.gixp_matching.specs.Leaving.{AnswersAll};
 ghost use Rattle.gixp_matching.specs.MatchGroup.{source_of, mapped_of, mapped_in, values, names, group_specs, outcome_specs};
 ghost use Rattle.gixp_matching.specs.Places.{repeated, place_of, place_value, local_for, id_for, FollowsFromPlace};
-ghost use Rattle.gixp_matching.specs.Single.{IsSingle};
+ghost use Rattle.gixp_matching.specs.Single.{SinglesOut};
 ghost use Rattle.gixp_matching.specs.Validation.{has_safe_local};
 
 mod digest;
@@ -184,13 +184,14 @@ impl<'s> MatchGroup<'s> {
         Ok(found)
     }
 
-    /// The one refspec that makes all mappings, where there is one that is a pattern, so that each ref is mapped once at most.
+    /// The one refspec that makes all mappings, where just one is positive and that is a pattern, so that each ref is mapped
+    /// once at most.
     ///
     /// # Errors
     ///
     /// Only when an allocation fails.
     pub fn single(&self, alloc: Global) -> Result<Option<Single<'s>>, AllocError>
-        ensures { IfOk result (λ found. IfSome found (IsSingle (group_specs self.now))) }
+        ensures { IfOk result (SinglesOut (group_specs self.now)) }
     {
         let Some(spec_index) = only_positive(self.specs) else {
             return Ok(None);

@@ -1,10 +1,17 @@
-//! Equality of mappings and fixes.
+//! Equality of sources, mappings and fixes.
 ghost use Rattle.std.specs.Prelude.{◌≡◌, ◌↔◌, IsTrue};
-ghost use Rattle.gixp_matching.specs.MatchGroup.{mapped_of};
+ghost use Rattle.gixp_matching.specs.MatchGroup.{mapped_of, source_of};
 ghost use Rattle.gixp_matching.specs.Validate.{removed_of};
 
-use crate::match_group::Mapping;
 use crate::match_group::validate::Fix;
+use crate::match_group::{Mapping, SourceRef};
+
+/// Two sources are equal exactly where they are one value.
+fn is_same_source(a: &SourceRef, b: &SourceRef) -> bool
+    ensures { IsTrue result ↔ (source_of a.now ≡ source_of b.now) }
+{
+    a == b
+}
 
 /// Two mappings are equal exactly where they are one value.
 fn is_same_mapping(one: &Mapping, other: &Mapping) -> bool

@@ -23,7 +23,7 @@ use Rattle.gixp_memory.specs.declared.objects.StoredObject.{StoredObject}
 use Rattle.gixp_memory.specs.declared.stored_refs.StoredRef.{StoredRef}
 use Rattle.gixp_memory.specs.Memory.{object_of, objects_of, refs_of, name_cmp}
 use Rattle.gixp_memory.specs.RefEntries.{named_ref}
-use Rattle.gixp_memory.specs.Repository.{PeeledRef, with_ref, ref_named, peeled_ids}
+use Rattle.gixp_memory.specs.Repository.{held_ref, PeeledRef, with_ref, ref_named, peeled_ids}
 
 -- what is stored under an id
 abbrev pub stored_at : List (ObjectId × StoredObject) → ObjectId → Option StoredObject
@@ -172,3 +172,8 @@ id_stored o = option_map (λ (s : StoredRef). s.id) o
 pub peeled_stored : (es : List StoredName) → map (λ (s : StoredRef). s.peeled) (values_of es) ≡ peeled_ids (map named_ref es)
 peeled_stored [] = refl
 peeled_stored (e ∷ es) = ap (λ ids. e.1.peeled ∷ ids) (peeled_stored es)
+
+-- what the refs hold
+pub held_refs_stored : (es : List StoredName) → map (λ (e : StoredName). (e.0.items, e.1.id)) es ≡ map held_ref (map named_ref es)
+held_refs_stored [] = refl
+held_refs_stored (e ∷ es) = ap (λ rest. (e.0.items, e.1.id) ∷ rest) (held_refs_stored es)

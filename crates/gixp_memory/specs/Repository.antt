@@ -6,6 +6,8 @@ use Rattle.std.specs.Cmp.Lexicographic.{slice_cmp}
 use Rattle.std.specs.Io.BufRead.{strip_last}
 use Rattle.std.specs.Coded.{Coded, code_by, coded×, coded_ℕ, coded_list}
 use Rattle.std.specs.FinMap as finite
+use Rattle.bstr.specs.BStr.{bstr_bytes}
+use Rattle.bstr.specs.declared.bstr.BStr.{BStr}
 use Rattle.gixp_hash.specs.declared.object_id.ObjectId.{ObjectId}
 use Rattle.gixp_hash.specs.ObjectId.{id_of, coded_id}
 use Rattle.gixp_graph.specs.declared.objects.ObjectKind.{ObjectKind}
@@ -52,6 +54,13 @@ refs_held refs = finite.from_entries (map (λ (r : PeeledRef). (r.name, r.id)) r
 -- the id that a name holds
 abbrev pub ref_named : List PeeledRef → List ℕ → Option ObjectId
 ref_named refs name = finite.get (refs_held refs) name
+
+-- a name and the id that it holds
+abbrev pub named_id_of : BStr × ObjectId → List ℕ × ObjectId
+named_id_of p = (bstr_bytes p.0, p.1)
+
+abbrev pub held_ref : PeeledRef → List ℕ × ObjectId
+held_ref r = (r.name, r.id)
 
 -- what the refs lead to, in the order of their names
 abbrev pub peeled_ids : List PeeledRef → List ObjectId

@@ -1,9 +1,10 @@
 //! The refs of a repository, filled from lists or from texts.
-ghost use Rattle.std.specs.Prelude.{◌≡◌, [], Some, None, IfOk, OnOk, OnErr, map, true, false};
+ghost use Rattle.std.specs.Prelude.{◌≡◌, ℕ, [], Some, None, Vec, IfOk, OnOk, OnErr, map, true, false};
 ghost use Rattle.std.specs.BTreeMap.{values};
+ghost use Rattle.std.specs.declared.alloc.Global.{Global};
 ghost use Rattle.gixp_hash.specs.declared.object_id.ObjectId.{ObjectId};
 ghost use Rattle.gixp_memory.specs.Text.{FillsByText};
-ghost use Rattle.gixp_memory.specs.Repository.{ref_line, ref_by, ref_named, peeled_name, with_ref};
+ghost use Rattle.gixp_memory.specs.Repository.{held_ref, ref_line, ref_by, ref_named, peeled_name, with_ref, named_id_of};
 ghost use Rattle.gixp_memory.specs.declared.stored_refs.StoredRef.{StoredRef};
 ghost use Rattle.std.specs.Option.{option_copied};
 
@@ -63,6 +64,20 @@ impl StoredRefs {
     {
         self.names.insert(name, StoredRef { id, peeled })?;
         Ok(())
+    }
+
+    /// The refs, in the order of their names: the full name of each, and the id that it holds.
+    ///
+    /// # Errors
+    ///
+    /// An allocation failure alone.
+    pub fn to_vec(&self, alloc: Global) -> Result<Vec<(BStr<'_>, ObjectId)>, AllocError>
+        ensures { IfOk result (λ refs. map named_id_of refs.items ≡ map held_ref self.now) }
+    {
+        match named_ids_of(alloc, &self.names) {
+            Ok(refs) => Ok(refs),
+            Err(e) => Err(e),
+        }
     }
 
     // The id that the ref of a name holds.
@@ -144,6 +159,19 @@ fn peeled_name(name: &[u8]) -> Option<&[u8]>
     ensures { option_copied result ≡ peeled_name name.now }
 {
     name.strip_suffix(b"^{}")
+}
+
+// The names, and the ids that they hold.
+fn named_ids_of(
+    alloc: Global,
+    names: &BTreeMap<Vec<u8>, StoredRef>,
+) -> Result<Vec<(BStr<'_>, ObjectId)>, AllocError>
+    ensures { IfOk result (λ refs. map named_id_of refs.items ≡ map (λ (e : Vec ℕ Global × StoredRef). (e.0.items, e.1.id)) names.now.entries) }
+{
+    names
+        .iter()
+        .map(|(name, stored)| (BStr::new(name), stored.id))
+        .collect(alloc)
 }
 
 // What the refs lead to.

@@ -1,11 +1,12 @@
 -- Marks that are added.
-use Rattle.std.proofs.Common.{◌≡◌, ℕ, ◌∙◌, Bool, true, false, cond, [], Option, Some, None, refl, sym, ap, subst, arith, true≢false}
+use Rattle.std.proofs.Common.{◌≡◌, ℕ, ◌∙◌, ⊎_elim, Bool, true, false, cond, [], Option, Some, None, refl, sym, ap, subst, arith, true≢false}
 use Rattle.std.specs.Prelude.{option_map, unwrap_or, ◌||◌, IsSome, is_some, bit_and, bit_or, ◌==◌, min, max}
 use Rattle.std.specs.Int.{bit_at}
 use Rattle.std.specs.Option.{option_map_or}
 use Rattle.std.specs.Ordering.{eq_by_cmp, is_eq}
 use Rattle.std.specs.FinMap as finite
 use Rattle.std.specs.FinMap.{get-insert}
+use Rattle.std.proofs.lemmas.Bool.{or_cases}
 use Rattle.std.proofs.lemmas.Cmp.{tied_itself}
 use Rattle.std.proofs.lemmas.Nat.{and_or_self, and_or_apart}
 use Rattle.std.proofs.lemmas.Nat.Bits.{bit_at_and, bit_at_or, same_from_bits}
@@ -189,3 +190,19 @@ part_at m b (Some k) v e = eq_itself _ _ (part_bits k.flags.0 m b (from_eq _ _ e
 -- a commit that has some marks has each part of them
 pub has_part : (m b : ℕ) (held : Commits) (id : ObjectId) → bit_and m b ≡ b → has_mark m held id ≡ true → has_mark b held id ≡ true
 has_part m b held id v e = part_at m b (finite.get held id) v e
+
+-- ---- which commits get a mark, one step after another
+
+pub none_on : (b : ℕ) (g h k : GraphData) → AddsNone b g h → AddsNone b h k → AddsNone b g k
+none_on b g h k a c q m = a q (c q m)
+
+pub only_none : (b : ℕ) (one : ObjectId) (g h k : GraphData) → AddsOnly b one g h → AddsNone b h k → AddsOnly b one g k
+only_none b one g h k a c q m = a q (c q m)
+
+pub none_only : (b : ℕ) (one : ObjectId) (g h k : GraphData) → AddsNone b g h → AddsOnly b one h k → AddsOnly b one g k
+none_only b one g h k a c q m = ⊎_elim (λ was. or_left (has_mark b g.held q) (eq_by_cmp id_cmp q one) (a q was))
+    (λ e. or_right (has_mark b g.held q) (eq_by_cmp id_cmp q one) e)
+    (or_cases (has_mark b h.held q) (eq_by_cmp id_cmp q one) (c q m))
+
+pub only_any : (b : ℕ) (one : ObjectId) (g h : GraphData) → AddsNone b g h → AddsOnly b one g h
+only_any b one g h a q m = or_left (has_mark b g.held q) (eq_by_cmp id_cmp q one) (a q m)

@@ -1,4 +1,5 @@
 pub mod FitLemmas
+pub mod FromLemmas
 pub mod GrowLemmas
 pub mod LookLemmas
 pub mod OweLemmas
@@ -6,3 +7,4 @@ pub mod SeeLemmas
 pub mod SpreadLemmas
 pub mod StepLemmas
 pub mod PassingLemmas
+pub mod UnreadLemmas

@@ -8,7 +8,7 @@ use Rattle.gixp_graph.specs.declared.flags.Flags.{Flags}
 use Rattle.gixp_graph.specs.Object.{Commit, commit_at, time_at}
 use Rattle.gixp_graph.specs.GraphData.{HeldCommit, GraphData, graph_of, put, found_in, looked_up, unmarked, shown, shown_time, is_complete, IsFaithful}
 use Rattle.gixp_graph.specs.GraphLaws.{put_same}
-use Rattle.gixp_negotiators.specs.Marks.{has_all, has_mark, Grows, IsFoundWith, AddsNone}
+use Rattle.gixp_negotiators.specs.Marks.{SEEN, has_all, has_mark, Grows, IsFoundWith, AddsNone}
 use Rattle.gixp_negotiators.proofs.GrowLemmas.{grows_none, grows_insert, get_insert_same, none_insert}
 
 -- by what is held and what is read
@@ -25,6 +25,15 @@ looked_at g id None (Some c) e = grows_insert g id (unmarked c)
 pub grows_looked : (g h : GraphData) (id : ObjectId) → h ≡ graph_of g.objects (looked_up g id) → Grows g h
 grows_looked g h id is = subst (Grows g) (sym is) (looked_at g id (finite.get g.held id) (commit_at g.objects id) refl)
 
+-- nor does it change a graph that holds the commit
+held_at : (g : GraphData) (id : ObjectId) (o : Option HeldCommit) (p : Option Commit) → finite.get g.held id ≡ o → IsSome o
+    → graph_of g.objects (put g.held id (option_or o (option_map unmarked p))) ≡ g
+held_at g id None p e s = absurd (true≢false (sym s))
+held_at g id (Some k) p e s = ap (graph_of g.objects) (put_same g.held id k e)
+
+pub held_looked : (g h : GraphData) (id : ObjectId) → h ≡ graph_of g.objects (looked_up g id) → IsSome (finite.get g.held id) → h ≡ g
+held_looked g h id is s = is ∙ held_at g id (finite.get g.held id) (commit_at g.objects id) refl s
+
 -- a look adds no mark
 adds_at : (b : ℕ) → has_all b 0 ≡ false → (g : GraphData) (id : ObjectId) (o : Option HeldCommit) (p : Option Commit)
     → finite.get g.held id ≡ o → AddsNone b g (graph_of g.objects (put g.held id (option_or o (option_map unmarked p))))
@@ -39,14 +48,14 @@ none_looked b z g h id is = subst (AddsNone b g) (sym is) (adds_at b z g id (fin
 -- what isn't found isn't held
 absent_at : (g : GraphData) (id : ObjectId) (o : Option HeldCommit) (p : Option Commit) → finite.get g.held id ≡ o
     → ◌≡◌ {A = Option (ℤ × Flags)} None (option_map shown (option_or o (option_map unmarked p)))
-    → has_mark 8 (put g.held id (option_or o (option_map unmarked p))) id ≡ false
+    → has_mark SEEN (put g.held id (option_or o (option_map unmarked p))) id ≡ false
 absent_at g id (Some k) p e n = cc
-absent_at g id None None e n = ap (λ (o : Option HeldCommit). option_map_or (λ (h : HeldCommit). has_all 8 h.flags.0) o false) e
+absent_at g id None None e n = ap (λ (o : Option HeldCommit). option_map_or (λ (h : HeldCommit). has_all SEEN h.flags.0) o false) e
 absent_at g id None (Some c) e n = cc
 
 pub absent_looked : (g h : GraphData) (id : ObjectId) (found : Option (ℤ × Flags)) → found ≡ option_map shown (found_in g id)
-    → h ≡ graph_of g.objects (looked_up g id) → IfNone found (has_mark 8 h.held id ≡ false)
-absent_looked g h id None e is = subst (λ (k : GraphData). has_mark 8 k.held id ≡ false) (sym is)
+    → h ≡ graph_of g.objects (looked_up g id) → IfNone found (has_mark SEEN h.held id ≡ false)
+absent_looked g h id None e is = subst (λ (k : GraphData). has_mark SEEN k.held id ≡ false) (sym is)
     (absent_at g id (finite.get g.held id) (commit_at g.objects id) refl e)
 absent_looked g h id (Some x) e is = tt
 

@@ -1,16 +1,20 @@
 -- Commits that became common and are still counted.
-use Rattle.std.proofs.Common.{◌≡◌, ℕ, ◌+◌, ◌≤◌, Bool, true, false, cond, List, [], ◌∷◌, ◌++◌, refl, sym, ap, subst, arith}
+use Rattle.std.proofs.Common.{◌≡◌, ◌∙◌, ℕ, ◌+◌, ◌-◌, ⊎_elim, Bool, true, false, cond, List, [], ◌∷◌, ◌++◌, refl, sym, ap, subst, arith}
+use Rattle.std.specs.Ordering.{eq_by_cmp}
+use Rattle.std.proofs.lemmas.Bool.{or_cases}
 use Rattle.std.proofs.lemmas.Grind.{common_steps}
 use Rattle.gixp_hash.specs.declared.object_id.ObjectId.{ObjectId}
+use Rattle.gixp_hash.specs.ObjectId.{id_cmp}
 use Rattle.gixp_graph.specs.GraphData.{Commits, GraphData}
+use Rattle.gixp_graph.specs.GraphLaws.{same_from}
 use Rattle.gixp_negotiators.specs.declared.queue.Waiting.{Waiting}
-use Rattle.gixp_negotiators.specs.Marks.{has_mark, Grows, SeesNone}
-use Rattle.gixp_negotiators.specs.Waiting.{open_in, owed_by, Fits, FitsOwing}
-use Rattle.gixp_negotiators.proofs.FitLemmas.{lacked, one_less, open_grown, open_less}
+use Rattle.gixp_negotiators.specs.Marks.{COMMON, SEEN, POPPED, has_mark, Grows, SeesNone, SettlesNone, SettlesOnly, PopsNone}
+use Rattle.gixp_negotiators.specs.Waiting.{queued_one, open_in, owed_by, FitsSeen, FitsOwing}
+use Rattle.gixp_negotiators.proofs.FitLemmas.{same_none, same_queued, queued, spent, open_kept, open_settled}
 
 -- one of these
 abbrev owed_one : Commits → ObjectId → ℕ
-owed_one m id = cond {A = ℕ} (has_mark 16 m id) 0 1
+owed_one m id = cond {A = ℕ} (has_mark POPPED m id) 0 1
 
 pub owed_nil : (m : Commits) → owed_by m [] ≡ 0
 unfolding owed_by
@@ -24,68 +28,92 @@ pub owed_push : (m : Commits) (due : List ObjectId) (id : ObjectId) → owed_by 
 owed_push m [] id = omega (arith, owed_cons m id [], owed_nil m)
 owed_push m (x ∷ xs) id = omega (arith, owed_cons m x (xs ++ id ∷ []), owed_cons m x xs, owed_push m xs id)
 
-owed_grown : (g h : GraphData) → Grows g h → (due : List ObjectId) → owed_by h.held due ≤ owed_by g.held due
-owed_grown g h w [] = omega (arith, owed_nil h.held, owed_nil g.held)
-owed_grown g h w (x ∷ xs) = omega (
-  arith,
-  owed_cons h.held x xs,
-  owed_cons g.held x xs,
-  owed_grown g h w xs,
-  one_less (has_mark 16 g.held x) (has_mark 16 h.held x) (w.marks 16 x),
-)
+owed_kept : (g h : GraphData) → ((q : ObjectId) → has_mark POPPED h.held q ≡ has_mark POPPED g.held q) → (due : List ObjectId)
+    → owed_by h.held due ≡ owed_by g.held due
+owed_kept g h same [] = omega (arith, owed_nil h.held, owed_nil g.held)
+owed_kept g h same (x ∷ xs) =
+    let one : ◌≡◌ {A = ℕ} (owed_one h.held x) (owed_one g.held x) = ap (λ c. cond {A = ℕ} c 0 1) (same x) in
+    omega (arith, owed_cons h.held x xs, owed_cons g.held x xs, owed_kept g h same xs)
 
 -- at first, and at the end
-pub owing_none : (u : ℕ) (ws : List Waiting) (g : GraphData) (due : List ObjectId) → due ≡ [] → Fits u ws g → FitsOwing u ws g due
-owing_none u ws g due e f = record { waiting = f.waiting; counted = omega (arith, f.counted, owed_nil g.held, ap (owed_by g.held) e) }
+pub owing_none : (lost u : ℕ) (ws : List Waiting) (g : GraphData) (due : List ObjectId) → due ≡ [] → FitsSeen lost u ws g
+    → FitsOwing lost u ws g due
+owing_none lost u ws g due e f = record {
+  waiting = f.fits.waiting;
+  taken = f.fits.taken;
+  seen = f.seen;
+  counted = omega (arith, f.fits.counted, owed_nil g.held, ap (owed_by g.held) e);
+}
 
-pub fits_owing : (u : ℕ) (ws : List Waiting) (g : GraphData) (due : List ObjectId) → FitsOwing u ws g due → Fits u ws g
-fits_owing u ws g due f = record { waiting = f.waiting; counted = omega (arith, f.counted) }
+pub owing_end : (R : Type 0) (lost u : ℕ) (ws : List Waiting) (g : GraphData) (due : List ObjectId) → (R → due ≡ [])
+    → FitsOwing lost u ws g due → (more : ℕ) × ((R → more ≡ 0) × FitsSeen (lost + more) u ws g)
+owing_end R lost u ws g due none f = (
+  owed_by g.held due,
+  (
+    (λ r. ap (owed_by g.held) (none r) ∙ owed_nil g.held),
+    record {
+      fits = record { waiting = f.waiting; taken = f.taken; counted = omega (arith, f.counted) };
+      seen = f.seen;
+    },
+  ),
+)
 
--- marks are added, and nothing is seen
-pub owing_grown : (u : ℕ) (ws : List Waiting) (g h : GraphData) (due : List ObjectId) → Grows g h → SeesNone g h → FitsOwing u ws g due
-    → FitsOwing u ws h due
-owing_grown u ws g h due w s f = record {
-  waiting = λ id seen kept. f.waiting id (s id seen) (lacked (has_mark 16 g.held id) (has_mark 16 h.held id) (w.marks 16 id) kept);
-  counted = omega (arith, f.counted, open_grown g h w ws, owed_grown g h w due);
+-- marks are added, but for those that count
+pub owing_grown : (lost u : ℕ) (ws : List Waiting) (g h : GraphData) (due : List ObjectId) → Grows g h → SeesNone g h → SettlesNone g h
+    → PopsNone g h → FitsOwing lost u ws g due → FitsOwing lost u ws h due
+owing_grown lost u ws g h due w s c p f = record {
+  waiting = λ id. f.waiting id ∙ same_queued g h id (same_none SEEN g h w s id) (same_none POPPED g h w p id);
+  taken = λ id t. w.marks SEEN id (f.taken id (p id t));
+  seen = λ id m. w.marks SEEN id (f.seen id (c id m));
+  counted = omega (arith, f.counted, open_kept g h (same_none COMMON g h w c) ws, owed_kept g h (same_none POPPED g h w p) due);
 }
 
 -- one that was seen becomes common, and its parents are to be so
-reached_at : (u : ℕ) (ws : List Waiting) (g h : GraphData) (due : List ObjectId) (id : ObjectId) (taken : Bool)
-    → has_mark 16 h.held id ≡ taken → Grows g h → has_mark 8 g.held id ≡ true → has_mark 2 g.held id ≡ false
-    → has_mark 2 h.held id ≡ true → FitsOwing u ws g due → open_in h.held ws + owed_by h.held (due ++ id ∷ []) ≤ u
-reached_at u ws g h due id true e w seen before after f =
-    let none : ◌≡◌ {A = ℕ} (owed_one h.held id) 0 = ap (λ c. cond {A = ℕ} c 0 1) e in
-    omega (arith, f.counted, open_grown g h w ws, owed_grown g h w due, owed_push h.held due id)
-reached_at u ws g h due id false e w seen before after f =
-    let one : ◌≡◌ {A = ℕ} (owed_one h.held id) 1 = ap (λ c. cond {A = ℕ} c 0 1) e in
-    omega (
-      arith,
-      f.counted,
-      open_less g h w id before after ws (f.waiting id seen
-          (lacked (has_mark 16 g.held id) (has_mark 16 h.held id) (w.marks 16 id) e)),
-      owed_grown g h w due,
-      owed_push h.held due id,
-    )
-
-pub owing_reached : (u : ℕ) (ws : List Waiting) (g h : GraphData) (due more : List ObjectId) (id : ObjectId) → Grows g h → SeesNone g h
-    → has_mark 8 g.held id ≡ true → has_mark 2 g.held id ≡ false → has_mark 2 h.held id ≡ true → more ≡ due ++ id ∷ []
-    → FitsOwing u ws g due → FitsOwing u ws h more
-owing_reached u ws g h due more id w s seen before after is f = record {
-  waiting = λ q e kept. f.waiting q (s q e) (lacked (has_mark 16 g.held q) (has_mark 16 h.held q) (w.marks 16 q) kept);
-  counted = subst (λ m. open_in h.held ws + owed_by h.held m ≤ u) (sym is)
-      (reached_at u ws g h due id (has_mark 16 h.held id) refl w seen before after f);
+pub owing_reached : (lost u : ℕ) (ws : List Waiting) (g h : GraphData) (due more : List ObjectId) (id : ObjectId) → Grows g h
+    → SeesNone g h → PopsNone g h → SettlesOnly id g h → has_mark SEEN g.held id ≡ true → has_mark COMMON g.held id ≡ false
+    → has_mark COMMON h.held id ≡ true → more ≡ due ++ id ∷ [] → FitsOwing lost u ws g due → FitsOwing lost u ws h more
+owing_reached lost u ws g h due more id w s p only seen before after is f = record {
+  waiting = λ q. f.waiting q ∙ same_queued g h q (same_none SEEN g h w s q) (same_none POPPED g h w p q);
+  taken = λ q t. w.marks SEEN q (f.taken q (p q t));
+  seen = λ q m. w.marks SEEN q (⊎_elim (λ was. f.seen q was)
+      (λ e. subst (λ i. has_mark SEEN g.held i ≡ true) (sym (same_from q id e)) seen)
+      (or_cases (has_mark COMMON g.held q) (eq_by_cmp id_cmp q id) (only q m)));
+  counted =
+      omega (
+        arith,
+        f.counted,
+        open_settled g h w id only before after ws,
+        f.waiting id,
+        owed_kept g h (same_none POPPED g h w p) due,
+        owed_push h.held due id,
+        ap (owed_by h.held) is,
+        owes (has_mark POPPED g.held id) refl,
+      );
 }
+  where
+    owes : (b : Bool) → has_mark POPPED g.held id ≡ b → owed_one h.held id ≡ queued_one g.held id
+    owes true e =
+        let none : ◌≡◌ {A = ℕ} (owed_one h.held id) 0 = ap (λ c. cond {A = ℕ} c 0 1) (same_none POPPED g h w p id ∙ e) in
+        omega (arith, spent g.held id e)
+    owes false e =
+        let one : ◌≡◌ {A = ℕ} (owed_one h.held id) 1 = ap (λ c. cond {A = ℕ} c 0 1) (same_none POPPED g h w p id ∙ e) in
+        omega (arith, queued g.held id seen e)
 
 -- one that is no longer owed isn't counted any more, unless it was taken
-paid_at : (u v : ℕ) (ws : List Waiting) (g : GraphData) (due rest : List ObjectId) (id : ObjectId) (taken : Bool)
-    → has_mark 16 g.held id ≡ taken → due ≡ rest ++ id ∷ [] → (has_mark 16 g.held id ≡ true → v ≡ u) → u ≤ v + 1 → FitsOwing u ws g due
-    → open_in g.held ws + owed_by g.held rest ≤ v
-paid_at u v ws g due rest id true e is same le f = omega (arith, f.counted, same e, ap (owed_by g.held) is, owed_push g.held rest id)
-paid_at u v ws g due rest id false e is same le f =
-    let one : ◌≡◌ {A = ℕ} (owed_one g.held id) 1 = ap (λ c. cond {A = ℕ} c 0 1) e in
-    omega (arith, f.counted, le, ap (owed_by g.held) is, owed_push g.held rest id)
-
-pub owing_paid : (u v : ℕ) (ws : List Waiting) (g : GraphData) (due rest : List ObjectId) (id : ObjectId) → due ≡ rest ++ id ∷ []
-    → (has_mark 16 g.held id ≡ true → v ≡ u) → u ≤ v + 1 → FitsOwing u ws g due → FitsOwing v ws g rest
-owing_paid u v ws g due rest id is same le f =
-    record { waiting = f.waiting; counted = paid_at u v ws g due rest id (has_mark 16 g.held id) refl is same le f }
+pub owing_paid : (lost u v : ℕ) (ws : List Waiting) (g : GraphData) (due rest : List ObjectId) (id : ObjectId) → due ≡ rest ++ id ∷ []
+    → (has_mark POPPED g.held id ≡ true → v ≡ u) → (has_mark POPPED g.held id ≡ false → v ≡ u - 1) → FitsOwing lost u ws g due
+    → FitsOwing lost v ws g rest
+owing_paid lost u v ws g due rest id is same less f = record {
+  waiting = f.waiting;
+  taken = f.taken;
+  seen = f.seen;
+  counted = at (has_mark POPPED g.held id) refl;
+}
+  where
+    at : (b : Bool) → has_mark POPPED g.held id ≡ b → open_in g.held ws + owed_by g.held rest + lost ≡ v
+    at true e =
+        let none : ◌≡◌ {A = ℕ} (owed_one g.held id) 0 = ap (λ c. cond {A = ℕ} c 0 1) e in
+        omega (arith, f.counted, same e, ap (owed_by g.held) is, owed_push g.held rest id)
+    at false e =
+        let one : ◌≡◌ {A = ℕ} (owed_one g.held id) 1 = ap (λ c. cond {A = ℕ} c 0 1) e in
+        omega (arith, f.counted, less e, ap (owed_by g.held) is, owed_push g.held rest id)

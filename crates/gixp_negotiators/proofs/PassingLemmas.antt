@@ -1,12 +1,12 @@
 -- Distances that are handed on.
 use Rattle.std.proofs.Common.{◌≡◌, ℕ, ◌<◌, ◌≤◌, ◌+◌, ◌-◌, ◌||◌, Bool, true, false, cond, List, [], ◌∷◌, ◌++◌, length, take, get_or, Option, Some, refl, sym, ap, subst, ◌∙◌, ◌⊎◌, inl, inr, true≢false, arith}
-use Rattle.std.specs.Prelude.{nat_lt, unwrap_or, IsSome}
+use Rattle.std.specs.Prelude.{nat_lt, unwrap_or, IsSome, ◌≢◌}
 use Rattle.std.specs.Map.{lookup}
 use Rattle.std.specs.BTreeMap.{is_at}
 use Rattle.std.specs.Ordering.{eq_by_cmp}
 use Rattle.std.proofs.lemmas.List.{take_more, take_all}
 use Rattle.std.proofs.lemmas.Bool.{ltb-true, ltb-false}
-use Rattle.std.proofs.lemmas.List.Elements.{All-more, All-weaker}
+use Rattle.std.proofs.lemmas.List.Elements.{All-more, All-pop, All-weaker}
 use Rattle.gixp_hash.specs.declared.object_id.ObjectId.{ObjectId}
 use Rattle.gixp_hash.specs.ObjectId.{id_cmp}
 use Rattle.gixp_graph.specs.Object.{commit_at}
@@ -18,7 +18,7 @@ use Rattle.gixp_negotiators.specs.declared.skipping.Skip.{Skip}
 use Rattle.gixp_negotiators.specs.declared.skipping.Legacy.{Legacy}
 use Rattle.gixp_negotiators.specs.declared.skipping.Legacy.TheVariants.{Common, Skips}
 use Rattle.gixp_negotiators.specs.Distance.{distance_after, skip_of}
-use Rattle.gixp_negotiators.specs.Marks.{has_all, has_mark, AddsNone, Grows, Claims}
+use Rattle.gixp_negotiators.specs.Marks.{COMMON, COMMON_REF, POPPED, has_all, has_mark, AddsNone, SettlesNone, Grows, Claims}
 use Rattle.gixp_negotiators.specs.Passing.{Skipped, skip_in, longer, handed_on, is_among, HandsOne, Hands, AllTaken, Takes}
 
 -- a test that fails where another does
@@ -80,11 +80,11 @@ hands_one (Skips t) p h old new e = record {
 }
 
 -- and one that was
-pub hands_taken : (legacy : Legacy) (p : ObjectId) (h : GraphData) (old new : Skipped) → has_mark 16 h.held p ≡ true → new ≡ old
+pub hands_taken : (legacy : Legacy) (p : ObjectId) (h : GraphData) (old new : Skipped) → has_mark POPPED h.held p ≡ true → new ≡ old
     → Hands legacy (p ∷ []) h old new
 hands_taken legacy p h old new taken e = record {
   handed = λ s q is among lacks. absurd (true≢false
-      (sym taken ∙ subst (λ k. has_mark 16 h.held k ≡ false) (same_from q p (sym (one_among p q) ∙ among)) lacks));
+      (sym taken ∙ subst (λ k. has_mark POPPED h.held k ≡ false) (same_from q p (sym (one_among p q) ∙ among)) lacks));
   others = λ q n. ap (λ skips. skip_in skips q) e;
 }
 
@@ -117,7 +117,7 @@ twice s t = at (nat_lt s.whole t.whole) refl
 pub hands_more : (legacy : Legacy) (xs : List ObjectId) (p : ObjectId) (i h : GraphData) (old mid new : Skipped) → Grows i h
     → Hands legacy xs i old mid → Hands legacy (p ∷ []) h mid new → Hands legacy (xs ++ p ∷ []) h old new
 hands_more legacy xs p i h old mid new w a b = record {
-  handed = λ s q is among lacks. at s q is lacks (not_true (has_mark 16 i.held q) (has_mark 16 h.held q) (w.marks 16 q) lacks)
+  handed = λ s q is among lacks. at s q is lacks (not_true (has_mark POPPED i.held q) (has_mark POPPED h.held q) (w.marks POPPED q) lacks)
       (is_among xs q) (is_among (p ∷ []) q) refl refl (sym (among_append xs p q) ∙ among);
   others = λ q n. both q (is_among xs q) (is_among (p ∷ []) q) refl refl (sym (among_append xs p q) ∙ n);
 }
@@ -127,7 +127,7 @@ hands_more legacy xs p i h old mid new w a b = record {
     both q false true e f n = absurd (true≢false n)
     both q false false e f n = b.others q f ∙ a.others q e
 
-    at : (s : Skip) (q : ObjectId) → legacy ≡ Skips s → has_mark 16 h.held q ≡ false → has_mark 16 i.held q ≡ false → (x y : Bool)
+    at : (s : Skip) (q : ObjectId) → legacy ≡ Skips s → has_mark POPPED h.held q ≡ false → has_mark POPPED i.held q ≡ false → (x y : Bool)
         → is_among xs q ≡ x → is_among (p ∷ []) q ≡ y → (x || y) ≡ true → skip_in new q ≡ longer (skip_in old q) s
     at s q is lacks lacked true true e f n = b.handed s q is f lacks ∙ ap (λ k. longer k s) (a.handed s q is e lacked)
         ∙ twice (skip_in old q) s
@@ -147,13 +147,14 @@ hands_all legacy ids k h old new l a = subst (λ xs. Hands legacy xs h old new) 
 
 -- ---- a commit that is taken
 
-pub takes_none : (old : Skipped) (g h : GraphData) (id : ObjectId) → (IsSome (commit_at g.objects id) → has_mark 16 g.held id ≡ true)
-    → Takes old g id false old h
-takes_none old g h id spent = record {
+pub takes_none : (old : Skipped) (g h : GraphData) (id : ObjectId) → (IsSome (commit_at g.objects id) → has_mark POPPED g.held id ≡ true)
+    → SettlesNone g h → Takes old g id false old h
+takes_none old g h id spent none = record {
   hands = λ there lacks. absurd (true≢false (sym (spent there) ∙ lacks));
   others = λ q n. refl;
   reached = λ e. absurd (true≢false (sym e));
   passed = λ there lacks. absurd (true≢false (sym (spent there) ∙ lacks));
+  settles = λ two four. none;
 }
 
 -- what is handed on
@@ -166,26 +167,36 @@ legacy_is legacy s p r = at (nat_lt 0 s.left) refl
     at true e = p (ltb-true 0 s.left e)
     at false e = r (let k : s.left ≤ 0 = ltb-false 0 s.left e in omega arith)
 
+pub legacy_apart : (legacy : Legacy) (s : Skip) → (0 < s.left → legacy ≡ Skips (skip_of s.whole (s.left - 1)))
+    → (s.left ≡ 0 → legacy ≡ Skips (skip_of (distance_after s.whole) (distance_after s.whole))) → legacy ≢ Common
+legacy_apart legacy s p r e = let clash : Common ≡ Skips (handed_on s) = sym e ∙ legacy_is legacy s p r in cc
+
 pub takes_some : (old new : Skipped) (g i h : GraphData) (id : ObjectId) (flags : Flags) (legacy : Legacy) (parents : List ObjectId)
     (s : Skip) (is_common offered : Bool)
-    → Claims 16 g i id flags → Grows i h → parents ≡ parents_in i.held id → s ≡ skip_in old id → Hands legacy parents h old new
-    → is_common ≡ has_all 2 flags.0
-    → (has_all 2 flags.0 ≡ false → has_all 4 flags.0 ≡ false → 0 < s.left → legacy ≡ Skips (skip_of s.whole (s.left - 1)))
-    → (has_all 2 flags.0 ≡ false → has_all 4 flags.0 ≡ false → s.left ≡ 0
+    → Claims POPPED g i id flags → Grows i h → parents ≡ parents_in i.held id → s ≡ skip_in old id → Hands legacy parents h old new
+    → is_common ≡ has_all COMMON flags.0
+    → (has_all COMMON flags.0 ≡ false → has_all COMMON_REF flags.0 ≡ false → 0 < s.left → legacy ≡ Skips (skip_of s.whole (s.left - 1)))
+    → (has_all COMMON flags.0 ≡ false → has_all COMMON_REF flags.0 ≡ false → s.left ≡ 0
     → legacy ≡ Skips (skip_of (distance_after s.whole) (distance_after s.whole)))
     → (is_common ≡ false → s.left ≡ 0 → offered ≡ true) → (any : Bool) → (0 < s.left → any ≡ true → offered ≡ false)
-    → (any ≡ false → AllTaken h parents)
+    → (any ≡ false → AllTaken h parents) → (is_common ≡ false → any ≡ false → offered ≡ true) → (any ≡ true → AllTaken h parents → ⊥)
+    → SettlesNone g i → (legacy ≢ Common → SettlesNone i h)
     → Takes old g id offered new h
-takes_some old new g i h id flags legacy parents s is_common offered k w ps ss hands common p r reached any early taken = record {
-  hands = λ there lacks two four q among lacked.
-      subst (λ t. skip_in new q ≡ longer (skip_in old q) (handed_on t)) ss
-      (hands.handed (handed_on s) q (legacy_is legacy s (p (lack 2 two) (lack 4 four)) (r (lack 2 two) (lack 4 four)))
-      (ap (λ ids. is_among ids q) same ∙ among) lacked);
-  others = λ q n. hands.others q (ap (λ ids. is_among ids q) same ∙ n);
-  reached = λ e. subst (λ (t : Skip). (t.left ≡ 0) ⊎ AllTaken h (parents_in h.held id)) ss (last e (nat_lt 0 s.left) any refl refl);
-  passed = λ there lacks not two. subst (λ (t : Skip). 0 < t.left) ss
-      (some s.left (λ e. true≢false (sym (reached (common ∙ lack 2 two) e) ∙ not)));
-}
+takes_some old new g i h id flags legacy parents s is_common offered k w ps ss hands common p r reached any early taken ends left none lone
+    = record {
+      hands = λ there lacks two four q among lacked.
+          subst (λ t. skip_in new q ≡ longer (skip_in old q) (handed_on t)) ss
+          (hands.handed (handed_on s) q (legacy_is legacy s (p (lack COMMON two) (lack COMMON_REF four)) (r (lack COMMON two)
+          (lack COMMON_REF four)))
+          (ap (λ ids. is_among ids q) same ∙ among) lacked);
+      others = λ q n. hands.others q (ap (λ ids. is_among ids q) same ∙ n);
+      reached = λ e. subst (λ (t : Skip). (t.left ≡ 0) ⊎ AllTaken h (parents_in h.held id)) ss (last e (nat_lt 0 s.left) any refl refl);
+      passed = λ there lacks not two. (
+        subst (λ (t : Skip). 0 < t.left) ss (some s.left (λ e. true≢false (sym (reached (common ∙ lack COMMON two) e) ∙ not))),
+        waits (common ∙ lack COMMON two) not any refl,
+      );
+      settles = λ two four q m. none q (lone (skips two four) q m);
+    }
   where
     same : parents ≡ parents_in h.held id
     same = ps ∙ sym (w.parents id k.held)
@@ -197,6 +208,16 @@ takes_some old new g i h id flags legacy parents s is_common offered k w ps ss h
 
     lack : (mark : ℕ) → has_mark mark h.held id ≡ false → has_all mark flags.0 ≡ false
     lack mark f = not_true (has_all mark flags.0) (has_mark mark h.held id) (λ t. w.marks mark id (k.had mark t)) f
+
+    waits : is_common ≡ false → offered ≡ false → (a : Bool) → any ≡ a → AllTaken h (parents_in h.held id) → ⊥
+    waits c not true e all = left e (subst (AllTaken h) (sym same) all)
+    waits c not false e all = true≢false (sym (ends c e) ∙ not)
+
+    skips : has_mark COMMON g.held id ≡ false → has_mark COMMON_REF g.held id ≡ false → legacy ≢ Common
+    skips two four =
+        let a = not_true (has_all COMMON flags.0) (has_mark COMMON g.held id) (λ t. k.was COMMON refl t) two in
+        let b = not_true (has_all COMMON_REF flags.0) (has_mark COMMON_REF g.held id) (λ t. k.was COMMON_REF refl t) four in
+        legacy_apart legacy s (p a b) (r a b)
 
     some : (n : ℕ) → (n ≡ 0 → ⊥) → 0 < n
     some n f = omega (arith, f)
@@ -218,9 +239,24 @@ neither_right false b e = e
 
 -- one more that was taken
 pub taken_more : (ids : List ObjectId) (k : ℕ) (d : ObjectId) (i h : GraphData) → k < length ids → Grows i h → AllTaken i (take k ids)
-    → has_mark 16 h.held (get_or ids k d) ≡ true → AllTaken h (take (k + 1) ids)
-taken_more ids k d i h l w all one = All-more (λ p. has_mark 16 h.held p ≡ true) ids k d l
-    (All-weaker (λ p. has_mark 16 i.held p ≡ true) (λ p. has_mark 16 h.held p ≡ true) (λ q m. w.marks 16 q m) (take k ids) all) one
+    → has_mark POPPED h.held (get_or ids k d) ≡ true → AllTaken h (take (k + 1) ids)
+taken_more ids k d i h l w all one = All-more (λ p. has_mark POPPED h.held p ≡ true) ids k d l
+    (All-weaker (λ p. has_mark POPPED i.held p ≡ true) (λ p. has_mark POPPED h.held p ≡ true) (λ q m. w.marks POPPED q m)
+    (take k ids) all) one
 
 pub taken_all : (ids : List ObjectId) (k : ℕ) (h : GraphData) → length ids ≤ k → AllTaken h (take k ids) → AllTaken h ids
 taken_all ids k h l a = subst (AllTaken h) (take_all k ids l) a
+
+-- a line that goes on: one of some commits wasn't taken
+pub left_more : (ids : List ObjectId) (k : ℕ) (d : ObjectId) (i h : GraphData) (any waits : Bool) → k < length ids → AddsNone POPPED i h
+    → (any ≡ true → AllTaken i (take k ids) → ⊥) → (waits ≡ true → has_mark POPPED h.held (get_or ids k d) ≡ false) → (any || waits) ≡ true
+    → AllTaken h (take (k + 1) ids) → ⊥
+left_more ids k d i h true waits l none before now e all =
+    before refl (All-weaker (λ p. has_mark POPPED h.held p ≡ true) (λ p. has_mark POPPED i.held p ≡ true) (λ q m. none q m) (take k ids)
+    (All-pop (λ p. has_mark POPPED h.held p ≡ true) (take (k + 1) ids) (take k ids) (Some (get_or ids k d)) (take_more ids k d l) all).0)
+left_more ids k d i h false waits l none before now e all =
+    true≢false (sym (All-pop (λ p. has_mark POPPED h.held p ≡ true) (take (k + 1) ids) (take k ids) (Some (get_or ids k d))
+    (take_more ids k d l) all).1 ∙ now e)
+
+pub left_all : (ids : List ObjectId) (k : ℕ) (h : GraphData) → length ids ≤ k → (AllTaken h (take k ids) → ⊥) → AllTaken h ids → ⊥
+left_all ids k h l a all = a (subst (AllTaken h) (sym (take_all k ids l)) all)

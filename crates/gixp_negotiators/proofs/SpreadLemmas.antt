@@ -11,7 +11,7 @@ use Rattle.gixp_hash.specs.ObjectId.{id_cmp}
 use Rattle.gixp_graph.specs.Object.{Objects, commit_at}
 use Rattle.gixp_graph.specs.GraphData.{GraphData, parents_in}
 use Rattle.gixp_graph.specs.GraphLaws.{same_from}
-use Rattle.gixp_negotiators.specs.Marks.{has_mark, Grows, SettlesNone, SettlesOnly}
+use Rattle.gixp_negotiators.specs.Marks.{COMMON, SEEN, has_mark, Grows, SettlesNone, SettlesOnly}
 use Rattle.gixp_negotiators.specs.MarkLaws.{held_marked}
 use Rattle.gixp_negotiators.specs.Spread.{is_there, was_seen, BecomesCommon, HasCommonParents, Spreads, SpreadsBut, KeepsSpread, StaysSpread, SpreadsFrom, SpreadsAllFrom, IsNewlyCommon}
 use Rattle.gixp_negotiators.proofs.GrowLemmas.{grows_none, grows_on}
@@ -26,7 +26,7 @@ module _ (kind : GraphData → ObjectId → Bool) (stays : (g h : GraphData) →
   pub common_on : (f g h : GraphData) (id : ObjectId) → Grows g h → IsSome (finite.get g.held id) → HasCommonParents kind f g id
       → HasCommonParents kind f h id
   common_on f g h id w held all = subst (All (BecomesCommon kind f h)) (sym (w.parents id held))
-      (All-weaker (BecomesCommon kind f g) (BecomesCommon kind f h) (λ p c k. w.marks 2 p (c k)) (parents_in g.held id) all)
+      (All-weaker (BecomesCommon kind f g) (BecomesCommon kind f h) (λ p c k. w.marks COMMON p (c k)) (parents_in g.held id) all)
 
   -- they are so from before earlier steps
   pub common_since : (f g h : GraphData) (id : ObjectId) → Grows f g → HasCommonParents kind g h id → HasCommonParents kind f h id
@@ -34,15 +34,15 @@ module _ (kind : GraphData → ObjectId → Bool) (stays : (g h : GraphData) →
       (parents_in h.held id) all
 
   -- parents that became common
-  pub parents_common : (g h : GraphData) (id : ObjectId) (xs : List ObjectId) → Grows g h → has_mark 8 g.held id ≡ true
+  pub parents_common : (g h : GraphData) (id : ObjectId) (xs : List ObjectId) → Grows g h → has_mark SEEN g.held id ≡ true
       → xs ≡ parents_in g.held id → All (BecomesCommon kind g h) xs → HasCommonParents kind g h id
-  parents_common g h id xs w seen is all = subst (All (BecomesCommon kind g h)) (is ∙ sym (w.parents id (held_marked g id 8 seen))) all
+  parents_common g h id xs w seen is all = subst (All (BecomesCommon kind g h)) (is ∙ sym (w.parents id (held_marked g id SEEN seen))) all
 
   -- one more of some that became common
   pub common_more : (g h k : GraphData) (xs : List ObjectId) (i : ℕ) (d : ObjectId) → i < length xs → Grows g h → Grows h k → All
       (BecomesCommon kind g h) (take i xs) → BecomesCommon kind h k (get_or xs i d) → All (BecomesCommon kind g k) (take (i + 1) xs)
   common_more g h k xs i d lt v w all one = All-more (BecomesCommon kind g k) xs i d lt
-      (All-weaker (BecomesCommon kind g h) (BecomesCommon kind g k) (λ q m s. w.marks 2 q (m s)) (take i xs) all)
+      (All-weaker (BecomesCommon kind g h) (BecomesCommon kind g k) (λ q m s. w.marks COMMON q (m s)) (take i xs) all)
       (λ s. one (stays g h v (get_or xs i d) s))
 
   -- ---- steps
@@ -59,42 +59,43 @@ module _ (kind : GraphData → ObjectId → Bool) (stays : (g h : GraphData) →
   pub spread_grown : (due : List ObjectId) (f g h : GraphData) → Grows g h → SettlesNone g h → SpreadsBut kind due f g
       → SpreadsBut kind due f h
   spread_grown due f g h w none s id seen lacks common =
-      ⊎_elim inl (λ p. inr (common_on f g h id w (held_marked g id 2 (none id common)) p)) (s id seen lacks (none id common))
+      ⊎_elim inl (λ p. inr (common_on f g h id w (held_marked g id COMMON (none id common)) p)) (s id seen lacks (none id common))
 
   -- one becomes common, and is due
   pub spread_settled : (due : List ObjectId) (one : ObjectId) (f g h : GraphData) → Grows g h → SettlesOnly one g h
       → SpreadsBut kind due f g → SpreadsBut kind (due ++ one ∷ []) f h
   spread_settled due one f g h w only s id seen lacks common = ⊎_elim
-      (λ was. ⊎_elim (λ c. inl (Contains-append_left due (one ∷ []) id c)) (λ p. inr (common_on f g h id w (held_marked g id 2 was) p))
+      (λ was. ⊎_elim (λ c. inl (Contains-append_left due (one ∷ []) id c)) (λ p. inr (common_on f g h id w (held_marked g id COMMON was) p))
       (s id seen lacks was))
       (λ e. inl (subst (Contains (due ++ one ∷ [])) (sym (same_from id one e)) (Contains-push due one)))
-      (or_cases (has_mark 2 g.held id) (eq_by_cmp id_cmp id one) (only id common))
+      (or_cases (has_mark COMMON g.held id) (eq_by_cmp id_cmp id one) (only id common))
 
   -- one comes to wait that wasn't seen
   pub spread_pushed : (due : List ObjectId) (one : ObjectId) (f g h : GraphData) → Grows f g → Grows g h → SettlesOnly one g h
-      → has_mark 8 g.held one ≡ false → SpreadsBut kind due f g → SpreadsBut kind due f h
+      → has_mark SEEN g.held one ≡ false → SpreadsBut kind due f g → SpreadsBut kind due f h
   spread_pushed due one f g h v w only unseen s id seen lacks common = ⊎_elim
-      (λ was. ⊎_elim inl (λ p. inr (common_on f g h id w (held_marked g id 2 was) p)) (s id seen lacks was))
-      (λ e. absurd (true≢false (sym (v.marks 8 one (subst (λ i. has_mark 8 f.held i ≡ true) (same_from id one e) seen)) ∙ unseen)))
-      (or_cases (has_mark 2 g.held id) (eq_by_cmp id_cmp id one) (only id common))
+      (λ was. ⊎_elim inl (λ p. inr (common_on f g h id w (held_marked g id COMMON was) p)) (s id seen lacks was))
+      (λ e. absurd (true≢false (sym (v.marks SEEN one (subst (λ i. has_mark SEEN f.held i ≡ true) (same_from id one e) seen)) ∙ unseen)))
+      (or_cases (has_mark COMMON g.held id) (eq_by_cmp id_cmp id one) (only id common))
 
   -- one is no longer due, since its parents are common
   pub spread_paid : (due : List ObjectId) (one : ObjectId) (f g h : GraphData) → Grows f g
-      → (has_mark 8 f.held one ≡ true → HasCommonParents kind g h one) → SpreadsBut kind (one ∷ due) f h → SpreadsBut kind due f h
+      → (has_mark SEEN f.held one ≡ true → HasCommonParents kind g h one) → SpreadsBut kind (one ∷ due) f h → SpreadsBut kind due f h
   spread_paid due one f g h v paid s id seen lacks common = ⊎_elim
       (λ c. ⊎_elim
       (λ first. ⊎_elim (λ none. absurd (none_due id none))
       (λ same. inr (subst (HasCommonParents kind f h) same (common_since f g h one v
-      (paid (subst (λ i. has_mark 8 f.held i ≡ true) (sym same) seen))))) (Contains-push_cases [] one id first))
+      (paid (subst (λ i. has_mark SEEN f.held i ≡ true) (sym same) seen))))) (Contains-push_cases [] one id first))
       inl
       (Contains-append_cases (one ∷ []) due id c))
       inr
       (s id seen lacks common)
 
   -- or since it wasn't seen
-  pub spread_unseen : (due : List ObjectId) (one : ObjectId) (f g h : GraphData) → Grows f g → has_mark 8 g.held one ≡ false
+  pub spread_unseen : (due : List ObjectId) (one : ObjectId) (f g h : GraphData) → Grows f g → has_mark SEEN g.held one ≡ false
       → SpreadsBut kind (one ∷ due) f h → SpreadsBut kind due f h
-  spread_unseen due one f g h v unseen s = spread_paid due one f g h v (λ seen. absurd (true≢false (sym (v.marks 8 one seen) ∙ unseen))) s
+  spread_unseen due one f g h v unseen s = spread_paid due one f g h v (λ seen. absurd (true≢false (sym
+      (v.marks SEEN one seen) ∙ unseen))) s
 
   -- the last that is due comes first
   pub spread_popped : (due rest : List ObjectId) (one : ObjectId) (f g : GraphData) → due ≡ rest ++ one ∷ [] → SpreadsBut kind due f g
@@ -150,7 +151,7 @@ module _ (kind : GraphData → ObjectId → Bool) (stays : (g h : GraphData) →
   unfolding StaysSpread
   stays_grown g h w none f v s = spread_all [] f h refl (spread_grown [] f g h w none (spread_but [] f g s))
 
-  pub stays_pushed : (one : ObjectId) (g h : GraphData) → Grows g h → SettlesOnly one g h → has_mark 8 g.held one ≡ false
+  pub stays_pushed : (one : ObjectId) (g h : GraphData) → Grows g h → SettlesOnly one g h → has_mark SEEN g.held one ≡ false
       → StaysSpread kind g h
   unfolding StaysSpread
   stays_pushed one g h w only unseen f v s = spread_all [] f h refl (spread_pushed [] one f g h v w only unseen (spread_but [] f g s))
@@ -172,26 +173,26 @@ module _ (kind : GraphData → ObjectId → Bool) (stays : (g h : GraphData) →
 
   -- the commit isn't there, or wasn't seen
   pub from_unseen : (one : ObjectId) (due : List ObjectId) (g h : GraphData) → Grows g h → SettlesNone g h
-      → has_mark 8 h.held one ≡ false → SpreadsFrom kind one due g due h
+      → has_mark SEEN h.held one ≡ false → SpreadsFrom kind one due g due h
   unfolding SpreadsFrom
   from_unseen one due g h w none unseen f v s =
       spread_unseen due one f h h (grows_on f g h v w) unseen (spread_grown (one ∷ due) f g h w none s)
 
   -- it comes to wait
   pub from_pushed : (one : ObjectId) (due : List ObjectId) (g h k : GraphData) → Grows g h → SettlesNone g h → Grows h k
-      → SettlesNone h k → has_mark 8 h.held one ≡ false → SpreadsFrom kind one due g due k
+      → SettlesNone h k → has_mark SEEN h.held one ≡ false → SpreadsFrom kind one due g due k
   unfolding SpreadsFrom
   from_pushed one due g h k w none z none' unseen f v s = spread_unseen due one f h k (grows_on f g h v w) unseen
       (spread_grown (one ∷ due) f h k z none' (spread_grown (one ∷ due) f g h w none s))
 
   -- its parents become common
   pub from_parents : (one : ObjectId) (due more : List ObjectId) (g h k : GraphData) → Grows g h → SettlesNone g h
-      → (has_mark 8 h.held one ≡ true → HasCommonParents kind h k one) → KeepsSpread kind due h more k
+      → (has_mark SEEN h.held one ≡ true → HasCommonParents kind h k one) → KeepsSpread kind due h more k
       → SpreadsFrom kind one due g more k
   unfolding SpreadsFrom KeepsSpread
   from_parents one due more g h k w none common keep f v s =
       let z : Grows f h = grows_on f g h v w in
-      spread_paid more one f h k z (λ seen. common (z.marks 8 one seen)) (keep f (one ∷ []) z (spread_grown (one ∷ due) f g h w none s))
+      spread_paid more one f h k z (λ seen. common (z.marks SEEN one seen)) (keep f (one ∷ []) z (spread_grown (one ∷ due) f g h w none s))
 
   -- one step of those that are due
   pub from_next : (first one : ObjectId) (due rest more : List ObjectId) (g h k : GraphData) → Grows g h → due ≡ rest ++ one ∷ []
@@ -229,7 +230,7 @@ stays_there g h w id e = subst (λ (o : Objects). is_some (commit_at o id) ≡ t
 
 -- and one that was seen stays so
 pub stays_seen : (g h : GraphData) → Grows g h → (id : ObjectId) → was_seen g id ≡ true → was_seen h id ≡ true
-stays_seen g h w id e = w.marks 8 id e
+stays_seen g h w id e = w.marks SEEN id e
 
 -- what lacks a mark after lacked it before
 lacked : (a b : Bool) → (a ≡ true → b ≡ true) → b ≡ false → a ≡ false
@@ -239,9 +240,9 @@ lacked false b k e = refl
 -- ---- commits that became common
 
 pub newly_grown : (f g h : GraphData) (due : List ObjectId) → Grows g h → All (IsNewlyCommon f g) due → All (IsNewlyCommon f h) due
-newly_grown f g h due w all = All-weaker (IsNewlyCommon f g) (IsNewlyCommon f h) (λ id n. (n.0, w.marks 2 id n.1)) due all
+newly_grown f g h due w all = All-weaker (IsNewlyCommon f g) (IsNewlyCommon f h) (λ id n. (n.0, w.marks COMMON id n.1)) due all
 
-pub newly_pushed : (f g h : GraphData) (due more : List ObjectId) (one : ObjectId) → Grows f g → Grows g h → has_mark 2 g.held one
-    ≡ false → has_mark 2 h.held one ≡ true → more ≡ due ++ one ∷ [] → All (IsNewlyCommon f g) due → All (IsNewlyCommon f h) more
+pub newly_pushed : (f g h : GraphData) (due more : List ObjectId) (one : ObjectId) → Grows f g → Grows g h → has_mark COMMON g.held one
+    ≡ false → has_mark COMMON h.held one ≡ true → more ≡ due ++ one ∷ [] → All (IsNewlyCommon f g) due → All (IsNewlyCommon f h) more
 newly_pushed f g h due more one v w before after is all = subst (All (IsNewlyCommon f h)) (sym is) (All-push (IsNewlyCommon f h) due one
-    (newly_grown f g h due w all) (lacked (has_mark 2 f.held one) (has_mark 2 g.held one) (v.marks 2 one) before, after))
+    (newly_grown f g h due w all) (lacked (has_mark COMMON f.held one) (has_mark COMMON g.held one) (v.marks COMMON one) before, after))

@@ -8,7 +8,7 @@ use Rattle.gixp_hash.specs.declared.object_id.ObjectId.{ObjectId}
 use Rattle.gixp_graph.specs.declared.flags.Flags.{Flags}
 use Rattle.gixp_graph.specs.Object.{commit_at}
 use Rattle.gixp_graph.specs.GraphData.{GraphData, parents_in}
-use Rattle.gixp_negotiators.specs.Marks.{has_all, has_mark, Grows, SeesNone, IsMarkedIfThere, IsFoundWith, Claims, IsOffered}
+use Rattle.gixp_negotiators.specs.Marks.{COMMON, COMMON_REF, SEEN, POPPED, has_all, has_mark, Grows, AddsNone, SeesNone, SettlesNone, IsMarkedIfThere, IsFoundWith, Claims, IsOffered}
 use Rattle.gixp_negotiators.specs.MarkLaws.{grows_left, claimed_left}
 use Rattle.gixp_negotiators.proofs.GrowLemmas.{grows_on}
 
@@ -19,8 +19,9 @@ lacked false b k e = refl
 
 -- a mark that was lacked is added
 pub claims : (mark : ℕ) (g h k : GraphData) (id : ObjectId) (flags : Flags) → Grows g h → Grows h k → IsFoundWith h id flags
-    → SeesNone g h → has_all mark flags.0 ≡ false → has_mark mark k.held id ≡ true → Claims mark g k id flags
-claims mark g h k id flags v w f sees lacks has =
+    → ((b : ℕ) → has_all b 0 ≡ false → AddsNone b g h) → has_all mark flags.0 ≡ false → has_mark mark k.held id ≡ true
+    → Claims mark g k id flags
+claims mark g h k id flags v w f none lacks has =
     let read : IsSome (commit_at g.objects id) = subst (λ o. IsSome (commit_at o id)) v.objects f.read in
     let before : has_mark mark g.held id ≡ false = lacked (has_mark mark g.held id) (has_mark mark h.held id) (v.marks mark id)
     (f.marks mark ∙ lacks) in
@@ -32,19 +33,23 @@ claims mark g h k id flags v w f sees lacks has =
       less = claimed_left mark g k (grows_on g h k v w) id read before has;
       lacks = λ b e. lacked (has_mark b g.held id) (has_mark b h.held id) (v.marks b id) (f.marks b ∙ e);
       had = λ b e. w.marks b id (f.marks b ∙ e);
-      seen = λ e. sees id (f.marks 8 ∙ e);
+      was = λ b z e. none b z id (f.marks b ∙ e);
     }
 
 -- a commit that was taken is offered, also after further steps
-pub offered : (g h k : GraphData) (id : ObjectId) (flags : Flags) → Claims 16 g h id flags → has_all 2 flags.0 ≡ false → Grows h k
-    → All (IsMarkedIfThere 8 g k) (parents_in k.held id) → IsOffered g k id
-offered g h k id flags c lacks w parents = record {
+pub offered : (g h k : GraphData) (id : ObjectId) (flags : Flags) → Claims POPPED g h id flags → has_all COMMON flags.0 ≡ false → Grows h k
+    → SettlesNone g h → (has_all COMMON_REF flags.0 ≡ false → SettlesNone h k) → All (IsMarkedIfThere SEEN g k) (parents_in k.held id)
+    → IsOffered g k id
+offered g h k id flags c lacks w none lone parents = record {
   read = c.read;
   held = w.held id c.held;
-  uncommon = c.lacks 2 lacks;
+  uncommon = c.lacks COMMON lacks;
   before = c.before;
-  after = w.marks 16 id c.after;
-  less = omega (arith, c.less, grows_left 16 h k w);
+  after = w.marks POPPED id c.after;
+  stays = λ e. lacked (has_mark COMMON k.held id) (has_mark COMMON g.held id) (λ m. none id
+      (lone (lacked (has_all COMMON_REF flags.0) (has_mark COMMON_REF k.held id) (λ t. w.marks COMMON_REF id
+      (c.had COMMON_REF t)) e) id m)) (c.lacks COMMON lacks);
+  less = omega (arith, c.less, grows_left POPPED h k w);
   parents = parents;
 }
 
@@ -53,11 +58,12 @@ pub offered_since : (g h k : GraphData) (id : ObjectId) → Grows g h → IsOffe
 offered_since g h k id v o = record {
   read = subst (λ m. IsSome (commit_at m id)) v.objects o.read;
   held = o.held;
-  uncommon = lacked (has_mark 2 g.held id) (has_mark 2 h.held id) (v.marks 2 id) o.uncommon;
-  before = lacked (has_mark 16 g.held id) (has_mark 16 h.held id) (v.marks 16 id) o.before;
+  uncommon = lacked (has_mark COMMON g.held id) (has_mark COMMON h.held id) (v.marks COMMON id) o.uncommon;
+  before = lacked (has_mark POPPED g.held id) (has_mark POPPED h.held id) (v.marks POPPED id) o.before;
   after = o.after;
-  less = omega (arith, o.less, grows_left 16 g h v);
-  parents = subst (λ m. All (λ q. IsSome (commit_at m q) → has_mark 8 k.held q ≡ true) (parents_in k.held id)) v.objects o.parents;
+  stays = o.stays;
+  less = omega (arith, o.less, grows_left POPPED g h v);
+  parents = subst (λ m. All (λ q. IsSome (commit_at m q) → has_mark SEEN k.held q ≡ true) (parents_in k.held id)) v.objects o.parents;
 }
 
 -- what holds anyway holds where it was refused
@@ -69,22 +75,24 @@ any_err (Err e) p = p
 
 -- one more of some that were seen
 pub marked_more : (g h k : GraphData) (xs : List ObjectId) (i : ℕ) (d : ObjectId) → i < length xs → Grows g h → Grows h k
-    → All (IsMarkedIfThere 8 g h) (take i xs) → IsMarkedIfThere 8 h k (get_or xs i d) → All (IsMarkedIfThere 8 g k) (take (i + 1) xs)
-marked_more g h k xs i d lt v w all one = All-more (IsMarkedIfThere 8 g k) xs i d lt
-    (All-weaker (IsMarkedIfThere 8 g h) (IsMarkedIfThere 8 g k) (λ q m s. w.marks 8 q (m s)) (take i xs) all)
+    → All (IsMarkedIfThere SEEN g h) (take i xs) → IsMarkedIfThere SEEN h k (get_or xs i d) → All (IsMarkedIfThere SEEN g k) (take
+    (i + 1) xs)
+marked_more g h k xs i d lt v w all one = All-more (IsMarkedIfThere SEEN g k) xs i d lt
+    (All-weaker (IsMarkedIfThere SEEN g h) (IsMarkedIfThere SEEN g k) (λ q m s. w.marks SEEN q (m s)) (take i xs) all)
     (λ s. one (subst (λ o. IsSome (commit_at o (get_or xs i d))) (sym v.objects) s))
 
 -- those of a commit
 pub parents_marked : (g h k : GraphData) (id : ObjectId) (xs : List ObjectId) → Grows g h → Grows h k → IsSome (finite.get h.held id)
-    → xs ≡ parents_in h.held id → All (IsMarkedIfThere 8 h k) xs → All (IsMarkedIfThere 8 g k) (parents_in k.held id)
+    → xs ≡ parents_in h.held id → All (IsMarkedIfThere SEEN h k) xs → All (IsMarkedIfThere SEEN g k) (parents_in k.held id)
 parents_marked g h k id xs v w held is all =
-    subst (All (IsMarkedIfThere 8 g k)) (is ∙ sym (w.parents id held))
-    (All-weaker (IsMarkedIfThere 8 h k) (IsMarkedIfThere 8 g k) (λ q m s. m (subst (λ o. IsSome (commit_at o q)) (sym v.objects) s)) xs all)
+    subst (All (IsMarkedIfThere SEEN g k)) (is ∙ sym (w.parents id held))
+    (All-weaker (IsMarkedIfThere SEEN h k) (IsMarkedIfThere SEEN g k) (λ q m s. m (subst (λ o. IsSome (commit_at o q))
+    (sym v.objects) s)) xs all)
 
 -- a commit that is there and is seen now was seen before, where none was seen between
-pub unseen_marked : (g h : GraphData) (id : ObjectId) → SeesNone g h → has_mark 8 h.held id ≡ true → has_mark 8 g.held id ≡ false → ⊥
+pub unseen_marked : (g h : GraphData) (id : ObjectId) → SeesNone g h → has_mark SEEN h.held id ≡ true → has_mark SEEN g.held id ≡ false → ⊥
 unseen_marked g h id sees seen unseen = true≢false (sym (sees id seen) ∙ unseen)
 
 -- a commit that wasn't seen isn't, where none was seen between
-pub none_seen : (g h : GraphData) (id : ObjectId) → SeesNone g h → has_mark 8 g.held id ≡ false → has_mark 8 h.held id ≡ false
-none_seen g h id sees unseen = lacked (has_mark 8 h.held id) (has_mark 8 g.held id) (sees id) unseen
+pub none_seen : (g h : GraphData) (id : ObjectId) → SeesNone g h → has_mark SEEN g.held id ≡ false → has_mark SEEN h.held id ≡ false
+none_seen g h id sees unseen = lacked (has_mark SEEN h.held id) (has_mark SEEN g.held id) (sees id) unseen

@@ -1,15 +1,15 @@
 -- What the calls of git's negotiators do (git-config, `fetch.negotiationAlgorithm`).
-use Rattle.std.specs.Prelude.{◌≡◌, ◌∷◌, Option, true}
+use Rattle.std.specs.Prelude.{◌≡◌, ℕ, ◌∷◌, [], Option, true}
 use Rattle.std.specs.BinaryHeap.{heap_items}
 use Rattle.gixp_hash.specs.declared.object_id.ObjectId.{ObjectId}
 use Rattle.gixp_graph.specs.GraphData.{GraphData}
 use Rattle.gixp_negotiators.specs.declared.consecutive.Consecutive.{Consecutive}
 use Rattle.gixp_negotiators.specs.declared.queue.Waiting.{Waiting}
 use Rattle.gixp_negotiators.specs.declared.skipping.Skipping.{Skipping}
-use Rattle.gixp_negotiators.specs.Marks.{Grows, Offers, SettlesNone, IsMarkedIfThere, IsListedIfNew, has_mark}
-use Rattle.gixp_negotiators.specs.Spread.{is_there, was_seen, WhereNew, HasCommonParents, StaysSpread, Spreads, AllRead, FindsCommon}
+use Rattle.gixp_negotiators.specs.Marks.{COMMON, SEEN, Grows, Offers, SeesNone, SeesOnly, SettlesNone, ListsNone, ListsOnly, PopsNone, StaysIfSeen, IsMarkedIfThere, IsListedIfNew, has_mark}
+use Rattle.gixp_negotiators.specs.Spread.{is_there, was_seen, WhereNew, HasCommonParents, StaysSpread, Spreads, AllRead, AllHeld, MarksThrough, SettlesFrom, SeesCommon, SeesAmong, FindsCommon}
 use Rattle.gixp_negotiators.specs.Passing.{Distances}
-use Rattle.gixp_negotiators.specs.Waiting.{Fits, KeepsTimed, Picks, QueuesNew, PicksDated}
+use Rattle.gixp_negotiators.specs.Waiting.{FitsSeen, KeepsTimed, KeepsCount, Picks, EndsAtOnce, QueuesNew, PicksDated, KeepsUnread, IsUnreadIfNew}
 
 -- ---- `consecutive`
 
@@ -21,83 +21,133 @@ Steps n g m h = KeepsTimed n.uncommon (heap_items n.queue.waiting) g m.uncommon 
 abbrev pub StepsTaking : Waiting → Consecutive → GraphData → Consecutive → GraphData → Type 0
 StepsTaking first n g m h = KeepsTimed n.uncommon (first ∷ heap_items n.queue.waiting) g m.uncommon (heap_items m.queue.waiting) h
 
--- what `known_common` does: the commit waits, and is listed as a ref of the server; its parents are common, unless it is so itself
+-- what `known_common` does: the commit waits, and is listed as a ref of the server, which no other is; its parents are common, unless it
+-- is so itself; what else comes to wait is common, and only it and its ancestors become so
 pub record KnowsInTurn (n : Consecutive) (g : GraphData) (id : ObjectId) (m : Consecutive) (h : GraphData) : Type 0 where
   pub grows : Grows g h
-  pub seen : IsMarkedIfThere 8 g h id
+  pub seen : IsMarkedIfThere SEEN g h id
   pub listed : IsListedIfNew g h id
+  pub lists : ListsOnly id g h
+  pub pops : PopsNone g h
   pub parents : WhereNew g id (HasCommonParents is_there g h id)
+  pub finds : SeesAmong (id ∷ []) g h
+  pub only : SettlesFrom id g h
   pub spreads : StaysSpread is_there g h
+  pub again : StaysIfSeen n g id m h
   pub steps : Steps n g m h
 
--- what `add_tip` does: the commit waits, and none becomes common
+-- what `add_tip` does: the commit waits and no other comes to; none becomes common, and none is listed as a ref of the server
 pub record AddsInTurn (n : Consecutive) (g : GraphData) (id : ObjectId) (m : Consecutive) (h : GraphData) : Type 0 where
   pub grows : Grows g h
-  pub seen : IsMarkedIfThere 8 g h id
+  pub seen : IsMarkedIfThere SEEN g h id
+  pub sees : SeesOnly id g h
   pub settles : SettlesNone g h
+  pub unlisted : ListsNone g h
+  pub pops : PopsNone g h
+  pub again : StaysIfSeen n g id m h
   pub steps : Steps n g m h
 
--- what `in_common_with_remote` does: the commit is common, and of each that was seen and became common the parents are
+-- what `in_common_with_remote` does: the commit is common, and of each that was seen and became common the parents are; only it and its
+-- ancestors become so; what comes to wait is common
 pub record LearnsInTurn (n : Consecutive) (g : GraphData) (id : ObjectId) (m : Consecutive) (h : GraphData) : Type 0 where
   pub grows : Grows g h
-  pub common : IsMarkedIfThere 2 g h id
+  pub common : IsMarkedIfThere COMMON g h id
+  pub finds : SeesCommon g h
+  pub only : SettlesFrom id g h
+  pub unlisted : ListsNone g h
+  pub pops : PopsNone g h
   pub spreads : StaysSpread is_there g h
   pub steps : Steps n g m h
 
--- what `next_have` does: it offers the newest that isn't common
+-- what `next_have` does: it offers the newest that isn't common, and reads nothing where all that waits is
 pub record OffersInTurn (n : Consecutive) (g : GraphData) (have : Option ObjectId) (m : Consecutive) (h : GraphData) : Type 0 where
   pub grows : Grows g h
   pub offers : Offers g have h
   pub picks : Picks n.uncommon (heap_items n.queue.waiting) g have (heap_items m.queue.waiting) h
+  pub ends : EndsAtOnce n.uncommon (heap_items n.queue.waiting) g have h
+  pub unlisted : ListsNone g h
   pub finds : FindsCommon g have h
   pub spreads : StaysSpread is_there g h
   pub steps : Steps n g m h
 
 -- ---- `skipping`
 
--- its queue and its count fit a graph
-abbrev pub FitsSkipping : Skipping → GraphData → Type 0
-FitsSkipping n g = Fits n.uncommon (heap_items n.queue.waiting) g
+-- its queue and its count fit a graph, and as many that are common are counted
+abbrev pub FitsSkipping : ℕ → Skipping → GraphData → Type 0
+FitsSkipping lost n g = FitsSeen lost n.uncommon (heap_items n.queue.waiting) g
 
--- they fit, where one that waited was taken
-abbrev pub FitsTaking : Waiting → Skipping → GraphData → Type 0
-FitsTaking first n g = Fits n.uncommon (first ∷ heap_items n.queue.waiting) g
+-- a step keeps this. Marking ends at a commit that wasn't read, as in git, and then leaves others counted that are common already: so
+-- more may be lost to the count, but not where no such commit became common
+abbrev pub CountsStill : Type 0 → Skipping → GraphData → Skipping → GraphData → Type 0
+CountsStill Read n g m h = KeepsCount Read n.uncommon (heap_items n.queue.waiting) g m.uncommon (heap_items m.queue.waiting) h
+
+-- the same where one that waited was taken
+abbrev pub CountsTaking : Type 0 → Waiting → Skipping → GraphData → Skipping → GraphData → Type 0
+CountsTaking Read first n g m h =
+    KeepsCount Read n.uncommon (first ∷ heap_items n.queue.waiting) g m.uncommon (heap_items m.queue.waiting) h
+
+-- a step that loses nothing to the count
+abbrev pub CountsAll : Skipping → GraphData → Skipping → GraphData → Type 0
+CountsAll n g m h = (lost : ℕ) → FitsSkipping lost n g → FitsSkipping lost m h
 
 -- what comes to wait wasn't seen before, and is dated
 abbrev pub QueuesDated : Skipping → GraphData → Skipping → Type 0
 QueuesDated n g m = QueuesNew (heap_items n.queue.waiting) g (heap_items m.queue.waiting)
 
--- what `known_common` does: the commit waits, and is listed as a ref of the server
+-- what `known_common` does: the commit waits, and is listed as a ref of the server; no other is
 pub record KnowsSkipping (n : Skipping) (g : GraphData) (id : ObjectId) (m : Skipping) (h : GraphData) : Type 0 where
   pub grows : Grows g h
-  pub seen : IsMarkedIfThere 8 g h id
+  pub seen : IsMarkedIfThere SEEN g h id
+  pub sees : SeesOnly id g h
   pub listed : IsListedIfNew g h id
+  pub lists : ListsOnly id g h
   pub settles : SettlesNone g h
+  pub pops : PopsNone g h
   pub queues : QueuesDated n g m
-  pub fits : FitsSkipping n g → FitsSkipping m h
+  pub skips : m.skips ≡ n.skips
+  pub unread : KeepsUnread n.unread g m.unread h
+  pub unread_if_new : IsUnreadIfNew g id m.unread
+  pub again : StaysIfSeen n g id m h
+  pub fits : CountsAll n g m h
 
--- what `add_tip` does: the commit waits
+-- what `add_tip` does: the commit waits and no other comes to; none becomes common, and none is listed as a ref of the server
 pub record AddsSkipping (n : Skipping) (g : GraphData) (id : ObjectId) (m : Skipping) (h : GraphData) : Type 0 where
   pub grows : Grows g h
-  pub seen : IsMarkedIfThere 8 g h id
+  pub seen : IsMarkedIfThere SEEN g h id
+  pub sees : SeesOnly id g h
   pub settles : SettlesNone g h
+  pub unlisted : ListsNone g h
+  pub pops : PopsNone g h
   pub queues : QueuesDated n g m
-  pub fits : FitsSkipping n g → FitsSkipping m h
+  pub skips : m.skips ≡ n.skips
+  pub unread : KeepsUnread n.unread g m.unread h
+  pub unread_if_new : IsUnreadIfNew g id m.unread
+  pub again : StaysIfSeen n g id m h
+  pub fits : CountsAll n g m h
 
 -- what `in_common_with_remote` does: a commit that was seen is common, and of each that was seen and became common the parents that
--- were seen are, unless one of these commits wasn't read yet
+-- were seen are, unless one of these commits wasn't read yet. No other becomes common: marking doesn't go through what wasn't read
 pub record LearnsSkipping (n : Skipping) (g : GraphData) (id : ObjectId) (m : Skipping) (h : GraphData) : Type 0 where
   pub grows : Grows g h
-  pub common : has_mark 8 g.held id ≡ true → has_mark 2 h.held id ≡ true
+  pub common : has_mark SEEN g.held id ≡ true → has_mark COMMON h.held id ≡ true
   pub spreads : AllRead n.unread g h → Spreads was_seen g h
-  pub fits : FitsSkipping n g → FitsSkipping m h
+  pub through : MarksThrough n.unread g id h
+  pub sees : SeesNone g h
+  pub unlisted : ListsNone g h
+  pub pops : PopsNone g h
+  pub queue : m.queue ≡ n.queue
+  pub skips : m.skips ≡ n.skips
+  pub unread : m.unread ≡ n.unread
+  pub fits : CountsStill (AllRead n.unread g h) n g m h
 
 -- what `next_have` does: it offers the newest of those that waited, at the distances that are handed on, and what comes to wait wasn't
 -- seen before
 pub record OffersSkipping (n : Skipping) (g : GraphData) (have : Option ObjectId) (m : Skipping) (h : GraphData) : Type 0 where
   pub grows : Grows g h
   pub offers : Offers g have h
+  pub unlisted : ListsNone g h
   pub distances : Distances n.skips.entries g have m.skips.entries h
   pub picks : PicksDated n.uncommon (heap_items n.queue.waiting) g have (heap_items m.queue.waiting) h
   pub queues : QueuesDated n g m
-  pub fits : FitsSkipping n g → FitsSkipping m h
+  pub unread : KeepsUnread n.unread g m.unread h
+  pub fits : CountsStill (AllHeld n.unread g h) n g m h

@@ -5,9 +5,11 @@ pub mod Algorithm
 pub mod AlgorithmLaws
 pub mod Calls
 pub mod Distance
+pub mod Errors
 pub mod MarkLaws
 pub mod Marks
 pub mod Passing
 pub mod Spread
 pub mod SpreadLaws
 pub mod Waiting
+pub mod WaitingLaws

@@ -10,6 +10,19 @@ use Rattle.gixp_graph.specs.Object.{commit_at}
 use Rattle.gixp_graph.specs.GraphData.{HeldCommit, Commits, GraphData, is_marked, parents_in}
 use Rattle.gixp_graph.specs.Walk.{count}
 
+-- the marks of a commit (`Flags`): the server has it; it has it as a ref; a negotiator came across it; and took it from its queue
+abbrev pub COMMON : ℕ
+COMMON = 2
+
+abbrev pub COMMON_REF : ℕ
+COMMON_REF = 4
+
+abbrev pub SEEN : ℕ
+SEEN = 8
+
+abbrev pub POPPED : ℕ
+POPPED = 16
+
 -- whether some marks have all of others
 abbrev pub has_all : ℕ → ℕ → Bool
 has_all marks flags = bit_and flags marks == marks
@@ -40,19 +53,35 @@ AddsOnly mark one g h = (id : ObjectId) → has_mark mark h.held id ≡ true →
 
 -- no commit is seen that wasn't
 abbrev pub SeesNone : GraphData → GraphData → Type 0
-SeesNone g h = AddsNone 8 g h
+SeesNone g h = AddsNone SEEN g h
 
 -- but for this one
 abbrev pub SeesOnly : ObjectId → GraphData → GraphData → Type 0
-SeesOnly one g h = AddsOnly 8 one g h
+SeesOnly one g h = AddsOnly SEEN one g h
 
 -- no commit becomes common
 abbrev pub SettlesNone : GraphData → GraphData → Type 0
-SettlesNone g h = AddsNone 2 g h
+SettlesNone g h = AddsNone COMMON g h
 
 -- but for this one
 abbrev pub SettlesOnly : ObjectId → GraphData → GraphData → Type 0
-SettlesOnly one g h = AddsOnly 2 one g h
+SettlesOnly one g h = AddsOnly COMMON one g h
+
+-- no commit is listed as a ref of the server that wasn't
+abbrev pub ListsNone : GraphData → GraphData → Type 0
+ListsNone g h = AddsNone COMMON_REF g h
+
+-- but for this one
+abbrev pub ListsOnly : ObjectId → GraphData → GraphData → Type 0
+ListsOnly one g h = AddsOnly COMMON_REF one g h
+
+-- no commit is taken from the queue
+abbrev pub PopsNone : GraphData → GraphData → Type 0
+PopsNone g h = AddsNone POPPED g h
+
+-- but for this one
+abbrev pub PopsOnly : ObjectId → GraphData → GraphData → Type 0
+PopsOnly one g h = AddsOnly POPPED one g h
 
 -- a commit is there and held, and has these marks
 pub record IsFoundWith (g : GraphData) (id : ObjectId) (flags : Flags) : Type 0 where
@@ -60,7 +89,7 @@ pub record IsFoundWith (g : GraphData) (id : ObjectId) (flags : Flags) : Type 0 
   pub held : IsSome (finite.get g.held id)
   pub marks : (marks : ℕ) → has_mark marks g.held id ≡ has_all marks flags.0
 
--- a commit that is there was without a mark, and now has it. Of its marks before, those that are listed
+-- a commit that is there was without a mark, and now has it. Its marks before are these
 pub record Claims (mark : ℕ) (g h : GraphData) (id : ObjectId) (flags : Flags) : Type 0 where
   pub read : IsSome (commit_at g.objects id)
   pub held : IsSome (finite.get h.held id)
@@ -69,15 +98,15 @@ pub record Claims (mark : ℕ) (g h : GraphData) (id : ObjectId) (flags : Flags)
   pub less : left mark h + 1 ≤ left mark g
   pub lacks : (marks : ℕ) → has_all marks flags.0 ≡ false → has_mark marks g.held id ≡ false
   pub had : (marks : ℕ) → has_all marks flags.0 ≡ true → has_mark marks h.held id ≡ true
-  pub seen : has_all 8 flags.0 ≡ true → has_mark 8 g.held id ≡ true
+  pub was : (marks : ℕ) → has_all marks 0 ≡ false → has_all marks flags.0 ≡ true → has_mark marks g.held id ≡ true
 
 -- a commit that was seen has a mark
 abbrev pub IsMarkedIfSeen : ℕ → GraphData → ObjectId → Type 0
-IsMarkedIfSeen mark g id = has_mark 8 g.held id ≡ true → has_mark mark g.held id ≡ true
+IsMarkedIfSeen mark g id = has_mark SEEN g.held id ≡ true → has_mark mark g.held id ≡ true
 
 -- a commit that is there and wasn't seen has these marks now
 abbrev pub IsMarkedIfNew : ℕ → GraphData → GraphData → ObjectId → Type 0
-IsMarkedIfNew marks g h id = IsSome (commit_at g.objects id) → has_mark 8 g.held id ≡ false → has_mark marks h.held id ≡ true
+IsMarkedIfNew marks g h id = IsSome (commit_at g.objects id) → has_mark SEEN g.held id ≡ false → has_mark marks h.held id ≡ true
 
 -- a commit that is there has a mark
 abbrev pub IsMarkedIfThere : ℕ → GraphData → GraphData → ObjectId → Type 0
@@ -85,18 +114,23 @@ IsMarkedIfThere marks g h id = IsSome (commit_at g.objects id) → has_mark mark
 
 -- a commit that wasn't seen is listed as a ref of the server
 abbrev pub IsListedIfNew : GraphData → GraphData → ObjectId → Type 0
-IsListedIfNew g h id = IsMarkedIfNew 4 g h id
+IsListedIfNew g h id = IsMarkedIfNew COMMON_REF g h id
 
--- a commit is offered: it is there, wasn't common, and was never offered before; it is held, and won't be offered again; its parents
--- that are there were seen
+-- a commit that was seen before comes again: nothing changes
+abbrev pub StaysIfSeen : {N : Type 0} → N → GraphData → ObjectId → N → GraphData → Type 0
+StaysIfSeen n g id m h = has_mark SEEN g.held id ≡ true → (m ≡ n) × (h ≡ g)
+
+-- a commit is offered: it is there, wasn't common, and was never offered before; it is held, and won't be offered again; it isn't common
+-- then either, unless a ref of the server is it, from whose parents marking may lead back to it; its parents that are there were seen
 pub record IsOffered (g h : GraphData) (id : ObjectId) : Type 0 where
   pub read : IsSome (commit_at g.objects id)
   pub held : IsSome (finite.get h.held id)
-  pub uncommon : has_mark 2 g.held id ≡ false
-  pub before : has_mark 16 g.held id ≡ false
-  pub after : has_mark 16 h.held id ≡ true
-  pub less : left 16 h + 1 ≤ left 16 g
-  pub parents : All (IsMarkedIfThere 8 g h) (parents_in h.held id)
+  pub uncommon : has_mark COMMON g.held id ≡ false
+  pub before : has_mark POPPED g.held id ≡ false
+  pub after : has_mark POPPED h.held id ≡ true
+  pub stays : has_mark COMMON_REF h.held id ≡ false → has_mark COMMON h.held id ≡ false
+  pub less : left POPPED h + 1 ≤ left POPPED g
+  pub parents : All (IsMarkedIfThere SEEN g h) (parents_in h.held id)
 
 -- an offer, or none
 abbrev pub Offers : GraphData → Option ObjectId → GraphData → Type 0

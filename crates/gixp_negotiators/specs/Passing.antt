@@ -12,7 +12,7 @@ use Rattle.gixp_negotiators.specs.declared.skipping.Skip.{Skip}
 use Rattle.gixp_negotiators.specs.declared.skipping.Legacy.{Legacy}
 use Rattle.gixp_negotiators.specs.declared.skipping.Legacy.TheVariants.{Common, Skips}
 use Rattle.gixp_negotiators.specs.Distance.{distance_after, skip_of}
-use Rattle.gixp_negotiators.specs.Marks.{has_mark}
+use Rattle.gixp_negotiators.specs.Marks.{COMMON, COMMON_REF, POPPED, has_mark, SettlesNone}
 
 -- distances of commits
 abbrev pub Skipped : Type 0
@@ -42,25 +42,27 @@ HandsOne (Skips s) id old new = (skip_in new id ≡ longer (skip_in old id) s)
 
 -- so are those of some commits that weren't taken
 pub record Hands (legacy : Legacy) (ids : List ObjectId) (h : GraphData) (old new : Skipped) : Type 0 where
-  pub handed : (s : Skip) (q : ObjectId) → legacy ≡ Skips s → is_among ids q ≡ true → has_mark 16 h.held q ≡ false
+  pub handed : (s : Skip) (q : ObjectId) → legacy ≡ Skips s → is_among ids q ≡ true → has_mark POPPED h.held q ≡ false
       → skip_in new q ≡ longer (skip_in old q) s
   pub others : (q : ObjectId) → is_among ids q ≡ false → skip_in new q ≡ skip_in old q
 
 -- all of some commits were taken
 abbrev pub AllTaken : GraphData → List ObjectId → Type 0
-AllTaken h ids = All (λ p. has_mark 16 h.held p ≡ true) ids
+AllTaken h ids = All (λ p. has_mark POPPED h.held p ≡ true) ids
 
 -- a commit is taken from those that wait: where it is neither common nor a ref of the server, its parents that weren't taken are handed
--- what it hands on; no other commit's distance is changed; it is offered only where none is left to pass over, or as the last of a line,
--- whose parents were all taken; and it isn't only where some are left, or it is common
+-- what it hands on, and no commit becomes common; no other commit's distance is changed; it is offered only where none is left to pass
+-- over, or as the last of a line, whose parents were all taken; and it isn't only where some are left and a parent waits, or it is common
 pub record Takes (old : Skipped) (g : GraphData) (id : ObjectId) (is_offered : Bool) (new : Skipped) (h : GraphData) : Type 0 where
-  pub hands : IsSome (commit_at g.objects id) → has_mark 16 g.held id ≡ false → has_mark 2 h.held id ≡ false → has_mark 4 h.held id ≡ false
-      → (p : ObjectId) → is_among (parents_in h.held id) p ≡ true → has_mark 16 h.held p ≡ false
+  pub hands : IsSome (commit_at g.objects id) → has_mark POPPED g.held id ≡ false → has_mark COMMON h.held id ≡ false
+      → has_mark COMMON_REF h.held id ≡ false
+      → (p : ObjectId) → is_among (parents_in h.held id) p ≡ true → has_mark POPPED h.held p ≡ false
       → skip_in new p ≡ longer (skip_in old p) (handed_on (skip_in old id))
   pub others : (q : ObjectId) → is_among (parents_in h.held id) q ≡ false → skip_in new q ≡ skip_in old q
   pub reached : is_offered ≡ true → ((skip_in old id).left ≡ 0) ⊎ AllTaken h (parents_in h.held id)
-  pub passed : IsSome (commit_at g.objects id) → has_mark 16 g.held id ≡ false → is_offered ≡ false → has_mark 2 h.held id ≡ false
-      → 0 < (skip_in old id).left
+  pub passed : IsSome (commit_at g.objects id) → has_mark POPPED g.held id ≡ false → is_offered ≡ false → has_mark COMMON h.held id ≡ false
+      → (0 < (skip_in old id).left) × (AllTaken h (parents_in h.held id) → ⊥)
+  pub settles : has_mark COMMON g.held id ≡ false → has_mark COMMON_REF g.held id ≡ false → SettlesNone g h
 
 -- some commits are taken one after another, and none of them is offered
 pub data TakesUnoffered (old : Skipped) (g : GraphData) : Skipped → GraphData → Type 0 where

@@ -4,17 +4,17 @@ use Rattle.std.specs.Prelude.{Contains}
 use Rattle.std.proofs.lemmas.List.Elements.{All-contains}
 use Rattle.gixp_hash.specs.declared.object_id.ObjectId.{ObjectId}
 use Rattle.gixp_graph.specs.GraphData.{GraphData, parents_in}
-use Rattle.gixp_negotiators.specs.Marks.{has_mark, Grows}
+use Rattle.gixp_negotiators.specs.Marks.{COMMON, SEEN, has_mark, Grows}
 use Rattle.gixp_negotiators.specs.MarkLaws.{held_marked}
 use Rattle.gixp_negotiators.specs.Spread.{BecomesCommon, Spreads, StaysSpread, LeadsTo}
 
 -- where what is common spreads, all that a common commit leads on to are common
 pub ancestors_common : (kind : GraphData → ObjectId → Bool) (g h : GraphData) (id q : ObjectId) → Grows g h → Spreads kind g h
-    → has_mark 2 h.held id ≡ true → LeadsTo kind g id q → has_mark 2 h.held q ≡ true
+    → has_mark COMMON h.held id ≡ true → LeadsTo kind g id q → has_mark COMMON h.held q ≡ true
 ancestors_common kind g h id q w s c LeadsTo.itself = c
 ancestors_common kind g h id q w s c (LeadsTo.parent {child = child} leads seen lacks is k) =
     All-contains (BecomesCommon kind g h) (parents_in h.held child) q (s child seen lacks (ancestors_common kind g h id child w s c leads))
-    (subst (λ xs. Contains xs q) (sym (w.parents child (held_marked g child 8 seen))) is) k
+    (subst (λ xs. Contains xs q) (sym (w.parents child (held_marked g child SEEN seen))) is) k
 
 -- no change
 same_grows : (g : GraphData) → Grows g g

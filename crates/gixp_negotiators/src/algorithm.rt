@@ -67,13 +67,13 @@ pub enum AnyNegotiator {
 }
 
 impl Negotiator for AnyNegotiator {
-    ghost use Rattle.gixp_negotiators.specs.Marks.{left};
+    ghost use Rattle.gixp_negotiators.specs.Marks.{POPPED, left};
     ghost use Rattle.gixp_negotiators.specs.Algorithm.{KnowsByKind, AddsByKind, LearnsByKind, OffersByKind};
     ghost use Rattle.gixp_negotiators.specs.AlgorithmLaws.{any_lowers, any_keeps, any_learns};
     ghost use Rattle.gixp_graph.specs.Run.{AnyCallLeft, AnyOfferLeft};
 
     ghost calls = { record {
-      count = λ n g. left 16 g;
+      count = λ n g. left POPPED g;
       failures = λ n. 0;
       knows = KnowsByKind;
       adds = AddsByKind;

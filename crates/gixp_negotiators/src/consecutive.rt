@@ -1,18 +1,17 @@
 //! Offers each commit that isn't known to be common, the newest first.
-ghost use Rattle.std.specs.Prelude.{◌≡◌, ◌≤◌, ◌+◌, ◌⊎◌, ◌∷◌, [], ◌||◌, length, bit_and, true, false};
-ghost use Rattle.std.specs.Prelude.{IfOk, IfErr, IfSome, IfNone, IsSome, OnOk, OnSome, IsTrue, All, Some};
+ghost use Rattle.std.specs.Prelude.{◌≡◌, ◌≤◌, ◌<◌, ◌+◌, ◌-◌, ◌⊎◌, ◌∷◌, [], ◌||◌, length, bit_and, true, false};
+ghost use Rattle.std.specs.Prelude.{IfOk, IfErr, IfSome, IfNone, OnOk, OnSome, IsTrue, All};
 ghost use Rattle.std.specs.BinaryHeap.{heap_len, heap_items};
 ghost use Rattle.std.specs.List.Sorted.{IsPermutation};
-ghost use Rattle.gixp_graph.specs.Object.{commit_at};
 ghost use Rattle.gixp_graph.specs.GraphData.{parents_in};
-ghost use Rattle.gixp_graph.specs.Negotiation.{IsRefusal};
-ghost use Rattle.gixp_negotiators.specs.Marks.{Grows, SeesNone, SeesOnly, SettlesNone, SettlesOnly, IsOffered, IsMarkedIfThere, IsMarkedIfNew, IsListedIfNew, has_mark, has_all, left};
-ghost use Rattle.gixp_negotiators.specs.Spread.{is_there, IsKnown, WhereOpen, WhereNew, AllCommonAmong, SeesCommon, SeesAmong, FindsCommon, HasCommonParents};
+ghost use Rattle.gixp_graph.specs.Negotiation.{IsMemory, IsRefusal};
+ghost use Rattle.gixp_negotiators.specs.Marks.{COMMON, COMMON_REF, SEEN, POPPED, Grows, SeesNone, SeesOnly, SettlesNone, SettlesOnly, ListsNone, ListsOnly, PopsNone, StaysIfSeen, IsOffered, IsMarkedIfThere, IsMarkedIfNew, IsListedIfNew, has_mark, has_all, left};
+ghost use Rattle.gixp_negotiators.specs.Spread.{is_there, IsKnown, WhereOpen, WhereNew, AllCommonAmong, SeesCommon, SeesAmong, OpensParents, FindsCommon, HasCommonParents, SettlesFrom, SettlesWithin, OwesAmong};
 ghost use Rattle.gixp_negotiators.specs.Spread.{KeepsSpread, SpreadsFrom, SpreadsAllFrom, StaysSpread};
-ghost use Rattle.gixp_negotiators.specs.Waiting.{Fits, AllCommon, IsNewest, IsNewestTimed};
+ghost use Rattle.gixp_negotiators.specs.Waiting.{Fits, AllCommon, EndsAtOnce, IsNewest, IsNewestTimed};
 ghost use Rattle.gixp_negotiators.specs.Calls.{Steps, StepsTaking};
 
-use crate::marks::{claim, either_has, has, look};
+use crate::marks::{SEEN_COMMON, SEEN_REF, claim, either_has, has, look};
 use crate::queue::{Queue, Waiting};
 use gixp_graph::{Flags, Graph, Negotiator, NegotiatorError, Objects};
 use gixp_hash::ObjectId;
@@ -54,40 +53,40 @@ impl Consecutive {
         id: &ObjectId,
         marks: Flags,
     ) -> Result<(), NegotiatorError>
-        requires { (marks.0 ≡ 8) ⊎ ((marks.0 ≡ 10) ⊎ (marks.0 ≡ 12)) }
+        requires { (marks.0 ≡ SEEN) ⊎ ((marks.0 ≡ SEEN + COMMON) ⊎ (marks.0 ≡ SEEN + COMMON_REF)) }
         ensures keeps { OnOk result (Steps self.old graph.old.graph self.new graph.new.graph) }
-        ensures room { OnOk result (left 8 graph.new.graph + heap_len self.new.queue.waiting
-            ≤ left 8 graph.old.graph + heap_len self.old.queue.waiting) }
-        ensures common { left 2 graph.new.graph ≤ left 2 graph.old.graph }
-        ensures waits { OnOk result (IsMarkedIfThere 8 graph.old.graph graph.new.graph id.now) }
+        ensures room { OnOk result (left SEEN graph.new.graph + heap_len self.new.queue.waiting
+            ≤ left SEEN graph.old.graph + heap_len self.old.queue.waiting) }
+        ensures common { left COMMON graph.new.graph ≤ left COMMON graph.old.graph }
+        ensures waits { OnOk result (IsMarkedIfThere SEEN graph.old.graph graph.new.graph id.now) }
         ensures spreads { OnOk result (StaysSpread is_there graph.old.graph graph.new.graph) }
-        ensures settles { bit_and marks.0 2 ≡ 0 → SettlesNone graph.old.graph graph.new.graph }
+        ensures settles { bit_and marks.0 COMMON ≡ 0 → SettlesNone graph.old.graph graph.new.graph }
         ensures settles_only { SettlesOnly id.now graph.old.graph graph.new.graph }
         ensures marked { OnOk result (IsMarkedIfNew marks.0 graph.old.graph graph.new.graph id.now) }
         ensures sees_only { SeesOnly id.now graph.old.graph graph.new.graph }
-        ensures finds { OnOk result (bit_and marks.0 2 ≡ 2 → SeesCommon graph.old.graph graph.new.graph) }
+        ensures finds { OnOk result (bit_and marks.0 COMMON ≡ COMMON → SeesCommon graph.old.graph graph.new.graph) }
+        ensures lists { OnOk result (bit_and marks.0 COMMON_REF ≡ 0 → ListsNone graph.old.graph graph.new.graph) }
+        ensures lists_only { OnOk result (ListsOnly id.now graph.old.graph graph.new.graph) }
+        ensures pops { OnOk result (PopsNone graph.old.graph graph.new.graph) }
+        ensures again { OnOk result (StaysIfSeen self.old graph.old.graph id.now self.new graph.new.graph) }
         ensures grows { Grows graph.old.graph graph.new.graph }
         ensures failures { graph.old.failures ≤ graph.new.failures }
         ensures failed { IfErr result (IsRefusal 0 0 graph.old.failures graph.new.failures) }
     {
-        let Some((time, flags)) = claim(graph, id, Flags(8), marks)? else {
+        let Some((time, flags)) = claim(graph, id, Flags::SEEN, marks)? else {
             return Ok(());
         };
-        let is_common = either_has(flags, marks, Flags(2));
+        let is_common = either_has(flags, marks, Flags::COMMON);
         self.admit(is_common)?;
-        match self.queue.push(time, *id) {
-            Ok(()) => Ok(()),
-            Err(_) => Err(NegotiatorError::Memory),
-        }
+        Ok(self.queue.push(time, *id)?)
     }
 
     // One waits: it is counted, unless it is common.
     fn admit(&mut self, is_common: bool) -> Result<(), NegotiatorError>
         ensures queue { self.new.queue ≡ self.old.queue }
         ensures common { IsTrue is_common → OnOk result (self.new.uncommon ≡ self.old.uncommon) }
-        ensures counted { OnOk result (self.new.uncommon ≤ self.old.uncommon + 1) }
         ensures open { is_common ≡ false → OnOk result (self.new.uncommon ≡ self.old.uncommon + 1) }
-        ensures failed { IfErr result (IsRefusal 0 0 0 0) }
+        ensures failed { IfErr result IsMemory }
     {
         if is_common {
             return Ok(());
@@ -102,11 +101,11 @@ impl Consecutive {
     // One that has these marks and is now common: it isn't counted, where it waits.
     fn discount(&mut self, flags: Flags)
         ensures queue { self.new.queue ≡ self.old.queue }
-        ensures waits { has_all 8 flags.0 ≡ true → has_all 16 flags.0 ≡ false → self.old.uncommon ≤ self.new.uncommon + 1 }
-        ensures unseen { has_all 8 flags.0 ≡ false → self.new.uncommon ≡ self.old.uncommon }
-        ensures taken { has_all 16 flags.0 ≡ true → self.new.uncommon ≡ self.old.uncommon }
+        ensures waits { has_all SEEN flags.0 ≡ true → has_all POPPED flags.0 ≡ false → self.new.uncommon ≡ self.old.uncommon - 1 }
+        ensures unseen { has_all SEEN flags.0 ≡ false → self.new.uncommon ≡ self.old.uncommon }
+        ensures taken { has_all POPPED flags.0 ≡ true → self.new.uncommon ≡ self.old.uncommon }
     {
-        if has(flags, Flags(8)) && !has(flags, Flags(16)) {
+        if has(flags, Flags::SEEN) && !has(flags, Flags::POPPED) {
             self.uncommon = self.uncommon.saturating_sub(1);
         }
     }
@@ -118,20 +117,22 @@ impl Consecutive {
         id: &ObjectId,
     ) -> Result<bool, NegotiatorError>
         ensures keeps { OnOk result (Steps self.old graph.old.graph self.new graph.new.graph) }
-        ensures less { IfOk result (λ done. IsTrue done → left 2 graph.new.graph + 1 ≤ left 2 graph.old.graph) }
-        ensures common { left 2 graph.new.graph ≤ left 2 graph.old.graph }
-        ensures marked { OnOk result (IsMarkedIfThere 2 graph.old.graph graph.new.graph id.now) }
-        ensures seen { left 8 graph.new.graph ≤ left 8 graph.old.graph }
+        ensures less { IfOk result (λ done. IsTrue done → left COMMON graph.new.graph + 1 ≤ left COMMON graph.old.graph) }
+        ensures common { left COMMON graph.new.graph ≤ left COMMON graph.old.graph }
+        ensures marked { OnOk result (IsMarkedIfThere COMMON graph.old.graph graph.new.graph id.now) }
+        ensures seen { left SEEN graph.new.graph ≤ left SEEN graph.old.graph }
         ensures queue { self.new.queue ≡ self.old.queue }
         ensures kept { IfOk result (λ done. done ≡ false → SettlesNone graph.old.graph graph.new.graph) }
         ensures settles_only { SettlesOnly id.now graph.old.graph graph.new.graph }
         ensures sees { SeesNone graph.old.graph graph.new.graph }
-        ensures settled { IfOk result (λ done. IsTrue done → has_mark 2 graph.new.graph.held id.now ≡ true) }
+        ensures settled { IfOk result (λ done. IsTrue done → has_mark COMMON graph.new.graph.held id.now ≡ true) }
+        ensures lists { OnOk result (ListsNone graph.old.graph graph.new.graph) }
+        ensures pops { OnOk result (PopsNone graph.old.graph graph.new.graph) }
         ensures grows { Grows graph.old.graph graph.new.graph }
         ensures failures { graph.old.failures ≤ graph.new.failures }
         ensures failed { IfErr result (IsRefusal 0 0 graph.old.failures graph.new.failures) }
     {
-        let Some((_, flags)) = claim(graph, id, Flags(2), Flags(2))? else {
+        let Some((_, flags)) = claim(graph, id, Flags::COMMON, Flags::COMMON)? else {
             return Ok(false);
         };
         self.discount(flags);
@@ -146,13 +147,18 @@ impl Consecutive {
         due: &mut Vec<ObjectId>,
     ) -> Result<(), NegotiatorError>
         ensures keeps { OnOk result (Steps self.old graph.old.graph self.new graph.new.graph) }
-        ensures less { OnOk result (left 2 graph.new.graph + length due.new.items ≤ left 2 graph.old.graph + length due.old.items) }
-        ensures seen { left 8 graph.new.graph ≤ left 8 graph.old.graph }
+        ensures less { OnOk result (left COMMON graph.new.graph + length due.new.items
+            ≤ left COMMON graph.old.graph + length due.old.items) }
+        ensures seen { left SEEN graph.new.graph ≤ left SEEN graph.old.graph }
         ensures queue { self.new.queue ≡ self.old.queue }
         ensures spreads { OnOk result (KeepsSpread is_there due.old.items graph.old.graph due.new.items graph.new.graph) }
-        ensures marked { OnOk result (IsMarkedIfThere 2 graph.old.graph graph.new.graph id.now) }
+        ensures marked { OnOk result (IsMarkedIfThere COMMON graph.old.graph graph.new.graph id.now) }
         ensures sees { SeesNone graph.old.graph graph.new.graph }
         ensures common { OnOk result (AllCommonAmong graph.old.graph due.old.items → AllCommonAmong graph.new.graph due.new.items) }
+        ensures lists { OnOk result (ListsNone graph.old.graph graph.new.graph) }
+        ensures pops { OnOk result (PopsNone graph.old.graph graph.new.graph) }
+        ensures settles_only { SettlesOnly id.now graph.old.graph graph.new.graph }
+        ensures owes { OnOk result (OwesAmong (id.now ∷ []) due.old.items due.new.items) }
         ensures grows { Grows graph.old.graph graph.new.graph }
         ensures failures { graph.old.failures ≤ graph.new.failures }
         ensures failed { IfErr result (IsRefusal 0 0 graph.old.failures graph.new.failures) }
@@ -160,10 +166,7 @@ impl Consecutive {
         if !self.settle(graph, id)? {
             return Ok(());
         }
-        match due.push(*id) {
-            Ok(()) => Ok(()),
-            Err(_) => Err(NegotiatorError::Memory),
-        }
+        Ok(due.push(*id)?)
     }
 
     // The parents of a commit that is held.
@@ -173,7 +176,7 @@ impl Consecutive {
         id: &ObjectId,
     ) -> Result<Vec<ObjectId>, NegotiatorError>
         ensures parents { IfOk result (λ parents. parents.items ≡ parents_in graph.now.graph.held id.now) }
-        ensures failed { IfErr result (IsRefusal 0 0 graph.now.failures graph.now.failures) }
+        ensures failed { IfErr result IsMemory }
     {
         Ok(graph.parents(self.alloc, id)?)
     }
@@ -186,13 +189,18 @@ impl Consecutive {
         due: &mut Vec<ObjectId>,
     ) -> Result<(), NegotiatorError>
         ensures keeps { OnOk result (Steps self.old graph.old.graph self.new graph.new.graph) }
-        ensures less { OnOk result (left 2 graph.new.graph + length due.new.items ≤ left 2 graph.old.graph + length due.old.items) }
-        ensures seen { left 8 graph.new.graph ≤ left 8 graph.old.graph }
+        ensures less { OnOk result (left COMMON graph.new.graph + length due.new.items
+            ≤ left COMMON graph.old.graph + length due.old.items) }
+        ensures seen { left SEEN graph.new.graph ≤ left SEEN graph.old.graph }
         ensures queue { self.new.queue ≡ self.old.queue }
         ensures spreads { OnOk result (KeepsSpread is_there due.old.items graph.old.graph due.new.items graph.new.graph) }
-        ensures marked { OnOk result (All (IsMarkedIfThere 2 graph.old.graph graph.new.graph) ids.now) }
+        ensures marked { OnOk result (All (IsMarkedIfThere COMMON graph.old.graph graph.new.graph) ids.now) }
         ensures sees { SeesNone graph.old.graph graph.new.graph }
         ensures common { OnOk result (AllCommonAmong graph.old.graph due.old.items → AllCommonAmong graph.new.graph due.new.items) }
+        ensures lists { OnOk result (ListsNone graph.old.graph graph.new.graph) }
+        ensures pops { OnOk result (PopsNone graph.old.graph graph.new.graph) }
+        ensures among { OnOk result (SettlesWithin ids.now graph.old.graph graph.new.graph) }
+        ensures owes { OnOk result (OwesAmong ids.now due.old.items due.new.items) }
         ensures grows { Grows graph.old.graph graph.new.graph }
         ensures failures { graph.old.failures ≤ graph.new.failures }
         ensures failed { IfErr result (IsRefusal 0 0 graph.old.failures graph.new.failures) }
@@ -211,14 +219,19 @@ impl Consecutive {
         due: &mut Vec<ObjectId>,
     ) -> Result<(), NegotiatorError>
         ensures keeps { OnOk result (Steps self.old graph.old.graph self.new graph.new.graph) }
-        ensures less { OnOk result (left 2 graph.new.graph + length due.new.items ≤ left 2 graph.old.graph + length due.old.items) }
-        ensures room { OnOk result (left 8 graph.new.graph + heap_len self.new.queue.waiting
-            ≤ left 8 graph.old.graph + heap_len self.old.queue.waiting) }
+        ensures less { OnOk result (left COMMON graph.new.graph + length due.new.items
+            ≤ left COMMON graph.old.graph + length due.old.items) }
+        ensures room { OnOk result (left SEEN graph.new.graph + heap_len self.new.queue.waiting
+            ≤ left SEEN graph.old.graph + heap_len self.old.queue.waiting) }
         ensures spreads { OnOk result (SpreadsFrom is_there id.now due.old.items graph.old.graph due.new.items graph.new.graph) }
-        ensures ancestors { OnOk result (has_mark 8 graph.old.graph.held id.now ≡ true
+        ensures ancestors { OnOk result (has_mark SEEN graph.old.graph.held id.now ≡ true
             → HasCommonParents is_there graph.old.graph graph.new.graph id.now) }
         ensures finds { OnOk result (IsKnown graph.old.graph id.now → SeesCommon graph.old.graph graph.new.graph) }
         ensures common { OnOk result (AllCommonAmong graph.old.graph due.old.items → AllCommonAmong graph.new.graph due.new.items) }
+        ensures lists { OnOk result (ListsNone graph.old.graph graph.new.graph) }
+        ensures pops { OnOk result (PopsNone graph.old.graph graph.new.graph) }
+        ensures among { OnOk result (SettlesWithin (parents_in graph.new.graph.held id.now) graph.old.graph graph.new.graph) }
+        ensures owes { OnOk result (OwesAmong (parents_in graph.new.graph.held id.now) due.old.items due.new.items) }
         ensures grows { Grows graph.old.graph graph.new.graph }
         ensures failures { graph.old.failures ≤ graph.new.failures }
         ensures failed { IfErr result (IsRefusal 0 0 graph.old.failures graph.new.failures) }
@@ -226,8 +239,8 @@ impl Consecutive {
         let Some((_, flags)) = look(graph, id)? else {
             return Ok(());
         };
-        if !has(flags, Flags(8)) {
-            self.push(graph, id, Flags(8))?;
+        if !has(flags, Flags::SEEN) {
+            self.push(graph, id, Flags::SEEN)?;
             return Ok(());
         }
         let parents = self.parents_of(graph, id)?;
@@ -242,12 +255,15 @@ impl Consecutive {
         id: &ObjectId,
     ) -> Result<(), NegotiatorError>
         ensures keeps { OnOk result (Steps self.old graph.old.graph self.new graph.new.graph) }
-        ensures room { OnOk result (left 8 graph.new.graph + heap_len self.new.queue.waiting
-            ≤ left 8 graph.old.graph + heap_len self.old.queue.waiting) }
+        ensures room { OnOk result (left SEEN graph.new.graph + heap_len self.new.queue.waiting
+            ≤ left SEEN graph.old.graph + heap_len self.old.queue.waiting) }
         ensures spreads { OnOk result (SpreadsAllFrom is_there id.now graph.old.graph graph.new.graph) }
-        ensures ancestors { OnOk result (has_mark 8 graph.old.graph.held id.now ≡ true
+        ensures ancestors { OnOk result (has_mark SEEN graph.old.graph.held id.now ≡ true
             → HasCommonParents is_there graph.old.graph graph.new.graph id.now) }
         ensures finds { OnOk result (IsKnown graph.old.graph id.now → SeesCommon graph.old.graph graph.new.graph) }
+        ensures lists { OnOk result (ListsNone graph.old.graph graph.new.graph) }
+        ensures pops { OnOk result (PopsNone graph.old.graph graph.new.graph) }
+        ensures only { OnOk result (SettlesFrom id.now graph.old.graph graph.new.graph) }
         ensures grows { Grows graph.old.graph graph.new.graph }
         ensures failures { graph.old.failures ≤ graph.new.failures }
         ensures failed { IfErr result (IsRefusal 0 0 graph.old.failures graph.new.failures) }
@@ -267,12 +283,15 @@ impl Consecutive {
         id: &ObjectId,
     ) -> Result<(), NegotiatorError>
         ensures keeps { OnOk result (Steps self.old graph.old.graph self.new graph.new.graph) }
-        ensures room { OnOk result (left 8 graph.new.graph + heap_len self.new.queue.waiting
-            ≤ left 8 graph.old.graph + heap_len self.old.queue.waiting) }
+        ensures room { OnOk result (left SEEN graph.new.graph + heap_len self.new.queue.waiting
+            ≤ left SEEN graph.old.graph + heap_len self.old.queue.waiting) }
         ensures spreads { OnOk result (StaysSpread is_there graph.old.graph graph.new.graph) }
         ensures ancestors { OnOk result (WhereOpen graph.old.graph id.now
             (HasCommonParents is_there graph.old.graph graph.new.graph id.now)) }
         ensures finds { OnOk result (IsKnown graph.old.graph id.now → SeesCommon graph.old.graph graph.new.graph) }
+        ensures lists { OnOk result (ListsNone graph.old.graph graph.new.graph) }
+        ensures pops { OnOk result (PopsNone graph.old.graph graph.new.graph) }
+        ensures only { OnOk result (SettlesFrom id.now graph.old.graph graph.new.graph) }
         ensures grows { Grows graph.old.graph graph.new.graph }
         ensures failures { graph.old.failures ≤ graph.new.failures }
         ensures failed { IfErr result (IsRefusal 0 0 graph.old.failures graph.new.failures) }
@@ -280,7 +299,7 @@ impl Consecutive {
         let Some((_, flags)) = look(graph, id)? else {
             return Ok(());
         };
-        if has(flags, Flags(2)) {
+        if has(flags, Flags::COMMON) {
             return Ok(());
         }
         self.spread_all(graph, id)?;
@@ -295,8 +314,12 @@ impl Consecutive {
     ) -> Result<(), NegotiatorError>
         ensures keeps { OnOk result (Steps self.old graph.old.graph self.new graph.new.graph) }
         ensures spreads { OnOk result (StaysSpread is_there graph.old.graph graph.new.graph) }
+        ensures lists { OnOk result (ListsNone graph.old.graph graph.new.graph) }
+        ensures pops { OnOk result (PopsNone graph.old.graph graph.new.graph) }
+        ensures finds { OnOk result (SeesCommon graph.old.graph graph.new.graph) }
+        ensures only { OnOk result (SettlesFrom id.now graph.old.graph graph.new.graph) }
         ensures grows { Grows graph.old.graph graph.new.graph }
-        ensures common { OnOk result (IsMarkedIfThere 2 graph.old.graph graph.new.graph id.now) }
+        ensures common { OnOk result (IsMarkedIfThere COMMON graph.old.graph graph.new.graph id.now) }
         ensures failures { graph.old.failures ≤ graph.new.failures }
         ensures failed { IfErr result (IsRefusal 0 0 graph.old.failures graph.new.failures) }
     {
@@ -315,22 +338,25 @@ impl Consecutive {
         is_common: bool,
     ) -> Result<(), NegotiatorError>
         ensures keeps { OnOk result (Steps self.old graph.old.graph self.new graph.new.graph) }
-        ensures room { OnOk result (left 8 graph.new.graph + heap_len self.new.queue.waiting
-            ≤ left 8 graph.old.graph + heap_len self.old.queue.waiting) }
-        ensures waits { OnOk result (IsMarkedIfThere 8 graph.old.graph graph.new.graph parent.now) }
+        ensures room { OnOk result (left SEEN graph.new.graph + heap_len self.new.queue.waiting
+            ≤ left SEEN graph.old.graph + heap_len self.old.queue.waiting) }
+        ensures waits { OnOk result (IsMarkedIfThere SEEN graph.old.graph graph.new.graph parent.now) }
         ensures spreads { OnOk result (StaysSpread is_there graph.old.graph graph.new.graph) }
         ensures finds { IsTrue is_common → OnOk result (SeesCommon graph.old.graph graph.new.graph) }
         ensures others { is_common ≡ false → OnOk result (SeesOnly parent.now graph.old.graph graph.new.graph) }
+        ensures lists { OnOk result (ListsNone graph.old.graph graph.new.graph) }
+        ensures pops { OnOk result (PopsNone graph.old.graph graph.new.graph) }
+        ensures settles { is_common ≡ false → OnOk result (SettlesNone graph.old.graph graph.new.graph) }
         ensures grows { Grows graph.old.graph graph.new.graph }
         ensures failures { graph.old.failures ≤ graph.new.failures }
         ensures failed { IfErr result (IsRefusal 0 0 graph.old.failures graph.new.failures) }
     {
         if is_common {
-            self.push(graph, parent, Flags(10))?;
+            self.push(graph, parent, SEEN_COMMON)?;
             self.mark_ancestors(graph, parent)?;
             return Ok(());
         }
-        self.push(graph, parent, Flags(8))?;
+        self.push(graph, parent, Flags::SEEN)?;
         Ok(())
     }
 
@@ -342,12 +368,15 @@ impl Consecutive {
         is_common: bool,
     ) -> Result<(), NegotiatorError>
         ensures keeps { OnOk result (Steps self.old graph.old.graph self.new graph.new.graph) }
-        ensures room { OnOk result (left 8 graph.new.graph + heap_len self.new.queue.waiting
-            ≤ left 8 graph.old.graph + heap_len self.old.queue.waiting) }
-        ensures waits { OnOk result (All (IsMarkedIfThere 8 graph.old.graph graph.new.graph) parents.now) }
+        ensures room { OnOk result (left SEEN graph.new.graph + heap_len self.new.queue.waiting
+            ≤ left SEEN graph.old.graph + heap_len self.old.queue.waiting) }
+        ensures waits { OnOk result (All (IsMarkedIfThere SEEN graph.old.graph graph.new.graph) parents.now) }
         ensures spreads { OnOk result (StaysSpread is_there graph.old.graph graph.new.graph) }
         ensures finds { IsTrue is_common → OnOk result (SeesCommon graph.old.graph graph.new.graph) }
         ensures others { is_common ≡ false → OnOk result (SeesAmong parents.now graph.old.graph graph.new.graph) }
+        ensures lists { OnOk result (ListsNone graph.old.graph graph.new.graph) }
+        ensures pops { OnOk result (PopsNone graph.old.graph graph.new.graph) }
+        ensures settles { is_common ≡ false → OnOk result (SettlesNone graph.old.graph graph.new.graph) }
         ensures grows { Grows graph.old.graph graph.new.graph }
         ensures failures { graph.old.failures ≤ graph.new.failures }
         ensures failed { IfErr result (IsRefusal 0 0 graph.old.failures graph.new.failures) }
@@ -362,7 +391,7 @@ impl Consecutive {
     fn release(&mut self, is_common: bool)
         ensures queue { self.new.queue ≡ self.old.queue }
         ensures common { IsTrue is_common → self.new.uncommon ≡ self.old.uncommon }
-        ensures open { self.old.uncommon ≤ self.new.uncommon + 1 }
+        ensures open { is_common ≡ false → self.new.uncommon ≡ self.old.uncommon - 1 }
     {
         if !is_common {
             self.uncommon = self.uncommon.saturating_sub(1);
@@ -377,19 +406,20 @@ impl Consecutive {
     ) -> Result<bool, NegotiatorError>
         ensures keeps { OnOk result (StepsTaking first.now self.old graph.old.graph self.new graph.new.graph) }
         ensures offered { IfOk result (λ offered. IsTrue offered → IsOffered graph.old.graph graph.new.graph first.now.id) }
-        ensures room { OnOk result (left 8 graph.new.graph + heap_len self.new.queue.waiting
-            ≤ left 8 graph.old.graph + heap_len self.old.queue.waiting) }
+        ensures room { OnOk result (left SEEN graph.new.graph + heap_len self.new.queue.waiting
+            ≤ left SEEN graph.old.graph + heap_len self.old.queue.waiting) }
         ensures spreads { OnOk result (StaysSpread is_there graph.old.graph graph.new.graph) }
         ensures passes { IfOk result (λ offered. offered ≡ false → SeesCommon graph.old.graph graph.new.graph) }
-        ensures finds { IfOk result (λ offered. IsTrue offered → FindsCommon graph.old.graph (Some first.now.id) graph.new.graph) }
+        ensures opens { IfOk result (λ offered. IsTrue offered → OpensParents graph.old.graph first.now.id graph.new.graph) }
+        ensures lists { OnOk result (ListsNone graph.old.graph graph.new.graph) }
         ensures grows { Grows graph.old.graph graph.new.graph }
         ensures failures { graph.old.failures ≤ graph.new.failures }
         ensures failed { IfErr result (IsRefusal 0 0 graph.old.failures graph.new.failures) }
     {
-        let Some((_, flags)) = claim(graph, &first.id, Flags(16), Flags(16))? else {
+        let Some((_, flags)) = claim(graph, &first.id, Flags::POPPED, Flags::POPPED)? else {
             return Ok(false);
         };
-        let is_common = has(flags, Flags(2));
+        let is_common = has(flags, Flags::COMMON);
         self.release(is_common);
         let spreads = is_shared(flags);
         let parents = self.parents_of(graph, &first.id)?;
@@ -400,6 +430,7 @@ impl Consecutive {
     // The next that waits, unless all are common.
     fn pop(&mut self) -> Option<Waiting>
         ensures some { OnSome result (heap_len self.new.queue.waiting + 1 ≡ heap_len self.old.queue.waiting) }
+        ensures open { OnSome result (0 < self.old.uncommon) }
         ensures taken { IfSome result (λ first. IsPermutation (heap_items self.old.queue.waiting)
             (first ∷ heap_items self.new.queue.waiting)) }
         ensures newest { IfSome result (IsNewest (heap_items self.new.queue.waiting)) }
@@ -421,11 +452,14 @@ impl Consecutive {
         ensures offered { IfOk result (λ have. IfSome have (IsOffered graph.old.graph graph.new.graph)) }
         ensures newest { IfOk result (λ have. IfSome have
             (λ id. IsNewestTimed (heap_items self.old.queue.waiting) graph.old.graph id (heap_items self.new.queue.waiting))) }
-        ensures none { IfOk result (λ have. IfNone have (Fits self.old.uncommon (heap_items self.old.queue.waiting) graph.old.graph
+        ensures none { IfOk result (λ have. IfNone have (Fits 0 self.old.uncommon (heap_items self.old.queue.waiting) graph.old.graph
             → AllCommon graph.new.graph)) }
         ensures keeps { OnOk result (Steps self.old graph.old.graph self.new graph.new.graph) }
         ensures spreads { OnOk result (StaysSpread is_there graph.old.graph graph.new.graph) }
         ensures finds { IfOk result (λ have. FindsCommon graph.old.graph have graph.new.graph) }
+        ensures lists { OnOk result (ListsNone graph.old.graph graph.new.graph) }
+        ensures ends { IfOk result (λ have. EndsAtOnce self.old.uncommon (heap_items self.old.queue.waiting)
+            graph.old.graph have graph.new.graph) }
         ensures grows { Grows graph.old.graph graph.new.graph }
         ensures failures { graph.old.failures ≤ graph.new.failures }
         ensures failed { IfErr result (IsRefusal 0 0 graph.old.failures graph.new.failures) }
@@ -445,11 +479,16 @@ impl Consecutive {
         id: &ObjectId,
     ) -> Result<(), NegotiatorError>
         ensures keeps { OnOk result (Steps self.old graph.old.graph self.new graph.new.graph) }
-        ensures waits { OnOk result (IsMarkedIfThere 8 graph.old.graph graph.new.graph id.now) }
+        ensures waits { OnOk result (IsMarkedIfThere SEEN graph.old.graph graph.new.graph id.now) }
         ensures spreads { OnOk result (StaysSpread is_there graph.old.graph graph.new.graph) }
         ensures ancestors { OnOk result (WhereNew graph.old.graph id.now
             (HasCommonParents is_there graph.old.graph graph.new.graph id.now)) }
         ensures listed { OnOk result (IsListedIfNew graph.old.graph graph.new.graph id.now) }
+        ensures lists { OnOk result (ListsOnly id.now graph.old.graph graph.new.graph) }
+        ensures pops { OnOk result (PopsNone graph.old.graph graph.new.graph) }
+        ensures finds { OnOk result (SeesAmong (id.now ∷ []) graph.old.graph graph.new.graph) }
+        ensures again { OnOk result (StaysIfSeen self.old graph.old.graph id.now self.new graph.new.graph) }
+        ensures only { OnOk result (SettlesFrom id.now graph.old.graph graph.new.graph) }
         ensures grows { Grows graph.old.graph graph.new.graph }
         ensures failures { graph.old.failures ≤ graph.new.failures }
         ensures failed { IfErr result (IsRefusal 0 0 graph.old.failures graph.new.failures) }
@@ -457,10 +496,10 @@ impl Consecutive {
         let Some((_, flags)) = look(graph, id)? else {
             return Ok(());
         };
-        if has(flags, Flags(8)) {
+        if has(flags, Flags::SEEN) {
             return Ok(());
         }
-        self.push(graph, id, Flags(12))?;
+        self.push(graph, id, SEEN_REF)?;
         self.mark_ancestors(graph, id)?;
         Ok(())
     }
@@ -468,22 +507,22 @@ impl Consecutive {
 
 // Whether a commit with these marks is common, or a ref of the server is it.
 fn is_shared(flags: Flags) -> bool
-    ensures { result ≡ (has_all 2 flags.0 || has_all 4 flags.0) }
+    ensures { result ≡ (has_all COMMON flags.0 || has_all COMMON_REF flags.0) }
 {
-    if has(flags, Flags(2)) {
+    if has(flags, Flags::COMMON) {
         return true;
     }
-    has(flags, Flags(4))
+    has(flags, Flags::COMMON_REF)
 }
 
 impl Negotiator for Consecutive {
     ghost use Rattle.gixp_negotiators.specs.MarkLaws.{offer_lowers, grows_left};
-    ghost use Rattle.gixp_negotiators.specs.Marks.{left};
+    ghost use Rattle.gixp_negotiators.specs.Marks.{POPPED, left};
     ghost use Rattle.gixp_negotiators.specs.Calls.{KnowsInTurn, AddsInTurn, LearnsInTurn, OffersInTurn};
     ghost use Rattle.gixp_graph.specs.Run.{AnyCallLeft, AnyOfferLeft};
 
     ghost calls = { record {
-      count = λ n g. left 16 g;
+      count = λ n g. left POPPED g;
       failures = λ n. 0;
       knows = KnowsInTurn;
       adds = AddsInTurn;
@@ -508,7 +547,7 @@ impl Negotiator for Consecutive {
         id: ObjectId,
         graph: &mut Graph<O>,
     ) -> Result<(), NegotiatorError> {
-        self.push(graph, &id, Flags(8))
+        self.push(graph, &id, Flags::SEEN)
     }
 
     fn in_common_with_remote<O: Objects>(
@@ -532,7 +571,7 @@ impl Negotiator for Consecutive {
 
     ghost offer_lowers = { λ n g id m h r. offer_lowers g h id r.offers };
 
-    ghost none_keeps = { λ n g m h r. grows_left 16 g h r.grows };
+    ghost none_keeps = { λ n g m h r. grows_left POPPED g h r.grows };
 
-    ghost learning_keeps = { λ n g id m h r. grows_left 16 g h r.grows };
+    ghost learning_keeps = { λ n g id m h r. grows_left POPPED g h r.grows };
 }

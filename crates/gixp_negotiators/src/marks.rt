@@ -1,12 +1,19 @@
 //! Marks of commits.
-ghost use Rattle.std.specs.Prelude.{◌≡◌, ◌≤◌, ◌==◌, ◌⊎◌, IsTrue, IfOk, IfErr, IfSome, IfNone, IsSome, Some, None, bit_and, true, false};
+ghost use Rattle.std.specs.Prelude.{◌≡◌, ℕ, ◌≤◌, ◌==◌, ◌||◌, IsTrue, IfOk, IfErr, IfSome, IfNone, OnOk, IsSome, Some, None, bit_and, true, false};
 ghost use Rattle.std.specs.FinMap as finite;
 ghost use Rattle.gixp_graph.specs.Object.{commit_at, time_at};
 ghost use Rattle.gixp_graph.specs.Negotiation.{IsRefusal};
-ghost use Rattle.gixp_negotiators.specs.Marks.{Grows, Claims, IsFoundWith, IsMarkedIfThere, IsMarkedIfSeen, AddsNone, SeesNone, SeesOnly, SettlesNone, SettlesOnly, has_mark, has_all, left};
+ghost use Rattle.gixp_negotiators.specs.Errors.{TellsWhy};
+ghost use Rattle.gixp_negotiators.specs.Marks.{COMMON, COMMON_REF, SEEN, POPPED, Grows, Claims, IsFoundWith, IsMarkedIfThere, IsMarkedIfSeen, AddsNone, SeesNone, SeesOnly, SettlesNone, SettlesOnly, ListsNone, ListsOnly, PopsNone, PopsOnly, has_mark, has_all, left};
 
 use gixp_graph::{Flags, Graph, NegotiatorError, Objects};
 use gixp_hash::ObjectId;
+
+/// Of a commit that waits and is common.
+pub(crate) const SEEN_COMMON: Flags = Flags(Flags::SEEN.0 | Flags::COMMON.0);
+
+/// Of a commit that waits and that a ref of the server is.
+pub(crate) const SEEN_REF: Flags = Flags(Flags::SEEN.0 | Flags::COMMON_REF.0);
 
 /// Whether some marks have all of others.
 pub(crate) fn has(flags: Flags, marks: Flags) -> bool
@@ -17,7 +24,7 @@ pub(crate) fn has(flags: Flags, marks: Flags) -> bool
 
 /// Whether some marks, or some more, have all of others.
 pub(crate) fn either_has(flags: Flags, more: Flags, marks: Flags) -> bool
-    ensures { IsTrue result → (has_all marks.0 flags.0 ≡ true) ⊎ (has_all marks.0 more.0 ≡ true) }
+    ensures { result ≡ (has_all marks.0 flags.0 || has_all marks.0 more.0) }
 {
     if has(flags, marks) {
         return true;
@@ -33,34 +40,41 @@ pub(crate) fn look<O: Objects>(
     ensures found { IfOk result (λ found. IfSome found (λ x. IsFoundWith graph.new.graph id.now x.1)) }
     ensures timed { IfOk result (λ found. IfSome found (λ x. time_at graph.old.graph.objects id.now ≡ Some x.0)) }
     ensures none { IfOk result (λ found. IfNone found (commit_at graph.old.graph.objects id.now ≡ None)) }
-    ensures absent { IfOk result (λ found. IfNone found (has_mark 8 graph.new.graph.held id.now ≡ false)) }
+    ensures absent { IfOk result (λ found. IfNone found (has_mark SEEN graph.new.graph.held id.now ≡ false)) }
     ensures sees { SeesNone graph.old.graph graph.new.graph }
     ensures settles { SettlesNone graph.old.graph graph.new.graph }
-    ensures takes { AddsNone 16 graph.old.graph graph.new.graph }
+    ensures lists { ListsNone graph.old.graph graph.new.graph }
+    ensures pops { PopsNone graph.old.graph graph.new.graph }
+    ensures marks { (mark : ℕ) → has_all mark 0 ≡ false → AddsNone mark graph.old.graph graph.new.graph }
+    ensures held { IsSome (finite.get graph.old.graph.held id.now) → graph.new.graph ≡ graph.old.graph }
     ensures grows { Grows graph.old.graph graph.new.graph }
-    ensures seen { left 8 graph.new.graph ≤ left 8 graph.old.graph }
-    ensures common { left 2 graph.new.graph ≤ left 2 graph.old.graph }
+    ensures seen { left SEEN graph.new.graph ≤ left SEEN graph.old.graph }
+    ensures common { left COMMON graph.new.graph ≤ left COMMON graph.old.graph }
     ensures failures { graph.old.failures ≤ graph.new.failures }
     ensures failed { IfErr result (IsRefusal 0 0 graph.old.failures graph.new.failures) }
+    ensures unrefused { OnOk result (graph.new.refusals ≡ graph.old.refusals) }
+    ensures refused { IfErr result (λ e. TellsWhy e graph.old.refusals graph.new.refusals) }
 {
-    match graph.lookup(id) {
-        Ok(found) => Ok(found),
-        Err(e) => Err(NegotiatorError::Lookup(e)),
-    }
+    Ok(graph.lookup(id)?)
 }
 
 /// Adds marks to a commit that is held, but for COMPLETE.
 pub(crate) fn add<O: Objects>(graph: &mut Graph<O>, id: &ObjectId, marks: Flags)
     requires { bit_and marks.0 1 ≡ 0 }
     ensures grows { Grows graph.old.graph graph.new.graph }
-    ensures sees { bit_and marks.0 8 ≡ 0 → SeesNone graph.old.graph graph.new.graph }
+    ensures sees { bit_and marks.0 SEEN ≡ 0 → SeesNone graph.old.graph graph.new.graph }
     ensures sees_only { SeesOnly id.now graph.old.graph graph.new.graph }
-    ensures settles { bit_and marks.0 2 ≡ 0 → SettlesNone graph.old.graph graph.new.graph }
+    ensures settles { bit_and marks.0 COMMON ≡ 0 → SettlesNone graph.old.graph graph.new.graph }
     ensures settles_only { SettlesOnly id.now graph.old.graph graph.new.graph }
-    ensures seen { left 8 graph.new.graph ≤ left 8 graph.old.graph }
-    ensures common { left 2 graph.new.graph ≤ left 2 graph.old.graph }
+    ensures lists { bit_and marks.0 COMMON_REF ≡ 0 → ListsNone graph.old.graph graph.new.graph }
+    ensures lists_only { ListsOnly id.now graph.old.graph graph.new.graph }
+    ensures pops { bit_and marks.0 POPPED ≡ 0 → PopsNone graph.old.graph graph.new.graph }
+    ensures pops_only { PopsOnly id.now graph.old.graph graph.new.graph }
+    ensures seen { left SEEN graph.new.graph ≤ left SEEN graph.old.graph }
+    ensures common { left COMMON graph.new.graph ≤ left COMMON graph.old.graph }
     ensures marked { IsSome (finite.get graph.old.graph.held id.now) → has_mark marks.0 graph.new.graph.held id.now ≡ true }
     ensures failures { graph.new.failures ≡ graph.old.failures }
+    ensures refusals { graph.new.refusals ≡ graph.old.refusals }
 {
     graph.insert_flags(id, marks);
 }
@@ -83,17 +97,27 @@ pub(crate) fn claim<O: Objects>(
     ensures absent { IfOk result (λ found. IfNone found (SeesNone graph.old.graph graph.new.graph
         × IsMarkedIfSeen mark.0 graph.new.graph id.now)) }
     ensures kept { IfOk result (λ found. IfNone found (SettlesNone graph.old.graph graph.new.graph)) }
-    ensures spent { mark.0 ≡ 16 → IfOk result
-        (λ found. IfNone found (IsSome (commit_at graph.old.graph.objects id.now) → has_mark 16 graph.old.graph.held id.now ≡ true)) }
-    ensures sees { bit_and marks.0 8 ≡ 0 → SeesNone graph.old.graph graph.new.graph }
+    ensures unlisted { IfOk result (λ found. IfNone found (ListsNone graph.old.graph graph.new.graph)) }
+    ensures unpopped { IfOk result (λ found. IfNone found (PopsNone graph.old.graph graph.new.graph)) }
+    ensures again { IfOk result (λ found. IfNone found
+        (IsSome (finite.get graph.old.graph.held id.now) → graph.new.graph ≡ graph.old.graph)) }
+    ensures spent { mark.0 ≡ POPPED → IfOk result
+        (λ found. IfNone found (IsSome (commit_at graph.old.graph.objects id.now) → has_mark POPPED graph.old.graph.held id.now ≡ true)) }
+    ensures sees { bit_and marks.0 SEEN ≡ 0 → SeesNone graph.old.graph graph.new.graph }
     ensures sees_only { SeesOnly id.now graph.old.graph graph.new.graph }
-    ensures settles { bit_and marks.0 2 ≡ 0 → SettlesNone graph.old.graph graph.new.graph }
+    ensures settles { bit_and marks.0 COMMON ≡ 0 → SettlesNone graph.old.graph graph.new.graph }
     ensures settles_only { SettlesOnly id.now graph.old.graph graph.new.graph }
+    ensures lists { bit_and marks.0 COMMON_REF ≡ 0 → ListsNone graph.old.graph graph.new.graph }
+    ensures lists_only { ListsOnly id.now graph.old.graph graph.new.graph }
+    ensures pops { bit_and marks.0 POPPED ≡ 0 → PopsNone graph.old.graph graph.new.graph }
+    ensures pops_only { PopsOnly id.now graph.old.graph graph.new.graph }
     ensures grows { Grows graph.old.graph graph.new.graph }
-    ensures seen { left 8 graph.new.graph ≤ left 8 graph.old.graph }
-    ensures common { left 2 graph.new.graph ≤ left 2 graph.old.graph }
+    ensures seen { left SEEN graph.new.graph ≤ left SEEN graph.old.graph }
+    ensures common { left COMMON graph.new.graph ≤ left COMMON graph.old.graph }
     ensures failures { graph.old.failures ≤ graph.new.failures }
     ensures failed { IfErr result (IsRefusal 0 0 graph.old.failures graph.new.failures) }
+    ensures unrefused { OnOk result (graph.new.refusals ≡ graph.old.refusals) }
+    ensures refused { IfErr result (λ e. TellsWhy e graph.old.refusals graph.new.refusals) }
 {
     let Some((time, flags)) = look(graph, id)? else {
         return Ok(None);

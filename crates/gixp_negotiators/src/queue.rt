@@ -1,5 +1,5 @@
 //! Commits that wait, by time.
-ghost use Rattle.std.specs.Prelude.{◌≡◌, ◌≤◌, ◌+◌, ◌≤ℤ◌, ◌∷◌, [], All, OnOk, OnSome, IfSome, IfNone};
+ghost use Rattle.std.specs.Prelude.{◌≡◌, ◌≤◌, ◌+◌, ◌-◌, ◌^◌, ◌≤ℤ◌, ◌∷◌, [], All, OnOk, OnSome, IfSome, IfNone};
 ghost use Rattle.std.specs.BinaryHeap.{heap_len, heap_items, IsHeap};
 ghost use Rattle.std.specs.List.Sorted.{IsPermutation};
 ghost use Rattle.std.proofs.Props.{props};
@@ -32,6 +32,7 @@ impl Queue {
     pub fn new(alloc: Global) -> Queue
         ensures len { heap_len result.waiting ≡ 0 }
         ensures empty { heap_items result.waiting ≡ [] }
+        ensures rank { result.rank ≡ 2 ^ 64 - 1 }
     {
         Queue {
             waiting: BinaryHeap::new(alloc),
@@ -69,6 +70,7 @@ impl Queue {
         ensures earliest { IfSome result (λ first. All (λ w. w.time ≡ first.time → w.rank ≤ first.rank) (heap_items self.new.waiting)) }
         ensures none { IfNone result (heap_items self.old.waiting ≡ []) }
         ensures stays { IfNone result (heap_items self.new.waiting ≡ heap_items self.old.waiting) }
+        ensures rank { self.new.rank ≡ self.old.rank }
     {
         self.waiting.pop()
     }

@@ -1,5 +1,9 @@
 //! Offers commits at growing distances, the newest first.
-ghost use Rattle.std.specs.Prelude.{◌≡◌, ℕ, pos, List, ◌≤◌, ◌<◌, ◌+◌, ◌-◌, ◌⊎◌, ◌∷◌, [], length, bit_and, true, false};
+ghost use Rattle.std.specs.Prelude.{◌≡◌, ◌≢◌, ℕ, pos, List, ◌≤◌, ◌<◌, ◌+◌, ◌-◌, ◌⊎◌, ◌||◌, ◌∷◌, [], length, bit_and, true, false};
+ghost use Rattle.std.specs.BTreeSet.{contains};
+ghost use Rattle.std.specs.BTreeMap.{is_at};
+ghost use Rattle.gixp_hash.specs.declared.object_id.ObjectId.{ObjectId};
+ghost use Rattle.gixp_hash.specs.ObjectId.{id_cmp};
 ghost use Rattle.std.specs.Prelude.{IfOk, IfErr, IfSome, IfNone, IsSome, OnOk, OnSome, IsTrue, All};
 ghost use Rattle.std.specs.BinaryHeap.{heap_len, heap_items};
 ghost use Rattle.std.specs.List.Sorted.{IsPermutation};
@@ -7,15 +11,15 @@ ghost use Rattle.gixp_graph.specs.Object.{commit_at};
 ghost use Rattle.gixp_graph.specs.GraphData.{GraphData, parents_in};
 ghost use Rattle.gixp_negotiators.specs.declared.queue.Waiting.{Waiting};
 ghost use Rattle.gixp_graph.specs.Negotiation.{IsMemory, IsRefusal};
-ghost use Rattle.gixp_negotiators.specs.Marks.{Grows, SettlesNone, IsOffered, IsMarkedIfThere, IsListedIfNew, has_all, has_mark, left};
-ghost use Rattle.gixp_negotiators.specs.Spread.{was_seen, BecomesCommon, KeepsSpread, SpreadsFrom, StaysNewly, AllRead, Spreads};
-ghost use Rattle.gixp_negotiators.specs.Waiting.{FitsOwing, AllCommon, IsNewest, IsNewestIn, QueuesNew};
-ghost use Rattle.gixp_negotiators.specs.Calls.{FitsSkipping, FitsTaking};
+ghost use Rattle.gixp_negotiators.specs.Marks.{COMMON, COMMON_REF, SEEN, POPPED, Grows, SeesNone, SeesOnly, SettlesNone, ListsNone, ListsOnly, PopsNone, StaysIfSeen, IsOffered, IsMarkedIfThere, IsListedIfNew, has_all, has_mark, left};
+ghost use Rattle.gixp_negotiators.specs.Spread.{was_seen, BecomesCommon, KeepsSpread, SpreadsFrom, StaysNewly, AllRead, AllHeld, MarksThrough, SettlesAmong, Spreads};
+ghost use Rattle.gixp_negotiators.specs.Waiting.{FitsOwing, AllCommon, IsNewest, IsNewestIn, QueuesNew, KeepsUnread, IsUnreadIfNew};
+ghost use Rattle.gixp_negotiators.specs.Calls.{FitsSkipping, CountsStill, CountsTaking, CountsAll};
 ghost use Rattle.gixp_negotiators.specs.declared.skipping.Legacy.TheVariants.{Common, Skips};
 ghost use Rattle.gixp_negotiators.specs.Distance.{distance_after, skip_of};
 ghost use Rattle.gixp_negotiators.specs.Passing.{skip_in, HandsOne, Hands, AllTaken, Takes, Distances};
 
-use crate::marks::{add, claim, has, is_marked};
+use crate::marks::{SEEN_REF, add, claim, has, is_marked};
 use crate::queue::{Queue, Waiting};
 use gixp_graph::{Flags, Graph, Negotiator, NegotiatorError, Objects};
 use gixp_hash::ObjectId;
@@ -83,35 +87,40 @@ impl Skipping {
         id: &ObjectId,
         marks: Flags,
     ) -> Result<(), NegotiatorError>
-        requires { (marks.0 ≡ 8) ⊎ (marks.0 ≡ 12) }
-        ensures fits { OnOk result (FitsSkipping self.old graph.old.graph → FitsSkipping self.new graph.new.graph) }
-        ensures room { OnOk result (left 8 graph.new.graph + heap_len self.new.queue.waiting
-            ≤ left 8 graph.old.graph + heap_len self.old.queue.waiting) }
-        ensures waits { OnOk result (IsMarkedIfThere 8 graph.old.graph graph.new.graph id.now) }
-        ensures listed { OnOk result (bit_and marks.0 4 ≡ 4 → IsListedIfNew graph.old.graph graph.new.graph id.now) }
+        requires { (marks.0 ≡ SEEN) ⊎ (marks.0 ≡ SEEN + COMMON_REF) }
+        ensures fits { OnOk result (CountsAll self.old graph.old.graph self.new graph.new.graph) }
+        ensures room { OnOk result (left SEEN graph.new.graph + heap_len self.new.queue.waiting
+            ≤ left SEEN graph.old.graph + heap_len self.old.queue.waiting) }
+        ensures waits { OnOk result (IsMarkedIfThere SEEN graph.old.graph graph.new.graph id.now) }
+        ensures listed { OnOk result (bit_and marks.0 COMMON_REF ≡ COMMON_REF → IsListedIfNew graph.old.graph graph.new.graph id.now) }
         ensures settles { SettlesNone graph.old.graph graph.new.graph }
         ensures queues { OnOk result (QueuesNew (heap_items self.old.queue.waiting) graph.old.graph (heap_items self.new.queue.waiting)) }
         ensures skips { OnOk result (self.new.skips ≡ self.old.skips) }
+        ensures sees { SeesOnly id.now graph.old.graph graph.new.graph }
+        ensures lists { OnOk result (bit_and marks.0 COMMON_REF ≡ 0 → ListsNone graph.old.graph graph.new.graph) }
+        ensures lists_only { OnOk result (ListsOnly id.now graph.old.graph graph.new.graph) }
+        ensures pops { OnOk result (PopsNone graph.old.graph graph.new.graph) }
+        ensures unread { OnOk result (KeepsUnread self.old.unread graph.old.graph self.new.unread graph.new.graph) }
+        ensures unread_if_new { OnOk result (IsUnreadIfNew graph.old.graph id.now self.new.unread) }
+        ensures again { OnOk result (StaysIfSeen self.old graph.old.graph id.now self.new graph.new.graph) }
         ensures grows { Grows graph.old.graph graph.new.graph }
         ensures failures { graph.old.failures ≤ graph.new.failures }
         ensures failed { IfErr result (IsRefusal 0 0 graph.old.failures graph.new.failures) }
     {
         let is_read = graph.get(id).is_some();
-        let Some((time, _)) = claim(graph, id, Flags(8), marks)? else {
+        let Some((time, _)) = claim(graph, id, Flags::SEEN, marks)? else {
             return Ok(());
         };
         self.admit()?;
         let due = self.time_of(is_read, time, id)?;
-        match self.queue.push(due, *id) {
-            Ok(()) => Ok(()),
-            Err(_) => Err(NegotiatorError::Memory),
-        }
+        Ok(self.queue.push(due, *id)?)
     }
 
     // One more waits.
     fn admit(&mut self) -> Result<(), NegotiatorError>
         ensures queue { self.new.queue ≡ self.old.queue }
         ensures skips { self.new.skips ≡ self.old.skips }
+        ensures unread { self.new.unread ≡ self.old.unread }
         ensures counted { OnOk result (self.new.uncommon ≡ self.old.uncommon + 1) }
         ensures failed { IfErr result IsMemory }
     {
@@ -128,7 +137,12 @@ impl Skipping {
         ensures skips { self.new.skips ≡ self.old.skips }
         ensures uncommon { self.new.uncommon ≡ self.old.uncommon }
         ensures read { is_read ≡ true → IfOk result (λ due. due ≡ time) }
+        ensures stays { is_read ≡ true → OnOk result (self.new.unread ≡ self.old.unread) }
+
+        // One that wasn't read waits at time 0, and is kept.
         ensures unread { is_read ≡ false → IfOk result (λ due. due ≡ pos 0) }
+        ensures kept { is_read ≡ false → OnOk result ((q : ObjectId) → contains id_cmp self.new.unread q
+            ≡ (is_at (id_cmp id.now) q || contains id_cmp self.old.unread q)) }
         ensures failed { IfErr result IsMemory }
     {
         if is_read {
@@ -145,7 +159,7 @@ impl Skipping {
         id: &ObjectId,
     ) -> Result<Vec<ObjectId>, NegotiatorError>
         ensures parents { IfOk result (λ parents. parents.items ≡ parents_in graph.now.graph.held id.now) }
-        ensures failed { IfErr result (IsRefusal 0 0 graph.now.failures graph.now.failures) }
+        ensures failed { IfErr result IsMemory }
     {
         Ok(graph.parents(self.alloc, id)?)
     }
@@ -157,12 +171,17 @@ impl Skipping {
         id: &ObjectId,
         due: &mut Vec<ObjectId>,
     ) -> Result<(), NegotiatorError>
-        ensures fits { OnOk result ((u : ℕ) (ws : List Waiting) → FitsOwing u ws graph.old.graph due.old.items
-            → FitsOwing u ws graph.new.graph due.new.items) }
-        ensures less { OnOk result (left 2 graph.new.graph + length due.new.items ≤ left 2 graph.old.graph + length due.old.items) }
-        ensures seen { left 8 graph.new.graph ≤ left 8 graph.old.graph }
+        ensures fits { OnOk result ((lost u : ℕ) (ws : List Waiting) → FitsOwing lost u ws graph.old.graph due.old.items
+            → FitsOwing lost u ws graph.new.graph due.new.items) }
+        ensures less { OnOk result (left COMMON graph.new.graph + length due.new.items
+            ≤ left COMMON graph.old.graph + length due.old.items) }
+        ensures seen { left SEEN graph.new.graph ≤ left SEEN graph.old.graph }
         ensures spreads { OnOk result (SpreadsFrom was_seen id.now due.old.items graph.old.graph due.new.items graph.new.graph) }
         ensures newly { OnOk result (StaysNewly due.old.items graph.old.graph due.new.items graph.new.graph) }
+        ensures among { OnOk result (SettlesAmong (parents_in graph.old.graph.held id.now) graph.old.graph graph.new.graph) }
+        ensures sees { SeesNone graph.old.graph graph.new.graph }
+        ensures lists { OnOk result (ListsNone graph.old.graph graph.new.graph) }
+        ensures pops { OnOk result (PopsNone graph.old.graph graph.new.graph) }
         ensures grows { Grows graph.old.graph graph.new.graph }
         ensures failures { graph.old.failures ≤ graph.new.failures }
         ensures failed { IfErr result (IsRefusal 0 0 graph.old.failures graph.new.failures) }
@@ -178,7 +197,7 @@ impl Skipping {
         ensures skips { self.new.skips ≡ self.old.skips }
         ensures unread { self.new.unread ≡ self.old.unread }
         ensures taken { is_taken ≡ true → self.new.uncommon ≡ self.old.uncommon }
-        ensures waits { self.old.uncommon ≤ self.new.uncommon + 1 }
+        ensures waits { is_taken ≡ false → self.new.uncommon ≡ self.old.uncommon - 1 }
     {
         if !is_taken {
             self.uncommon = self.uncommon.saturating_sub(1);
@@ -191,13 +210,20 @@ impl Skipping {
         graph: &mut Graph<O>,
         id: &ObjectId,
     ) -> Result<(), NegotiatorError>
-        ensures fits { OnOk result (FitsSkipping self.old graph.old.graph → FitsSkipping self.new graph.new.graph) }
-        ensures common { OnOk result (has_mark 8 graph.old.graph.held id.now ≡ true → has_mark 2 graph.new.graph.held id.now ≡ true) }
-        ensures seen { left 8 graph.new.graph ≤ left 8 graph.old.graph }
+        ensures fits { OnOk result (CountsStill (AllRead self.old.unread graph.old.graph graph.new.graph)
+            self.old graph.old.graph self.new graph.new.graph) }
+        ensures common { OnOk result (has_mark SEEN graph.old.graph.held id.now ≡ true
+            → has_mark COMMON graph.new.graph.held id.now ≡ true) }
+        ensures seen { left SEEN graph.new.graph ≤ left SEEN graph.old.graph }
         ensures queue { self.new.queue ≡ self.old.queue }
         ensures skips { self.new.skips ≡ self.old.skips }
         ensures spreads { OnOk result (AllRead self.old.unread graph.old.graph graph.new.graph
             → Spreads was_seen graph.old.graph graph.new.graph) }
+        ensures unread { self.new.unread ≡ self.old.unread }
+        ensures through { OnOk result (MarksThrough self.old.unread graph.old.graph id.now graph.new.graph) }
+        ensures sees { SeesNone graph.old.graph graph.new.graph }
+        ensures lists { OnOk result (ListsNone graph.old.graph graph.new.graph) }
+        ensures pops { OnOk result (PopsNone graph.old.graph graph.new.graph) }
         ensures grows { Grows graph.old.graph graph.new.graph }
         ensures failures { graph.old.failures ≤ graph.new.failures }
         ensures failed { IfErr result (IsRefusal 0 0 graph.old.failures graph.new.failures) }
@@ -205,7 +231,7 @@ impl Skipping {
         let mut due = Vec::new(self.alloc);
         reach(graph, id, &mut due)?;
         while let Some(next) = due.pop() {
-            self.discount(is_marked(graph, &next, Flags(16)));
+            self.discount(is_marked(graph, &next, Flags::POPPED));
             if self.unread.contains(&next) {
                 return Ok(());
             }
@@ -228,16 +254,15 @@ impl Skipping {
     fn raise(&mut self, id: &ObjectId, skip: Skip) -> Result<(), NegotiatorError>
         ensures queue { self.new.queue ≡ self.old.queue }
         ensures uncommon { self.new.uncommon ≡ self.old.uncommon }
+        ensures unread { self.new.unread ≡ self.old.unread }
         ensures hands { OnOk result (HandsOne (Skips skip) id.now self.old.skips.entries self.new.skips.entries) }
         ensures failed { IfErr result IsMemory }
     {
         if self.skip_of(id).whole >= skip.whole {
             return Ok(());
         }
-        match self.skips.insert(*id, skip) {
-            Ok(_) => Ok(()),
-            Err(_) => Err(NegotiatorError::Memory),
-        }
+        self.skips.insert(*id, skip)?;
+        Ok(())
     }
 
     // Gives a commit what it gets from one that was taken.
@@ -247,10 +272,16 @@ impl Skipping {
         id: &ObjectId,
         legacy: Legacy,
     ) -> Result<(), NegotiatorError>
-        ensures fits { OnOk result (FitsSkipping self.old graph.old.graph → FitsSkipping self.new graph.new.graph) }
-        ensures seen { left 8 graph.new.graph ≤ left 8 graph.old.graph }
+        ensures fits { OnOk result (CountsStill (AllRead self.old.unread graph.old.graph graph.new.graph)
+            self.old graph.old.graph self.new graph.new.graph) }
+        ensures seen { left SEEN graph.new.graph ≤ left SEEN graph.old.graph }
         ensures queue { self.new.queue ≡ self.old.queue }
         ensures hands { OnOk result (HandsOne legacy id.now self.old.skips.entries self.new.skips.entries) }
+        ensures settles { legacy ≢ Common → OnOk result (SettlesNone graph.old.graph graph.new.graph) }
+        ensures unread { self.new.unread ≡ self.old.unread }
+        ensures sees { SeesNone graph.old.graph graph.new.graph }
+        ensures lists { OnOk result (ListsNone graph.old.graph graph.new.graph) }
+        ensures pops { OnOk result (PopsNone graph.old.graph graph.new.graph) }
         ensures grows { Grows graph.old.graph graph.new.graph }
         ensures failures { graph.old.failures ≤ graph.new.failures }
         ensures failed { IfErr result (IsRefusal 0 0 graph.old.failures graph.new.failures) }
@@ -274,19 +305,25 @@ impl Skipping {
         parent: &ObjectId,
         legacy: Legacy,
     ) -> Result<bool, NegotiatorError>
-        ensures fits { OnOk result (FitsSkipping self.old graph.old.graph → FitsSkipping self.new graph.new.graph) }
-        ensures room { OnOk result (left 8 graph.new.graph + heap_len self.new.queue.waiting
-            ≤ left 8 graph.old.graph + heap_len self.old.queue.waiting) }
-        ensures waits { OnOk result (IsMarkedIfThere 8 graph.old.graph graph.new.graph parent.now) }
-        ensures taken { IfOk result (λ waits. waits ≡ false → has_mark 16 graph.new.graph.held parent.now ≡ true) }
+        ensures fits { OnOk result (CountsStill (AllHeld self.old.unread graph.old.graph graph.new.graph)
+            self.old graph.old.graph self.new graph.new.graph) }
+        ensures room { OnOk result (left SEEN graph.new.graph + heap_len self.new.queue.waiting
+            ≤ left SEEN graph.old.graph + heap_len self.old.queue.waiting) }
+        ensures waits { OnOk result (IsMarkedIfThere SEEN graph.old.graph graph.new.graph parent.now) }
+        ensures left { IfOk result (λ waits. waits ≡ true → has_mark POPPED graph.new.graph.held parent.now ≡ false) }
+        ensures taken { IfOk result (λ waits. waits ≡ false → has_mark POPPED graph.new.graph.held parent.now ≡ true) }
         ensures hands { OnOk result (Hands legacy (parent.now ∷ []) graph.new.graph self.old.skips.entries self.new.skips.entries) }
         ensures queues { OnOk result (QueuesNew (heap_items self.old.queue.waiting) graph.old.graph (heap_items self.new.queue.waiting)) }
+        ensures settles { legacy ≢ Common → OnOk result (SettlesNone graph.old.graph graph.new.graph) }
+        ensures lists { OnOk result (ListsNone graph.old.graph graph.new.graph) }
+        ensures pops { OnOk result (PopsNone graph.old.graph graph.new.graph) }
+        ensures unread { OnOk result (KeepsUnread self.old.unread graph.old.graph self.new.unread graph.new.graph) }
         ensures grows { Grows graph.old.graph graph.new.graph }
         ensures failures { graph.old.failures ≤ graph.new.failures }
         ensures failed { IfErr result (IsRefusal 0 0 graph.old.failures graph.new.failures) }
     {
-        self.push(graph, parent, Flags(8))?;
-        if is_marked(graph, parent, Flags(16)) {
+        self.push(graph, parent, Flags::SEEN)?;
+        if is_marked(graph, parent, Flags::POPPED) {
             return Ok(false);
         }
         self.pass(graph, parent, legacy)?;
@@ -300,13 +337,19 @@ impl Skipping {
         parents: &[ObjectId],
         legacy: Legacy,
     ) -> Result<bool, NegotiatorError>
-        ensures fits { OnOk result (FitsSkipping self.old graph.old.graph → FitsSkipping self.new graph.new.graph) }
-        ensures room { OnOk result (left 8 graph.new.graph + heap_len self.new.queue.waiting
-            ≤ left 8 graph.old.graph + heap_len self.old.queue.waiting) }
-        ensures waits { OnOk result (All (IsMarkedIfThere 8 graph.old.graph graph.new.graph) parents.now) }
+        ensures fits { OnOk result (CountsStill (AllHeld self.old.unread graph.old.graph graph.new.graph)
+            self.old graph.old.graph self.new graph.new.graph) }
+        ensures room { OnOk result (left SEEN graph.new.graph + heap_len self.new.queue.waiting
+            ≤ left SEEN graph.old.graph + heap_len self.old.queue.waiting) }
+        ensures waits { OnOk result (All (IsMarkedIfThere SEEN graph.old.graph graph.new.graph) parents.now) }
+        ensures left { IfOk result (λ any. any ≡ true → AllTaken graph.new.graph parents.now → ⊥) }
         ensures taken { IfOk result (λ any. any ≡ false → AllTaken graph.new.graph parents.now) }
         ensures hands { OnOk result (Hands legacy parents.now graph.new.graph self.old.skips.entries self.new.skips.entries) }
         ensures queues { OnOk result (QueuesNew (heap_items self.old.queue.waiting) graph.old.graph (heap_items self.new.queue.waiting)) }
+        ensures settles { legacy ≢ Common → OnOk result (SettlesNone graph.old.graph graph.new.graph) }
+        ensures lists { OnOk result (ListsNone graph.old.graph graph.new.graph) }
+        ensures pops { OnOk result (PopsNone graph.old.graph graph.new.graph) }
+        ensures unread { OnOk result (KeepsUnread self.old.unread graph.old.graph self.new.unread graph.new.graph) }
         ensures grows { Grows graph.old.graph graph.new.graph }
         ensures failures { graph.old.failures ≤ graph.new.failures }
         ensures failed { IfErr result (IsRefusal 0 0 graph.old.failures graph.new.failures) }
@@ -325,23 +368,26 @@ impl Skipping {
         graph: &mut Graph<O>,
         first: &Waiting,
     ) -> Result<bool, NegotiatorError>
-        ensures fits { OnOk result (FitsTaking first.now self.old graph.old.graph → FitsSkipping self.new graph.new.graph) }
+        ensures fits { OnOk result (CountsTaking (AllHeld self.old.unread graph.old.graph graph.new.graph) first.now
+            self.old graph.old.graph self.new graph.new.graph) }
         ensures offered { IfOk result (λ offered. IsTrue offered → IsOffered graph.old.graph graph.new.graph first.now.id) }
         ensures takes { IfOk result
             (λ offered. Takes self.old.skips.entries graph.old.graph first.now.id offered self.new.skips.entries graph.new.graph) }
-        ensures room { OnOk result (left 8 graph.new.graph + heap_len self.new.queue.waiting
-            ≤ left 8 graph.old.graph + heap_len self.old.queue.waiting) }
+        ensures room { OnOk result (left SEEN graph.new.graph + heap_len self.new.queue.waiting
+            ≤ left SEEN graph.old.graph + heap_len self.old.queue.waiting) }
         ensures queues { OnOk result (QueuesNew (heap_items self.old.queue.waiting) graph.old.graph (heap_items self.new.queue.waiting)) }
+        ensures lists { OnOk result (ListsNone graph.old.graph graph.new.graph) }
+        ensures unread { OnOk result (KeepsUnread self.old.unread graph.old.graph self.new.unread graph.new.graph) }
         ensures grows { Grows graph.old.graph graph.new.graph }
         ensures failures { graph.old.failures ≤ graph.new.failures }
         ensures failed { IfErr result (IsRefusal 0 0 graph.old.failures graph.new.failures) }
     {
-        let Some((_, flags)) = claim(graph, &first.id, Flags(16), Flags(16))? else {
+        let Some((_, flags)) = claim(graph, &first.id, Flags::POPPED, Flags::POPPED)? else {
             return Ok(false);
         };
         self.unread.remove(&first.id);
         let skip = self.skip_of(&first.id);
-        let is_common = has(flags, Flags(2));
+        let is_common = has(flags, Flags::COMMON);
         self.discount(is_common);
         let parents = self.parents_of(graph, &first.id)?;
         let any = self.follow_all(graph, &parents, legacy_of(flags, skip))?;
@@ -351,12 +397,14 @@ impl Skipping {
     // The next that waits, unless all are common.
     fn pop(&mut self) -> Option<Waiting>
         ensures some { OnSome result (heap_len self.new.queue.waiting + 1 ≡ heap_len self.old.queue.waiting) }
+        ensures open { OnSome result (0 < self.old.uncommon) }
         ensures taken { IfSome result (λ first. IsPermutation (heap_items self.old.queue.waiting)
             (first ∷ heap_items self.new.queue.waiting)) }
         ensures newest { IfSome result (IsNewest (heap_items self.new.queue.waiting)) }
         ensures none { IfNone result ((self.old.uncommon ≡ 0) ⊎ (heap_items self.old.queue.waiting ≡ [])) }
         ensures stays { IfNone result (heap_items self.new.queue.waiting ≡ heap_items self.old.queue.waiting) }
         ensures skips { self.new.skips ≡ self.old.skips }
+        ensures unread { self.new.unread ≡ self.old.unread }
         ensures uncommon { self.new.uncommon ≡ self.old.uncommon }
     {
         if self.uncommon == 0 {
@@ -375,9 +423,13 @@ impl Skipping {
             (λ id. IsNewestIn (heap_items self.old.queue.waiting) graph.old.graph id (heap_items self.new.queue.waiting))) }
         ensures distances { IfOk result (λ have.
             Distances self.old.skips.entries graph.old.graph have self.new.skips.entries graph.new.graph) }
-        ensures none { IfOk result (λ have. IfNone have (FitsSkipping self.old graph.old.graph → AllCommon graph.new.graph)) }
-        ensures fits { OnOk result (FitsSkipping self.old graph.old.graph → FitsSkipping self.new graph.new.graph) }
+        ensures none { IfOk result (λ have. IfNone have ((lost : ℕ) → FitsSkipping lost self.old graph.old.graph
+            → AllCommon graph.new.graph)) }
+        ensures fits { OnOk result (CountsStill (AllHeld self.old.unread graph.old.graph graph.new.graph)
+            self.old graph.old.graph self.new graph.new.graph) }
         ensures queues { OnOk result (QueuesNew (heap_items self.old.queue.waiting) graph.old.graph (heap_items self.new.queue.waiting)) }
+        ensures lists { OnOk result (ListsNone graph.old.graph graph.new.graph) }
+        ensures unread { OnOk result (KeepsUnread self.old.unread graph.old.graph self.new.unread graph.new.graph) }
         ensures grows { Grows graph.old.graph graph.new.graph }
         ensures failures { graph.old.failures ≤ graph.new.failures }
         ensures failed { IfErr result (IsRefusal 0 0 graph.old.failures graph.new.failures) }
@@ -397,36 +449,37 @@ fn reach<O: Objects>(
     id: &ObjectId,
     due: &mut Vec<ObjectId>,
 ) -> Result<(), NegotiatorError>
-    ensures fits { OnOk result ((u : ℕ) (ws : List Waiting) → FitsOwing u ws graph.old.graph due.old.items
-        → FitsOwing u ws graph.new.graph due.new.items) }
-    ensures common { OnOk result (has_mark 8 graph.old.graph.held id.now ≡ true → has_mark 2 graph.new.graph.held id.now ≡ true) }
-    ensures less { OnOk result (left 2 graph.new.graph + length due.new.items ≤ left 2 graph.old.graph + length due.old.items) }
-    ensures seen { left 8 graph.new.graph ≤ left 8 graph.old.graph }
+    ensures fits { OnOk result ((lost u : ℕ) (ws : List Waiting) → FitsOwing lost u ws graph.old.graph due.old.items
+        → FitsOwing lost u ws graph.new.graph due.new.items) }
+    ensures common { OnOk result (has_mark SEEN graph.old.graph.held id.now ≡ true → has_mark COMMON graph.new.graph.held id.now ≡ true) }
+    ensures less { OnOk result (left COMMON graph.new.graph + length due.new.items ≤ left COMMON graph.old.graph + length due.old.items) }
+    ensures seen { left SEEN graph.new.graph ≤ left SEEN graph.old.graph }
     ensures spreads { OnOk result (KeepsSpread was_seen due.old.items graph.old.graph due.new.items graph.new.graph) }
     ensures newly { OnOk result (StaysNewly due.old.items graph.old.graph due.new.items graph.new.graph) }
+    ensures among { OnOk result (SettlesAmong (id.now ∷ []) graph.old.graph graph.new.graph) }
+    ensures sees { SeesNone graph.old.graph graph.new.graph }
+    ensures lists { OnOk result (ListsNone graph.old.graph graph.new.graph) }
+    ensures pops { OnOk result (PopsNone graph.old.graph graph.new.graph) }
     ensures grows { Grows graph.old.graph graph.new.graph }
     ensures failures { graph.old.failures ≤ graph.new.failures }
     ensures failed { IfErr result (IsRefusal 0 0 graph.old.failures graph.new.failures) }
 {
-    if is_due(graph, id) {
-        add(graph, id, Flags(2));
-        return match due.push(*id) {
-            Ok(()) => Ok(()),
-            Err(_) => Err(NegotiatorError::Memory),
-        };
+    if !is_due(graph, id) {
+        return Ok(());
     }
-    Ok(())
+    add(graph, id, Flags::COMMON);
+    Ok(due.push(*id)?)
 }
 
 // Whether a commit was seen, and isn't common.
 fn is_due<O: Objects>(graph: &Graph<O>, id: &ObjectId) -> bool
-    ensures seen { IsTrue result → has_mark 8 graph.now.graph.held id.now ≡ true }
-    ensures open { IsTrue result → has_mark 2 graph.now.graph.held id.now ≡ false }
+    ensures seen { IsTrue result → has_mark SEEN graph.now.graph.held id.now ≡ true }
+    ensures open { IsTrue result → has_mark COMMON graph.now.graph.held id.now ≡ false }
     ensures there { IsTrue result → IsSome (commit_at graph.now.graph.objects id.now) }
-    ensures other { result ≡ false → has_mark 8 graph.now.graph.held id.now ≡ true → has_mark 2 graph.now.graph.held id.now ≡ true }
+    ensures other { result ≡ false → has_mark SEEN graph.now.graph.held id.now ≡ true → has_mark COMMON graph.now.graph.held id.now ≡ true }
 {
-    if is_marked(graph, id, Flags(8)) {
-        let is_common = is_marked(graph, id, Flags(2));
+    if is_marked(graph, id, Flags::SEEN) {
+        let is_common = is_marked(graph, id, Flags::COMMON);
         return !is_common;
     }
     false
@@ -438,13 +491,17 @@ fn reach_all<O: Objects>(
     ids: &[ObjectId],
     due: &mut Vec<ObjectId>,
 ) -> Result<(), NegotiatorError>
-    ensures fits { OnOk result ((u : ℕ) (ws : List Waiting) → FitsOwing u ws graph.old.graph due.old.items
-        → FitsOwing u ws graph.new.graph due.new.items) }
-    ensures less { OnOk result (left 2 graph.new.graph + length due.new.items ≤ left 2 graph.old.graph + length due.old.items) }
-    ensures seen { left 8 graph.new.graph ≤ left 8 graph.old.graph }
+    ensures fits { OnOk result ((lost u : ℕ) (ws : List Waiting) → FitsOwing lost u ws graph.old.graph due.old.items
+        → FitsOwing lost u ws graph.new.graph due.new.items) }
+    ensures less { OnOk result (left COMMON graph.new.graph + length due.new.items ≤ left COMMON graph.old.graph + length due.old.items) }
+    ensures seen { left SEEN graph.new.graph ≤ left SEEN graph.old.graph }
     ensures spreads { OnOk result (KeepsSpread was_seen due.old.items graph.old.graph due.new.items graph.new.graph) }
     ensures newly { OnOk result (StaysNewly due.old.items graph.old.graph due.new.items graph.new.graph) }
     ensures common { OnOk result (All (BecomesCommon was_seen graph.old.graph graph.new.graph) ids.now) }
+    ensures among { OnOk result (SettlesAmong ids.now graph.old.graph graph.new.graph) }
+    ensures sees { SeesNone graph.old.graph graph.new.graph }
+    ensures lists { OnOk result (ListsNone graph.old.graph graph.new.graph) }
+    ensures pops { OnOk result (PopsNone graph.old.graph graph.new.graph) }
     ensures grows { Grows graph.old.graph graph.new.graph }
     ensures failures { graph.old.failures ≤ graph.new.failures }
     ensures failed { IfErr result (IsRefusal 0 0 graph.old.failures graph.new.failures) }
@@ -480,14 +537,14 @@ fn next_distance(whole: u32) -> u32
 
 // What the parents of a commit with these marks get.
 fn legacy_of(flags: Flags, skip: Skip) -> Legacy
-    ensures common { has_all 2 flags.0 ≡ true → result ≡ Common }
-    ensures listed { has_all 4 flags.0 ≡ true → result ≡ Common }
-    ensures passes { has_all 2 flags.0 ≡ false → has_all 4 flags.0 ≡ false → 0 < skip.left
+    ensures common { has_all COMMON flags.0 ≡ true → result ≡ Common }
+    ensures listed { has_all COMMON_REF flags.0 ≡ true → result ≡ Common }
+    ensures passes { has_all COMMON flags.0 ≡ false → has_all COMMON_REF flags.0 ≡ false → 0 < skip.left
         → result ≡ Skips (skip_of skip.whole (skip.left - 1)) }
-    ensures grows { has_all 2 flags.0 ≡ false → has_all 4 flags.0 ≡ false → skip.left ≡ 0
+    ensures grows { has_all COMMON flags.0 ≡ false → has_all COMMON_REF flags.0 ≡ false → skip.left ≡ 0
         → result ≡ Skips (skip_of (distance_after skip.whole) (distance_after skip.whole)) }
 {
-    if has(flags, Flags(2)) || has(flags, Flags(4)) {
+    if has(flags, Flags::COMMON) || has(flags, Flags::COMMON_REF) {
         return Legacy::Common;
     }
     if skip.left > 0 {
@@ -502,12 +559,12 @@ fn legacy_of(flags: Flags, skip: Skip) -> Legacy
 
 impl Negotiator for Skipping {
     ghost use Rattle.gixp_negotiators.specs.MarkLaws.{offer_lowers, grows_left};
-    ghost use Rattle.gixp_negotiators.specs.Marks.{left};
+    ghost use Rattle.gixp_negotiators.specs.Marks.{POPPED, left};
     ghost use Rattle.gixp_negotiators.specs.Calls.{KnowsSkipping, AddsSkipping, LearnsSkipping, OffersSkipping};
     ghost use Rattle.gixp_graph.specs.Run.{AnyCallLeft, AnyOfferLeft};
 
     ghost calls = { record {
-      count = λ n g. left 16 g;
+      count = λ n g. left POPPED g;
       failures = λ n. 0;
       knows = KnowsSkipping;
       adds = AddsSkipping;
@@ -524,7 +581,7 @@ impl Negotiator for Skipping {
         id: ObjectId,
         graph: &mut Graph<O>,
     ) -> Result<(), NegotiatorError> {
-        self.push(graph, &id, Flags(12))
+        self.push(graph, &id, SEEN_REF)
     }
 
     fn add_tip<O: Objects>(
@@ -532,7 +589,7 @@ impl Negotiator for Skipping {
         id: ObjectId,
         graph: &mut Graph<O>,
     ) -> Result<(), NegotiatorError> {
-        self.push(graph, &id, Flags(8))
+        self.push(graph, &id, Flags::SEEN)
     }
 
     fn in_common_with_remote<O: Objects>(
@@ -556,7 +613,7 @@ impl Negotiator for Skipping {
 
     ghost offer_lowers = { λ n g id m h r. offer_lowers g h id r.offers };
 
-    ghost none_keeps = { λ n g m h r. grows_left 16 g h r.grows };
+    ghost none_keeps = { λ n g m h r. grows_left POPPED g h r.grows };
 
-    ghost learning_keeps = { λ n g id m h r. grows_left 16 g h r.grows };
+    ghost learning_keeps = { λ n g id m h r. grows_left POPPED g h r.grows };
 }

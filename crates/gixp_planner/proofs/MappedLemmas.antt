@@ -53,7 +53,7 @@ use Rattle.gixp_fetch.specs.declared.error.Error.{Error as FetchError}
 use Rattle.gixp_fetch.specs.declared.options.Outcome.{Outcome}
 use Rattle.gixp_fetch.specs.Sent.{WroteRequests}
 use Rattle.gixp_fetch.specs.FetchRounds.{SendsRound, At, Turn as FetchTurn, Manner, TurnFails, Breaks, before_request, at_request, behind_request, at_answer, behind_answer}
-use Rattle.gixp_fetch.specs.Sessions.{Untouched, RoundsBreakOff, by_caller, exhausted, at_round, behind_pack, answered_at, SessionFails, at_depth, at_wants, in_session, Releases, HoldsSession}
+use Rattle.gixp_fetch.specs.Sessions.{Untouched, RoundsBreakOff, unnamed, by_caller, exhausted, at_round, behind_pack, answered_at, SessionFails, at_depth, at_wants, in_session, Releases, HoldsSession}
 use Rattle.gixp_fetch.specs.Fetch.{World, Parties}
 use Rattle.gixp_fetch.specs.Fetched.{FetchCall, Fetches, unprepared, unlocked}
 use Rattle.gixp_handshake.specs.Taken.{without_refs}
@@ -539,10 +539,10 @@ module _ {N I A E : Type 0} (m : Manner N I A) where
   breaks-extend before asked done e new p (behind_answer sent s reply a h w) =
       sent-extends before.reading sent new h (round-extends before.reading sent asked done (Ok tt) p s)
 
-  refused-extends : (before : At N I) (e : FetchError A E) (n : N) (new : Reading) → before.reading.held.persists ≡ false
-      → TurnFails m before e n new → Extends before.reading new
-  refused-extends before e n new p (inl u) = extends-none before.reading new (ap (λ (z : Reading). z.held.sent) u.stands)
-  refused-extends before e n new p (inr b) = breaks-extend before b.asked b.done e new p b.breaks
+  refused-extends : (before : At N I) (e : FetchError A E) (n : N) (new : Reading) (left : I) → before.reading.held.persists ≡ false
+      → TurnFails m before e n new left → Extends before.reading new
+  refused-extends before e n new left p (inl u) = extends-none before.reading new (ap (λ (z : Reading). z.held.sent) u.stands)
+  refused-extends before e n new left p (inr b) = breaks-extend before b.asked b.done e new p b.breaks
 
 module _ {N I A S C P X : Type 0} (parties : Parties N I A S C P X) where
   same-extends : (call : FetchCall) (old last : World N I S C) → Untouched parties old last → Extends old.reading last.reading
@@ -553,14 +553,16 @@ module _ {N I A S C P X : Type 0} (parties : Parties N I A S C P X) where
       (old : Reading) (requests : List (List ℕ)) → old.held.persists ≡ false
       → (ends : RoundsBreakOff parties call banded ids c read locked turns before e last progress)
       → WroteRequests old (answered_at parties ends) requests → Extends old last.reading
+  ends-extend call banded ids c read locked turns before e last progress old requests p (unnamed g at i u) w =
+      sent-extends old before.reading last.reading (ap (λ (z : Reading). z.held) at.reading) (wrote-extends old before.reading requests p w)
   ends-extend call banded ids c read locked turns before e last progress old requests p (by_caller s g at u) w =
       sent-extends old before.reading last.reading (ap (λ (z : Reading). z.held) at.reading) (wrote-extends old before.reading requests p w)
   ends-extend call banded ids c read locked turns before e last progress old requests p (exhausted t r d n g at i u) w =
       sent-extends old t.after.reading last.reading (ap (λ (z : Reading). z.held) at.reading)
       (wrote-extends old t.after.reading requests p w)
-  ends-extend call banded ids c read locked turns before e last progress old requests p (at_round f u) w =
+  ends-extend call banded ids c read locked turns before e last progress old requests p (at_round i s f u) w =
       extends-more old before.reading last.reading (wrote-extends old before.reading requests p w)
-      (refused-extends _ before e last.negotiate last.reading (w.persists ∙ p) f)
+      (refused-extends _ (record before { interrupt = i }) e last.negotiate last.reading last.interrupt (w.persists ∙ p) f)
   ends-extend call banded ids c read locked turns before e last progress old requests p (behind_pack t r k n h u) w =
       sent-extends old t.after.reading last.reading h (wrote-extends old t.after.reading requests p w)
 
@@ -583,7 +585,7 @@ module _ {N I A S C P X : Type 0} (parties : Parties N I A S C P X) where
   session-extends call old (Ok None) new progress p h = released-extends old.reading h.0 new h.2 (same-extends call old h.0 h.1.untouched)
   session-extends call old (Err e) new progress p (inl (unprepared u s)) =
       extends-none old.reading new.reading (ap (λ (w : World N I S C). w.reading.held.sent) s)
-  session-extends call old (Err e) new progress p (inl (unlocked a b k u s)) =
+  session-extends call old (Err e) new progress p (inl (unlocked a b k m u s)) =
       extends-none old.reading new.reading (ap (λ (w : World N I S C). w.reading.held.sent) s)
   session-extends call old (Err e) new progress p (inr h) =
       released-extends old.reading h.0 new h.2 (refuses-extend call old e h.0 progress p h.1)

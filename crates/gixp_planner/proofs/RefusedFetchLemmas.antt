@@ -228,9 +228,9 @@ module _ {N I A S C P : Type 0} (parties : Parties N I A S C P CopyError) (basis
       by-hold false s t locked had h = absurd h
       by-hold true s t locked had h = by-chance (of_lock h.0) h.2 (locks-disturb h.0)
 
-      by-settling : (s t : S) → SettleFails parties.store_calls s e t → WayOr
-      by-settling s t (inl m) = inl m.0
-      by-settling s t (inr w) = by-chance (of_write w.0) w.2 (writes-disturb w.0)
+      by-settling : (us : List ShallowUpdate) (s t : S) → SettleFails parties.store_calls us s e t → WayOr
+      by-settling us s t (_, inl m) = inl m.0
+      by-settling us s t (_, inr w) = by-chance (of_write w.0) w.2 (writes-disturb w.0)
 
       delivered-way : (ids : List ObjectId) (read : S) (action : ActionValue) (rounds : List Round) (updates : List ShallowUpdate)
           (reply : AnswerValue) (end : At N I) (progress : P)
@@ -239,7 +239,7 @@ module _ {N I A S C P : Type 0} (parties : Parties N I A S C P CopyError) (basis
           ++ told) false old.consumer read old.locked end.reading e new.consumer new.store new.locked new.reading progress → WayOr
       delivered-way ids read action rounds updates reply end progress g (at_lock h c r) =
           by-hold (is_any (updates ++ told) && not old.locked) read new.store old.locked new.locked h
-      delivered-way ids read action rounds updates reply end progress g (at_boundary held h r s) = by-settling held new.store s
+      delivered-way ids read action rounds updates reply end progress g (at_boundary held h r s) = by-settling (updates ++ told) held new.store s
       delivered-way ids read action rounds updates reply end progress g (at_pack h r) = by-pack r
         where
           stood : end.reading.failures ≡ 0
@@ -262,7 +262,7 @@ module _ {N I A S C P : Type 0} (parties : Parties N I A S C P CopyError) (basis
       fails-way : (progress : P) → FetchFails parties v banded wishes given old e new progress → WayOr
       fails-way progress (unopened o n r) = unopened-way o
       fails-way progress (unready ids asked o f r) = unready-way asked f
-      fails-way progress (untold ids action rounds updates reply end g m n r l c) = inl m
+      fails-way progress (untold ids action rounds updates reply end g m n r i l c) = inl m
       fails-way progress (undelivered ids read action rounds updates reply end g n d) =
           delivered-way ids read action rounds updates reply end progress g d
       fails-way progress (unpacked rounds u l c) =
@@ -342,7 +342,7 @@ module _ {N I A S C P : Type 0} (parties : Parties N I A S C P CopyError) (basis
 
     unstarted : (e : FetchError A CopyError) → (IsDisturbed e → ⊥) → (f : FetchesOver parties IsOver IsEmpty h old new (Err e))
         → StartFails parties (planner_call h) f.first e f.last → AnyWay (Err e)
-    unstarted e u f (unlocked asked banded p l s) = at (locks-disturb l.error)
+    unstarted e u f (unlocked asked banded p m l s) = at (locks-disturb l.error)
       where
         at : Chance {A = A} (of_lock l.error) → AnyWay (Err e)
         at (inl d) = absurd (u (subst (λ w. IsDisturbed w) (sym l.gives) d))

@@ -190,31 +190,31 @@ module _ {N M I A : Type 0} (calls : NegotiationCalls N A) (others : Negotiation
     breaks old asked done e reading (behind_answer sent s reply a h w) = behind_answer sent s reply a h w
 
     asks_broken : (old : At N I) (asked : ArgumentsValue) (done : Bool) (e : FetchError A E) (reading : Reading)
-        (b : Breaks own old asked done e reading) → AsksBroken own b → AsksBroken other (breaks old asked done e reading b)
+        (i : I) (b : Breaks own old asked done e reading) → AsksBroken own b i → AsksBroken other (breaks old asked done e reading b) i
     unfolding breaks
-    asks_broken old asked done e reading (before_request w r) k = k
-    asks_broken old asked done e reading (at_request error s g) k = k
-    asks_broken old asked done e reading (behind_request s w) k = k
-    asks_broken old asked done e reading (at_answer sent s error a h g) k = k
-    asks_broken old asked done e reading (behind_answer sent s reply a h w) k = k
+    asks_broken old asked done e reading i (before_request w r) k = k
+    asks_broken old asked done e reading i (at_request error s g) k = k
+    asks_broken old asked done e reading i (behind_request s w) k = k
+    asks_broken old asked done e reading i (at_answer sent s error a h g) k = k
+    asks_broken old asked done e reading i (behind_answer sent s reply a h w) k = k
 
     -- a round that is refused, what it told by then, and what stays
-    record Refused (old : At N I) (e : FetchError A E) (n : N) (reading : Reading) (refused : TurnFails own old e n reading)
+    record Refused (old : At N I) (e : FetchError A E) (n : N) (reading : Reading) (i : I) (refused : TurnFails own old e n reading i)
         : Type 0 where
-      pub fails : TurnFails other (at_of f old) e (f n) reading
+      pub fails : TurnFails other (at_of f old) e (f n) reading i
       pub told : told_of own refused ≡ told_of other fails
       pub stays : Stays old.negotiate → Stays n
 
-    refused : (old : At N I) (e : FetchError A E) (n : N) (reading : Reading) (h : TurnFails own old e n reading)
-        → Refused old e n reading h
-    refused old e n reading (inl u) =
+    refused : (old : At N I) (e : FetchError A E) (n : N) (reading : Reading) (i : I) (h : TurnFails own old e n reading i)
+        → Refused old e n reading i h
+    refused old e n reading i (inl u) =
         let r = k.round_fails old.negotiate old.window old.asked old.previous u.error n u.window u.asked u.refused in
         record {
-          fails = inl (record { error = u.error; own = u.own; window = u.window; asked = u.asked; refused = r.0; gives = u.gives; stands = u.stands });
+          fails = inl (record { error = u.error; own = u.own; window = u.window; asked = u.asked; refused = r.0; gives = u.gives; stands = u.stands; unasked = u.unasked });
           told = refl;
           stays = r.1;
         }
-    refused old e n reading (inr b) =
+    refused old e n reading i (inr b) =
         let r = k.goes old.negotiate old.window old.asked old.previous b.round b.done n b.window b.asked b.negotiated in
         record {
           fails = inr (record {
@@ -224,7 +224,7 @@ module _ {N M I A : Type 0} (calls : NegotiationCalls N A) (others : Negotiation
             window = b.window;
             negotiated = r.0;
             breaks = breaks old b.asked b.done e reading b.breaks;
-            asks = asks_broken old b.asked b.done e reading b.breaks b.asks;
+            asks = asks_broken old b.asked b.done e reading i b.breaks b.asks;
           });
           told = refl;
           stays = r.1;
@@ -247,16 +247,31 @@ module _ {N M I A : Type 0} (calls : NegotiationCalls N A) (others : Negotiation
           }),
           λ s. subst Stays (sym h.negotiates) (x.1 s),
         )
-    rounds_fail start e told n reading i (inr l) =
-        let r = refused l.before e n reading l.refused in (
-          inr (record {
+    rounds_fail start e told n reading i (inr (inr u)) = (
+      inr (inr (record {
+        turns = map (turn_of f) u.turns;
+        before = at_of f u.before;
+        run = rounds start u.turns u.before u.run;
+        gives = u.gives;
+        told = u.told ∙ sym (rounds_told f u.turns);
+        negotiates = ap f u.negotiates;
+        reads = u.reads;
+        asks = u.asks;
+      })),
+      λ s. subst Stays (sym u.negotiates) (rounds_stay start u.turns u.before u.run s),
+    )
+    rounds_fail start e told n reading i (inr (inl l)) =
+        let r = refused (record l.before { interrupt = l.asked }) e n reading i l.refused in (
+          inr (inl (record {
             turns = map (turn_of f) l.turns;
             before = at_of f l.before;
             run = rounds start l.turns l.before l.run;
+            asked = l.asked;
+            said = l.said;
             refused = r.fails;
             told = l.told ∙ ap (λ rs. rs ++ told_of own l.refused) (sym (rounds_told f l.turns))
                 ∙ ap (λ rs. map (λ t. t.round) (map (turn_of f) l.turns) ++ rs) r.told;
-          }),
+          })),
           λ h. r.stays (rounds_stay start l.turns l.before l.run h),
         )
 
@@ -363,9 +378,9 @@ module _ {N M I A S C P X : Type 0} (calls : NegotiationCalls N A) (others : Neg
           }) l c,
           x.1 b.1,
         )
-    fails e new progress (untold ids action told updates reply end g m n r l c) =
+    fails e new progress (untold ids action told updates reply end g m n r i l c) =
         let x = negotiated ids new.store action told updates reply end g in
-        (untold ids action told updates reply (at_of f end) x.0 m (ap f n) r l c, subst Stays (sym n) x.1)
+        (untold ids action told updates reply (at_of f end) x.0 m (ap f n) r i l c, subst Stays (sym n) x.1)
     fails e new progress (undelivered ids read action told updates reply end g n d) =
         let x = negotiated ids read action told updates reply end g in
         (undelivered ids read action told updates reply (at_of f end) x.0 (ap f n) d, subst Stays (sym n) x.1)
@@ -421,8 +436,8 @@ module _ {N M I A S C P X : Type 0} (calls : NegotiationCalls N A) (others : Neg
       unprepared p (ap (world_of f) s),
       subst (λ (w : World N I S C). Stays w.negotiate) (sym s) (k.begun old.negotiate begins),
     )
-    start_fails e new (unlocked asked banded p l s) = (
-      unlocked asked banded p l (ap (world_of f) s),
+    start_fails e new (unlocked asked banded p m l s) = (
+      unlocked asked banded p m l (ap (world_of f) s),
       subst (λ (w : World N I S C). Stays w.negotiate) (sym s) (k.begun old.negotiate begins),
     )
 

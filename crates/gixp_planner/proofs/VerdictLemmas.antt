@@ -320,12 +320,12 @@ module _ {N I A : Type 0} (m : Manner N I A) where
               (λ q. subst (λ r. IsPlain (view m.banded new) r) i q)) k)
       at-response (inr (inr (inr l))) said now k = inl (g ∙ ap of_response l.error)
 
-    stops : (b : Breaks m x asked done e new) → AsksBroken m b → Stops
-    stops (before_request w r) k = inl w
-    stops (at_request c s g) k = at-client c s g
-    stops (behind_request s w) k = inl w.1
-    stops (at_answer sent s error a h g) k = at-response sent s error h g a k.0 k.1 k.2
-    stops (behind_answer sent s reply a h w) k = inl w
+    stops : (left : I) (b : Breaks m x asked done e new) → AsksBroken m b left → Stops
+    stops left (before_request w r) k = inl w
+    stops left (at_request c s g) k = at-client c s g
+    stops left (behind_request s w) k = inl w.1
+    stops left (at_answer sent s error a h g) k = at-response sent s error h g a x.interrupt left k
+    stops left (behind_answer sent s reply a h w) k = inl w
 
   -- how rounds fail
   module _ (never : ((i j : I) → m.says i true j → ⊥) × (m.plain ≡ true)) (x : At N I) (alone : x.reading.held.persists ≡ false) (new : Reading)
@@ -348,15 +348,34 @@ module _ {N I A : Type 0} (m : Manner N I A) where
         at (inl d) = absurd (undisturbed (subst (λ w. IsDisturbed w) (sym g) d))
         at (inr n) = inl (g ∙ n)
 
-    turn-fails : (turns : List (Turn N I)) (before : At N I) (next : N) → Rounds m x turns before → TurnFails m before e next new → RunStops
-    turn-fails turns before next run (inl u) = own-stops u.error u.own u.gives
-    turn-fails turns before next run (inr b) =
-        ran-to turns before run
-        (stops before (alone-then before turns run) new z e undisturbed never b.round b.done next b.window b.asked b.negotiated b.breaks
-        b.asks)
+    -- the interrupt that was asked before a round has no part in what came of it
+    as-before : (before : At N I) (asked : I) → (e ≡ fetch.Memory)
+        ⊎ Last (record before { interrupt = asked }) new (end_of {A = A} {X = CopyError} (Err e)) → (e ≡ fetch.Memory)
+        ⊎ Last before new (end_of {A = A} {X = CopyError} (Err e))
+    as-before before asked (inl q) = inl q
+    as-before before asked (inr l) = inr (record {
+      round = l.round;
+      done = l.done;
+      next = l.next;
+      window = l.window;
+      asked = l.asked;
+      negotiated = l.negotiated;
+      none = l.none;
+      held = l.held;
+      ends = l.ends;
+    })
+
+    turn-fails : (turns : List (Turn N I)) (before : At N I) (asked : I) (next : N) (interrupt : I) → Rounds m x turns before
+        → TurnFails m (record before { interrupt = asked }) e next new interrupt → RunStops
+    turn-fails turns before asked next interrupt run (inl u) = own-stops u.error u.own u.gives
+    turn-fails turns before asked next interrupt run (inr b) =
+        ran-to turns before run (as-before before asked
+        (stops (record before { interrupt = asked }) (alone-then before turns run) new z e undisturbed never b.round b.done next b.window
+        b.asked b.negotiated interrupt b.breaks b.asks))
 
     pub rounds-fail : (rounds : List Round) (next : N) (interrupt : I) → RoundsFail m x e rounds next new interrupt → RunStops
-    rounds-fail rounds next interrupt (inr l) = turn-fails l.turns l.before next l.run l.refused
+    rounds-fail rounds next interrupt (inr (inr u)) = inl u.gives
+    rounds-fail rounds next interrupt (inr (inl l)) = turn-fails l.turns l.before l.asked next interrupt l.run l.refused
     rounds-fail rounds next interrupt (inl f) = by-end f.ends
       where
         by-end : Interrupts m x rounds f.end ⊎ DoneWithout m x rounds f.end → RunStops

@@ -3,18 +3,22 @@
 
 mod clauses;
 mod fetches;
+mod first_fetch;
 mod local_refs;
 mod maps;
 mod mirror;
+mod promised;
 mod refs;
 mod remote_listing;
 mod whole_fetch;
 
 pub use clauses::{marked_complete, read_answer, read_pack, read_spec};
 pub use fetches::fetch_one;
+pub use first_fetch::fetch_branches;
 pub use local_refs::refs_to_write;
 pub use maps::mapped_branches;
-pub use mirror::{Change, MirrorRefs, plan_mirror};
+pub use mirror::plan_mirror;
+pub use promised::promised_fetch;
 pub use refs::{recorded_refs, refs_of_bytes, refs_of_file};
-pub use remote_listing::{ls_remote, print_remote_refs, remote_refs};
-pub use whole_fetch::{Fetched, Repository, fetch_from};
+pub use remote_listing::{ls_remote, print_remote_refs};
+pub use whole_fetch::fetch_from;

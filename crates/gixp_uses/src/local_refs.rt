@@ -1,16 +1,15 @@
 //! After a fetch, which local refs are to be written.
-use crate::whole_fetch::Fetched;
-use gix_protocol::fetch::Tags;
 use gix_protocol::fetch::negotiate::{Graph, Shared, StoredObjects, StoredRefs};
 use gix_protocol::fetch::refs::Update;
 use gix_protocol::fetch::refs::update::{self, update};
+use gix_protocol::fetch::{RefMap, Tags};
 use std::alloc::Global;
 
 /// What becomes of the local ref of each mapping, once the pack is in: the objects are those of the repository with all that
 /// came. Where it fails, no ref is to be written.
 pub fn refs_to_write(
     alloc: Global,
-    fetched: &Fetched,
+    map: &RefMap,
     refs: &StoredRefs,
     objects: &StoredObjects,
 ) -> Result<Vec<Update>, update::Error> {
@@ -22,7 +21,7 @@ pub fn refs_to_write(
     };
     update(
         alloc,
-        &fetched.map,
+        map,
         refs,
         &Shared::new(objects),
         &mut graph,

@@ -318,7 +318,7 @@ fn fetch_told(alloc: Global, told: &mut Told) -> Result<String, AllocError> {
 fn tells_each_round(rt: HostRuntime) -> Result<(), Fail> {
     let mut told = Told::new(rt.alloc());
     assert_eq!(rt; fetch_told(rt.alloc(), &mut told)?.as_str(), "3 rounds");
-    // Where a name can't be allocated, the step alone is told.
+    // Where a name of the handshake can't be allocated, its step alone is told; one of a round or of the pack is `Memory`.
     assert_eq!(rt;
         told.lines(rt.alloc())?.as_str(),
         CALLS,

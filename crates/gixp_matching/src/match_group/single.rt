@@ -4,7 +4,7 @@ ghost use Rattle.std.specs.List.{list_any, position};
 ghost use Rattle.std.specs.Option.{option_map};
 ghost use Rattle.bstr.specs.Owned.{bstring_bytes};
 ghost use Rattle.gixp_refspec.specs.Spec.{Spec, is_negative};
-ghost use Rattle.gixp_matching.specs.Only.{is_positive, IsOnlyPositive};
+ghost use Rattle.gixp_matching.specs.Only.{is_positive, IsPlaceOfOnly};
 ghost use Rattle.gixp_matching.specs.Rows.{IsPrepared};
 
 use crate::match_group::local::local_of;
@@ -42,12 +42,13 @@ fn has_positive(specs: &[RefSpecRef<'_>]) -> bool
 
 /// The place of the only positive refspec, where there is just one.
 pub(crate) fn only_positive(specs: &[RefSpecRef<'_>]) -> Option<usize>
-    ensures { IfSome result (IsOnlyPositive specs.now) }
+    ensures { IsPlaceOfOnly specs.now result }
 {
-    match first_positive(specs) {
-        Some(first) if !has_positive(&specs[first + 1..]) => Some(first),
-        _ => None,
+    let first = first_positive(specs)?;
+    if has_positive(&specs[first + 1..]) {
+        return None;
     }
+    Some(first)
 }
 
 impl Single<'_> {

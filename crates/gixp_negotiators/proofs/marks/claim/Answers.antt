@@ -1,6 +1,6 @@
 -- A mark is given.
 use Rattle.gixp_negotiators.proofs.LookLemmas.{none_some}
-use Rattle.gixp_negotiators.specs.Marks.{has_all}
+use Rattle.gixp_negotiators.specs.Marks.{POPPED, has_all}
 use Rattle.std.proofs.Common.{ap}
 use Rattle.std.proofs.Common.{◌∙◌, sym}
 use Rattle.gixp_negotiators.specs.Marks.{IsFoundWith}
@@ -12,13 +12,14 @@ pub returns-clause-claimed : goal.returns-clause-claimed
 returns-clause-claimed g c =
     let f : IsFoundWith c.look.new.graph.graph c.args.id.now c.in-Some.flags = rw c.in-Some.is at c.in_ok-time.ensures.found in
     claims c.args.mark.0 c.args.graph.now.graph c.look.new.graph.graph c.add.new.graph.graph c.args.id.now c.in-Some.flags
-    c.look.ensures.grows c.add.ensures.grows f c.look.ensures.sees (sym c.has.ensures ∙ c.if-has.false)
+    c.look.ensures.grows c.add.ensures.grows f c.look.ensures.marks (sym c.has.ensures ∙ c.if-has.false)
     (has_part c.args.marks.0 c.args.mark.0 c.add.new.graph.graph.held c.args.id.now c.requires.first (c.add.ensures.marked f.held))
 
 pub returns-then-has-clause-spent : goal.returns-then-has-clause-spent
 returns-then-has-clause-spent g c e =
     let f : IsFoundWith c.look.new.graph.graph c.args.id.now c.in-Some.flags = rw c.in-Some.is at c.in_ok-time.ensures.found in
-    λ s. c.look.ensures.takes c.args.id.now (f.marks 16 ∙ ap (λ m. has_all m c.in-Some.flags.0) (sym e) ∙ sym c.has.ensures ∙ c.if-has.true)
+    λ s. c.look.ensures.pops c.args.id.now (f.marks POPPED ∙ ap (λ m. has_all m c.in-Some.flags.0) (sym e) ∙ sym c.has.ensures ∙
+    c.if-has.true)
 
 pub returns-in_default-clause-spent : goal.returns-in_default-clause-spent
 returns-in_default-clause-spent g c e =

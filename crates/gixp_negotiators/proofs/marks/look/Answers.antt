@@ -1,40 +1,53 @@
 -- A look at a commit.
 use Rattle.std.proofs.Common.{refl}
 use Rattle.gixp_negotiators.specs.MarkLaws.{grows_left}
-use Rattle.gixp_negotiators.proofs.LookLemmas.{grows_looked, found_looked, missing_looked, none_looked, absent_looked, timed_looked}
+use Rattle.gixp_negotiators.proofs.LookLemmas.{grows_looked, held_looked, found_looked, missing_looked, none_looked, absent_looked, timed_looked}
+use Rattle.gixp_negotiators.specs.Marks.{COMMON, COMMON_REF, SEEN, POPPED}
 use Rattle.gixp_negotiators.proofs.marks.look.Goals as goal
 
-pub returns-in-Ok-clause-found : goal.returns-in-Ok-clause-found
-returns-in-Ok-clause-found g c =
-    found_looked c.args.graph.now.graph c.lookup.new.self.graph c.args.id.now c.in-Ok.found c.in-Ok.ensures.found c.in-Ok.ensures.time
-    c.in-Ok.ensures.ok
+pub returns-clause-found : goal.returns-clause-found
+returns-clause-found g c =
+    found_looked c.args.graph.now.graph c.lookup.new.self.graph c.args.id.now c.in_ok-lookup.field-0 c.in_ok-lookup.ensures.found
+    c.in_ok-lookup.ensures.time
+    c.in_ok-lookup.ensures.ok
 
-pub returns-in-Ok-clause-none : goal.returns-in-Ok-clause-none
-returns-in-Ok-clause-none g c = missing_looked c.args.graph.now.graph c.args.id.now c.in-Ok.found c.in-Ok.ensures.time
+pub returns-clause-none : goal.returns-clause-none
+returns-clause-none g c = missing_looked c.args.graph.now.graph c.args.id.now c.in_ok-lookup.field-0 c.in_ok-lookup.ensures.time
 
-pub returns-in-Ok-clause-grows : goal.returns-in-Ok-clause-grows
-returns-in-Ok-clause-grows g c = grows_looked c.args.graph.now.graph c.lookup.new.self.graph c.args.id.now c.in-Ok.ensures.ok
+pub returns-clause-grows : goal.returns-clause-grows
+returns-clause-grows g c = grows_looked c.args.graph.now.graph c.lookup.new.self.graph c.args.id.now c.in_ok-lookup.ensures.ok
 
-pub returns-in-Ok-clause-seen : goal.returns-in-Ok-clause-seen
-returns-in-Ok-clause-seen g c = grows_left 8 c.args.graph.now.graph c.lookup.new.self.graph
-    (grows_looked c.args.graph.now.graph c.lookup.new.self.graph c.args.id.now c.in-Ok.ensures.ok)
+pub returns-clause-seen : goal.returns-clause-seen
+returns-clause-seen g c = grows_left SEEN c.args.graph.now.graph c.lookup.new.self.graph
+    (grows_looked c.args.graph.now.graph c.lookup.new.self.graph c.args.id.now c.in_ok-lookup.ensures.ok)
 
-pub returns-in-Ok-clause-common : goal.returns-in-Ok-clause-common
-returns-in-Ok-clause-common g c = grows_left 2 c.args.graph.now.graph c.lookup.new.self.graph
-    (grows_looked c.args.graph.now.graph c.lookup.new.self.graph c.args.id.now c.in-Ok.ensures.ok)
+pub returns-clause-common : goal.returns-clause-common
+returns-clause-common g c = grows_left COMMON c.args.graph.now.graph c.lookup.new.self.graph
+    (grows_looked c.args.graph.now.graph c.lookup.new.self.graph c.args.id.now c.in_ok-lookup.ensures.ok)
 
-pub returns-in-Ok-clause-sees : goal.returns-in-Ok-clause-sees
-returns-in-Ok-clause-sees g c = none_looked 8 refl c.args.graph.now.graph c.lookup.new.self.graph c.args.id.now c.in-Ok.ensures.ok
+pub returns-clause-sees : goal.returns-clause-sees
+returns-clause-sees g c = none_looked SEEN refl c.args.graph.now.graph c.lookup.new.self.graph c.args.id.now c.in_ok-lookup.ensures.ok
 
-pub returns-in-Ok-clause-absent : goal.returns-in-Ok-clause-absent
-returns-in-Ok-clause-absent g c =
-    absent_looked c.args.graph.now.graph c.lookup.new.self.graph c.args.id.now c.in-Ok.found c.in-Ok.ensures.found c.in-Ok.ensures.ok
+pub returns-clause-absent : goal.returns-clause-absent
+returns-clause-absent g c =
+    absent_looked c.args.graph.now.graph c.lookup.new.self.graph c.args.id.now c.in_ok-lookup.field-0 c.in_ok-lookup.ensures.found
+    c.in_ok-lookup.ensures.ok
 
-pub returns-in-Ok-clause-timed : goal.returns-in-Ok-clause-timed
-returns-in-Ok-clause-timed g c = timed_looked c.args.graph.now.graph c.args.id.now c.in-Ok.found c.in-Ok.ensures.time
+pub returns-clause-timed : goal.returns-clause-timed
+returns-clause-timed g c = timed_looked c.args.graph.now.graph c.args.id.now c.in_ok-lookup.field-0 c.in_ok-lookup.ensures.time
 
-pub returns-in-Ok-clause-settles : goal.returns-in-Ok-clause-settles
-returns-in-Ok-clause-settles g c = none_looked 2 refl c.args.graph.now.graph c.lookup.new.self.graph c.args.id.now c.in-Ok.ensures.ok
+pub returns-clause-settles : goal.returns-clause-settles
+returns-clause-settles g c = none_looked COMMON refl c.args.graph.now.graph c.lookup.new.self.graph c.args.id.now c.in_ok-lookup.ensures.ok
 
-pub returns-in-Ok-clause-takes : goal.returns-in-Ok-clause-takes
-returns-in-Ok-clause-takes g c = none_looked 16 refl c.args.graph.now.graph c.lookup.new.self.graph c.args.id.now c.in-Ok.ensures.ok
+pub returns-clause-pops : goal.returns-clause-pops
+returns-clause-pops g c = none_looked POPPED refl c.args.graph.now.graph c.lookup.new.self.graph c.args.id.now c.in_ok-lookup.ensures.ok
+
+pub returns-clause-lists : goal.returns-clause-lists
+returns-clause-lists g c = none_looked COMMON_REF refl c.args.graph.now.graph c.lookup.new.self.graph c.args.id.now
+    c.in_ok-lookup.ensures.ok
+
+pub returns-clause-held : goal.returns-clause-held
+returns-clause-held g c = held_looked c.args.graph.now.graph c.lookup.new.self.graph c.args.id.now c.in_ok-lookup.ensures.ok
+
+pub returns-clause-marks : goal.returns-clause-marks
+returns-clause-marks g c b z = none_looked b z c.args.graph.now.graph c.lookup.new.self.graph c.args.id.now c.in_ok-lookup.ensures.ok

@@ -1,7 +1,13 @@
 use Rattle.std.proofs.Common.{◌≡◌, refl, sym, ◌∙◌, subst, inl, inr, length, arith}
 use Rattle.std.proofs.lemmas.Result.{err_from_is_err_and}
-use Rattle.gixp_fetch.proofs.RoundLemmas.{manner_still, turn_by, refusal_by, running_more, packed_by, done_by, interrupts_by, fails_by, failed_by, turn_at, refused_at}
+use Rattle.gixp_fetch.proofs.RoundLemmas.{manner_still, turn_by, refusal_by, running_more, unnamed_by, packed_by, done_by, interrupts_by, fails_by, failed_by, turn_at, refused_at}
+use Rattle.gixp_fetch.proofs.ProgressLemmas.{named_as, tells_more}
 use Rattle.gixp_fetch.proofs.session.FetchSession.rounds.Goals as goal
+
+pub returns-in_err-tell_round-clause-err : goal.returns-in_err-tell_round-clause-err
+returns-in_err-tell_round-clause-err g c =
+    let p = err_from_is_err_and c.from_residual.result c.from_residual.ensures.1 in
+    rw (p.1, p.2) (unnamed_by _ _ _ _ c.rounds.so_far.updates.items _ refl c.rounds.invariant.running)
 
 pub returns-then-is_interrupted-clause-err : goal.returns-then-is_interrupted-clause-err
 returns-then-is_interrupted-clause-err g c =
@@ -16,10 +22,13 @@ returns-in_err-done-clause-err g c =
     let e = c.in_err-done.field-0.0 in
     let h =
     refusal_by _ _ (manner_still g.N.Negotiate.calls g.I.Interrupt.says g.T.ExtendedBufRead.is_plain c.args.self.now c.rounds.self
-    c.rounds.invariant.same) _ e _ _ (c.in_err-done.ensures.err c.rounds.self.interrupt.now) in
-    let p = err_from_is_err_and c.from_residual.result c.from_residual.ensures.1 in
-    rw (p.1, p.2) (fails_by _ _ _ c.rounds.so_far.rounds.items c.rounds.so_far.updates.items e _ _ _ c.rounds.invariant.running
-    (refused_at _ _ _ _ _ _ _ _ _ _ _ c.as_ref.ensures.value h))
+    c.rounds.invariant.same) _ e _ _ _ c.in_err-done.ensures.err in
+    let s =
+    subst (λ b. g.I.Interrupt.says c.rounds.self.interrupt.now b c.is_interrupted.new.self) c.if-is_interrupted.false
+    c.is_interrupted.ensures in
+    let p = err_from_is_err_and c.from_residual-in_err-done.result c.from_residual-in_err-done.ensures.1 in
+    rw (p.1, p.2) (fails_by _ _ _ c.rounds.so_far.rounds.items c.rounds.so_far.updates.items e _ _ _ _ c.rounds.invariant.running s
+    (refused_at _ _ _ _ _ _ _ _ _ _ _ _ c.as_ref.ensures.value h))
 
 pub returns-then-has_pack-clause-ok : goal.returns-then-has_pack-clause-ok
 returns-then-has_pack-clause-ok g c =
@@ -68,4 +77,18 @@ rounds-preserved g c =
       running = running_more _ _ _ c.rounds.so_far.rounds.items _ c.rounds.so_far.updates.items _ _ c.rounds.invariant.running
           (turn_at _ _ _ _ _ _ _ _ _ c.as_ref.ensures.value (o.turn c.rounds.self.interrupt.now s)) c.if-done.false
           (sym c.has_pack.ensures ∙ c.if-has_pack.false) o.told o.gathered;
+      told = tells_more g.P.Progress.told g.P.NestedProgress.adds _ _ c.rounds.so_far.rounds.items _ o.round c.args.self.now.progress.now
+          c.rounds.self.progress.now c.tell_round.new.progress c.turn.new.self.progress.now c.rounds.invariant.same.sideband_all o.told
+          c.rounds.invariant.told
+          (named_as g.P.Progress.told _ _ _ _ c.deref.ensures.value c.in_ok-tell_round.ensures.ok) c.in_ok-done.ensures.told;
     }
+
+pub returns-then-has_pack-clause-told : goal.returns-then-has_pack-clause-told
+returns-then-has_pack-clause-told g c =
+    let o =
+    turn_by _ _ (manner_still g.N.Negotiate.calls g.I.Interrupt.says g.T.ExtendedBufRead.is_plain c.args.self.now c.rounds.self
+    c.rounds.invariant.same) _ _ _ _ _ _ c.in_ok-done.ensures.ok in
+    tells_more g.P.Progress.told g.P.NestedProgress.adds _ _ c.rounds.so_far.rounds.items _ o.round c.args.self.now.progress.now
+    c.rounds.self.progress.now c.tell_round.new.progress c.turn.new.self.progress.now c.rounds.invariant.same.sideband_all o.told
+    c.rounds.invariant.told
+    (named_as g.P.Progress.told _ _ _ _ c.deref.ensures.value c.in_ok-tell_round.ensures.ok) c.in_ok-done.ensures.told

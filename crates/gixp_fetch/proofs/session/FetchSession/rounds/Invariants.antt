@@ -1,5 +1,6 @@
-use Rattle.std.proofs.Common.{◌<◌}
+use Rattle.std.proofs.Common.{◌<◌, length}
 use Rattle.gixp_fetch.specs.FetchRounds.{Running}
+use Rattle.gixp_fetch.specs.FetchProgress.{TellsRounds}
 use Rattle.gixp_fetch.specs.Lent.{IsSameSession, manner_in, stands, begins}
 use Rattle.gixp_fetch.proofs.session.FetchSession.rounds.Given as goal
 
@@ -12,6 +13,8 @@ invariant-rounds g l = record {
       (begins g.T.ExtendedBufRead.reading l.fn.negotiate l.fn.self l.stateless l.fn.arguments)
       (stands g.T.ExtendedBufRead.reading l.negotiate l.self l.so_far l.previous)
       l.so_far.rounds.items l.so_far.updates.items;
+  told : TellsRounds g.P.Progress.told g.P.NestedProgress.adds l.fn.self.sideband_all (length l.so_far.rounds.items)
+      l.fn.self.progress.now l.self.progress.now;
 }
 
 abbrev pub decreases-rounds : goal.decreases-rounds

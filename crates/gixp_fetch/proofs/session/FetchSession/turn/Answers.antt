@@ -6,46 +6,46 @@ use Rattle.gixp_fetch.proofs.session.FetchSession.turn.Goals as goal
 pub returns-in_err-push-clause-err : goal.returns-in_err-push-clause-err
 returns-in_err-push-clause-err g c =
     let p = err_from_is_err_and c.from_residual-in_err-push.result c.from_residual-in_err-push.ensures.1 in
-    rw (p.1, p.2) (λ start. inr (record {
+    rw (p.1, p.2) (inr (record {
       asked = c.one_round.new.arguments;
       round = c.in_ok-round.round;
       done = c.in_ok-round.done;
       window = c.one_round.new.state;
       negotiated = c.in_ok-round.ensures.went;
       breaks = before_request refl refl;
-      asks = tt;
+      asks = refl;
     }))
 
 pub returns-in_err-so_far-clause-err : goal.returns-in_err-so_far-clause-err
 returns-in_err-so_far-clause-err g c =
     let p = err_from_is_err_and c.from_residual-in_err-so_far.result c.from_residual-in_err-so_far.ensures.1 in
-    rw (p.1, p.2) (λ start. inr (record {
+    rw (p.1, p.2) (inr (record {
       asked = c.one_round.new.arguments;
       round = c.in_ok-round.round;
       done = c.in_ok-round.done;
       window = c.one_round.new.state;
       negotiated = c.in_ok-round.ensures.went;
       breaks = behind_request c.in_ok-send.ensures.sent (c.in_err-so_far.ensures.refused, refl);
-      asks = tt;
+      asks = refl;
     }))
 
 pub returns-in_err-send-clause-err : goal.returns-in_err-send-clause-err
 returns-in_err-send-clause-err g c =
     let p = err_from_is_err_and c.from_residual-in_err-send.result c.from_residual-in_err-send.ensures.1 in
-    rw (p.1, p.2) (λ start. inr (record {
+    rw (p.1, p.2) (inr (record {
       asked = c.one_round.new.arguments;
       round = c.in_ok-round.round;
       done = c.in_ok-round.done;
       window = c.one_round.new.state;
       negotiated = c.in_ok-round.ensures.went;
       breaks = at_request c.in_err-send.field-0.0 c.in_err-send.ensures.sent refl;
-      asks = tt;
+      asks = refl;
     }))
 
 pub returns-in_err-response-clause-err : goal.returns-in_err-response-clause-err
 returns-in_err-response-clause-err g c =
     let p = err_from_is_err_and c.from_residual-in_err-response.result c.from_residual-in_err-response.ensures.1 in
-    rw (p.1, p.2) (λ start. inr (record {
+    rw (p.1, p.2) (inr (record {
       asked = c.one_round.new.arguments;
       round = c.in_ok-round.round;
       done = c.in_ok-round.done;
@@ -54,13 +54,13 @@ returns-in_err-response-clause-err g c =
       breaks =
           at_answer (g.T.ExtendedBufRead.reading c.send.new.transport) c.in_ok-send.ensures.sent c.in_err-response.field-0.0
           c.in_err-response.ensures.read c.in_err-response.ensures.held refl;
-      asks = (_, _, c.in_err-response.ensures.asks);
+      asks = c.in_err-response.ensures.asks;
     }))
 
 pub returns-in_err-extend_from_slice-clause-err : goal.returns-in_err-extend_from_slice-clause-err
 returns-in_err-extend_from_slice-clause-err g c =
     let p = err_from_is_err_and c.from_residual-in_err-extend_from_slice.result c.from_residual-in_err-extend_from_slice.ensures.1 in
-    rw (p.1, p.2) (λ start. inr (record {
+    rw (p.1, p.2) (inr (record {
       asked = c.one_round.new.arguments;
       round = c.in_ok-round.round;
       done = c.in_ok-round.done;
@@ -69,7 +69,7 @@ returns-in_err-extend_from_slice-clause-err g c =
       breaks =
           behind_answer (g.T.ExtendedBufRead.reading c.send.new.transport) c.in_ok-send.ensures.sent c.in_ok-response.response
           c.in_ok-response.ensures.read c.in_ok-response.ensures.held refl;
-      asks = tt;
+      asks = c.in_ok-response.ensures.asks;
     }))
 
 pub returns-clause-ok : goal.returns-clause-ok

@@ -15,7 +15,7 @@ returns-in_ok-command-in-None-clause-map g c =
     listed_mappings (table_of c.args.table.now) (feature_value c.args.agent) c.args.context c.args.handshake.now c.take_refs.new.self
     g.T.ExtendedBufRead.is_plain (g.T.ExtendedBufRead.reading c.args.transport.now) c.take_refs.ensures.rest c.in-None.ensures.refs
     c.in_ok-command-in-None.command c.in_ok-command-in-None.ensures (g.T.ExtendedBufRead.reading c.fetch_mappings.new.transport)
-    c.fetch_mappings.result c.fetch_mappings.ensures
+    c.fetch_mappings.result c.fetch_mappings.ensures.map
 
 pub returns-in_err-command-in-None-clause-map : goal.returns-in_err-command-in-None-clause-map
 returns-in_err-command-in-None-clause-map g c =

@@ -18,6 +18,9 @@ loop-parent-init g c =
       waits = All-nil _;
       finds = λ t. sees_same _ _ (λ id s. s);
       others = λ f. among_none _ _ _ (sees_same _ _ (λ id s. s));
+      lists = λ q m. m;
+      pops = λ q m. m;
+      settles = λ f q m. m;
       grows = grows_none _;
       failures = omega arith;
     }
@@ -35,6 +38,9 @@ loop-parent-preserved g c = record {
   finds = λ t. sees_on _ _ _ c.follow.ensures.grows (c.loop-parent.invariant.finds t) (c.in_ok-follow.ensures.finds t);
   others = λ f. among_on _ _ _ _ c.follow.ensures.grows (c.loop-parent.invariant.others f)
       (among_one c.args.parents.now c.loop-parent.parent-index _ _ _ c.loop-parent-test.true (c.in_ok-follow.ensures.others f));
+  lists = λ q m. c.loop-parent.invariant.lists q (c.in_ok-follow.ensures.lists q m);
+  pops = λ q m. c.loop-parent.invariant.pops q (c.in_ok-follow.ensures.pops q m);
+  settles = λ f q m. c.loop-parent.invariant.settles f q (c.in_ok-follow.ensures.settles f q m);
   grows = grows_on _ _ _ c.loop-parent.invariant.grows c.follow.ensures.grows;
   failures = omega (arith, c.loop-parent.invariant.failures, c.follow.ensures.failures);
 }

@@ -1,20 +1,25 @@
 -- The next is found.
-use Rattle.std.proofs.Common.{⊎_elim, arith, subst}
+use Rattle.std.proofs.Common.{◌≡◌, ◌<◌, ℕ, ⊎_elim, arith, refl, subst}
 use Rattle.gixp_negotiators.specs.Waiting.{Fits}
 use Rattle.std.specs.BinaryHeap.{heap_items}
 use Rattle.gixp_negotiators.proofs.GrowLemmas.{grows_none, grows_on}
 use Rattle.gixp_negotiators.proofs.StepLemmas.{offered_since}
-use Rattle.gixp_negotiators.proofs.FitLemmas.{timed_none, timed_on, timed_popped, newest_at, none_open, none_waits}
+use Rattle.gixp_negotiators.proofs.FitLemmas.{timed_none, timed_on, timed_popped, newest_at, none_open, none_waits, none_counted}
 use Rattle.gixp_negotiators.specs.Spread.{is_there}
 use Rattle.gixp_negotiators.proofs.SpreadLemmas.{stays_there, stays_none, stays_on}
-use Rattle.gixp_negotiators.proofs.SeeLemmas.{sees_same, sees_on, finds_since}
+use Rattle.gixp_negotiators.proofs.SeeLemmas.{sees_same, sees_on}
 use Rattle.gixp_negotiators.proofs.consecutive.Consecutive.next.Goals as goal
+
+goes_on : (n : ℕ) → n ≡ 0 → 0 < n → ⊥
+goes_on n e l = omega (arith, e, l)
 
 pub loop-first-init : goal.loop-first-init
 loop-first-init g c = record {
   keeps = timed_none _ _ _;
   spreads = stays_none is_there stays_there _;
   finds = sees_same _ _ (λ id s. s);
+  lists = λ q m. m;
+  rests = λ e. (e, refl);
   grows = grows_none _;
   failures = omega arith;
 }
@@ -26,6 +31,8 @@ loop-first-preserved g c = record {
       (rw c.pop.ensures.uncommon at c.in_ok-take.ensures.keeps));
   spreads = stays_on is_there stays_there _ _ _ c.loop-first.invariant.grows c.loop-first.invariant.spreads c.in_ok-take.ensures.spreads;
   finds = sees_on _ _ _ c.take.ensures.grows c.loop-first.invariant.finds (c.in_ok-take.ensures.passes c.if-branch.false);
+  lists = λ q m. c.loop-first.invariant.lists q (c.in_ok-take.ensures.lists q m);
+  rests = λ e. absurd (goes_on c.loop-first.self.uncommon (c.loop-first.invariant.rests e).0 c.in-Some.ensures.open);
   grows = grows_on _ _ _ c.loop-first.invariant.grows c.take.ensures.grows;
   failures = omega (arith, c.loop-first.invariant.failures, c.take.ensures.failures);
 }
@@ -47,9 +54,9 @@ returns-then-branch-clause-newest g c timed =
 
 pub returns-clause-none : goal.returns-clause-none
 returns-clause-none g c f = ⊎_elim
-    (λ e. none_open (heap_items c.loop-first.self.queue.waiting) c.loop-first.graph.graph (subst (λ u.
-    Fits u (heap_items c.loop-first.self.queue.waiting) c.loop-first.graph.graph) e (c.loop-first.invariant.keeps.keeps.fits f)))
-    (λ e. none_waits _ _ _ e (c.loop-first.invariant.keeps.keeps.fits f))
+    (λ e. none_open 0 (heap_items c.loop-first.self.queue.waiting) c.loop-first.graph.graph (subst (λ u.
+    Fits 0 u (heap_items c.loop-first.self.queue.waiting) c.loop-first.graph.graph) e (c.loop-first.invariant.keeps.keeps.fits f)))
+    (λ e. none_waits 0 _ _ _ e (c.loop-first.invariant.keeps.keeps.fits f))
     (rw c.in_default.is at c.pop.ensures.none)
 
 pub returns-clause-keeps : goal.returns-clause-keeps
@@ -60,6 +67,17 @@ returns-then-branch-clause-spreads g c =
     stays_on is_there stays_there _ _ _ c.loop-first.invariant.grows c.loop-first.invariant.spreads c.in_ok-take.ensures.spreads
 
 pub returns-then-branch-clause-finds : goal.returns-then-branch-clause-finds
-returns-then-branch-clause-finds g c =
-    finds_since _ _ _ c.in-Some.first.id c.loop-first.invariant.grows c.take.ensures.grows c.loop-first.invariant.finds
-    (c.in_ok-take.ensures.finds c.if-branch.true)
+returns-then-branch-clause-finds g c = (
+  c.loop-first.graph.graph,
+  (c.loop-first.invariant.grows, (c.loop-first.invariant.finds, c.in_ok-take.ensures.opens c.if-branch.true)),
+)
+
+pub returns-then-branch-clause-lists : goal.returns-then-branch-clause-lists
+returns-then-branch-clause-lists g c q m = c.loop-first.invariant.lists q (c.in_ok-take.ensures.lists q m)
+
+pub returns-then-branch-clause-ends : goal.returns-then-branch-clause-ends
+returns-then-branch-clause-ends g c f all = absurd (goes_on c.loop-first.self.uncommon
+    (c.loop-first.invariant.rests (none_counted _ _ _ f all)).0 c.in-Some.ensures.open)
+
+pub returns-clause-ends : goal.returns-clause-ends
+returns-clause-ends g c f all = (refl, (c.loop-first.invariant.rests (none_counted _ _ _ f all)).1)

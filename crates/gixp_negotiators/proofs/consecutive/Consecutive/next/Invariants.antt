@@ -1,7 +1,7 @@
 -- What the loop keeps.
-use Rattle.std.proofs.Common.{◌+◌, ◌≤◌}
+use Rattle.std.proofs.Common.{◌≡◌, ◌+◌, ◌≤◌}
 use Rattle.std.specs.BinaryHeap.{heap_len, heap_items}
-use Rattle.gixp_negotiators.specs.Marks.{Grows, left}
+use Rattle.gixp_negotiators.specs.Marks.{SEEN, Grows, ListsNone, left}
 use Rattle.gixp_negotiators.specs.Waiting.{KeepsTimed}
 use Rattle.gixp_negotiators.specs.Spread.{is_there, SeesCommon, StaysSpread}
 use Rattle.gixp_negotiators.proofs.consecutive.Consecutive.next.Given as goal
@@ -12,10 +12,12 @@ invariant-loop-first g l = record {
       (heap_items l.self.queue.waiting) l.graph.graph;
   spreads : StaysSpread is_there l.fn.graph.graph l.graph.graph;
   finds : SeesCommon l.fn.graph.graph l.graph.graph;
+  lists : ListsNone l.fn.graph.graph l.graph.graph;
+  rests : l.fn.self.uncommon ≡ 0 → (l.self.uncommon ≡ 0) × (l.graph.graph ≡ l.fn.graph.graph);
   grows : Grows l.fn.graph.graph l.graph.graph;
   failures : l.fn.graph.failures ≤ l.graph.failures;
 }
 
 -- the objects that weren't seen, and the commits that wait
 abbrev pub decreases-loop-first : goal.decreases-loop-first
-decreases-loop-first g l = left 8 l.graph.graph + heap_len l.self.queue.waiting
+decreases-loop-first g l = left SEEN l.graph.graph + heap_len l.self.queue.waiting

@@ -1,12 +1,20 @@
 -- A commit becomes common, and is due.
+use Rattle.std.proofs.Common.{◌∷◌, []}
+use Rattle.gixp_negotiators.proofs.FromLemmas.{owes_same, owes_push}
 use Rattle.gixp_negotiators.specs.Spread.{is_there}
 use Rattle.gixp_negotiators.proofs.SpreadLemmas.{stays_there, kept_grown, kept_settled}
 use Rattle.gixp_negotiators.proofs.consecutive.Consecutive.reach.Goals as goal
 
-pub returns-in-Ok-clause-spreads : goal.returns-in-Ok-clause-spreads
-returns-in-Ok-clause-spreads g c =
-    kept_settled is_there stays_there _ _ c.args.id.now _ _ c.settle.ensures.grows c.settle.ensures.settles_only c.in-Ok.ensures.items
+pub returns-clause-spreads : goal.returns-clause-spreads
+returns-clause-spreads g c =
+    kept_settled is_there stays_there _ _ c.args.id.now _ _ c.settle.ensures.grows c.settle.ensures.settles_only c.in_ok-push.ensures.items
 
 pub returns-then-not-branch-clause-spreads : goal.returns-then-not-branch-clause-spreads
 returns-then-not-branch-clause-spreads g c =
     kept_grown is_there stays_there _ _ _ c.settle.ensures.grows (c.in_ok-settle.ensures.kept c.if-not-branch.true)
+
+pub returns-then-not-branch-clause-owes : goal.returns-then-not-branch-clause-owes
+returns-then-not-branch-clause-owes g c = owes_same (c.args.id.now ∷ []) c.args.due.now.items
+
+pub returns-clause-owes : goal.returns-clause-owes
+returns-clause-owes g c = owes_push _ _ c.args.id.now c.in_ok-push.ensures.items

@@ -1,4 +1,5 @@
 -- Some commits become common.
+use Rattle.gixp_negotiators.proofs.FromLemmas.{within_none, within_step, owes_same, owes_step}
 use Rattle.std.proofs.Common.{◌∙◌, arith, refl}
 use Rattle.std.proofs.lemmas.List.Elements.{All-nil}
 use Rattle.gixp_negotiators.proofs.GrowLemmas.{grows_none, grows_on}
@@ -18,6 +19,10 @@ loop-id-init g c = record {
   less = omega arith;
   seen = omega arith;
   queue = refl;
+  among = within_none c.args.ids.now c.args.graph.now.graph c.args.graph.now.graph (λ q m. m);
+  owes = owes_same c.args.ids.now c.args.due.now.items;
+  lists = λ q m. m;
+  pops = λ q m. m;
   grows = grows_none _;
   failures = omega arith;
 }
@@ -35,6 +40,13 @@ loop-id-preserved g c = record {
   queue = c.reach.ensures.queue ∙ c.loop-id.invariant.queue;
   sees = λ id s. c.loop-id.invariant.sees id (c.reach.ensures.sees id s);
   common = λ all. c.in_ok-reach.ensures.common (c.loop-id.invariant.common all);
+  among =
+      within_step c.args.ids.now c.loop-id.id-index _ c.args.graph.now.graph c.loop-id.graph.graph c.reach.new.graph.graph
+      c.loop-id-test.true c.loop-id.invariant.among c.reach.ensures.settles_only;
+  owes = owes_step c.args.ids.now c.loop-id.id-index _ c.args.due.now.items c.loop-id.due.items c.reach.new.due.items
+      c.loop-id-test.true c.loop-id.invariant.owes c.in_ok-reach.ensures.owes;
+  lists = λ q m. c.loop-id.invariant.lists q (c.in_ok-reach.ensures.lists q m);
+  pops = λ q m. c.loop-id.invariant.pops q (c.in_ok-reach.ensures.pops q m);
   grows = grows_on _ _ _ c.loop-id.invariant.grows c.reach.ensures.grows;
   failures = omega (arith, c.loop-id.invariant.failures, c.reach.ensures.failures);
 }

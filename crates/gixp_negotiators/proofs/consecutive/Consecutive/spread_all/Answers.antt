@@ -1,10 +1,11 @@
 -- What is common spreads on.
-use Rattle.std.proofs.Common.{◌≡◌, ◌++◌, ◌∷◌, arith, rules, true, []}
+use Rattle.gixp_negotiators.proofs.FromLemmas.{rises_first, rises_next, due_first, due_next}
+use Rattle.std.proofs.Common.{◌≡◌, ◌++◌, ◌∷◌, Some, arith, rules, true, []}
 use Rattle.std.proofs.lemmas.Bool.{or_right}
-use Rattle.std.proofs.lemmas.List.Elements.{All-same, All-nil}
-use Rattle.gixp_negotiators.specs.Marks.{has_mark}
+use Rattle.std.proofs.lemmas.List.Elements.{All-same, All-nil, All-pop}
+use Rattle.gixp_negotiators.specs.Marks.{COMMON, SEEN, has_mark}
 use Rattle.gixp_negotiators.specs.MarkLaws.{held_marked}
-use Rattle.gixp_negotiators.specs.Spread.{is_there}
+use Rattle.gixp_negotiators.specs.Spread.{IsFrom, is_there}
 use Rattle.gixp_negotiators.proofs.GrowLemmas.{grows_on}
 use Rattle.gixp_negotiators.proofs.FitLemmas.{timed_on}
 use Rattle.gixp_negotiators.proofs.SpreadLemmas.{stays_there, common_on, from_first, from_next, from_all}
@@ -18,8 +19,12 @@ loop-next-init g c = record {
   spreads = from_first is_there c.args.id.now _ _ _ _ c.new-due.ensures.items c.in_ok-spread.ensures.spreads;
   ancestors = c.in_ok-spread.ensures.ancestors;
   finds = c.in_ok-spread.ensures.finds;
-  common = c.in_ok-spread.ensures.common (All-same (λ q. has_mark 2 c.args.graph.now.graph.held q ≡ true) _ [] c.new-due.ensures.items
-      (All-nil (λ q. has_mark 2 c.args.graph.now.graph.held q ≡ true)));
+  common = c.in_ok-spread.ensures.common (All-same (λ q. has_mark COMMON c.args.graph.now.graph.held q ≡ true) _ [] c.new-due.ensures.items
+      (All-nil (λ q. has_mark COMMON c.args.graph.now.graph.held q ≡ true)));
+  only = rises_first c.args.id.now c.args.graph.now.graph c.spread.new.graph.graph c.in_ok-spread.ensures.among;
+  owed = due_first c.args.id.now c.spread.new.graph.graph _ _ c.new-due.ensures.items c.in_ok-spread.ensures.owes;
+  lists = c.in_ok-spread.ensures.lists;
+  pops = c.in_ok-spread.ensures.pops;
   grows = c.spread.ensures.grows;
   failures = c.spread.ensures.failures;
 }
@@ -30,6 +35,9 @@ loop-next-preserved g c =
     let both =
     common_popped c.loop-next.graph.graph c.loop-next.due.items c.pop.new.self.items c.in-Some.next is
     c.loop-next.invariant.common in
+    let owed =
+    All-pop (IsFrom c.loop-next.graph.graph c.args.id.now) c.loop-next.due.items c.pop.new.self.items (Some c.in-Some.next) is
+    c.loop-next.invariant.owed in
     record {
       keeps = timed_on _ _ _ _ _ _ _ _ _ c.loop-next.invariant.grows c.loop-next.invariant.keeps c.in_ok-spread-2.ensures.keeps;
       room = omega (arith, c.loop-next.invariant.room, c.in_ok-spread-2.ensures.room);
@@ -39,12 +47,20 @@ loop-next-preserved g c =
       ancestors =
           λ seen. common_on is_there stays_there c.args.graph.now.graph c.loop-next.graph.graph c.spread-in-Some.new.graph.graph
           c.args.id.now c.spread-in-Some.ensures.grows
-          (held_marked c.loop-next.graph.graph c.args.id.now 8 (c.loop-next.invariant.grows.marks 8 c.args.id.now seen))
+          (held_marked c.loop-next.graph.graph c.args.id.now SEEN (c.loop-next.invariant.grows.marks SEEN c.args.id.now seen))
           (c.loop-next.invariant.ancestors seen);
       finds = λ near. sees_on _ _ _ c.spread-in-Some.ensures.grows (c.loop-next.invariant.finds near)
-          (c.in_ok-spread-2.ensures.finds (λ s. or_right (has_mark 8 c.loop-next.graph.graph.held c.in-Some.next)
-          (has_mark 2 c.loop-next.graph.graph.held c.in-Some.next) both.0));
+          (c.in_ok-spread-2.ensures.finds (λ s. or_right (has_mark SEEN c.loop-next.graph.graph.held c.in-Some.next)
+          (has_mark COMMON c.loop-next.graph.graph.held c.in-Some.next) both.0));
       common = c.in_ok-spread-2.ensures.common both.1;
+      only =
+          rises_next c.args.id.now c.in-Some.next c.args.graph.now.graph c.loop-next.graph.graph c.spread-in-Some.new.graph.graph
+          c.spread-in-Some.ensures.grows owed.1 c.loop-next.invariant.only c.in_ok-spread-2.ensures.among;
+      owed =
+          due_next c.args.id.now c.in-Some.next c.loop-next.graph.graph c.spread-in-Some.new.graph.graph _ _
+          c.spread-in-Some.ensures.grows owed.0 owed.1 c.in_ok-spread-2.ensures.owes;
+      lists = λ q m. c.loop-next.invariant.lists q (c.in_ok-spread-2.ensures.lists q m);
+      pops = λ q m. c.loop-next.invariant.pops q (c.in_ok-spread-2.ensures.pops q m);
       grows = grows_on _ _ _ c.loop-next.invariant.grows c.spread-in-Some.ensures.grows;
       failures = omega (arith, c.loop-next.invariant.failures, c.spread-in-Some.ensures.failures);
     }
@@ -52,3 +68,6 @@ loop-next-preserved g c =
 pub returns-clause-spreads : goal.returns-clause-spreads
 returns-clause-spreads g c =
     from_all is_there stays_there c.args.id.now c.loop-next.due.items _ _ (search rules) c.loop-next.invariant.spreads
+
+pub returns-clause-only : goal.returns-clause-only
+returns-clause-only g c = c.loop-next.invariant.only

@@ -1,18 +1,25 @@
 -- What the loop keeps.
-use Rattle.std.proofs.Common.{◌≡◌, ◌+◌, ◌≤◌, take, false}
-use Rattle.std.specs.Prelude.{All}
+use Rattle.std.proofs.Common.{◌≡◌, ◌+◌, ◌≤◌, take, true, false}
+use Rattle.std.specs.Prelude.{◌≢◌, All}
+use Rattle.gixp_negotiators.specs.declared.skipping.Legacy.TheVariants.{Common}
+use Rattle.gixp_negotiators.specs.Spread.{AllHeld}
 use Rattle.std.specs.BinaryHeap.{heap_len, heap_items}
-use Rattle.gixp_negotiators.specs.Marks.{Grows, IsMarkedIfThere, left}
+use Rattle.gixp_negotiators.specs.Marks.{SEEN, Grows, SettlesNone, ListsNone, PopsNone, IsMarkedIfThere, left}
 use Rattle.gixp_negotiators.specs.Passing.{Hands, AllTaken}
-use Rattle.gixp_negotiators.specs.Waiting.{Fits, QueuesNew}
+use Rattle.gixp_negotiators.specs.Waiting.{KeepsCount, KeepsUnread, QueuesNew}
 use Rattle.gixp_negotiators.proofs.skipping.Skipping.follow_all.Given as goal
 
 abbrev pub invariant-loop-parent : goal.invariant-loop-parent
 invariant-loop-parent g l = record {
-  fits : Fits l.fn.self.uncommon (heap_items l.fn.self.queue.waiting) l.fn.graph.graph
-      → Fits l.self.uncommon (heap_items l.self.queue.waiting) l.graph.graph;
-  room : left 8 l.graph.graph + heap_len l.self.queue.waiting ≤ left 8 l.fn.graph.graph + heap_len l.fn.self.queue.waiting;
-  waits : All (IsMarkedIfThere 8 l.fn.graph.graph l.graph.graph) (take l.parent-index l.parents);
+  fits : KeepsCount (AllHeld l.fn.self.unread l.fn.graph.graph l.graph.graph) l.fn.self.uncommon (heap_items l.fn.self.queue.waiting)
+      l.fn.graph.graph l.self.uncommon (heap_items l.self.queue.waiting) l.graph.graph;
+  settles : l.legacy ≢ Common → SettlesNone l.fn.graph.graph l.graph.graph;
+  lists : ListsNone l.fn.graph.graph l.graph.graph;
+  pops : PopsNone l.fn.graph.graph l.graph.graph;
+  unread : KeepsUnread l.fn.self.unread l.fn.graph.graph l.self.unread l.graph.graph;
+  leaves : l.any ≡ true → AllTaken l.graph.graph (take l.parent-index l.parents) → ⊥;
+  room : left SEEN l.graph.graph + heap_len l.self.queue.waiting ≤ left SEEN l.fn.graph.graph + heap_len l.fn.self.queue.waiting;
+  waits : All (IsMarkedIfThere SEEN l.fn.graph.graph l.graph.graph) (take l.parent-index l.parents);
   queues : QueuesNew (heap_items l.fn.self.queue.waiting) l.fn.graph.graph (heap_items l.self.queue.waiting);
   taken : l.any ≡ false → AllTaken l.graph.graph (take l.parent-index l.parents);
   hands : Hands l.legacy (take l.parent-index l.parents) l.graph.graph l.fn.self.skips.entries l.self.skips.entries;

@@ -1,15 +1,25 @@
 -- What is common spreads on.
-use Rattle.std.proofs.Common.{◌∙◌, [], arith, refl, rules}
+use Rattle.std.proofs.Common.{◌≡◌, ◌∙◌, ◌++◌, ◌∷◌, [], Some, true, false, true≢false, ap, sym, arith, refl, rules}
+use Rattle.std.specs.BTreeSet.{contains}
+use Rattle.gixp_hash.specs.ObjectId.{id_cmp}
+use Rattle.gixp_graph.specs.GraphData.{parents_in}
+use Rattle.gixp_negotiators.proofs.UnreadLemmas.{through_first, through_more, settled_seen, seen_more}
 use Rattle.std.proofs.lemmas.List.Elements.{All-nil, All-same, All-pop}
 use Rattle.gixp_negotiators.specs.Spread.{was_seen, IsNewlyCommon}
 use Rattle.gixp_negotiators.proofs.SpreadLemmas.{stays_seen, spread_all, spread_popped, kept_from, from_step}
 use Rattle.gixp_negotiators.proofs.GrowLemmas.{grows_none, grows_on}
-use Rattle.gixp_negotiators.proofs.OweLemmas.{owing_none, owing_paid, fits_owing}
+use Rattle.gixp_negotiators.proofs.OweLemmas.{owing_none, owing_paid, owing_end}
+use Rattle.gixp_negotiators.specs.Marks.{COMMON}
 use Rattle.gixp_negotiators.proofs.skipping.Skipping.mark_common.Goals as goal
 
 pub loop-next-init : goal.loop-next-init
 loop-next-init g c = record {
-  fits = λ f. c.in_ok-reach.ensures.fits _ _ (owing_none _ _ _ _ (search rules) f);
+  fits = λ lost f. c.in_ok-reach.ensures.fits lost _ _ (owing_none lost _ _ _ _ c.new-due.ensures.items f);
+  through = through_first c.args.self.now.unread c.args.graph.now.graph c.reach.new.graph.graph c.args.id.now c.in_ok-reach.ensures.among;
+  old = settled_seen c.args.graph.now.graph c.reach.new.graph.graph (c.args.id.now ∷ []) c.in_ok-reach.ensures.among;
+  sees = c.reach.ensures.sees;
+  lists = c.in_ok-reach.ensures.lists;
+  pops = c.in_ok-reach.ensures.pops;
   common = c.in_ok-reach.ensures.common;
   spreads = kept_from was_seen _ _ _ _ c.new-due.ensures.items c.in_ok-reach.ensures.spreads;
   newly =
@@ -28,33 +38,73 @@ pub returns-in_err-spread-clause-grows : goal.returns-in_err-spread-clause-grows
 returns-in_err-spread-clause-grows g c = grows_on _ _ _ c.loop-next.invariant.grows c.spread.ensures.grows
 
 pub loop-next-preserved : goal.loop-next-preserved
-loop-next-preserved g c = record {
-  fits = λ f. (c.in_ok-spread.ensures.fits _ _ (owing_paid _ _ _ _ _ _ c.in-Some.next (rw c.in-Some.is at c.pop.ensures.items)
-      (λ e. c.discount.ensures.taken (c.is_marked.ensures.value ∙ e)) c.discount.ensures.waits (c.loop-next.invariant.fits f)));
-  common = λ s. c.spread.ensures.grows.marks 2 c.args.id.now (c.loop-next.invariant.common s);
-  spreads =
-      from_step was_seen c.in-Some.next _ _ c.args.graph.now.graph c.loop-next.graph.graph c.spread.new.graph.graph
-      c.loop-next.invariant.grows c.in_ok-spread.ensures.spreads
-      (spread_popped was_seen stays_seen c.loop-next.due.items _ c.in-Some.next c.args.graph.now.graph c.loop-next.graph.graph
-      (rw c.in-Some.is at c.pop.ensures.items) c.loop-next.invariant.spreads);
-  newly = c.in_ok-spread.ensures.newly _ c.loop-next.invariant.grows
-      (All-pop (IsNewlyCommon c.args.graph.now.graph c.loop-next.graph.graph) _ _ _ c.pop.ensures.items c.loop-next.invariant.newly).0;
-  unread = c.discount.ensures.unread ∙ c.loop-next.invariant.unread;
-  seen = omega (arith, c.loop-next.invariant.seen, c.spread.ensures.seen);
-  queue = c.discount.ensures.queue ∙ c.loop-next.invariant.queue;
-  skips = c.discount.ensures.skips ∙ c.loop-next.invariant.skips;
-  grows = grows_on _ _ _ c.loop-next.invariant.grows c.spread.ensures.grows;
-  failures = omega (arith, c.loop-next.invariant.failures, c.spread.ensures.failures);
-}
+loop-next-preserved g c =
+    let is : c.loop-next.due.items ≡ c.pop.new.self.items ++ c.in-Some.next ∷ [] = rw c.in-Some.is at c.pop.ensures.items in
+    let newly : IsNewlyCommon c.args.graph.now.graph c.loop-next.graph.graph c.in-Some.next =
+    (All-pop (IsNewlyCommon c.args.graph.now.graph c.loop-next.graph.graph) _ _ (Some c.in-Some.next) is c.loop-next.invariant.newly).1 in
+    let read : contains id_cmp c.args.self.now.unread c.in-Some.next ≡ false =
+    ap (λ s. contains id_cmp s c.in-Some.next) (sym (c.discount.ensures.unread ∙ c.loop-next.invariant.unread))
+    ∙ sym c.contains.ensures ∙ c.if-contains.false in
+    record {
+      fits = λ lost f. c.in_ok-spread.ensures.fits lost _ _ (owing_paid lost _ _ _ _ _ _ c.in-Some.next is
+          (λ e. c.discount.ensures.taken (c.is_marked.ensures.value ∙ e)) (λ e. c.discount.ensures.waits (c.is_marked.ensures.value ∙ e))
+          (c.loop-next.invariant.fits lost f));
+      through =
+          through_more c.args.self.now.unread c.args.graph.now.graph c.loop-next.graph.graph c.spread.new.graph.graph c.args.id.now
+          c.in-Some.next c.loop-next.invariant.grows newly read c.loop-next.invariant.old
+          c.in_ok-spread.ensures.among c.loop-next.invariant.through;
+      old = seen_more c.args.graph.now.graph c.loop-next.graph.graph c.spread.new.graph.graph
+          (parents_in c.loop-next.graph.graph.held c.in-Some.next) c.loop-next.invariant.sees c.in_ok-spread.ensures.among
+          c.loop-next.invariant.old;
+      sees = λ q m. c.loop-next.invariant.sees q (c.spread.ensures.sees q m);
+      lists = λ q m. c.loop-next.invariant.lists q (c.in_ok-spread.ensures.lists q m);
+      pops = λ q m. c.loop-next.invariant.pops q (c.in_ok-spread.ensures.pops q m);
+      common = λ s. c.spread.ensures.grows.marks COMMON c.args.id.now (c.loop-next.invariant.common s);
+      spreads =
+          from_step was_seen c.in-Some.next _ _ c.args.graph.now.graph c.loop-next.graph.graph c.spread.new.graph.graph
+          c.loop-next.invariant.grows c.in_ok-spread.ensures.spreads
+          (spread_popped was_seen stays_seen c.loop-next.due.items _ c.in-Some.next c.args.graph.now.graph c.loop-next.graph.graph
+          (rw c.in-Some.is at c.pop.ensures.items) c.loop-next.invariant.spreads);
+      newly = c.in_ok-spread.ensures.newly _ c.loop-next.invariant.grows
+          (All-pop (IsNewlyCommon c.args.graph.now.graph c.loop-next.graph.graph) _ _ _ c.pop.ensures.items c.loop-next.invariant.newly).0;
+      unread = c.discount.ensures.unread ∙ c.loop-next.invariant.unread;
+      seen = omega (arith, c.loop-next.invariant.seen, c.spread.ensures.seen);
+      queue = c.discount.ensures.queue ∙ c.loop-next.invariant.queue;
+      skips = c.discount.ensures.skips ∙ c.loop-next.invariant.skips;
+      grows = grows_on _ _ _ c.loop-next.invariant.grows c.spread.ensures.grows;
+      failures = omega (arith, c.loop-next.invariant.failures, c.spread.ensures.failures);
+    }
 
 pub returns-then-contains-clause-fits : goal.returns-then-contains-clause-fits
-returns-then-contains-clause-fits g c f = rw (c.discount.ensures.queue, c.loop-next.invariant.queue)
-    (fits_owing _ _ _ _ (owing_paid _ _ _ _ _ _ c.in-Some.next (rw c.in-Some.is at c.pop.ensures.items)
-    (λ e. c.discount.ensures.taken (c.is_marked.ensures.value ∙ e)) c.discount.ensures.waits (c.loop-next.invariant.fits f)))
+returns-then-contains-clause-fits g c lost f =
+    let is : c.loop-next.due.items ≡ c.pop.new.self.items ++ c.in-Some.next ∷ [] = rw c.in-Some.is at c.pop.ensures.items in
+    let newly : IsNewlyCommon c.args.graph.now.graph c.loop-next.graph.graph c.in-Some.next =
+    (All-pop (IsNewlyCommon c.args.graph.now.graph c.loop-next.graph.graph) _ _ (Some c.in-Some.next) is c.loop-next.invariant.newly).1 in
+    let unread : contains id_cmp c.args.self.now.unread c.in-Some.next ≡ true =
+    ap (λ s. contains id_cmp s c.in-Some.next) (sym (c.discount.ensures.unread ∙ c.loop-next.invariant.unread))
+    ∙ sym c.contains.ensures ∙ c.if-contains.true in
+    rw (c.discount.ensures.queue, c.loop-next.invariant.queue)
+    (owing_end _ lost _ _ _ c.pop.new.self.items (λ all. absurd (true≢false (sym unread ∙ all c.in-Some.next newly)))
+    (owing_paid lost _ _ _ _ _ _ c.in-Some.next is (λ e. c.discount.ensures.taken (c.is_marked.ensures.value ∙ e))
+    (λ e. c.discount.ensures.waits (c.is_marked.ensures.value ∙ e)) (c.loop-next.invariant.fits lost f)))
 
 pub returns-clause-fits : goal.returns-clause-fits
-returns-clause-fits g c f = rw c.loop-next.invariant.queue (fits_owing _ _ _ _ (c.loop-next.invariant.fits f))
+returns-clause-fits g c lost f = rw c.loop-next.invariant.queue
+    (owing_end _ lost _ _ _ c.loop-next.due.items (λ all. search rules) (c.loop-next.invariant.fits lost f))
+
+pub returns-in_err-spread-clause-sees : goal.returns-in_err-spread-clause-sees
+returns-in_err-spread-clause-sees g c q m = c.loop-next.invariant.sees q (c.spread.ensures.sees q m)
 
 pub returns-clause-spreads : goal.returns-clause-spreads
 returns-clause-spreads g c r = spread_all was_seen stays_seen c.loop-next.due.items c.args.graph.now.graph c.loop-next.graph.graph
     (search rules) c.loop-next.invariant.spreads
+
+pub returns-then-contains-clause-spreads : goal.returns-then-contains-clause-spreads
+returns-then-contains-clause-spreads g c all =
+    let is : c.loop-next.due.items ≡ c.pop.new.self.items ++ c.in-Some.next ∷ [] = rw c.in-Some.is at c.pop.ensures.items in
+    let newly : IsNewlyCommon c.args.graph.now.graph c.loop-next.graph.graph c.in-Some.next =
+    (All-pop (IsNewlyCommon c.args.graph.now.graph c.loop-next.graph.graph) _ _ (Some c.in-Some.next) is c.loop-next.invariant.newly).1 in
+    let unread : contains id_cmp c.args.self.now.unread c.in-Some.next ≡ true =
+    ap (λ s. contains id_cmp s c.in-Some.next) (sym (c.discount.ensures.unread ∙ c.loop-next.invariant.unread))
+    ∙ sym c.contains.ensures ∙ c.if-contains.true in
+    absurd (true≢false (sym unread ∙ all c.in-Some.next newly))

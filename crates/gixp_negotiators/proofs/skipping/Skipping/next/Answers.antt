@@ -1,17 +1,21 @@
 -- The next is found.
-use Rattle.std.proofs.Common.{⊎_elim, arith, refl, subst, sym, ap}
+use Rattle.std.proofs.Common.{⊎_elim, ◌+◌, arith, refl, subst, sym, ap}
+use Rattle.gixp_negotiators.specs.Spread.{AllHeld}
+use Rattle.gixp_negotiators.proofs.UnreadLemmas.{unread_same, unread_on, held_first, held_then}
 use Rattle.gixp_negotiators.specs.Passing.{Skipped, TakesUnoffered}
 use Rattle.gixp_negotiators.proofs.PassingLemmas.{taken_popped}
 use Rattle.std.specs.BinaryHeap.{heap_items}
 use Rattle.gixp_negotiators.specs.Waiting.{Fits}
 use Rattle.gixp_negotiators.proofs.GrowLemmas.{grows_none, grows_on}
 use Rattle.gixp_negotiators.proofs.StepLemmas.{offered_since}
-use Rattle.gixp_negotiators.proofs.FitLemmas.{queues_same, queues_on, queues_taken, newest_in, fits_popped, none_open, none_waits}
+use Rattle.gixp_negotiators.proofs.FitLemmas.{queues_same, queues_on, queues_taken, newest_in, seen_popped, counts_all, counts_on, none_open, none_waits}
 use Rattle.gixp_negotiators.proofs.skipping.Skipping.next.Goals as goal
 
 pub loop-first-init : goal.loop-first-init
 loop-first-init g c = record {
-  fits = λ f. f;
+  fits = counts_all _ _ _ _ _ _ _ (λ lost f. f);
+  lists = λ q m. m;
+  unread = unread_same _ _ _ _ refl (λ q m. m);
   queues = queues_same _ _ _ refl;
   passes = TakesUnoffered.none;
   grows = grows_none _;
@@ -20,8 +24,23 @@ loop-first-init g c = record {
 
 pub loop-first-preserved : goal.loop-first-preserved
 loop-first-preserved g c = record {
-  fits = λ f. (rw c.pop.ensures.uncommon at c.in_ok-take.ensures.fits)
-      (fits_popped _ _ _ _ c.in-Some.first c.in-Some.ensures.taken (c.loop-first.invariant.fits f));
+  fits =
+      counts_on (AllHeld c.args.self.now.unread c.args.graph.now.graph c.take.new.graph.graph)
+      (AllHeld c.args.self.now.unread c.args.graph.now.graph c.loop-first.graph.graph)
+      (AllHeld c.loop-first.self.unread c.loop-first.graph.graph c.take.new.graph.graph) _ _ _ _ _ _ _ _ _
+      (held_first c.args.self.now.unread c.args.graph.now.graph c.loop-first.graph.graph c.take.new.graph.graph c.take.ensures.grows)
+      (held_then c.args.self.now.unread c.loop-first.self.unread c.args.graph.now.graph c.loop-first.graph.graph
+      c.take.new.graph.graph c.loop-first.invariant.grows c.loop-first.invariant.unread)
+      c.loop-first.invariant.fits
+      (counts_on (AllHeld c.loop-first.self.unread c.loop-first.graph.graph c.take.new.graph.graph)
+      (AllHeld c.loop-first.self.unread c.loop-first.graph.graph c.take.new.graph.graph)
+      (AllHeld c.loop-first.self.unread c.loop-first.graph.graph c.take.new.graph.graph) _ _ _ _ _ _ _ _ _ (λ e. e) (λ e. e)
+      (counts_all _ _ _ _ _ _ _ (λ lost f. seen_popped lost _ _ _ _ c.in-Some.first c.in-Some.ensures.taken f))
+      (rw (c.pop.ensures.uncommon, c.pop.ensures.unread) at c.in_ok-take.ensures.fits));
+  lists = λ q m. c.loop-first.invariant.lists q (c.in_ok-take.ensures.lists q m);
+  unread =
+      unread_on _ _ _ _ _ _ c.loop-first.invariant.grows c.take.ensures.grows c.loop-first.invariant.unread
+      (rw c.pop.ensures.unread at c.in_ok-take.ensures.unread);
   queues = queues_on _ _ _ _ _ c.loop-first.invariant.grows c.loop-first.invariant.queues
       (queues_on _ _ _ _ _ (grows_none _) (queues_taken _ _ _ c.in-Some.first c.in-Some.ensures.taken) c.in_ok-take.ensures.queues);
   passes = TakesUnoffered.one c.loop-first.invariant.passes
@@ -36,18 +55,42 @@ returns-then-branch-clause-offered g c =
     (c.in_ok-take.ensures.offered c.if-branch.true)
 
 pub returns-then-branch-clause-fits : goal.returns-then-branch-clause-fits
-returns-then-branch-clause-fits g c f = (rw c.pop.ensures.uncommon at c.in_ok-take.ensures.fits)
-    (fits_popped _ _ _ _ c.in-Some.first c.in-Some.ensures.taken (c.loop-first.invariant.fits f))
+returns-then-branch-clause-fits g c =
+    counts_on (AllHeld c.args.self.now.unread c.args.graph.now.graph c.take.new.graph.graph)
+    (AllHeld c.args.self.now.unread c.args.graph.now.graph c.loop-first.graph.graph)
+    (AllHeld c.loop-first.self.unread c.loop-first.graph.graph c.take.new.graph.graph) _ _ _ _ _ _ _ _ _
+    (held_first c.args.self.now.unread c.args.graph.now.graph c.loop-first.graph.graph c.take.new.graph.graph c.take.ensures.grows)
+    (held_then c.args.self.now.unread c.loop-first.self.unread c.args.graph.now.graph c.loop-first.graph.graph
+    c.take.new.graph.graph c.loop-first.invariant.grows c.loop-first.invariant.unread)
+    c.loop-first.invariant.fits
+    (counts_on (AllHeld c.loop-first.self.unread c.loop-first.graph.graph c.take.new.graph.graph)
+    (AllHeld c.loop-first.self.unread c.loop-first.graph.graph c.take.new.graph.graph)
+    (AllHeld c.loop-first.self.unread c.loop-first.graph.graph c.take.new.graph.graph) _ _ _ _ _ _ _ _ _ (λ e. e) (λ e. e)
+    (counts_all _ _ _ _ _ _ _ (λ lost f. seen_popped lost _ _ _ _ c.in-Some.first c.in-Some.ensures.taken f))
+    (rw (c.pop.ensures.uncommon, c.pop.ensures.unread) at c.in_ok-take.ensures.fits))
+
+pub returns-then-branch-clause-lists : goal.returns-then-branch-clause-lists
+returns-then-branch-clause-lists g c q m = c.loop-first.invariant.lists q (c.in_ok-take.ensures.lists q m)
+
+pub returns-then-branch-clause-unread : goal.returns-then-branch-clause-unread
+returns-then-branch-clause-unread g c =
+    unread_on _ _ _ _ _ _ c.loop-first.invariant.grows c.take.ensures.grows c.loop-first.invariant.unread
+    (rw c.pop.ensures.unread at c.in_ok-take.ensures.unread)
+
+pub returns-clause-unread : goal.returns-clause-unread
+returns-clause-unread g c = rw c.pop.ensures.unread c.loop-first.invariant.unread
 
 pub returns-clause-none : goal.returns-clause-none
-returns-clause-none g c f = ⊎_elim
-    (λ e. none_open (heap_items c.loop-first.self.queue.waiting) c.loop-first.graph.graph
-    (subst (λ u. Fits u (heap_items c.loop-first.self.queue.waiting) c.loop-first.graph.graph) e (c.loop-first.invariant.fits f)))
-    (λ e. none_waits _ _ _ e (c.loop-first.invariant.fits f))
+returns-clause-none g c lost f =
+    let x = c.loop-first.invariant.fits lost f in
+    ⊎_elim
+    (λ e. none_open (lost + x.0) (heap_items c.loop-first.self.queue.waiting) c.loop-first.graph.graph
+    (subst (λ u. Fits (lost + x.0) u (heap_items c.loop-first.self.queue.waiting) c.loop-first.graph.graph) e x.1.1.fits))
+    (λ e. none_waits (lost + x.0) _ _ _ e x.1.1.fits)
     (rw c.in_default.is at c.pop.ensures.none)
 
 pub returns-clause-fits : goal.returns-clause-fits
-returns-clause-fits g c f = rw (c.pop.ensures.uncommon, rw c.in_default.is at c.pop.ensures.stays) (c.loop-first.invariant.fits f)
+returns-clause-fits g c = rw (c.pop.ensures.uncommon, rw c.in_default.is at c.pop.ensures.stays) c.loop-first.invariant.fits
 
 pub returns-then-branch-clause-newest : goal.returns-then-branch-clause-newest
 returns-then-branch-clause-newest g c =

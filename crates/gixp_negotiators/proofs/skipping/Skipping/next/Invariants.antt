@@ -1,15 +1,18 @@
 -- What the loop keeps.
 use Rattle.std.proofs.Common.{◌+◌, ◌≤◌}
 use Rattle.std.specs.BinaryHeap.{heap_len, heap_items}
-use Rattle.gixp_negotiators.specs.Marks.{Grows, left}
+use Rattle.gixp_negotiators.specs.Marks.{SEEN, Grows, ListsNone, left}
+use Rattle.gixp_negotiators.specs.Spread.{AllHeld}
 use Rattle.gixp_negotiators.specs.Passing.{TakesUnoffered}
-use Rattle.gixp_negotiators.specs.Waiting.{Fits, QueuesNew}
+use Rattle.gixp_negotiators.specs.Waiting.{KeepsCount, KeepsUnread, QueuesNew}
 use Rattle.gixp_negotiators.proofs.skipping.Skipping.next.Given as goal
 
 abbrev pub invariant-loop-first : goal.invariant-loop-first
 invariant-loop-first g l = record {
-  fits : Fits l.fn.self.uncommon (heap_items l.fn.self.queue.waiting) l.fn.graph.graph
-      → Fits l.self.uncommon (heap_items l.self.queue.waiting) l.graph.graph;
+  fits : KeepsCount (AllHeld l.fn.self.unread l.fn.graph.graph l.graph.graph) l.fn.self.uncommon (heap_items l.fn.self.queue.waiting)
+      l.fn.graph.graph l.self.uncommon (heap_items l.self.queue.waiting) l.graph.graph;
+  lists : ListsNone l.fn.graph.graph l.graph.graph;
+  unread : KeepsUnread l.fn.self.unread l.fn.graph.graph l.self.unread l.graph.graph;
   queues : QueuesNew (heap_items l.fn.self.queue.waiting) l.fn.graph.graph (heap_items l.self.queue.waiting);
   passes : TakesUnoffered l.fn.self.skips.entries l.fn.graph.graph l.self.skips.entries l.graph.graph;
   grows : Grows l.fn.graph.graph l.graph.graph;
@@ -18,4 +21,4 @@ invariant-loop-first g l = record {
 
 -- the objects that weren't seen, and the commits that wait
 abbrev pub decreases-loop-first : goal.decreases-loop-first
-decreases-loop-first g l = left 8 l.graph.graph + heap_len l.self.queue.waiting
+decreases-loop-first g l = left SEEN l.graph.graph + heap_len l.self.queue.waiting

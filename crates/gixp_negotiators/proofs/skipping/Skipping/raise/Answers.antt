@@ -11,7 +11,7 @@ returns-then-skip_of-skip-clause-hands c = raise_kept c.args.self.now.skips.entr
     (subst (λ (s : Skip). nat_lt s.whole c.args.skip.whole ≡ false) c.skip_of.ensures
     (le-ltb c.skip_of.result.whole c.args.skip.whole c.if-skip_of-skip.true))
 
-pub returns-in-Ok-clause-hands : goal.returns-in-Ok-clause-hands
-returns-in-Ok-clause-hands c = raise_put c.args.self.now.skips.entries c.insert.new.self.entries c.args.id.now c.args.skip
+pub returns-clause-hands : goal.returns-clause-hands
+returns-clause-hands c = raise_put c.args.self.now.skips.entries c.insert.new.self.entries c.args.id.now c.args.skip
     (subst (λ (s : Skip). nat_lt s.whole c.args.skip.whole ≡ true) c.skip_of.ensures
-    (lt-ltb c.skip_of.result.whole c.args.skip.whole c.if-skip_of-skip.false)) c.in-Ok.ensures.updates.0
+    (lt-ltb c.skip_of.result.whole c.args.skip.whole c.if-skip_of-skip.false)) c.in_ok-insert.ensures.updates.0

@@ -1,36 +1,60 @@
 -- A commit is taken.
-use Rattle.gixp_negotiators.proofs.PassingLemmas.{takes_none, takes_some}
+use Rattle.gixp_negotiators.proofs.PassingLemmas.{takes_none, takes_some, legacy_apart}
 use Rattle.gixp_negotiators.specs.Passing.{Skipped, Hands}
 use Rattle.std.proofs.Common.{ap, subst}
-use Rattle.std.proofs.Common.{◌≡◌, ◌∙◌, ◌+◌, ◌≤◌, sym, refl, false, arith}
-use Rattle.gixp_negotiators.specs.Marks.{Claims, has_all}
+use Rattle.std.proofs.Common.{◌≡◌, ◌∙◌, ◌-◌, sym, refl, false}
+use Rattle.gixp_negotiators.specs.Spread.{AllHeld}
+use Rattle.gixp_negotiators.proofs.UnreadLemmas.{unread_same, unread_on, unread_taken, held_then}
+use Rattle.gixp_negotiators.specs.Marks.{COMMON, POPPED, Claims, has_all}
 use Rattle.gixp_negotiators.specs.Waiting.{open_one}
 use Rattle.gixp_negotiators.proofs.StepLemmas.{offered, parents_marked}
-use Rattle.gixp_negotiators.proofs.FitLemmas.{fits_taken, released, queues_on, queues_same}
+use Rattle.gixp_negotiators.proofs.FitLemmas.{seen_taken, seen_spent, released, was_mark, counts_all, counts_on, queues_on, queues_same}
 use Rattle.gixp_negotiators.proofs.skipping.Skipping.take.Goals as goal
 
 pub returns-in_default-clause-fits : goal.returns-in_default-clause-fits
-returns-in_default-clause-fits g c f = fits_taken _ _ _ _ _ c.args.first.now c.claim.ensures.grows
-    (rw c.in_default.is at c.in_ok-flags.ensures.absent).0 (rw c.in_default.is at c.in_ok-flags.ensures.absent).1 (omega arith) f
+returns-in_default-clause-fits g c = counts_all _ _ _ _ _ _ _ (λ lost f. seen_spent lost _ _ _ _ _ c.args.first.now c.claim.ensures.grows
+    (rw c.in_default.is at c.in_ok-flags.ensures.unpopped) (rw c.in_default.is at c.in_ok-flags.ensures.absent).1 f)
+
+pub returns-in_default-clause-unread : goal.returns-in_default-clause-unread
+returns-in_default-clause-unread g c = unread_same _ _ _ _ refl (rw c.in_default.is at c.in_ok-flags.ensures.unpopped)
+
+pub returns-clause-unread : goal.returns-clause-unread
+returns-clause-unread g c =
+    let k : Claims POPPED c.args.graph.now.graph c.claim.new.graph.graph c.args.first.now.id c.in-Some.flags =
+    rw c.in-Some.is at c.in_ok-flags.ensures.claimed in
+    unread_on _ c.remove.new.self _ _ _ _ c.claim.ensures.grows c.follow_all.ensures.grows
+    (unread_taken _ c.remove.new.self _ _ c.args.first.now.id c.remove.ensures.updates.0 c.claim.ensures.pops_only k.after)
+    (rw c.discount.ensures.unread at c.in_ok-any.ensures.unread)
+
+pub returns-clause-lists : goal.returns-clause-lists
+returns-clause-lists g c q m = c.claim.ensures.lists refl q (c.in_ok-any.ensures.lists q m)
 
 pub returns-clause-fits : goal.returns-clause-fits
-returns-clause-fits g c f =
-    let k : Claims 16 c.args.graph.now.graph c.claim.new.graph.graph c.args.first.now.id c.in-Some.flags =
+returns-clause-fits g c =
+    let k : Claims POPPED c.args.graph.now.graph c.claim.new.graph.graph c.args.first.now.id c.in-Some.flags =
     rw c.in-Some.is at c.in_ok-flags.ensures.claimed in
-    let le : c.args.self.now.uncommon ≤ c.discount.new.self.uncommon + open_one c.args.graph.now.graph.held c.args.first.now.id =
-    released _ _ _ _ c.has-is_common.result (λ e.
-    k.lacks 2 (sym c.has-is_common.ensures ∙ e)) c.discount.ensures.taken c.discount.ensures.waits
-    in
-    (rw c.discount.ensures.queue at c.in_ok-any.ensures.fits)
-    (fits_taken _ _ _ _ _ c.args.first.now c.claim.ensures.grows (c.claim.ensures.sees refl) (λ s. k.after) le f)
+    let is : c.discount.new.self.uncommon ≡ c.args.self.now.uncommon - open_one c.args.graph.now.graph.held c.args.first.now.id =
+    released _ _ _ _ c.has-is_common.result (was_mark POPPED 2 _ c.claim.new.graph.graph _ _ k refl ∙ sym c.has-is_common.ensures)
+    c.discount.ensures.taken c.discount.ensures.waits in
+    counts_on (AllHeld c.args.self.now.unread c.args.graph.now.graph c.follow_all.new.graph.graph)
+    (AllHeld c.args.self.now.unread c.args.graph.now.graph c.follow_all.new.graph.graph)
+    (AllHeld c.remove.new.self c.claim.new.graph.graph c.follow_all.new.graph.graph) _ _ _ _ _ _ _ _ _ (λ e. e)
+    (held_then c.args.self.now.unread c.remove.new.self c.args.graph.now.graph c.claim.new.graph.graph c.follow_all.new.graph.graph
+    c.claim.ensures.grows
+    (unread_taken _ c.remove.new.self _ _ c.args.first.now.id c.remove.ensures.updates.0 c.claim.ensures.pops_only k.after))
+    (counts_all _ _ _ _ _ _ _ (λ lost f. seen_taken lost _ _ _ _ _ c.args.first.now c.claim.ensures.grows (c.claim.ensures.sees refl)
+    (c.claim.ensures.settles refl) c.claim.ensures.pops_only k.after is f))
+    (rw (c.discount.ensures.queue, c.discount.ensures.unread) at c.in_ok-any.ensures.fits)
 
 pub returns-clause-offered : goal.returns-clause-offered
 returns-clause-offered g c t =
-    let k : Claims 16 c.args.graph.now.graph c.claim.new.graph.graph c.args.first.now.id c.in-Some.flags =
+    let k : Claims POPPED c.args.graph.now.graph c.claim.new.graph.graph c.args.first.now.id c.in-Some.flags =
     rw c.in-Some.is at c.in_ok-flags.ensures.claimed in
-    let lacks : has_all 2 c.in-Some.flags.0 ≡ false = sym c.has-is_common.ensures ∙ c.is_offered.ensures.common t in
+    let lacks : has_all COMMON c.in-Some.flags.0 ≡ false = sym c.has-is_common.ensures ∙ c.is_offered.ensures.common t in
     offered c.args.graph.now.graph c.claim.new.graph.graph c.follow_all.new.graph.graph c.args.first.now.id c.in-Some.flags k lacks
-    c.follow_all.ensures.grows
+    c.follow_all.ensures.grows (c.claim.ensures.settles refl)
+    (λ four. c.in_ok-any.ensures.settles (legacy_apart c.legacy_of.result c.skip_of-skip.result (c.legacy_of.ensures.passes lacks four)
+    (c.legacy_of.ensures.grows lacks four)))
     (parents_marked c.args.graph.now.graph c.claim.new.graph.graph c.follow_all.new.graph.graph c.args.first.now.id c.deref.result.now
     c.claim.ensures.grows c.follow_all.ensures.grows k.held
     (c.deref.ensures.value ∙ c.in_ok-parents.ensures.parents) c.in_ok-any.ensures.waits)
@@ -42,11 +66,11 @@ returns-clause-queues g c =
 pub returns-in_default-clause-takes : goal.returns-in_default-clause-takes
 returns-in_default-clause-takes g c =
     takes_none c.args.self.now.skips.entries c.args.graph.now.graph c.claim.new.graph.graph c.args.first.now.id
-    (rw c.in_default.is at (c.in_ok-flags.ensures.spent refl))
+    (rw c.in_default.is at (c.in_ok-flags.ensures.spent refl)) (rw c.in_default.is at c.in_ok-flags.ensures.kept)
 
 pub returns-clause-takes : goal.returns-clause-takes
 returns-clause-takes g c =
-    let k : Claims 16 c.args.graph.now.graph c.claim.new.graph.graph c.args.first.now.id c.in-Some.flags =
+    let k : Claims POPPED c.args.graph.now.graph c.claim.new.graph.graph c.args.first.now.id c.in-Some.flags =
     rw c.in-Some.is at c.in_ok-flags.ensures.claimed in
     takes_some c.args.self.now.skips.entries c.follow_all.new.self.skips.entries c.args.graph.now.graph c.claim.new.graph.graph
     c.follow_all.new.graph.graph c.args.first.now.id c.in-Some.flags c.legacy_of.result c.deref.result.now c.skip_of-skip.result
@@ -55,4 +79,5 @@ returns-clause-takes g c =
     (subst (λ (s : Skipped). Hands c.legacy_of.result c.deref.result.now c.follow_all.new.graph.graph s
     c.follow_all.new.self.skips.entries) (ap (λ m. m.entries) c.discount.ensures.skips) c.in_ok-any.ensures.hands)
     c.has-is_common.ensures c.legacy_of.ensures.passes c.legacy_of.ensures.grows c.is_offered.ensures.reached c.in_ok-any.any
-    c.is_offered.ensures.passed c.in_ok-any.ensures.taken
+    c.is_offered.ensures.passed c.in_ok-any.ensures.taken c.is_offered.ensures.last c.in_ok-any.ensures.left
+    (c.claim.ensures.settles refl) c.in_ok-any.ensures.settles

@@ -1,12 +1,15 @@
--- The transport takes no account.
-use Rattle.std.proofs.Common.{[], refl}
+-- The transport takes no account; else both calls were made.
+use Rattle.std.proofs.Common.{ℕ, List, [], refl, subst}
 use Rattle.bstr.specs.Owned.{bstring_bytes}
 use Rattle.gixp_wire.specs.Greeting.{parameters_of}
+use Rattle.gixp_wire.specs.Progress.{set_name}
+use Rattle.gixp_handshake.specs.ShakeProgress.{retrying_calls}
 use Rattle.gixp_handshake.proofs.ShakeLemmas.{not_identified}
+use Rattle.gixp_handshake.proofs.ShakeProgressLemmas.{told_all}
 use Rattle.gixp_handshake.proofs.handshake.login.Greeting.identify.Goals as goal
 
-pub returns-in-Err : goal.returns-in-Err
-returns-in-Err g c = (
+pub returns-in-Err-clause-turns : goal.returns-in-Err-clause-turns
+returns-in-Err-clause-turns g c = (
   [],
   refl,
   (
@@ -18,3 +21,9 @@ returns-in-Err g c = (
         (bstring_bytes c.args.retry.url) _ c.from.result c.in-Err.is c.from.ensures,
   ),
 )
+
+pub returns-clause-told : goal.returns-clause-told
+returns-clause-told g c =
+    let Named : List ℕ → Type 0 = λ name. g.P.Progress.told c.step.new.self (set_name name) c.set_name.new.self in
+    told_all g.P.Progress.told c.args.progress.now c.set_name.new.self retrying_calls c.tell.result
+    (c.step.new.self, c.step.ensures, (c.set_name.new.self, subst Named c.requires.name c.set_name.ensures, refl))

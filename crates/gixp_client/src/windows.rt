@@ -1,9 +1,12 @@
 //! A negotiation whose requests never have more haves out than the answers fit a pipe.
-ghost use Rattle.std.specs.Prelude.{◌≡◌, ◌<◌};
+ghost use Rattle.std.specs.Prelude.{◌≡◌, ◌≤◌};
 
-use gix_protocol::fetch::negotiate::one_round::State;
-use gix_protocol::fetch::negotiate::{Action, Error, Negotiate, Round};
-use gix_protocol::fetch::{Arguments, Response};
+use gixp_fetch::mapped::NegotiatesMap;
+use gixp_negotiate::negotiate::negotiation::PaysForHaves;
+use gixp_negotiate::negotiate::one_round::State;
+use gixp_negotiate::negotiate::{Action, Error, Negotiate, Round};
+use gixp_requests::fetch::Arguments;
+use gixp_response::fetch::Response;
 use std::alloc::Global;
 
 /// How many haves go into one request of versions 0 and 1.
@@ -18,13 +21,13 @@ pub const MOST_HAVES: usize = 128;
 pub struct Windowed<N> {
     negotiation: N,
     most: usize,
-    ghost some: { 0 < most },
+    ghost some: { 16 ≤ most },
 }
 
 impl<N: Negotiate> Windowed<N> {
-    /// The negotiation, with at most so many haves in one request.
+    /// The negotiation, with at most so many haves in one request: 16 or more, as a first request has.
     pub fn new(negotiation: N, most: usize) -> Windowed<N>
-        requires { 0 < most }
+        requires { 16 ≤ most }
         ensures negotiation { result.negotiation ≡ negotiation }
         ensures most { result.most ≡ most }
     {
@@ -33,7 +36,7 @@ impl<N: Negotiate> Windowed<N> {
 }
 
 impl<N: Negotiate> Negotiate for Windowed<N> {
-    ghost use Rattle.gixp_fetch_command.specs.Windows.{capped, capped_some};
+    ghost use Rattle.gixp_client.specs.Windows.{capped, capped_some};
 
     type AlternatesError = N::AlternatesError;
 
@@ -76,4 +79,29 @@ impl<N: Negotiate> Negotiate for Windowed<N> {
 
     ghost goes_on = { λ w s a p r v t b h o. N.goes_on w.negotiation (capped w.most s) a p r v.negotiation t b
         (capped_some s.haves_to_send w.most h w.some) o.0 };
+}
+
+impl<N: PaysForHaves> PaysForHaves for Windowed<N> {
+    ghost use Rattle.gixp_client.specs.Windows.{capped, capped_wide};
+
+    ghost lawful = { record {
+      lowers = λ w s a p r d v t b o. N.lawful.lowers w.negotiation (capped w.most s) a p r d v.negotiation t b o.0;
+      fills = λ w s a p r v t b o. N.lawful.fills w.negotiation (capped w.most s) a p r v.negotiation t b o.0;
+    } };
+
+    ghost wide = { record {
+      wide = λ w s a p r v t b l o. N.wide.wide w.negotiation (capped w.most s) a p r v.negotiation t b
+          (capped_wide s.haves_to_send w.most l w.some) o.0;
+    } };
+}
+
+impl<N: NegotiatesMap> NegotiatesMap for Windowed<N> {
+    ghost map_of = { λ w. N.map_of w.negotiation };
+
+    ghost knows = { λ w. N.knows w.negotiation };
+
+    ghost follows = { record {
+      decides = λ w action v h. N.follows.decides w.negotiation action v.negotiation h.0;
+      asks = λ w action v known a is_any b l h o. N.follows.asks w.negotiation action v.negotiation known a is_any b l.negotiation h.0 o.0;
+    } };
 }

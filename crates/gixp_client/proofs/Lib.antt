@@ -1,0 +1,3 @@
+pub mod PromiseLemmas
+pub mod RunLemmas
+pub mod CloneLemmas

@@ -1,0 +1,103 @@
+-- A session is one run of the law `headline`.
+use Rattle.std.proofs.Common.{◌≡◌, ◌∙◌, ℕ, ap, subst, List, Option, Result, Ok}
+use Rattle.std.specs.Prelude.{String, string_bytes}
+use Rattle.std.specs.declared.alloc.Global.{Global}
+use Rattle.gixp_packetline.specs.Reading.{Reading}
+use Rattle.gixp_hash.specs.declared.object_id.ObjectId.{ObjectId}
+use Rattle.gixp_wire.specs.Greeting.{Parameter}
+use Rattle.gixp_wire.specs.declared.service.Service.TheVariants.{UploadPack}
+use Rattle.gixp_response.specs.Answer.{update_items}
+use Rattle.gixp_requests.specs.Feature.{FeatureValue}
+use Rattle.gixp_refmap.specs.declared.refmap.init.Context.{Context}
+use Rattle.gixp_refmap.specs.declared.refmap.map.RefMap.{RefMap}
+use Rattle.gixp_handshake.specs.declared.handshake.read.Handshake.{Handshake}
+use Rattle.gixp_fetch.specs.declared.options.Outcome.{Outcome}
+use Rattle.gixp_fetch.specs.declared.error.Error.{Error as FetchError}
+use Rattle.gixp_fetch.specs.declared.shallow.memory.ShallowMemory.{ShallowMemory}
+use Rattle.gixp_fetch.specs.Fetch.{World, Parties}
+use Rattle.gixp_fetch.specs.Fetched.{FetchCall, unlocked_world}
+use Rattle.gixp_fetch.specs.Mapped.{Knowledge}
+use Rattle.gixp_fetch.specs.Headline.{Run, Promise}
+use Rattle.gixp_client.specs.ClientCalls.{OpensSession, MapsInSession, FetchesInSession, session_call, client_feature}
+use Rattle.gixp_client.specs.ClientPromise.{IsOneRun}
+use Rattle.gixp_client.specs.declared.error.Error.{Error}
+use Rattle.gixp_client.specs.declared.request.Request.{Request}
+
+-- a handshake, a ref map of it and a fetch of what is mapped, with what the law promises
+pub one_run : {N I A C P X : Type 0} (parties : Parties N I A ShallowMemory C P X) (map_of : N → RefMap) (knows : N → Knowledge)
+    → ((call : FetchCall) (context : Context) (start : Reading) (made : RefMap) (old : World N I ShallowMemory C)
+    (came : Result (Option Outcome) (FetchError A X)) (new : World N I ShallowMemory C) (progress : P)
+    (run : Run parties map_of knows call context start made old came new progress)
+    → Promise parties map_of knows call context start made old came new progress run)
+    → (parameters : List Parameter) (agent : FeatureValue) (request : Request) (start shaken middle : Reading)
+    (handshake kept : Handshake) (made : RefMap) (known : Knowledge) (boundary : List ObjectId) (consumer : C)
+    (told : Result (Option Outcome) Error) (new : Reading) (consumer' : C)
+    → OpensSession parameters parties.plain start shaken handshake
+    → MapsInSession request agent handshake parties.plain shaken middle (Ok made)
+    → kept ≡ record handshake { refs = kept.refs }
+    → FetchesInSession parties map_of knows (session_call kept agent request) made known boundary middle consumer told new consumer'
+    → IsOneRun parties map_of knows agent request start made known boundary consumer told new consumer'
+one_run parties map_of knows promises parameters agent request start shaken middle handshake kept made known boundary consumer told new
+    consumer' opens maps keeps fetched =
+    let f = fetched.fetches in let h = f.holds.holds in
+    let run : Run parties map_of knows (session_call kept agent request) maps.context start made
+    (unlocked_world f.first middle h.interrupt fetched.store consumer) f.holds.came
+    (unlocked_world f.last new h.interrupt' fetched.store' consumer') h.progress = record {
+      service = UploadPack;
+      parameters = parameters;
+      credentials = opens.credentials;
+      handshake = handshake;
+      shaken = shaken;
+      shakes = opens.shakes;
+      obtains = maps.obtains;
+      version = ap (λ (x : Handshake). x.server_protocol_version) keeps;
+      capabilities = ap (λ (x : Handshake). x.capabilities) keeps;
+      told = ap (λ (x : Handshake). update_items x.v1_shallow_updates) keeps;
+      negotiates = f.negotiates;
+      fetches = h.carries.fetched;
+    } in record {
+      context = maps.context;
+      asked = maps.asked;
+      shaken = kept;
+      middle = middle;
+      first = f.first;
+      last = f.last;
+      knowing = f.knowing;
+      interrupt = h.interrupt;
+      interrupt' = h.interrupt';
+      store = fetched.store;
+      store' = fetched.store';
+      before = fetched.before;
+      progress = h.progress;
+      came = f.holds.came;
+      tells = f.holds.tells;
+      run = run;
+      promise = promises _ _ _ _ _ _ _ _ run;
+    }
+
+-- the same by the name of the client, which the session holds
+pub named_run : {N I A C P X : Type 0} (parties : Parties N I A ShallowMemory C P X) (map_of : N → RefMap) (knows : N → Knowledge)
+    → ((parameters : List Parameter) (agent : FeatureValue) (request : Request) (start shaken middle : Reading)
+    (handshake kept : Handshake) (made : RefMap) (known : Knowledge) (boundary : List ObjectId) (consumer : C)
+    (told : Result (Option Outcome) Error) (new : Reading) (consumer' : C)
+    → OpensSession parameters parties.plain start shaken handshake
+    → MapsInSession request agent handshake parties.plain shaken middle (Ok made)
+    → kept ≡ record handshake { refs = kept.refs }
+    → FetchesInSession parties map_of knows (session_call kept agent request) made known boundary middle consumer told new consumer'
+    → IsOneRun parties map_of knows agent request start made known boundary consumer told new consumer')
+    → (parameters : List Parameter) (agent : List ℕ) (held held' : String Global) (request : Request) (start shaken middle : Reading)
+    (handshake kept : Handshake) (made : RefMap) (known : Knowledge) (boundary : List ObjectId) (consumer : C)
+    (told : Result (Option Outcome) Error) (new : Reading) (consumer' : C)
+    → string_bytes held ≡ agent → held' ≡ held
+    → OpensSession parameters parties.plain start shaken handshake
+    → MapsInSession request (client_feature (string_bytes held)) handshake parties.plain shaken middle (Ok made)
+    → kept ≡ record handshake { refs = kept.refs }
+    → FetchesInSession parties map_of knows (session_call kept (client_feature (string_bytes held')) request) made known boundary middle
+    consumer told new consumer'
+    → IsOneRun parties map_of knows (client_feature agent) request start made known boundary consumer told new consumer'
+named_run parties map_of knows law parameters agent held held' request start shaken middle handshake kept made known boundary consumer told
+    new consumer' n e opens maps keeps fetched =
+    law parameters (client_feature agent) request start shaken middle handshake kept made known boundary consumer told new consumer' opens
+    (subst (λ (x : List ℕ). MapsInSession request (client_feature x) handshake parties.plain shaken middle (Ok made)) n maps) keeps
+    (subst (λ (x : List ℕ). FetchesInSession parties map_of knows (session_call kept (client_feature x) request) made known boundary middle
+    consumer told new consumer') (ap (λ (x : String Global). string_bytes x) e ∙ n) fetched)

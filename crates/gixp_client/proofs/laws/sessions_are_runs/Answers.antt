@@ -1,0 +1,8 @@
+-- A session is one run of the law.
+use Rattle.gixp_client.proofs.PromiseLemmas.{one_run}
+use Rattle.gixp_client.proofs.laws.sessions_are_runs.Goals as goal
+
+pub returns : goal.returns
+returns g c = λ plain parameters agent request start shaken middle handshake kept made known boundary consumer told new consumer' o m k f.
+    one_run _ _ _ (c.headline.ensures.run plain) parameters agent request start shaken middle handshake kept made known boundary consumer
+    told new consumer' o m k f

@@ -1,0 +1,20 @@
+-- The negotiation of a session's fetch is over its map.
+use Rattle.std.proofs.Common.{ap, ◌∙◌}
+use Rattle.gixp_client.proofs.RunLemmas.{same_knowledge}
+use Rattle.gixp_client.proofs.run.fetch_mapped.Goals as goal
+
+pub returns-clause-fetched : goal.returns-clause-fetched
+returns-clause-fetched g c =
+    let n = c.new-negotiation.ensures in
+    let e = ap (λ w. w.negotiation) c.new-filtered.ensures.negotiation ∙ c.new-windowed.ensures.negotiation in record {
+      first = c.new-filtered.result;
+      last = _;
+      negotiates = ap (λ m. m.ref_map.now) e ∙ n.ref_map;
+      knowing = same_knowledge _ _ _ _ _ _ _ _ _ _ (ap (λ m. m.tags) e ∙ n.tags) (ap (λ m. m.shallow.now) e ∙ n.shallow)
+          (ap (λ m. m.context.graph.now.graph.objects) e ∙ ap (λ x. x.graph.now.graph.objects) n.context
+          ∙ ap (λ x. x.objects) c.new-graph.ensures.empty ∙ ap g.F.Find.contents c.new.ensures.objects)
+          (ap (λ m. g.F.Find.contents m.context.objects.now.objects.now) e ∙ ap (λ x. g.F.Find.contents x.objects.now.objects.now) n.context
+          ∙ ap g.F.Find.contents c.new-shared.ensures.objects)
+          (ap (λ m. g.R.RefStore.refs m.context.refs.now) e ∙ ap (λ x. g.R.RefStore.refs x.refs.now) n.context);
+      holds = c.fetch_over.ensures.fetched;
+    }

@@ -1,0 +1,15 @@
+-- A fetch, and what is told of it.
+use Rattle.gixp_client.proofs.RunLemmas.{as_session}
+use Rattle.gixp_client.proofs.run.fetch_over.Goals as goal
+
+pub returns-clause-fetched : goal.returns-clause-fetched
+returns-clause-fetched g c = record {
+  came = c.fetch-came.result;
+  tells = c.told.ensures;
+  holds = record {
+    interrupt = _;
+    interrupt' = _;
+    progress = _;
+    carries = as_session _ _ _ _ c.args.shaken.now c.args.request.now _ _ _ _ c.git.ensures c.named.ensures c.fetch-came.ensures.fetched;
+  };
+}

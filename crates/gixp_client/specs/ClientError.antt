@@ -1,0 +1,112 @@
+-- Why a call of a client's session is refused, by the errors of the calls below.
+use Rattle.std.specs.Prelude.{◌≡◌, ◌⊎◌, ℕ, ⊤, List, Option, Some, None, String, string_bytes}
+use Rattle.std.specs.declared.alloc.Global.{Global}
+use Rattle.bstr.specs.Owned.{bstring_bytes}
+use Rattle.gixp_packetline.specs.ServerMessage.{read_message}
+use Rattle.gixp_packetline.specs.declared.read.Error.TheVariants as read
+use Rattle.gixp_capabilities.specs.ClientMessage.{client_message}
+use Rattle.gixp_capabilities.specs.declared.client.Error.{Error as ClientError}
+use Rattle.gixp_capabilities.specs.declared.client.Error.TheVariants as client
+use Rattle.gixp_response.specs.AnswerMessage.{answer_message}
+use Rattle.gixp_refs.specs.RefsMessage.{refs_message}
+use Rattle.gixp_refs.specs.declared.handshake.refs.parse.Error.{Error as ParseError}
+use Rattle.gixp_refs.specs.declared.handshake.refs.parse.Error.TheVariants as parse
+use Rattle.gixp_refmap.specs.declared.ls_refs.error.Error.{Error as ListError}
+use Rattle.gixp_refmap.specs.declared.ls_refs.error.Error.TheVariants as list
+use Rattle.gixp_refmap.specs.declared.refmap.init.Error.{Error as MapError}
+use Rattle.gixp_refmap.specs.declared.refmap.init.Error.TheVariants as init
+use Rattle.gixp_handshake.specs.HandshakeMessage.{handshake_message}
+use Rattle.gixp_handshake.specs.declared.handshake.error.Error.{Error as ShakeError}
+use Rattle.gixp_handshake.specs.declared.handshake.error.Error.TheVariants as shake
+use Rattle.gixp_negotiate.specs.declared.negotiate.Error.{Error as NegotiateError}
+use Rattle.gixp_negotiate.specs.declared.negotiate.Error.TheVariants as negotiation
+use Rattle.gixp_client.specs.declared.consumer.PackError.{PackError}
+use Rattle.gixp_client.specs.declared.consumer.PackError.TheVariants as pack
+use Rattle.gixp_graph.specs.declared.refs.RefStoreError.TheVariants as refs
+use Rattle.gixp_fetch.specs.declared.error.Error.{Error as FetchError}
+use Rattle.gixp_fetch.specs.declared.error.Error.TheVariants as fetch
+use Rattle.gixp_client.specs.declared.error.Error.{Error}
+use Rattle.gixp_client.specs.declared.error.Error.TheVariants.{Handshake, Refs, UnsupportedListing, UnknownObjectFormat, Conflicts, Request, Answer, Unnegotiated, Objects, LocalRefs, MissingFeature, ShallowServer, Pack, Rest, Reported, Over, Memory}
+
+-- the server's own words
+abbrev pub said_in : Error → Option (List ℕ)
+said_in (Handshake e) = handshake_message e
+said_in (Refs e) = refs_message e
+said_in (Request e) = client_message e
+said_in (Answer e) = answer_message e
+said_in (Pack (pack.Read e)) = read_message e
+said_in (Rest e) = read_message e
+said_in (Reported message) = Some (bstring_bytes message)
+said_in _ = None
+
+-- the error of a refused handshake
+abbrev pub of_shake : ShakeError → Error
+of_shake shake.Memory = Memory
+of_shake e = Handshake e
+
+-- of a request
+abbrev pub of_request : ClientError → Error
+of_request client.Memory = Memory
+of_request e = Request e
+
+-- of a list of refs
+abbrev pub of_refs : ParseError → Error
+of_refs parse.Memory = Memory
+of_refs e = Refs e
+
+-- of refs that weren't listed
+abbrev pub of_list : ListError → Error
+of_list (list.Io kind) = Request (client.Io kind)
+of_list (list.Transport e) = of_request e
+of_list (list.Parse e) = of_refs e
+of_list (list.ArgumentValidation e) = UnsupportedListing
+of_list list.Memory = Memory
+
+-- of a ref map
+abbrev pub of_init : MapError → Error
+of_init (init.UnknownObjectFormat format) = UnknownObjectFormat format
+of_init (init.MappingValidation e) = Conflicts e
+of_init (init.ListRefs e) = of_list e
+of_init init.Memory = Memory
+
+-- of a negotiation
+abbrev pub of_negotiation : {A : Type 0} → NegotiateError A → Error
+of_negotiation (negotiation.NegotiationFailed rounds) = Unnegotiated rounds
+of_negotiation (negotiation.LookupCommitInGraph e) = Objects e
+of_negotiation negotiation.OpenPackedRefsBuffer = LocalRefs refs.OpenPackedRefsBuffer
+of_negotiation (negotiation.IO kind) = LocalRefs (refs.Io kind)
+of_negotiation negotiation.InitRefIter = LocalRefs refs.Iter
+of_negotiation negotiation.PeelToId = LocalRefs refs.Peel
+of_negotiation (negotiation.AlternateRefsAndObjects e) = LocalRefs refs.Iter
+of_negotiation negotiation.Memory = Memory
+
+-- of a pack
+abbrev pub of_refused_pack : PackError → Error
+of_refused_pack (pack.Read read.Memory) = Memory
+of_refused_pack e = Pack e
+
+-- the server doesn't offer this, or an allocation failed
+abbrev pub NamesMissing : List ℕ → Error → Type 0
+NamesMissing feature e = ((text : String Global) × (string_bytes text ≡ feature) × (e ≡ MissingFeature text)) ⊎ (e ≡ Memory)
+
+-- what is told of a refused fetch: of a consumer's error what that makes of it
+abbrev pub IsToldOf : {A X : Type 0} → FetchError A X → Error → Type 0
+IsToldOf (fetch.FetchResponse x) e = e ≡ Answer x
+IsToldOf (fetch.Negotiate x) e = e ≡ of_negotiation x
+IsToldOf (fetch.Client x) e = e ≡ of_request x
+IsToldOf (fetch.MissingServerFeature feature description) e = NamesMissing feature.now e
+IsToldOf (fetch.WriteShallowFile x) e = e ≡ Memory
+IsToldOf (fetch.ReadShallowFile x) e = e ≡ Memory
+IsToldOf (fetch.LockShallowFile x) e = e ≡ Memory
+IsToldOf fetch.RejectShallowRemote e = e ≡ ShallowServer
+IsToldOf (fetch.ConsumePack x) e = ⊤
+IsToldOf (fetch.ReadRemainingBytes x) e = e ≡ Rest x
+IsToldOf fetch.Memory e = e ≡ Memory
+
+-- of a call that is refused before anything is sent: the session is over, the server doesn't offer what is asked for, or an allocation
+-- failed
+abbrev pub IsUnsent : Error → Type 0
+IsUnsent Over = ⊤
+IsUnsent Memory = ⊤
+IsUnsent (MissingFeature feature) = ⊤
+IsUnsent _ = ⊥

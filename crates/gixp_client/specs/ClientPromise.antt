@@ -1,0 +1,43 @@
+-- A session as one run of the law `headline`: a handshake, the ref map that stands on it, and a fetch whose negotiation is over this map.
+use Rattle.std.specs.Prelude.{◌≡◌, ◌⊎◌, ℕ, List, [], Option, None, Result, Ok}
+use Rattle.gixp_packetline.specs.Reading.{Reading}
+use Rattle.gixp_requests.specs.Feature.{FeatureValue}
+use Rattle.gixp_refmap.specs.Values.{context_value}
+use Rattle.gixp_refmap.specs.declared.refmap.init.Context.{Context}
+use Rattle.gixp_refmap.specs.declared.refmap.map.RefMap.{RefMap}
+use Rattle.gixp_handshake.specs.declared.handshake.read.Handshake.{Handshake}
+use Rattle.gixp_fetch.specs.declared.options.Outcome.{Outcome}
+use Rattle.gixp_fetch.specs.declared.error.Error.{Error as FetchError}
+use Rattle.gixp_fetch.specs.declared.shallow.memory.ShallowMemory.{ShallowMemory}
+use Rattle.gixp_hash.specs.declared.object_id.ObjectId.{ObjectId}
+use Rattle.gixp_fetch.specs.Fetch.{Parties}
+use Rattle.gixp_fetch.specs.Fetched.{unlocked_world}
+use Rattle.gixp_fetch.specs.Mapped.{Knowledge}
+use Rattle.gixp_fetch.specs.Headline.{Run, Promise}
+use Rattle.gixp_client.specs.ClientCalls.{asked_specs, session_call, IsToldCame}
+use Rattle.gixp_client.specs.declared.error.Error.{Error}
+use Rattle.gixp_client.specs.declared.request.Request.{Request}
+
+module _ {N I A C P X : Type 0} (parties : Parties N I A ShallowMemory C P X) (map_of : N → RefMap) (knows : N → Knowledge) where
+  -- a session from where its transport was first, up to the fetch of which this is told: one run of the law, and what is true of it
+  pub record IsOneRun (agent : FeatureValue) (request : Request) (start : Reading) (made : RefMap) (known : Knowledge)
+      (boundary : List ObjectId) (consumer : C) (told : Result (Option Outcome) Error) (new : Reading) (consumer' : C) : Type 0 where
+    pub context : Context
+    pub asked : context_value context ≡ asked_specs request
+    pub shaken : Handshake
+    pub middle : Reading
+    pub first : N
+    pub last : N
+    pub knowing : knows first ≡ known
+    pub interrupt : I
+    pub interrupt' : I
+    pub store : ShallowMemory
+    pub store' : ShallowMemory
+    pub before : store.ids.items ≡ boundary
+    pub progress : P
+    pub came : Result (Option Outcome) (FetchError A X)
+    pub tells : IsToldCame came told
+    pub run : Run parties map_of knows (session_call shaken agent request) context start made
+        (unlocked_world first middle interrupt store consumer) came (unlocked_world last new interrupt' store' consumer') progress
+    pub promise : Promise parties map_of knows (session_call shaken agent request) context start made
+        (unlocked_world first middle interrupt store consumer) came (unlocked_world last new interrupt' store' consumer') progress run

@@ -1,0 +1,5 @@
+pub mod Windows
+pub mod Filters
+pub mod ClientError
+pub mod ClientCalls
+pub mod ClientPromise

@@ -1,0 +1,298 @@
+//! Why a call of a session is refused.
+ghost use Rattle.std.specs.Prelude.{◌≡◌};
+ghost use Rattle.std.specs.Option.{option_map};
+ghost use Rattle.bstr.specs.BStr.{bstr_bytes};
+ghost use Rattle.gixp_client.specs.ClientError.{said_in, of_shake, of_refs, of_list, of_init, of_request, of_negotiation, of_refused_pack};
+
+use crate::consumer::PackError;
+use crate::refusal::{answer_kind, client_kind, pack_kind, parse_kind, write_words};
+use bstr::{BStr, BString};
+use gixp_capabilities::client;
+use gixp_fetch::consume::CopyError;
+use gixp_graph::{ObjectError, RefStoreError};
+use gixp_handshake::handshake;
+use gixp_matching::match_group::validate;
+use gixp_negotiate::negotiate;
+use gixp_packetline::{ServerMessage, read};
+use gixp_refmap::ls_refs;
+use gixp_refmap::refmap::init;
+use gixp_refs::handshake::refs::parse;
+use gixp_refspec::parse as spec;
+use gixp_response::fetch::response;
+use std::alloc::{AllocError, AllocFailed};
+use std::fmt;
+use std::fmt::Display;
+use std::io::ErrorKind;
+
+/// Why a call of a session is refused, in a sentence that has the server's words where there are any.
+///
+/// It owns all that it tells, and names no type of the caller's.
+#[derive(Debug, Drop)]
+pub enum Error {
+    /// A text is no refspec. Nothing was sent.
+    Refspec {
+        /// The text.
+        spec: BString,
+        /// Why it is none.
+        why: spec::Error,
+    },
+    /// The handshake was refused.
+    Handshake(handshake::Error),
+    /// The list of refs wasn't read.
+    Refs(parse::Error),
+    /// The server doesn't take the command that lists refs. Nothing was sent.
+    UnsupportedListing,
+    /// The server names objects by a hash function that isn't known.
+    UnknownObjectFormat {
+        /// What it calls the function.
+        format: BString,
+    },
+    /// Two refs go to one local name.
+    Conflicts(validate::Error),
+    /// A request wasn't sent.
+    Request(client::Error),
+    /// The answer to a request for a pack wasn't read.
+    Answer(response::Error),
+    /// So many rounds of the negotiation went by, and no pack came.
+    Unnegotiated {
+        /// How many.
+        rounds: usize,
+    },
+    /// An object of the repository can't be read.
+    Objects(ObjectError),
+    /// The refs of the repository can't be read.
+    LocalRefs(RefStoreError),
+    /// The server doesn't offer what was asked for. Nothing was sent.
+    MissingFeature {
+        /// What it doesn't offer.
+        feature: String,
+    },
+    /// The server's repository is shallow, and that was to be refused.
+    ShallowServer,
+    /// The pack wasn't taken: what has come of it is to be thrown away.
+    Pack(PackError),
+    /// What comes behind the pack wasn't read.
+    Rest(read::Error),
+    /// The server reported an error beside the pack (band 3): what has come is to be thrown away.
+    Reported {
+        /// Its words.
+        message: BString,
+    },
+    /// The session was broken or ended before. Nothing was sent.
+    Over,
+    /// An allocation failed.
+    Memory,
+}
+
+impl Error {
+    /// What the server said of it, where it is the server's error.
+    pub fn server_message(&self) -> Option<BStr<'_>>
+        ensures { option_map bstr_bytes result ≡ said_in self.now }
+    {
+        match self {
+            Error::Handshake(e) => e.server_message(),
+            Error::Refs(e) => e.server_message(),
+            Error::Request(e) => e.server_message(),
+            Error::Answer(e) => e.server_message(),
+            Error::Pack(PackError::Read(e)) => e.server_message(),
+            Error::Rest(e) => e.server_message(),
+            Error::Reported { message } => Some(message.as_bstr()),
+            _ => None,
+        }
+    }
+
+    // Where it happened, in words.
+    fn place(&self) -> &'static str {
+        match self {
+            Error::Handshake(handshake::Error::ParseRefs(_)) | Error::Refs(_) => "the list of refs",
+            Error::Handshake(_) => "the handshake",
+            Error::Request(_) => "a request",
+            Error::Answer(_) => "an answer",
+            Error::Pack(_) => "the pack",
+            Error::Rest(_) => "what comes behind the pack",
+            _ => "the session",
+        }
+    }
+
+    /// The kind of the read or write that failed; `UnexpectedEof` where the connection ended.
+    pub fn io_kind(&self) -> Option<ErrorKind> {
+        match self {
+            Error::Handshake(handshake::Error::Transport(e)) => client_kind(e),
+            Error::Handshake(handshake::Error::ParseRefs(e)) => parse_kind(e),
+            Error::Refs(e) => parse_kind(e),
+            Error::Request(e) => client_kind(e),
+            Error::Answer(e) => answer_kind(e),
+            Error::Pack(e) => pack_kind(e),
+            Error::Rest(read::Error::Io(kind)) => Some(*kind),
+            _ => None,
+        }
+    }
+
+    // What is said where neither the server nor a read or write failed.
+    fn write_rest<W: fmt::Write>(&self, f: &mut fmt::Formatter<W>) -> fmt::Result {
+        match self {
+            Error::Refspec { spec, why } => write!(f, "{spec:?} is no refspec: {why}"),
+            Error::Handshake(e) => write!(f, "the handshake was refused: {e:?}"),
+            Error::Refs(e) => write!(f, "the list of refs can't be read: {e:?}"),
+            Error::UnsupportedListing => f.write_str(
+                "the server doesn't list refs as it is asked to",
+            ),
+            Error::UnknownObjectFormat { format } => {
+                write!(f, "the server names objects by {format}, which isn't known")
+            }
+            Error::Conflicts(e) => write!(f, "the refs can't be mapped: {e}"),
+            Error::Request(e) => write!(f, "a request wasn't sent: {e:?}"),
+            Error::Answer(e) => write!(f, "an answer can't be read: {e:?}"),
+            Error::Unnegotiated { rounds } => {
+                write!(f, "no pack came after {rounds} round(s) of the negotiation")
+            }
+            Error::Objects(e) => write!(f, "an object of the repository can't be read: {e:?}"),
+            Error::LocalRefs(e) => write!(f, "the refs of the repository can't be read: {e:?}"),
+            Error::MissingFeature { feature } => write!(f, "the server doesn't offer {feature}"),
+            Error::ShallowServer => f.write_str("the server's repository is shallow"),
+            Error::Pack(PackError::Refused(why)) => write!(f, "the pack is refused: {why}"),
+            Error::Pack(e) => write!(f, "the pack can't be read: {e:?}"),
+            Error::Rest(e) => write!(f, "what comes behind the pack can't be read: {e:?}"),
+            Error::Reported { message: _ } => f.write_str("the server reported an error"),
+            Error::Over => f.write_str("the session is over"),
+            Error::Memory => f.write_str("out of memory"),
+        }
+    }
+}
+
+impl Display for Error {
+    fn fmt<W: fmt::Write>(&self, f: &mut fmt::Formatter<W>) -> fmt::Result {
+        if let Some(words) = self.server_message() {
+            f.write_str("the server said: ")?;
+            return write_words(f, words.as_bytes());
+        }
+        if let Error::Pack(PackError::Write(kind)) = self {
+            return write!(f, "the pack can't be written: {kind:?}");
+        }
+        match self.io_kind() {
+            Some(ErrorKind::UnexpectedEof) => {
+                write!(f, "the connection ended within {}", self.place())
+            }
+            Some(kind) => write!(f, "the connection failed within {}: {kind:?}", self.place()),
+            None => self.write_rest(f),
+        }
+    }
+}
+
+impl std::error::Error for Error {}
+
+impl From<handshake::Error> for Error {
+    ghost from_gives = { λ e error. error ≡ of_shake e };
+
+    fn from(e: handshake::Error) -> Error {
+        match e {
+            handshake::Error::Memory => Error::Memory,
+            other => Error::Handshake(other),
+        }
+    }
+}
+
+impl From<parse::Error> for Error {
+    ghost from_gives = { λ e error. error ≡ of_refs e };
+
+    fn from(e: parse::Error) -> Error {
+        match e {
+            parse::Error::Memory => Error::Memory,
+            other => Error::Refs(other),
+        }
+    }
+}
+
+impl From<ls_refs::Error> for Error {
+    ghost from_gives = { λ e error. error ≡ of_list e };
+
+    fn from(e: ls_refs::Error) -> Error {
+        match e {
+            ls_refs::Error::Io(kind) => Error::Request(client::Error::Io(kind)),
+            ls_refs::Error::Transport(e) => Error::from(e),
+            ls_refs::Error::Parse(e) => Error::from(e),
+            ls_refs::Error::ArgumentValidation(_) => Error::UnsupportedListing,
+            ls_refs::Error::Memory => Error::Memory,
+        }
+    }
+}
+
+impl From<init::Error> for Error {
+    ghost from_gives = { λ e error. error ≡ of_init e };
+
+    fn from(e: init::Error) -> Error {
+        match e {
+            init::Error::UnknownObjectFormat { format } => Error::UnknownObjectFormat { format },
+            init::Error::MappingValidation(e) => Error::Conflicts(e),
+            init::Error::ListRefs(e) => Error::from(e),
+            init::Error::Memory => Error::Memory,
+        }
+    }
+}
+
+impl From<client::Error> for Error {
+    ghost from_gives = { λ e error. error ≡ of_request e };
+
+    fn from(e: client::Error) -> Error {
+        match e {
+            client::Error::Memory => Error::Memory,
+            other => Error::Request(other),
+        }
+    }
+}
+
+impl<A: Drop> From<negotiate::Error<A>> for Error {
+    ghost from_gives = { λ e error. error ≡ of_negotiation e };
+
+    fn from(e: negotiate::Error<A>) -> Error {
+        match e {
+            negotiate::Error::NegotiationFailed { rounds } => Error::Unnegotiated { rounds },
+            negotiate::Error::LookupCommitInGraph(e) => Error::Objects(e),
+            negotiate::Error::OpenPackedRefsBuffer => {
+                Error::LocalRefs(RefStoreError::OpenPackedRefsBuffer)
+            }
+            negotiate::Error::IO(kind) => Error::LocalRefs(RefStoreError::Io(kind)),
+            negotiate::Error::InitRefIter => Error::LocalRefs(RefStoreError::Iter),
+            negotiate::Error::PeelToId => Error::LocalRefs(RefStoreError::Peel),
+            negotiate::Error::AlternateRefsAndObjects(_) => Error::LocalRefs(RefStoreError::Iter),
+            negotiate::Error::Memory => Error::Memory,
+        }
+    }
+}
+
+impl From<PackError> for Error {
+    ghost from_gives = { λ e error. error ≡ of_refused_pack e };
+
+    fn from(e: PackError) -> Error {
+        match e {
+            PackError::Read(read::Error::Memory) => Error::Memory,
+            other => Error::Pack(other),
+        }
+    }
+}
+
+impl From<CopyError> for Error {
+    fn from(e: CopyError) -> Error {
+        Error::from(PackError::from(e))
+    }
+}
+
+impl From<AllocError> for Error {
+    ghost use Rattle.gixp_client.specs.declared.error.Error.TheVariants.{Memory};
+
+    ghost from_gives = { λ _ error. error ≡ Memory };
+
+    fn from(_e: AllocError) -> Error {
+        Error::Memory
+    }
+}
+
+impl<T: Drop> From<AllocFailed<T>> for Error {
+    ghost use Rattle.gixp_client.specs.declared.error.Error.TheVariants.{Memory};
+
+    ghost from_gives = { λ _ error. error ≡ Memory };
+
+    fn from(_e: AllocFailed<T>) -> Error {
+        Error::Memory
+    }
+}

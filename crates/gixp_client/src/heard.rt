@@ -1,0 +1,156 @@
+//! A transport whose texts are heard as they come.
+ghost use Rattle.std.specs.Prelude.{◌≡◌};
+
+use crate::listen::{Kept, Listener};
+use bstr::BStr;
+use gixp_capabilities::client::Error;
+use gixp_packetline::{ExtendedBufRead, MessageKind, Protocol, read};
+use gixp_wire::{Account, Service, SetServiceResponse, Transport};
+use std::alloc::Global;
+use std::mem;
+
+/// A transport that tells a listener, and keeps, the texts of bands 2 and 3, each as its packet line is taken. In every other way
+/// it is the transport inside: no other line begins with a byte of 2 or 3.
+#[derive(Drop)]
+pub struct Heard<T, L> {
+    pub(crate) inner: T,
+    pub(crate) listener: L,
+    pub(crate) kept: Kept,
+}
+
+// Which text a line has: of an error, or of progress.
+fn band_of(line: &[u8]) -> Option<(bool, &[u8])> {
+    match line {
+        [2, text @ ..] => Some((false, text)),
+        [3, text @ ..] => Some((true, text)),
+        _ => None,
+    }
+}
+
+impl<T, L> Heard<T, L> {
+    /// The transport, whose texts this listener hears.
+    pub fn new(alloc: Global, inner: T, listener: L) -> Heard<T, L>
+        ensures { result.inner ≡ inner }
+    {
+        Heard {
+            inner,
+            listener,
+            kept: Kept::new(alloc),
+        }
+    }
+
+    /// Takes out what was kept so far.
+    pub fn take_kept(&mut self, alloc: Global) -> Kept
+        ensures { self.new.inner ≡ self.old.inner }
+    {
+        mem::replace(&mut self.kept, Kept::new(alloc))
+    }
+}
+
+impl<T, L: Drop> Heard<T, L> {
+    /// The transport alone.
+    pub fn into_inner(self) -> T
+        ensures { result ≡ self.inner }
+    {
+        let Heard {
+            inner,
+            listener: _listener,
+            kept: _kept,
+        } = self;
+        inner
+    }
+}
+
+impl<T: ExtendedBufRead, L: Listener> Heard<T, L> {
+    // Tells the text of the line that was taken, if it has one.
+    fn tell(&mut self)
+        ensures { self.new.inner ≡ self.old.inner }
+    {
+        if let Some((is_error, text)) = band_of(self.inner.line()) {
+            self.listener.hear(is_error, text);
+            self.kept.hear(is_error, text);
+        }
+    }
+}
+
+impl<T: ExtendedBufRead, L: Listener> ExtendedBufRead for Heard<T, L> {
+    ghost reading = { λ h. T.reading h.inner };
+
+    ghost is_plain = { T.is_plain };
+
+    ghost asks = { λ h stops k. T.asks h.inner stops k.inner };
+
+    fn next_line(&mut self) -> Result<bool, read::Error> {
+        match self.inner.next_line() {
+            Ok(true) => {
+                self.tell();
+                Ok(true)
+            }
+            Ok(false) => Ok(false),
+            Err(e) => Err(e),
+        }
+    }
+
+    fn peek_line(&mut self) -> Result<bool, read::Error> {
+        self.inner.peek_line()
+    }
+
+    fn line(&self) -> &[u8] {
+        self.inner.line()
+    }
+
+    fn stopped_at(&self) -> Option<MessageKind> {
+        self.inner.stopped_at()
+    }
+
+    fn reset(&mut self, version: Protocol) {
+        self.inner.reset(version);
+    }
+
+    ghost stays = { λ h. T.stays h.inner };
+
+    ghost joins = { λ a b c stops g h. T.joins a.inner b.inner c.inner stops g h };
+}
+
+impl<T: Transport, L: Listener> Transport for Heard<T, L> {
+    fn connection_persists_across_multiple_requests(&self) -> bool {
+        self.inner.connection_persists_across_multiple_requests()
+    }
+
+    fn to_url(&self) -> BStr<'_> {
+        self.inner.to_url()
+    }
+
+    fn supported_protocol_versions(&self) -> &[Protocol] {
+        self.inner.supported_protocol_versions()
+    }
+
+    fn set_identity(&mut self, account: Account) -> Result<(), Error> {
+        self.inner.set_identity(account)
+    }
+
+    fn handshake(
+        &mut self,
+        alloc: Global,
+        service: Service,
+        extra_parameters: &[(String, Option<String>)],
+    ) -> Result<SetServiceResponse, Error> {
+        self.inner.handshake(alloc, service, extra_parameters)
+    }
+
+    fn begin_request(&mut self) -> Result<(), Error> {
+        self.inner.begin_request()
+    }
+
+    fn write_text(&mut self, line: &[u8]) -> Result<(), Error> {
+        self.inner.write_text(line)
+    }
+
+    fn write_message(&mut self, kind: MessageKind) -> Result<(), Error> {
+        self.inner.write_message(kind)
+    }
+
+    fn end_request(&mut self) -> Result<(), Error> {
+        self.inner.end_request()
+    }
+}

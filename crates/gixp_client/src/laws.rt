@@ -1,0 +1,41 @@
+//! Laws of the definitions, each a function whose contract is the law.
+ghost use Rattle.std.specs.Prelude.{◌≡◌, ℕ, Bool, List, Option, Result, Ok};
+ghost use Rattle.gixp_packetline.specs.Reading.{Reading};
+ghost use Rattle.gixp_hash.specs.declared.object_id.ObjectId.{ObjectId};
+ghost use Rattle.gixp_wire.specs.Greeting.{Parameter};
+ghost use Rattle.gixp_requests.specs.Feature.{FeatureValue};
+ghost use Rattle.gixp_refmap.specs.declared.refmap.map.RefMap.{RefMap};
+ghost use Rattle.gixp_handshake.specs.declared.handshake.read.Handshake.{Handshake};
+ghost use Rattle.gixp_fetch.specs.declared.options.Outcome.{Outcome};
+ghost use Rattle.gixp_fetch.specs.Fetch.{parties_of};
+ghost use Rattle.gixp_fetch.specs.Mapped.{Knowledge};
+ghost use Rattle.gixp_client.specs.ClientCalls.{OpensSession, MapsInSession, FetchesInSession, session_call};
+ghost use Rattle.gixp_client.specs.ClientPromise.{IsOneRun};
+ghost use Rattle.gixp_client.specs.declared.error.Error.{Error};
+ghost use Rattle.gixp_client.specs.declared.request.Request.{Request};
+
+use gixp_fetch::consume::ConsumePack;
+use gixp_fetch::laws::headline;
+use gixp_fetch::mapped::NegotiatesMap;
+use gixp_fetch::shallow::{ShallowMemory, ShallowStore};
+use gixp_negotiate::negotiate::Negotiate;
+use gixp_negotiate::negotiate::negotiation::PaysForHaves;
+use gixp_sidebands::Interrupt;
+
+/// A session that was opened, a ref map of it, and a fetch of what is mapped are one run of the law
+/// [`headline`](gixp_fetch::laws::headline), with all that it promises: the clauses `refs`, `mappings`, `requests`, `few`, `pack`.
+/// Of the handshake nothing but its refs may have changed in between.
+pub fn sessions_are_runs<N: PaysForHaves + NegotiatesMap, I: Interrupt, P, C: ConsumePack<P>>()
+    ensures { (plain : Bool) (parameters : List Parameter) (agent : FeatureValue) (request : Request) (start shaken middle : Reading)
+        (handshake kept : Handshake) (made : RefMap) (known : Knowledge) (boundary : List ObjectId) (consumer : C)
+        (told : Result (Option Outcome) Error) (new : Reading) (consumer' : C)
+        → OpensSession parameters plain start shaken handshake
+        → MapsInSession request agent handshake plain shaken middle (Ok made)
+        → kept ≡ record handshake { refs = kept.refs }
+        → FetchesInSession (parties_of N.calls ⟦<ShallowMemory as ShallowStore>⟧.calls I.says C.consumes plain) N.map_of N.knows
+        (session_call kept agent request) made known boundary middle consumer told new consumer'
+        → IsOneRun (parties_of N.calls ⟦<ShallowMemory as ShallowStore>⟧.calls I.says C.consumes plain) N.map_of N.knows
+        agent request start made known boundary consumer told new consumer' }
+{
+    headline::<N, ShallowMemory, I, P, C>();
+}

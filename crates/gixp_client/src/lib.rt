@@ -1,0 +1,36 @@
+//! A client of a server: a handshake, its refs, what refspecs map of them, and fetches, over one session.
+#![tactic(auto)]
+
+mod boundary;
+mod changes;
+mod consumer;
+mod error;
+mod fetched;
+mod heard;
+pub mod laws;
+mod listen;
+mod once;
+mod over;
+mod pipes;
+mod refusal;
+mod repository;
+mod request;
+mod run;
+mod session;
+mod windows;
+
+pub use boundary::Boundary;
+pub use changes::{ListedRefs, LocalChange, local_changes};
+pub use consumer::PackError;
+pub use error::Error;
+pub use fetched::Fetched;
+pub use heard::Heard;
+pub use listen::{Kept, Listener, RemoteLines, ServerText, Silent};
+pub use once::fetch_once;
+pub use over::Filtered;
+pub use pipes::over_streams;
+pub use repository::Repository;
+pub use request::Request;
+pub use run::SessionNegotiation;
+pub use session::{Session, State};
+pub use windows::{MOST_HAVES, Windowed};

@@ -1,0 +1,28 @@
+//! A transport over two streams.
+ghost use Rattle.std.specs.Prelude.{[], None, IfOk};
+ghost use Rattle.gixp_packetline.specs.declared.protocol.Protocol.TheVariants.{V2};
+ghost use Rattle.gixp_wire.specs.Connection.{IsNewConnection, connection_reading};
+
+use bstr::BString;
+use gixp_packetline::Protocol;
+use gixp_wire::Connection;
+use std::alloc::{AllocError, Global};
+use std::io::{Read, Write};
+
+/// The transport over the stream from a server and the one to it, as those of `git upload-pack PATH`, here or by `ssh`. Nothing on the
+/// wire asks for a version: set `GIT_PROTOCOL=version=2` for that program. All versions are accepted.
+///
+/// # Errors
+///
+/// An allocation failure alone.
+pub fn over_streams<R: Read + Drop, W: Write + Drop>(
+    alloc: Global,
+    from: R,
+    to: W,
+) -> Result<Connection<R, W>, AllocError>
+    ensures { IfOk result (λ c. IsNewConnection (R.remaining from) (W.contents to) [] V2 [] None
+        (connection_reading R.remaining W.contents c)) }
+{
+    let url = BString::from(Vec::new(alloc));
+    Connection::new(alloc, from, to, url, Protocol::V2, Vec::new(alloc), None)
+}

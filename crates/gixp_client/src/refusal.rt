@@ -1,0 +1,121 @@
+//! What lower errors say of a read or a write that failed, and the words of a server as they are shown.
+ghost use Rattle.std.specs.Prelude.{◌≡◌};
+ghost use Rattle.gixp_client.specs.ClientError.{NamesMissing, IsToldOf};
+ghost use Rattle.gixp_client.specs.ClientCalls.{IsToldCame};
+
+use crate::consumer::PackError;
+use crate::error::Error;
+use gixp_capabilities::client;
+use gixp_fetch::error::Error as FetchError;
+use gixp_fetch::options::Outcome;
+use gixp_packetline::read;
+use gixp_refs::handshake::refs::parse;
+use gixp_response::fetch::response;
+use std::alloc::Global;
+use std::fmt;
+use std::io::ErrorKind;
+
+/// That of a call which speaks to the server.
+pub(crate) fn client_kind(e: &client::Error) -> Option<ErrorKind> {
+    match e {
+        client::Error::Io(kind) => Some(*kind),
+        client::Error::Read(read::Error::Io(kind)) => Some(*kind),
+        _ => None,
+    }
+}
+
+/// That of a reader of refs.
+pub(crate) fn parse_kind(e: &parse::Error) -> Option<ErrorKind> {
+    match e {
+        parse::Error::Io(kind) => Some(*kind),
+        _ => None,
+    }
+}
+
+/// That of a reader of answers.
+pub(crate) fn answer_kind(e: &response::Error) -> Option<ErrorKind> {
+    match e {
+        response::Error::Io(kind) => Some(*kind),
+        response::Error::Transport(e) => client_kind(e),
+        _ => None,
+    }
+}
+
+/// That of a consumer of the pack.
+pub(crate) fn pack_kind(e: &PackError) -> Option<ErrorKind> {
+    match e {
+        PackError::Read(read::Error::Io(kind)) => Some(*kind),
+        _ => None,
+    }
+}
+
+// Writes a text, with a question mark for each control character.
+fn write_text<W: fmt::Write>(f: &mut fmt::Formatter<W>, text: &str) -> fmt::Result {
+    for shown in text.chars() {
+        f.write_char(if shown.is_control() { '?' } else { shown })?;
+    }
+    Ok(())
+}
+
+/// Writes the words of a server without one line end behind them, so that a terminal takes none of them for a command: a
+/// control character is a question mark, and so is what isn't ASCII where they aren't UTF-8.
+pub(crate) fn write_words<W: fmt::Write>(f: &mut fmt::Formatter<W>, words: &[u8]) -> fmt::Result {
+    let words = words.strip_suffix(b"\n".as_slice()).unwrap_or(words);
+    if let Ok(text) = str::from_utf8(words) {
+        return write_text(f, text);
+    }
+    for byte in words {
+        f.write_char(if 32 <= *byte && *byte < 127 {
+            *byte as char
+        } else {
+            '?'
+        })?;
+    }
+    Ok(())
+}
+
+/// What the server doesn't offer.
+pub(crate) fn missing(alloc: Global, feature: &str) -> Error
+    ensures { NamesMissing feature.now result }
+{
+    match String::from_str(alloc, feature) {
+        Ok(feature) => Error::MissingFeature { feature },
+        Err(_) => Error::Memory,
+    }
+}
+
+// Why a fetch was refused, with nothing of the caller's in it. A boundary in memory that nobody else has is refused for want of
+// memory alone.
+fn refusal<A: Drop, E: Into<Error>>(alloc: Global, e: FetchError<A, E>) -> Error
+    ensures { IsToldOf e result }
+{
+    match e {
+        FetchError::FetchResponse(e) => Error::Answer(e),
+        FetchError::Negotiate(e) => Error::from(e),
+        FetchError::Client(e) => Error::from(e),
+        FetchError::MissingServerFeature {
+            feature,
+            description: _,
+        } => missing(alloc, feature),
+        FetchError::WriteShallowFile(_) => Error::Memory,
+        FetchError::ReadShallowFile(_) => Error::Memory,
+        FetchError::LockShallowFile(_) => Error::Memory,
+        FetchError::RejectShallowRemote => Error::ShallowServer,
+        FetchError::ConsumePack(e) => e.into(),
+        FetchError::ReadRemainingBytes(e) => Error::Rest(e),
+        FetchError::Memory => Error::Memory,
+    }
+}
+
+/// What came of a fetch, told with nothing of the caller's in it.
+pub(crate) fn told<A: Drop, E: Into<Error>>(
+    alloc: Global,
+    came: Result<Option<Outcome>, FetchError<A, E>>,
+) -> Result<Option<Outcome>, Error>
+    ensures { IsToldCame came result }
+{
+    match came {
+        Ok(outcome) => Ok(outcome),
+        Err(e) => Err(refusal(alloc, e)),
+    }
+}

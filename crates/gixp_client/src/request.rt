@@ -1,0 +1,122 @@
+//! What a session is asked for.
+ghost use Rattle.std.specs.Prelude.{◌≡◌, IfOk, map};
+ghost use Rattle.gixp_refspec.specs.RefSpec.{owned_value_of};
+ghost use Rattle.gixp_refmap.specs.Tags.{tags_asked};
+ghost use Rattle.gixp_refmap.specs.Values.{context_value};
+ghost use Rattle.gixp_client.specs.ClientCalls.{some_spec};
+
+use crate::error::Error;
+use bstr::{BStr, BString};
+use gixp_negotiate::shallow::Shallow;
+use gixp_negotiators::Algorithm;
+use gixp_refmap::fetch::Tags;
+use gixp_refmap::refmap::init;
+use gixp_refspec::RefSpec;
+use gixp_refspec::parse::{Operation, parse};
+use std::alloc::{AllocError, Global};
+
+/// What a session is asked for: what is mapped, and how it is fetched.
+#[derive(Debug, Drop)]
+pub struct Request {
+    alloc: Global,
+    /// The refspecs. Where there are none, nothing but tags is mapped.
+    pub refspecs: Vec<RefSpec>,
+    /// Which tags come along: those that lead to what is fetched, unless it is set otherwise.
+    pub tags: Tags,
+    /// How much of the history: what is missing, unless it is set otherwise.
+    pub shallow: Shallow,
+    /// Who chooses the haves.
+    pub algorithm: Algorithm,
+    /// Whether a server whose repository is shallow is refused.
+    pub rejects_shallow: bool,
+    /// Whether the transport may be two pipes, so that requests of versions 0 and 1 have few haves, as they have unless it is set
+    /// otherwise.
+    pub is_over_pipes: bool,
+    /// Which objects are left out (git-rev-list, "--filter").
+    pub filter: Option<String>,
+    /// Whether a fetch goes on though the server reports an error beside the pack (band 3).
+    pub goes_on: bool,
+}
+
+impl Request {
+    ghost use Rattle.gixp_client.specs.ClientCalls.{asked_specs};
+
+    /// No refspecs yet, and the defaults of `git fetch`.
+    pub fn new(alloc: Global) -> Request {
+        Request {
+            alloc,
+            refspecs: Vec::new(alloc),
+            tags: Tags::Included,
+            shallow: Shallow::NoChange,
+            algorithm: Algorithm::Consecutive,
+            rejects_shallow: false,
+            is_over_pipes: true,
+            filter: None,
+            goes_on: false,
+        }
+    }
+
+    /// Adds a refspec, as `+refs/heads/*:refs/remotes/origin/*` (git-fetch, "<refspec>").
+    ///
+    /// # Errors
+    ///
+    /// `Refspec` where the text is none, or `Memory`. Nothing is added then.
+    pub fn add_refspec(&mut self, text: &[u8]) -> Result<(), Error> {
+        match parse(BStr::new(text), Operation::Fetch) {
+            Ok(spec) => {
+                let spec = spec.to_owned(self.alloc)?;
+                self.refspecs.push(spec)?;
+                Ok(())
+            }
+            Err(why) => Err(Error::Refspec {
+                spec: BString::from_slice(self.alloc, text)?,
+                why,
+            }),
+        }
+    }
+
+    /// Leaves out the objects that a filter names (git-rev-list, "--filter").
+    ///
+    /// # Errors
+    ///
+    /// `Memory` alone.
+    pub fn set_filter(&mut self, filter: &str) -> Result<(), Error> {
+        self.filter = Some(String::from_str(self.alloc, filter)?);
+        Ok(())
+    }
+
+    // The refspecs, and that of the tags.
+    pub(crate) fn context(&self) -> Result<init::Context, AllocError>
+        ensures { IfOk result (λ c. context_value c ≡ asked_specs self.now) }
+    {
+        let fetch_refspecs = copied_specs(&self.refspecs)?;
+        let extra_refspecs = tag_specs(self.alloc, self.tags)?;
+        Ok(init::Context {
+            fetch_refspecs,
+            extra_refspecs,
+        })
+    }
+}
+
+// Copies of refspecs.
+fn copied_specs(specs: &Vec<RefSpec>) -> Result<Vec<RefSpec>, AllocError>
+    ensures { IfOk result (λ copy. map owned_value_of copy.items ≡ map owned_value_of specs.now.items) }
+{
+    let copy = specs.clone()?;
+    Ok(copy)
+}
+
+// The refspec of the tags, if there is one.
+fn tag_specs(alloc: Global, tags: Tags) -> Result<Vec<RefSpec>, AllocError>
+    ensures { IfOk result (λ specs. map owned_value_of specs.items ≡ some_spec (tags_asked tags)) }
+{
+    let mut specs = Vec::new(alloc);
+    match tags.to_refspec() {
+        Some(spec) => {
+            let spec = spec.to_owned(alloc)?;
+            specs.push(spec)?;
+            Ok(specs)
+        }
+        None => Ok(specs),
+    }
+}

@@ -1,0 +1,170 @@
+//! One fetch of a session.
+ghost use Rattle.std.specs.Prelude.{◌≡◌, ◌≤◌, None, string_bytes};
+ghost use Rattle.gixp_requests.specs.Feature.{feature_value};
+ghost use Rattle.gixp_fetch.specs.Fetch.{parties_of};
+ghost use Rattle.gixp_client.specs.ClientCalls.{named_feature, HoldsAndTells, FetchesMap, session_call, session_knowledge};
+
+use crate::error::Error;
+use crate::over::Filtered;
+use crate::refusal::told;
+use crate::repository::Repository;
+use crate::request::Request;
+use crate::windows::{MOST_HAVES, Windowed};
+use gixp_fetch::consume::ConsumePack;
+use gixp_fetch::fetch::fetch;
+use gixp_fetch::mapped::NegotiatesMap;
+use gixp_fetch::options::{Context, Options, Outcome};
+use gixp_fetch::shallow::{ShallowMemory, ShallowStore};
+use gixp_graph::{Find, Graph, Negotiator, RefStore, Shared};
+use gixp_handshake::Handshake;
+use gixp_memory::NoAlternates;
+use gixp_negotiate::negotiate::Negotiate;
+use gixp_negotiate::negotiate::negotiation::{NegotiateContext, Negotiation};
+use gixp_packetline::Protocol;
+use gixp_progress::Discard;
+use gixp_refmap::RefMap;
+use gixp_requests::command::{CommandTable, Feature};
+use gixp_sidebands::{Interrupt, NeverInterrupt};
+use gixp_wire::Transport;
+use std::alloc::Global;
+
+/// The negotiation of a session's fetch.
+pub type SessionNegotiation<'a, F, R, N> = Filtered<
+    'a,
+    Windowed<Negotiation<'a, Shared<'a, F>, R, N, Shared<'a, F>, NoAlternates>>,
+>;
+
+/// How many haves a request may have.
+pub(crate) fn most_haves(version: Protocol, is_over_pipes: bool) -> usize
+    ensures { 16 ≤ result }
+{
+    match version {
+        Protocol::V2 => usize::MAX,
+        Protocol::V0 | Protocol::V1 => {
+            if is_over_pipes {
+                MOST_HAVES
+            } else {
+                usize::MAX
+            }
+        }
+    }
+}
+
+// The feature that names a client.
+fn named(agent: String) -> Feature
+    ensures { feature_value result ≡ named_feature (string_bytes agent) }
+{
+    ("agent", Some(agent))
+}
+
+// Fetches what a negotiation asks for. No signature here names a static lifetime, which the negotiation's own stand beside.
+fn fetch_over<N: Negotiate, T: Transport, C: ConsumePack<Discard>>(
+    alloc: Global,
+    negotiation: &mut N,
+    agent: String,
+    request: &Request,
+    shaken: &mut Handshake,
+    transport: &mut T,
+    store: &mut ShallowMemory,
+    pack: &mut C,
+) -> Result<Option<Outcome>, Error>
+where
+    C::Error: Into<Error>,
+    ensures taken { shaken.new ≡ record shaken.old { v1_shallow_updates = None } }
+    ensures fetched { HoldsAndTells
+        (parties_of N.calls ⟦<ShallowMemory as ShallowStore>⟧.calls ⟦<NeverInterrupt as Interrupt>⟧.says C.consumes T.is_plain)
+        (session_call shaken.old (named_feature (string_bytes agent)) request.now) negotiation.old (T.reading transport.old) store.old
+        pack.old result negotiation.new (T.reading transport.new) store.new pack.new }
+{
+    let context = Context {
+        handshake: shaken,
+        transport,
+        table: &CommandTable::git(),
+    };
+    let options = Options {
+        shallow_file: store,
+        shallow: &request.shallow,
+        tags: request.tags,
+        reject_shallow_remote: request.rejects_shallow,
+    };
+    let mut never = NeverInterrupt;
+    let mut quiet = Discard;
+    let came = fetch(
+        alloc,
+        negotiation,
+        pack,
+        &mut quiet,
+        &mut never,
+        named(agent),
+        context,
+        options,
+    );
+    told(alloc, came)
+}
+
+/// Fetches what is mapped. All that the negotiation borrows is a local here.
+pub(crate) fn fetch_mapped<
+    'a,
+    F: Find,
+    R: RefStore,
+    N: Negotiator,
+    T: Transport,
+    C: ConsumePack<Discard>,
+>(
+    alloc: Global,
+    map: &'a RefMap,
+    repository: Repository<'a, F, R>,
+    request: &'a Request,
+    negotiator: &'a mut N,
+    agent: String,
+    shaken: &mut Handshake,
+    transport: &mut T,
+    store: &mut ShallowMemory,
+    pack: &mut C,
+) -> Result<Option<Outcome>, Error>
+where
+    C::Error: Into<Error>,
+    ensures taken { shaken.new ≡ record shaken.old { v1_shallow_updates = None } }
+    ensures fetched { FetchesMap
+        (parties_of ⟦<SessionNegotiation<'a, F, R, N> as Negotiate>⟧.calls ⟦<ShallowMemory as ShallowStore>⟧.calls
+        ⟦<NeverInterrupt as Interrupt>⟧.says C.consumes T.is_plain)
+        ⟦<SessionNegotiation<'a, F, R, N> as NegotiatesMap>⟧.map_of ⟦<SessionNegotiation<'a, F, R, N> as NegotiatesMap>⟧.knows
+        (session_call shaken.old (named_feature (string_bytes agent)) request.now) map.now
+        (record {
+          tags = request.now.tags;
+          shallow = request.now.shallow;
+          commits = F.contents repository.entry.objects.now;
+          existing = F.contents repository.entry.objects.now;
+          refs = R.refs repository.entry.refs.now;
+        })
+        (T.reading transport.old) store.old pack.old result (T.reading transport.new) store.new pack.new }
+{
+    let Repository {
+        objects,
+        refs,
+        boundary: _,
+    } = repository;
+    let most = most_haves(shaken.server_protocol_version, request.is_over_pipes);
+    let shared = Shared::new(objects);
+    let mut graph = Graph::new(alloc, Shared::new(objects));
+    let context = NegotiateContext {
+        objects: &shared,
+        refs,
+        alternates: Ok::<_, NoAlternates>(&mut []),
+        negotiator,
+        graph: &mut graph,
+    };
+    let negotiation = Negotiation::new(context, map, &request.shallow, request.tags);
+    let windowed = Windowed::new(negotiation, most);
+    let mut filtered = Filtered::new(windowed, request.filter.as_deref());
+    fetch_over(
+        alloc,
+        &mut filtered,
+        agent,
+        request,
+        shaken,
+        transport,
+        store,
+        pack,
+    )
+}

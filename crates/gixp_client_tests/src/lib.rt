@@ -1,0 +1,12 @@
+//! Tests of what rows of data can't say of a session: what it sends and leaves behind, what listeners show, and the sentences of its
+//! errors. It has no function outside its tests.
+#![tactic(auto)]
+
+#[cfg(test)]
+mod lines;
+#[cfg(test)]
+mod listeners;
+#[cfg(test)]
+mod servers;
+#[cfg(test)]
+mod sessions;

@@ -1,0 +1,27 @@
+//! Packet lines.
+use std::alloc::{AllocError, Global};
+
+/// Appends a packet line of this payload.
+pub(crate) fn push_line(
+    alloc: Global,
+    stream: &mut Vec<u8>,
+    payload: &[u8],
+) -> Result<(), AllocError> {
+    let count = payload.len().saturating_add(4);
+    let digits = format!(in alloc; "{count:04x}")?;
+    stream.extend_from_slice(digits.as_bytes())?;
+    stream.extend_from_slice(payload)
+}
+
+/// The packet lines of these payloads. One that is empty is a flush packet.
+pub(crate) fn lines(alloc: Global, payloads: &[&[u8]]) -> Result<Vec<u8>, AllocError> {
+    let mut stream = Vec::new(alloc);
+    for payload in payloads {
+        if payload.is_empty() {
+            stream.extend_from_slice(b"0000")?;
+        } else {
+            push_line(alloc, &mut stream, payload)?;
+        }
+    }
+    Ok(stream)
+}

@@ -1,0 +1,20 @@
+//! What listeners show and keep.
+use gixp_client::{Listener, RemoteLines};
+use std::alloc::AllocError;
+use std::mem;
+
+#[test]
+fn shows_lines_as_git_does(rt: HostRuntime) -> Result<(), AllocError> {
+    let alloc = rt.alloc();
+    let mut shown: Vec<u8> = Vec::new(alloc);
+    {
+        let mut lines = RemoteLines::new(alloc, &mut shown);
+        lines.hear(false, b"Counting obj");
+        lines.hear(false, b"ects: 1\rTotal\x07 2\n");
+        lines.hear(true, b"disk full");
+    }
+    let expected =
+        "remote: Counting objects: 1        \rremote: Total? 2        \nremote: disk full        \n";
+    assert_eq!(rt; shown.as_slice(), expected.as_bytes());
+    Ok(())
+}

@@ -1,0 +1,51 @@
+//! What servers say.
+use crate::lines::lines;
+use bstr::BString;
+use gixp_wire::{Bodies, Body};
+use std::alloc::{AllocError, Global};
+
+/// What a server of version 2 says first.
+pub(crate) const GREETING: &[&[u8]] = &[
+    b"version 2\n",
+    b"agent=git/2.39.5\n",
+    b"ls-refs=unborn\n",
+    b"fetch=shallow wait-for-done filter\n",
+    b"object-format=sha1\n",
+    b"",
+];
+
+/// Its refs.
+pub(crate) const REFS: &[&[u8]] = &[
+    b"7257effbd41e1233eaae5744e614c5c728e3c979 refs/heads/main\n",
+    b"",
+];
+
+/// Its answer to a fetch: texts of bands 2 and 3, and a pack.
+pub(crate) const PACK: &[&[u8]] = &[
+    b"packfile\n",
+    b"\x02Counting obj",
+    b"\x02ects: 1\rCounting objects: 2, done.\n",
+    b"\x01PA",
+    b"\x02Total 2\n",
+    b"\x01CK",
+    b"",
+];
+
+/// The same with an error beside the pack.
+pub(crate) const REPORTED: &[&[u8]] = &[b"packfile\n", b"\x01PA", b"\x03disk full\n\0", b""];
+
+/// The list of an empty repository.
+pub(crate) const EMPTY: &[&[u8]] = &[b""];
+
+/// A refusal.
+pub(crate) const DENIED: &[&[u8]] = &[b"ERR access denied\n"];
+
+/// A transport over the answers of a server, each the packet lines of these payloads.
+pub(crate) fn server(alloc: Global, answers: &[&[&[u8]]]) -> Result<Bodies, AllocError> {
+    let mut bodies = Vec::new(alloc);
+    for answer in answers {
+        bodies.push(Body::Bytes(lines(alloc, answer)?))?;
+    }
+    let url = BString::from_slice(alloc, b"mem:")?;
+    Bodies::new(alloc, bodies, url, Vec::new(alloc))
+}

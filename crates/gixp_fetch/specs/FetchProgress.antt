@@ -1,0 +1,48 @@
+-- What a fetch tells its progress reporter, one call after another: of each round, and of the pack.
+use Rattle.std.specs.Prelude.{◌≡◌, ⊤, ℕ, zero, suc, Bool, true, false, not, List, [], ◌∷◌, ◌++◌, length, codes, Option, Some, None, Result, Ok, Err}
+use Rattle.std.specs.Fmt.{decimal}
+use Rattle.gixp_wire.specs.Progress.{ProgressCall, step, set_name, ToldCalls}
+use Rattle.gixp_sidebands.specs.Bands.{Side}
+use Rattle.gixp_fetch.specs.declared.options.Outcome.{Outcome}
+
+-- before the round of this number, which counts from 1
+abbrev pub round_calls : ℕ → List ProgressCall
+round_calls k = step ∷ set_name (codes "negotiate (round " ++ decimal k ++ codes ")") ∷ []
+
+-- before the pack
+abbrev pub pack_calls : List ProgressCall
+pack_calls = step ∷ set_name (codes "receiving pack") ∷ []
+
+module _ {P Q : Type 0} (told : P → ProgressCall → P → Type 0) (adds : P → List ℕ → List ℕ → Q → P → Type 0) where
+  -- a part was added for the server's texts, where it was to be
+  abbrev pub AddsRemote : Bool → P → P → Type 0
+  AddsRemote false old new = new ≡ old
+  AddsRemote true old new = (part : Q) × adds old (codes "remote") (codes "FERP") part new
+
+  -- one round: its calls, and then its part where all is banded
+  abbrev pub TellsRound : Bool → ℕ → P → P → Type 0
+  TellsRound banded k old new = (named : P) × ToldCalls told old (round_calls k) named × AddsRemote banded named new
+
+  -- so many rounds, from the first on
+  abbrev pub TellsRounds : Bool → ℕ → P → P → Type 0
+  TellsRounds banded zero old new = new ≡ old
+  TellsRounds banded (suc k) old new = (met : P) × TellsRounds banded k old met × TellsRound banded (suc k) met new
+
+  module _ {C X : Type 0} (consumes : C → Side → P → Result Bool X → C → Side → P → Type 0) (c : C) where
+    -- a part was added for the texts beside the pack, where one was to be, and the consumer was lent what came of that, and took the pack
+    pub record LendsProgress (needed : Bool) (old : P) (d : C) (new : P) : Type 0 where
+      pub lent : P
+      pub added : AddsRemote needed old lent
+      pub start : Side
+      pub finished : Bool
+      pub end : Side
+      pub took : consumes c start lent (Ok finished) d end new
+
+    -- a fetch that came to a pack told of each of its rounds, then of the pack, and then the consumer had it; and one without anything
+    -- to ask for told nothing
+    abbrev pub TellsFetch : {E : Type 0} → Bool → P → Result (Option Outcome) E → C → P → Type 0
+    TellsFetch banded old (Ok (Some outcome)) d new =
+        (met : P) × (named : P) × TellsRounds banded (length outcome.negotiate.rounds.items) old met × ToldCalls told met pack_calls named
+        × LendsProgress (not banded) named d new
+    TellsFetch banded old (Ok None) d new = new ≡ old
+    TellsFetch banded old (Err e) d new = ⊤

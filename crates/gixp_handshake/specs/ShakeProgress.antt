@@ -1,0 +1,46 @@
+-- What a progress reporter is told of a handshake.
+use Rattle.std.specs.Prelude.{◌≡◌, List, [], ◌∷◌, ◌++◌, codes, None, Result, Ok, Err}
+use Rattle.gixp_wire.specs.declared.service.Service.{Service}
+use Rattle.gixp_wire.specs.declared.service.SetServiceResponse.{SetServiceResponse}
+use Rattle.gixp_capabilities.specs.declared.client.Error.{Error as ClientError}
+use Rattle.gixp_wire.specs.Greeting.{Parameter}
+use Rattle.gixp_wire.specs.Handshake.{Handshakes}
+use Rattle.gixp_wire.specs.Progress.{ProgressCall, init, step, set_name, ToldCalls}
+use Rattle.gixp_packetline.specs.Reading.{Reading}
+
+-- the calls before the first handshake
+abbrev pub shaking_calls : List ProgressCall
+shaking_calls = init None (codes "steps") ∷ set_name (codes "handshake") ∷ step ∷ []
+
+-- those before the second one
+abbrev pub retrying_calls : List ProgressCall
+retrying_calls = step ∷ set_name (codes "handshake (authenticated)") ∷ []
+
+-- those after a first one that wants an account
+abbrev pub authenticating_calls : List ProgressCall
+authenticating_calls = set_name (codes "authentication") ∷ retrying_calls
+
+-- those after the first handshake, where all succeeds: an account was wanted where it was refused
+abbrev pub calls_after_first : Result SetServiceResponse ClientError → List ProgressCall
+calls_after_first (Ok found) = []
+calls_after_first (Err e) = authenticating_calls
+
+-- the first of these calls were made, and no other
+pub record ToldPart {P : Type 0} (told : P → ProgressCall → P → Type 0) (old : P) (calls : List ProgressCall) (new : P) : Type 0 where
+  pub made : List ProgressCall
+  pub left : List ProgressCall
+  pub split : calls ≡ made ++ left
+  pub tells : ToldCalls told old made new
+
+module _ {P : Type 0} (told : P → ProgressCall → P → Type 0) where
+  -- all of these calls were made where a call succeeds, else the first of them
+  abbrev pub ToldUpTo : {X E : Type 0} → P → List ProgressCall → Result X E → P → Type 0
+  ToldUpTo old calls (Ok x) new = ToldCalls told old calls new
+  ToldUpTo old calls (Err e) new = ToldPart told old calls new
+
+  -- these calls, and then those by what the first handshake came to
+  abbrev pub TellsShake : {X E : Type 0} → List ProgressCall → Service → List Parameter → Reading → P → Result X E → P → Type 0
+  TellsShake calls service ps reading old (Ok x) new =
+      (first : Result SetServiceResponse ClientError) × (mid : Reading) × Handshakes service ps reading mid first
+      × ToldCalls told old (calls ++ calls_after_first first) new
+  TellsShake calls service ps reading old (Err e) new = ToldPart told old (calls ++ authenticating_calls) new

@@ -1,0 +1,225 @@
+#!/usr/bin/env python3
+"""Makes docs/REFERENCE.md: every public name of gix_protocol, with its path and its signature, without contracts.
+
+Usage: reference.py [--write]
+
+Without `--write` it compares, and prints the first line that differs; the status is 1 then.
+"""
+import re
+import sys
+from pathlib import Path
+
+TOP = Path(__file__).resolve().parent.parent
+CRATES = TOP / "crates"
+REFERENCE = TOP / "docs" / "REFERENCE.md"
+HEAD = """# Reference
+
+Every public name of `gix_protocol`, with its path and its signature. Contracts and comments stand with the function, in the file that is named. `scripts/reference.py --write` makes this page.
+"""
+ITEM = r"pub (?:const )?(?:fn|struct|enum|trait|type|const) {name}\b"
+
+
+def text_of(crate, module):
+    """The text of a module, without comments, and its file."""
+    path = CRATES / crate / "src" / (("/".join(module) or "lib") + ".rt")
+    if not path.is_file():
+        return None, path
+    text = re.sub(r"(?m)^\s*//.*\n", "", path.read_text())
+    return re.sub(r"(?ms)^#\[cfg\(test\)\]\nmod tests \{.*?^\}\n", "", text), path
+
+
+def names_in(tree, prefix=()):
+    """The names that a `use` tree brings, as (path, name)."""
+    tree = tree.strip()
+    if "{" in tree:
+        front, rest = tree.split("{", 1)
+        parts, depth, part = [], 0, ""
+        for c in rest[: rest.rindex("}")]:
+            depth += (c == "{") - (c == "}")
+            if c == "," and depth == 0:
+                parts.append(part)
+                part = ""
+            else:
+                part += c
+        parts.append(part)
+        front = tuple(x for x in front.split("::") if x.strip())
+        for part in parts:
+            if part.strip():
+                yield from names_in(part, prefix + front)
+        return
+    path, _, other = tree.partition(" as ")
+    path = prefix + tuple(x.strip() for x in path.split("::"))
+    if path[-1] == "self":
+        path = path[:-1]
+    yield path, other.strip() or path[-1]
+
+
+def uses(text):
+    for found in re.finditer(r"(?ms)^pub use (.*?);", text):
+        yield from names_in(" ".join(found[1].split()))
+
+
+def resolve(crate, module, name):
+    """What a name of a module is: ("module", crate, module) or ("item", crate, module, name)."""
+    text, _ = text_of(crate, module)
+    if text is None:
+        return None
+    if re.search(rf"(?m)^pub (?:\(crate\) )?mod {name};", text):
+        return "module", crate, module + (name,)
+    if re.search(r"(?m)^" + ITEM.format(name=name), text):
+        return "item", crate, module, name
+    for path, brought in uses(text):
+        if brought == name:
+            return follow(crate, module, path)
+    return None
+
+
+def follow(crate, module, path):
+    first = path[0]
+    if first == "crate":
+        at, rest = (crate, ()), path[1:]
+    elif (CRATES / first).is_dir():
+        at, rest = (first, ()), path[1:]
+    else:
+        at, rest = (crate, module), path
+    for i, part in enumerate(rest):
+        text, _ = text_of(*at)
+        if i < len(rest) - 1 and text is not None and re.search(rf"(?m)^(?:pub(?:\([a-z]+\))? )?mod {part};", text):
+            at = at[0], at[1] + (part,)
+            continue
+        found = resolve(*at, part)
+        if found is None:
+            return None
+        if found[0] == "item" or i == len(rest) - 1:
+            return found
+        at = found[1:]
+    return "module", *at
+
+
+def cut(text):
+    """A signature up to its contract or body, on one line."""
+    depth = 0
+    for i, c in enumerate(text):
+        if c in "([{" and not (c == "{" and depth == 0):
+            depth += 1
+        elif c in ")]}":
+            depth -= 1
+        elif depth == 0 and (c in "{;" or re.match(r"\s(?:requires|ensures|ghost)\b", text[i:])):
+            text = text[:i]
+            break
+    line = " ".join(text.split()).replace("( ", "(").replace(", )", ")").replace(",)", ")").rstrip(",")
+    return re.sub(r"<\s+", "<", re.sub(r",\s*>", ">", line)).replace("& ", "&")
+
+
+def block(text, start):
+    """The text between the braces that open behind a place."""
+    begin = text.index("{", start)
+    depth = 0
+    for i in range(begin, len(text)):
+        depth += (text[i] == "{") - (text[i] == "}")
+        if depth == 0:
+            return text[begin + 1 : i]
+    return text[begin + 1 :]
+
+
+def implementing(crate, path, name):
+    """The texts of the files that may have methods of a type: its own first, then those that bring it in."""
+    brings = re.compile(rf"(?m)^use crate::[^;]*\b{name}\b[^;]*;")
+    others = sorted(other for other in (CRATES / crate / "src").rglob("*.rt") if other != path)
+    for other in [path, *others]:
+        text = re.sub(r"(?m)^\s*//.*\n", "", other.read_text())
+        if other == path or brings.search(text):
+            yield text
+
+
+def described(crate, module, name):
+    """The lines that describe an item."""
+    text, path = text_of(crate, module)
+    found = re.search(r"(?m)^" + ITEM.format(name=name), text)
+    kind = re.match(r"pub (?:const )?(\w+)", found[0])[1]
+    if kind in ("fn", "type", "const"):
+        line = text[found.start() :]
+        yield cut(line.split("=", 1)[0] if kind == "const" else line)
+        return
+    yield cut(text[found.start() :])
+    if text[found.end() :].split("\n", 1)[0].rstrip().endswith("{") or "{" in text[found.start() :].split("\n\n", 1)[0].split(";", 1)[0]:
+        body = block(text, found.start())
+        if kind == "struct":
+            for field in re.finditer(r"(?m)^    pub (?!ghost)(\w+: .*?),$", body):
+                yield f"    pub {field[1]}"
+        elif kind == "enum":
+            depth, part = 0, ""
+            for c in re.sub(r"(?ms)#\[error\(.*?\)\]\n", "", body):
+                depth += (c in "({[") - (c in ")}]")
+                if c == "," and depth == 0:
+                    yield "    " + " ".join(part.split()).replace(", }", " }")
+                    part = ""
+                else:
+                    part += c
+        else:
+            for member in re.finditer(r"(?m)^    (type|ghost|const|final fn|fn) .*", body):
+                rest = body[member.start() :]
+                if member[1] == "ghost" and " use " in member[0]:
+                    continue
+                line = " ".join(rest.split(";", 1)[0].split()) if member[1] in ("type", "ghost", "const") else cut(rest.lstrip())
+                yield f"    {line}"
+    for text in implementing(crate, path, name):
+        for found in re.finditer(rf"(?m)^impl(?:<[^{{]*?>)? {name}\b[^{{]*?\{{", text):
+            if " for " in found[0]:
+                continue
+            body = block(text, found.start())
+            for method in re.finditer(r"(?m)^    pub (?:const )?fn ", body):
+                yield "    " + cut(body[method.start() :].lstrip())
+
+
+def listed(path, crate, module, seen):
+    """The sections of a module and of those in it."""
+    text, _ = text_of(crate, module)
+    names = {found[1] for found in re.finditer(r"(?m)^pub mod (\w+);", text)}
+    names |= {found[1] for found in re.finditer(r"(?m)^pub (?:const )?(?:fn|struct|enum|trait|type|const) (\w+)", text)}
+    names |= {name for _, name in uses(text)}
+    items, modules = [], []
+    for name in sorted(names):
+        found = resolve(crate, module, name)
+        if found is None:
+            sys.exit(f"{path}::{name} isn't found")
+        if found[0] == "item":
+            items.append((name, found[1:]))
+        else:
+            modules.append((name, found[1:]))
+    if items:
+        yield f"\n## {path}\n"
+    for name, where in items:
+        if where in seen:
+            yield f"`{path}::{name}`: `{seen[where]}`\n"
+            continue
+        seen[where] = f"{path}::{name}"
+        file = text_of(*where[:2])[1].relative_to(TOP)
+        lines = "\n".join(described(*where))
+        yield f"`{path}::{name}` ({file})\n\n```rust\n{lines}\n```\n"
+    for name, where in modules:
+        if where in seen:
+            yield f"`{path}::{name}`: the module `{seen[where]}`\n"
+            continue
+        seen[where] = f"{path}::{name}"
+        yield from listed(f"{path}::{name}", *where, seen)
+
+
+def main():
+    page = HEAD + "\n".join(listed("gix_protocol", "gix_protocol", (), {}))
+    if "--write" in sys.argv[1:]:
+        REFERENCE.write_text(page)
+        return 0
+    stands = REFERENCE.read_text() if REFERENCE.is_file() else ""
+    if stands == page:
+        return 0
+    for number, (is_line, line) in enumerate(zip(stands.split("\n"), page.split("\n")), 1):
+        if is_line != line:
+            print(f"docs/REFERENCE.md:{number}: is {is_line!r}, and is to be {line!r}")
+            return 1
+    print("docs/REFERENCE.md has another length")
+    return 1
+
+
+if __name__ == "__main__":
+    sys.exit(main())
