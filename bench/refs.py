@@ -85,4 +85,5 @@ def main():
         print(f"gixp_plan refs / {name}: {ours / best[name][0]:.3f}")
 
 
-main()
+if __name__ == "__main__":
+    main()

@@ -33,7 +33,7 @@ TEST_MODULES = {
 def crates():
     """The crates that crates.txt lists, each with what it depends on."""
     lines = [line.partition(":") for line in (TOP / "crates.txt").read_text().splitlines() if line and not line.startswith("#")]
-    return {name: rest.split() for name, _, rest in lines}
+    return {name.split()[0]: rest.split() for name, _, rest in lines}
 
 
 def sources(crate):

@@ -36,7 +36,7 @@ LAWS = [f"laws::{name}" for name in ("headline", "errors_have_causes", "stores_a
 BEARS_NOTHING = {}
 
 # what a field is whose type begins with one of these, or is a word alone: what others speak of, and no fact
-DATA = {"List", "Option", "Turn", "At", "PackFailure", "negotiate_error"}
+DATA = {"List", "Option", "Turn", "At", "World", "PackFailure", "negotiate_error"}
 
 CHANGES = {
     "every server stream, however cut": [

@@ -1,5 +1,5 @@
 -- What a session hands to the calls below.
-use Rattle.std.proofs.Common.{◌≡◌, Bool, List, Option, Result, subst, ap, refl, ◌∙◌}
+use Rattle.std.proofs.Common.{◌≡◌, Bool, List, Option, Result, subst, ap, ◌∙◌}
 use Rattle.gixp_hash.specs.declared.object_id.ObjectId.{ObjectId}
 use Rattle.gixp_fetch.specs.declared.shallow.memory.ShallowMemory.{ShallowMemory}
 use Rattle.gixp_client.specs.declared.error.Error.{Error}

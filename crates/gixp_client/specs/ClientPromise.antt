@@ -1,5 +1,5 @@
 -- A session as one run of the law `headline`: a handshake, the ref map that stands on it, and a fetch whose negotiation is over this map.
-use Rattle.std.specs.Prelude.{◌≡◌, ◌⊎◌, ℕ, List, [], Option, None, Result, Ok}
+use Rattle.std.specs.Prelude.{◌≡◌, List, Option, Result}
 use Rattle.gixp_packetline.specs.Reading.{Reading}
 use Rattle.gixp_requests.specs.Feature.{FeatureValue}
 use Rattle.gixp_refmap.specs.Values.{context_value}

@@ -4,7 +4,7 @@ use std::io::{Read, Write};
 
 /// What the server says: from a file, or from standard input.
 #[derive(Drop)]
-pub(crate) enum Source<F, S> {
+pub enum Source<F, S> {
     File(F),
     Standard(S),
 }
@@ -20,7 +20,7 @@ impl<F: Read, S: Read> Read for Source<F, S> {
 
 /// What the server hears: through a file, or through standard output.
 #[derive(Drop)]
-pub(crate) enum Target<F, S> {
+pub enum Target<F, S> {
     File(F),
     Standard(S),
 }

@@ -10,7 +10,7 @@ use std::io::ErrorKind;
 
 /// What was being done.
 #[derive(Clone, Copy, Debug, PartialEq, Eq)]
-pub(crate) enum Step {
+pub enum Step {
     Refspec,
     Handshake,
     Listing,
@@ -32,7 +32,7 @@ impl Display for Step {
 
 /// What was refused.
 #[derive(Debug, Drop)]
-pub(crate) enum Failure {
+pub enum Failure {
     /// A step of the session, and the server's own words where there are any.
     Step {
         step: Step,
@@ -57,6 +57,8 @@ pub(crate) enum Failure {
         path: String,
         line: usize,
     },
+    /// git refused the pack, and said why.
+    PackRefused,
     /// A ref that is asked for isn't there.
     Missing {
         name: BString,
@@ -81,11 +83,7 @@ impl<T: Drop> From<AllocFailed<T>> for Failure {
 
 impl Failure {
     /// A step was refused with this error.
-    pub(crate) fn of_step<E: Display + ServerMessage>(
-        alloc: Global,
-        step: Step,
-        error: &E,
-    ) -> Failure {
+    pub fn of_step<E: Display + ServerMessage>(alloc: Global, step: Step, error: &E) -> Failure {
         match told(alloc, error) {
             Ok((why, said)) => Failure::Step { step, why, said },
             Err(_) => Failure::Memory,
@@ -93,7 +91,7 @@ impl Failure {
     }
 
     /// A step was refused, as the text says.
-    pub(crate) fn of_text(alloc: Global, step: Step, text: &str) -> Failure {
+    pub fn of_text(alloc: Global, step: Step, text: &str) -> Failure {
         match String::from_str(alloc, text) {
             Ok(why) => Failure::Step {
                 step,
@@ -105,7 +103,7 @@ impl Failure {
     }
 
     /// A file was refused.
-    pub(crate) fn of_file(alloc: Global, path: &str, kind: ErrorKind) -> Failure {
+    pub fn of_file(alloc: Global, path: &str, kind: ErrorKind) -> Failure {
         if kind == ErrorKind::OutOfMemory {
             return Failure::Memory;
         }
@@ -116,7 +114,7 @@ impl Failure {
     }
 
     /// A line of a text was refused.
-    pub(crate) fn of_line(alloc: Global, path: &str, line: usize) -> Failure {
+    pub fn of_line(alloc: Global, path: &str, line: usize) -> Failure {
         match String::from_str(alloc, path) {
             Ok(path) => Failure::Line { path, line },
             Err(_) => Failure::Memory,
@@ -124,7 +122,7 @@ impl Failure {
     }
 
     /// It can't be said what becomes of the local refs.
-    pub(crate) fn of_update(alloc: Global, error: update::Error) -> Failure {
+    pub fn of_update(alloc: Global, error: update::Error) -> Failure {
         if error == update::Error::Memory {
             return Failure::Memory;
         }
@@ -136,7 +134,7 @@ impl Failure {
 }
 
 // Words without the line end behind them.
-pub(crate) fn front_of(words: &[u8]) -> &[u8] {
+pub fn front_of(words: &[u8]) -> &[u8] {
     words.strip_suffix(b"\n".as_slice()).unwrap_or(words)
 }
 
@@ -155,10 +153,11 @@ fn told<E: Display + ServerMessage>(
 
 impl Failure {
     /// Who says it: what git says of a server too is said as git does.
-    pub(crate) fn speaker(&self) -> &'static str {
+    pub fn speaker(&self) -> &'static str {
         match self {
             Failure::Step { said: Some(_), .. }
             | Failure::HungUp
+            | Failure::PackRefused
             | Failure::UnknownUnshallow { .. } => "fatal",
             _ => "gixp_fetch_pack",
         }
@@ -183,6 +182,7 @@ impl Display for Failure {
             Failure::UnknownUnshallow { id } => write!(f, "no shallow found: unshallow {id}"),
             Failure::File { path, kind } => write!(f, "{path}: {kind:?}"),
             Failure::Line { path, line } => write!(f, "{path}: line {line} isn't readable"),
+            Failure::PackRefused => write!(f, "git refused the pack"),
             Failure::Missing { name } => write!(f, "couldn't find remote ref {name}"),
             Failure::Io(kind) => write!(f, "standard input or output: {kind:?}"),
             Failure::Memory => write!(f, "out of memory"),

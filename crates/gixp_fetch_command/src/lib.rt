@@ -2,12 +2,12 @@
 #![tactic(auto)]
 
 mod ends;
-mod failure;
-mod listed;
-mod receive;
-mod repository;
-mod session;
-mod shown;
+pub mod failure;
+pub mod listed;
+pub mod receive;
+pub mod repository;
+pub mod session;
+pub mod shown;
 mod usage;
 mod watched;
 
@@ -148,8 +148,8 @@ fn offer_in_order<T: Transport, P: PackPlace>(
     }
 }
 
-// Fetches what is mapped into a sink, by the negotiator that was chosen.
-fn negotiate<T: Transport, P: PackPlace>(
+/// Fetches what is mapped into a sink, by the negotiator that was chosen.
+pub fn negotiate<T: Transport, P: PackPlace>(
     rt: &HostRuntime,
     session: &mut Session<'_, T>,
     repository: &mut Repository,
@@ -213,8 +213,8 @@ fn take_pack<T: Transport>(
     }
 }
 
-// What came of a fetch, unless the server reported an error beside it.
-fn unless_failed(
+/// What came of a fetch, unless the server reported an error beside it.
+pub fn unless_failed(
     came: Result<Option<Outcome>, Failure>,
     has_failed: bool,
 ) -> Result<Option<Outcome>, Failure> {

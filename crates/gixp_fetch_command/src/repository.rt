@@ -14,12 +14,12 @@ use std::io::{BufReader, ErrorKind};
 
 /// What is known of the repository.
 #[derive(Drop)]
-pub(crate) struct Repository {
-    pub(crate) objects: StoredObjects,
-    pub(crate) refs: StoredRefs,
+pub struct Repository {
+    pub objects: StoredObjects,
+    pub refs: StoredRefs,
     /// What the refs lead to, where they are known.
-    pub(crate) tips: Option<BTreeSet<ObjectId>>,
-    pub(crate) boundary: Vec<ObjectId>,
+    pub tips: Option<BTreeSet<ObjectId>>,
+    pub boundary: Vec<ObjectId>,
 }
 
 // The text in a file, or none where no file is named.
@@ -71,8 +71,8 @@ fn objects_in(rt: &HostRuntime, files: &Files<'_>, haves: Haves) -> Result<Store
     Ok(objects)
 }
 
-// The commits that refs lead to, as far as it isn't known that they are none.
-fn tips_of(
+/// The commits that refs lead to, as far as it isn't known that they are none.
+pub fn tips_of(
     alloc: Global,
     refs: &mut StoredRefs,
     objects: &StoredObjects,
@@ -102,11 +102,7 @@ fn refs_in(rt: &HostRuntime, path: Option<&str>) -> Result<StoredRefs, Failure> 
 
 impl Repository {
     /// Reads the texts, but for that of the commits where they are to be offered in its order.
-    pub(crate) fn read(
-        rt: &HostRuntime,
-        files: &Files<'_>,
-        haves: Haves,
-    ) -> Result<Repository, Failure> {
+    pub fn read(rt: &HostRuntime, files: &Files<'_>, haves: Haves) -> Result<Repository, Failure> {
         let objects = objects_in(rt, files, haves)?;
         let mut refs = refs_in(rt, files.refs)?;
         let tips = match files.refs {
@@ -123,7 +119,7 @@ impl Repository {
 
     /// Adds those objects that a map names and that are here, as a program says that is asked. What it reads is opened first,
     /// and closed behind the last answer.
-    pub(crate) fn ask(
+    pub fn ask(
         &mut self,
         rt: &HostRuntime,
         questions: Questions<'_>,
@@ -158,7 +154,7 @@ fn unanswered(alloc: Global, questions: Questions<'_>, e: AskError) -> Failure {
 }
 
 /// Writes the new boundary beside the file of the old one, where it isn't the same.
-pub(crate) fn write_boundary(
+pub fn write_boundary(
     rt: &HostRuntime,
     path: Option<&str>,
     old: &[ObjectId],

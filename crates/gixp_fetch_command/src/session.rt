@@ -28,7 +28,7 @@ use std::mem;
 
 /// A server after the handshake.
 #[derive(Drop)]
-pub(crate) struct Session<'a, T> {
+pub struct Session<'a, T> {
     alloc: Global,
     transport: T,
     shaken: Handshake,
@@ -37,16 +37,16 @@ pub(crate) struct Session<'a, T> {
 
 /// Where what comes of a fetch goes.
 #[derive(Drop)]
-pub(crate) struct Sink<P: PackPlace> {
-    pub(crate) boundary: ShallowMemory,
-    pub(crate) pack: PackReceiver<P>,
+pub struct Sink<P: PackPlace> {
+    pub boundary: ShallowMemory,
+    pub pack: PackReceiver<P>,
 }
 
 /// What is asked for.
 #[derive(Clone, Copy)]
-pub(crate) struct Asked<'a> {
-    pub(crate) map: &'a RefMap,
-    pub(crate) wish: &'a Wish<'a>,
+pub struct Asked<'a> {
+    pub map: &'a RefMap,
+    pub wish: &'a Wish<'a>,
 }
 
 // What the server is told first, where it is to be told a path.
@@ -65,7 +65,7 @@ fn opening_of(alloc: Global, server: &Server<'_>) -> Result<Option<Opening>, All
 }
 
 /// The transport over the two ends of a server.
-pub(crate) fn connect<R: Read + Drop, W: Write + Drop>(
+pub fn connect<R: Read + Drop, W: Write + Drop>(
     alloc: Global,
     from: R,
     to: W,
@@ -205,7 +205,7 @@ fn is_end(error: &fetch::response::Error) -> bool {
 
 impl<'a, T: Transport> Session<'a, T> {
     /// Shakes hands.
-    pub(crate) fn open<P: Progress>(
+    pub fn open<P: Progress>(
         alloc: Global,
         mut transport: T,
         agent: &'a str,
@@ -233,13 +233,18 @@ impl<'a, T: Transport> Session<'a, T> {
         }
     }
 
+    /// The version that the server speaks.
+    pub fn version(&self) -> Protocol {
+        self.shaken.server_protocol_version
+    }
+
     // The feature that names this client.
     fn name(&self) -> Result<Feature, AllocError> {
         named(self.alloc, self.agent)
     }
 
     /// All refs of the server.
-    pub(crate) fn refs<P: Progress>(&mut self, shown: &mut P) -> Result<Vec<Ref>, Failure> {
+    pub fn refs<P: Progress>(&mut self, shown: &mut P) -> Result<Vec<Ref>, Failure> {
         if let Some(refs) = self.shaken.take_refs() {
             return Ok(refs);
         }
@@ -253,11 +258,7 @@ impl<'a, T: Transport> Session<'a, T> {
     }
 
     /// What the refspecs map of the refs of the server.
-    pub(crate) fn map<P: Progress>(
-        &mut self,
-        wish: &Wish<'_>,
-        shown: &mut P,
-    ) -> Result<RefMap, Failure> {
+    pub fn map<P: Progress>(&mut self, wish: &Wish<'_>, shown: &mut P) -> Result<RefMap, Failure> {
         let alloc = self.alloc;
         let specs = specs_of(alloc, wish)?;
         let name = self.name()?;
@@ -285,7 +286,7 @@ impl<'a, T: Transport> Session<'a, T> {
     }
 
     /// Fetches what is mapped.
-    pub(crate) fn fetch<N: Negotiator, P: PackPlace, S: NestedProgress>(
+    pub fn fetch<N: Negotiator, P: PackPlace, S: NestedProgress>(
         &mut self,
         repository: &mut Repository,
         negotiator: &mut N,
@@ -334,7 +335,7 @@ impl<'a, T: Transport> Session<'a, T> {
 
     /// Says that nothing more is asked for, unless a pack came under version 0 or 1, where the server ends by itself. A server
     /// that is gone already has nothing more to say.
-    pub(crate) fn end(&mut self, has_pack: bool) {
+    pub fn end(&mut self, has_pack: bool) {
         if has_pack && self.shaken.server_protocol_version != Protocol::V2 {
             return;
         }

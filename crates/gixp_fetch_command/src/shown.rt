@@ -9,12 +9,12 @@ use std::cell::Cell;
 
 /// Shows nothing of the client's own progress. Its parts show what the server says.
 #[derive(Drop)]
-pub(crate) struct Shown<'a> {
-    pub(crate) rt: &'a HostRuntime,
+pub struct Shown<'a> {
+    pub rt: &'a HostRuntime,
     /// Whether progress is shown; errors always are.
-    pub(crate) shows_progress: bool,
+    pub shows_progress: bool,
     /// Whether the server reported an error.
-    pub(crate) has_failed: &'a Cell<bool>,
+    pub has_failed: &'a Cell<bool>,
 }
 
 impl Progress for Shown<'_> {
@@ -55,7 +55,7 @@ impl<'a> NestedProgress for Shown<'a> {
 }
 
 /// Shows what the server says, a line for each phase.
-pub(crate) struct Remote<'a> {
+pub struct Remote<'a> {
     rt: &'a HostRuntime,
     shows_progress: bool,
     has_failed: &'a Cell<bool>,

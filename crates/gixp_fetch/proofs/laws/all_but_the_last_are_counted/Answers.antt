@@ -1,4 +1,4 @@
-use Rattle.gixp_fetch.proofs.BoundLemmas.{but_last_more, but_last_length}
+use Rattle.gixp_fetch.proofs.LastLemmas.{but_last_more, but_last_length}
 use Rattle.gixp_fetch.proofs.laws.all_but_the_last_are_counted.Goals as goal
 
 pub returns : goal.returns

@@ -1,0 +1,68 @@
+#!/usr/bin/env python3
+"""Times the bindings: the refs of an answer from Rust against a plain parser that makes the same values, and from Python; and what the
+repeated reading of a session costs.
+
+Usage: languages.py [REFS] [RUNS]
+
+`scripts/bindings.sh` has to have made bindings/build. The answer is that of refs.py. From Python the refs of a tenth of it are read, and by
+dulwich too where that is installed.
+"""
+import os
+import pathlib
+import subprocess
+import sys
+import tempfile
+import time
+
+from refs import write_answer
+
+TOP = pathlib.Path(__file__).resolve().parent.parent
+sys.path.insert(0, str(TOP / "bindings/python"))
+BUILD = TOP / "bindings/build"
+
+
+def best(runs, call):
+    least = float("inf")
+    for _ in range(runs):
+        start = time.process_time()
+        call()
+        least = min(least, time.process_time() - start)
+    return least
+
+
+def by_python(path, runs):
+    import gixp
+    data = pathlib.Path(path).read_bytes()
+    ours = best(runs, lambda: sum(1 for _ in gixp.refs(data)))
+    line = "from Python: %.0f ms" % (ours * 1e3)
+    try:
+        import io
+        from dulwich.protocol import Protocol
+
+        def dulwich():
+            refs = {}
+            for text in Protocol(io.BytesIO(data).read, None).read_pkt_seq():
+                words = text.rstrip(b"\n").split(b" ")
+                refs[words[1]] = (words[0], words[2:])
+        line += ", %.2f of the time of dulwich's packet lines cut at blanks" % (ours / best(runs, dulwich))
+    except ImportError:
+        line += " (dulwich isn't installed)"
+    print(line)
+
+
+def main(refs, runs):
+    env = dict(os.environ, GIXP_LIB=str(BUILD))
+    cargo = ["cargo", "run", "-q", "--offline", "--release", "--example", "bench", "--manifest-path",
+             str(TOP / "bindings/rust/Cargo.toml"), "--"]
+    with tempfile.TemporaryDirectory() as place:
+        path = os.path.join(place, "answer")
+        write_answer(path, refs)
+        subprocess.run([*cargo, "refs", path, str(runs)], env=env, check=True)
+        subprocess.run([*cargo, "rounds"], env=env, check=True)
+        subprocess.run([*cargo, "rounds", "100000", "1"], env=env, check=True)
+        write_answer(path, refs // 10)
+        by_python(path, runs)
+
+
+if __name__ == "__main__":
+    main(*(int(word) for word in (sys.argv[1:] + ["1000000", "5"][len(sys.argv) - 1:])))

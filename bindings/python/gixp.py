@@ -1,0 +1,315 @@
+"""The client side of git's fetch protocol, over a library whose every function is proved: bytes in, values out.
+
+Nothing is kept between calls, and nothing is sent or received: sockets, pipes and HTTP are the caller's. The library is
+`libgixp.so`, in the folder that GIXP_LIB names or where `scripts/bindings.sh` puts it.
+
+    for ref in gixp.refs(answer): print(ref.id.hex(), ref.name)
+"""
+from __future__ import annotations
+
+import ctypes
+import enum
+import os
+from ctypes import POINTER, Structure, byref, c_char_p, c_size_t, c_uint8, c_uint32
+from dataclasses import dataclass
+from typing import Callable, Iterable, Iterator, List, Optional, Union
+
+_BESIDE = os.path.join(os.path.dirname(os.path.abspath(__file__)), "..", "build")
+_lib = ctypes.CDLL(os.path.join(os.environ.get("GIXP_LIB", _BESIDE), "libgixp.so"))
+
+_OK, _MORE, _NO_ROOM = 0, 1, 2
+
+
+class _Span(Structure):
+    _fields_ = [("at", c_size_t), ("len", c_size_t)]
+
+
+class _Ref(Structure):
+    _fields_ = [("kind", c_uint32), ("object", c_uint8 * 20), ("tag", c_uint8 * 20), ("name", _Span), ("target", _Span)]
+
+
+class _Found(Structure):
+    _fields_ = [("count", c_size_t), ("next", c_size_t), ("words", _Span)]
+
+
+class _Piece(Structure):
+    _fields_ = [("band", c_uint32), ("text", _Span), ("next", c_size_t)]
+
+
+class _Step(Structure):
+    _fields_ = [("kind", c_uint32), ("length", c_size_t), ("place", c_size_t)]
+
+
+class _Mapping(Structure):
+    _fields_ = [("item", c_size_t), ("spec", c_size_t), ("has_local", c_uint32), ("local", _Span)]
+
+
+class _Mapped(Structure):
+    _fields_ = [("mappings", c_size_t), ("fixes", c_size_t), ("names", c_size_t)]
+
+
+_bytes = (c_char_p, c_size_t)
+_lib.gixp_map.argtypes = [*_bytes, POINTER(_Ref), c_size_t, *_bytes, POINTER(_Mapping), c_size_t, *_bytes, POINTER(_Mapped)]
+_lib.gixp_prefixes.argtypes = [*_bytes, *_bytes, POINTER(c_size_t)]
+_lib.gixp_refs.argtypes = [*_bytes, c_size_t, POINTER(_Ref), c_size_t, POINTER(_Found)]
+_lib.gixp_piece.argtypes = [*_bytes, c_size_t, POINTER(_Piece)]
+_lib.gixp_error_text.argtypes = [c_uint32, c_char_p, c_size_t, POINTER(c_size_t)]
+_lib.gixp_next.argtypes = [*_bytes, POINTER(c_size_t), c_size_t, *_bytes, *_bytes, *_bytes, c_uint32, c_char_p, c_size_t,
+                           POINTER(_Step)]
+for _f in (_lib.gixp_refs, _lib.gixp_piece, _lib.gixp_error_text, _lib.gixp_next, _lib.gixp_map,
+           _lib.gixp_prefixes):
+    _f.restype = c_uint32
+
+
+class Kind(enum.Enum):
+    """The kinds of errors."""
+    BAD_PLACE, NO_MEMORY, INCOMPLETE, MALFORMED, SERVER, UNEXPECTED, UNKNOWN_BAND, BAD_REF, ANSWERS, BAD_SPEC, HANDSHAKE, REFS, \
+        FETCH, OTHER = range(14)
+
+
+_KINDS = [(range(3, 4), Kind.BAD_PLACE), (range(4, 5), Kind.NO_MEMORY), (range(10, 11), Kind.INCOMPLETE),
+          (range(11, 15), Kind.MALFORMED), (range(15, 16), Kind.SERVER), (range(16, 17), Kind.UNEXPECTED),
+          (range(17, 18), Kind.UNKNOWN_BAND), (range(20, 30), Kind.BAD_REF), (range(30, 32), Kind.ANSWERS),
+          (range(32, 40), Kind.BAD_SPEC), (range(40, 50), Kind.HANDSHAKE), (range(50, 60), Kind.REFS),
+          (range(60, 80), Kind.FETCH)]
+
+
+def _text(code: int) -> str:
+    buffer, length = ctypes.create_string_buffer(128), c_size_t()
+    told = _lib.gixp_error_text(code, buffer, len(buffer), byref(length))
+    return buffer.raw[:length.value].decode("ascii") if told == _OK else ""
+
+
+class GixpError(Exception):
+    """Why an answer is refused: its number, its kind, and the server's own words, if it sent any."""
+
+    def __init__(self, code: int, words: bytes = b""):
+        self.code, self.words = code, words
+        self.kind = next((kind for codes, kind in _KINDS if code in codes), Kind.OTHER)
+        super().__init__(_text(code) + (": " + words.decode("utf-8", "replace") if words else ""))
+
+
+def _of(data: bytes, span: _Span) -> bytes:
+    return data[span.at:span.at + span.len]
+
+
+@dataclass(frozen=True)
+class Ref:
+    """A ref of a server: its name; the object that it names, of a tag the tag itself, and none where its target isn't there yet;
+    what a tag leads to; and the name of the ref that it names, if it does."""
+    name: bytes
+    id: Optional[bytes]
+    peeled: Optional[bytes] = None
+    target: Optional[bytes] = None
+
+
+def _ref(answer: bytes, r: _Ref) -> Ref:
+    tagged = r.kind in (2, 4)
+    first = bytes(r.tag) if tagged else bytes(r.object) if r.kind != 5 else None
+    return Ref(_of(answer, r.name), first, bytes(r.object) if tagged else None, _of(answer, r.target) if r.kind >= 3 else None)
+
+
+def refs(answer: bytes) -> Iterator[Ref]:
+    """The refs of an `ls-refs` answer of version 2, in its order (gitprotocol-v2, "ls-refs"). Raises GixpError behind the last
+    one unless the answer is whole."""
+    answer = bytes(answer)
+    records, found = (_Ref * 256)(), _Found()
+    code, place = _MORE, 0
+    while code == _MORE:
+        code = _lib.gixp_refs(answer, len(answer), place, records, len(records), byref(found))
+        place = found.next
+        for r in records[:found.count]:
+            yield _ref(answer, r)
+    if code != _OK:
+        raise GixpError(code, _of(answer, found.words))
+
+
+@dataclass(frozen=True)
+class Mapping:
+    """A mapping: the place of the name among those that were handed in, or none where the refspec names an object; the place of the
+    refspec; and the local name, if there is one. That isn't checked: the server chose what a pattern puts for its asterisk."""
+    item: Optional[int]
+    spec: int
+    local: Optional[bytes]
+
+
+@dataclass(frozen=True)
+class Mappings:
+    """What refspecs map, and the local names of what was taken out since they are no names of refs. Where local names have two
+    different sources, they are the conflicts, and nothing is mapped."""
+    mappings: List[Mapping]
+    removed: List[bytes]
+    conflicts: List[bytes]
+
+
+def map_refs(names: Iterable[bytes], specs: Iterable[bytes]) -> Mappings:
+    """Maps refs of these full names by refspecs (git-fetch, "<refspec>"). Raises GixpError."""
+    names, text = list(names), b"\n".join(specs)
+    whole, at, records = b"".join(names), 0, (_Ref * max(len(names), 1))()
+    for record, name in zip(records, names):
+        record.name.at, record.name.len = at, len(name)
+        at += len(name)
+    room, size, counts = len(names) + 8, len(whole) + 64, _Mapped()
+    while True:
+        found, locals_ = (_Mapping * room)(), ctypes.create_string_buffer(size)
+        code = _lib.gixp_map(whole, len(whole), records, len(names), text, len(text), found, room, locals_, size, byref(counts))
+        if code != _NO_ROOM:
+            break
+        room, size = max(counts.mappings + counts.fixes, 1), max(counts.names, 1)
+    if code not in (_OK, 51):
+        raise GixpError(code)
+    local = [_of(locals_.raw, r.local) for r in found[:counts.mappings + counts.fixes]]
+    first, removed = local[:counts.mappings], local[counts.mappings:]
+    if code == 51:
+        return Mappings([], removed, first)
+    return Mappings([Mapping(r.item if r.item < len(names) else None, r.spec, name if r.has_local else None)
+                     for r, name in zip(found, first)], removed, [])
+
+
+def prefixes(specs: Iterable[bytes]) -> List[bytes]:
+    """The prefixes that a server is asked for, for these refspecs (gitprotocol-v2, `ref-prefix`). Raises GixpError."""
+    text, size, length = b"\n".join(specs), 256, c_size_t()
+    while True:
+        buffer = ctypes.create_string_buffer(size)
+        code = _lib.gixp_prefixes(text, len(text), buffer, size, byref(length))
+        if code != _NO_ROOM:
+            break
+        size = length.value
+    if code != _OK:
+        raise GixpError(code)
+    return buffer.raw[:length.value].split(b"\n")[:-1]
+
+
+class Band(enum.Enum):
+    """What a piece of a pack is."""
+    STOP, CONTENT, PROGRESS, ERROR = range(4)
+
+
+@dataclass(frozen=True)
+class Piece:
+    """A piece of a pack, or a line that the server says meanwhile, and the place behind it."""
+    band: Band
+    text: bytes
+    next: int
+
+
+def piece(answer: bytes, place: int) -> Piece:
+    """The piece at a place of an answer (gitprotocol-pack, "Packfile Data"). Raises GixpError; of the kind INCOMPLETE where more
+    of the answer is to come."""
+    answer, found = bytes(answer), _Piece()
+    if not 0 <= place <= len(answer):
+        raise GixpError(3)
+    code = _lib.gixp_piece(answer, len(answer), place, byref(found))
+    if code != _OK:
+        raise GixpError(code, _of(answer, found.text) if code == 15 else b"")
+    return Piece(Band(found.band), _of(answer, found.text), found.next)
+
+
+def pieces(answer: bytes, place: int = 0) -> Iterator[Piece]:
+    """The pieces of a pack from a place of a whole answer on, up to the stop."""
+    while True:
+        found = piece(answer, place)
+        if found.band is Band.STOP:
+            return
+        yield found
+        place = found.next
+
+
+def read_pieces(data: bytes, place: int, read: Callable[[int], bytes]) -> Iterator[Piece]:
+    """The pieces of a pack of which a beginning is there, and `read` gives more: at most as many bytes as it is asked for, and
+    none at the end. No more than one piece is held."""
+    while True:
+        try:
+            found = piece(data, place)
+        except GixpError as e:
+            more = read(1 << 20) if e.kind is Kind.INCOMPLETE else b""
+            if not more:
+                raise
+            data, place = data[place:] + more, 0
+            continue
+        if found.band is Band.STOP:
+            return
+        yield found
+        place = found.next
+
+
+@dataclass(frozen=True)
+class Request:
+    """Send these bytes: what comes back is the next answer."""
+    data: bytes
+
+
+@dataclass(frozen=True)
+class Pack:
+    """Take the pack out of the last answer, of which it begins at this place."""
+    place: int
+
+
+@dataclass(frozen=True)
+class Nothing:
+    """Nothing is to be asked for."""
+
+
+class Session:
+    """A fetch, as its answers so far: the first is what the server says when it is asked for `git-upload-pack`. Each step is of
+    all the answers, so a session may be kept, copied or thrown away at any place."""
+
+    def __init__(self, specs: Iterable[bytes], haves: Iterable[bytes] = (), shallow: Iterable[bytes] = (), depth: int = 0):
+        if not 0 <= depth < 2 ** 32:
+            raise GixpError(3)
+        self.specs, self.haves, self.shallow = b"\n".join(specs), b"".join(haves), b"".join(shallow)
+        self.depth = depth
+        self.answers: List[bytes] = []
+
+    def answer(self, data: bytes) -> None:
+        """Adds the answer to the handshake, or to the last request."""
+        self.answers.append(bytes(data))
+
+    def more(self, data: bytes) -> None:
+        """Adds more of the last answer, where it came in parts."""
+        self.answers[-1] += data
+
+    def read_step(self, read: Callable[[int], bytes]) -> Union[Request, Pack, Nothing]:
+        """Reads as much of the next answer as the next step takes: `read` gives at most as many bytes as it is asked for, and none
+        at the end. Raises GixpError."""
+        self.answer(read(1 << 16))
+        while True:
+            try:
+                return self.step()
+            except GixpError as e:
+                more = read(max(1 << 16, len(self.answers[-1]))) if e.kind is Kind.INCOMPLETE else b""
+                if not more:
+                    raise
+                self.more(more)
+
+    def step(self) -> Union[Request, Pack, Nothing]:
+        """What the client does next. Of the last answer a beginning will do that reaches to the pack; of a shorter one the error
+        is of the kind INCOMPLETE. Raises GixpError."""
+        data, end, ends = b"".join(self.answers), 0, []
+        for answer in self.answers:
+            end += len(answer)
+            ends.append(end)
+        # A want for each ref of the answers and a have for each id fit, so that mostly one call does.
+        places, room, step = (c_size_t * max(len(ends), 1))(*ends), 4096 + len(data) + 3 * len(self.haves), _Step()
+        while True:
+            request = ctypes.create_string_buffer(room)
+            code = _lib.gixp_next(data, len(data), places, len(ends), self.specs, len(self.specs), self.haves, len(self.haves),
+                                  self.shallow, len(self.shallow), self.depth, request, room, byref(step))
+            if code != _NO_ROOM:
+                break
+            room = step.length
+        text = request[:step.length]
+        if code != _OK:
+            raise GixpError(code, text if step.length <= room else b"")
+        if step.kind == 1:
+            return Request(text)
+        return Pack(step.place - (end - len(self.answers[-1]))) if step.kind == 2 else Nothing()
+
+
+def without_service(answer: bytes) -> bytes:
+    """The first answer without what a server over HTTP puts in front of it: `# service=git-upload-pack` and a flush
+    (gitprotocol-http, "Smart Server Response")."""
+    if answer[4:14] != b"# service=":
+        return answer
+    end = int(answer[:4], 16)
+    return answer[end + 4:] if answer[end:end + 4] == b"0000" else answer

@@ -1,0 +1,247 @@
+#!/usr/bin/env python3
+"""Tests of gixp.py: the rows of gixp_replay against the definitions of models/, and a clone over HTTP from git's own server."""
+import collections
+import http.server
+import os
+import pathlib
+import shutil
+import subprocess
+import sys
+import tempfile
+import threading
+import unittest
+
+HERE = pathlib.Path(__file__).resolve().parent
+TOP = HERE.parent.parent
+sys.path[:0] = [str(HERE), str(TOP / "models")]
+
+import definitions  # noqa: E402
+import gixp  # noqa: E402
+import rows  # noqa: E402
+
+# The number of each error of the definitions.
+CODES = {"Io": 10, "HexDecode": 11, "DataLengthLimitExceeded": 12, "DataIsEmpty": 13, "InvalidLineLength": 14, "Server": 15,
+         "UnexpectedFrame": 16, "Id": 20, "MalformedV2RefLine": 21, "UnknownAttribute": 22, "InvariantViolation": 23}
+
+
+def all_rows():
+    for file in sorted((TOP / "crates/gixp_replay/data").iterdir()):
+        yield from rows.read(file)[0]
+
+
+def packet(text):
+    return b"%04x%s" % (len(text) + 4, text)
+
+
+class Refs(unittest.TestCase):
+    def test_rows(self):
+        """Every row of bytes is read as an `ls-refs` answer, as the definitions read it."""
+        codes = collections.Counter()
+        for row in all_rows():
+            found, code, words = [], 0, b""
+            try:
+                found.extend(gixp.refs(row.data))
+            except gixp.GixpError as e:
+                code, words = e.code, e.words
+            try:
+                wanted = definitions.v2_ref_list(row.data)
+                self.assertEqual((code, [(r.name, r.id, r.peeled) for r in found]), (0, list(map(definitions.unpack, wanted))), row.name)
+                self.assertEqual([r.target for r in found], [r[2] if r[0] in ("Symbolic", "Unborn") else None for r in wanted], row.name)
+            except definitions.Refused as e:
+                self.assertEqual(code, CODES[e.rest[0] if e.name == "Decode" else e.name], row.name)
+                self.assertEqual(words, e.rest[0] if e.name == "Server" else b"", row.name)
+            codes[code] += 1
+        self.assertTrue(all(codes[code] for code in CODES.values() if code != 14), codes)
+
+    def test_malformed_packets(self):
+        ref = packet(b"%040x HEAD\n" % 1)
+        for bad, code in [(b"zzzz", 11), (b"fff1" + b"x" * 10, 12), (b"0004", 13), (b"0003", 14), (packet(b"ERR no\n"), 15),
+                          (b"0002", 16), (b"", 10), (b"00", 10), (b"0032abc", 10), (packet(b"x y\n"), 20),
+                          (packet(b"%040x\n" % 1), 21), (packet(b"%040x a b:c\n" % 1), 22), (packet(b"unborn a\n"), 23)]:
+            with self.subTest(bad=bad):
+                found = []
+                with self.assertRaises(gixp.GixpError) as caught:
+                    for r in gixp.refs(ref + bad):
+                        found.append(r)
+                self.assertEqual((caught.exception.code, [r.name for r in found]), (code, [b"HEAD"]))
+                self.assertEqual(caught.exception.words, b"no" if code == 15 else b"")
+                self.assertTrue(str(caught.exception))
+
+    def test_beginnings(self):
+        data = b"".join(packet(b"%040x refs/heads/%d\n" % (i, i)) for i in range(600)) + b"0000"
+        self.assertEqual(len(list(gixp.refs(data))), 600)
+        self.assertEqual(len(list(gixp.refs(data + b"rest"))), 600)
+        for end in (0, 3, 100, len(data) - 1):
+            with self.assertRaises(gixp.GixpError) as caught:
+                list(gixp.refs(data[:end]))
+            self.assertIs(caught.exception.kind, gixp.Kind.INCOMPLETE)
+
+
+class Pieces(unittest.TestCase):
+    def test_bands(self):
+        data = packet(b"\1PACK") + packet(b"\2half\n") + packet(b"\1") + packet(b"\3bad") + b"0000rest"
+        found = [(p.band, p.text) for p in gixp.pieces(data)]
+        band = gixp.Band
+        self.assertEqual(found, [(band.CONTENT, b"PACK"), (band.PROGRESS, b"half"), (band.CONTENT, b""), (band.ERROR, b"bad")])
+        cut = iter([data[10:20], data[20:]])
+        self.assertEqual([(p.band, p.text) for p in gixp.read_pieces(data[:10], 0, lambda n: next(cut, b""))], found)
+        for place in (-1, len(data) + 1, 2 ** 70):
+            with self.assertRaises(gixp.GixpError):
+                gixp.piece(data, place)
+        with self.assertRaises(gixp.GixpError) as caught:
+            gixp.piece(packet(b"\4x"), 0)
+        self.assertIs(caught.exception.kind, gixp.Kind.UNKNOWN_BAND)
+
+
+class Sessions(unittest.TestCase):
+    greeting = packet(b"version 2\n") + packet(b"ls-refs=unborn\n") + packet(b"fetch=shallow\n") + b"0000"
+    listed = packet(b"%040x refs/heads/main\n" % 5) + b"0000"
+
+    def session(self, *answers, **more):
+        session = gixp.Session([b"refs/heads/*:refs/remotes/o/*"], **more)
+        for answer in answers:
+            session.answer(answer)
+        return session
+
+    def code(self, *answers, **more):
+        with self.assertRaises(gixp.GixpError) as caught:
+            self.session(*answers, **more).step()
+        return caught.exception.code
+
+    def test_steps(self):
+        step = self.session(self.greeting).step()
+        self.assertTrue(step.data.startswith(b"0014command=ls-refs\n"))
+        step = self.session(self.greeting, self.listed, haves=[b"\7" * 20]).step()
+        self.assertIn(b"want %040x" % 5, step.data)
+        self.assertIn(b"have " + b"07" * 20, step.data)
+        self.assertIn(b"deepen 3", self.session(self.greeting, self.listed, depth=3).step().data)
+        pack = packet(b"packfile\n") + packet(b"\1PACK") + b"0000"
+        for end in (len(pack), 13, 20):
+            step = self.session(self.greeting, self.listed, pack[:end]).step()
+            self.assertEqual(step, gixp.Pack(13))
+        self.assertEqual(self.session(self.greeting, b"0000").step(), gixp.Nothing())
+        self.assertEqual(self.session(self.greeting, self.listed, haves=[bytes(19) + b"\5"]).step(), gixp.Nothing())
+
+    def test_refused(self):
+        self.assertEqual(self.code(), 30)
+        self.assertEqual(self.code(self.greeting, b"0000", b"0000"), 31)
+        self.assertEqual(self.code(self.greeting, haves=[b"short"]), 3)
+        self.assertEqual(self.code(self.greeting, shallow=[b"short"]), 3)
+        self.assertEqual(self.code(b""), 10)
+        self.assertEqual(self.code(self.greeting[:-4]), 10)
+        self.assertEqual(self.code(b"<html>"), 43)
+        self.assertEqual(self.code(self.greeting, self.listed, packet(b"packfile\n")[:5]), 10)
+        session = gixp.Session([b"a:b:c"])
+        session.answer(self.greeting)
+        with self.assertRaises(gixp.GixpError) as caught:
+            session.step()
+        self.assertIs(caught.exception.kind, gixp.Kind.BAD_SPEC)
+        with self.assertRaises(gixp.GixpError) as caught:
+            self.session(self.greeting, packet(b"ERR go away\n")).step()
+        self.assertEqual((caught.exception.code, caught.exception.words), (15, b"go away"))
+
+
+class Maps(unittest.TestCase):
+    def test_rows(self):
+        """The rows of refspecs over names are mapped as the definitions map them."""
+        count = 0
+        for row in all_rows():
+            if row.mode != "matches":
+                continue
+            line, _, names = row.data.partition(b"\n")
+            words = []
+            for word in line.split(b" "):
+                try:
+                    definitions.refspec_of(word, True)
+                    words.append(word)
+                except definitions.Refused:
+                    pass
+            specs, names = [definitions.refspec_of(w, True) for w in words], names.split(b"\n")
+            if any(b"\n" in w or not w for w in words):
+                continue
+            found = gixp.map_refs(names, words)
+            try:
+                maps, fixes = definitions.validated(definitions.mappings_of(specs, names), specs)
+                self.assertEqual([m.local for m in found.mappings], [m[2] for m in maps], row.name)
+                self.assertEqual(found.removed, [f[0] for f in fixes], row.name)
+                sources = [names[m.item] if m.item is not None else None for m in found.mappings]
+                self.assertEqual(sources, [m[1][1] if m[1][0] == "FullName" else None for m in maps], row.name)
+            except definitions.Refused as e:
+                self.assertEqual(found.conflicts, [issue[0] for issue in e.rest[0]], row.name)
+            self.assertEqual(list(dict.fromkeys(gixp.prefixes(words))), definitions.all_prefixes(specs), row.name)
+            count += 1
+        self.assertGreater(count, 50)
+
+
+class Backend(http.server.BaseHTTPRequestHandler):
+    """git's own server behind a web server of Python."""
+    def serve(self, body=b""):
+        path, _, query = self.path.partition("?")
+        env = dict(os.environ, GIT_PROJECT_ROOT=self.server.root, GIT_HTTP_EXPORT_ALL="1", PATH_INFO=path, QUERY_STRING=query,
+                   REQUEST_METHOD=self.command, CONTENT_TYPE=self.headers.get("Content-Type", ""),
+                   CONTENT_LENGTH=str(len(body)), GIT_PROTOCOL=self.headers.get("Git-Protocol", ""))
+        out = subprocess.run(["git", "http-backend"], input=body, env=env, stdout=subprocess.PIPE, stderr=subprocess.DEVNULL).stdout
+        head, _, body = out.partition(b"\r\n\r\n")
+        fields = dict(line.decode().split(": ", 1) for line in head.split(b"\r\n"))
+        self.send_response(int(fields.pop("Status", "200").split()[0]))
+        for name, value in fields.items():
+            self.send_header(name, value)
+        self.end_headers()
+        self.wfile.write(body)
+
+    def do_GET(self):
+        self.serve()
+
+    def do_POST(self):
+        self.serve(self.rfile.read(int(self.headers["Content-Length"])))
+
+    def log_message(self, *words):
+        pass
+
+
+def git(*words, folder=None, **more):
+    who = ["-c", "user.name=a", "-c", "user.email=a@b", "-c", "init.defaultBranch=main"]
+    return subprocess.run(["git", *who, *words], cwd=folder, check=True, stdout=subprocess.PIPE, **more).stdout
+
+
+@unittest.skipUnless(shutil.which("git"), "git isn't here")
+class Clones(unittest.TestCase):
+    def setUp(self):
+        self.folder = tempfile.mkdtemp()
+        self.addCleanup(shutil.rmtree, self.folder)
+        work = os.path.join(self.folder, "work")
+        git("init", "-q", work)
+        for n in range(30):
+            pathlib.Path(work, "file").write_bytes(os.urandom(20000))
+            git("add", ".", folder=work)
+            git("commit", "-qm", str(n), folder=work)
+        git("tag", "-am", "one", "v1", folder=work)
+        git("branch", "other", "HEAD~10", folder=work)
+        git("clone", "-q", "--bare", work, os.path.join(self.folder, "served.git"))
+        self.server = http.server.ThreadingHTTPServer(("127.0.0.1", 0), Backend)
+        self.server.root = self.folder
+        thread = threading.Thread(target=self.server.serve_forever, daemon=True)
+        thread.start()
+        self.addCleanup(self.server.server_close)
+        self.addCleanup(self.server.shutdown)
+        self.url = "http://127.0.0.1:%d/served.git" % self.server.server_port
+
+    def test_clone(self):
+        to = os.path.join(self.folder, "cloned")
+        run = subprocess.run([sys.executable, str(HERE / "clone.py"), self.url, to], stderr=subprocess.PIPE)
+        self.assertEqual(run.returncode, 0, run.stderr)
+        self.assertIn(b"KiB", run.stderr)
+        git("fsck", "--strict", folder=to)
+        served = git("for-each-ref", "--format=%(objectname) %(refname)", folder=os.path.join(self.folder, "served.git"))
+        cloned = git("for-each-ref", "--format=%(objectname) %(refname)", folder=to)
+        self.assertEqual(sorted(cloned.replace(b"refs/remotes/origin/", b"refs/heads/").split(b"\n")), sorted(served.split(b"\n")))
+
+    def test_no_repository(self):
+        run = subprocess.run([sys.executable, str(HERE / "clone.py"), self.url + "x", os.path.join(self.folder, "none")],
+                             stderr=subprocess.PIPE)
+        self.assertNotEqual(run.returncode, 0)
+        self.assertIn(b"404", run.stderr)
+
+
+if __name__ == "__main__":
+    unittest.main(warnings="ignore")

@@ -1,0 +1,138 @@
+//! Times the refs of an answer against a plain parser that makes the same values, and the steps of a session with many rounds:
+//! `cargo run --release --example bench -- refs FILE [RUNS]`, `.. -- rounds REFS ROUNDS`. `bench/languages.py` runs it.
+use gixp::{refs, Id, Ref, Session, Step};
+use std::time::Instant;
+
+fn digit(byte: u8) -> Option<u8> {
+    match byte {
+        b'0'..=b'9' => Some(byte - b'0'),
+        b'a'..=b'f' => Some(byte - b'a' + 10),
+        b'A'..=b'F' => Some(byte - b'A' + 10),
+        _ => None,
+    }
+}
+
+fn id(text: &[u8]) -> Option<Id> {
+    let mut bytes = [0; 20];
+    if text.len() != 40 {
+        return None;
+    }
+    for (byte, pair) in bytes.iter_mut().zip(text.chunks_exact(2)) {
+        *byte = digit(pair[0])? << 4 | digit(pair[1])?;
+    }
+    Some(Id(bytes))
+}
+
+fn cut(text: &[u8], byte: u8) -> Option<(&[u8], &[u8])> {
+    let at = text.iter().position(|b| *b == byte)?;
+    Some((&text[..at], &text[at + 1..]))
+}
+
+/// The ref of a line, as one would write it.
+fn plain_ref(line: &[u8]) -> Option<Ref<'_>> {
+    let line = line.trim_ascii_end();
+    let (first, rest) = cut(line, b' ')?;
+    let (name, mut rest) = cut(rest, b' ').unwrap_or((rest, b""));
+    let (mut target, mut peeled) = (None, None);
+    while !rest.is_empty() {
+        let (attribute, more) = cut(rest, b' ').unwrap_or((rest, b""));
+        rest = more;
+        if let Some(text) = attribute.strip_prefix(b"peeled:") {
+            peeled = Some(id(text)?);
+        } else {
+            target = Some(attribute.strip_prefix(b"symref-target:")?);
+        }
+    }
+    Some(match (first == b"unborn", target, peeled) {
+        (true, target, _) => Ref::Unborn { name, target: target? },
+        (_, None, None) => Ref::Direct { name, object: id(first)? },
+        (_, None, Some(object)) => Ref::Peeled { name, tag: id(first)?, object },
+        (_, Some(target), None) => Ref::Symbolic { name, target, tag: None, object: id(first)? },
+        (_, Some(target), Some(object)) => Ref::Symbolic { name, target, tag: Some(id(first)?), object },
+    })
+}
+
+/// The refs of an answer, and none for one that is refused.
+fn plain(mut answer: &[u8], mut each: impl FnMut(Ref<'_>)) -> Option<()> {
+    loop {
+        let size = usize::from_str_radix(std::str::from_utf8(answer.get(..4)?).ok()?, 16).ok()?;
+        if size < 4 {
+            return (size < 2).then_some(());
+        }
+        let line = answer.get(4..size)?;
+        if line.starts_with(b"ERR ") {
+            return None;
+        }
+        each(plain_ref(line)?);
+        answer = &answer[size..];
+    }
+}
+
+/// What is kept of each ref, so that nothing of it is left out.
+fn weigh(sum: u64, found: Ref<'_>) -> u64 {
+    let id = found.id().map_or(0, |id| u64::from(id.0[19]));
+    sum.wrapping_mul(31).wrapping_add(id + found.name().len() as u64)
+}
+
+fn time(mut run: impl FnMut() -> u64) -> (f64, u64) {
+    let start = Instant::now();
+    let sum = run();
+    (start.elapsed().as_secs_f64(), sum)
+}
+
+fn time_refs(answer: &[u8], runs: usize) {
+    let (mut ours, mut others) = (f64::MAX, f64::MAX);
+    for _ in 0..runs {
+        let (seconds, sum) = time(|| refs(answer).fold(0, |sum, found| weigh(sum, found.unwrap())));
+        ours = ours.min(seconds);
+        let (seconds, other) = time(|| {
+            let mut sum = 0;
+            plain(answer, |found| sum = weigh(sum, found)).unwrap();
+            sum
+        });
+        others = others.min(seconds);
+        assert_eq!(sum, other);
+    }
+    println!("{:.1} ms, plain {:.1} ms, {:.2} of its time", ours * 1e3, others * 1e3, ours / others);
+}
+
+fn packet(text: &str) -> String {
+    format!("{:04x}{text}", text.len() + 4)
+}
+
+/// A session of version 2 whose server acknowledges nothing, so that each round offers more haves, until the pack comes.
+fn time_rounds(count: usize, rounds: usize) {
+    let id = |n: usize| format!("{n:040x}");
+    let greeting = ["version 2\n", "ls-refs=unborn\n", "fetch=shallow\n"].map(packet).concat() + "0000";
+    let listed: String = (0..count).map(|n| packet(&format!("{} refs/heads/{n}\n", id(n)))).collect();
+    let mut session = Session::new(["refs/heads/*:refs/remotes/o/*"]);
+    for n in 0..1 << 16 {
+        session.have(Id::from_hex(id(1 << 40 | n).as_bytes()).unwrap());
+    }
+    session.answer(greeting.as_bytes()).answer((listed + "0000").as_bytes());
+    let none = ["acknowledgments\n", "NAK\n"].map(packet).concat() + "0000";
+    let pack = ["acknowledgments\n", "NAK\n", "ready\n"].map(packet).concat() + "0001" + &packet("packfile\n");
+    let (mut all, mut last) = (0.0, 0.0);
+    for round in 1.. {
+        let start = Instant::now();
+        let step = session.step().unwrap();
+        last = start.elapsed().as_secs_f64();
+        all += last;
+        match step {
+            Step::Request(_) if round < rounds => drop(session.answer(none.as_bytes())),
+            Step::Request(_) => drop(session.answer(pack.as_bytes())),
+            _ => break,
+        }
+    }
+    println!("{rounds} rounds: {:.1} ms in all, {:.1} ms for the last step, {:.1} times", all * 1e3, last * 1e3, all / last);
+}
+
+fn main() {
+    let words: Vec<String> = std::env::args().collect();
+    let number = |n: usize, other: usize| words.get(n).map_or(other, |word| word.parse().unwrap());
+    match words.get(1).map(String::as_str) {
+        Some("refs") => time_refs(&std::fs::read(&words[2]).unwrap(), number(3, 5)),
+        Some("rounds") => time_rounds(number(2, 100_000), number(3, 10)),
+        _ => eprintln!("usage: bench refs FILE [RUNS] | rounds [REFS [ROUNDS]]"),
+    }
+}

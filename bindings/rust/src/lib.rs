@@ -1,0 +1,44 @@
+//! The client side of git's fetch protocol, over a library whose every function is proved: slices in, values out. Nothing is
+//! kept between calls, and nothing is sent or received: sockets, pipes and HTTP are the caller's.
+//!
+//! Every safe call is defined for every argument: what an export requires is true of slices by their type, and is tested
+//! where it isn't.
+#![forbid(unsafe_op_in_unsafe_fn)]
+
+mod error;
+mod maps;
+mod pieces;
+mod refs;
+mod session;
+mod sys;
+
+pub use error::{Error, Kind};
+pub use maps::{map, prefixes, Mapping, Mappings};
+pub use pieces::{pieces, Piece, Pieces};
+pub use refs::{refs, Ref, Refs};
+pub use session::{without_service, Session, Step};
+
+/// An object id, as its 20 bytes.
+#[derive(Clone, Copy, Debug, Default, PartialEq, Eq, Hash, PartialOrd, Ord)]
+pub struct Id(pub [u8; 20]);
+
+impl Id {
+    /// The id of 40 hexadecimal digits.
+    pub fn from_hex(text: &[u8]) -> Option<Id> {
+        let digit = |b: u8| char::from(b).to_digit(16).map(|d| d as u8);
+        let mut bytes = [0; 20];
+        if text.len() != 40 {
+            return None;
+        }
+        for (byte, pair) in bytes.iter_mut().zip(text.chunks(2)) {
+            *byte = digit(pair[0])? << 4 | digit(pair[1])?;
+        }
+        Some(Id(bytes))
+    }
+}
+
+impl std::fmt::Display for Id {
+    fn fmt(&self, f: &mut std::fmt::Formatter<'_>) -> std::fmt::Result {
+        self.0.iter().try_for_each(|byte| write!(f, "{byte:02x}"))
+    }
+}

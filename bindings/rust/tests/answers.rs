@@ -1,0 +1,166 @@
+//! What the library says of answers, without a network.
+use gixp::{pieces, refs, Error, Id, Kind, Piece, Ref, Session, Step};
+
+fn packet(text: &[u8]) -> Vec<u8> {
+    [format!("{:04x}", text.len() + 4).as_bytes(), text].concat()
+}
+
+fn id(last: u8) -> Id {
+    let mut bytes = [0; 20];
+    bytes[19] = last;
+    Id(bytes)
+}
+
+fn line(last: u8, rest: &str) -> Vec<u8> {
+    packet(format!("{} {rest}\n", id(last)).as_bytes())
+}
+
+/// The refs in front of an error, and the error.
+fn read(answer: &[u8]) -> (Vec<Ref<'_>>, Option<Error>) {
+    let mut error = None;
+    let found = refs(answer).map_while(|r| r.map_err(|e| error = Some(e)).ok()).collect();
+    (found, error)
+}
+
+#[test]
+fn kinds_of_refs() {
+    let answer = [
+        line(1, "HEAD symref-target:refs/heads/main"),
+        line(2, "refs/heads/main"),
+        line(3, "refs/tags/v1 peeled:0000000000000000000000000000000000000004"),
+        packet(b"unborn NEW symref-target:refs/heads/new\n"),
+        b"0000".to_vec(),
+    ]
+    .concat();
+    let (found, error) = read(&answer);
+    assert_eq!(error, None);
+    assert_eq!(
+        found,
+        [
+            Ref::Symbolic { name: b"HEAD", target: b"refs/heads/main", tag: None, object: id(1) },
+            Ref::Direct { name: b"refs/heads/main", object: id(2) },
+            Ref::Peeled { name: b"refs/tags/v1", tag: id(3), object: id(4) },
+            Ref::Unborn { name: b"NEW", target: b"refs/heads/new" },
+        ]
+    );
+}
+
+#[test]
+fn many_refs() {
+    let mut answer = (0..1000).map(|n| line(n as u8, &format!("refs/heads/{n}"))).collect::<Vec<_>>().concat();
+    let (found, error) = read(&answer);
+    assert_eq!((found.len(), error.unwrap().kind()), (1000, Kind::Incomplete));
+    answer.extend_from_slice(b"0000more");
+    let mut all = refs(&answer);
+    assert_eq!(all.by_ref().filter(|r| r.is_ok()).count(), 1000);
+    assert_eq!(all.place(), answer.len() - 4);
+    assert!(all.next().is_none());
+}
+
+#[test]
+fn malformed_packet_lines() {
+    let rows: [(&[u8], u32); 9] = [
+        (b"zzzz", 11),
+        (b"fff1xxxx", 12),
+        (b"0004", 13),
+        (b"0003", 14),
+        (b"000aERR no", 15),
+        (b"0002", 16),
+        (b"", 10),
+        (b"0032ab", 10),
+        (b"0008a b\n", 20),
+    ];
+    for (bad, code) in rows {
+        let answer = [line(1, "HEAD"), bad.to_vec()].concat();
+        let (found, error) = read(&answer);
+        let error = error.unwrap();
+        assert_eq!((found.len(), error.code()), (1, code), "{error}");
+        assert_eq!(error.words(), if code == 15 { b"no".as_slice() } else { b"" });
+        assert!(!error.to_string().is_empty());
+    }
+}
+
+#[test]
+fn bands() {
+    let answer = [packet(b"\x01PACK"), packet(b"\x02half\n"), packet(b"\x01"), packet(b"\x03bad"), b"0000rest".to_vec()].concat();
+    let mut all = pieces(&answer, 0);
+    let found: Vec<_> = all.by_ref().map(Result::unwrap).collect();
+    assert_eq!(found, [Piece::Content(b"PACK"), Piece::Progress(b"half"), Piece::Content(b""), Piece::Error(b"bad")]);
+    assert_eq!(all.place(), answer.len() - 4);
+    for (from, kind) in [(answer.len() + 1, Kind::BadPlace), (usize::MAX, Kind::BadPlace), (answer.len(), Kind::Incomplete)] {
+        assert_eq!(pieces(&answer, from).next().unwrap().unwrap_err().kind(), kind);
+    }
+    assert_eq!(pieces(&packet(b"\x04"), 0).next().unwrap().unwrap_err().kind(), Kind::UnknownBand);
+    assert_eq!(pieces(&answer[..12], 0).filter_map(Result::ok).count(), 1);
+}
+
+fn greeting() -> Vec<u8> {
+    [packet(b"version 2\n"), packet(b"ls-refs=unborn\n"), packet(b"fetch=shallow\n"), b"0000".to_vec()].concat()
+}
+
+#[test]
+fn a_session() {
+    let mut session = Session::new(["refs/heads/*:refs/remotes/o/*"]);
+    assert_eq!(session.step().unwrap_err().kind(), Kind::Answers);
+    session.answer(&greeting());
+    let Step::Request(first) = session.step().unwrap() else { panic!() };
+    assert!(first.starts_with(b"0014command=ls-refs\n"));
+    session.answer(&[line(5, "refs/heads/main"), b"0000".to_vec()].concat());
+    let Step::Request(second) = session.step().unwrap() else { panic!() };
+    assert!(second.windows(45).any(|w| w == format!("want {}", id(5)).as_bytes()));
+    session.answer(&packet(b"packfile\n")[..7]);
+    assert_eq!(session.step().unwrap_err().kind(), Kind::Incomplete);
+    session.more(&[&packet(b"packfile\n")[7..], b"0009\x01PACK"].concat());
+    assert_eq!(session.step(), Ok(Step::Pack(13)));
+    let found: Vec<_> = pieces(session.last(), 13).filter_map(Result::ok).collect();
+    assert_eq!(found, [Piece::Content(b"PACK")]);
+    session.answer(b"0000");
+    assert_eq!(session.step().unwrap_err().code(), 31);
+}
+
+#[test]
+fn nothing_and_refusals() {
+    let mut session = Session::new(["refs/heads/*:refs/remotes/o/*"]);
+    session.have(id(5)).answer(&greeting()).answer(&[line(5, "refs/heads/main"), b"0000".to_vec()].concat());
+    assert_eq!(session.step(), Ok(Step::Nothing));
+    let mut session = Session::new(["refs/heads/*"]);
+    session.answer(&packet(b"ERR go away\n"));
+    let error = session.step().unwrap_err();
+    assert_eq!((error.kind(), error.words()), (Kind::Server, b"go away".as_slice()));
+    let mut session = Session::new(["a:b:c"]);
+    session.answer(&greeting());
+    assert_eq!(session.step().unwrap_err().kind(), Kind::BadSpec);
+}
+
+#[test]
+fn services() {
+    let plain = greeting();
+    let over_http = [packet(b"# service=git-upload-pack\n"), b"0000".to_vec(), plain.clone()].concat();
+    assert_eq!(gixp::without_service(&over_http), plain);
+    assert_eq!(gixp::without_service(&plain), plain);
+    for text in [b"".as_slice(), b"00", b"zzzz", b"0000", b"ffff# service="] {
+        assert_eq!(gixp::without_service(text), text);
+    }
+}
+
+#[test]
+fn mappings() {
+    let names = ["refs/heads/main", "refs/heads/other", "refs/tags/v1"];
+    let all = gixp::map(names, ["+refs/heads/*:refs/remotes/o/*", "^refs/heads/other", "refs/tags/v1"]).unwrap();
+    let found: Vec<_> = all.mappings.iter().map(|m| (m.item, m.spec, m.local.as_deref())).collect();
+    assert_eq!(found, [(Some(0), 0, Some(b"refs/remotes/o/main".as_slice())), (Some(2), 2, None)]);
+    let all = gixp::map(names, ["refs/heads/main:refs/x", "refs/heads/other:refs/x"]).unwrap();
+    assert_eq!((all.mappings.len(), all.conflicts), (0, vec![b"refs/x".to_vec()]));
+    let all = gixp::map(names, ["refs/heads/main:x"]).unwrap();
+    assert_eq!((all.mappings.len(), all.removed.len()), (1, 0));
+    assert_eq!(gixp::map(names, ["a:b:c"]).unwrap_err().kind(), Kind::BadSpec);
+    let many: Vec<_> = (0..1000).map(|n| format!("refs/heads/{n}")).collect();
+    assert_eq!(gixp::map(&many, ["refs/heads/*:refs/a/much/longer/name/of/a/place/*"]).unwrap().mappings.len(), 1000);
+}
+
+#[test]
+fn prefixes() {
+    assert_eq!(gixp::prefixes(["refs/heads/*:refs/remotes/o/*", "^refs/heads/x"]).unwrap(), [b"refs/heads/".to_vec()]);
+    assert_eq!(gixp::prefixes([format!("refs/{}", "x".repeat(999))]).unwrap()[0].len(), 1004);
+    assert_eq!(gixp::prefixes(["a:b:c"]).unwrap_err().kind(), Kind::BadSpec);
+}

@@ -1,0 +1,64 @@
+-- What the exports say, over the contracts of what they call.
+use Rattle.std.specs.Prelude.{◌≡◌, ◌⊎◌, ◌≤◌, ◌<◌, ℕ, List, [], length, Ok, Err}
+use Rattle.gixp_records.specs.declared.span.Span.{Span}
+use Rattle.gixp_records.specs.declared.bands.BandPiece.{BandPiece}
+use Rattle.gixp_records.specs.declared.bands.BandPiece.TheVariants.{Content, Progress, Error, Stop as StopPiece}
+use Rattle.gixp_records.specs.declared.packets.PacketRefused.{PacketRefused}
+use Rattle.gixp_records.specs.declared.packets.PacketRefused.TheVariants.{Server}
+use Rattle.gixp_records.specs.declared.refs.RefRecord.{RefRecord}
+use Rattle.gixp_records.specs.declared.refs.RefsRefused.TheVariants.{Packet}
+use Rattle.gixp_records.specs.declared.refs.RefsEnd.{RefsEnd}
+use Rattle.gixp_records.specs.declared.refs.RefsEnd.TheVariants.{Refused}
+use Rattle.gixp_records.specs.declared.refs.RefsFound.{RefsFound}
+use Rattle.gixp_records.specs.Bands.{IsNextPiece}
+use Rattle.gixp_records.specs.Refs.{ReadsRecords}
+use Rattle.gixp_c.specs.declared.refs.FoundRecord.{FoundRecord}
+use Rattle.gixp_c.specs.declared.bands.PieceRecord.{PieceRecord}
+use Rattle.gixp_c.specs.Codes.{packet_code, end_code}
+
+-- where there is no text
+abbrev pub no_span : Span
+no_span = record { at = 0; len = 0 }
+
+-- where the server's words stand
+abbrev pub words_of : RefsEnd → Span
+words_of (Refused (Packet (Server words))) = words
+words_of _ = no_span
+
+-- the place is behind the bytes, or there is no record; or refs were read
+pub data ExportsRefs (answer : List ℕ) (from : ℕ) (old : List RefRecord) (was : FoundRecord) (code : ℕ) (new : List RefRecord)
+    (now : FoundRecord) : Type 0 where
+  misplaced : length answer < from → code ≡ 3 → new ≡ old → now ≡ was → ExportsRefs answer from old was code new now
+  no_room : old ≡ [] → code ≡ 2 → new ≡ old → now ≡ record was { count = 1 } → ExportsRefs answer from old was code new now
+  read : (found : RefsFound) → from ≤ length answer → ReadsRecords answer from old found new → code ≡ end_code found.end
+      → now ≡ record { count = found.count; next = found.next; words = words_of found.end }
+      → ExportsRefs answer from old was code new now
+
+abbrev pub piece_band : BandPiece → ℕ
+piece_band (StopPiece kind) = 0
+piece_band (Content text) = 1
+piece_band (Progress text) = 2
+piece_band (Error text) = 3
+
+abbrev pub piece_text : BandPiece → Span
+piece_text (StopPiece kind) = no_span
+piece_text (Content text) = text
+piece_text (Progress text) = text
+piece_text (Error text) = text
+
+-- where the server's words stand, or else another text
+abbrev pub words_or : PacketRefused → Span → Span
+words_or (Server words) other = words
+words_or _ other = other
+
+-- what a refusal leaves
+abbrev pub refused_piece : PacketRefused → PieceRecord → PieceRecord
+refused_piece e old = record old { text = words_or e old.text }
+
+-- the place is behind the bytes; or a piece was read, or none is there
+pub data ExportsPiece (answer : List ℕ) (from : ℕ) (old : PieceRecord) (code : ℕ) (new : PieceRecord) : Type 0 where
+  misplaced : length answer < from → code ≡ 3 → new ≡ old → ExportsPiece answer from old code new
+  read : (piece : BandPiece) (next : ℕ) → from ≤ length answer → IsNextPiece answer from (Ok (piece, next)) → code ≡ 0
+      → new ≡ record { band = piece_band piece; text = piece_text piece; next = next } → ExportsPiece answer from old code new
+  refused : (e : PacketRefused) → from ≤ length answer → IsNextPiece answer from (Err e) → code ≡ packet_code e
+      → new ≡ refused_piece e old → ExportsPiece answer from old code new

@@ -1,0 +1,16 @@
+//! The exports for programs in C, Rust and other languages: bytes in, numbers out. No call keeps anything, and each buffer is
+//! the caller's.
+#![tactic(auto)]
+
+mod bands;
+mod code;
+mod map;
+mod next;
+mod refs;
+mod texts;
+
+pub use bands::{PieceRecord, gixp_piece};
+pub use map::{MappedRecord, MappingRecord, gixp_map, gixp_prefixes};
+pub use next::{StepRecord, gixp_next};
+pub use refs::{FoundRecord, gixp_refs};
+pub use texts::gixp_error_text;

@@ -1,0 +1,145 @@
+//! The next request of a session.
+ghost use Rattle.std.specs.Prelude.{◌≡◌, ◌<◌, length};
+
+use crate::code::{NO_ROOM, OK, SERVER, engine_code};
+use crate::texts::copy_text;
+use gix_protocol::fetch::Shallow;
+use gixp_engine::{EngineError, Step, Wishes, ids_of, next_step, specs_of};
+use std::alloc::Global;
+use std::num::NonZeroU32;
+
+/// What a client does next.
+#[repr(C)]
+#[derive(Clone, Copy)]
+pub struct StepRecord {
+    /// 0 where there is nothing to ask for, 1 to send a request, 2 to take the pack.
+    pub kind: u32,
+    /// How long the request is, or the server's own words.
+    pub length: usize,
+    /// Where the pack begins in the answers.
+    pub place: usize,
+}
+
+// How much of the history a depth asks for.
+fn shallow_of(depth: u32) -> Shallow {
+    match NonZeroU32::new(depth) {
+        Some(depth) => Shallow::DepthAtRemote(depth),
+        None => Shallow::NoChange,
+    }
+}
+
+// What a client wants.
+fn wishes_of(
+    alloc: Global,
+    specs: &[u8],
+    haves: &[u8],
+    boundary: &[u8],
+    depth: u32,
+) -> Result<Wishes, EngineError> {
+    Ok(Wishes {
+        specs: specs_of(alloc, specs)?,
+        haves: ids_of(alloc, haves)?,
+        shallow: shallow_of(depth),
+        boundary: ids_of(alloc, boundary)?,
+    })
+}
+
+// What comes next.
+fn step_of(
+    alloc: Global,
+    answers: &[u8],
+    ends: &[usize],
+    specs: &[u8],
+    haves: &[u8],
+    boundary: &[u8],
+    depth: u32,
+) -> Result<Step, EngineError> {
+    next_step(
+        alloc,
+        answers,
+        ends,
+        wishes_of(alloc, specs, haves, boundary, depth)?,
+    )
+}
+
+// Puts the step into the buffer and the record.
+fn tell_step(found: &Step, request: &mut [u8], step: &mut StepRecord) -> u32
+    ensures no_room { result ≡ 2 → (request.new ≡ request.old) × (step.new ≡ record step.old { length = step.new.length })
+        × (length request.old < step.new.length) }
+    ensures few { result < 3 }
+{
+    match found {
+        Step::Nothing => {
+            *step = StepRecord {
+                kind: 0,
+                length: 0,
+                place: 0,
+            };
+            OK
+        }
+        Step::Pack(place) => {
+            *step = StepRecord {
+                kind: 2,
+                length: 0,
+                place: *place,
+            };
+            OK
+        }
+        Step::Request(bytes) => {
+            step.length = bytes.len();
+            if !copy_text(bytes, request) {
+                return NO_ROOM;
+            }
+            step.kind = 1;
+            step.place = 0;
+            OK
+        }
+    }
+}
+
+// Puts the server's own words into the buffer, if it has room for them, and tells the number.
+fn tell_refusal(e: &EngineError, request: &mut [u8], step: &mut StepRecord) -> u32
+    ensures code { 2 < result }
+    ensures step { step.new ≡ record step.old { length = step.new.length } }
+{
+    match e.server_message() {
+        Some(words) => {
+            step.length = words.as_bytes().len();
+            let _ = copy_text(words.as_bytes(), request);
+            SERVER
+        }
+        None => {
+            step.length = 0;
+            engine_code(e)
+        }
+    }
+}
+
+/// Tells what a client does next, of the answers so far: of the first, which a server gives when it is asked for its service, and
+/// of those to each request that this function told (gitprotocol-v2; gitprotocol-pack, "Packfile Negotiation"). They stand one
+/// behind another and end at these places. Refspecs stand one on a line; ids are 20 bytes each. A depth of 0 leaves the boundary
+/// as it is.
+///
+/// 0 where the step is told. 2 where the request has too little room: its length is told, and nothing else is changed. Any other
+/// number says why there is none: 15 that the server sent an error, and `length` is then how long its own words are, which are in
+/// the buffer if it has room.
+#[unsafe(no_mangle)]
+pub extern "C" fn gixp_next(
+    alloc: Global,
+    answers: &[u8],
+    ends: &[usize],
+    specs: &[u8],
+    haves: &[u8],
+    boundary: &[u8],
+    depth: u32,
+    request: &mut [u8],
+    step: &mut StepRecord,
+) -> u32
+    ensures no_room { result ≡ 2 → (request.new ≡ request.old) × (length request.old < step.new.length) }
+    ensures refused { 2 < result → step.new ≡ record step.old { length = step.new.length } }
+{
+    match step_of(alloc, answers, ends, specs, haves, boundary, depth) {
+        Ok(found) => tell_step(&found, request, step),
+        Err(e) => tell_refusal(&e, request, step),
+    }
+}

@@ -1,0 +1,41 @@
+//! A consumer that leaves the pack to its caller.
+ghost use Rattle.std.specs.Prelude.{◌≡◌, Ok, false};
+ghost use Rattle.gixp_engine.specs.Leave.{leaves_owes};
+
+use bstr::BStr;
+use gix_protocol::fetch::{ConsumePack, WithSidebands};
+use gix_protocol::transport::{ExtendedBufRead, Interrupt, Progress, ServerMessage};
+
+/// Reads nothing of a pack, and lets nothing be read behind it.
+#[derive(Clone, Copy, Debug)]
+pub struct LeavePack;
+
+/// Why a pack isn't left: there is no such error.
+#[derive(Clone, Copy, Debug, Drop)]
+pub struct Left;
+
+impl<P> ConsumePack<P> for LeavePack {
+    type Error = Left;
+
+    ghost consumes = { λ c s p r d t q. (r ≡ Ok false) × (t ≡ s) };
+
+    fn consume_pack<T: ExtendedBufRead, Q: Progress + Drop, I: Interrupt>(
+        &mut self,
+        _reader: &mut WithSidebands<'_, T, Q, I>,
+        _progress: &mut P,
+    ) -> Result<bool, Left> {
+        Ok(false)
+    }
+
+    ghost owes = { λ c s p r d t q h. leaves_owes s t h.1 };
+}
+
+impl ServerMessage for Left {
+    ghost use Rattle.std.specs.Prelude.{None};
+
+    ghost message = { λ _. None };
+
+    fn server_message(&self) -> Option<BStr<'_>> {
+        None
+    }
+}

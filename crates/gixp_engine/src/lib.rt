@@ -1,0 +1,13 @@
+//! The next request of a session, of the answers so far: for one who sends and receives himself, as a client over HTTP.
+#![tactic(auto)]
+
+mod consumer;
+mod error;
+mod read;
+mod session;
+mod step;
+
+pub use consumer::{LeavePack, Left};
+pub use error::EngineError;
+pub use read::{ids_of, specs_of};
+pub use step::{Step, Wishes, next_step};

@@ -1,0 +1,5 @@
+pub mod SpanLemmas
+pub mod PacketLemmas
+pub mod RecordLineLemmas
+pub mod PlaceLemmas
+pub mod RefsLemmas

@@ -1,0 +1,76 @@
+-- The refs of an `ls-refs` answer as records (gitprotocol-v2, "ls-refs").
+use Rattle.std.specs.Prelude.{◌≡◌, ℕ, ◌==◌, ◌≤◌, if◌then◌else◌, All, List, [], ◌∷◌, ◌++◌, length, take, drop, map, Some, None, Result, Ok, Err}
+use Rattle.gixp_packetline.specs.declared.protocol.MessageKind.{MessageKind}
+use Rattle.gixp_packetline.specs.declared.protocol.Protocol.TheVariants.{V2}
+use Rattle.gixp_packetline.specs.Lines.{Lines, lines_of, no_lines, before, stop, refusal}
+use Rattle.gixp_refs.specs.Ref.{RefValue, direct, peeled, symbolic, unborn}
+use Rattle.gixp_refs.specs.RefLine.{v2_line}
+use Rattle.gixp_refs.specs.Refs.{AreRefs, stream_refs}
+use Rattle.gixp_records.specs.declared.refs.RefRecord.{RefRecord}
+use Rattle.gixp_records.specs.declared.refs.RefsRefused.{RefsRefused}
+use Rattle.gixp_records.specs.declared.refs.RefsRefused.TheVariants.{Packet, Line}
+use Rattle.gixp_records.specs.declared.refs.RefsEnd.{RefsEnd}
+use Rattle.gixp_records.specs.declared.refs.RefsEnd.TheVariants.{Full, Stop, Refused}
+use Rattle.gixp_records.specs.declared.refs.RefsFound.{RefsFound}
+use Rattle.gixp_records.specs.declared.refs.NextRef.{NextRef}
+use Rattle.gixp_records.specs.declared.refs.NextRef.TheVariants.{Ref, Stop as StopNext}
+use Rattle.gixp_records.specs.Span.{text_at, IsWithin}
+use Rattle.gixp_records.specs.Packets.{pieces_at, refusal_in, AreWordsWithin, IsBehind}
+use Rattle.gixp_records.specs.RecordLine.{Judges}
+
+-- the ref that a record is, with the bytes that its texts stand in; one of no kind is none of a server's, whose names aren't empty
+abbrev pub ref_in : List ℕ → RefRecord → RefValue
+ref_in bytes r =
+    if r.kind == 1 then direct (text_at bytes r.name) r.object
+    else if r.kind == 2 then peeled (text_at bytes r.name) r.tag r.object
+    else if r.kind == 3 then symbolic (text_at bytes r.name) (text_at bytes r.target) None r.object
+    else if r.kind == 4 then symbolic (text_at bytes r.name) (text_at bytes r.target) (Some r.tag) r.object
+    else if r.kind == 5 then unborn (text_at bytes r.name) (text_at bytes r.target)
+    else unborn [] []
+
+abbrev pub refs_in : List ℕ → List RefRecord → List RefValue
+refs_in bytes records = map (ref_in bytes) records
+
+-- its texts stand in the bytes
+abbrev pub IsRecordWithin : List ℕ → RefRecord → Type 0
+IsRecordWithin bytes r = IsWithin bytes r.name × IsWithin bytes r.target
+
+-- the lines of the answer from a place on, up to its stop
+abbrev pub lines_at : List ℕ → ℕ → Lines
+lines_at bytes at = lines_of V2 (pieces_at bytes at)
+
+-- what is refused at a place: there is no line, or it stands for no ref
+abbrev pub IsRefusedAt : List ℕ → ℕ → RefsRefused → Type 0
+IsRefusedAt bytes at (Packet e) = (lines_at bytes at ≡ no_lines (refusal (refusal_in bytes e))) × AreWordsWithin bytes e
+IsRefusedAt bytes at (Line e) = (text : List ℕ) × (rest : Lines) × (lines_at bytes at ≡ before (text ∷ []) rest) × Judges (v2_line text) e
+
+-- the ref of the line at a place, or the stop, or what is refused
+abbrev pub IsNextRef : List ℕ → ℕ → Result NextRef RefsRefused → Type 0
+IsNextRef bytes at (Ok (Ref found next)) = (text : List ℕ) × (lines_at bytes at ≡ before (text ∷ []) (lines_at bytes next))
+    × (v2_line text ≡ Ok (ref_in bytes found)) × IsRecordWithin bytes found × IsBehind bytes at next
+IsNextRef bytes at (Ok (StopNext next)) = (kind : MessageKind) × (lines_at bytes at ≡ no_lines (stop kind (pieces_at bytes next)))
+    × IsBehind bytes at next
+IsNextRef bytes at (Err e) = IsRefusedAt bytes at e
+
+-- the lines from one place to another stand for these refs
+pub record AreLinesTo (bytes : List ℕ) (from next : ℕ) (values : List RefValue) : Type 0 where
+  pub texts : List (List ℕ)
+  pub lines : lines_at bytes from ≡ before texts (lines_at bytes next)
+  pub refs : AreRefs texts values
+  pub in_order : from ≤ next
+  pub within : next ≤ length bytes
+
+-- how a call that read these refs ended
+abbrev pub ReadsUpTo : List ℕ → ℕ → ℕ → List RefValue → RefsEnd → Type 0
+ReadsUpTo bytes from next values Full = AreLinesTo bytes from next values
+ReadsUpTo bytes from next values Stop = (stream_refs (drop from bytes) ≡ Ok values) × (kind : MessageKind) × (at : ℕ)
+    × AreLinesTo bytes from at values × (lines_at bytes at ≡ no_lines (stop kind (pieces_at bytes next))) × IsBehind bytes at next
+ReadsUpTo bytes from next values (Refused e) = AreLinesTo bytes from next values × IsRefusedAt bytes next e
+
+-- the refs of an answer from a place on, in the first records, and no other record changed
+pub record ReadsRecords (bytes : List ℕ) (from : ℕ) (old : List RefRecord) (found : RefsFound) (new : List RefRecord) : Type 0 where
+  pub room : found.count ≤ length new
+  pub full : found.end ≡ Full → found.count ≡ length new
+  pub rest : drop found.count new ≡ drop found.count old
+  pub within : All (IsRecordWithin bytes) (take found.count new)
+  pub ends : ReadsUpTo bytes from found.next (refs_in bytes (take found.count new)) found.end

@@ -1,0 +1,16 @@
+//! Refs and packs as records of numbers: where each text stands in the bytes that a server sent, of which none is copied.
+#![tactic(auto)]
+
+mod bands;
+mod line;
+mod packets;
+mod place;
+mod refs;
+mod span;
+
+pub use bands::{BandPiece, next_piece};
+pub use line::LineRefused;
+pub use packets::PacketRefused;
+pub use place::{behind_header, behind_told};
+pub use refs::{RefRecord, RefsEnd, RefsFound, RefsRefused, read_refs};
+pub use span::Span;

@@ -1,0 +1,211 @@
+//! A line of an `ls-refs` answer, of which nothing is copied (gitprotocol-v2, "ls-refs").
+ghost use Rattle.std.specs.Prelude.{◌≡◌, Ok, Err, MatchResult, IfOk, IfSome, codes, List, ℕ};
+ghost use Rattle.std.specs.Option.{option_map};
+ghost use Rattle.std.specs.Char.{is_whitespace};
+ghost use Rattle.bstr.specs.Trim.{trim_end_by};
+ghost use Rattle.gixp_capabilities.specs.Cut.{cut};
+ghost use Rattle.gixp_capabilities.specs.Capabilities.{is_text};
+ghost use Rattle.gixp_refs.specs.ParseError.{object_of};
+ghost use Rattle.gixp_refs.specs.RefLine.{bad_id, id_value, first_piece, named_attribute, with_attribute, attributes_of, named, v2_line};
+ghost use Rattle.gixp_records.specs.Span.{text_at, IsWithin};
+ghost use Rattle.gixp_records.specs.RecordLine.{Judges, said_in, AreSaidWithin, line_ref_value, IsLineWithin};
+
+use crate::span::{Span, cut_at, text_at};
+use bstr::ByteSlice;
+use gixp_hash::{ObjectId, decode};
+
+/// Why a line of an `ls-refs` answer stands for no ref.
+#[derive(Clone, Copy, Debug, PartialEq, Eq)]
+pub enum LineRefused {
+    /// What should be an object id is none.
+    Id,
+    /// The line lacks its name, or has an attribute without a value.
+    Malformed,
+    /// It has an attribute other than `peeled` and `symref-target`.
+    UnknownAttribute,
+    /// It has no id, and not just a target.
+    Unborn,
+}
+
+// What the attributes of a line say.
+#[derive(Clone, Copy)]
+pub(crate) struct Said {
+    pub(crate) target: Option<Span>,
+    pub(crate) peeled: Option<ObjectId>,
+}
+
+// What a line says.
+#[derive(Clone, Copy)]
+pub(crate) struct LineRef {
+    pub(crate) object: Option<ObjectId>,
+    pub(crate) name: Span,
+    pub(crate) said: Said,
+}
+
+// The id that a text is, or why it is none.
+#[inline(always)]
+fn id_in(text: &[u8]) -> Result<ObjectId, decode::Error>
+    ensures { MatchResult result (λ id. id_value text.now ≡ Ok id.bytes) (λ e. id_value text.now ≡ Err (bad_id e)) }
+{
+    ObjectId::from_hex(text)
+}
+
+#[inline(always)]
+fn read_id(text: &[u8]) -> Result<ObjectId, LineRefused>
+    ensures { MatchResult result (λ id. id_value text.now ≡ Ok id.bytes) (Judges (id_value text.now)) }
+{
+    match id_in(text) {
+        Ok(id) => Ok(id),
+        Err(_) => Err(LineRefused::Id),
+    }
+}
+
+// An id, or none for `unborn`.
+#[inline(always)]
+fn read_first(text: &[u8]) -> Result<Option<ObjectId>, LineRefused>
+    ensures { MatchResult result (λ id. first_piece text.now ≡ Ok (object_of id)) (Judges (first_piece text.now)) }
+{
+    if text == b"unborn".as_slice() {
+        return Ok(None);
+    }
+    match read_id(text) {
+        Ok(id) => Ok(Some(id)),
+        Err(e) => Err(e),
+    }
+}
+
+// One more attribute, by its name and its value, beside those that were there.
+fn name_attribute(bytes: &[u8], name: &[u8], value: Span, had: Said) -> Result<Said, LineRefused>
+    requires value { IsWithin bytes.now value }
+    requires had { AreSaidWithin bytes.now had }
+    ensures said { (line : List ℕ) → MatchResult result
+        (λ said. named_attribute line name.now (text_at bytes.now value) (said_in bytes.now had) ≡ Ok (said_in bytes.now said))
+        (Judges (named_attribute line name.now (text_at bytes.now value) (said_in bytes.now had))) }
+    ensures within { IfOk result (AreSaidWithin bytes.now) }
+{
+    if name == b"peeled".as_slice() {
+        return match read_id(text_at(bytes, value)) {
+            Ok(id) => Ok(Said {
+                target: had.target,
+                peeled: Some(id),
+            }),
+            Err(e) => Err(e),
+        };
+    }
+    if name == b"symref-target".as_slice() {
+        return Ok(Said {
+            target: Some(value),
+            peeled: had.peeled,
+        });
+    }
+    Err(LineRefused::UnknownAttribute)
+}
+
+// One more attribute of the line, beside those that it had.
+fn read_attribute(bytes: &[u8], piece: Span, had: Said) -> Result<Said, LineRefused>
+    requires piece { IsWithin bytes.now piece }
+    requires had { AreSaidWithin bytes.now had }
+    ensures said { (line : List ℕ) → MatchResult result
+        (λ said. with_attribute line (text_at bytes.now piece) (said_in bytes.now had) ≡ Ok (said_in bytes.now said))
+        (Judges (with_attribute line (text_at bytes.now piece) (said_in bytes.now had))) }
+    ensures within { IfOk result (AreSaidWithin bytes.now) }
+{
+    let (name, value) = cut_at(bytes, piece, b':');
+    match value {
+        Some(value) => {
+            if value.len == 0 {
+                return Err(LineRefused::Malformed);
+            }
+            name_attribute(bytes, text_at(bytes, name), value, had)
+        }
+        None => Err(LineRefused::Malformed),
+    }
+}
+
+// The attributes after a name.
+fn read_attributes(bytes: &[u8], rest: Option<Span>) -> Result<Said, LineRefused>
+    requires { IfSome rest (IsWithin bytes.now) }
+    ensures said { (line : List ℕ) → MatchResult result
+        (λ said. attributes_of line (option_map (text_at bytes.now) rest) ≡ Ok (said_in bytes.now said))
+        (Judges (attributes_of line (option_map (text_at bytes.now) rest))) }
+    ensures within { IfOk result (AreSaidWithin bytes.now) }
+{
+    let none = Said {
+        target: None,
+        peeled: None,
+    };
+    let rest = match rest {
+        Some(rest) => rest,
+        None => return Ok(none),
+    };
+    let (third, fourth) = cut_at(bytes, rest, b' ');
+    let first = match read_attribute(bytes, third, none) {
+        Ok(first) => first,
+        Err(e) => return Err(e),
+    };
+    match fourth {
+        Some(fourth) => read_attribute(bytes, fourth, first),
+        None => Ok(first),
+    }
+}
+
+// Where the line stands without the white space at its end.
+#[inline(always)]
+fn trimmed(bytes: &[u8], line: Span) -> Span
+    requires { IsWithin bytes.now line }
+    ensures text { text_at bytes.now result ≡ trim_end_by is_whitespace (text_at bytes.now line) }
+    ensures within { IsWithin bytes.now result }
+{
+    let text = text_at(bytes, line);
+    Span {
+        at: line.at,
+        len: text.trim_end().len(),
+    }
+}
+
+// What the line says behind its id.
+#[inline(always)]
+fn read_named(bytes: &[u8], object: Option<ObjectId>, rest: Span) -> Result<LineRef, LineRefused>
+    requires { IsWithin bytes.now rest }
+    ensures said { (line : List ℕ) → MatchResult result
+        (λ l. named line (object_of object) (cut 32 (text_at bytes.now rest)) ≡ line_ref_value bytes.now l)
+        (Judges (named line (object_of object) (cut 32 (text_at bytes.now rest)))) }
+    ensures within { IfOk result (IsLineWithin bytes.now) }
+{
+    let (name, rest) = cut_at(bytes, rest, b' ');
+    if name.len == 0 {
+        return Err(LineRefused::Malformed);
+    }
+    match read_attributes(bytes, rest) {
+        Ok(said) => Ok(LineRef { object, name, said }),
+        Err(e) => Err(e),
+    }
+}
+
+// What a line says, or why it says nothing.
+#[inline(always)]
+pub(crate) fn read_line(bytes: &[u8], line: Span) -> Result<LineRef, LineRefused>
+    requires { IsWithin bytes.now line }
+    ensures said { MatchResult result
+        (λ l. v2_line (text_at bytes.now line) ≡ line_ref_value bytes.now l)
+        (Judges (v2_line (text_at bytes.now line))) }
+    ensures within { IfOk result (IsLineWithin bytes.now) }
+{
+    let (first, rest) = cut_at(bytes, trimmed(bytes, line), b' ');
+    let rest = match rest {
+        Some(rest) => rest,
+        None => return Err(LineRefused::Malformed),
+    };
+    match read_first(text_at(bytes, first)) {
+        Ok(object) => read_named(bytes, object, rest),
+        Err(e) => Err(e),
+    }
+}
+
+// Whether a target is the word for none.
+#[inline(always)]
+pub(crate) fn is_null(target: &[u8]) -> bool
+    ensures { result ≡ is_text target.now (codes "(null)") }
+{
+    target == b"(null)".as_slice()
+}

@@ -1,0 +1,98 @@
+//! What the helper is told when it begins: the URL, variables and settings.
+use crate::shell::Shell;
+use crate::trouble::Trouble;
+use bstr::BString;
+use gix_protocol::transport::Protocol;
+use gixp_fetch_parts::Haves;
+use gixp_remote_parts::Settings;
+use std::alloc::Global;
+use std::env;
+
+/// A variable of the environment, none where it isn't set.
+pub(crate) fn variable(rt: &HostRuntime, name: &str) -> Option<String> {
+    match env::var(rt, name) {
+        Ok(value) => Some(value),
+        Err(_) => None,
+    }
+}
+
+/// The words behind the program's name: the URL, and the name of the helper's folder.
+pub(crate) fn url_of(rt: &HostRuntime) -> Result<(String, String), Trouble> {
+    let mut words = env::args(rt)?.skip(1);
+    match (words.next(), words.next()) {
+        (Some(url), Some(folder)) => Ok((url, folder)),
+        _ => Err(Trouble::Other("there is no URL")),
+    }
+}
+
+/// The text of the user's settings.
+pub(crate) fn settings_text(rt: &HostRuntime, shell: &mut Shell) -> Result<Vec<u8>, Trouble> {
+    let told = shell.git(rt, &[b"config", b"--list", b"--null"])?;
+    if told.status == 0 {
+        Ok(told.text)
+    } else {
+        Err(Trouble::Other("git can't read its settings"))
+    }
+}
+
+/// The version of the protocol that is asked for.
+pub(crate) fn version_of(rt: &HostRuntime, settings: &Settings<'_>) -> Protocol {
+    if let Some(word) = variable(rt, "GIXP_VERSION") {
+        return protocol_of(word.as_bytes());
+    }
+    match settings.value(b"protocol.version") {
+        Some(word) => protocol_of(word),
+        None => Protocol::V2,
+    }
+}
+
+// The version that a word names.
+fn protocol_of(word: &[u8]) -> Protocol {
+    match word {
+        b"0" => Protocol::V0,
+        b"1" => Protocol::V1,
+        _ => Protocol::V2,
+    }
+}
+
+/// The text of a version where it isn't 0.
+pub(crate) fn version_word(version: Protocol) -> Option<&'static [u8]> {
+    match version {
+        Protocol::V0 => None,
+        Protocol::V1 => Some(b"version=1"),
+        Protocol::V2 => Some(b"version=2"),
+    }
+}
+
+/// Who chooses the haves.
+pub(crate) fn haves_of(rt: &HostRuntime, settings: &Settings<'_>) -> Haves {
+    use gix_protocol::fetch::negotiate::Algorithm;
+    if let Some(word) = variable(rt, "GIXP_NEGOTIATOR") {
+        return match Algorithm::from_name(word.as_str()) {
+            Some(algorithm) => Haves::By(algorithm),
+            None => Haves::InOrder,
+        };
+    }
+    match settings.value(b"fetch.negotiationalgorithm") {
+        Some(b"noop") => Haves::By(Algorithm::Noop),
+        Some(b"skipping") => Haves::By(Algorithm::Skipping),
+        _ => Haves::InOrder,
+    }
+}
+
+/// Whether the user named the server: a transport that another program chose is told so.
+pub(crate) fn is_from_user(rt: &HostRuntime) -> bool {
+    match variable(rt, "GIT_PROTOCOL_FROM_USER") {
+        Some(word) => !matches!(word.as_bytes(), b"" | b"0" | b"false" | b"no" | b"off"),
+        None => true,
+    }
+}
+
+/// A text of its own.
+pub(crate) fn joined(alloc: Global, parts: &[&[u8]]) -> Result<BString, Trouble> {
+    let mut text = Vec::new(alloc);
+    for part in parts {
+        text.extend_from_slice(*part)?;
+    }
+    Ok(BString::from(text))
+}

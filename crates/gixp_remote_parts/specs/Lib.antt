@@ -1,0 +1,5 @@
+pub mod Requests
+pub mod Dialogue
+pub mod Config
+pub mod Quoting
+pub mod Taken

@@ -1,0 +1,4 @@
+pub mod Text
+pub mod Decoded
+pub mod Host
+pub mod Url

@@ -1,0 +1,69 @@
+#!/usr/bin/env python3
+"""Compares the declarations of include/gixp.h with the exports of crates/gixp_c: names, parameters, and the fields of records.
+Prints what differs, and ends with 1 where something does."""
+import pathlib
+import re
+import sys
+
+TOP = pathlib.Path(__file__).resolve().parent.parent
+# What a parameter or field of the exports is in C.
+PLAIN = {"u8": "uint8_t", "u32": "uint32_t", "usize": "size_t", "Span": "gixp_span", "RefRecord": "gixp_ref",
+         "FoundRecord": "gixp_found", "PieceRecord": "gixp_piece_record", "StepRecord": "gixp_step",
+         "MappingRecord": "gixp_mapping", "MappedRecord": "gixp_mapped"}
+
+
+def sources():
+    for crate in ("gixp_c", "gixp_records"):
+        for file in sorted((TOP / "crates" / crate / "src").glob("*.rt")):
+            yield file.read_text()
+
+
+def in_c(type_):
+    """-> the types of the C parameters that a parameter of this type is."""
+    if type_ == "Global":
+        return []
+    array = re.fullmatch(r"\[(\w+); (\d+)\]", type_)
+    if array:
+        return [PLAIN[array.group(1)] + "[%s]" % array.group(2)]
+    slice_ = re.fullmatch(r"&(mut )?\[(\w+)\]", type_)
+    if slice_:
+        return [("" if slice_.group(1) else "const ") + PLAIN[slice_.group(2)] + " *", "size_t"]
+    one = re.fullmatch(r"&mut (\w+)", type_)
+    if one:
+        return [PLAIN[one.group(1)] + " *"]
+    return [PLAIN[type_]]
+
+
+def exports():
+    functions, records = {}, {}
+    for text in sources():
+        for name, parameters, result in re.findall(r'extern "C" fn (\w+)\((.*?)\) -> (\w+)', text, re.S):
+            types = re.findall(r"\w+: ([^,]+(?:\[[^]]*\])?),?\s", parameters + "\n")
+            functions[name] = PLAIN[result], [c for t in types for c in in_c(t.strip())]
+        for name, fields in re.findall(r"#\[repr\(C\)\].*?pub struct (\w+) \{(.*?)\n\}", text, re.S):
+            records[PLAIN[name]] = [(f, *in_c(t)) for f, t in re.findall(r"pub (\w+): ([^,]+),", fields)]
+    return functions, records
+
+
+def header():
+    text = re.sub(r"/\*.*?\*/", "", (TOP / "include/gixp.h").read_text(), flags=re.S)
+    functions, records = {}, {}
+    for result, name, parameters in re.findall(r"^(\w+) (gixp_\w+)\((.*?)\);", text, re.S | re.M):
+        functions[name] = result, [re.fullmatch(r"(.*?)\w+", " ".join(p.split())).group(1).strip() for p in parameters.split(",")]
+    for fields, name in re.findall(r"typedef struct \w+ \{(.*?)\} (\w+);", text, re.S):
+        records[name] = [(f, t + n) for t, f, n in re.findall(r"(\w+) (\w+)(\[\d+\])?;", re.sub(r"(\w+), (\w+);", r"\1; size_t \2;", fields))]
+    return functions, records
+
+
+def main():
+    (functions, records), (declared, structs) = exports(), header()
+    wrong = [f"{name}: {functions.get(name)} exported, {declared.get(name)} declared"
+             for name in sorted(functions.keys() | declared.keys()) if functions.get(name) != declared.get(name)]
+    wrong += [f"{name}: {records.get(name)} exported, {structs.get(name)} declared"
+              for name in sorted(records.keys() | structs.keys()) if records.get(name) != structs.get(name)]
+    print("\n".join(wrong) or f"{len(functions)} exports and {len(records)} records are as the header has them")
+    return bool(wrong)
+
+
+if __name__ == "__main__":
+    sys.exit(main())
