@@ -16,7 +16,7 @@ use gixp_fetch_command::repository::Repository;
 use gixp_fetch_command::session::{Asked, Session, Sink};
 use gixp_fetch_command::shown::Shown;
 use gixp_fetch_command::{negotiate, unless_failed};
-use gixp_fetch_parts::{Haves, Wish};
+use gixp_fetch_parts::{Haves, PackPlace, Wish};
 use gixp_remote_parts::{
     Boundary, Choices, Program, Request, Start, Taking, Task, added, boundary_after, is_true,
 };
@@ -242,19 +242,17 @@ pub(crate) fn shown_of<'a>(
     }
 }
 
-// Fetches over a session.
-fn fetch_over(
+// Fetches over a session, and gives the new boundary.
+fn fetch_over<P: PackPlace + Drop>(
     rt: &HostRuntime,
-    shell: &mut Shell,
     session: &mut Session<'static, Wire>,
     asked: Asked<'_>,
     repository: &mut Repository,
-    plan: PackPlan,
+    place: P,
     shown: &mut Shown<'_>,
 ) -> Result<Vec<ObjectId>, Failure> {
     let alloc = rt.alloc();
     let boundary = Vec::from_slice(alloc, &repository.boundary)?;
-    let place = IndexedPack::new(rt.clone()?, shell, plan);
     let mut sink = Sink {
         boundary: ShallowMemory::new(boundary),
         pack: PackReceiver::new(alloc, place),
@@ -286,7 +284,7 @@ fn refused(kind: ErrorKind) -> Failure {
 }
 
 // Waits until the pack is indexed that came, and gives the new boundary.
-fn keep_pack(alloc: Global, sink: &mut Sink<IndexedPack<'_>>) -> Result<Vec<ObjectId>, Failure> {
+fn keep_pack<P: PackPlace>(alloc: Global, sink: &mut Sink<P>) -> Result<Vec<ObjectId>, Failure> {
     match sink.pack.keep() {
         Ok(_) => {}
         Err(e) => return Err(refused(e.kind())),
@@ -314,13 +312,13 @@ fn fetch_by(
     let plan = plan.copy(alloc)?;
     let has_failed = Cell::new(false);
     let mut shown = shown_of(order.reach.rt, order.choices.tells_progress(), &has_failed);
+    let place = IndexedPack::new(order.reach.rt.clone()?, shell, plan);
     let boundary = fetch_over(
         order.reach.rt,
-        shell,
         session,
         asked,
         repository,
-        plan,
+        place,
         &mut shown,
     )?;
     let kept = match shell.pack {
