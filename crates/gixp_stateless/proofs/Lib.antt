@@ -1,0 +1,2 @@
+pub mod AnswersLemmas
+pub mod FrameEndLemmas
