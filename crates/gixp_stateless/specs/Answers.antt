@@ -47,7 +47,7 @@ ReadsDigits old new (Ok false) = Keeps old new
 ReadsDigits old new (Err e) = Keeps old new
 
 -- a call that gives what it can, or nothing
-abbrev pub Steps : {E : Type 0} → Option (List ℕ) → Option (List ℕ) → List ℕ → Result (Option ℕ) E → Type 0
-Steps old new buf (Ok (Some n)) = (n ≤ length buf) × Consumes old new (take n buf) × (n ≡ 0 → IsAtEnd new)
-Steps old new buf (Ok None) = Keeps old new
-Steps old new buf (Err e) = Keeps old new
+abbrev pub GivesOrSteps : {E : Type 0} → Option (List ℕ) → Option (List ℕ) → List ℕ → Result (Option ℕ) E → Type 0
+GivesOrSteps old new buf (Ok (Some n)) = (n ≤ length buf) × Consumes old new (take n buf) × (n ≡ 0 → IsAtEnd new)
+GivesOrSteps old new buf (Ok None) = Keeps old new
+GivesOrSteps old new buf (Err e) = Keeps old new

@@ -4,7 +4,7 @@ ghost use Rattle.std.specs.Option.{option_map};
 ghost use Rattle.std.specs.Io.{ReadsAtMost};
 ghost use Rattle.std.specs.Io.KnownBytes.{Consumes, ReadConsumes};
 ghost use Rattle.gixp_packetline.specs.Frames.{size_of};
-ghost use Rattle.gixp_stateless.specs.Answers.{next_of, without_ends, told_from, to_come, ReadsDigits, Steps};
+ghost use Rattle.gixp_stateless.specs.Answers.{next_of, without_ends, told_from, to_come, ReadsDigits, GivesOrSteps};
 
 use crate::place::{Answers, Next};
 use hex;
@@ -121,7 +121,7 @@ impl<R: Read> Answers<R> {
     // Gives what it can, or takes a step without it.
     fn step(&mut self, buf: &mut [u8]) -> io::Result<Option<usize>>
         requires { 0 < length buf.old }
-        ensures { Steps (to_come R.remaining self.old) (to_come R.remaining self.new) buf.new result }
+        ensures { GivesOrSteps (to_come R.remaining self.old) (to_come R.remaining self.new) buf.new result }
     {
         match self.next {
             Next::Line => {
