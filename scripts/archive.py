@@ -15,5 +15,6 @@ sys.path.insert(0, str(KIT / "bin"))
 import rtlib
 
 crate = rtlib.Crate(str(TOP / "crates" / "gixp_c"), str(TOP), {})
+(Path(crate.folder) / "out").mkdir(exist_ok=True)
 words = [*crate.words(["--jobs", "1"], keeps=False), "--toolchain", str(KIT / "toolchain"), "--backend", "llvm"]
 sys.exit(subprocess.run([rtlib.RATTLE, "build", *words, "-o", "out/libgixp_c.a"], cwd=crate.folder).returncode)
