@@ -1,9 +1,9 @@
 #!/usr/bin/env python3
-"""Times `git clone` and `git fetch` through gixp_fetch_pack and git-remote-gixp against git's own, over pipes.
+"""Times `git clone` and `git fetch` through gixp_remote and git-remote-gixp against git's own, over pipes.
 
 Usage: live.py PROGRAM [RUNS]
 
-PROGRAM is the built gixp_fetch_pack (`rt run` in crates/gixp_fetch_pack leaves it in out/). A clone is one of a pack of 300 MiB,
+PROGRAM is the built gixp_remote (`rt run` in crates/gixp_remote leaves it in out/). A clone is one of a pack of 300 MiB,
 into a bare repository; a fetch is one of 100 commits into 200,000. git takes each by file://, which is git upload-pack over
 pipes. Each is done RUNS times in turn, and the best time of each counts. GNU time measures the memory of the program alone.
 """
@@ -45,14 +45,14 @@ class Bench:
         self.room, self.runs = room, runs
         tools = room / "tools"
         tools.mkdir()
-        shutil.copy(TOP / "crates" / "gixp_fetch_pack" / "git-remote-gixp", tools)
+        shutil.copy(TOP / "crates" / "gixp_remote" / "git-remote-gixp", tools)
         self.memory = room / "memory"
         measured = tools / "measured"
         measured.write_text(f'#!/bin/sh\nexec time -a -o "{self.memory}" -f %M "{program}" "$@"\n')
         measured.chmod(0o755)
         self.environment = {
             **{name: value for name, value in os.environ.items() if not name.startswith("GIT_")},
-            "PATH": f"{tools}:{os.environ['PATH']}", "HOME": str(room), "TMPDIR": str(room), "GIT_CONFIG_NOSYSTEM": "1", "GIXP_FETCH_PACK": str(measured), "LC_ALL": "C",
+            "PATH": f"{tools}:{os.environ['PATH']}", "HOME": str(room), "TMPDIR": str(room), "GIT_CONFIG_NOSYSTEM": "1", "GIXP_REMOTE": str(measured), "LC_ALL": "C",
         }
         self.git("config", "--global", "gc.auto", "0")
         self.git("config", "--global", "maintenance.auto", "false")

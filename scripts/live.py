@@ -1,9 +1,10 @@
 #!/usr/bin/env python3
 """Clones and fetches real repositories by the program gixp_fetch_pack, beside git.
 
-Usage: live.py [--program PATH] [--keep FOLDER] [--only WORD] [--jobs N] [--again]
+Usage: live.py [--program PATH] [--remote PATH] [--keep FOLDER] [--only WORD] [--jobs N] [--again]
 
-PATH is the program, else what `rt run` left in crates/gixp_fetch_pack/out. The remote helper beside its crate is tried with it.
+The PATHs are the programs gixp_fetch_pack and gixp_remote, else what `rt run` left in their crates' out/. The remote helper beside
+the second's crate is tried with it.
 Repositories are made on the spot: empty ones, one commit, 2,000 commits with merges, equal and backward dates, annotated and
 nested tags, symbolic and hidden refs, shallow ones. Each action is done twice, by git over file:// and by git over gixp::, and
 must leave the same refs and the same boundary, and a repository that `git fsck --strict` finds whole. So must servers whose
@@ -22,6 +23,7 @@ import random
 import re
 import shlex
 import shutil
+import signal
 import socket
 import subprocess
 import sys
@@ -30,6 +32,7 @@ import time
 
 TOP = pathlib.Path(__file__).resolve().parent.parent
 CRATE = TOP / "crates" / "gixp_fetch_pack"
+REMOTE = TOP / "crates" / "gixp_remote"
 VERSIONS = ("2", "1", "0")
 REAL_SPEC = "+refs/heads/*:refs/remotes/origin/*"
 TIMEOUT = 60
@@ -39,20 +42,20 @@ F_SETPIPE_SZ = 1031
 class Tester:
     """Tries a case in a folder of its own; the one with jobs begins all others, and counts what they found."""
 
-    def __init__(self, room, program, only=None, jobs=None):
-        self.room, self.program, self.only = room, program, only
+    def __init__(self, room, program, remote, only=None, jobs=None):
+        self.room, self.program, self.remote, self.only = room, program, remote, only
         self.passed, self.failed, self.made = 0, 0, itertools.count(1)
         self.pool = concurrent.futures.ThreadPoolExecutor(jobs) if jobs else None
         self.cases, self.told = [], []
         room.mkdir(parents=True, exist_ok=True)
         tools = room / "tools"
         tools.mkdir()
-        shutil.copy(CRATE / "git-remote-gixp", tools / "git-remote-gixp")
+        shutil.copy(REMOTE / "git-remote-gixp", tools / "git-remote-gixp")
         (room / "home").mkdir()
         self.environment = {
             **{name: value for name, value in os.environ.items() if not name.startswith("GIT_")},
             "PATH": f"{tools}:{os.environ['PATH']}", "HOME": str(room / "home"), "GIT_CONFIG_NOSYSTEM": "1", "TMPDIR": str(room),
-            "GIXP_FETCH_PACK": str(program), "GIT_TERMINAL_PROMPT": "0", "LC_ALL": "C",
+            "GIXP_REMOTE": str(remote), "GIT_TERMINAL_PROMPT": "0", "LC_ALL": "C",
             "GIT_AUTHOR_NAME": "x", "GIT_AUTHOR_EMAIL": "a@b", "GIT_COMMITTER_NAME": "x", "GIT_COMMITTER_EMAIL": "a@b",
         }
         self.git("config", "--global", "init.defaultBranch", "main")
@@ -89,7 +92,7 @@ class Tester:
             self.cases.append((given, self.pool.submit(self.try_case, given)))
 
     def try_case(self, given):
-        return one_case(Tester(self.folder("case"), self.program), *given)
+        return one_case(Tester(self.folder("case"), self.program, self.remote), *given)
 
     def finish(self, again):
         """Waits for all cases, and counts them. Tries one that failed again, if it is to be, once no other is tried."""
@@ -657,7 +660,7 @@ def over_ssh(name, t, server):
 
 def connections(name, t, prepare):
     """How many connections a clone, a fetch and a list make, by the version that is asked for and the one that is spoken."""
-    servers = (("2", "2", 0, 1), ("1", "1", 0, 2), ("0", "0", 0, 2), ("2", "1", 0, 2), ("2", "0", 0, 2), ("2", "2", 100, 1), ("2", "2", 5000, 2))
+    servers = (("2", "2", 0, 1), ("1", "1", 0, 1), ("0", "0", 0, 1), ("2", "1", 0, 1), ("2", "0", 0, 1), ("2", "2", 100, 1), ("2", "2", 5000, 1))
     for asked, spoken, pad, count in servers:
         server, starts = prepare(), t.folder("starts")
         more = {**ssh(STARTS=starts, VERSION=spoken, **({"PAD": pad} if pad else {})), "GIXP_VERSION": asked}
@@ -697,7 +700,7 @@ def refuses_helper(name, t, server):
     version = frame(b"version 2\n")
     for number, (said, wanted) in enumerate((
         (frame(b"ERR access denied\n"), "access denied"), (GREETING + frame(b"ERR access denied\n"), "access denied"),
-        (b"", ""), (b"0", ""), (b"<html>" * 9, ""), (b"\x00" * 100, "NUL"), (version + frame(b"agent=a\x00b\n") + b"0000", "NUL"),
+        (b"", ""), (b"0", ""), (b"<html>" * 9, ""), (b"\x00" * 100, ""), (version + frame(b"agent=a\x00b\n") + b"0000", ""),
         (version + b"0002", ""), (version + b"zzzz" * 9, ""), (version + b"ffff", ""), (version + b"0003", ""), (version, ""),
         (GREETING + b"zzzz", ""), (GREETING + b"000", ""),
     )):
@@ -727,7 +730,7 @@ def over_daemon(name, t, server):
             same(t, f"{name}: clone, version {version}", by_git, by_us, first, second)
             # one of them is git's
             count = log.read_text().count("Request upload-pack")
-            t.check(f"{name}: connections, version {version}", count == (2 if version == "2" else 3), log.read_text())
+            t.check(f"{name}: connections, version {version}", count == 2, log.read_text())
             if version == "2":
                 grow(t, server, 3, seed=90)
                 first, second = t.run("git", "fetch", "-q", at=by_git), t.run("git", "fetch", "-q", at=by_us)
@@ -917,7 +920,62 @@ def says(name, t):
     t.check(f"{name}: two lines of an error", "fatal: remote error: one\nremote: fatal: two\n" in err, err)
 
 
+def running(word, room):
+    """The processes with this word among theirs that stand in this room, or were started for it."""
+    found = []
+    for process in pathlib.Path("/proc").glob("[0-9]*"):
+        try:
+            words = (process / "cmdline").read_bytes().decode("latin1").split("\0")
+            place = os.readlink(process / "cwd") + " " + " ".join(words)
+            if str(room) in place and any(word in one.split("/")[-1] for one in words[:3]):
+                found.append(int(process.name))
+        except OSError:
+            pass
+    return found
+
+
+def is_left(t, client):
+    """What a fetch that was ended left behind: processes, folders, locks."""
+    for _ in range(60):
+        processes = [id for word in ("git-remote-gixp", t.remote.name, "index-pack", "upload-pack", "rev-list") for id in running(word, t.room)]
+        left = [*client.glob("objects/pack/*.keep"), *client.glob("objects/pack/tmp_*"), *client.glob("objects/tmp_objdir*"), *client.glob("*.lock"), *t.room.glob("gixp.*")]
+        if not processes and not left:
+            return ""
+        time.sleep(0.1)
+    return f"{processes} {left}"
+
+
+def killed(name, t, who, hard):
+    """One of the processes of a fetch is ended, at 20 moments of it."""
+    server = make(t, "server", 400)
+    for number in range(20):
+        client = make(t, "client", 0)
+        words = ["git", "fetch", "-q", *(["--depth", "3"] if number % 2 else []), f"gixp::file://{server}", "main:refs/x/m"]
+        begun = subprocess.Popen(words, cwd=client, env=t.environment, stdout=subprocess.DEVNULL, stderr=subprocess.DEVNULL, start_new_session=True)
+        time.sleep(0.004 * number)
+        for _ in range(200):
+            found = [begun.pid] if who == "git" else running(who, t.room)
+            if found or begun.poll() is not None:
+                break
+        for one in found:
+            try:
+                os.kill(one, signal.SIGKILL if hard else signal.SIGTERM)
+            except OSError:
+                pass
+        try:
+            begun.wait(20)
+        except subprocess.TimeoutExpired:
+            begun.kill()
+            t.check(f"{name}, moment {number}", False, "no end")
+            continue
+        left = is_left(t, client)
+        clean = t.run("git", "fsck", "--connectivity-only", at=client)[0] == 0
+        t.check(f"{name}, moment {number}", not left and clean, left)
+
+
 def try_harm(t):
+    for who, hard in (("git-remote-gixp", False), (t.remote.name, False), (t.remote.name, True), ("index-pack", False), ("index-pack", True), ("upload-pack", False), ("git", False), ("git", True)):
+        t.case(f"a kill of {who}{', at once' if hard else ''}", killed, who, hard)
     for name, action in (("a linked work tree", work_trees), ("a shallow server", shallow_servers), ("a spoiled boundary", spoiled_boundaries), ("a locked boundary", locked_boundary), ("evil objects", evil_objects),
                          ("locks of packs", locks_of_packs), ("the server's environment", environments), ("dates", dates), ("what a server says", says)):
         t.case(name, action)
@@ -1070,17 +1128,19 @@ def main():
         return as_ssh()
     parser = argparse.ArgumentParser(description=__doc__.splitlines()[0])
     parser.add_argument("--program", type=pathlib.Path, default=CRATE / "out" / "gixp_fetch_pack")
+    parser.add_argument("--remote", type=pathlib.Path, default=REMOTE / "out" / "gixp_remote")
     parser.add_argument("--keep", type=pathlib.Path, help="a folder for all that is made, which stays")
     parser.add_argument("--only", help="only what has this word in its name")
     parser.add_argument("--jobs", type=int, default=os.cpu_count(), help="how many cases at once")
     parser.add_argument("--again", action="store_true", help="try a case that failed once more, when no other is tried, and count that: a loaded machine is late")
     given = parser.parse_args()
-    program = given.program.resolve()
-    if not os.access(program, os.X_OK):
-        sys.exit(f"no program {program}: `rt run` in crates/gixp_fetch_pack builds it")
+    program, remote = given.program.resolve(), given.remote.resolve()
+    for one in (program, remote):
+        if not os.access(one, os.X_OK):
+            sys.exit(f"no program {one}: `rt run` in crates/{one.name} builds it")
     with tempfile.TemporaryDirectory() as temporary:
         room = (given.keep or pathlib.Path(temporary) / "room").resolve()
-        t = Tester(room, program, given.only, given.jobs)
+        t = Tester(room, program, remote, given.only, given.jobs)
         began = time.time()
         try_clones(t)
         try_fetches(t)
@@ -1106,7 +1166,7 @@ def main():
         t.case("reports", reports, server)
         t.case("what becomes of refs", modes, server)
         t.case("errors", refuses, server)
-        conversation = recorded(t, server)
+        conversation = recorded(t, server) if not given.only or "dies" in given.only else b"0000" * 99
         t.case("a server that dies", dies, server, conversation)
         t.case("a server that dies on the helper", dies_later, server, conversation)
         t.case("errors to the helper", refuses_helper, server)
