@@ -5,12 +5,14 @@ Usage: counts.py [--write]
 
 Prints each number that is wrong, with its file and line, and each sentence that isn't there any more. Beside the sentences below, a
 number in front of `rows`, `tests`, `crates`, `edits`, `must-fail edits` or `public functions` has to be that of the whole repository,
-but for one that a sentence below has, and for a line that names a commit, whose numbers are of that. The status is 1 where there is
-such a number. With `--write` it writes the right numbers into the documents.
+but for one that a sentence below has, and for a line that names a commit, whose numbers are of that. What a crate's README says in a
+line `Depends on ..; used by ..` has to be what crates.txt says. The status is 1 where there is something wrong. With `--write` it
+writes what is right into the documents.
 """
 import re
 import subprocess
 import sys
+from functools import cache
 from pathlib import Path
 
 TOP = Path(__file__).resolve().parent.parent
@@ -30,10 +32,21 @@ TEST_MODULES = {
 }
 
 
+@cache
 def crates():
     """The crates that crates.txt lists, each with what it depends on."""
     lines = [line.partition(":") for line in (TOP / "crates.txt").read_text().splitlines() if line and not line.startswith("#")]
     return {name.split()[0]: rest.split() for name, _, rest in lines}
+
+
+def repository_uses(crate):
+    return [it for it in crates()[crate] if it in crates()]
+
+
+@cache
+def below(crate):
+    """The crates of the repository that a crate depends on, with all that these depend on."""
+    return set(repository_uses(crate)).union(*map(below, repository_uses(crate)))
 
 
 def sources(crate):
@@ -129,6 +142,18 @@ def wholes():
     }
 
 
+def neighbours():
+    """The sentence of each crate that names the crates which it depends on and which use it, but those that follow from others."""
+    nearest = {}
+    for name in crates():
+        uses = repository_uses(name)
+        nearest[name] = [it for it in uses if not any(it in below(other) for other in uses)]
+    for name, uses in nearest.items():
+        users = [it for it in nearest if name in nearest[it]]
+        said = f"Depends on {', '.join(f'`{it}`' for it in uses) or 'no other crate here'}"
+        yield name, said + ("; used by " + ", ".join(f"`{it}`" for it in users) if users else "") + "."
+
+
 def line_at(text, place):
     return text.count("\n", 0, place) + 1
 
@@ -163,16 +188,27 @@ def check_wholes(texts, known, wrong):
 
 
 def check_lists(texts, wrong):
-    """Each crate stands in the table of crates, and no crate has more must-fail edits than CONTRIBUTING says."""
+    """Each crate is in the table of crates, follows in crates.txt what it depends on, and has no more must-fail edits than it may."""
     table = texts[ARCHITECTURE].partition("\n## Crates\n")[2].partition("\n## ")[0]
     firsts = {name for line in table.splitlines() if line.startswith("| `") for name in re.findall(r"`(\w+)`", line.split("|")[1])}
+    place_of_crates = texts[ARCHITECTURE].find("\n## Crates\n") + 1
     for name in sorted(crates().keys() ^ firsts):
-        place = texts[ARCHITECTURE].find("\n## Crates\n") + 1
-        wrong.append((ARCHITECTURE, place, 0, f"the crate {name} is in one of table and crates.txt"))
-    for crate in crates():
+        wrong.append((ARCHITECTURE, place_of_crates, 0, f"the crate {name} is in one of table and crates.txt"))
+    order = list(crates())
+    for crate in order:
+        if any(order.index(it) > order.index(crate) for it in repository_uses(crate)):
+            wrong.append((ARCHITECTURE, place_of_crates, 0, f"{crate} comes before what it depends on in crates.txt"))
         if len(list((CRATES / crate / "must-fail").glob("*.edit"))) > 4:
             text = texts["CONTRIBUTING.md"]
             wrong.append(("CONTRIBUTING.md", text.find("at most four a crate"), 0, f"{crate} has more than four must-fail edits"))
+
+
+def check_neighbours(texts, wrong):
+    for crate, right in neighbours():
+        file = f"crates/{crate}/README.md"
+        for found in re.finditer(r"(?m)^(?:- )?(Depends on .*)$", texts.get(file, "")):
+            if found[1] != right:
+                wrong.append((file, *found.span(1), right))
 
 
 def write(texts, wrong):
@@ -191,6 +227,7 @@ def main():
     known = check_sentences(texts, wrong)
     check_wholes(texts, known, wrong)
     check_lists(texts, wrong)
+    check_neighbours(texts, wrong)
     for file, start, end, right in sorted(wrong):
         said = f"{texts[file][start:end]}, and it is {right}" if end else right
         print(f"{file}:{line_at(texts[file], start)}: {said}")
