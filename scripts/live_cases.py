@@ -87,6 +87,7 @@ def try_fetches(t):
     t.case("fetch of a ref that isn't there", fetches, small, ["origin", "nowhere"], "2")
     t.case("fetch of a fast-forward alone", fetches, small, ["origin", "main:refs/remotes/origin/main"], "2", grown(3, back=4))
     t.case("fetch by a client that has a tip alone", has_tip_alone)
+    t.case("tags of a deepened history", deepened_tags)
 
 
 def try_consecutive(t):
@@ -113,6 +114,15 @@ def has_tip_alone(name, t):
         tip = t.run("git", "cat-file", "commit", "main", at=server)[1]
         t.git("hash-object", "-t", "commit", "-w", "--stdin", given=tip.encode("latin1"), at=client)
     first, second = t.run("git", "fetch", "-q", at=by_git), t.run("git", "fetch", "-q", at=by_us)
+    same(t, name, by_git, by_us, first, second)
+
+
+def deepened_tags(name, t):
+    """Tags that more of the history alone reaches: git looks for them before it knows the helper's pack, so the next fetch has them."""
+    server = make(t, "server", 30, tags=True)
+    by_git, by_us, first, second = clone_both(t, server, "--depth", "2")
+    for words in (["--unshallow"], []):
+        first, second = t.run("git", "fetch", "-q", *words, at=by_git), t.run("git", "fetch", "-q", *words, at=by_us)
     same(t, name, by_git, by_us, first, second)
 
 

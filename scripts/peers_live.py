@@ -5,8 +5,8 @@ Usage: peers_live.py [--remote PATH] [--program PATH] [--only WORD] [--jobs N]
 
 The PATHs are the programs gixp_remote and gixp_fetch_pack, else what `rt run` left in their crates' out/. Servers are git's own,
 dulwich's, JGit's and go-git's, over a pipe in place of ssh, and those that have one over git://; one that isn't installed is left
-out (Debian: python3-dulwich, jgit-cli, golang-github-go-git-go-git-dev with golang-github-jessevdk-go-flags-dev and golang-go).
-git does each action on the same server. A place of the table says
+out (Debian: python3-dulwich, jgit-cli with java, golang-github-go-git-go-git-dev with golang-github-jessevdk-go-flags-dev and
+golang-go). git does each action on the same server. A place of the table says
 
     yes       both did, and left the same refs, boundary and objects; the program alone: a pack came
     neither   both failed
@@ -27,13 +27,26 @@ import subprocess
 import sys
 import tempfile
 
+import live_harness
 from live_harness import CRATE, REAL_SPEC, REMOTE, Tester, by_both, clone_both, grow, is_clean, make, state
 from live_program import fetch_pack
 from live_servers import ended_after, free_port, has_loopback, shell_ssh, wait_for_port
 
+# seconds after which a server over a pipe is ended, that doesn't end where git has nothing more to ask
+PATIENCE = 45
 JAVA = pathlib.Path("/usr/share/java")
 JARS = ("org.eclipse.jgit.pgm", "org.eclipse.jgit.lfs", "org.eclipse.jgit", "org.eclipse.jgit.http.apache", "org.eclipse.jgit.ui", "args4j",
         "slf4j-api", "slf4j-nop", "httpclient", "httpcore")
+# its command `daemon` can't find a repository: it joins a path of bytes to one of letters
+DULWICH = """
+import sys
+from dulwich.repo import Repo
+from dulwich.server import Backend, TCPGitServer
+class Folders(Backend):
+    def open_repository(self, path):
+        return Repo(path.decode())
+TCPGitServer(Folders(), "127.0.0.1", int(sys.argv[1])).serve_forever()
+"""
 GO_PACKAGES = pathlib.Path("/usr/share/gocode")
 GO_GIT = "github.com/go-git/go-git/cli/go-git"
 
@@ -47,9 +60,9 @@ def git_words(room):
 
 
 def dulwich_words(room):
-    if not (shutil.which("dul-upload-pack") and shutil.which("dulwich")):
+    if not shutil.which("dul-upload-pack"):
         return None
-    return ["dul-upload-pack"], lambda port: ["dulwich", "daemon", "-l", "127.0.0.1", "-p", str(port), "/"]
+    return ["dul-upload-pack"], lambda port: ["/usr/bin/python3", "-c", DULWICH, str(port)]
 
 
 def jgit_words(room):
@@ -87,13 +100,15 @@ class Way:
                 url = f"git://127.0.0.1:{port}{server}"
                 yield (url, f"gixp::{url}"), {}
         else:
-            text = f'for last; do :; done\neval "set -- $last"\nexec {shlex.join(self.pipe)} "$2"'
+            text = f'for last; do :; done\neval "set -- $last"\nexec timeout {PATIENCE} {shlex.join(self.pipe)} "$2"'
             yield by_both(server), shell_ssh(t, text)
 
 
-def ways_of(room):
-    """The ways to all servers that are here."""
+def ways_of(room, only):
+    """The ways to all servers that are here, but for those that no action is picked of."""
     for name, words in PEERS.items():
+        if name not in only and any(other in only for other in PEERS):
+            continue
         if found := words(room):
             pipe, listens = found
             yield Way(f"{name}, a pipe", pipe)
@@ -140,6 +155,10 @@ def hundred(t, server):
     grow(t, server, 100)
 
 
+def three(t, server):
+    grow(t, server, 3)
+
+
 def rewritten(t, server):
     grow(t, server, 5, back=6)
 
@@ -155,8 +174,8 @@ ACTIONS = {
     "fetch, 100 commits": fetches(change=hundred), "fetch, a rewritten branch": fetches(change=rewritten),
     "fetch, tags that follow": fetches(change=tagged), "fetch --tags": fetches("--tags", change=tagged),
     "fetch, new commits into a depth of 2": fetches(cloned=("--depth", "2"), change=hundred),
-    "fetch --depth 5 of a depth of 2": fetches("--depth", "5", cloned=("--depth", "2")),
-    "fetch --unshallow": fetches("--unshallow", cloned=("--depth", "2")),
+    "fetch --depth 5 of a depth of 2": fetches("--depth", "5", cloned=("--depth", "2"), change=three),
+    "fetch --unshallow": fetches("--unshallow", cloned=("--depth", "2"), change=three),
 }
 ALONE = "the program alone"
 
@@ -189,7 +208,7 @@ def show(ways, found):
     """Prints the table, and what was said where something isn't `yes`."""
     print("| | " + " | ".join(way.name for way in ways) + " |")
     print("|---" * (len(ways) + 1) + "|")
-    for action in (*ACTIONS, ALONE):
+    for action in [action for action in (*ACTIONS, ALONE) if any(action == one for _, one in found)]:
         words = [found[way.name, action].result()[0] if (way.name, action) in found else "-" for way in ways]
         print(f"| {action} | " + " | ".join(words) + " |")
     for (name, action), done in found.items():
@@ -202,7 +221,7 @@ def main():
     parser = argparse.ArgumentParser(description=__doc__.splitlines()[0])
     parser.add_argument("--program", type=pathlib.Path, default=CRATE / "out" / "gixp_fetch_pack")
     parser.add_argument("--remote", type=pathlib.Path, default=REMOTE / "out" / "gixp_remote")
-    parser.add_argument("--only", default="", help="only ways that have this word in their names")
+    parser.add_argument("--only", default="", help="only what has this in its way and action, as `dulwich, a pipe: clone`")
     parser.add_argument("--jobs", type=int, default=os.cpu_count(), help="how many actions at once")
     given = parser.parse_args()
     for one in (given.program, given.remote):
@@ -210,10 +229,12 @@ def main():
             sys.exit(f"no program {one}: `rt run` in crates/{one.name} builds it")
     with tempfile.TemporaryDirectory() as temporary, concurrent.futures.ThreadPoolExecutor(given.jobs) as pool:
         room = pathlib.Path(temporary).resolve()
-        ways = [way for way in ways_of(room) if given.only in way.name]
-        wanted = [(way, action) for way in ways for action in (*ACTIONS, ALONE) if action != ALONE or not way.listens]
+        live_harness.TIMEOUT = 3 * PATIENCE
+        ways = list(ways_of(room, given.only))
+        wanted = [(way, action) for way in ways for action in (*ACTIONS, ALONE) if given.only in f"{way.name}: {action}"]
+        wanted = [(way, action) for way, action in wanted if action != ALONE or not way.listens]
         found = {(way.name, action): pool.submit(place, room, given, number, way, action) for number, (way, action) in enumerate(wanted)}
-        show(ways, found)
+        show([way for way in ways if any(way is one for one, _ in wanted)], found)
         return 1 if any(done.result()[0] in ("git", "differs") for done in found.values()) else 0
 
 

@@ -1,5 +1,5 @@
 #!/usr/bin/env python3
-"""Tests of what wrong_bodies.py makes of the lines of a check, which were recorded from checks, and of an edit's text.
+"""Tests of what wrong_bodies.py makes of the lines that checks print, and of an edit's text.
 
 Usage: wrong_bodies_test.py
 """
