@@ -1097,7 +1097,8 @@ def rows_of_sessions():
     row(out == "pack" and len(reqs) == 2 and boundary_after([], ups) == {IA} and resp[-1]["shallows"] == [])
     h1 = [h + b"a", h + b"main", b"refs/tags/v1"]
     row(mapped([b"refs/heads/*"], h1, True) == ([(h + b"a", None, 0), (h + b"main", None, 0)], [])
-        and all_prefixes([refspec_of(b"refs/heads/*", True)]) == [h] and refspec_of(b"refs/heads/*:", True) == refspec_of(b"refs/heads/*", True))
+        and all_prefixes([refspec_of(b"refs/heads/*", True)]) == [h]
+        and refspec_of(b"refs/heads/*:", True) == refspec_of(b"refs/heads/*", True))
     row(mapped([b"refs/heads/*", b"^refs/heads/a"], h1, True)[0] == [(h + b"main", None, 0)])
     row(mapped([b"refs/heads/*", h + b"main"], [h + b"main"], True)[0] == [(h + b"main", None, 0)]
         and all_prefixes([refspec_of(b"refs/heads/*", True), refspec_of(h + b"main")]) == [h, h + b"main"])

@@ -15,7 +15,8 @@ from rows import Unreadable, read
 
 LINES = {"lines": streams.lines_row, "bands": streams.bands_row, "refs": streams.refs_row, "handshake": streams.handshake_row,
          "places": streams.places_row, "opening": streams.opening_row, "answer": streams.answer_row, "pack": streams.pack_row,
-         "capabilities": streams.capabilities_row, "answer-line": streams.answer_line_row, "boundary": streams.boundary_row, "agent": streams.agent_row,
+         "capabilities": streams.capabilities_row, "answer-line": streams.answer_line_row, "boundary": streams.boundary_row,
+         "agent": streams.agent_row,
          "requests": streams.requests_row, "session": streams.session_row,
          "refspec": listings.refspec_row, "ref-name": listings.ref_name_row, "prefixes": listings.prefixes_row,
          "matches": listings.matches_row, "ref-map": listings.ref_map_row, "account": listings.account_row,

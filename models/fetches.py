@@ -1,5 +1,11 @@
 """Whole fetches and plans: the line of each row of these modes."""
-from negotiations import *
+from definitions import (Arguments, BLANK, GIT, LF, MAX, Refused, State, add_wants, boundary_after, decision, default_features,
+                         frames_of, id_of, id_text, is_id, name_ok, one_round, unpack, without_lf)
+from rows import Unreadable
+from words import answer_words, client_err, letters, parse_err, read_err, response_err, runs, sb, sid
+from streams import Banded, Source, number, read_answer, required
+from transports import Bodies, Connection, Telling, bodies_of
+from listings import Shaken, obtained, spec_of
 
 SCRIPT_WORDS = (b"bodies", b"refspec", b"have", b"more-haves", b"boundary", b"depth", b"deepen", b"since", b"exclude", b"tags",
                 b"reject-shallow", b"without", b"no-pack", b"interrupt-at", b"store-fails")
@@ -331,7 +337,8 @@ def fetch_words(row, data):
     try:
         shaken = Shaken(transport, Telling())
     except Refused as e:
-        return "handshake %s " % shake_debug(e) + (sb(transport.sent) if transport.persists else "".join(sb(x) + " " for x in transport.sent))
+        sent = sb(transport.sent) if transport.persists else "".join(sb(x) + " " for x in transport.sent)
+        return "handshake %s %s" % (shake_debug(e), sent)
     store = Store(script)
     try:
         _, obtain = obtained(shaken, transport, script.table, (b"agent", b"git/oxide"), script.specs, [], Telling())

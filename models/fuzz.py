@@ -1,6 +1,23 @@
-"""Exhaustive short inputs: the definitions against a second reading of each, step by step. Run: python3 models/fuzz.py (some 20 s)"""
+"""Exhaustive short inputs: the definitions against a second reading of each, step by step.
+
+python3 models/fuzz.py    prints a line for each, in some 20 s; status 1 where any differs"""
+import heapq
 import itertools
-from definitions import *
+import random
+import sys
+
+from definitions import (A, Arguments, B, BLANK, C, GIT, IA, Refused, all_prefixes, all_rounds, complete_set, cutoff_of, frame, id_of,
+                         id_text, ids, is_id, kind_of_v1_line, mappings_of, refspec_of, symref_table, trim, v1_answer, v1_ref_list,
+                         validated)
+
+REF_LINES = [A + b" t", A + b" u", B + b" t^{}", B + b" u^{}", b"zz t^{}", b"shallow " + C, b"shallow zz", b"0 capabilities^{}",
+             b"zz t", b"nothing", A + b" HEAD", B + b" HEAD^{}", A + b" N", B + b" N^{}", B + b" capabilities^{}"]
+CAPABILITIES = [(b"symref", b"HEAD:refs/heads/m"), (b"symref", b"N:(null)")]
+ANSWER_ITEMS = [("line", b"NAK\n"), ("line", b"ACK " + A), ("line", b"ready"), ("line", b"shallow " + B), ("line", b"\x01P"),
+                ("line", b"NAK \xff"), ("stop", "Flush")]
+SPECS = [b"HEAD", b"m", b"refs/heads/m", b"refs/heads/*:refs/r/*", b"refs/heads/*:o/*", b"*:x*", b"^refs/heads/m", A, b"m:x",
+         b"+t:tags/t"]
+NAMES = [b"HEAD", b"m", b"refs/m", b"refs/heads/m", b"refs/tags/m", b"refs/remotes/m/HEAD", b"refs/notes/m", b"refs/heads/HEAD"]
 
 
 def sequential_v1(lines, caps):
@@ -67,50 +84,52 @@ def got(f, *a):
         return (e.name,) + (e.rest[:1] if e.name != "InvariantViolation" else ())
 
 
-lines = [A + b" t", A + b" u", B + b" t^{}", B + b" u^{}", b"zz t^{}", b"shallow " + C, b"shallow zz", b"0 capabilities^{}",
-         b"zz t", b"nothing", A + b" HEAD", B + b" HEAD^{}", A + b" N", B + b" N^{}", B + b" capabilities^{}"]
-caps = [(b"symref", b"HEAD:refs/heads/m"), (b"symref", b"N:(null)")]
-n = bad = 0
-for k in range(5):
-    for xs in itertools.product(lines, repeat=k):
-        n += 1
-        if got(v1_ref_list, list(xs), caps) != got(sequential_v1, list(xs), caps):
-            bad += 1
-            if bad < 5:
-                print("refs", xs, got(v1_ref_list, list(xs), caps), got(sequential_v1, list(xs), caps))
-print("refs of versions 0 and 1, line by line:", n, "inputs,", bad, "differ")
-its = [("line", b"NAK\n"), ("line", b"ACK " + A), ("line", b"ready"), ("line", b"shallow " + B), ("line", b"\x01P"),
-       ("line", b"NAK \xff"), ("stop", "Flush")]
-n = bad = 0
-for k in range(6):
-    for xs in itertools.product(its, repeat=k):
-        for r in (Refused("Io", "UnexpectedEof"), Refused("Server", b"m")):
-            for e, w in itertools.product((False, True), repeat=2):
-                n += 1
-                if got(v1_answer, list(xs), r, e, w) != got(loop_v1_answer, list(xs), r, e, w):
-                    bad += 1
-                    if bad < 5:
-                        print("answer", xs, r, e, w)
-print("answers of versions 0 and 1, line by line:", n, "inputs,", bad, "differ")
-# leaving out the refs that no prefix begins changes nothing
-texts = [b"HEAD", b"m", b"refs/heads/m", b"refs/heads/*:refs/r/*", b"refs/heads/*:o/*", b"*:x*", b"^refs/heads/m", A, b"m:x", b"+t:tags/t"]
-names = [b"HEAD", b"m", b"refs/m", b"refs/heads/m", b"refs/tags/m", b"refs/remotes/m/HEAD", b"refs/notes/m", b"refs/heads/HEAD"]
-n = bad = 0
-for k in (1, 2, 3):
-    for ts in itertools.product(texts, repeat=k):
-        specs = [refspec_of(t) for t in ts]
-        ps = all_prefixes(specs)
-        strip = lambda o: o if isinstance(o, tuple) and o and isinstance(o[0], str) else ([m[1:] for m in o[0]], o[1])
-        full = strip(got(lambda: validated(mappings_of(specs, names), specs)))
-        keep = [x for x in names if any(x.startswith(p) for p in ps)]
-        n += 1
-        bad += full != strip(got(lambda: validated(mappings_of(specs, keep), specs)))
-print("refs that no prefix begins left out:", n, "spec lists,", bad, "differ")
+def sequences(parts, most):
+    """All sequences of at most so many of the parts."""
+    for length in range(most + 1):
+        yield from map(list, itertools.product(parts, repeat=length))
 
-# the least set of complete commits against a walk from the newest time, and the bound on rounds under random answers
-import heapq
-import random
-rng = random.Random(7)
+
+def compared(name, pairs):
+    """Counts the inputs of which two readings differ, and shows the first."""
+    count = differ = 0
+    for given, one, other in pairs:
+        count += 1
+        if one != other:
+            differ += 1
+            if differ < 5:
+                print(name, given, one, other)
+    print(f"{name}: {count} inputs, {differ} differ", flush=True)
+    return differ
+
+
+def refs():
+    for lines in sequences(REF_LINES, 4):
+        yield lines, got(v1_ref_list, lines, CAPABILITIES), got(sequential_v1, lines, CAPABILITIES)
+
+
+def answers():
+    for items in sequences(ANSWER_ITEMS, 5):
+        for refusal in (Refused("Io", "UnexpectedEof"), Refused("Server", b"m")):
+            for expects, negotiates in itertools.product((False, True), repeat=2):
+                given = items, refusal, expects, negotiates
+                yield given, got(v1_answer, *given), got(loop_v1_answer, *given)
+
+
+def without_remotes(mapped):
+    """Mappings without what they were matched by, which leaving out refs may number otherwise."""
+    is_refusal = isinstance(mapped, tuple) and mapped and isinstance(mapped[0], str)
+    return mapped if is_refusal else ([one[1:] for one in mapped[0]], mapped[1])
+
+
+def prefixes():
+    """Leaving out the refs that no prefix begins changes nothing."""
+    for texts in sequences(SPECS, 3):
+        if texts:
+            specs = [refspec_of(text) for text in texts]
+            wanted = all_prefixes(specs)
+            kept = [name for name in NAMES if any(name.startswith(prefix) for prefix in wanted)]
+            yield texts, *(without_remotes(got(lambda: validated(mappings_of(specs, names), specs))) for names in (NAMES, kept))
 
 
 def walk(commits, tips, cutoff):
@@ -127,25 +146,43 @@ def walk(commits, tips, cutoff):
     return marked
 
 
-bad = 0
-for _ in range(20000):
-    n = rng.randrange(1, 8)
-    commits = {k: (rng.randrange(-3, 6), [rng.randrange(n + 2) for _ in range(rng.randrange(3))]) for k in range(n) if rng.random() < .9}
-    tips = [rng.randrange(n + 2) for _ in range(rng.randrange(3))]
-    cut = cutoff_of(commits, [rng.randrange(n + 2) for _ in range(rng.randrange(3))])
-    bad += complete_set(commits, tips, cut) != walk(commits, tips, cut)
-print("complete commits, by a walk: 20000 graphs,", bad, "differ")
-bad = 0
-for _ in range(3000):
-    n = rng.randrange(0, 1200)
-    version, persists = rng.choice([(2, False), (2, True), (1, False), (1, True)])
-    pool = ids(6)
-    acks = lambda: b"".join(frame(b"ACK " + id_text(rng.choice(pool)) + (b"" if version == 2 else b" common")) for _ in range(rng.randrange(2)))
-    one = lambda: (b"0014acknowledgments\n" + acks() + b"0008NAK\n0000") if version == 2 else acks() + b"0008NAK\n"
-    answers = [one() for _ in range(80)]
-    args = Arguments(GIT, version, [])
-    args.want(IA)
-    out, rounds, reqs, _ = all_rounds(version, persists, ids(n), b"".join(answers) if persists else answers, args)
-    sent, windows = sum(r[0] for r in rounds), sum(r[2] for r in rounds[:-1])
-    bad += not (sent <= n and windows <= n and len(reqs) <= n // 16 + 1)
-print("rounds: 3000 runs,", bad, "break the bound")
+def walks(rng):
+    """The least set of complete commits against a walk from the newest time."""
+    for _ in range(20000):
+        n = rng.randrange(1, 8)
+        commits = {k: (rng.randrange(-3, 6), [rng.randrange(n + 2) for _ in range(rng.randrange(3))])
+                   for k in range(n) if rng.random() < .9}
+        tips = [rng.randrange(n + 2) for _ in range(rng.randrange(3))]
+        cut = cutoff_of(commits, [rng.randrange(n + 2) for _ in range(rng.randrange(3))])
+        yield (commits, tips, cut), complete_set(commits, tips, cut), walk(commits, tips, cut)
+
+
+def random_answer(rng, version, pool):
+    end = b"" if version == 2 else b" common"
+    acks = b"".join(frame(b"ACK " + id_text(rng.choice(pool)) + end) for _ in range(rng.randrange(2)))
+    return (b"0014acknowledgments\n" if version == 2 else b"") + acks + b"0008NAK\n" + (b"0000" if version == 2 else b"")
+
+
+def rounds(rng):
+    """The bound on rounds, under random answers."""
+    for _ in range(3000):
+        n, pool = rng.randrange(0, 1200), ids(6)
+        version, persists = rng.choice([(2, False), (2, True), (1, False), (1, True)])
+        said = [random_answer(rng, version, pool) for _ in range(80)]
+        args = Arguments(GIT, version, [])
+        args.want(IA)
+        _, found, requests, _ = all_rounds(version, persists, ids(n), b"".join(said) if persists else said, args)
+        sent, windows = sum(r[0] for r in found), sum(r[2] for r in found[:-1])
+        yield (n, version, persists), sent <= n and windows <= n and len(requests) <= n // 16 + 1, True
+
+
+def main():
+    rng = random.Random(7)
+    return sum([compared("refs of versions 0 and 1, line by line", refs()),
+                compared("answers of versions 0 and 1, line by line", answers()),
+                compared("refs that no prefix begins left out", prefixes()), compared("complete commits, by a walk", walks(rng)),
+                compared("the bound on rounds", rounds(rng))])
+
+
+if __name__ == "__main__":
+    sys.exit(1 if main() else 0)

@@ -1,5 +1,10 @@
 """Refspecs, ref maps, handshakes with an account, and lines of progress: the line of each row of these modes."""
-from transports import *
+from definitions import (BLANK, GIT, LF, Refused, all_prefixes, capabilities_of_bytes, capability_words, default_features,
+                         frames_of, has_capability, invoke, is_id, mappings_of, name_ok, progress_parts, ref_map, refspec_of,
+                         spec_text, validated)
+from words import client_err, parse_err, ref_words, sb, sid, update_words
+from streams import Reader, Source, cap_words, listed
+from transports import Bodies, Connection, Telling, bodies_of, handshake_refs, shake_error, shake_hands
 
 TAGS_SPEC = b"refs/tags/*:refs/tags/*"
 

@@ -1,5 +1,9 @@
 """Negotiations: the line of a row."""
-from listings import *
+from definitions import (Arguments, BLANK, GIT, LF, MAX, Refused, State, add_wants, complete_set, cutoff_of, decision,
+                         frames_of, is_id, window_size, without_lf)
+from rows import Unreadable
+from streams import number
+from listings import TAGS_SPEC, spec_of
 
 WORDS = (b"commit", b"packed", b"object", b"apart", b"broken", b"ref", b"leads", b"refs-fail", b"alternate", b"alternate-fails",
          b"no-alternates", b"extra", b"mapping", b"haves", b"answer", b"answer-many")

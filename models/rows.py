@@ -1,7 +1,8 @@
 """Rows of gixp_replay: its README says what they are."""
 import re
 
-MAX = 2 ** 64 - 1
+from definitions import MAX
+
 OVER, NO_YES = ("bodies", "connection"), ("no", "yes")
 # The settings of each mode: the words of a value, or none for a number, and what stands where a row says nothing.
 SETTINGS = {

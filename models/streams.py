@@ -1,8 +1,11 @@
 """Streams of packet lines, answers and requests: the line of each row of these modes."""
-from definitions import *
-from definitions import HEADERS
-from rows import MAX, Unreadable
-from words import *
+from definitions import (Arguments, BLANK, GIT, LF, MAX, Refused, acknowledgement, advertisement, boundary_ids, boundary_text,
+                         capabilities_of_bytes, capabilities_of_lines, capability_value, capability_words, default_features,
+                         frames_of, has_capability, id_of, id_text, invoke, is_id, shallow_update, symref_table, trim,
+                         v1_answer, v1_class, v1_ref_list, v2_answer, v2_ref, v2_ref_list, wanted_ref, without_lf)
+from rows import Unreadable
+from words import (ack_words, answer_words, client_err, id_err, parse_err, read_err, ref_words, response_err, runs, sb, sid,
+                   told_words, update_words)
 
 NAMES = [b"agent", b"multi_ack_detailed", b"multi_ack", b"side-band", b"side-band-64k", b"thin-pack", b"ofs-delta",
          b"shallow", b"deepen-since", b"deepen-not", b"deepen-relative", b"include-tag", b"filter", b"ref-in-want",

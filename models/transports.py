@@ -1,5 +1,7 @@
 """A client's transport over bodies in memory or a connection, as far as a row shows it."""
-from streams import *
+from definitions import BLANK, Refused
+from words import client_err, parse_err, sb
+from streams import Reader, early_refs, greeting, number
 
 KINDS = {b"denied": "PermissionDenied", b"timed-out": "TimedOut", b"broken-pipe": "BrokenPipe"}
 

@@ -1,5 +1,5 @@
 """Values and refusals as words, as a row's line has them."""
-from definitions import *
+from definitions import unpack
 
 LONGEST_RUN = 64
 

@@ -11,12 +11,28 @@ import tempfile
 from pathlib import Path
 
 CRATE = Path(__file__).resolve().parent.parent / "crates" / "gixp_url_rows"
-HOSTS = ["host", "u@host", "host:22", "u@host:22", "host:", "host:abc", "host:65535", "host:65536", "host:000022", "[::1]", "u@[::1]", "[::1]:22", "u@[::1]:22", "[::1]:", "[::1]x", "[host]", "[host:22]", "u@[host:22]", "[u@host:22]", "[::1",
-         "a:b@host", "-host", "u@-host", "[-host]", "-u@host", "1.2.3.4:9"]
-URLS = ["/a/b", "./a", "../a", "a", "a/b", "sub/a:b", "/a:b", "./a:b", "a%20b", "/a%20b", "file:///a/b", "file://localhost/a", "file:///a%20b", "file:///a%2fb", "file:///a%zz", "file:///a%00b", "file:///a%2", "file:///%41%62%3a",
-        "file:///~u/a", "file://", "file:a", "file:/a", "host:a", "host:/a", "host:~/a", "host:~u/a", "host:/~u/a", "host:a~b", "host:a:b", "host:", "u@host:a", "u@host:a%20b", "[::1]:a", "u@[::1]:/a", "[host:22]:a", "u@[host:22]:~a",
-        "ssh://host", "ssh://host/", "ssh://host/~", "ssh://host/~u/a", "ssh://host/a/~u", "ssh://host/a:b", "ssh://host/a%20b%7e", "ssh://ho%73t/a", "git://host", "git://host/", "git://host/~u", "git://host:1/a",
-        "git+ssh://host/a", "ssh+git://host/a", "foo://host/a", "FILE:///a", "http://host/a", "://a", "a://b", "/a://b", "host:a://b", "+ssh://host/a", "s_sh://host/a", "host:-a", "--upload-pack=x:a"]
+HOSTS = [
+    "host", "u@host", "host:22", "u@host:22", "host:", "host:abc", "host:65535", "host:65536", "host:000022", "[::1]", "u@[::1]",
+    "[::1]:22", "u@[::1]:22", "[::1]:", "[::1]x", "[host]", "[host:22]", "u@[host:22]", "[u@host:22]", "[::1", "a:b@host",
+    "-host", "u@-host", "[-host]", "-u@host", "1.2.3.4:9",
+]
+URLS = [
+    "/a/b", "./a", "../a", "a", "a/b", "sub/a:b", "/a:b", "./a:b", "a%20b", "/a%20b", "file:///a/b", "file://localhost/a",
+    "file:///a%20b", "file:///a%2fb", "file:///a%zz", "file:///a%00b", "file:///a%2", "file:///%41%62%3a", "file:///~u/a",
+    "file://", "file:a", "file:/a", "host:a", "host:/a", "host:~/a", "host:~u/a", "host:/~u/a", "host:a~b", "host:a:b", "host:",
+    "u@host:a", "u@host:a%20b", "[::1]:a", "u@[::1]:/a", "[host:22]:a", "u@[host:22]:~a", "ssh://host", "ssh://host/",
+    "ssh://host/~", "ssh://host/~u/a", "ssh://host/a/~u", "ssh://host/a:b", "ssh://host/a%20b%7e", "ssh://ho%73t/a",
+    "git://host", "git://host/", "git://host/~u", "git://host:1/a", "git+ssh://host/a", "ssh+git://host/a", "foo://host/a",
+    "FILE:///a", "http://host/a", "://a", "a://b", "/a://b", "host:a://b", "+ssh://host/a", "s_sh://host/a", "host:-a",
+    "--upload-pack=x:a",
+]
+
+
+def is_blocked(url, room):
+    """Whether git takes the host or the path for an option."""
+    variables = {"PATH": "/usr/bin:/bin", "GIT_SSH_COMMAND": "false", "GIT_SSH_VARIANT": "ssh"}
+    asked = subprocess.run(["git", "ls-remote", "--", url], cwd=room, capture_output=True, text=True, env=variables)
+    return "blocked" in asked.stderr
 
 
 def reading(url, room):
@@ -24,15 +40,16 @@ def reading(url, room):
     said = dict(line.removeprefix("Diag: ").split("=", 1) for line in ran.stdout.splitlines() if line.startswith("Diag: "))
     if "protocol" not in said:
         return "refused"
-    asked = subprocess.run(["git", "ls-remote", "--", url], cwd=room, capture_output=True, text=True, env={"PATH": "/usr/bin:/bin", "GIT_SSH_COMMAND": "false", "GIT_SSH_VARIANT": "ssh"}) if said["protocol"] == "ssh" else None
-    if asked and "blocked" in asked.stderr:
+    if said["protocol"] == "ssh" and is_blocked(url, room):
         return "refused"
     host = said.get("userandhost", said.get("hostandport"))
     return "\t".join([said["protocol"], host, said.get("port", "NONE"), said["path"]])
 
 
 def main():
-    urls = [*URLS, *(f"ssh://{host}/a" for host in HOSTS), *(f"{host}:a" for host in HOSTS if host.count(":") == 0 or host.startswith("[")), *(f"git://{host}/a" for host in HOSTS if "-" not in host)]
+    before_colon = [host for host in HOSTS if ":" not in host or host.startswith("[")]
+    urls = [*URLS, *(f"ssh://{host}/a" for host in HOSTS), *(f"{host}:a" for host in before_colon),
+            *(f"git://{host}/a" for host in HOSTS if "-" not in host)]
     with tempfile.TemporaryDirectory() as room:
         subprocess.run(["git", "init", "-q", room], check=True)
         # a word that git takes for an option of its own has no reading there
@@ -42,4 +59,5 @@ def main():
     (CRATE / "stdout").write_text("".join(row + "\n" for row in rows))
 
 
-main()
+if __name__ == "__main__":
+    main()

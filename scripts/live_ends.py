@@ -1,0 +1,124 @@
+"""Cases of live.py about ends: a server that freezes, and a signal to each process of a fetch at moments of it."""
+import contextlib
+import os
+import shlex
+import signal
+import subprocess
+import time
+
+from live_harness import end_session, leaves_nothing, make, running
+from live_servers import GREETING, daemon_of, has_loopback, here_ssh, shell_ssh
+
+MOMENTS = 20
+# seconds in which git is to end behind a signal, on a machine that has other work
+AT_ONCE = 5
+SIGNALS = signal.SIGTERM, signal.SIGINT, signal.SIGHUP
+PROCESSES = "index-pack", "upload-pack", "pack-objects", "rev-list", "cat-file", "git-remote-gixp", "slow-pack"
+FILES = "objects/pack/*.keep", "objects/pack/tmp_*", "objects/tmp_objdir*", "*.lock"
+
+
+def frozen(name, t):
+    """A server that says nothing, or nothing after its first words: the helper's time ends it."""
+    for said in (b"", GREETING[:30], GREETING):
+        path = t.folder("said")
+        path.write_bytes(said)
+        begun, more = time.time(), {**shell_ssh(t, f'cat "{path}"\nexec sleep 30'), "GIXP_TIMEOUT": "1"}
+        status, out, err = t.run("git", "clone", "-q", "gixp::ssh://nowhere/x", t.folder("us"), more=more)
+        is_in_time = status != 0 and time.time() - begun < 10
+        t.check(f"{name} after {len(said)} bytes", is_in_time and leaves_nothing(t), f"{status} {err}")
+    status, out, err = t.run("git", "clone", "-q", "gixp::/nowhere/at/all", t.folder("us"))
+    t.check(f"{name}: no repository", status != 0 and leaves_nothing(t), err)
+
+
+def left_by(t, client):
+    """What a fetch that was ended left behind: processes, folders, locks."""
+    until = time.monotonic() + 6
+    while True:
+        processes = [id for word in (*PROCESSES, t.remote.name) for id in running(word, t.room)]
+        left = [*t.room.glob("gixp.*"), *(path for pattern in FILES for path in client.glob(pattern))]
+        if not (processes or left) or time.monotonic() > until:
+            return f"{processes} {left}" if processes or left else ""
+        time.sleep(0.05)
+
+
+def first_found(t, begun, who):
+    """The process of a fetch that is named so, once there is one: git itself, or the oldest of this name. Nothing where git ended."""
+    while begun.poll() is None:
+        if found := [begun.pid] if who == "git" else running(who, t.room):
+            return min(found)
+    return None
+
+
+def slowly(t):
+    """Lets servers on this machine send packs in pieces, so that each part of a fetch takes a while."""
+    script, mark = t.room / "tools" / "slow-pack", t.room / "slow"
+    pieces = 'for n in 1 2 3 4 5 6 7 8; do head -c 4000; sleep 0.02; done; cat'
+    script.write_text(f'#!/bin/sh\n[ -e {shlex.quote(str(mark))} ] || exec "$@"\n"$@" | {{ {pieces}; }}\n')
+    script.chmod(0o755)
+    t.git("config", "--global", "uploadpack.packObjectsHook", script)
+    return mark
+
+
+@contextlib.contextmanager
+def way_to(t, server, over):
+    """The URL of a server by a transport, and what the helper is told."""
+    if over == "ssh":
+        yield f"gixp::ssh://host{server}", here_ssh(t)
+    elif over == "git://":
+        with daemon_of(t, server.parent) as port:
+            yield f"gixp::git://127.0.0.1:{port}/{server.name}", {}
+    else:
+        yield f"gixp::file://{server}", {}
+
+
+def kill_at(t, begun, who, number, sent, delay):
+    """Sends a signal to a process of a fetch at a moment of it. Gives the seconds that git took to end, none where it doesn't."""
+    time.sleep(delay * number)
+    found = first_found(t, begun, who)
+    at = time.monotonic()
+    if found:
+        with contextlib.suppress(OSError):
+            os.kill(found, sent)
+    try:
+        begun.wait(20)
+        return time.monotonic() - at
+    except subprocess.TimeoutExpired:
+        end_session(begun)
+        return None
+
+
+def killed(name, t, who, signals, over="path"):
+    """One of the processes of a fetch gets a signal, at moments of it. Nothing stays, and the next fetch works."""
+    server, mark = make(t, "server", 400), slowly(t)
+    tip = t.git("rev-parse", "main", at=server)
+    with way_to(t, server, over) as (url, more):
+        for number in range(MOMENTS):
+            client, sent = make(t, "client", 0), signals[number % len(signals)]
+            words = ["git", "fetch", "-q", *(["--depth", "3"] if number % 2 else []), url, "main:refs/x/m"]
+            what = f"{name}, moment {number}"
+            mark.touch()
+            begun = t.begin(*words, at=client, more=more)
+            took = kill_at(t, begun, who, number, sent, 0.015)
+            mark.unlink()
+            if took is None:
+                t.check(what, False, "no end")
+                continue
+            left = left_by(t, client)
+            clean = t.run("git", "fsck", "--connectivity-only", at=client)[0] == 0
+            status, out, err = t.run("git", "fetch", "-q", url, "main:refs/x/m", at=client, more=more)
+            works = status == 0 and t.run("git", "rev-parse", "refs/x/m", at=client)[1] == tip and not left_by(t, client)
+            t.check(what, not left and clean and works and took < AT_ONCE, f"{signal.Signals(sent).name} {took:.1f} s {left} {clean} {err}")
+
+
+def try_ends(t):
+    t.case("a server that freezes", frozen)
+    ours, term, kill = t.remote.name, signal.SIGTERM, signal.SIGKILL
+    for who, sent in (
+        ("git-remote-gixp", term), (ours, term), (ours, kill), ("index-pack", term), ("index-pack", kill), ("upload-pack", term),
+        ("git", term), ("git", kill),
+    ):
+        t.case(f"a kill of {who}{', at once' if sent == kill else ''}", killed, who, [sent])
+    for over in ("path", "ssh", "git://") if has_loopback() else ("path", "ssh"):
+        for who in ("git-remote-gixp", ours, "index-pack", "upload-pack"):
+            t.case(f"signals to {who} over {over}", killed, who, SIGNALS, over)
+        t.case(f"signals to git over {over}", killed, "git", (*SIGNALS, kill), over)
