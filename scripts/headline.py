@@ -10,8 +10,10 @@ folders keep, and `rt check` of the laws must then refuse a proof. With WORD onl
 or name. RT names another command than `rt`.
 
 With --fields the changes are made of the definitions: of each record that `Fetches` reaches each field that is a fact is
-replaced by what always holds, one at a time; with RECORD only of these records. A field whose replacement leaves the laws
-proved bears nothing. Those of `BEARS_NOTHING` are known, each with its reason.
+replaced by what always holds; with RECORD only of these records. They are tried together, each with a type of its own: an
+error that names one of these is that field's doing, whatever the others are. Those that no error names are tried again without
+those that are refused, until the laws are proved without them or no error names one; then each is tried by itself. A field
+whose replacement leaves the laws proved bears nothing. Those of `BEARS_NOTHING` are known, each with its reason.
 
 A change of a definition that a law itself cites turns both sides, so it shows nothing unless the law says more of it.
 
@@ -34,6 +36,8 @@ LAWS = [f"laws::{name}" for name in ("headline", "errors_have_causes", "stores_a
 
 # fields of records that bear nothing, and why they stand
 BEARS_NOTHING = {}
+
+IN_PROOFS = re.compile(r"(\./)?proofs/")
 
 # what a field is whose type begins with one of these, or is a word alone: what others speak of, and no fact
 DATA = {"List", "Option", "Turn", "At", "World", "PackFailure", "negotiate_error"}
@@ -153,8 +157,8 @@ def fields_of(lines):
             yield name, its
 
 
-def field_changes(words):
-    """For each field of each record that `Fetches` reaches its record, its name, its file, its lines and what replaces them."""
+def records_of(words):
+    """The records that `Fetches` reaches: the name of each, its file and its lines."""
     files = {it.stem: it.read_text() for it in sorted((TOP / "crates/gixp_fetch/specs").glob("*.antt"))}
     places = {name: (stem, lines) for stem, text in files.items() for name, lines in items_of(text).items()}
     reached, new = set(), {"Fetches"}
@@ -163,23 +167,67 @@ def field_changes(words):
         new = {it for name in new for it in re.findall(r"[\w']+", "\n".join(places[name][1])) if it in places} - reached
     for name in sorted(reached):
         stem, lines = places[name]
-        if (words and name not in words) or not re.match(r" *(pub )?record ", lines[0]) or " : Type 1 where" in lines[0]:
-            continue
-        for field, its in fields_of(lines):
-            nothing = re.match(r"( *pub \S+ : )", its[0])[1] + "Unit {0}"
-            yield name, field, stem, "\n".join([*lines[:lines.index(its[0])], *its]), "\n".join([*lines[:lines.index(its[0])], nothing])
+        if (not words or name in words) and re.match(r" *(pub )?record ", lines[0]) and " : Type 1 where" not in lines[0]:
+            yield name, stem, lines
+
+
+def without(crate, records, left):
+    """Writes the records with what always holds in place of the fields that are left, each of them with a type of its own."""
+    for stem in {it for _, it, _ in records}:
+        text = (TOP / f"crates/gixp_fetch/specs/{stem}.antt").read_text()
+        types = []
+        for name, _, lines in (it for it in records if it[1] == stem):
+            new = "\n".join(lines)
+            for field, its in fields_of(lines):
+                if (name, field) in left:
+                    types.append(left[name, field])
+                    new = new.replace("\n".join(its), re.match(r" *pub \S+ : ", its[0])[0] + types[-1])
+            text = text.replace("\n".join(lines), new)
+        front, use, rest = re.match(r"(?s)(.*\n)((?:pub )?use [^\n]*\n)(.*)", text).groups()
+        text = front + use + "".join(f"\npub data {it} : Type 0 where\n  is_{it} : {it}\n" for it in types) + rest
+        (crate / f"specs/{stem}.antt").write_text(text)
+
+
+def blamed(lines, left):
+    """The fields whose type an error names, and no other's, each with the first such error."""
+    whose, found = {name: it for it, name in left.items()}, {}
+    for line in (it for it in lines if ": error" in it):
+        named = set(re.findall(r"\bAlways\d+\b", line)) & set(whose)
+        if len(named) == 1:
+            found.setdefault(whose[named.pop()], line)
+    return found
 
 
 def try_fields(crate, words):
-    """Tries the fields of records."""
-    counts = Counter()
-    for record, field, *change in field_changes(words):
-        began = time.monotonic()
-        verdict, error = try_change(crate, *change)
-        if verdict == "PROVED" and (record, field) in BEARS_NOTHING:
-            verdict, error = "known", BEARS_NOTHING[record, field]
+    """Tries the fields of records together. Those that no error names are tried again without the others, and each by itself where
+    an error names none of them."""
+    counts, records = Counter(), list(records_of(words))
+    fields = [(name, field) for name, _, lines in records for field, _ in fields_of(lines)]
+    left = {it: f"Always{at}" for at, it in enumerate(fields)}
+
+    def say(it, verdict, error=""):
+        if verdict == "PROVED" and it in BEARS_NOTHING:
+            verdict, error = "known", BEARS_NOTHING[it]
         counts[verdict] += 1
-        print(f"{verdict:11}{record}: {field} ({time.monotonic() - began:.0f} s) {error[:120]}".rstrip(), flush=True)
+        print(f"{verdict:11}{it[0]}: {it[1]} {error[:120]}".rstrip(), flush=True)
+
+    def check_without(some):
+        without(crate, records, some)
+        return check(crate, LAWS)
+
+    while left:
+        is_proved, lines = check_without(left)
+        found = {it: "" for it in left} if is_proved else blamed(lines, left)
+        for it, error in found.items():
+            say(it, "PROVED" if is_proved else "refused" if IN_PROOFS.match(error) else "BAD CHANGE", error)
+            del left[it]
+        if not found:
+            break
+    for it, name in left.items():
+        is_proved, lines = check_without({it: name})
+        error = next((it for it in lines if ": error" in it), "")
+        say(it, "PROVED" if is_proved else "refused" if IN_PROOFS.match(error) else "BAD CHANGE", error)
+    without(crate, records, {})
     return counts
 
 
@@ -195,7 +243,7 @@ def try_change(crate, file, old, new):
     error = next((it for it in lines if ": error" in it), "")
     if is_proved:
         return "PROVED", ""
-    return ("refused" if re.match(r"(\./)?proofs/", error) else "BAD CHANGE"), error
+    return ("refused" if IN_PROOFS.match(error) else "BAD CHANGE"), error
 
 
 def try_parts(crate, word):
