@@ -1,5 +1,5 @@
 -- Which mappings are the first of equal ones reads nothing of the places of the refs.
-use Rattle.std.proofs.Common.{◌≡◌, Bool, List, [], ◌∷◌, ◌++◌, map, ap, sym, ◌∙◌, refl}
+use Rattle.std.proofs.Common.{◌≡◌, List, [], ◌∷◌, ◌++◌, map, ap, sym, ◌∙◌, refl}
 use Rattle.std.specs.Prelude.{not}
 use Rattle.std.proofs.lemmas.List.{map-append, map-id}
 use Rattle.gixp_matching.specs.Mappings.{Mapped, is_same, firsts}

@@ -1,5 +1,5 @@
 -- Plain mappings stay, and others are gone through.
-use Rattle.std.proofs.Common.{◌≡◌, ◌∙◌, [], false, ap, sym, subst, map, refl, List, Ok}
+use Rattle.std.proofs.Common.{◌≡◌, ◌∙◌, false, ap, sym, subst, map, refl, List, Ok}
 use Rattle.std.specs.List.{list_any}
 use Rattle.std.specs.Prelude.{IfOk}
 use Rattle.gixp_packetline.proofs.ListLemmas.{any_of_map}
