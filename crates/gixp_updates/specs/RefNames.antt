@@ -23,5 +23,5 @@ abbrev pub HasNames : List Ref → BTreeSet (Bor (List ℕ)) → Type 0
 HasNames refs names = (text : List ℕ) → has_text names text ≡ list_any (is_named text) refs
 
 -- where there is a set, it is that of their names
-abbrev pub LooksUp : List Ref → Option (BTreeSet (Bor (List ℕ))) → Type 0
-LooksUp refs names = ForSome names (HasNames refs)
+abbrev pub KnowsNames : List Ref → Option (BTreeSet (Bor (List ℕ))) → Type 0
+KnowsNames refs names = ForSome names (HasNames refs)

@@ -4,7 +4,7 @@ ghost use Rattle.std.specs.Option.{option_to_list};
 ghost use Rattle.std.specs.List.{list_any};
 ghost use Rattle.gixp_refspec.specs.RefSpec.{value_of};
 ghost use Rattle.gixp_refspec.specs.Spec.{Spec, is_id};
-ghost use Rattle.gixp_updates.specs.RefNames.{HasNames, LooksUp};
+ghost use Rattle.gixp_updates.specs.RefNames.{HasNames, KnowsNames};
 ghost use Rattle.gixp_updates.specs.Unmatched.{is_match_with, is_match, is_unmatched, note_on, unmatched_of};
 
 use crate::refs::named::{has_candidate, has_object, names_of};
@@ -33,7 +33,7 @@ const MANY: usize = 64;
 struct Looked<'r> {
     refs: &'r [Ref],
     names: Option<BTreeSet<&'r [u8]>>,
-    ghost named: { LooksUp refs.now names },
+    ghost named: { KnowsNames refs.now names },
 }
 
 // The refs, to be compared with so many refspecs.
