@@ -1,5 +1,7 @@
 -- Texts that are appended one after the other.
-use Rattle.std.proofs.Common.{◌≡◌, ℕ, ◌+◌, ◌<◌, List, [], ◌∷◌, ◌++◌, length, drop, flat_map, get_or, sym, ap, ◌∙◌, append_assoc, append-nil}
+use Rattle.std.proofs.Common.{◌≡◌, refl, Bool, true, false, ℕ, ◌+◌, ◌<◌, List, [], ◌∷◌, ◌++◌, length, drop, flat_map, get_or, sym, ap, ◌∙◌, append_assoc, append-nil}
+use Rattle.std.specs.Prelude.{IsTrue, ◌↔◌}
+use Rattle.std.specs.Bool.{Decides}
 use Rattle.std.proofs.lemmas.List.{drop_more}
 
 -- of what is to come after a text some does, and the rest is left
@@ -29,3 +31,10 @@ left-at xs i x h e = drop_more xs i x h ∙ ap (λ y. y ∷ drop (i + 1) xs) (sy
 
 pub left-byte : (xs : List ℕ) (i : ℕ) → i < length xs → drop i xs ≡ get_or xs i 0 ∷ drop (i + 1) xs
 left-byte xs i h = drop_more xs i 0 h
+
+-- two tests of one fact are one
+pub same_test : (a b : Bool) (P : Type 0) → IsTrue a ↔ P → Decides b P → a ≡ b
+same_test true true P h k = refl
+same_test false false P h k = refl
+same_test true false P h k = absurd (let e = k.1 (h.0 refl) in cc)
+same_test false true P h k = absurd (let e = h.1 (k.0 refl) in cc)

@@ -1,5 +1,9 @@
 pub mod Requests
 pub mod Dialogue
+pub mod Words
 pub mod Config
+pub mod Allowed
+pub mod Ssh
+pub mod Choosing
 pub mod Quoting
 pub mod Taken

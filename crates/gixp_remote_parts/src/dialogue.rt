@@ -1,5 +1,7 @@
 //! What git asks of a remote helper, and what it is told (gitremote-helpers).
-ghost use Rattle.std.specs.Prelude.{◌≡◌, ◌&&◌, not};
+ghost use Rattle.std.specs.Prelude.{◌≡◌, ◌&&◌, not, IfOk, IfNone, OnErr, Some, None};
+ghost use Rattle.std.specs.Option.{option_map};
+ghost use Rattle.gixp_remote_parts.specs.Choosing.{chosen, nothing_chosen, with_switch, with_history, with_format, with_other, with_option, limits, has_depth};
 ghost use Rattle.gixp_remote_parts.specs.Dialogue.{cut_blank, command_value, command_of, switch_of, depth_of, put, reply_text, with_digit, number_behind, number_of};
 
 use crate::text::place_of;
@@ -201,9 +203,21 @@ fn put(place: &mut bool, value: &[u8]) -> Reply
     }
 }
 
+// Whether a depth is one.
+fn limits(depth: Depth) -> bool
+    ensures { result ≡ limits depth }
+{
+    match depth {
+        Depth::Any => false,
+        Depth::Commits(_) | Depth::All => true,
+    }
+}
+
 impl Choices {
     /// Before an option.
-    pub fn new(alloc: Global) -> Choices {
+    pub fn new(alloc: Global) -> Choices
+        ensures { chosen result ≡ nothing_chosen }
+    {
         Choices {
             is_quiet: false,
             shows_progress: false,
@@ -229,12 +243,17 @@ impl Choices {
     }
 
     /// Whether a depth of some kind is wanted.
-    pub fn has_depth(&self) -> bool {
-        self.depth != Depth::Any || self.since.is_some() || !self.excluded.is_empty()
+    pub fn has_depth(&self) -> bool
+        ensures { result ≡ has_depth (chosen self.now) }
+    {
+        limits(self.depth) || self.since.is_some() || !self.excluded.is_empty()
     }
 
     // Keeps an option that is true or false, where it is one.
-    fn take_switch(&mut self, name: &[u8], value: &[u8]) -> Option<Reply> {
+    fn take_switch(&mut self, name: &[u8], value: &[u8]) -> Option<Reply>
+        ensures taken { option_map (λ reply. (chosen self.new, reply)) result ≡ with_switch (chosen self.old) name.now value.now }
+        ensures kept { IfNone result (self.new ≡ self.old) }
+    {
         if name == b"progress".as_slice() {
             Some(put(&mut self.shows_progress, value))
         } else if name == b"followtags".as_slice() {
@@ -260,7 +279,12 @@ impl Choices {
         alloc: Global,
         name: &[u8],
         value: &[u8],
-    ) -> Result<Option<Reply>, AllocError> {
+    ) -> Result<Option<Reply>, AllocError>
+        ensures taken { IfOk result (λ found. option_map (λ reply. (chosen self.new, reply)) found
+            ≡ with_history (chosen self.old) name.now value.now) }
+        ensures kept { IfOk result (λ found. IfNone found (chosen self.new ≡ chosen self.old)) }
+        ensures failed { OnErr result (chosen self.new ≡ chosen self.old) }
+    {
         if name == b"depth".as_slice() {
             match depth_of(value) {
                 Some(depth) => {
@@ -281,7 +305,9 @@ impl Choices {
     }
 
     // Keeps one of the other options.
-    fn take_other(&mut self, name: &[u8], value: &[u8]) -> Reply {
+    fn take_other(&mut self, name: &[u8], value: &[u8]) -> Reply
+        ensures { (chosen self.new, result) ≡ with_other (chosen self.old) name.now value.now }
+    {
         if name == b"verbosity".as_slice() {
             self.is_quiet = value == b"0".as_slice();
             Reply::Ok
@@ -296,8 +322,10 @@ impl Choices {
     }
 
     // The hash function: git 2.39 gives no value where it is to be told.
-    fn take_format(&mut self, value: &[u8]) -> Reply {
-        if value == b"true".as_slice() || value.is_empty() {
+    fn take_format(&mut self, value: &[u8]) -> Reply
+        ensures { (chosen self.new, result) ≡ with_format (chosen self.old) value.now }
+    {
+        if value == b"true".as_slice() || value == b"".as_slice() {
             self.tells_format = true;
             Reply::Ok
         } else if value == b"sha1".as_slice() {
@@ -312,7 +340,10 @@ impl Choices {
     /// # Errors
     ///
     /// An allocation failed; nothing is kept then.
-    pub fn take(&mut self, alloc: Global, name: &[u8], value: &[u8]) -> Result<Reply, AllocError> {
+    pub fn take(&mut self, alloc: Global, name: &[u8], value: &[u8]) -> Result<Reply, AllocError>
+        ensures taken { IfOk result (λ reply. (chosen self.new, reply) ≡ with_option (chosen self.old) name.now value.now) }
+        ensures failed { OnErr result (chosen self.new ≡ chosen self.old) }
+    {
         if let Some(reply) = self.take_switch(name, value) {
             return Ok(reply);
         }

@@ -2,5 +2,6 @@ mod LookLemmas
 mod AskLemmas
 mod SearchLemmas
 mod ModeLemmas
+mod NamedLemmas
 mod NoteLemmas
 mod LimitLemmas

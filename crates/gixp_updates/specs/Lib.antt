@@ -9,5 +9,6 @@ pub use Rattle.gixp_graph.specs.Asked
 pub use Rattle.gixp_graph.specs.GraphData
 pub use Rattle.gixp_graph.specs.Object
 pub use Rattle.gixp_graph.specs.Refusals
+pub mod RefNames
 pub mod Unmatched
 pub mod UpdateError

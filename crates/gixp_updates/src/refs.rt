@@ -4,6 +4,7 @@ mod edit;
 mod error;
 mod heap;
 mod mode;
+mod named;
 pub mod unmatched;
 pub mod update;
 mod walk;

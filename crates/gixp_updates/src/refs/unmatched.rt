@@ -4,14 +4,17 @@ ghost use Rattle.std.specs.Option.{option_to_list};
 ghost use Rattle.std.specs.List.{list_any};
 ghost use Rattle.gixp_refspec.specs.RefSpec.{value_of};
 ghost use Rattle.gixp_refspec.specs.Spec.{Spec, is_id};
+ghost use Rattle.gixp_updates.specs.RefNames.{HasNames, KnowsNames};
 ghost use Rattle.gixp_updates.specs.Unmatched.{is_match_with, is_match, is_unmatched, note_on, unmatched_of};
 
+use crate::refs::named::{has_candidate, has_object, names_of};
 use gixp_refmap::RefMap;
 use gixp_refs::handshake::Ref;
 use gixp_refspec::RefSpec;
 use gixp_refspec::needle::Needle;
 use gixp_refspec::spec::{RefSpecRef, id_in, is_negative, stars};
 use std::alloc::{AllocError, Global};
+use std::collections::BTreeSet;
 
 /// A refspec that matched nothing.
 #[derive(Clone, Copy, Debug, PartialEq, Eq)]
@@ -22,11 +25,34 @@ pub struct UnmatchedSpec {
     pub is_pattern: bool,
 }
 
+// From how many refspecs on names are looked up in a set: to compare fewer with each ref takes less than to make it.
+const MANY: usize = 64;
+
+// The refs of a server. Where many refspecs are compared with them, the names of those that have an object are in a set.
+#[derive(Drop)]
+struct Looked<'r> {
+    refs: &'r [Ref],
+    names: Option<BTreeSet<&'r [u8]>>,
+    ghost named: { KnowsNames refs.now names },
+}
+
+// The refs, to be compared with so many refspecs.
+fn looked_at(alloc: Global, refs: &[Ref], count: usize) -> Result<Looked<'_>, AllocError>
+    ensures { IfOk result (λ looked. looked.refs.now ≡ refs.now) }
+{
+    let names = if count < MANY {
+        None
+    } else {
+        Some(names_of(alloc, refs)?)
+    };
+    Ok(Looked { refs, names })
+}
+
 // Whether a ref of the server that has an object has a name that the source matches.
 fn is_match(needle: &Needle<'_>, found: &Ref) -> bool
     ensures { result ≡ is_match_with needle.now found.now }
 {
-    found.unpack().1.is_some() && needle.middle(found.name().as_bytes()).is_some()
+    has_object(found) && needle.middle(found.name().as_bytes()).is_some()
 }
 
 // Whether one of the refs is so.
@@ -34,6 +60,24 @@ fn has_match(needle: &Needle<'_>, refs: &[Ref]) -> bool
     ensures { result ≡ list_any (is_match_with needle.now) refs.now }
 {
     refs.iter().any(|found| is_match(needle, found))
+}
+
+// The same by the set of names. A pattern is compared with each.
+fn has_name(
+    alloc: Global,
+    needle: &Needle<'_>,
+    names: &BTreeSet<&[u8]>,
+    refs: &[Ref],
+) -> Result<bool, AllocError>
+    requires { HasNames refs.now names.now }
+    ensures { IfOk result (λ found. found ≡ list_any (is_match_with needle.now) refs.now) }
+{
+    match needle {
+        Needle::Exact(name) => Ok(names.contains(*name)),
+        Needle::Short(name) => has_candidate(alloc, names, name),
+        Needle::Id => Ok(false),
+        Needle::Pattern { .. } => Ok(has_match(needle, refs)),
+    }
 }
 
 // Whether a source is an object id.
@@ -44,42 +88,59 @@ fn is_id(source: &[u8]) -> bool
 }
 
 // Whether one of the refs that have an object has a name that a source matches.
-fn is_matched(source: &[u8], refs: &[Ref]) -> bool
-    ensures { (s : Spec) → s.source ≡ source.now → result ≡ list_any (is_match s) refs.now }
+fn is_matched(alloc: Global, source: &[u8], looked: &Looked<'_>) -> Result<bool, AllocError>
+    ensures { IfOk result (λ found. (s : Spec) → s.source ≡ source.now → found ≡ list_any (is_match s) looked.now.refs.now) }
 {
-    has_match(&Needle::new(source), refs)
+    let needle = Needle::new(source);
+    match &looked.names {
+        Some(names) => has_name(alloc, &needle, names, looked.refs),
+        None => Ok(has_match(&needle, looked.refs)),
+    }
 }
 
 // Whether a refspec asks for names of which none is there.
-fn is_unmatched(spec: RefSpecRef<'_>, refs: &[Ref]) -> bool
-    ensures { result ≡ is_unmatched refs.now (value_of spec.entry) }
+fn is_unmatched(
+    alloc: Global,
+    spec: RefSpecRef<'_>,
+    looked: &Looked<'_>,
+) -> Result<bool, AllocError>
+    ensures { IfOk result (λ is_so. is_so ≡ is_unmatched looked.now.refs.now (value_of spec.entry)) }
 {
-    !is_negative(spec.sign) && !is_id(spec.source) && !is_matched(spec.source, refs)
+    if is_negative(spec.sign) || is_id(spec.source) {
+        return Ok(false);
+    }
+    let is_matched = is_matched(alloc, spec.source, looked)?;
+    Ok(!is_matched)
 }
 
 // What is noted of a refspec at a place.
-fn note_on(refs: &[Ref], index: usize, spec: &RefSpec) -> Option<UnmatchedSpec>
-    ensures { option_to_list result ≡ note_on refs.now (index, spec.now) }
+fn note_on(
+    alloc: Global,
+    looked: &Looked<'_>,
+    index: usize,
+    spec: &RefSpec,
+) -> Result<Option<UnmatchedSpec>, AllocError>
+    ensures { IfOk result (λ note. option_to_list note ≡ note_on looked.now.refs.now (index, spec.now)) }
 {
     let spec = spec.to_ref();
-    if is_unmatched(spec, refs) {
-        let is_pattern = stars(spec.source) > 0;
-        Some(UnmatchedSpec { index, is_pattern })
-    } else {
-        None
+    if !is_unmatched(alloc, spec, looked)? {
+        return Ok(None);
     }
+    let is_pattern = stars(spec.source) > 0;
+    Ok(Some(UnmatchedSpec { index, is_pattern }))
 }
 
 // Appends what is noted of a refspec at a place.
 fn push_note(
+    alloc: Global,
     notes: &mut Vec<UnmatchedSpec>,
-    refs: &[Ref],
+    looked: &Looked<'_>,
     index: usize,
     spec: &RefSpec,
 ) -> Result<(), AllocError>
-    ensures { OnOk result (notes.new.items ≡ notes.old.items ++ note_on refs.now (index, spec.now)) }
+    ensures { OnOk result (notes.new.items ≡ notes.old.items ++ note_on looked.now.refs.now (index, spec.now)) }
 {
-    if let Some(note) = note_on(refs, index, spec) {
+    if let Some(note) = note_on(alloc, looked, index, spec)? {
         notes.push(note)?;
     }
     Ok(())
@@ -95,8 +156,9 @@ pub fn unmatched(alloc: Global, map: &RefMap) -> Result<Vec<UnmatchedSpec>, Allo
     ensures { IfOk result (λ found. found.items ≡ unmatched_of map.now.remote_refs.items map.now.refspecs.items) }
 {
     let mut notes = Vec::new(alloc);
+    let looked = looked_at(alloc, &map.remote_refs, map.refspecs.len())?;
     'specs: for (index, spec) in map.refspecs.iter().enumerate() {
-        push_note(&mut notes, &map.remote_refs, index, spec)?;
+        push_note(alloc, &mut notes, &looked, index, spec)?;
     }
     Ok(notes)
 }
