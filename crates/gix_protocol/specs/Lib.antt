@@ -304,10 +304,15 @@ pub use Rattle.gixp_updates.specs.declared.refs.error.Error as UpdateErrorType
 pub use Rattle.gixp_updates.specs.declared.refs.unmatched.UnmatchedSpec as UnmatchedSpecType
 pub use Rattle.gixp_updates.specs.declared.refs.update.Mode as ModeType
 pub use Rattle.gixp_updates.specs.declared.refs.update.Options as UpdateOptionsType
+pub use Rattle.gixp_client.specs.Boundaries
+pub use Rattle.gixp_client.specs.Changes
 pub use Rattle.gixp_client.specs.ClientCalls
 pub use Rattle.gixp_client.specs.ClientError
 pub use Rattle.gixp_client.specs.ClientPromise
 pub use Rattle.gixp_client.specs.Filters
+pub use Rattle.gixp_client.specs.Heard
+pub use Rattle.gixp_client.specs.Listening
+pub use Rattle.gixp_client.specs.Requests
 pub use Rattle.gixp_client.specs.Windows
 pub use Rattle.gixp_client.specs.declared.error.Error as SessionErrorType
 pub use Rattle.gixp_client.specs.declared.request.Request as RequestType

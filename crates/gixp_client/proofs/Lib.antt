@@ -1,3 +1,6 @@
 pub mod PromiseLemmas
 pub mod RunLemmas
 pub mod CloneLemmas
+pub mod ShownLemmas
+pub mod ChangeLemmas
+pub mod BoundaryLemmas

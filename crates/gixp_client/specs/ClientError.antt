@@ -1,5 +1,6 @@
 -- Why a call of a client's session is refused, by the errors of the calls below.
-use Rattle.std.specs.Prelude.{◌≡◌, ◌⊎◌, ℕ, ⊤, List, Option, Some, None, String, string_bytes}
+use Rattle.std.specs.Prelude.{◌≡◌, ◌⊎◌, ℕ, ⊤, List, codes, Option, Some, None, String, string_bytes}
+use Rattle.std.specs.declared.io.ErrorKind.{ErrorKind}
 use Rattle.std.specs.declared.alloc.Global.{Global}
 use Rattle.bstr.specs.Owned.{bstring_bytes}
 use Rattle.gixp_packetline.specs.ServerMessage.{read_message}
@@ -8,6 +9,8 @@ use Rattle.gixp_capabilities.specs.ClientMessage.{client_message}
 use Rattle.gixp_capabilities.specs.declared.client.Error.{Error as ClientError}
 use Rattle.gixp_capabilities.specs.declared.client.Error.TheVariants as client
 use Rattle.gixp_response.specs.AnswerMessage.{answer_message}
+use Rattle.gixp_response.specs.declared.fetch.response.error.Error.{Error as AnswerError}
+use Rattle.gixp_response.specs.declared.fetch.response.error.Error.TheVariants as answer
 use Rattle.gixp_refs.specs.RefsMessage.{refs_message}
 use Rattle.gixp_refs.specs.declared.handshake.refs.parse.Error.{Error as ParseError}
 use Rattle.gixp_refs.specs.declared.handshake.refs.parse.Error.TheVariants as parse
@@ -38,6 +41,54 @@ said_in (Pack (pack.Read e)) = read_message e
 said_in (Rest e) = read_message e
 said_in (Reported message) = Some (bstring_bytes message)
 said_in _ = None
+
+-- ---- reads and writes that failed
+
+-- of a call that speaks to the server
+abbrev pub client_kind : ClientError → Option ErrorKind
+client_kind (client.Io kind) = Some kind
+client_kind (client.Read (read.Io kind)) = Some kind
+client_kind _ = None
+
+-- of a reader of refs
+abbrev pub parse_kind : ParseError → Option ErrorKind
+parse_kind (parse.Io kind) = Some kind
+parse_kind _ = None
+
+-- of a reader of answers
+abbrev pub answer_kind : AnswerError → Option ErrorKind
+answer_kind (answer.Io kind) = Some kind
+answer_kind (answer.Transport e) = client_kind e
+answer_kind _ = None
+
+-- of a consumer of a pack: what it writes isn't the connection's
+abbrev pub pack_kind : PackError → Option ErrorKind
+pack_kind (pack.Read (read.Io kind)) = Some kind
+pack_kind _ = None
+
+-- the kind of the read or write that failed
+abbrev pub kind_in : Error → Option ErrorKind
+kind_in (Handshake (shake.Transport e)) = client_kind e
+kind_in (Handshake (shake.ParseRefs e)) = parse_kind e
+kind_in (Refs e) = parse_kind e
+kind_in (Request e) = client_kind e
+kind_in (Answer e) = answer_kind e
+kind_in (Pack e) = pack_kind e
+kind_in (Rest (read.Io kind)) = Some kind
+kind_in _ = None
+
+-- where it happened, in words
+abbrev pub place_of : Error → List ℕ
+place_of (Handshake (shake.ParseRefs e)) = codes "the list of refs"
+place_of (Refs e) = codes "the list of refs"
+place_of (Handshake _) = codes "the handshake"
+place_of (Request e) = codes "a request"
+place_of (Answer e) = codes "an answer"
+place_of (Pack e) = codes "the pack"
+place_of (Rest e) = codes "what comes behind the pack"
+place_of _ = codes "the session"
+
+-- ---- the errors of the calls below
 
 -- the error of a refused handshake
 abbrev pub of_shake : ShakeError → Error

@@ -3,3 +3,8 @@ pub mod Filters
 pub mod ClientError
 pub mod ClientCalls
 pub mod ClientPromise
+pub mod Listening
+pub mod Heard
+pub mod Boundaries
+pub mod Changes
+pub mod Requests

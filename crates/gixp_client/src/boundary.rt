@@ -1,4 +1,11 @@
 //! What becomes of the shallow boundary.
+ghost use Rattle.std.specs.Prelude.{◌≡◌, ◌||◌, [], IfOk, OnOk};
+ghost use Rattle.std.specs.BTreeSet.{contains};
+ghost use Rattle.std.specs.Ordering.{eq_by_cmp};
+ghost use Rattle.gixp_hash.specs.ObjectId.{id_cmp};
+ghost use Rattle.gixp_hash.specs.declared.object_id.ObjectId.{ObjectId};
+ghost use Rattle.gixp_client.specs.Boundaries.{has_id, ids_beyond, updates_between};
+
 use gixp_hash::ObjectId;
 use gixp_response::fetch::response::ShallowUpdate;
 use std::alloc::{AllocError, Global};
@@ -19,8 +26,12 @@ pub struct Boundary {
 }
 
 impl Boundary {
+    ghost use Rattle.gixp_client.specs.Boundaries.{IsLeftBoundary, IsBoundaryAfter};
+
     // The boundary stays.
-    pub(crate) fn kept(alloc: Global, before: &[ObjectId]) -> Result<Boundary, AllocError> {
+    pub(crate) fn kept(alloc: Global, before: &[ObjectId]) -> Result<Boundary, AllocError>
+        ensures { IfOk result (IsLeftBoundary before.now [] []) }
+    {
         Ok(Boundary {
             ids: Vec::from_slice(alloc, before)?,
             asked_for: Vec::new(alloc),
@@ -34,7 +45,9 @@ impl Boundary {
         before: &[ObjectId],
         after: &[ObjectId],
         is_asked: bool,
-    ) -> Result<Boundary, AllocError> {
+    ) -> Result<Boundary, AllocError>
+        ensures { IfOk result (IsBoundaryAfter is_asked before.now after.now) }
+    {
         let updates = updates_between(alloc, before, after)?;
         if is_asked {
             return Ok(Boundary {
@@ -51,18 +64,43 @@ impl Boundary {
     }
 }
 
+// Adds an id.
+fn insert_id(set: &mut BTreeSet<ObjectId>, id: ObjectId) -> Result<(), AllocError>
+    ensures { OnOk result ((q : ObjectId) → contains id_cmp set.new q ≡ (eq_by_cmp id_cmp id q || contains id_cmp set.old q)) }
+{
+    set.insert(id)?;
+    Ok(())
+}
+
+// Ids as a set.
+fn set_of(alloc: Global, ids: &[ObjectId]) -> Result<BTreeSet<ObjectId>, AllocError>
+    ensures { IfOk result (λ set. (id : ObjectId) → contains id_cmp set id ≡ has_id ids.now id) }
+{
+    let mut set = BTreeSet::new(alloc);
+    let mut rest = ids;
+    while let Some((id, tail)) = rest.split_first() {
+        insert_id(&mut set, *id)?;
+        rest = tail;
+    }
+    Ok(set)
+}
+
 // The ids of one boundary that another doesn't have.
 fn ids_beyond(
     alloc: Global,
     ids: &[ObjectId],
     others: &[ObjectId],
-) -> Result<Vec<ObjectId>, AllocError> {
-    let others: BTreeSet<ObjectId> = others.iter().copied().collect(alloc)?;
+) -> Result<Vec<ObjectId>, AllocError>
+    ensures { IfOk result (λ found. found.items ≡ ids_beyond ids.now others.now) }
+{
+    let set = set_of(alloc, others)?;
     let mut found = Vec::new(alloc);
-    for id in ids {
-        if !others.contains(id) {
+    let mut rest = ids;
+    while let Some((id, tail)) = rest.split_first() {
+        if !set.contains(id) {
             found.push(*id)?;
         }
+        rest = tail;
     }
     Ok(found)
 }
@@ -72,13 +110,13 @@ fn updates_between(
     alloc: Global,
     before: &[ObjectId],
     after: &[ObjectId],
-) -> Result<Vec<ShallowUpdate>, AllocError> {
-    let mut updates = Vec::new(alloc);
-    for id in ids_beyond(alloc, after, before)? {
-        updates.push(ShallowUpdate::Shallow(id))?;
-    }
-    for id in ids_beyond(alloc, before, after)? {
-        updates.push(ShallowUpdate::Unshallow(id))?;
-    }
-    Ok(updates)
+) -> Result<Vec<ShallowUpdate>, AllocError>
+    ensures { IfOk result (λ updates. updates.items ≡ updates_between before.now after.now) }
+{
+    let came = ids_beyond(alloc, after, before)?;
+    let went = ids_beyond(alloc, before, after)?;
+    came.iter()
+        .map(|id| ShallowUpdate::Shallow(*id))
+        .chain(went.iter().map(|id| ShallowUpdate::Unshallow(*id)))
+        .collect(alloc)
 }

@@ -1,4 +1,14 @@
 //! What refspecs make of the local refs, by the refs of a server.
+ghost use Rattle.std.specs.Prelude.{◌≡◌, ℕ, ◌&&◌, ◌||◌, not, ◌++◌, List, IfOk, OnOk, map};
+ghost use Rattle.std.specs.Option.{option_map};
+ghost use Rattle.std.specs.List.{filter_map, flat_map};
+ghost use Rattle.std.specs.Str.{bytes_eq};
+ghost use Rattle.std.specs.FinMap as finite;
+ghost use Rattle.bstr.specs.Owned.{bstring_bytes};
+ghost use Rattle.gixp_hash.specs.declared.object_id.ObjectId.{ObjectId};
+ghost use Rattle.gixp_refspec.specs.RefSpec.{owned_value_of};
+ghost use Rattle.gixp_client.specs.Changes.{change_value, change_values, listed_value, change_to, change_by, stands_for, writes, is_written, goes_to, is_mapped, has_key, removals, removals_of, changes_of};
+
 use bstr::BString;
 use gixp_graph::RefStore;
 use gixp_hash::ObjectId;
@@ -48,15 +58,25 @@ pub enum LocalChange {
 
 /// Local refs that can be listed.
 pub trait ListedRefs: RefStore {
+    /// The refs that hold an id, in the order of their listing.
+    ghost listed: { Self → List (List ℕ × ObjectId) };
+
     /// Each ref that holds an id: its full name and the id.
     ///
     /// # Errors
     ///
     /// An allocation failure alone.
-    fn list(&self, alloc: Global) -> Result<Vec<(BString, ObjectId)>, AllocError>;
+    fn list(&self, alloc: Global) -> Result<Vec<(BString, ObjectId)>, AllocError>
+        ensures listed { IfOk result (λ found. map listed_value found.items ≡ listed self.now) }
+        ensures all { Self.refs self.now ≡ finite.from_entries (listed self.now) };
 }
 
 impl ListedRefs for StoredRefs {
+    ghost use Rattle.std.specs.Prelude.{map};
+    ghost use Rattle.gixp_memory.specs.Repository.{held_ref};
+
+    ghost listed = { λ s. map held_ref s };
+
     fn list(&self, alloc: Global) -> Result<Vec<(BString, ObjectId)>, AllocError> {
         let mut refs = Vec::new(alloc);
         for (name, id) in self.to_vec(alloc)? {
@@ -67,11 +87,13 @@ impl ListedRefs for StoredRefs {
 }
 
 // What becomes of a ref that is to hold an id.
-fn change_of(name: BString, old: Option<ObjectId>, id: ObjectId) -> LocalChange {
+fn change_of(name: BString, old: Option<ObjectId>, id: ObjectId) -> LocalChange
+    ensures { change_value result ≡ change_to (bstring_bytes name) old id }
+{
     match old {
         None => LocalChange::Made { name, id },
         Some(old) => {
-            if old == id {
+            if old.bytes == id.bytes {
                 LocalChange::Kept { name, id }
             } else {
                 LocalChange::Moved { name, old, new: id }
@@ -85,46 +107,132 @@ fn mapped_change<R: RefStore>(
     alloc: Global,
     mapping: &Mapping,
     refs: &R,
-) -> Result<Option<LocalChange>, AllocError> {
-    let (Some(name), Some(id)) = (&mapping.local, mapping.remote.as_id()) else {
-        return Ok(None);
-    };
+) -> Result<Option<LocalChange>, AllocError>
+    ensures { IfOk result (λ change. option_map change_value change ≡ change_by (R.refs refs.now) mapping.now) }
+{
     if !mapping.has_safe_local_name() {
         return Ok(None);
     }
+    let Some(name) = &mapping.local else {
+        return Ok(None);
+    };
+    let Some(id) = mapping.remote.as_id() else {
+        return Ok(None);
+    };
     let name = BString::from_slice(alloc, name.as_bytes())?;
     let old = refs.find(name.as_bstr());
     Ok(Some(change_of(name, old, *id)))
 }
 
+// What becomes of those of some mappings.
+fn mapped_changes<R: RefStore>(
+    alloc: Global,
+    mappings: &[Mapping],
+    refs: &R,
+) -> Result<Vec<LocalChange>, AllocError>
+    ensures { IfOk result (λ changes. change_values changes.items ≡ filter_map (change_by (R.refs refs.now)) mappings.now) }
+{
+    let mut changes = Vec::new(alloc);
+    let mut rest = mappings;
+    while let Some((mapping, tail)) = rest.split_first() {
+        if let Some(change) = mapped_change(alloc, mapping, refs)? {
+            changes.push(change)?;
+        }
+        rest = tail;
+    }
+    Ok(changes)
+}
+
 // Whether a destination stands for a name.
-fn is_destination(destination: &[u8], name: &[u8]) -> bool {
+fn stands_for(destination: &[u8], name: &[u8]) -> bool
+    ensures { result ≡ stands_for destination.now name.now }
+{
     match around_star(destination) {
-        Some((front, back)) => match name.strip_prefix(front) {
-            Some(rest) => rest.ends_with(back),
-            None => false,
-        },
+        Some((front, back)) => name.starts_with(front) && name[front.len()..].ends_with(back),
         None => destination == name,
     }
 }
 
 // Whether a refspec writes a ref of this name.
-fn writes(spec: &RefSpec, name: &[u8]) -> bool {
+fn writes(spec: &RefSpec, name: &[u8]) -> bool
+    ensures { result ≡ writes (owned_value_of spec.now) name.now }
+{
     match spec.to_ref().instruction() {
-        Instruction::Fetch(Fetch::AndUpdate { dst, .. }) => is_destination(dst.as_bytes(), name),
+        Instruction::Fetch(Fetch::AndUpdate { dst, .. }) => stands_for(dst.as_bytes(), name),
         Instruction::Fetch(Fetch::Only { .. } | Fetch::Exclude { .. }) => false,
     }
 }
 
+// Whether one of them does.
+fn is_written(specs: &[RefSpec], name: &[u8]) -> bool
+    ensures { result ≡ is_written specs.now name.now }
+{
+    specs.iter().any(|spec| writes(spec, name))
+}
+
+// Adds a name.
+fn insert_name<'a>(names: &mut BTreeSet<&'a [u8]>, name: &'a BString) -> Result<(), AllocError>
+    ensures { OnOk result ((text : List ℕ) → has_key names.new text ≡ (bytes_eq (bstring_bytes name.now) text || has_key names.old text)) }
+{
+    names.insert(name.as_bytes())?;
+    Ok(())
+}
+
+// Adds the name that a mapping goes to.
+fn add_name<'a>(names: &mut BTreeSet<&'a [u8]>, mapping: &'a Mapping) -> Result<(), AllocError>
+    ensures { OnOk result ((name : List ℕ) → has_key names.new name ≡ (goes_to mapping.now name || has_key names.old name)) }
+{
+    match &mapping.local {
+        Some(name) => insert_name(names, name),
+        None => Ok(()),
+    }
+}
+
 // The names that mappings go to.
-fn mapped_names(alloc: Global, mappings: &[Mapping]) -> Result<BTreeSet<Vec<u8>>, AllocError> {
+fn mapped_names(alloc: Global, mappings: &[Mapping]) -> Result<BTreeSet<&[u8]>, AllocError>
+    ensures { IfOk result (λ names. (name : List ℕ) → has_key names name ≡ is_mapped mappings.now name) }
+{
     let mut names = BTreeSet::new(alloc);
-    for mapping in mappings {
-        if let Some(name) = &mapping.local {
-            names.insert(Vec::from_slice(alloc, name.as_bytes())?)?;
-        }
+    let mut rest = mappings;
+    while let Some((mapping, tail)) = rest.split_first() {
+        add_name(&mut names, mapping)?;
+        rest = tail;
     }
     Ok(names)
+}
+
+// Adds the removal of a ref that a refspec stands for and no mapping goes to.
+fn add_removal(
+    changes: &mut Vec<LocalChange>,
+    specs: &[RefSpec],
+    mapped: &BTreeSet<&[u8]>,
+    name: BString,
+    old: ObjectId,
+) -> Result<(), AllocError>
+    ensures { OnOk result (change_values changes.new.items ≡ change_values changes.old.items
+        ++ removals (is_written specs.now (bstring_bytes name) && not (has_key mapped.now (bstring_bytes name))) (bstring_bytes name, old)) }
+{
+    if is_written(specs, name.as_bytes()) && !mapped.contains(name.as_bytes()) {
+        changes.push(LocalChange::Removed { name, old })?;
+    }
+    Ok(())
+}
+
+// Adds the removals of refs that a refspec stands for and no mapping goes to.
+fn add_removals(
+    alloc: Global,
+    changes: &mut Vec<LocalChange>,
+    found: &RefMap,
+    refs: Vec<(BString, ObjectId)>,
+) -> Result<(), AllocError>
+    ensures { OnOk result (change_values changes.new.items ≡ change_values changes.old.items
+        ++ flat_map (removals_of found.now.refspecs.items found.now.mappings.items) (map listed_value refs.items)) }
+{
+    let mapped = mapped_names(alloc, &found.mappings)?;
+    'refs: for (name, old) in refs {
+        add_removal(changes, &found.refspecs, &mapped, name, old)?;
+    }
+    Ok(())
 }
 
 /// What becomes of the local refs by a ref map: first of each that a mapping goes to, in the order of the map, then of those that one
@@ -140,22 +248,12 @@ pub fn local_changes<R: ListedRefs>(
     alloc: Global,
     map: &RefMap,
     refs: &R,
-) -> Result<Vec<LocalChange>, AllocError> {
-    let mut changes = Vec::new(alloc);
-    for mapping in &map.mappings {
-        if let Some(change) = mapped_change(alloc, mapping, refs)? {
-            changes.push(change)?;
-        }
-    }
-    let mapped = mapped_names(alloc, &map.mappings)?;
-    for (name, old) in refs.list(alloc)? {
-        let is_written = map
-            .refspecs
-            .iter()
-            .any(|spec| writes(spec, name.as_bytes()));
-        if is_written && !mapped.contains(name.as_bytes()) {
-            changes.push(LocalChange::Removed { name, old })?;
-        }
-    }
+) -> Result<Vec<LocalChange>, AllocError>
+    ensures { IfOk result (λ changes. change_values changes.items
+        ≡ changes_of map.now.mappings.items map.now.refspecs.items (R.refs refs.now) (R.listed refs.now)) }
+{
+    let mut changes = mapped_changes(alloc, &map.mappings, refs)?;
+    let listed = refs.list(alloc)?;
+    add_removals(alloc, &mut changes, map, listed)?;
     Ok(changes)
 }

@@ -2,7 +2,7 @@
 ghost use Rattle.std.specs.Prelude.{◌≡◌};
 ghost use Rattle.std.specs.Option.{option_map};
 ghost use Rattle.bstr.specs.BStr.{bstr_bytes};
-ghost use Rattle.gixp_client.specs.ClientError.{said_in, of_shake, of_refs, of_list, of_init, of_request, of_negotiation, of_refused_pack};
+ghost use Rattle.gixp_client.specs.ClientError.{said_in, place_of, kind_in, of_shake, of_refs, of_list, of_init, of_request, of_negotiation, of_refused_pack};
 
 use crate::consumer::PackError;
 use crate::refusal::{answer_kind, client_kind, pack_kind, parse_kind, write_words};
@@ -102,7 +102,9 @@ impl Error {
     }
 
     // Where it happened, in words.
-    fn place(&self) -> &'static str {
+    fn place(&self) -> &'static str
+        ensures { result.now ≡ place_of self.now }
+    {
         match self {
             Error::Handshake(handshake::Error::ParseRefs(_)) | Error::Refs(_) => "the list of refs",
             Error::Handshake(_) => "the handshake",
@@ -115,7 +117,9 @@ impl Error {
     }
 
     /// The kind of the read or write that failed; `UnexpectedEof` where the connection ended.
-    pub fn io_kind(&self) -> Option<ErrorKind> {
+    pub fn io_kind(&self) -> Option<ErrorKind>
+        ensures { result ≡ kind_in self.now }
+    {
         match self {
             Error::Handshake(handshake::Error::Transport(e)) => client_kind(e),
             Error::Handshake(handshake::Error::ParseRefs(e)) => parse_kind(e),

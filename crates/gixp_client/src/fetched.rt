@@ -1,4 +1,6 @@
 //! What came of a fetch.
+ghost use Rattle.std.specs.Prelude.{◌≡◌, is_some};
+
 use crate::boundary::Boundary;
 use crate::listen::Kept;
 use gixp_fetch::options::Outcome;
@@ -16,7 +18,9 @@ pub struct Fetched {
 
 impl Fetched {
     /// Whether a pack came.
-    pub fn has_pack(&self) -> bool {
+    pub fn has_pack(&self) -> bool
+        ensures { result ≡ is_some self.now.outcome }
+    {
         self.outcome.is_some()
     }
 }

@@ -1,5 +1,8 @@
 //! A transport whose texts are heard as they come.
 ghost use Rattle.std.specs.Prelude.{◌≡◌};
+ghost use Rattle.std.specs.Option.{option_map};
+ghost use Rattle.gixp_client.specs.Listening.{text_in};
+ghost use Rattle.gixp_client.specs.Heard.{HearsLine};
 
 use crate::listen::{Kept, Listener};
 use bstr::BStr;
@@ -19,10 +22,15 @@ pub struct Heard<T, L> {
 }
 
 // Which text a line has: of an error, or of progress.
-fn band_of(line: &[u8]) -> Option<(bool, &[u8])> {
-    match line {
-        [2, text @ ..] => Some((false, text)),
-        [3, text @ ..] => Some((true, text)),
+fn text_in(line: &[u8]) -> Option<(bool, &[u8])>
+    ensures { option_map (λ text. (text.0, text.1.now)) result ≡ text_in line.now }
+{
+    let Some((band, text)) = line.split_first() else {
+        return None;
+    };
+    match *band {
+        2 => Some((false, text)),
+        3 => Some((true, text)),
         _ => None,
     }
 }
@@ -64,9 +72,11 @@ impl<T, L: Drop> Heard<T, L> {
 impl<T: ExtendedBufRead, L: Listener> Heard<T, L> {
     // Tells the text of the line that was taken, if it has one.
     fn tell(&mut self)
-        ensures { self.new.inner ≡ self.old.inner }
+        ensures inner { self.new.inner ≡ self.old.inner }
+        ensures heard { HearsLine L.hears (text_in (T.reading self.old.inner).line) self.old.listener self.old.kept
+            self.new.listener self.new.kept }
     {
-        if let Some((is_error, text)) = band_of(self.inner.line()) {
+        if let Some((is_error, text)) = text_in(self.inner.line()) {
             self.listener.hear(is_error, text);
             self.kept.hear(is_error, text);
         }

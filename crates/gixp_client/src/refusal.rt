@@ -1,6 +1,6 @@
 //! What lower errors say of a read or a write that failed, and the words of a server as they are shown.
 ghost use Rattle.std.specs.Prelude.{◌≡◌};
-ghost use Rattle.gixp_client.specs.ClientError.{NamesMissing, IsToldOf};
+ghost use Rattle.gixp_client.specs.ClientError.{NamesMissing, IsToldOf, client_kind, parse_kind, answer_kind, pack_kind};
 ghost use Rattle.gixp_client.specs.ClientCalls.{IsToldCame};
 
 use crate::consumer::PackError;
@@ -16,7 +16,9 @@ use std::fmt;
 use std::io::ErrorKind;
 
 /// That of a call which speaks to the server.
-pub(crate) fn client_kind(e: &client::Error) -> Option<ErrorKind> {
+pub(crate) fn client_kind(e: &client::Error) -> Option<ErrorKind>
+    ensures { result ≡ client_kind e.now }
+{
     match e {
         client::Error::Io(kind) => Some(*kind),
         client::Error::Read(read::Error::Io(kind)) => Some(*kind),
@@ -25,7 +27,9 @@ pub(crate) fn client_kind(e: &client::Error) -> Option<ErrorKind> {
 }
 
 /// That of a reader of refs.
-pub(crate) fn parse_kind(e: &parse::Error) -> Option<ErrorKind> {
+pub(crate) fn parse_kind(e: &parse::Error) -> Option<ErrorKind>
+    ensures { result ≡ parse_kind e.now }
+{
     match e {
         parse::Error::Io(kind) => Some(*kind),
         _ => None,
@@ -33,7 +37,9 @@ pub(crate) fn parse_kind(e: &parse::Error) -> Option<ErrorKind> {
 }
 
 /// That of a reader of answers.
-pub(crate) fn answer_kind(e: &response::Error) -> Option<ErrorKind> {
+pub(crate) fn answer_kind(e: &response::Error) -> Option<ErrorKind>
+    ensures { result ≡ answer_kind e.now }
+{
     match e {
         response::Error::Io(kind) => Some(*kind),
         response::Error::Transport(e) => client_kind(e),
@@ -42,7 +48,9 @@ pub(crate) fn answer_kind(e: &response::Error) -> Option<ErrorKind> {
 }
 
 /// That of a consumer of the pack.
-pub(crate) fn pack_kind(e: &PackError) -> Option<ErrorKind> {
+pub(crate) fn pack_kind(e: &PackError) -> Option<ErrorKind>
+    ensures { result ≡ pack_kind e.now }
+{
     match e {
         PackError::Read(read::Error::Io(kind)) => Some(*kind),
         _ => None,

@@ -1,5 +1,5 @@
 //! What a session is asked for.
-ghost use Rattle.std.specs.Prelude.{◌≡◌, IfOk, map};
+ghost use Rattle.std.specs.Prelude.{◌≡◌, IfOk, IfErr, OnOk, OnErr, map};
 ghost use Rattle.gixp_refspec.specs.RefSpec.{owned_value_of};
 ghost use Rattle.gixp_refmap.specs.Tags.{tags_asked};
 ghost use Rattle.gixp_refmap.specs.Values.{context_value};
@@ -40,9 +40,12 @@ pub struct Request {
 
 impl Request {
     ghost use Rattle.gixp_client.specs.ClientCalls.{asked_specs};
+    ghost use Rattle.gixp_client.specs.Requests.{IsDefaultRequest, AddsSpec, IsSpecRefusal, SetsFilter};
 
     /// No refspecs yet, and the defaults of `git fetch`.
-    pub fn new(alloc: Global) -> Request {
+    pub fn new(alloc: Global) -> Request
+        ensures { IsDefaultRequest result }
+    {
         Request {
             alloc,
             refspecs: Vec::new(alloc),
@@ -61,7 +64,12 @@ impl Request {
     /// # Errors
     ///
     /// `Refspec` where the text is none, or `Memory`. Nothing is added then.
-    pub fn add_refspec(&mut self, text: &[u8]) -> Result<(), Error> {
+    pub fn add_refspec(&mut self, text: &[u8]) -> Result<(), Error>
+        ensures added { OnOk result (AddsSpec text.now self.old self.new) }
+        ensures refused { IfErr result (IsSpecRefusal text.now) }
+        ensures stays { OnErr result (self.new.refspecs.items ≡ self.old.refspecs.items) }
+        ensures others { self.new ≡ record self.old { refspecs = self.new.refspecs } }
+    {
         match parse(BStr::new(text), Operation::Fetch) {
             Ok(spec) => {
                 let spec = spec.to_owned(self.alloc)?;
@@ -80,7 +88,10 @@ impl Request {
     /// # Errors
     ///
     /// `Memory` alone.
-    pub fn set_filter(&mut self, filter: &str) -> Result<(), Error> {
+    pub fn set_filter(&mut self, filter: &str) -> Result<(), Error>
+        ensures set { OnOk result (SetsFilter filter.now self.old self.new) }
+        ensures refused { IfErr result (λ e. (e ≡ Error.Memory) × (self.new ≡ self.old)) }
+    {
         self.filter = Some(String::from_str(self.alloc, filter)?);
         Ok(())
     }

@@ -1,0 +1,6 @@
+-- The set with an id more.
+use Rattle.gixp_client.proofs.BoundaryLemmas.{id_added}
+use Rattle.gixp_client.proofs.boundary.insert_id.Goals as goal
+
+pub returns : goal.returns
+returns c = λ q. id_added c.args.set.now c.insert.new.self c.args.id q c.in_ok-insert.ensures.updates

@@ -1,0 +1,10 @@
+-- The value of the text, behind the others.
+use Rattle.std.proofs.Common.{◌≡◌}
+use Rattle.gixp_client.proofs.request.Request.add_refspec.Goals as goal
+
+pub returns-in_ok-push-in-Ok-clause-added : goal.returns-in_ok-push-in-Ok-clause-added
+returns-in_ok-push-in-Ok-clause-added c = record {
+  added = c.in_ok-spec-in-Ok.spec;
+  value = cc (c.new.ensures, c.in-Ok.ensures, c.in_ok-spec-in-Ok.ensures);
+  behind = c.in_ok-push-in-Ok.ensures.items;
+}

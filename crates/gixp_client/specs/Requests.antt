@@ -1,0 +1,42 @@
+-- What a session is asked for, and how that is put together (git-fetch, "OPTIONS").
+use Rattle.std.specs.Prelude.{◌≡◌, ℕ, ⊤, Bool, true, false, List, [], ◌∷◌, ◌++◌, Option, Some, None, Result, Ok, Err, String, string_bytes}
+use Rattle.std.specs.declared.alloc.Global.{Global}
+use Rattle.bstr.specs.Owned.{bstring_bytes}
+use Rattle.gixp_negotiate.specs.declared.shallow.Shallow.TheVariants.{NoChange}
+use Rattle.gixp_negotiators.specs.declared.algorithm.Algorithm.TheVariants.{Consecutive}
+use Rattle.gixp_refmap.specs.declared.fetch.Tags.TheVariants.{Included}
+use Rattle.gixp_refspec.specs.declared.spec.RefSpec.{RefSpec}
+use Rattle.gixp_refspec.specs.RefSpec.{owned_value_of}
+use Rattle.gixp_refspec.specs.Spec.{spec_of}
+use Rattle.gixp_client.specs.declared.error.Error.{Error}
+use Rattle.gixp_client.specs.declared.error.Error.TheVariants as error
+use Rattle.gixp_client.specs.declared.request.Request.{Request}
+
+-- no refspecs, and what `git fetch` does unless it is told otherwise
+pub record IsDefaultRequest (r : Request) : Type 0 where
+  pub refspecs : r.refspecs.items ≡ []
+  pub tags : r.tags ≡ Included
+  pub shallow : r.shallow ≡ NoChange
+  pub algorithm : r.algorithm ≡ Consecutive
+  pub accepts_shallow : r.rejects_shallow ≡ false
+  pub over_pipes : r.is_over_pipes ≡ true
+  pub unfiltered : r.filter ≡ None
+  pub stops : r.goes_on ≡ false
+
+-- the value of a text is added, behind the other refspecs
+pub record AddsSpec (text : List ℕ) (old new : Request) : Type 0 where
+  pub added : RefSpec
+  pub value : spec_of text ≡ Ok (owned_value_of added)
+  pub behind : new.refspecs.items ≡ old.refspecs.items ++ added ∷ []
+
+-- the text is no refspec, and why; or an allocation failed
+abbrev pub IsSpecRefusal : List ℕ → Error → Type 0
+IsSpecRefusal text (error.Refspec spec why) = (bstring_bytes spec ≡ text) × (spec_of text ≡ Err why)
+IsSpecRefusal text error.Memory = ⊤
+IsSpecRefusal text _ = ⊥
+
+-- a filter is asked for, and nothing else changes
+pub record SetsFilter (filter : List ℕ) (old new : Request) : Type 0 where
+  pub text : String Global
+  pub is_filter : string_bytes text ≡ filter
+  pub set : new ≡ record old { filter = Some text }
