@@ -3,3 +3,5 @@ pub mod Dialogue
 pub mod Config
 pub mod Quoting
 pub mod Taken
+pub mod Shown
+pub mod Web

@@ -29,7 +29,11 @@ fn policy_of(word: &[u8]) -> Option<Policy> {
 
 // The policy where no setting says one.
 fn policy_without(transport: &[u8]) -> Policy {
-    if transport == b"ssh".as_slice() || transport == b"git".as_slice() {
+    if transport == b"ssh".as_slice()
+        || transport == b"git".as_slice()
+        || transport == b"http".as_slice()
+        || transport == b"https".as_slice()
+    {
         Policy::Always
     } else {
         Policy::User
