@@ -1,7 +1,8 @@
 //! Why the program ends with an error, and the sentence that says so.
-use bstr::BString;
+use bstr::{BStr, BString};
+use gix_protocol::client;
 use gix_protocol::fetch::refs::update;
-use gix_protocol::transport::{ObjectId, ServerMessage};
+use gix_protocol::transport::ObjectId;
 use gixp_fetch_parts::screened;
 use std::alloc::{AllocError, AllocFailed, Global};
 use std::fmt;
@@ -82,9 +83,13 @@ impl<T: Drop> From<AllocFailed<T>> for Failure {
 }
 
 impl Failure {
-    /// A step was refused with this error.
-    pub fn of_step<E: Display + ServerMessage>(alloc: Global, step: Step, error: &E) -> Failure {
-        match told(alloc, error) {
+    /// A step was refused with this error. A connection that ended within it is told as git tells it.
+    pub fn of_step(alloc: Global, step: Step, error: &client::Error) -> Failure {
+        let words = error.server_message();
+        if words.is_none() && error.io_kind() == Some(ErrorKind::UnexpectedEof) {
+            return Failure::HungUp;
+        }
+        match told(alloc, error, words) {
             Ok((why, said)) => Failure::Step { step, why, said },
             Err(_) => Failure::Memory,
         }
@@ -139,12 +144,13 @@ pub fn front_of(words: &[u8]) -> &[u8] {
 }
 
 // The text of an error, and what the server said as it is shown.
-fn told<E: Display + ServerMessage>(
+fn told(
     alloc: Global,
-    error: &E,
+    error: &client::Error,
+    words: Option<BStr<'_>>,
 ) -> Result<(String, Option<BString>), AllocError> {
     let why = format!(in alloc; "{error}")?;
-    let said = match error.server_message() {
+    let said = match words {
         Some(words) => Some(screened(alloc, front_of(words.as_bytes()), false)?),
         None => None,
     };

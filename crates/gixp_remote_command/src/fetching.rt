@@ -7,27 +7,26 @@ use crate::setup::{haves_of, joined, variable};
 use crate::shell::{NOTHING, Shell, owned};
 use crate::trouble::Trouble;
 use bstr::{BString, ByteSlice};
+use gix_protocol::fetch::negotiate::Algorithm;
 use gix_protocol::fetch::refmap::{Mapping, Source, SpecIndex};
 use gix_protocol::fetch::{RefMap, Shallow, ShallowMemory, Tags, shallow_text};
-use gix_protocol::transport::{Kind, ObjectId, Protocol};
+use gix_protocol::transport::{Discard, Kind, ObjectId, Protocol};
 use gixp_fetch_command::failure::Failure;
 use gixp_fetch_command::receive::PackReceiver;
 use gixp_fetch_command::repository::Repository;
 use gixp_fetch_command::session::{Asked, Session, Sink};
-use gixp_fetch_command::shown::Shown;
 use gixp_fetch_command::{negotiate, unless_failed};
 use gixp_fetch_parts::{Haves, PackPlace, Wish};
 use gixp_remote_parts::{
     Boundary, Choices, Program, Request, Start, Taking, Task, added, boundary_after, is_true,
 };
 use std::alloc::Global;
-use std::cell::Cell;
 use std::collections::BTreeSet;
 use std::fs;
 use std::io::ErrorKind;
 
 /// A session that may be there.
-pub(crate) type Open = Option<Session<'static, Wire>>;
+pub(crate) type Open<'a> = Option<Session<'a, Wire<'a>>>;
 
 /// What a fetch is for.
 #[derive(Clone, Copy)]
@@ -113,7 +112,7 @@ fn known(
         return Ok(new_repository(alloc, boundary));
     }
     let mut found = repository(order.reach.rt, shell, boundary)?;
-    if haves != Haves::InOrder {
+    if haves != Haves::InOrder && haves != Haves::By(Algorithm::Noop) {
         let told = shell.git(
             order.reach.rt,
             &[b"rev-list", b"--all", b"--timestamp", b"--parents"],
@@ -192,13 +191,12 @@ fn add_check(
     Ok(())
 }
 
-// Those of the ids whose objects are here, or the commits among them, as git sees them with these variables.
-fn here(
+// The commits among ids that are here, as git sees them with these variables. Of what a partial clone lacks nothing is fetched.
+fn commits_here(
     order: Order<'_>,
     shell: &mut Shell,
     variables: &[BString],
     ids: &[ObjectId],
-    commits_alone: bool,
 ) -> Result<BTreeSet<ObjectId>, Trouble> {
     let rt = order.reach.rt;
     let alloc = rt.alloc();
@@ -206,17 +204,19 @@ fn here(
     fs::write(rt, "ids", text.as_slice())?;
     let words = owned(
         alloc,
-        &[b"cat-file", b"--batch-check=%(objecttype) %(objectname)"],
+        &[
+            b"rev-list",
+            b"--missing=allow-any",
+            b"--ignore-missing",
+            b"--no-walk=unsorted",
+            b"--stdin",
+        ],
     )?;
     let told = shell.tell(rt, Task::Question, Program::Git, "ids", variables, &words)?;
     let mut found = BTreeSet::new(alloc);
     for line in told.text.as_slice().lines() {
-        if let Some((kind, id)) = line.split_once_str(b" ") {
-            if kind == b"commit".as_slice() || !commits_alone {
-                if let Ok(id) = ObjectId::from_hex(id) {
-                    found.insert(id)?;
-                }
-            }
+        if let Ok(id) = ObjectId::from_hex(line) {
+            found.insert(id)?;
         }
     }
     Ok(found)
@@ -229,29 +229,17 @@ struct Came {
     boundary: Vec<ObjectId>,
 }
 
-/// What shows the server's progress.
-pub(crate) fn shown_of<'a>(
-    rt: &'a HostRuntime,
-    shows_progress: bool,
-    has_failed: &'a Cell<bool>,
-) -> Shown<'a> {
-    Shown {
-        rt,
-        shows_progress,
-        has_failed,
-    }
-}
-
 // Fetches over a session, and gives the new boundary.
 fn fetch_over<P: PackPlace + Drop>(
-    rt: &HostRuntime,
-    session: &mut Session<'static, Wire>,
+    reach: Reach<'_>,
+    session: &mut Session<'_, Wire<'_>>,
     asked: Asked<'_>,
     repository: &mut Repository,
     place: P,
-    shown: &mut Shown<'_>,
 ) -> Result<Vec<ObjectId>, Failure> {
+    let rt = reach.rt;
     let alloc = rt.alloc();
+    reach.seen.failure.set(false);
     let boundary = Vec::from_slice(alloc, &repository.boundary)?;
     let mut sink = Sink {
         boundary: ShallowMemory::new(boundary),
@@ -264,9 +252,9 @@ fn fetch_over<P: PackPlace + Drop>(
         asked,
         Some("commits"),
         &mut sink,
-        shown,
+        &mut Discard,
     );
-    match unless_failed(came, shown.has_failed.get()) {
+    match unless_failed(came, reach.seen.failure.get()) {
         Ok(_) => keep_pack(alloc, &mut sink),
         Err(e) => {
             sink.pack.give_up();
@@ -292,11 +280,30 @@ fn keep_pack<P: PackPlace>(alloc: Global, sink: &mut Sink<P>) -> Result<Vec<Obje
     Ok(Vec::from_slice(alloc, sink.boundary.ids())?)
 }
 
+// Which objects are left out: none where the server can't leave out any.
+fn filter_of<'a>(
+    order: Order<'a>,
+    session: &Session<'_, Wire<'_>>,
+) -> Result<Option<&'a str>, Trouble> {
+    let rt = order.reach.rt;
+    let Some(filter) = &order.choices.filter else {
+        return Ok(None);
+    };
+    if !session.can_filter()? {
+        let _ = eprintln!(rt; "warning: filtering not recognized by server, ignoring");
+        return Ok(None);
+    }
+    match filter.as_bytes().to_str() {
+        Ok(text) => Ok(Some(text)),
+        Err(_) => Err(Trouble::of_word(rt.alloc(), "this filter is no UTF-8:", filter.as_bytes())),
+    }
+}
+
 // A fetch over one session, and what became of the pack.
 fn fetch_by(
     order: Order<'_>,
     shell: &mut Shell,
-    session: &mut Session<'static, Wire>,
+    session: &mut Session<'_, Wire<'_>>,
     wish: &Wish<'_>,
     repository: &mut Repository,
     plan: &PackPlan,
@@ -305,22 +312,15 @@ fn fetch_by(
     let alloc = order.reach.rt.alloc();
     list_commits(order, shell, wish, has_alternates)?;
     let map = map_of(alloc, order.ids)?;
+    let filter = filter_of(order, session)?;
     let asked = Asked {
         map: &map,
         wish: &*wish,
+        filter,
     };
     let plan = plan.copy(alloc)?;
-    let has_failed = Cell::new(false);
-    let mut shown = shown_of(order.reach.rt, order.choices.tells_progress(), &has_failed);
-    let place = IndexedPack::new(order.reach.rt.clone()?, shell, plan);
-    let boundary = fetch_over(
-        order.reach.rt,
-        session,
-        asked,
-        repository,
-        place,
-        &mut shown,
-    )?;
+    let place = IndexedPack::new(order.reach.rt.clone()?, shell, plan, order.reach.seen);
+    let boundary = fetch_over(order.reach, session, asked, repository, place)?;
     let kept = match shell.pack {
         PackState::Kept(kept) => Some(kept),
         PackState::Begun | PackState::Unbegun => None,
@@ -337,10 +337,11 @@ fn was_left(came: &Result<Came, Trouble>, shell: &Shell) -> bool {
 }
 
 // Fetches over the session that is there, or over a new one, also where the one that is there was left by the server.
-fn fetch_once_more(
+fn fetch_once_more<'a>(
     order: Order<'_>,
+    reach: Reach<'a>,
     shell: &mut Shell,
-    open: &mut Open,
+    open: &mut Open<'a>,
     wish: &Wish<'_>,
     repository: &mut Repository,
     plan: &PackPlan,
@@ -356,11 +357,11 @@ fn fetch_once_more(
             plan,
             has_alternates,
         );
-        if !was_left(&came, shell) {
+        if reach.server.is_web() || !was_left(&came, shell) {
             return settle(session, open, came?);
         }
     }
-    let mut session = open_session(order, shell)?;
+    let mut session = connect(reach, shell, order.choices)?;
     let came = fetch_by(
         order,
         shell,
@@ -374,9 +375,9 @@ fn fetch_once_more(
 }
 
 // Keeps a session of version 2, and ends any other.
-fn settle(
-    mut session: Session<'static, Wire>,
-    open: &mut Open,
+fn settle<'a>(
+    mut session: Session<'a, Wire<'a>>,
+    open: &mut Open<'a>,
     came: Came,
 ) -> Result<Came, Trouble> {
     if session.version() == Protocol::V2 {
@@ -399,13 +400,6 @@ fn list_commits(
         start_listing(order, shell, has_alternates)?;
     }
     Ok(())
-}
-
-// Connects with the server.
-fn open_session(order: Order<'_>, shell: &mut Shell) -> Result<Session<'static, Wire>, Trouble> {
-    let has_failed = Cell::new(false);
-    let mut shown = shown_of(order.reach.rt, false, &has_failed);
-    connect(order.reach, shell, &mut shown)
 }
 
 // What is taken of the server's boundary.
@@ -434,13 +428,13 @@ fn boundary_of(
     let mut before = BTreeSet::new(alloc);
     let mut commits = BTreeSet::new(alloc);
     if !ids.is_empty() && taking != Taking::Nothing {
-        before = here(order, shell, &[], &ids, false)?;
+        before = commits_here(order, shell, &[], &ids)?;
         let variables: &[BString] = if came.kept.is_some() {
             &plan.variables
         } else {
             &[]
         };
-        commits = here(order, shell, variables, &ids, true)?;
+        commits = commits_here(order, shell, variables, &ids)?;
     }
     Ok(boundary_after(alloc, taking, &known, &came.boundary, &before, &commits)?)
 }
@@ -512,11 +506,16 @@ pub(crate) struct Fetched {
     pub(crate) is_closed: bool,
 }
 
+// Whether it is checked that all is there that a pack leads to.
+fn is_checked(choices: &Choices) -> bool {
+    choices.checks && !choices.has_depth() && !choices.is_from_promisor
+}
+
 // The flags of `git index-pack`.
 fn flags_of<'a>(alloc: Global, choices: &Choices) -> Result<Vec<&'a [u8]>, Trouble> {
     let mut flags: Vec<&'a [u8]> = Vec::new(alloc);
-    if choices.checks && !choices.has_depth() {
-        flags.push(b"--check-self-contained-and-connected")?;
+    if choices.is_from_promisor {
+        flags.push(b"--promisor")?;
     }
     if choices.tells_progress() {
         flags.push(b"-v")?;
@@ -561,7 +560,7 @@ fn finish(
         Boundary::Stays | Boundary::Refused(_) => {}
     }
     let is_closed = match &came.kept {
-        Some(kept) => kept.is_closed && order.choices.checks && !order.choices.has_depth(),
+        Some(kept) => kept.is_closed,
         None => false,
     };
     Ok(Fetched {
@@ -571,10 +570,11 @@ fn finish(
 }
 
 /// Fetches the objects of these ids.
-pub(crate) fn fetch(
+pub(crate) fn fetch<'a>(
     order: Order<'_>,
+    reach: Reach<'a>,
     shell: &mut Shell,
-    open: &mut Open,
+    open: &mut Open<'a>,
     folder: &[u8],
 ) -> Result<Fetched, Trouble> {
     let rt = order.reach.rt;
@@ -591,10 +591,18 @@ pub(crate) fn fetch(
     let mut repository = known(order, shell, &old, haves)?;
     let checks = checks_of(order, shell)?;
     let flags = flags_of(alloc, order.choices)?;
-    let plan = PackPlan::new(rt, &places, folder, &checks, &flags)?;
+    let plan = PackPlan::new(
+        rt,
+        &places,
+        folder,
+        &checks,
+        &flags,
+        is_checked(order.choices),
+    )?;
     let has_alternates = places.has_alternates(rt);
     let came = fetch_once_more(
         order,
+        reach,
         shell,
         open,
         &wish,
