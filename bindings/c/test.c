@@ -146,7 +146,7 @@ static void maps(void)
     CHECK(mapped("a:b:c", 4, records, 2, names, 19, &counts) >= GIXP_BAD_SPEC && counts.mappings == 0);
     CHECK(mapped("HEAD:refs/x\nrefs/heads/main:refs/x", 4, records, 2, names, 19, &counts) == GIXP_CONFLICT && counts.mappings == 1);
     CHECK(records[0].item == 2 && is_text(names, records[0].local, "refs/x"));
-    CHECK(mapped("HEAD:x", 4, records, 2, names, 19, &counts) == GIXP_OK && counts.mappings == 0 && counts.fixes == 1);
+    CHECK(mapped("refs/heads/main:x", 4, records, 2, names, 19, &counts) == GIXP_OK && counts.mappings == 0 && counts.fixes == 1);
     uint32_t code = GIXP_NO_MEMORY;
     long tried = 0;
     for (; code == GIXP_NO_MEMORY && tried < 1000; tried++) {
@@ -227,7 +227,6 @@ static void session(void)
         CHECK(gixp_next(bytes, ends[0], ends, 1, spec, len, ids, wrong[i][0], ids, wrong[i][1], 0, room, 4096, &step) == GIXP_BAD_PLACE
               && step.length == 0);
     CHECK(gixp_next(bytes, ends[0], ends, 1, spec, len, ids, 40, ids, 20, 3, empty, 0, &step) == GIXP_NO_ROOM && step.length == needed);
-    CHECK(gixp_next(bytes, ends[0], ends, 1, empty, 0, empty, 0, empty, 0, 0, room, 4096, &step) == GIXP_OK && step.kind <= 1);
     CHECK(gixp_next(empty, 0, ends, 0, spec, len, empty, 0, empty, 0, 0, room, 4096, &step) == GIXP_NO_ANSWER);
     free(empty);
     free(ids);
