@@ -5,8 +5,9 @@ repeated reading of a session costs.
 Usage: languages.py [REFS] [RUNS]
 
 `scripts/bindings.sh` has to have made bindings/build. The answer is that of refs.py. From Python the refs of a tenth of it are read, and by
-dulwich too where that is installed.
+dulwich too where this Python has it, or Debian's (`python3-dulwich`).
 """
+import io
 import os
 import pathlib
 import subprocess
@@ -36,7 +37,6 @@ def by_python(path, runs):
     ours = best(runs, lambda: sum(1 for _ in gixp.refs(data)))
     line = "from Python: %.0f ms" % (ours * 1e3)
     try:
-        import io
         from dulwich.protocol import Protocol
 
         def dulwich():
@@ -50,6 +50,14 @@ def by_python(path, runs):
     print(line)
 
 
+def with_dulwich():
+    """A Python that has dulwich, or else this one."""
+    for python in (sys.executable, "/usr/bin/python3"):
+        if os.path.exists(python) and subprocess.run([python, "-c", "import dulwich"], stderr=subprocess.DEVNULL).returncode == 0:
+            return python
+    return sys.executable
+
+
 def main(refs, runs):
     env = dict(os.environ, GIXP_LIB=str(BUILD))
     cargo = ["cargo", "run", "-q", "--offline", "--release", "--example", "bench", "--manifest-path",
@@ -61,8 +69,10 @@ def main(refs, runs):
         subprocess.run([*cargo, "rounds"], env=env, check=True)
         subprocess.run([*cargo, "rounds", "100000", "1"], env=env, check=True)
         write_answer(path, refs // 10)
-        by_python(path, runs)
+        subprocess.run([with_dulwich(), __file__, "--python", path, str(runs)], env=env, check=True)
 
 
-if __name__ == "__main__":
+if __name__ == "__main__" and sys.argv[1:2] == ["--python"]:
+    by_python(sys.argv[2], int(sys.argv[3]))
+elif __name__ == "__main__":
     main(*(int(word) for word in (sys.argv[1:] + ["1000000", "5"][len(sys.argv) - 1:])))

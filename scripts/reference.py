@@ -189,20 +189,17 @@ def listed(path, crate, module, seen):
             modules.append((name, found[1:]))
     if items:
         yield f"\n## {path}\n"
-    for name, where in items:
-        if where in seen:
-            yield f"`{path}::{name}`: `{seen[where]}`\n"
-            continue
-        seen[where] = f"{path}::{name}"
-        file = text_of(*where[:2])[1].relative_to(TOP)
-        lines = "\n".join(described(*where))
-        yield f"`{path}::{name}` ({file})\n\n```rust\n{lines}\n```\n"
-    for name, where in modules:
-        if where in seen:
-            yield f"`{path}::{name}`: the module `{seen[where]}`\n"
-            continue
-        seen[where] = f"{path}::{name}"
-        yield from listed(f"{path}::{name}", *where, seen)
+    for what, name, where in [*(("", *it) for it in items), *(("the module ", *it) for it in modules)]:
+        here = f"{path}::{name}"
+        first = seen.setdefault(where, here)
+        if first != here:
+            yield f"`{here}`: {what}`{first}`\n"
+        elif what:
+            yield from listed(here, *where, seen)
+        else:
+            file = text_of(*where[:2])[1].relative_to(TOP)
+            lines = "\n".join(described(*where))
+            yield f"`{here}` ({file})\n\n```rust\n{lines}\n```\n"
 
 
 def main():

@@ -64,8 +64,23 @@ static void refs(void)
         CHECK(gixp_refs(part, cut, 0, records, 2, &found) == (cut < 111 ? GIXP_INCOMPLETE : GIXP_MORE));
         free(part);
     }
-    free(records);
     free(answer);
+    answer = copy("", 0);
+    CHECK(gixp_refs(answer, 0, 0, records, 2, &found) == GIXP_INCOMPLETE && found.count == 0 && found.next == 0);
+    CHECK(gixp_refs(answer, 0, 1, records, 2, &found) == GIXP_BAD_PLACE);
+    free(answer);
+    static const struct { const char *text; uint32_t code; } rows[] = {
+        {"zzzz", GIXP_BAD_HEX}, {"fff1", GIXP_TOO_LONG}, {"0004", GIXP_NO_PAYLOAD}, {"0003", GIXP_TOO_SHORT}, {"000aERR no", GIXP_SERVER},
+        {"0002", GIXP_UNEXPECTED}, {"00", GIXP_INCOMPLETE}, {"0008x y\n", GIXP_BAD_ID}, {"0006a\n", GIXP_BAD_LINE},
+        {"0033" ID " a b:c\n", GIXP_BAD_ATTRIBUTE}, {"000dunborn a\n", GIXP_BAD_UNBORN}, {"0001", GIXP_OK},
+    };
+    for (size_t i = 0; i < sizeof rows / sizeof *rows; i++) {
+        uint8_t *bytes = copy(rows[i].text, strlen(rows[i].text));
+        CHECK(gixp_refs(bytes, strlen(rows[i].text), 0, records, 2, &found) == rows[i].code && found.count == 0);
+        CHECK((found.words.len == 2) == (rows[i].code == GIXP_SERVER));
+        free(bytes);
+    }
+    free(records);
 }
 
 static void pieces(void)
@@ -93,6 +108,86 @@ static void texts(void)
     CHECK(gixp_error_text(GIXP_SERVER, text, len, &len) == GIXP_OK && memcmp(text, "the server", 10) == 0);
     free(text);
     free(none);
+}
+
+static const char NAMES[] = "refs/heads/mainHEAD";
+
+static uint32_t mapped(const char *specs, size_t name_len, gixp_mapping *maps, size_t maps_len, uint8_t *names, size_t names_len,
+                       gixp_mapped *counts)
+{
+    uint8_t *text = copy(NAMES, strlen(NAMES)), *lines = copy(specs, strlen(specs));
+    gixp_ref *refs = __real_malloc(2 * sizeof *refs);
+    memset(refs, 0, 2 * sizeof *refs);
+    refs[0].name = (gixp_span){0, 15};
+    refs[1].name = (gixp_span){15, name_len};
+    uint32_t code = gixp_map(text, strlen(NAMES), refs, 2, lines, strlen(specs), maps, maps_len, names, names_len, counts);
+    free(refs);
+    free(lines);
+    free(text);
+    return code;
+}
+
+static void maps(void)
+{
+    static const char specs[] = "refs/heads/*:refs/remotes/o/*\n\nHEAD\n";
+    gixp_mapping *records = __real_malloc(2 * sizeof *records), none;
+    uint8_t *names = __real_malloc(19), *empty = copy("", 0);
+    gixp_mapped counts = {7, 7, 7};
+    CHECK(mapped(specs, 5, records, 2, names, 19, &counts) == GIXP_BAD_PLACE && counts.mappings == 7);
+    CHECK(mapped(specs, (size_t)-1, records, 2, names, 19, &counts) == GIXP_BAD_PLACE && counts.names == 7);
+    CHECK(mapped(specs, 4, &none, 0, empty, 0, &counts) == GIXP_NO_ROOM && counts.mappings == 2 && counts.names == 19);
+    CHECK(mapped(specs, 4, records, 2, names, 18, &counts) == GIXP_NO_ROOM && counts.fixes == 0);
+    CHECK(mapped(specs, 4, records, 1, names, 19, &counts) == GIXP_NO_ROOM);
+    CHECK(mapped(specs, 4, records, 2, names, 19, &counts) == GIXP_OK && counts.mappings == 2);
+    CHECK(records[0].item == 0 && records[0].spec == 0 && records[0].has_local == 1);
+    CHECK(is_text(names, records[0].local, "refs/remotes/o/main"));
+    CHECK(records[1].item == 1 && records[1].spec == 1 && records[1].has_local == 0 && records[1].local.len == 0);
+    CHECK(mapped("", 4, &none, 0, empty, 0, &counts) == GIXP_OK && counts.mappings == 0);
+    CHECK(mapped("a:b:c", 4, records, 2, names, 19, &counts) >= GIXP_BAD_SPEC && counts.mappings == 0);
+    CHECK(mapped("HEAD:refs/x\nrefs/heads/main:refs/x", 4, records, 2, names, 19, &counts) == GIXP_CONFLICT && counts.mappings == 1);
+    CHECK(records[0].item == 2 && is_text(names, records[0].local, "refs/x"));
+    CHECK(mapped("refs/heads/main:x", 4, records, 2, names, 19, &counts) == GIXP_OK && counts.mappings == 0 && counts.fixes == 1);
+    uint32_t code = GIXP_NO_MEMORY;
+    long tried = 0;
+    for (; code == GIXP_NO_MEMORY && tried < 1000; tried++) {
+        allowed = tried;
+        counts.mappings = 7;
+        code = mapped(specs, 4, records, 2, names, 19, &counts);
+        CHECK(code != GIXP_NO_MEMORY || counts.mappings == 7);
+        if (allowed >= 0)
+            break;
+    }
+    allowed = -1;
+    CHECK(code == GIXP_OK && tried > 2);
+    free(empty);
+    free(names);
+    free(records);
+}
+
+static void prefixes(void)
+{
+    static const char specs[] = "refs/heads/*:refs/remotes/o/*";
+    uint8_t *text = copy(specs, strlen(specs)), *room = __real_malloc(12), *empty = copy("", 0);
+    size_t len = 7;
+    CHECK(gixp_prefixes(text, strlen(specs), empty, 0, &len) == GIXP_NO_ROOM && len == 12);
+    CHECK(gixp_prefixes(text, strlen(specs), room, 11, &len) == GIXP_NO_ROOM && len == 12);
+    CHECK(gixp_prefixes(text, strlen(specs), room, 12, &len) == GIXP_OK && memcmp(room, "refs/heads/\n", 12) == 0);
+    CHECK(gixp_prefixes(empty, 0, empty, 0, &len) == GIXP_OK && len == 0);
+    uint32_t code = GIXP_NO_MEMORY;
+    long tried = 0;
+    for (; code == GIXP_NO_MEMORY && tried < 1000; tried++) {
+        allowed = tried;
+        len = 7;
+        code = gixp_prefixes(text, strlen(specs), room, 12, &len);
+        CHECK(code != GIXP_NO_MEMORY || len == 7);
+        if (allowed >= 0)
+            break;
+    }
+    allowed = -1;
+    CHECK(code == GIXP_OK && tried > 2);
+    free(empty);
+    free(room);
+    free(text);
 }
 
 static const char GREETING[] = "000eversion 2\n0013ls-refs=unborn\n0012fetch=shallow\n0000";
@@ -125,6 +220,18 @@ static void session(void)
     CHECK(next(answers, ends, 1, room, needed, &step) == GIXP_OK && step.kind == 1 && step.length == needed);
     CHECK(memcmp(room, "0014command=ls-refs\n", 20) == 0);
     CHECK(next(answers, ends, 2, room, 4096, &step) == GIXP_OK && step.kind == 1 && memcmp(room, "0012command=fetch\n", 18) == 0);
+    size_t len = strlen(SPEC);
+    uint8_t *bytes = copy(GREETING, ends[0]), *spec = copy(SPEC, len), *ids = copy(LISTED, 40), *empty = copy("", 0);
+    static const size_t wrong[][2] = {{19, 0}, {21, 20}, {20, 1}, {0, 39}};
+    for (size_t i = 0; i < sizeof wrong / sizeof *wrong; i++)
+        CHECK(gixp_next(bytes, ends[0], ends, 1, spec, len, ids, wrong[i][0], ids, wrong[i][1], 0, room, 4096, &step) == GIXP_BAD_PLACE
+              && step.length == 0);
+    CHECK(gixp_next(bytes, ends[0], ends, 1, spec, len, ids, 40, ids, 20, 3, empty, 0, &step) == GIXP_NO_ROOM && step.length == needed);
+    CHECK(gixp_next(empty, 0, ends, 0, spec, len, empty, 0, empty, 0, 0, room, 4096, &step) == GIXP_NO_ANSWER);
+    free(empty);
+    free(ids);
+    free(spec);
+    free(bytes);
     ends[1] = ends[0] - 1;
     CHECK(next(answers, ends, 2, room, 4096, &step) == GIXP_BAD_PLACE);
     ends[1] = ends[0] + strlen(LISTED);
@@ -148,6 +255,8 @@ int main(void)
     refs();
     pieces();
     texts();
+    maps();
+    prefixes();
     session();
     printf("%d passed, %d failed\n", passed, failed);
     return failed != 0;

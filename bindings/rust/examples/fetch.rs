@@ -1,21 +1,11 @@
 //! Fetches a pack over the pipes of `git upload-pack`, and writes it to a file:
 //! `cargo run --example fetch -- PATH PACK REFSPEC.. [--have ID..] [--depth N]`.
+mod upload_pack;
+
 use gixp::{pieces, Id, Piece, Session, Step};
 use std::fs::File;
-use std::io::{self, Write};
-use std::process::{Command, Stdio};
-
-/// What `git upload-pack` answers to a request, or says first where there is none.
-fn upload_pack(path: &str, request: Option<&[u8]>) -> io::Result<Vec<u8>> {
-    let mut git = Command::new("git");
-    git.env("GIT_PROTOCOL", "version=2").args(["upload-pack", "--stateless-rpc"]);
-    if request.is_none() {
-        git.arg("--advertise-refs");
-    }
-    let mut child = git.arg(path).stdin(Stdio::piped()).stdout(Stdio::piped()).spawn()?;
-    child.stdin.take().unwrap().write_all(request.unwrap_or(b""))?;
-    Ok(child.wait_with_output()?.stdout)
-}
+use std::io::Write;
+use upload_pack::upload_pack;
 
 /// Writes the pack of an answer to a file, and what the server says meanwhile to standard error.
 fn write_pack(answer: &[u8], place: usize, to: &str) -> Result<usize, Box<dyn std::error::Error>> {

@@ -1,20 +1,9 @@
 //! Lists the refs of a repository, as `git ls-remote --symref` does: `cargo run --example ls_remote -- PATH`.
+mod upload_pack;
+
 use gixp::{refs, Ref, Session, Step};
 use std::io::{self, Write};
-use std::process::{Command, Stdio};
-
-/// What `git upload-pack` answers to a request, or says first where there is none.
-fn upload_pack(path: &str, request: Option<&[u8]>) -> io::Result<Vec<u8>> {
-    let mut git = Command::new("git");
-    git.env("GIT_PROTOCOL", "version=2").args(["upload-pack", "--stateless-rpc"]);
-    if request.is_none() {
-        git.arg("--advertise-refs");
-    }
-    let mut child = git.arg(path).stdin(Stdio::piped()).stdout(Stdio::piped()).spawn()?;
-    child.stdin.take().unwrap().write_all(request.unwrap_or(b""))?;
-    let output = child.wait_with_output()?;
-    Ok(output.stdout)
-}
+use upload_pack::upload_pack;
 
 fn main() -> Result<(), Box<dyn std::error::Error>> {
     let path = std::env::args().nth(1).ok_or("usage: ls_remote PATH")?;
