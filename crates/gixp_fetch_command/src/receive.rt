@@ -73,6 +73,7 @@ impl<P: PackPlace> PackReceiver<P> {
     /// Why it isn't kept. It is taken away then.
     pub fn keep(&mut self) -> io::Result<Option<PackSummary>>
         ensures kept { IfOk result (λ told. KeepsHeld P.keeps self.old.whole self.old.place told self.new.place) }
+        ensures refused { OnErr result (DropsHeld P.gives_up self.old.whole self.old.place self.new.place) }
         ensures over { self.new.whole ≡ None }
     {
         match self.whole.take() {

@@ -5,11 +5,13 @@ use Rattle.std.specs.Prelude.{IfSome}
 use Rattle.std.specs.Io.KnownBytes.{Appends}
 use Rattle.std.proofs.KnownBytes.{Appends-nil, Appends-trans}
 use Rattle.std.specs.declared.io.Error.{Error as io_error}
+use Rattle.std.specs.declared.io.ErrorKind.{ErrorKind}
+use Rattle.std.specs.IoError.{error_kind}
 use Rattle.gixp_packetline.specs.Pieces.{Pieces, Refusal}
 use Rattle.gixp_packetline.specs.Reading.{Reading, AtStop, Fails}
 use Rattle.gixp_sidebands.specs.Bands.{Side, IsFirstOf, side_content, side_reading, shown, content_bound, Passes, ShowsContent, EndsContent, RefusesContent, ReadsBytes, KeepsEndUncounted}
 use Rattle.gixp_sidebands.specs.Ends.{end-stays, end-joins}
-use Rattle.gixp_fetch_parts.specs.PackCopied.{CameNext, CopiedNext, CopiedAll}
+use Rattle.gixp_fetch_parts.specs.PackCopied.{CameNext, CopiedNext, CopiedAll, RefusedAfter, ShownAfter}
 
 passes_none : (s : Side) → Passes s s []
 passes_none s = at s.reading.to_come
@@ -130,15 +132,27 @@ copied_all old w start now end read h t = record {
         u.3 ∙ (ap (λ z. read ++ side_content now z) same ∙ (ap (λ z. read ++ z) y ∙ append-nil read))
 
 -- a read was refused
-pub refused_read : (old w : Option (List ℕ)) (start now end : Side) (read : List ℕ) (e : io_error) → CopiedNext old start read w now
-    → RefusesContent now end e → (more : List ℕ) × CameNext start more end
-refused_read old w start now end read e h t = (
+pub refused_read : (old w : Option (List ℕ)) (start now end : Side) (read : List ℕ) (e : io_error) (kind : ErrorKind)
+    → CopiedNext old start read w now → RefusesContent now end e → kind ≡ error_kind e
+    → (more : List ℕ) × CameNext start more end × RefusedAfter old start w end kind
+refused_read old w start now end read e kind h t is = (
   read
       ++ t.lost,
   came_more old w start now end read t.lost h t.rest t.ending (fails_held (side_reading now) (side_reading end) t.refusal t.fails),
+  record { read = read; now = now; why = e; copied = h; refuses = t; told = is },
 )
 
 -- what was lent is left
 pub lent_alone : (old w : Option (List ℕ)) (start now mid : Side) (read : List ℕ) → CopiedNext old start read w now
     → ShowsContent now mid → (more : List ℕ) × CameNext start more mid
 lent_alone old w start now mid read h s = (read ++ [], came_more old w start now mid read [] h s.content (λ _. s.ending) s.held)
+
+-- and the writer is to get it
+pub lent_unwritten : (old w : Option (List ℕ)) (start now mid : Side) (read : List ℕ) → CopiedNext old start read w now
+    → ShowsContent now mid → (more : List ℕ) × CameNext start more mid × ShownAfter old start mid
+lent_unwritten old w start now mid read h s =
+    let alone = lent_alone old w start now mid read h s in (
+      alone.0,
+      alone.1,
+      record { read = read; now = now; mid = w; copied = h; shows = s },
+    )

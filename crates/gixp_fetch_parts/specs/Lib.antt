@@ -2,6 +2,7 @@ pub mod Words
 pub mod AnswersIds
 pub mod LineOf
 pub mod PackCopied
+pub mod Place
 pub mod Changes
 pub mod Told
 pub mod Missing

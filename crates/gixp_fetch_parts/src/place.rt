@@ -1,5 +1,5 @@
 //! Where a pack goes.
-ghost use Rattle.std.specs.Prelude.{◌≡◌, ◌++◌, IfOk, OnOk, OnErr, codes, string_bytes};
+ghost use Rattle.std.specs.Prelude.{◌≡◌, ◌++◌, IfOk, OnOk, OnErr, codes, string_bytes, true, false};
 
 use std::alloc::{AllocError, Global};
 use std::fs::OpenOptions;
@@ -37,9 +37,10 @@ pub trait PackPlace {
     ///
     /// # Errors
     ///
-    /// Why that isn't done. What was written is taken away then.
+    /// Why that isn't done. It is given up then.
     fn keep(&mut self, writer: Self::Writer) -> io::Result<()>
-        ensures { OnOk result (keeps self.old writer self.new) };
+        ensures kept { OnOk result (keeps self.old writer self.new) }
+        ensures refused { OnErr result (gives_up self.old writer self.new) };
 
     /// Takes what was written away.
     fn give_up(&mut self, writer: Self::Writer)
@@ -71,6 +72,7 @@ impl<'a, F: Files> PackFile<'a, F> {
     pub fn new(files: &'a F, alloc: Global, path: &str) -> Result<PackFile<'a, F>, AllocError>
         ensures path { IfOk result (λ file. string_bytes file.path ≡ path.now) }
         ensures lock { IfOk result (λ file. string_bytes file.lock ≡ path.now ++ codes ".lock") }
+        ensures unlocked { IfOk result (λ file. file.is_locked ≡ false) }
     {
         let path_text = String::from_str(alloc, path)?;
         let lock = lock_of(alloc, path)?;
@@ -92,36 +94,20 @@ impl<'a, F: Files> PackFile<'a, F> {
 }
 
 impl<F: Files> PackFile<'_, F> {
-    // Takes the lock file away.
-    fn remove_lock(&mut self)
-        ensures path { self.new.path ≡ self.old.path }
-        ensures lock { self.new.lock ≡ self.old.lock }
+    // Opens what is no file, to be written at once.
+    fn open_stream(&mut self) -> io::Result<F::File>
+        ensures { self.new ≡ self.old }
     {
-        if self.is_locked {
-            let _ = fs::remove_file(self.files, self.lock.as_str());
-            self.is_locked = false;
-        }
+        OpenOptions::new()
+            .write(true)
+            .open(self.files, self.path.as_str())
     }
-}
 
-impl<F: Files> PackPlace for PackFile<'_, F>
-where
-    F::File: Drop,
-{
-    type Writer = F::File;
-
-    ghost begins = { λ p w q. (q.path ≡ p.path) × (q.lock ≡ p.lock) };
-
-    ghost keeps = { λ p w q. (q.path ≡ p.path) × (q.lock ≡ p.lock) };
-
-    ghost gives_up = { λ p w q. (q.path ≡ p.path) × (q.lock ≡ p.lock) };
-
-    fn begin(&mut self) -> io::Result<F::File> {
-        if self.is_stream() {
-            return OpenOptions::new()
-                .write(true)
-                .open(self.files, self.path.as_str());
-        }
+    // Makes the lock file, unless it is there.
+    fn open_lock(&mut self) -> io::Result<F::File>
+        ensures locked { OnOk result (self.new ≡ record self.old { is_locked = true }) }
+        ensures refused { OnErr result (self.new ≡ self.old) }
+    {
         let file = OpenOptions::new()
             .write(true)
             .create_new(true)
@@ -130,10 +116,20 @@ where
         Ok(file)
     }
 
-    fn keep(&mut self, _writer: F::File) -> io::Result<()> {
-        if !self.is_locked {
-            return Ok(());
+    // Takes the lock file away, where this made it.
+    fn remove_lock(&mut self)
+        ensures { self.new ≡ record self.old { is_locked = false } }
+    {
+        if self.is_locked {
+            let _ = fs::remove_file(self.files, self.lock.as_str());
+            self.is_locked = false;
         }
+    }
+
+    // Gives the lock file the pack's name, or takes it away.
+    fn rename_lock(&mut self) -> io::Result<()>
+        ensures { self.new ≡ record self.old { is_locked = false } }
+    {
         match fs::rename(self.files, self.lock.as_str(), self.path.as_str()) {
             Ok(()) => {
                 self.is_locked = false;
@@ -144,6 +140,35 @@ where
                 Err(e)
             }
         }
+    }
+}
+
+impl<F: Files> PackPlace for PackFile<'_, F>
+where
+    F::File: Drop,
+{
+    ghost use Rattle.gixp_fetch_parts.specs.Place.{Begins, IsOver};
+
+    type Writer = F::File;
+
+    ghost begins = { λ p w q. Begins p q };
+
+    ghost keeps = { λ p w q. IsOver p q };
+
+    ghost gives_up = { λ p w q. IsOver p q };
+
+    fn begin(&mut self) -> io::Result<F::File> {
+        if self.is_stream() {
+            return self.open_stream();
+        }
+        self.open_lock()
+    }
+
+    fn keep(&mut self, _writer: F::File) -> io::Result<()> {
+        if !self.is_locked {
+            return Ok(());
+        }
+        self.rename_lock()
     }
 
     fn give_up(&mut self, _writer: F::File) {

@@ -1,5 +1,5 @@
 -- What a progress reporter is told of a handshake.
-use Rattle.std.specs.Prelude.{◌≡◌, List, [], ◌∷◌, ◌++◌, codes, None, Result, Ok, Err}
+use Rattle.std.specs.Prelude.{◌≡◌, ◌⊎◌, Bool, true, false, List, [], ◌∷◌, ◌++◌, codes, None, Result, Ok, Err}
 use Rattle.gixp_wire.specs.declared.service.Service.{Service}
 use Rattle.gixp_wire.specs.declared.service.SetServiceResponse.{SetServiceResponse}
 use Rattle.gixp_capabilities.specs.declared.client.Error.{Error as ClientError}
@@ -7,6 +7,9 @@ use Rattle.gixp_wire.specs.Greeting.{Parameter}
 use Rattle.gixp_wire.specs.Handshake.{Handshakes}
 use Rattle.gixp_wire.specs.Progress.{ProgressCall, init, step, set_name, ToldCalls}
 use Rattle.gixp_packetline.specs.Reading.{Reading}
+use Rattle.gixp_handshake.specs.declared.handshake.error.Error.{Error}
+use Rattle.gixp_handshake.specs.declared.handshake.error.Error.TheVariants.{Memory}
+use Rattle.gixp_handshake.specs.ShakeError.{is_denied}
 
 -- the calls before the first handshake
 abbrev pub shaking_calls : List ProgressCall
@@ -20,10 +23,14 @@ retrying_calls = step ∷ set_name (codes "handshake (authenticated)") ∷ []
 abbrev pub authenticating_calls : List ProgressCall
 authenticating_calls = set_name (codes "authentication") ∷ retrying_calls
 
--- those after the first handshake, where all succeeds: an account was wanted where it was refused
+abbrev pub calls_if_denied : Bool → List ProgressCall
+calls_if_denied true = authenticating_calls
+calls_if_denied false = []
+
+-- those after the first handshake, where all succeeds: none but where the server wants an account
 abbrev pub calls_after_first : Result SetServiceResponse ClientError → List ProgressCall
 calls_after_first (Ok found) = []
-calls_after_first (Err e) = authenticating_calls
+calls_after_first (Err e) = calls_if_denied (is_denied e)
 
 -- the first of these calls were made, and no other
 pub record ToldPart {P : Type 0} (told : P → ProgressCall → P → Type 0) (old : P) (calls : List ProgressCall) (new : P) : Type 0 where
@@ -38,9 +45,13 @@ module _ {P : Type 0} (told : P → ProgressCall → P → Type 0) where
   ToldUpTo old calls (Ok x) new = ToldCalls told old calls new
   ToldUpTo old calls (Err e) new = ToldPart told old calls new
 
-  -- these calls, and then those by what the first handshake came to
-  abbrev pub TellsShake : {X E : Type 0} → List ProgressCall → Service → List Parameter → Reading → P → Result X E → P → Type 0
-  TellsShake calls service ps reading old (Ok x) new =
+  -- those by what the first handshake came to
+  abbrev pub TellsOpening : {X : Type 0} → Service → List Parameter → Reading → P → Result X Error → P → Type 0
+  TellsOpening service ps reading old r new =
       (first : Result SetServiceResponse ClientError) × (mid : Reading) × Handshakes service ps reading mid first
-      × ToldCalls told old (calls ++ calls_after_first first) new
-  TellsShake calls service ps reading old (Err e) new = ToldPart told old (calls ++ authenticating_calls) new
+      × ToldUpTo old (calls_after_first first) r new
+
+  -- the same after the calls before it; or nothing, where an allocation failed
+  abbrev pub TellsShake : {X : Type 0} → Service → List Parameter → Reading → P → Result X Error → P → Type 0
+  TellsShake service ps reading old r new =
+      ((now : P) × ToldCalls told old shaking_calls now × TellsOpening service ps reading now r new) ⊎ ((r ≡ Err Memory) × (new ≡ old))

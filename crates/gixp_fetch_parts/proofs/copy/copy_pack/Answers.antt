@@ -1,5 +1,5 @@
 use Rattle.std.proofs.Common.{sym, refl, ◌++◌}
-use Rattle.gixp_fetch_parts.proofs.PackLemmas.{copied_piece, copied_all, refused_read, lent_alone}
+use Rattle.gixp_fetch_parts.proofs.PackLemmas.{copied_piece, copied_all, refused_read, lent_alone, lent_unwritten}
 use Rattle.gixp_fetch_parts.proofs.copy.copy_pack.Goals as goal
 
 pub returns-in-Ok : goal.returns-in-Ok
@@ -19,7 +19,8 @@ returns-in-Err-finish g c =
     )
 
 pub returns-in-Err : goal.returns-in-Err
-returns-in-Err g c = let inv = c.pieces.invariant in refused_read _ _ _ _ _ inv.0 c.in-Err.e inv.1 c.in-Err.ensures.fills
+returns-in-Err g c = let inv = c.pieces.invariant in
+    refused_read _ _ _ _ _ inv.0 c.in-Err.e c.kind.result inv.1 c.in-Err.ensures.fills c.kind.ensures
 
 pub returns-in-Err-take : goal.returns-in-Err-take
 returns-in-Err-take g c = let inv = c.pieces.invariant in
@@ -27,7 +28,7 @@ returns-in-Err-take g c = let inv = c.pieces.invariant in
 
 pub returns-in-Err-write_all : goal.returns-in-Err-write_all
 returns-in-Err-write_all g c = let inv = c.pieces.invariant in
-    lent_alone _ _ _ _ _ inv.0 inv.1 (rw c.in-Ok-true.field-0-test at c.in-Ok-true.ensures.fills)
+    lent_unwritten _ _ _ _ _ inv.0 inv.1 (rw c.in-Ok-true.field-0-test at c.in-Ok-true.ensures.fills)
 
 pub pieces-preserved : goal.pieces-preserved
 pieces-preserved g c =

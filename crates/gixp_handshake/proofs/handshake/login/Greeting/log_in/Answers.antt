@@ -7,9 +7,10 @@ use Rattle.gixp_wire.specs.Progress.{set_name}
 use Rattle.gixp_handshake.specs.declared.credentials.Action.TheVariants.{Get}
 use Rattle.gixp_handshake.specs.Credentials.{get}
 use Rattle.gixp_handshake.specs.Shake.{CredentialCall}
+use Rattle.gixp_handshake.specs.ShakeError.{is_denied}
 use Rattle.gixp_handshake.specs.ShakeProgress.{retrying_calls}
 use Rattle.gixp_handshake.proofs.ShakeLemmas.{logs_in}
-use Rattle.gixp_handshake.proofs.ShakeProgressLemmas.{told_before}
+use Rattle.gixp_handshake.proofs.ShakeProgressLemmas.{told_before, told_if}
 use Rattle.gixp_handshake.proofs.handshake.login.Greeting.log_in.Goals as goal
 
 pub returns-clause-turns : goal.returns-clause-turns
@@ -29,6 +30,8 @@ returns-clause-turns g c =
 pub returns-clause-told : goal.returns-clause-told
 returns-clause-told g c =
     let Named : List ℕ → Type 0 = λ name. g.P.Progress.told c.args.progress.now (set_name name) c.set_name.new.self in
-    told_before g.P.Progress.told c.args.progress.now c.set_name.new.self c.log_in_with.new.progress
+    told_if g.P.Progress.told c.args.progress.now c.log_in_with.new.progress (is_denied c.args.e) c.log_in_with.result
+    (sym c.is_denied.ensures ∙ c.if-not-is_denied.false)
+    (told_before g.P.Progress.told c.args.progress.now c.set_name.new.self c.log_in_with.new.progress
     (set_name (codes "authentication") ∷ []) retrying_calls c.log_in_with.result
-    (c.set_name.new.self, subst Named c.in-Ok.ensures.authentication c.set_name.ensures, refl) c.log_in_with.ensures.told
+    (c.set_name.new.self, subst Named c.in-Ok.ensures.authentication c.set_name.ensures, refl) c.log_in_with.ensures.told)
