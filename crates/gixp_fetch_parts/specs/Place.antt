@@ -4,8 +4,8 @@ use Rattle.gixp_fetch_parts.specs.declared.place.PackFile.{PackFile}
 
 module _ {F : Type 0} where
   -- its lock file is made; of what is no file nothing is
-  abbrev pub Begins : PackFile F → PackFile F → Type 0
-  Begins old new = (new ≡ record old { is_locked = true }) ⊎ (new ≡ old)
+  abbrev pub BeginsFile : PackFile F → PackFile F → Type 0
+  BeginsFile old new = (new ≡ record old { is_locked = true }) ⊎ (new ≡ old)
 
   -- it has no lock file any longer
   abbrev pub IsOver : PackFile F → PackFile F → Type 0

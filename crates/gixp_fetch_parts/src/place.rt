@@ -147,11 +147,11 @@ impl<F: Files> PackPlace for PackFile<'_, F>
 where
     F::File: Drop,
 {
-    ghost use Rattle.gixp_fetch_parts.specs.Place.{Begins, IsOver};
+    ghost use Rattle.gixp_fetch_parts.specs.Place.{BeginsFile, IsOver};
 
     type Writer = F::File;
 
-    ghost begins = { λ p w q. Begins p q };
+    ghost begins = { λ p w q. BeginsFile p q };
 
     ghost keeps = { λ p w q. IsOver p q };
 
