@@ -1,8 +1,7 @@
 //! Why the program ends with an error, and the sentence that says so.
-use bstr::{BStr, BString};
-use gix_protocol::client;
+use bstr::BString;
 use gix_protocol::fetch::refs::update;
-use gix_protocol::transport::ObjectId;
+use gix_protocol::transport::{ObjectId, ServerMessage};
 use gixp_fetch_parts::screened;
 use std::alloc::{AllocError, AllocFailed, Global};
 use std::fmt;
@@ -83,13 +82,9 @@ impl<T: Drop> From<AllocFailed<T>> for Failure {
 }
 
 impl Failure {
-    /// A step was refused with this error. A connection that ended within it is told as git tells it.
-    pub fn of_step(alloc: Global, step: Step, error: &client::Error) -> Failure {
-        let words = error.server_message();
-        if words.is_none() && error.io_kind() == Some(ErrorKind::UnexpectedEof) {
-            return Failure::HungUp;
-        }
-        match told(alloc, error, words) {
+    /// A step was refused with this error.
+    pub fn of_step<E: Display + ServerMessage>(alloc: Global, step: Step, error: &E) -> Failure {
+        match told(alloc, error) {
             Ok((why, said)) => Failure::Step { step, why, said },
             Err(_) => Failure::Memory,
         }
@@ -144,13 +139,12 @@ pub fn front_of(words: &[u8]) -> &[u8] {
 }
 
 // The text of an error, and what the server said as it is shown.
-fn told(
+fn told<E: Display + ServerMessage>(
     alloc: Global,
-    error: &client::Error,
-    words: Option<BStr<'_>>,
+    error: &E,
 ) -> Result<(String, Option<BString>), AllocError> {
     let why = format!(in alloc; "{error}")?;
-    let said = match words {
+    let said = match error.server_message() {
         Some(words) => Some(screened(alloc, front_of(words.as_bytes()), false)?),
         None => None,
     };

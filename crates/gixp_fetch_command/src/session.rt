@@ -2,25 +2,25 @@
 ghost use Rattle.std.specs.Prelude.{◌≤◌};
 
 use crate::failure::{Failure, Step};
-use crate::receive::{PackReceiver, ReceiveError};
+use crate::receive::PackReceiver;
 use crate::repository::Repository;
 use crate::watched::Watched;
 use bstr::BString;
-use gix_protocol::client::{self, Filtered, MOST_HAVES, Windowed};
+use gix_protocol::client::{MOST_HAVES, Windowed};
 use gix_protocol::command::{CommandTable, Feature};
 use gix_protocol::fetch::negotiate::{
     Graph, Negotiate, NegotiateContext, Negotiation, Negotiator, NoAlternates, Shared, StoredRefs,
 };
 use gix_protocol::fetch::refmap::init;
-use gix_protocol::fetch::{self, Arguments, Context, Options, Outcome, RefMap, ShallowMemory};
+use gix_protocol::fetch::{self, Context, Options, Outcome, RefMap, ShallowMemory};
 use gix_protocol::handshake::{Ref, handshake, obtain};
 use gix_protocol::refspec::parse::{Operation, parse};
 use gix_protocol::transport::{
     Connection, NestedProgress, NeverInterrupt, ObjectId, Opening, Progress, Protocol, Service,
     Transport,
 };
-use gix_protocol::{Command, Handshake, LsRefsCommand, agent, indicate_end_of_interaction};
-use gixp_fetch_parts::{PackPlace, Server, StreamError, Wish, unknown_unshallow};
+use gix_protocol::{Handshake, LsRefsCommand, agent, indicate_end_of_interaction};
+use gixp_fetch_parts::{PackPlace, Server, Wish, unknown_unshallow};
 use std::alloc::{AllocError, Global};
 use std::collections::BTreeSet;
 use std::io::{ErrorKind, Read, Write};
@@ -47,8 +47,6 @@ pub struct Sink<P: PackPlace> {
 pub struct Asked<'a> {
     pub map: &'a RefMap,
     pub wish: &'a Wish<'a>,
-    /// Which objects are left out where the server can leave out any (git-rev-list, "--filter").
-    pub filter: Option<&'a str>,
 }
 
 // What the server is told first, where it is to be told a path.
@@ -162,10 +160,13 @@ where
         context,
         options,
     );
-    match result {
-        Ok(outcome) => Ok(outcome),
-        Err(e) => Err(refusal(alloc, e)),
-    }
+    result.map_err(|e| {
+        if has_hung_up(&e) {
+            Failure::HungUp
+        } else {
+            Failure::of_step(alloc, Step::Fetch, &e)
+        }
+    })
 }
 
 // What came of a fetch, unless the server takes an id out of the boundary that isn't in it: in an answer before the last, or
@@ -186,48 +187,20 @@ fn known_alone(
     }
 }
 
-// What the server doesn't offer.
-fn missing(alloc: Global, feature: &str) -> Failure {
-    match String::from_str(alloc, feature) {
-        Ok(feature) => Failure::of_step(
-            alloc,
-            Step::Fetch,
-            &client::Error::MissingFeature { feature },
-        ),
-        Err(_) => Failure::Memory,
+// Whether the server ended the connection within an answer.
+fn has_hung_up<A, E>(error: &fetch::Error<A, E>) -> bool {
+    match error {
+        fetch::Error::FetchResponse(answer) => is_end(answer),
+        _ => false,
     }
 }
 
-// Why a pack wasn't received.
-fn unreceived(alloc: Global, e: &ReceiveError) -> Failure {
-    if let ReceiveError::Stream(StreamError::Read(ErrorKind::UnexpectedEof)) = e {
-        return Failure::HungUp;
+// Whether an answer isn't whole.
+fn is_end(error: &fetch::response::Error) -> bool {
+    match error {
+        fetch::response::Error::Io(kind) => *kind == ErrorKind::UnexpectedEof,
+        _ => false,
     }
-    match format!(in alloc; "{e}") {
-        Ok(why) => Failure::of_text(alloc, Step::Fetch, why.as_str()),
-        Err(_) => Failure::Memory,
-    }
-}
-
-// Why a fetch was refused. A boundary in memory is refused for want of memory alone.
-fn refusal<A: Drop>(alloc: Global, e: fetch::Error<A, ReceiveError>) -> Failure {
-    let error = match e {
-        fetch::Error::FetchResponse(e) => client::Error::Answer(e),
-        fetch::Error::Negotiate(e) => client::Error::from(e),
-        fetch::Error::Client(e) => client::Error::from(e),
-        fetch::Error::ReadRemainingBytes(e) => client::Error::Rest(e),
-        fetch::Error::RejectShallowRemote => client::Error::ShallowServer,
-        fetch::Error::MissingServerFeature {
-            feature,
-            description: _,
-        } => return missing(alloc, feature),
-        fetch::Error::ConsumePack(e) => return unreceived(alloc, &e),
-        fetch::Error::WriteShallowFile(_)
-        | fetch::Error::ReadShallowFile(_)
-        | fetch::Error::LockShallowFile(_)
-        | fetch::Error::Memory => return Failure::Memory,
-    };
-    Failure::of_step(alloc, Step::Fetch, &error)
 }
 
 impl<'a, T: Transport> Session<'a, T> {
@@ -256,7 +229,7 @@ impl<'a, T: Transport> Session<'a, T> {
                 shaken,
                 agent,
             }),
-            Err(e) => Err(Failure::of_step(alloc, Step::Handshake, &client::Error::from(e))),
+            Err(e) => Err(Failure::of_step(alloc, Step::Handshake, &e)),
         }
     }
 
@@ -270,21 +243,6 @@ impl<'a, T: Transport> Session<'a, T> {
         named(self.alloc, self.agent)
     }
 
-    /// Whether the server leaves out objects where it is asked to.
-    pub fn can_filter(&self) -> Result<bool, Failure> {
-        let alloc = self.alloc;
-        let table = CommandTable::git();
-        let version = self.shaken.server_protocol_version;
-        let features = table.default_features(
-            alloc,
-            Command::Fetch,
-            version,
-            &self.shaken.capabilities,
-        )?;
-        let arguments = Arguments::new(alloc, &table, version, features)?;
-        Ok(arguments.can_use_filter())
-    }
-
     /// All refs of the server.
     pub fn refs<P: Progress>(&mut self, shown: &mut P) -> Result<Vec<Ref>, Failure> {
         if let Some(refs) = self.shaken.take_refs() {
@@ -296,7 +254,7 @@ impl<'a, T: Transport> Session<'a, T> {
         let command = LsRefsCommand::new(alloc, &table, None, &self.shaken.capabilities, name)?;
         command
             .invoke_blocking(alloc, &mut self.transport, shown)
-            .map_err(|e| Failure::of_step(alloc, Step::Listing, &client::Error::from(e)))
+            .map_err(|e| Failure::of_step(alloc, Step::Listing, &e))
     }
 
     /// What the refspecs map of the refs of the server.
@@ -313,7 +271,7 @@ impl<'a, T: Transport> Session<'a, T> {
             shown,
             &mut self.transport,
         );
-        result.map_err(|e| Failure::of_step(alloc, Step::Listing, &client::Error::from(e)))
+        result.map_err(|e| Failure::of_step(alloc, Step::Listing, &e))
     }
 
     // How many haves a request may have.
@@ -355,8 +313,7 @@ impl<'a, T: Transport> Session<'a, T> {
         let negotiation = Negotiation::new(context, asked.map, &wish.shallow, wish.tags);
         let boundary = repository.boundary.iter().copied().collect(alloc)?;
         let windowed = Windowed::new(negotiation, self.most_haves());
-        let filtered = Filtered::new(windowed, asked.filter);
-        let mut watched = Watched::new(filtered, &boundary);
+        let mut watched = Watched::new(windowed, &boundary);
         let request = Request {
             agent: self.agent,
             wish,

@@ -1,37 +1,45 @@
-//! The session with the server.
-use crate::address::{opening_of, start_address};
-use crate::says::{Says, Speech};
-use crate::server::Server;
-use crate::setup::{is_from_user, variable};
-use crate::shell::Shell;
-use crate::spoken::{Screen, Seen, Spoken};
+//! The words that reach a server, and the session with it.
+use crate::setup::{is_from_user, joined, variable, version_word};
+use crate::shell::{NOTHING, Shell, owned};
 use crate::trouble::Trouble;
-use crate::web::{open_answers, start_helper};
-use bstr::BString;
-use gix_protocol::transport::{Connection, Discard, Opening, Protocol};
+use bstr::{BString, ByteSlice};
+use gix_protocol::transport::{Connection, Opening, Protocol};
 use gixp_fetch_command::session::Session;
-use gixp_remote_parts::{Choices, Program, Request, Settings, Start, Task, is_allowed};
+use gixp_fetch_command::shown::Shown;
+use gixp_remote_parts::{
+    LOCAL_VARIABLES, Program, Request, Settings, Start, Task, Variant, is_allowed, proxy_for,
+    quoted, ssh_words, variant_of,
+};
+use gixp_url::{Address, Transport};
+use std::alloc::Global;
 use std::fs::{File, OpenOptions};
 use std::io::BufWriter;
 
 /// The transport over the two pipes of a server.
-pub(crate) type Wire<'a> = Spoken<'a, Connection<Says, BufWriter<File>>>;
+pub(crate) type Wire = Connection<File, BufWriter<File>>;
 
 /// What a server is reached by.
 #[derive(Clone, Copy)]
 pub(crate) struct Reach<'a> {
     pub(crate) rt: &'a HostRuntime,
-    pub(crate) server: &'a Server,
+    pub(crate) address: &'a Address,
     pub(crate) settings: &'a Settings,
     pub(crate) version: Protocol,
-    /// What is noted of what the server says.
-    pub(crate) seen: &'a Seen,
+}
+
+// The name that the user's policies have for a transport.
+fn policy_name(transport: Transport) -> &'static [u8] {
+    match transport {
+        Transport::File => b"file",
+        Transport::Ssh => b"ssh",
+        Transport::Git => b"git",
+    }
 }
 
 // Refuses a transport that the user doesn't allow.
 fn check_policy(reach: Reach<'_>) -> Result<(), Trouble> {
     let alloc = reach.rt.alloc();
-    let name = reach.server.policy_name();
+    let name = policy_name(reach.address.transport);
     let list = variable(reach.rt, "GIT_ALLOW_PROTOCOL");
     let list = match &list {
         Some(list) => Some(list.as_bytes()),
@@ -44,20 +52,186 @@ fn check_policy(reach: Reach<'_>) -> Result<(), Trouble> {
     }
 }
 
-/// Starts what speaks for the server.
-pub(crate) fn start(
+// The variables of a server: none of the repository's that fetches, and the version.
+fn server_variables(alloc: Global, version: Protocol) -> Result<Vec<BString>, Trouble> {
+    let mut variables = Vec::new(alloc);
+    for name in LOCAL_VARIABLES {
+        variables.push(BString::from_slice(alloc, name.as_bytes())?)?;
+    }
+    match version_word(version) {
+        Some(word) => variables.push(joined(alloc, &[b"GIT_PROTOCOL=", word])?)?,
+        None => variables.push(BString::from_slice(alloc, b"GIT_PROTOCOL")?)?,
+    }
+    Ok(variables)
+}
+
+// The user's command for ssh, and whether a shell reads it.
+fn ssh_program(reach: Reach<'_>) -> Result<(Vec<u8>, Program), Trouble> {
+    let alloc = reach.rt.alloc();
+    if let Some(text) = variable(reach.rt, "GIT_SSH_COMMAND") {
+        return Ok((Vec::from_slice(alloc, text.as_bytes())?, Program::Shell));
+    }
+    if let Some(text) = reach.settings.value(b"core.sshcommand") {
+        return Ok((Vec::from_slice(alloc, text)?, Program::Shell));
+    }
+    match variable(reach.rt, "GIT_SSH") {
+        Some(text) => Ok((Vec::from_slice(alloc, text.as_bytes())?, Program::Command)),
+        None => Ok((Vec::from_slice(alloc, b"ssh")?, Program::Command)),
+    }
+}
+
+// The first word of a text for a shell, without quotes around it.
+fn first_word(text: &[u8]) -> &[u8] {
+    let text = text.trim_start();
+    match text.split_first() {
+        Some((quote, rest)) => {
+            if *quote == b'\'' || *quote == b'"' {
+                before(rest, *quote)
+            } else {
+                before(text, b' ')
+            }
+        }
+        None => text,
+    }
+}
+
+// What stands before a byte.
+fn before(text: &[u8], byte: u8) -> &[u8] {
+    match text.iter().position(|b| *b == byte) {
+        Some(at) => &text[..at],
+        None => text,
+    }
+}
+
+// The kind of ssh.
+fn ssh_variant(
+    reach: Reach<'_>,
+    shell: &mut Shell,
+    command: &[u8],
+    program: Program,
+) -> Result<Variant, Trouble> {
+    let named = variable(reach.rt, "GIT_SSH_VARIANT");
+    let chosen = match &named {
+        Some(word) => Some(word.as_bytes()),
+        None => reach.settings.value(b"ssh.variant"),
+    };
+    let name = match program {
+        Program::Shell => first_word(command),
+        _ => command,
+    };
+    match variant_of(chosen, name) {
+        Variant::Auto => probe(reach, shell, command, program),
+        variant => Ok(variant),
+    }
+}
+
+// Asks a program whether it is OpenSSH.
+fn probe(
+    reach: Reach<'_>,
+    shell: &mut Shell,
+    command: &[u8],
+    program: Program,
+) -> Result<Variant, Trouble> {
+    let alloc = reach.rt.alloc();
+    let mut words = owned(alloc, &[command, b"-G"])?;
+    add_ssh_words(reach, Variant::Ssh, &mut words)?;
+    let told = shell.tell(reach.rt, Task::Probe, program, NOTHING, &[], &words)?;
+    if told.status == 0 {
+        Ok(Variant::Ssh)
+    } else {
+        Ok(Variant::Simple)
+    }
+}
+
+// The options of ssh, and the host.
+fn add_ssh_words(
+    reach: Reach<'_>,
+    variant: Variant,
+    words: &mut Vec<BString>,
+) -> Result<(), Trouble> {
+    let alloc = reach.rt.alloc();
+    let port = match &reach.address.port {
+        Some(port) => Some(port.as_bytes()),
+        None => None,
+    };
+    let sends_version = version_word(reach.version).is_some();
+    match ssh_words(
+        alloc,
+        variant,
+        sends_version,
+        port,
+        reach.address.host.as_bytes(),
+    )? {
+        Some(more) => {
+            for word in more {
+                words.push(word)?;
+            }
+            Ok(())
+        }
+        None => Err(Trouble::Other("ssh variant 'simple' does not support setting port")),
+    }
+}
+
+// Starts a server by ssh.
+fn start_ssh(reach: Reach<'_>, shell: &mut Shell) -> Result<(), Trouble> {
+    let alloc = reach.rt.alloc();
+    let (command, program) = ssh_program(reach)?;
+    let variant = ssh_variant(reach, shell, &command, program)?;
+    let mut words = owned(alloc, &[&command])?;
+    add_ssh_words(reach, variant, &mut words)?;
+    let path = quoted(alloc, reach.address.path.as_bytes())?;
+    words.push(joined(alloc, &[b"git-upload-pack ", &path])?)?;
+    start(reach, shell, program, &words)
+}
+
+// Starts a server that this machine runs.
+fn start_here(reach: Reach<'_>, shell: &mut Shell) -> Result<(), Trouble> {
+    let words = owned(
+        reach.rt.alloc(),
+        &[b"upload-pack", reach.address.path.as_bytes()],
+    )?;
+    start(reach, shell, Program::Git, &words)
+}
+
+// Connects with a server that listens.
+fn start_socket(reach: Reach<'_>, shell: &mut Shell) -> Result<(), Trouble> {
+    let alloc = reach.rt.alloc();
+    let port: &[u8] = match &reach.address.port {
+        Some(port) => port.as_bytes(),
+        None => b"9418",
+    };
+    let host = reach.address.host.as_bytes();
+    let chosen = variable(reach.rt, "GIT_PROXY_COMMAND");
+    let chosen = match &chosen {
+        Some(command) => Some(command.as_bytes()),
+        None => None,
+    };
+    match proxy_for(reach.settings, chosen, reach.address.authority.as_bytes()) {
+        Some(command) => {
+            let words = owned(alloc, &[command, host, port])?;
+            start(reach, shell, Program::Command, &words)
+        }
+        None => {
+            let words = owned(alloc, &[host, port])?;
+            start(reach, shell, Program::Socket, &words)
+        }
+    }
+}
+
+// Starts a server.
+fn start(
     reach: Reach<'_>,
     shell: &mut Shell,
     program: Program,
-    variables: &[BString],
     words: &[BString],
 ) -> Result<(), Trouble> {
+    let variables = server_variables(reach.rt.alloc(), reach.version)?;
     let status = shell.ask(&Request::Start(Start {
         task: Task::Server,
         program,
         input: "hears",
         output: "says",
-        variables,
+        variables: &variables,
         words,
     }))?;
     if status == 0 {
@@ -66,83 +240,58 @@ pub(crate) fn start(
         Err(Trouble::of_word(
             reach.rt.alloc(),
             "unable to connect to",
-            reach.server.name(),
+            reach.address.authority.as_bytes(),
         ))
     }
 }
 
-// The versions that are accepted: over HTTP the second alone.
-fn accepted(reach: Reach<'_>) -> Result<Vec<Protocol>, Trouble> {
-    let mut versions = Vec::new(reach.rt.alloc());
-    if reach.server.is_web() {
-        versions.push(Protocol::V2)?;
+// What a server that listens is told first.
+fn opening_of(reach: Reach<'_>) -> Result<Option<Opening>, Trouble> {
+    let alloc = reach.rt.alloc();
+    if reach.address.transport != Transport::Git {
+        return Ok(None);
     }
-    Ok(versions)
-}
-
-// What the server says, and what it is told first.
-fn greeting(
-    reach: Reach<'_>,
-    to: &mut BufWriter<File>,
-    from: File,
-    choices: &Choices,
-) -> Result<(Speech, Option<Opening>), Trouble> {
-    match reach.server {
-        Server::Web(_) => Ok((open_answers(reach, to, from, choices.is_quiet)?, None)),
-        Server::Address(address) => Ok((Speech::Stream(from), opening_of(reach, address)?)),
-    }
-}
-
-// The pipe to the clock, where the user wants one.
-fn clock(reach: Reach<'_>) -> Result<Option<File>, Trouble> {
-    match variable(reach.rt, "GIXP_TIMEOUT") {
-        Some(text) if !text.is_empty() => {
-            Ok(Some(OpenOptions::new().write(true).open(reach.rt, "clock")?))
-        }
-        _ => Ok(None),
-    }
+    let host = match variable(reach.rt, "GIT_OVERRIDE_VIRTUAL_HOST") {
+        Some(host) => BString::from_slice(alloc, host.as_bytes())?,
+        None => reach.address.authority.clone()?,
+    };
+    Ok(Some(Opening {
+        path: reach.address.path.clone()?,
+        host: Some(host),
+    }))
 }
 
 // The transport over the two pipes. What the server hears is opened first.
-fn open_wire<'a>(reach: Reach<'a>, choices: &Choices) -> Result<Wire<'a>, Trouble> {
+fn open_wire(reach: Reach<'_>) -> Result<Wire, Trouble> {
     let alloc = reach.rt.alloc();
     let to = OpenOptions::new().write(true).open(reach.rt, "hears")?;
     let from = File::open(reach.rt, "says")?;
-    let mut to = BufWriter::new(alloc, to)?;
-    let (speech, opening) = greeting(reach, &mut to, from, choices)?;
-    let says = Says {
-        speech,
-        clock: clock(reach)?,
-    };
-    let url = BString::from_slice(alloc, reach.server.name())?;
-    let inner = Connection::new(
+    let to = BufWriter::new(alloc, to)?;
+    let url = reach.address.path.clone()?;
+    Ok(Connection::new(
         alloc,
-        says,
+        from,
         to,
         url,
         reach.version,
-        accepted(reach)?,
-        opening,
-    )?;
-    Ok(Spoken {
-        inner,
-        screen: Screen::new(reach.rt, choices.tells_progress()),
-        seen: reach.seen,
-    })
+        Vec::new(alloc),
+        opening_of(reach)?,
+    )?)
 }
 
 /// Starts the server, and shakes hands with it. One that was started before is ended.
-pub(crate) fn connect<'a>(
-    reach: Reach<'a>,
+pub(crate) fn connect(
+    reach: Reach<'_>,
     shell: &mut Shell,
-    choices: &Choices,
-) -> Result<Session<'a, Wire<'a>>, Trouble> {
+    shown: &mut Shown<'_>,
+) -> Result<Session<'static, Wire>, Trouble> {
     check_policy(reach)?;
     shell.end(Task::Server)?;
-    match reach.server {
-        Server::Web(web) => start_helper(reach, shell, web)?,
-        Server::Address(address) => start_address(reach, shell, address)?,
+    match reach.address.transport {
+        Transport::File => start_here(reach, shell)?,
+        Transport::Ssh => start_ssh(reach, shell)?,
+        Transport::Git => start_socket(reach, shell)?,
     }
-    let wire = open_wire(reach, choices)?;
-    Ok(Session::open(reach.rt.alloc(), wire, "gixp", &mut Discard)?)
+    let wire = open_wire(reach)?;
+    Ok(Session::open(reach.rt.alloc(), wire, "gixp", shown)?)
 }

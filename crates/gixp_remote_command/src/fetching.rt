@@ -7,26 +7,27 @@ use crate::setup::{haves_of, joined, variable};
 use crate::shell::{NOTHING, Shell, owned};
 use crate::trouble::Trouble;
 use bstr::{BString, ByteSlice};
-use gix_protocol::fetch::negotiate::Algorithm;
 use gix_protocol::fetch::refmap::{Mapping, Source, SpecIndex};
 use gix_protocol::fetch::{RefMap, Shallow, ShallowMemory, Tags, shallow_text};
-use gix_protocol::transport::{Discard, Kind, ObjectId, Protocol};
+use gix_protocol::transport::{Kind, ObjectId, Protocol};
 use gixp_fetch_command::failure::Failure;
 use gixp_fetch_command::receive::PackReceiver;
 use gixp_fetch_command::repository::Repository;
 use gixp_fetch_command::session::{Asked, Session, Sink};
+use gixp_fetch_command::shown::Shown;
 use gixp_fetch_command::{negotiate, unless_failed};
 use gixp_fetch_parts::{Haves, PackPlace, Wish};
 use gixp_remote_parts::{
     Boundary, Choices, Program, Request, Start, Taking, Task, added, boundary_after, is_true,
 };
 use std::alloc::Global;
+use std::cell::Cell;
 use std::collections::BTreeSet;
 use std::fs;
 use std::io::ErrorKind;
 
 /// A session that may be there.
-pub(crate) type Open<'a> = Option<Session<'a, Wire<'a>>>;
+pub(crate) type Open = Option<Session<'static, Wire>>;
 
 /// What a fetch is for.
 #[derive(Clone, Copy)]
@@ -112,7 +113,7 @@ fn known(
         return Ok(new_repository(alloc, boundary));
     }
     let mut found = repository(order.reach.rt, shell, boundary)?;
-    if haves != Haves::InOrder && haves != Haves::By(Algorithm::Noop) {
+    if haves != Haves::InOrder {
         let told = shell.git(
             order.reach.rt,
             &[b"rev-list", b"--all", b"--timestamp", b"--parents"],
@@ -191,12 +192,13 @@ fn add_check(
     Ok(())
 }
 
-// The commits among ids that are here, as git sees them with these variables. Of what a partial clone lacks nothing is fetched.
-fn commits_here(
+// Those of the ids whose objects are here, or the commits among them, as git sees them with these variables.
+fn here(
     order: Order<'_>,
     shell: &mut Shell,
     variables: &[BString],
     ids: &[ObjectId],
+    commits_alone: bool,
 ) -> Result<BTreeSet<ObjectId>, Trouble> {
     let rt = order.reach.rt;
     let alloc = rt.alloc();
@@ -204,19 +206,17 @@ fn commits_here(
     fs::write(rt, "ids", text.as_slice())?;
     let words = owned(
         alloc,
-        &[
-            b"rev-list",
-            b"--missing=allow-any",
-            b"--ignore-missing",
-            b"--no-walk=unsorted",
-            b"--stdin",
-        ],
+        &[b"cat-file", b"--batch-check=%(objecttype) %(objectname)"],
     )?;
     let told = shell.tell(rt, Task::Question, Program::Git, "ids", variables, &words)?;
     let mut found = BTreeSet::new(alloc);
     for line in told.text.as_slice().lines() {
-        if let Ok(id) = ObjectId::from_hex(line) {
-            found.insert(id)?;
+        if let Some((kind, id)) = line.split_once_str(b" ") {
+            if kind == b"commit".as_slice() || !commits_alone {
+                if let Ok(id) = ObjectId::from_hex(id) {
+                    found.insert(id)?;
+                }
+            }
         }
     }
     Ok(found)
@@ -229,17 +229,29 @@ struct Came {
     boundary: Vec<ObjectId>,
 }
 
+/// What shows the server's progress.
+pub(crate) fn shown_of<'a>(
+    rt: &'a HostRuntime,
+    shows_progress: bool,
+    has_failed: &'a Cell<bool>,
+) -> Shown<'a> {
+    Shown {
+        rt,
+        shows_progress,
+        has_failed,
+    }
+}
+
 // Fetches over a session, and gives the new boundary.
 fn fetch_over<P: PackPlace + Drop>(
-    reach: Reach<'_>,
-    session: &mut Session<'_, Wire<'_>>,
+    rt: &HostRuntime,
+    session: &mut Session<'static, Wire>,
     asked: Asked<'_>,
     repository: &mut Repository,
     place: P,
+    shown: &mut Shown<'_>,
 ) -> Result<Vec<ObjectId>, Failure> {
-    let rt = reach.rt;
     let alloc = rt.alloc();
-    reach.seen.failure.set(false);
     let boundary = Vec::from_slice(alloc, &repository.boundary)?;
     let mut sink = Sink {
         boundary: ShallowMemory::new(boundary),
@@ -252,9 +264,9 @@ fn fetch_over<P: PackPlace + Drop>(
         asked,
         Some("commits"),
         &mut sink,
-        &mut Discard,
+        shown,
     );
-    match unless_failed(came, reach.seen.failure.get()) {
+    match unless_failed(came, shown.has_failed.get()) {
         Ok(_) => keep_pack(alloc, &mut sink),
         Err(e) => {
             sink.pack.give_up();
@@ -280,30 +292,11 @@ fn keep_pack<P: PackPlace>(alloc: Global, sink: &mut Sink<P>) -> Result<Vec<Obje
     Ok(Vec::from_slice(alloc, sink.boundary.ids())?)
 }
 
-// Which objects are left out: none where the server can't leave out any.
-fn filter_of<'a>(
-    order: Order<'a>,
-    session: &Session<'_, Wire<'_>>,
-) -> Result<Option<&'a str>, Trouble> {
-    let rt = order.reach.rt;
-    let Some(filter) = &order.choices.filter else {
-        return Ok(None);
-    };
-    if !session.can_filter()? {
-        let _ = eprintln!(rt; "warning: filtering not recognized by server, ignoring");
-        return Ok(None);
-    }
-    match filter.as_bytes().to_str() {
-        Ok(text) => Ok(Some(text)),
-        Err(_) => Err(Trouble::of_word(rt.alloc(), "this filter is no UTF-8:", filter.as_bytes())),
-    }
-}
-
 // A fetch over one session, and what became of the pack.
 fn fetch_by(
     order: Order<'_>,
     shell: &mut Shell,
-    session: &mut Session<'_, Wire<'_>>,
+    session: &mut Session<'static, Wire>,
     wish: &Wish<'_>,
     repository: &mut Repository,
     plan: &PackPlan,
@@ -312,15 +305,22 @@ fn fetch_by(
     let alloc = order.reach.rt.alloc();
     list_commits(order, shell, wish, has_alternates)?;
     let map = map_of(alloc, order.ids)?;
-    let filter = filter_of(order, session)?;
     let asked = Asked {
         map: &map,
         wish: &*wish,
-        filter,
     };
     let plan = plan.copy(alloc)?;
-    let place = IndexedPack::new(order.reach.rt.clone()?, shell, plan, order.reach.seen);
-    let boundary = fetch_over(order.reach, session, asked, repository, place)?;
+    let has_failed = Cell::new(false);
+    let mut shown = shown_of(order.reach.rt, order.choices.tells_progress(), &has_failed);
+    let place = IndexedPack::new(order.reach.rt.clone()?, shell, plan);
+    let boundary = fetch_over(
+        order.reach.rt,
+        session,
+        asked,
+        repository,
+        place,
+        &mut shown,
+    )?;
     let kept = match shell.pack {
         PackState::Kept(kept) => Some(kept),
         PackState::Begun | PackState::Unbegun => None,
@@ -337,11 +337,10 @@ fn was_left(came: &Result<Came, Trouble>, shell: &Shell) -> bool {
 }
 
 // Fetches over the session that is there, or over a new one, also where the one that is there was left by the server.
-fn fetch_once_more<'a>(
+fn fetch_once_more(
     order: Order<'_>,
-    reach: Reach<'a>,
     shell: &mut Shell,
-    open: &mut Open<'a>,
+    open: &mut Open,
     wish: &Wish<'_>,
     repository: &mut Repository,
     plan: &PackPlan,
@@ -357,11 +356,11 @@ fn fetch_once_more<'a>(
             plan,
             has_alternates,
         );
-        if reach.server.is_web() || !was_left(&came, shell) {
+        if !was_left(&came, shell) {
             return settle(session, open, came?);
         }
     }
-    let mut session = connect(reach, shell, order.choices)?;
+    let mut session = open_session(order, shell)?;
     let came = fetch_by(
         order,
         shell,
@@ -375,9 +374,9 @@ fn fetch_once_more<'a>(
 }
 
 // Keeps a session of version 2, and ends any other.
-fn settle<'a>(
-    mut session: Session<'a, Wire<'a>>,
-    open: &mut Open<'a>,
+fn settle(
+    mut session: Session<'static, Wire>,
+    open: &mut Open,
     came: Came,
 ) -> Result<Came, Trouble> {
     if session.version() == Protocol::V2 {
@@ -400,6 +399,13 @@ fn list_commits(
         start_listing(order, shell, has_alternates)?;
     }
     Ok(())
+}
+
+// Connects with the server.
+fn open_session(order: Order<'_>, shell: &mut Shell) -> Result<Session<'static, Wire>, Trouble> {
+    let has_failed = Cell::new(false);
+    let mut shown = shown_of(order.reach.rt, false, &has_failed);
+    connect(order.reach, shell, &mut shown)
 }
 
 // What is taken of the server's boundary.
@@ -428,13 +434,13 @@ fn boundary_of(
     let mut before = BTreeSet::new(alloc);
     let mut commits = BTreeSet::new(alloc);
     if !ids.is_empty() && taking != Taking::Nothing {
-        before = commits_here(order, shell, &[], &ids)?;
+        before = here(order, shell, &[], &ids, false)?;
         let variables: &[BString] = if came.kept.is_some() {
             &plan.variables
         } else {
             &[]
         };
-        commits = commits_here(order, shell, variables, &ids)?;
+        commits = here(order, shell, variables, &ids, true)?;
     }
     Ok(boundary_after(alloc, taking, &known, &came.boundary, &before, &commits)?)
 }
@@ -506,16 +512,11 @@ pub(crate) struct Fetched {
     pub(crate) is_closed: bool,
 }
 
-// Whether it is checked that all is there that a pack leads to.
-fn is_checked(choices: &Choices) -> bool {
-    choices.checks && !choices.has_depth() && !choices.is_from_promisor
-}
-
 // The flags of `git index-pack`.
 fn flags_of<'a>(alloc: Global, choices: &Choices) -> Result<Vec<&'a [u8]>, Trouble> {
     let mut flags: Vec<&'a [u8]> = Vec::new(alloc);
-    if choices.is_from_promisor {
-        flags.push(b"--promisor")?;
+    if choices.checks && !choices.has_depth() {
+        flags.push(b"--check-self-contained-and-connected")?;
     }
     if choices.tells_progress() {
         flags.push(b"-v")?;
@@ -560,7 +561,7 @@ fn finish(
         Boundary::Stays | Boundary::Refused(_) => {}
     }
     let is_closed = match &came.kept {
-        Some(kept) => kept.is_closed,
+        Some(kept) => kept.is_closed && order.choices.checks && !order.choices.has_depth(),
         None => false,
     };
     Ok(Fetched {
@@ -570,11 +571,10 @@ fn finish(
 }
 
 /// Fetches the objects of these ids.
-pub(crate) fn fetch<'a>(
+pub(crate) fn fetch(
     order: Order<'_>,
-    reach: Reach<'a>,
     shell: &mut Shell,
-    open: &mut Open<'a>,
+    open: &mut Open,
     folder: &[u8],
 ) -> Result<Fetched, Trouble> {
     let rt = order.reach.rt;
@@ -591,18 +591,10 @@ pub(crate) fn fetch<'a>(
     let mut repository = known(order, shell, &old, haves)?;
     let checks = checks_of(order, shell)?;
     let flags = flags_of(alloc, order.choices)?;
-    let plan = PackPlan::new(
-        rt,
-        &places,
-        folder,
-        &checks,
-        &flags,
-        is_checked(order.choices),
-    )?;
+    let plan = PackPlan::new(rt, &places, folder, &checks, &flags)?;
     let has_alternates = places.has_alternates(rt);
     let came = fetch_once_more(
         order,
-        reach,
         shell,
         open,
         &wish,

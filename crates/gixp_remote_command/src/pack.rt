@@ -4,7 +4,6 @@ ghost use Rattle.std.specs.Prelude.{⊤};
 use crate::local::Places;
 use crate::setup::{joined, variable};
 use crate::shell::{Shell, owned};
-use crate::spoken::Seen;
 use crate::trouble::Trouble;
 use bstr::{BString, ByteSlice};
 use gix_protocol::transport::ObjectId;
@@ -24,8 +23,6 @@ pub(crate) struct PackPlan {
     pub(crate) words: Vec<BString>,
     /// The variables that make git look into that folder.
     pub(crate) variables: Vec<BString>,
-    /// Whether it is checked that all is there that the pack leads to.
-    pub(crate) is_checked: bool,
 }
 
 // A path as the list of alternates has it, in quotes.
@@ -81,19 +78,16 @@ impl PackPlan {
             folder: self.folder.clone()?,
             words: copied(alloc, &self.words)?,
             variables: copied(alloc, &self.variables)?,
-            is_checked: self.is_checked,
         })
     }
 
-    /// A pack for the folder of this name. `checks` are the words for what is checked of its objects, and whether it is whole by
-    /// itself is checked where that is asked for.
+    /// A pack for the folder of this name. `checks` are the words for what is checked of its objects.
     pub(crate) fn new(
         rt: &HostRuntime,
         places: &Places,
         name: &[u8],
         checks: &[BString],
         flags: &[&[u8]],
-        is_checked: bool,
     ) -> Result<PackPlan, Trouble> {
         let alloc = rt.alloc();
         let Ok(room) = name.to_str() else {
@@ -116,7 +110,6 @@ impl PackPlan {
             folder,
             words,
             variables,
-            is_checked,
         })
     }
 }
@@ -127,7 +120,6 @@ pub(crate) struct IndexedPack<'a> {
     rt: HostRuntime,
     shell: &'a mut Shell,
     plan: PackPlan,
-    seen: &'a Seen,
     /// What git says of the pack, once it is begun.
     told: Option<File>,
 }
@@ -199,34 +191,14 @@ impl Write for PackWriter {
 
 impl<'a> IndexedPack<'a> {
     /// Before a pack comes.
-    pub(crate) fn new(
-        rt: HostRuntime,
-        shell: &'a mut Shell,
-        plan: PackPlan,
-        seen: &'a Seen,
-    ) -> IndexedPack<'a> {
+    pub(crate) fn new(rt: HostRuntime, shell: &'a mut Shell, plan: PackPlan) -> IndexedPack<'a> {
         shell.pack = PackState::Unbegun;
         IndexedPack {
             rt,
             shell,
             plan,
-            seen,
             told: None,
         }
-    }
-
-    // git takes a pack for broken that ends at the boundary of the server's repository, which it doesn't know yet: so of such a
-    // server it isn't checked whether a pack is whole by itself.
-    fn choose_check(&mut self) -> Result<(), Trouble> {
-        self.plan.is_checked = self.plan.is_checked && !self.seen.boundary.get();
-        if self.plan.is_checked {
-            let word = BString::from_slice(
-                self.rt.alloc(),
-                b"--check-self-contained-and-connected",
-            )?;
-            self.plan.words.push(word)?;
-        }
-        Ok(())
     }
 
     // Starts git, and opens the two pipes.
@@ -238,7 +210,6 @@ impl<'a> IndexedPack<'a> {
         {
             return Err(Trouble::Io(ErrorKind::PermissionDenied));
         }
-        self.choose_check()?;
         self.shell.ask(&Request::Start(Start {
             task: Task::Pack,
             program: Program::Git,
@@ -264,7 +235,7 @@ impl<'a> IndexedPack<'a> {
         match hash_of(&text) {
             Some(hash) if status < 2 => Ok(Kept {
                 hash,
-                is_closed: self.plan.is_checked && status == 0,
+                is_closed: status == 0,
             }),
             _ => Err(Trouble::Other("git refused the pack")),
         }
@@ -332,11 +303,10 @@ pub(crate) fn place(
     let lock = file_of(alloc, to, hash, ".keep")?;
     let own_lock = file_of(alloc, from, hash, ".keep")?;
     let status = shell.ask(&Request::Place(own_lock.as_bytes(), lock.as_bytes()))?;
-    for end in [".pack", ".rev", ".promisor", ".idx"] {
+    for end in [".pack", ".rev", ".idx"] {
         let one = file_of(alloc, from, hash, end)?;
         let other = file_of(alloc, to, hash, end)?;
-        let is_needed = end == ".pack" || end == ".idx";
-        if is_needed || fs::metadata(rt, one.as_str()).is_ok() {
+        if end != ".rev" || fs::metadata(rt, one.as_str()).is_ok() {
             fs::rename(rt, one.as_str(), other.as_str())?;
         }
     }

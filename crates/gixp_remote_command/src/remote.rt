@@ -1,21 +1,21 @@
 //! The conversation with git.
 use crate::connect::{Reach, connect};
-use crate::fetching::{Open, Order, fetch};
+use crate::fetching::{Open, Order, fetch, shown_of};
 use crate::listing::refs_told;
-use crate::server::Server;
-use crate::setup::{settings_text, task_of, version_of};
+use crate::setup::{settings_text, url_of, version_of};
 use crate::shell::{NOTHING, Shell};
-use crate::spoken::Seen;
 use crate::trouble::Trouble;
 use bstr::{BString, ByteSlice};
-use gix_protocol::transport::{Discard, ObjectId};
+use gix_protocol::transport::ObjectId;
 use gixp_remote_parts::{Choices, Command, Program, Request, Settings, Start, Task, read_command};
+use gixp_url::Address;
+use std::cell::Cell;
 use std::collections::BTreeSet;
 use std::io::{BufRead, BufReader, Input, Write};
 use std::{io, mem};
 
 // What the helper can do.
-const CAPABILITIES: &[u8] = b"fetch\noption\ncheck-connectivity\nobject-format\n\n";
+const CAPABILITIES: &[u8] = b"fetch\noption\nobject-format\n\n";
 
 // The helper between two commands.
 #[derive(Drop)]
@@ -23,7 +23,7 @@ struct Helper<'a> {
     reach: Reach<'a>,
     shell: Shell,
     choices: Choices,
-    open: Open<'a>,
+    open: Open,
     // What the batch asks for, each id once.
     wanted: BTreeSet<ObjectId>,
     // How many batches were fetched.
@@ -57,8 +57,10 @@ impl Helper<'_> {
     // Lists the refs.
     fn list(&mut self) -> Result<(), Trouble> {
         self.watch()?;
-        let mut session = connect(self.reach, &mut self.shell, &self.choices)?;
-        let refs = session.refs(&mut Discard)?;
+        let has_failed = Cell::new(false);
+        let mut shown = shown_of(self.reach.rt, self.choices.tells_progress(), &has_failed);
+        let mut session = connect(self.reach, &mut self.shell, &mut shown)?;
+        let refs = session.refs(&mut shown)?;
         self.open = Some(session);
         let told = refs_told(self.reach.rt.alloc(), &refs, self.choices.tells_format)?;
         for name in &told.funny {
@@ -106,7 +108,7 @@ impl Helper<'_> {
             choices: &self.choices,
             ids: &ids,
         };
-        let fetched = fetch(order, self.reach, &mut self.shell, &mut self.open, &folder)?;
+        let fetched = fetch(order, &mut self.shell, &mut self.open, &folder)?;
         self.shell.end(Task::Watch)?;
         if let Some(lock) = &fetched.lock {
             let line = format!(in alloc; "lock {lock}\n")?;
@@ -152,11 +154,8 @@ impl Helper<'_> {
         Ok(())
     }
 
-    // Tells a server that waits that there is nothing more. Over HTTP none does.
+    // Tells a server that waits that there is nothing more.
     fn close(&mut self) {
-        if self.reach.server.is_web() {
-            return;
-        }
         if let Some(session) = &mut self.open {
             session.end(false);
         }
@@ -167,9 +166,8 @@ impl Helper<'_> {
 #[derive(Drop)]
 struct Begun {
     rt: HostRuntime,
-    server: Server,
+    address: Address,
     settings: Settings,
-    seen: Seen,
     // The name of the helper's folder.
     folder: String,
 }
@@ -182,10 +180,9 @@ fn serve(begun: &Begun, shell: Shell) -> Result<(), Trouble> {
     let mut helper = Helper {
         reach: Reach {
             rt: &begun.rt,
-            server: &begun.server,
+            address: &begun.address,
             settings: &begun.settings,
             version,
-            seen: &begun.seen,
         },
         shell,
         choices: Choices::new(alloc),
@@ -202,17 +199,16 @@ fn serve(begun: &Begun, shell: Shell) -> Result<(), Trouble> {
 /// Speaks with git until it has nothing more to ask.
 pub(crate) fn converse(rt: &HostRuntime) -> Result<(), Trouble> {
     let alloc = rt.alloc();
-    let task = task_of(rt)?;
+    let (url, folder) = url_of(rt)?;
     let mut shell = Shell::open(rt)?;
-    let server = Server::read(alloc, &task.remote, &task.url)?;
+    let address = Address::read(alloc, url.as_bytes())?;
     let text = settings_text(rt, &mut shell)?;
     let settings = Settings::read(alloc, &text)?;
     let begun = Begun {
         rt: rt.clone()?,
-        server,
+        address,
         settings,
-        seen: Seen::new(),
-        folder: task.folder,
+        folder,
     };
     serve(&begun, shell)
 }

@@ -6,7 +6,7 @@ use gix_protocol::transport::Protocol;
 use gixp_fetch_parts::Haves;
 use gixp_remote_parts::Settings;
 use std::alloc::Global;
-use std::{env, fs};
+use std::env;
 
 /// A variable of the environment, none where it isn't set.
 pub(crate) fn variable(rt: &HostRuntime, name: &str) -> Option<String> {
@@ -16,25 +16,12 @@ pub(crate) fn variable(rt: &HostRuntime, name: &str) -> Option<String> {
     }
 }
 
-/// What git asks the helper for.
-#[derive(Drop)]
-pub(crate) struct Task {
-    pub(crate) url: Vec<u8>,
-    /// What git calls the remote.
-    pub(crate) remote: Vec<u8>,
-    /// The name of the helper's folder.
-    pub(crate) folder: String,
-}
-
-/// What git asks for: the shell wrote it into files, since a word of the command line is UTF-8 here.
-pub(crate) fn task_of(rt: &HostRuntime) -> Result<Task, Trouble> {
-    match env::args(rt)?.nth(1) {
-        Some(folder) => Ok(Task {
-            url: fs::read(rt, "url")?,
-            remote: fs::read(rt, "remote")?,
-            folder,
-        }),
-        None => Err(Trouble::Other("there is no folder")),
+/// The words behind the program's name: the URL, and the name of the helper's folder.
+pub(crate) fn url_of(rt: &HostRuntime) -> Result<(String, String), Trouble> {
+    let mut words = env::args(rt)?.skip(1);
+    match (words.next(), words.next()) {
+        (Some(url), Some(folder)) => Ok((url, folder)),
+        _ => Err(Trouble::Other("there is no URL")),
     }
 }
 

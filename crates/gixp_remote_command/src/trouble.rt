@@ -18,8 +18,6 @@ pub(crate) enum Trouble {
     Io(ErrorKind),
     /// A line of git's is none of its commands.
     Command(BString),
-    /// Something that another program told already.
-    Told,
     /// Something else, as the sentence says.
     Other(&'static str),
     /// Something else, about a word.
@@ -67,18 +65,10 @@ impl Trouble {
         }
     }
 
-    /// Whether it is still to be said.
-    pub(crate) fn is_untold(&self) -> bool {
-        !matches!(self, Trouble::Told)
-    }
-
     /// Who says it.
     pub(crate) fn speaker(&self) -> &'static str {
         match self {
-            Trouble::Fetch(e) => match e.speaker() {
-                "fatal" => "fatal",
-                _ => "git-remote-gixp",
-            },
+            Trouble::Fetch(e) => e.speaker(),
             Trouble::Word(_, _) => "fatal",
             Trouble::Url(_) => "fatal",
             _ => "git-remote-gixp",
@@ -93,7 +83,6 @@ impl Display for Trouble {
             Trouble::Url(e) => write!(f, "the URL: {e}"),
             Trouble::Io(kind) => write!(f, "a pipe of the helper: {kind:?}"),
             Trouble::Command(line) => write!(f, "unknown command: {line}"),
-            Trouble::Told => write!(f, "it was told already"),
             Trouble::Other(why) => write!(f, "{why}"),
             Trouble::Word(why, word) => write!(f, "{why} '{word}'"),
             Trouble::Memory => write!(f, "out of memory"),

@@ -7,5 +7,3 @@ pub mod Ssh
 pub mod Choosing
 pub mod Quoting
 pub mod Taken
-pub mod Shown
-pub mod Web

@@ -121,10 +121,6 @@ pub struct Choices {
     pub tells_format: bool,
     /// All is wanted again.
     pub is_refetch: bool,
-    /// Which objects are left out (git-rev-list, "--filter").
-    pub filter: Option<BString>,
-    /// What is left out is fetched later, from the same server.
-    pub is_from_promisor: bool,
 }
 
 // A value that is true or false.
@@ -236,8 +232,6 @@ impl Choices {
             rejects_shallow: false,
             tells_format: false,
             is_refetch: false,
-            filter: None,
-            is_from_promisor: false,
         }
     }
 
@@ -279,7 +273,7 @@ impl Choices {
         }
     }
 
-    // Keeps an option of the history, or which objects are left out, where it is one.
+    // Keeps an option of the history, where it is one.
     fn take_history(
         &mut self,
         alloc: Global,
@@ -305,9 +299,6 @@ impl Choices {
         } else if name == b"deepen-not".as_slice() {
             self.excluded.push(BString::from_slice(alloc, value)?)?;
             Ok(Some(Reply::Ok))
-        } else if name == b"filter".as_slice() {
-            self.filter = Some(BString::from_slice(alloc, value)?);
-            Ok(Some(Reply::Ok))
         } else {
             Ok(None)
         }
@@ -322,9 +313,6 @@ impl Choices {
             Reply::Ok
         } else if name == b"rejectshallow".as_slice() {
             self.rejects_shallow = true;
-            Reply::Ok
-        } else if name == b"from-promisor".as_slice() {
-            self.is_from_promisor = true;
             Reply::Ok
         } else if name == b"object-format".as_slice() {
             self.take_format(value)

@@ -5,24 +5,18 @@
 mod boundary;
 mod config;
 mod dialogue;
-mod lines;
 mod policy;
 mod proxy;
 mod request;
 mod server;
 mod ssh;
 mod text;
-mod web;
 
 pub use boundary::{Boundary, Taking, added, boundary_after};
 pub use config::{Setting, Settings, is_true};
 pub use dialogue::{Choices, Command, Depth, Reply, read_command};
-pub use lines::RemoteText;
 pub use policy::{Policy, is_allowed};
 pub use proxy::proxy_for;
 pub use request::{Program, Request, Start, Task, request_text};
 pub use server::{LOCAL_VARIABLES, quoted};
 pub use ssh::{Variant, ssh_words, variant_of};
-pub use web::{
-    Connected, WebScheme, connect_answer, helper_words, opening, remote_name, web_scheme,
-};
