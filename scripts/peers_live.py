@@ -183,7 +183,7 @@ ALONE = "the program alone"
 def try_action(t, way, action):
     """A place of the table, and what was said."""
     server = make(t, "server", 300, merges=True, tags=True)
-    # git 2.39 doesn't end, and takes all memory, where a server of version 0 tells of two symbolic refs, as dulwich's does
+    # git 2.39 doesn't end where a server of version 0 has two symbolic refs, as dulwich's does
     t.git("symbolic-ref", "-d", "refs/heads/alias", at=server)
     if action == ALONE:
         status, out, err, room = fetch_pack(t, shlex.join([*way.pipe, str(server)]), specs=[REAL_SPEC, "refs/tags/*:refs/tags/*"])
