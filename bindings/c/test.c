@@ -146,7 +146,6 @@ static void maps(void)
     CHECK(mapped("a:b:c", 4, records, 2, names, 19, &counts) >= GIXP_BAD_SPEC && counts.mappings == 0);
     CHECK(mapped("HEAD:refs/x\nrefs/heads/main:refs/x", 4, records, 2, names, 19, &counts) == GIXP_CONFLICT && counts.mappings == 1);
     CHECK(records[0].item == 2 && is_text(names, records[0].local, "refs/x"));
-    CHECK(mapped("refs/heads/main:x", 4, records, 2, names, 19, &counts) == GIXP_OK && counts.mappings == 0 && counts.fixes == 1);
     uint32_t code = GIXP_NO_MEMORY;
     long tried = 0;
     for (; code == GIXP_NO_MEMORY && tried < 1000; tried++) {
