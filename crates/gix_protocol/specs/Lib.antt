@@ -24,7 +24,7 @@ pub use Rattle.gixp_capabilities.specs.Cut
 pub use Rattle.gixp_capabilities.specs.Capabilities
 pub use Rattle.gixp_capabilities.specs.Capability
 pub use Rattle.gixp_wire.specs.Service
-pub use Rattle.gixp_wire.specs.Progress
+pub use Rattle.gixp_progress.specs.Progress
 pub use Rattle.gixp_wire.specs.Spurious
 pub use Rattle.gixp_wire.specs.CapabilityAdvertisement
 pub use Rattle.gixp_wire.specs.Named
@@ -38,9 +38,9 @@ pub use Rattle.gixp_sidebands.specs.Sidebands
 pub use Rattle.gixp_refs.specs.Ref
 pub use Rattle.gixp_refs.specs.RefLine
 pub use Rattle.gixp_refs.specs.WrittenLine
-pub use Rattle.gixp_response.specs.ReadFails
+pub use Rattle.gixp_packetline.specs.ReadFails
 pub use Rattle.gixp_refs.specs.ParseError
-pub use Rattle.gixp_response.specs.Runs
+pub use Rattle.gixp_packetline.specs.Runs
 pub use Rattle.gixp_refs.specs.Refs
 pub use Rattle.gixp_response.specs.AnswerLine
 pub use Rattle.gixp_response.specs.ResponseError
@@ -122,7 +122,7 @@ pub use Rattle.gixp_negotiate.specs.NegotiateError
 pub use Rattle.gixp_negotiate.specs.Rounds
 pub use Rattle.gixp_negotiate.specs.Distinct
 pub use Rattle.gixp_negotiate.specs.NegotiationMapping
-pub use Rattle.gixp_negotiate.specs.Shallow
+pub use Rattle.gixp_shallow.specs.Shallow
 pub use Rattle.gixp_negotiate.specs.Wants
 pub use Rattle.gixp_negotiate.specs.Marking
 pub use Rattle.gixp_negotiate.specs.Stopped
@@ -133,7 +133,7 @@ pub use Rattle.gixp_negotiate.specs.Ignored
 pub use Rattle.gixp_negotiate.specs.Plain
 pub use Rattle.gixp_negotiate.specs.DecisionLaws
 pub use Rattle.gixp_fetch.specs.FetchError
-pub use Rattle.gixp_fetch.specs.Store
+pub use Rattle.gixp_shallow.specs.Store
 pub use Rattle.gixp_fetch.specs.View
 pub use Rattle.gixp_fetch.specs.FetchRounds
 pub use Rattle.gixp_fetch.specs.Receive
@@ -146,10 +146,10 @@ pub use Rattle.gixp_fetch.specs.Fetched
 pub use Rattle.gixp_fetch.specs.Prepare
 pub use Rattle.gixp_fetch.specs.Bound
 pub use Rattle.gixp_fetch.specs.Sent
-pub use Rattle.gixp_fetch.specs.Boundary
-pub use Rattle.gixp_fetch.specs.ShallowText
-pub use Rattle.gixp_fetch.specs.ShallowFile
-pub use Rattle.gixp_fetch.specs.ShallowMemory
+pub use Rattle.gixp_shallow.specs.Boundary
+pub use Rattle.gixp_shallow.specs.ShallowText
+pub use Rattle.gixp_shallow.specs.ShallowFile
+pub use Rattle.gixp_shallow.specs.ShallowMemory
 pub use Rattle.gixp_fetch.specs.Sessions
 pub use Rattle.gixp_fetch.specs.Again
 pub use Rattle.gixp_fetch.specs.Mapped
@@ -210,7 +210,7 @@ pub use Rattle.gixp_response.specs.declared.fetch.response.answer.Response as Re
 pub use Rattle.gixp_response.specs.declared.fetch.response.error.RequiredFeature as RequiredFeatureType
 pub use Rattle.gixp_response.specs.declared.fetch.response.error.Error as AnswerErrorType
 pub use Rattle.gixp_response.specs.declared.fetch.response.line.Acknowledgement as AcknowledgementType
-pub use Rattle.gixp_response.specs.declared.fetch.response.line.ShallowUpdate as ShallowUpdateType
+pub use Rattle.gixp_shallow.specs.declared.update.ShallowUpdate as ShallowUpdateType
 pub use Rattle.gixp_response.specs.declared.fetch.response.line.WantedRef as WantedRefType
 pub use Rattle.gixp_refs.specs.declared.handshake.Ref as RefType
 pub use Rattle.gixp_refs.specs.declared.handshake.refs.parse.Invariant as InvariantType
@@ -268,7 +268,7 @@ pub use Rattle.gixp_negotiate.specs.declared.negotiate.negotiation.Negotiation a
 pub use Rattle.gixp_negotiate.specs.declared.negotiate.plain.NoObjects as NoObjectsType
 pub use Rattle.gixp_negotiate.specs.declared.negotiate.plain.NoRefs as NoRefsType
 pub use Rattle.gixp_negotiate.specs.declared.negotiate.plain.HaveList as HaveListType
-pub use Rattle.gixp_negotiate.specs.declared.shallow.Shallow as ShallowType
+pub use Rattle.gixp_shallow.specs.declared.shallow.Shallow as ShallowType
 pub use Rattle.gixp_fetch.specs.declared.consume.copy.CopyError as CopyErrorType
 pub use Rattle.gixp_fetch.specs.declared.consume.copy.CopyPack as CopyPackType
 pub use Rattle.gixp_fetch.specs.declared.consume.copy.ReadToEnd as ReadToEndType
@@ -278,9 +278,9 @@ pub use Rattle.gixp_fetch.specs.declared.options.Outcome as FetchOutcomeType
 pub use Rattle.gixp_fetch.specs.declared.options.Context as FetchContextType
 pub use Rattle.gixp_fetch.specs.declared.options.Options as OptionsType
 pub use Rattle.gixp_fetch.specs.declared.remote_text.RemoteText as RemoteTextType
-pub use Rattle.gixp_fetch.specs.declared.shallow.ShallowError as ShallowErrorType
-pub use Rattle.gixp_fetch.specs.declared.shallow.file.ShallowFile as ShallowFileType
-pub use Rattle.gixp_fetch.specs.declared.shallow.memory.ShallowMemory as ShallowMemoryType
+pub use Rattle.gixp_shallow.specs.declared.store.ShallowError as ShallowErrorType
+pub use Rattle.gixp_shallow.specs.declared.store.file.ShallowFile as ShallowFileType
+pub use Rattle.gixp_shallow.specs.declared.store.memory.ShallowMemory as ShallowMemoryType
 pub use Rattle.gixp_negotiators.specs.declared.algorithm.Algorithm as AlgorithmType
 pub use Rattle.gixp_negotiators.specs.declared.algorithm.AnyNegotiator as AnyNegotiatorType
 pub use Rattle.gixp_negotiators.specs.declared.consecutive.Consecutive as ConsecutiveType

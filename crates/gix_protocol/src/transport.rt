@@ -7,12 +7,9 @@ pub use gixp_packetline::{
     ExtendedBufRead, Frame, LineReader, MessageKind, PacketError, PacketLine, Protocol,
     ServerMessage, laws, read, split_packet_line,
 };
-pub use gixp_progress::Discard;
+pub use gixp_progress::{Discard, NestedProgress, Progress};
 pub use gixp_sidebands::{BandText, Interrupt, InterruptFlag, NeverInterrupt};
-pub use gixp_wire::{
-    Account, Bodies, Body, Connection, Feature, IsSpuriousError, MAX_LINE, Message, NestedProgress,
-    Opening, Progress, Service, SetServiceResponse, Transport, fits_line,
-};
+pub use gixp_wire::{Account, Bodies, Body, Connection, Feature, IsSpuriousError, MAX_LINE, Message, Opening, Service, SetServiceResponse, Transport, fits_line};
 
 /// A reader of bands whose transport and interrupt are lent for the same time.
 pub type WithSidebands<'a, T, P, I> = gixp_sidebands::WithSidebands<'a, 'a, T, P, I>;

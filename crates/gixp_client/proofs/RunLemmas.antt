@@ -1,7 +1,7 @@
 -- What a session hands to the calls below.
 use Rattle.std.proofs.Common.{◌≡◌, Bool, List, Option, Result, subst, ap, ◌∙◌}
 use Rattle.gixp_hash.specs.declared.object_id.ObjectId.{ObjectId}
-use Rattle.gixp_fetch.specs.declared.shallow.memory.ShallowMemory.{ShallowMemory}
+use Rattle.gixp_shallow.specs.declared.store.memory.ShallowMemory.{ShallowMemory}
 use Rattle.gixp_client.specs.declared.error.Error.{Error}
 use Rattle.gixp_packetline.specs.Reading.{Reading}
 use Rattle.gixp_graph.specs.Object.{Objects}
@@ -14,7 +14,7 @@ use Rattle.gixp_refmap.specs.declared.refmap.map.RefMap.{RefMap}
 use Rattle.gixp_handshake.specs.declared.handshake.read.Handshake.{Handshake}
 use Rattle.gixp_handshake.specs.Obtain.{Obtains}
 use Rattle.gixp_negotiate.specs.Marking.{LocalRefs}
-use Rattle.gixp_negotiate.specs.declared.shallow.Shallow.{Shallow}
+use Rattle.gixp_shallow.specs.declared.shallow.Shallow.{Shallow}
 use Rattle.gixp_fetch.specs.declared.options.Outcome.{Outcome}
 use Rattle.gixp_fetch.specs.declared.error.Error.{Error as FetchError}
 use Rattle.gixp_fetch.specs.FetchShallow.{shallow_value}

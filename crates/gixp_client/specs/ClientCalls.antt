@@ -27,7 +27,7 @@ use Rattle.gixp_fetch.specs.FetchShallow.{shallow_value}
 use Rattle.gixp_graph.specs.Object.{Objects}
 use Rattle.gixp_negotiate.specs.Marking.{LocalRefs}
 use Rattle.gixp_fetch.specs.declared.options.Outcome.{Outcome}
-use Rattle.gixp_fetch.specs.declared.shallow.memory.ShallowMemory.{ShallowMemory}
+use Rattle.gixp_shallow.specs.declared.store.memory.ShallowMemory.{ShallowMemory}
 use Rattle.gixp_fetch.specs.declared.error.Error.{Error as FetchError}
 use Rattle.gixp_fetch.specs.Fetch.{World, Parties}
 use Rattle.gixp_fetch.specs.Fetched.{FetchCall, Fetches, call_of, unlocked_world}

@@ -8,7 +8,7 @@ use Rattle.gixp_refmap.specs.declared.refmap.map.RefMap.{RefMap}
 use Rattle.gixp_handshake.specs.declared.handshake.read.Handshake.{Handshake}
 use Rattle.gixp_fetch.specs.declared.options.Outcome.{Outcome}
 use Rattle.gixp_fetch.specs.declared.error.Error.{Error as FetchError}
-use Rattle.gixp_fetch.specs.declared.shallow.memory.ShallowMemory.{ShallowMemory}
+use Rattle.gixp_shallow.specs.declared.store.memory.ShallowMemory.{ShallowMemory}
 use Rattle.gixp_hash.specs.declared.object_id.ObjectId.{ObjectId}
 use Rattle.gixp_fetch.specs.Fetch.{Parties}
 use Rattle.gixp_fetch.specs.Fetched.{unlocked_world}

@@ -2,7 +2,7 @@
 use Rattle.std.specs.Prelude.{◌≡◌, ℕ, ⊤, Bool, true, false, List, [], ◌∷◌, ◌++◌, Option, Some, None, Result, Ok, Err, String, string_bytes}
 use Rattle.std.specs.declared.alloc.Global.{Global}
 use Rattle.bstr.specs.Owned.{bstring_bytes}
-use Rattle.gixp_negotiate.specs.declared.shallow.Shallow.TheVariants.{NoChange}
+use Rattle.gixp_shallow.specs.declared.shallow.Shallow.TheVariants.{NoChange}
 use Rattle.gixp_negotiators.specs.declared.algorithm.Algorithm.TheVariants.{Consecutive}
 use Rattle.gixp_refmap.specs.declared.fetch.Tags.TheVariants.{Included}
 use Rattle.gixp_refspec.specs.declared.spec.RefSpec.{RefSpec}

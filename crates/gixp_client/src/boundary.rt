@@ -7,7 +7,7 @@ ghost use Rattle.gixp_hash.specs.declared.object_id.ObjectId.{ObjectId};
 ghost use Rattle.gixp_client.specs.Boundaries.{has_id, ids_beyond, updates_between};
 
 use gixp_hash::ObjectId;
-use gixp_response::fetch::response::ShallowUpdate;
+use gixp_shallow::ShallowUpdate;
 use std::alloc::{AllocError, Global};
 use std::collections::BTreeSet;
 

@@ -17,7 +17,7 @@ ghost use Rattle.gixp_client.specs.declared.request.Request.{Request};
 use gixp_fetch::consume::ConsumePack;
 use gixp_fetch::laws::headline;
 use gixp_fetch::mapped::NegotiatesMap;
-use gixp_fetch::shallow::{ShallowMemory, ShallowStore};
+use gixp_shallow::{ShallowMemory, ShallowStore};
 use gixp_negotiate::negotiate::Negotiate;
 use gixp_negotiate::negotiate::negotiation::PaysForHaves;
 use gixp_sidebands::Interrupt;

@@ -15,7 +15,7 @@ use crate::run::SessionNegotiation;
 use crate::session::Session;
 use gixp_fetch::consume::ConsumePack;
 use gixp_fetch::mapped::NegotiatesMap;
-use gixp_fetch::shallow::{ShallowMemory, ShallowStore};
+use gixp_shallow::{ShallowMemory, ShallowStore};
 use gixp_graph::{Find, RefStore};
 use gixp_negotiate::negotiate::Negotiate;
 use gixp_negotiators::AnyNegotiator;

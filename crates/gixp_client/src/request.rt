@@ -7,7 +7,7 @@ ghost use Rattle.gixp_client.specs.ClientCalls.{some_spec};
 
 use crate::error::Error;
 use bstr::{BStr, BString};
-use gixp_negotiate::shallow::Shallow;
+use gixp_shallow::Shallow;
 use gixp_negotiators::Algorithm;
 use gixp_refmap::fetch::Tags;
 use gixp_refmap::refmap::init;

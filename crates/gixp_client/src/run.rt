@@ -14,7 +14,7 @@ use gixp_fetch::consume::ConsumePack;
 use gixp_fetch::fetch::fetch;
 use gixp_fetch::mapped::NegotiatesMap;
 use gixp_fetch::options::{Context, Options, Outcome};
-use gixp_fetch::shallow::{ShallowMemory, ShallowStore};
+use gixp_shallow::{ShallowMemory, ShallowStore};
 use gixp_graph::{Find, Graph, Negotiator, RefStore, Shared};
 use gixp_handshake::Handshake;
 use gixp_memory::NoAlternates;

@@ -1,6 +1,6 @@
 -- What a progress reporter that writes down its calls does with one.
 use Rattle.std.specs.Prelude.{◌≡◌, ◌⊎◌, ℕ, true, List, [], ◌∷◌, ◌++◌, map, string_bytes}
-use Rattle.gixp_wire.specs.Progress.{ProgressCall, init, step, set, set_name, fail}
+use Rattle.gixp_progress.specs.Progress.{ProgressCall, init, step, set, set_name, fail}
 use Rattle.gixp_doubles.specs.declared.told.Call.{Call}
 use Rattle.gixp_doubles.specs.declared.told.Call.TheVariants as call
 use Rattle.gixp_doubles.specs.declared.told.Told.{Told}

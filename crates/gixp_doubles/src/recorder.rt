@@ -1,6 +1,6 @@
 //! A negotiator that writes down what it is told.
 ghost use Rattle.std.specs.Prelude.{◌≡◌, ◌++◌, ◌∷◌, ◌+◌, ◌-◌, ◌^◌, ◌≤◌, [], length, drop, OnOk, OnErr, IfErr};
-ghost use Rattle.gixp_graph.specs.Object.{HasRisen};
+ghost use Rattle.gixp_hash.specs.Failures.{HasRisen};
 ghost use Rattle.gixp_graph.specs.declared.negotiator.NegotiatorError.TheVariants.{Memory};
 ghost use Rattle.gixp_doubles.specs.Recorder.{OffersFirstHave};
 

@@ -14,7 +14,7 @@ use Rattle.gixp_negotiate.specs.Negotiate.{Window}
 use Rattle.gixp_negotiate.specs.Rounds.{commons, commons_of, is_same_id, has_id, keeping, keeping_all, kept_with, kept_ids, have_line}
 use Rattle.gixp_fetch.specs.FetchRounds.{At, Turn, Manner, Turns, Rounds}
 use Rattle.gixp_fetch.specs.Again.{Renames, StandsAlone, NamesAgain, NamesAll, named_in}
-use Rattle.gixp_fetch.proofs.SetLemmas.{no_member, first_member, later_member, member_cases}
+use Rattle.gixp_shallow.proofs.SetLemmas.{no_member, first_member, later_member, member_cases}
 use Rattle.gixp_fetch.proofs.SentLemmas.{turn_written}
 
 or_parts : (a b : Bool) → (a || b) ≡ true → (a ≡ true) ⊎ (b ≡ true)

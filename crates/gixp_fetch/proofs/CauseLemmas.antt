@@ -19,7 +19,7 @@ use Rattle.gixp_sidebands.specs.Questions.{one_if, SaysEach, Asked, TakesTexts}
 use Rattle.gixp_response.specs.ResponseError.{answer_refusal, is_interruption}
 use Rattle.gixp_response.specs.declared.fetch.response.error.Error.{Error as answer_error}
 use Rattle.gixp_response.specs.declared.fetch.response.error.Error.TheVariants.{Memory as answer_memory}
-use Rattle.gixp_response.specs.declared.fetch.response.line.ShallowUpdate.{ShallowUpdate}
+use Rattle.gixp_shallow.specs.declared.update.ShallowUpdate.{ShallowUpdate}
 use Rattle.gixp_response.specs.Features.{Feature, missing_feature, Misses}
 use Rattle.gixp_response.specs.Beginnings.{expected as flags}
 use Rattle.gixp_response.specs.AnswerReading.{answer_of}
@@ -33,8 +33,8 @@ use Rattle.gixp_negotiate.specs.declared.negotiate.Round.{Round}
 use Rattle.gixp_negotiate.specs.declared.negotiate.Error.{Error as negotiate_error}
 use Rattle.gixp_negotiate.specs.declared.negotiate.Error.TheVariants.{NegotiationFailed, Memory as negotiate_memory}
 use Rattle.gixp_negotiate.specs.Negotiate.{IsOwn}
-use Rattle.gixp_fetch.specs.declared.shallow.ShallowError.{ShallowError}
-use Rattle.gixp_fetch.specs.declared.shallow.ShallowError.TheVariants.{Memory as store_memory}
+use Rattle.gixp_shallow.specs.declared.store.ShallowError.{ShallowError}
+use Rattle.gixp_shallow.specs.declared.store.ShallowError.TheVariants.{Memory as store_memory}
 use Rattle.gixp_fetch.specs.declared.error.Error.{Error}
 use Rattle.gixp_fetch.specs.declared.error.Error.TheVariants.{FetchResponse, Negotiate, Client, MissingServerFeature, WriteShallowFile, ReadShallowFile, LockShallowFile, RejectShallowRemote, ConsumePack, ReadRemainingBytes, Memory}
 use Rattle.gixp_fetch.specs.declared.receive.PackFailure.{PackFailure}
@@ -48,7 +48,7 @@ use Rattle.gixp_fetch.specs.Received.{PackRefused, of_pack}
 use Rattle.gixp_fetch.specs.View.{view, view_plain, AsksThrough}
 use Rattle.gixp_fetch.specs.Kept.{SaysGoOn}
 use Rattle.gixp_fetch.specs.Sent.{request_of, requests_of, WroteRequests}
-use Rattle.gixp_fetch.specs.Store.{to_lock}
+use Rattle.gixp_shallow.specs.Store.{to_lock}
 use Rattle.gixp_fetch.specs.Session.{OpenFails, ReadyFails, is_any, HoldsBy, UnheldBy, DeliverFails, at_lock, at_pack, at_boundary}
 use Rattle.gixp_fetch.specs.Fetch.{World, Parties, Rests, FetchFails, unopened, unready, unpacked, untold, undelivered}
 use Rattle.gixp_fetch.specs.Fetched.{FetchCall, features, StartFails, unprepared, unlocked, Fetches}

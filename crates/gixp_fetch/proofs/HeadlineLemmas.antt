@@ -28,7 +28,7 @@ use Rattle.gixp_refs.specs.ParseError.{AnswersRefs, IsParseRefusal}
 use Rattle.gixp_refs.specs.Refs.{ReadsRefs}
 use Rattle.gixp_refs.specs.RefAdvertisement.{Symref, symref_table, v1_refs}
 use Rattle.gixp_refs.specs.V1Refs.{symref_values, ReadsV1, AdvertisementFails}
-use Rattle.gixp_response.specs.declared.fetch.response.line.ShallowUpdate.{ShallowUpdate}
+use Rattle.gixp_shallow.specs.declared.update.ShallowUpdate.{ShallowUpdate}
 use Rattle.gixp_response.specs.ResponseError.{from_reader}
 use Rattle.gixp_requests.specs.Arguments.{ArgumentsValue}
 use Rattle.gixp_requests.specs.Feature.{FeatureValue}

@@ -6,20 +6,21 @@ use Rattle.std.proofs.lemmas.Bool.{false≢true}
 use Rattle.gixp_hash.specs.declared.object_id.ObjectId.{ObjectId}
 use Rattle.gixp_packetline.specs.Reading.{Reading}
 use Rattle.gixp_sidebands.specs.Questions.{one_if, SaysEach, Asked, TakesTexts}
-use Rattle.gixp_response.specs.declared.fetch.response.line.ShallowUpdate.{ShallowUpdate}
+use Rattle.gixp_shallow.specs.declared.update.ShallowUpdate.{ShallowUpdate}
 use Rattle.gixp_fetch.specs.declared.options.Outcome.{Outcome}
 use Rattle.gixp_fetch.specs.declared.error.Error.{Error}
 use Rattle.gixp_fetch.specs.FetchRounds.{At, Turn, Manner, Turns, Rounds, updates_of}
-use Rattle.gixp_fetch.specs.FetchShallow.{ShallowValue, no_change, at_remote, deepens, since, excludes, is_change, boundary}
+use Rattle.gixp_fetch.specs.FetchShallow.{ShallowValue, no_change, at_remote, deepens, since, excludes, is_change}
+use Rattle.gixp_shallow.specs.Boundary.{boundary}
 use Rattle.gixp_fetch.specs.Prepare.{LocksFirst, ReleasesIf}
 use Rattle.gixp_fetch.specs.Session.{is_any, HoldsBy, SettlesBy}
-use Rattle.gixp_fetch.specs.Store.{StoreCalls}
+use Rattle.gixp_shallow.specs.Store.{StoreCalls}
 use Rattle.gixp_fetch.specs.Fetch.{World, Parties, Wishes}
 use Rattle.gixp_fetch.specs.Fetched.{FetchCall, Fetches}
 use Rattle.gixp_fetch.specs.View.{AsksThrough}
 use Rattle.gixp_fetch.specs.Sessions.{manner_of}
 use Rattle.gixp_fetch.specs.Kept.{told_in, CallsStore, KeepsStore, SaysGoOn, HaveTexts, questions}
-use Rattle.gixp_fetch.proofs.SetLemmas.{boundary_is}
+use Rattle.gixp_shallow.proofs.SetLemmas.{boundary_is}
 use Rattle.gixp_fetch.proofs.SessionLemmas.{is_answer, rounds_answers}
 
 -- ---- the store

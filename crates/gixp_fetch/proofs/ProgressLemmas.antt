@@ -1,6 +1,6 @@
 -- What a fetch tells its progress reporter, round by round.
 use Rattle.std.proofs.Common.{◌≡◌, ℕ, ◌+◌, suc, Bool, List, [], ◌∷◌, ◌++◌, length, length-append, sym, ap, subst, ◌∙◌, add-one}
-use Rattle.gixp_wire.specs.Progress.{ProgressCall, ToldCalls}
+use Rattle.gixp_progress.specs.Progress.{ProgressCall, ToldCalls}
 use Rattle.gixp_negotiate.specs.declared.negotiate.Round.{Round}
 use Rattle.gixp_fetch.specs.FetchProgress.{round_calls, AddsRemote, TellsRounds}
 

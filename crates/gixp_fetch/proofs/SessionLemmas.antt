@@ -9,7 +9,7 @@ use Rattle.gixp_packetline.specs.declared.protocol.MessageKind.{MessageKind}
 use Rattle.gixp_packetline.specs.Pieces.{Pieces, Refusal}
 use Rattle.gixp_packetline.specs.Reading.{Reading, Fails as reader_fails}
 use Rattle.gixp_sidebands.specs.Bands.{Side, content_left, content_of, side_content, IsFirstOf, side_reading, is_begun}
-use Rattle.gixp_response.specs.declared.fetch.response.line.ShallowUpdate.{ShallowUpdate}
+use Rattle.gixp_shallow.specs.declared.update.ShallowUpdate.{ShallowUpdate}
 use Rattle.gixp_response.specs.Answer.{AnswerValue, Found}
 use Rattle.gixp_response.specs.AnswerReading.{Answered}
 use Rattle.gixp_requests.specs.Arguments.{ArgumentsValue, is_v2}
@@ -29,7 +29,7 @@ use Rattle.gixp_fetch.specs.View.{view}
 use Rattle.gixp_fetch.specs.Sent.{request_of, requests_of, WroteRequests}
 use Rattle.gixp_fetch.specs.Receive.{fresh_side, Consumed, GivesBack, Finishes}
 use Rattle.gixp_fetch.specs.Received.{PackFails, Received, ReceiveFails}
-use Rattle.gixp_fetch.specs.Store.{StoreCalls}
+use Rattle.gixp_shallow.specs.Store.{StoreCalls}
 use Rattle.gixp_fetch.specs.Session.{DeliverFails, at_lock, at_pack, at_boundary}
 use Rattle.gixp_fetch.specs.Fetch.{World, Parties, Begun, Negotiated, FetchFails, unopened, unready, unpacked, untold, undelivered}
 use Rattle.gixp_fetch.specs.Fetched.{FetchCall, features, Fetches}

@@ -22,8 +22,8 @@ use Rattle.gixp_negotiate.specs.Negotiate.{Window, negotiate}
 use Rattle.gixp_negotiate.specs.declared.negotiate.Error.{Error as negotiate_error}
 use Rattle.gixp_negotiate.specs.declared.negotiate.Error.TheVariants.{NegotiationFailed, Memory as negotiate_memory}
 use Rattle.gixp_response.specs.Answer.{AnswerValue, refused as answer_refused}
-use Rattle.gixp_fetch.specs.declared.shallow.ShallowError.{ShallowError}
-use Rattle.gixp_fetch.specs.declared.shallow.ShallowError.TheVariants.{Memory as store_memory}
+use Rattle.gixp_shallow.specs.declared.store.ShallowError.{ShallowError}
+use Rattle.gixp_shallow.specs.declared.store.ShallowError.TheVariants.{Memory as store_memory}
 use Rattle.gixp_fetch.specs.declared.error.Error.{Error}
 use Rattle.gixp_fetch.specs.declared.error.Error.TheVariants.{FetchResponse, Negotiate, Client, MissingServerFeature, WriteShallowFile, ReadShallowFile, LockShallowFile, RejectShallowRemote, ConsumePack, ReadRemainingBytes, Memory}
 use Rattle.gixp_fetch.specs.declared.receive.PackFailure.TheVariants.{Consumer}
@@ -32,7 +32,7 @@ use Rattle.gixp_fetch.specs.FetchShallow.{no_change, description_of}
 use Rattle.gixp_fetch.specs.View.{view, view_plain}
 use Rattle.gixp_fetch.specs.Sent.{requests_of, WroteRequests}
 use Rattle.gixp_fetch.specs.Receive.{GivesBack}
-use Rattle.gixp_fetch.specs.Store.{to_lock, to_read, to_write}
+use Rattle.gixp_shallow.specs.Store.{to_lock, to_read, to_write}
 use Rattle.gixp_fetch.specs.Fetch.{World, Parties}
 use Rattle.gixp_fetch.specs.Fetched.{FetchCall, features}
 use Rattle.gixp_fetch.specs.Sessions.{AreAnswers, TakesPack, RefusesPack}

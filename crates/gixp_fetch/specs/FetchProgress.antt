@@ -1,7 +1,7 @@
 -- What a fetch tells its progress reporter, one call after another: of each round, and of the pack.
 use Rattle.std.specs.Prelude.{◌≡◌, ⊤, ℕ, zero, suc, Bool, true, false, not, List, [], ◌∷◌, ◌++◌, length, codes, Option, Some, None, Result, Ok, Err}
 use Rattle.std.specs.Fmt.{decimal}
-use Rattle.gixp_wire.specs.Progress.{ProgressCall, step, set_name, ToldCalls}
+use Rattle.gixp_progress.specs.Progress.{ProgressCall, step, set_name, ToldCalls}
 use Rattle.gixp_sidebands.specs.Bands.{Side}
 use Rattle.gixp_fetch.specs.declared.options.Outcome.{Outcome}
 

@@ -39,10 +39,10 @@ use Rattle.gixp_refs.specs.ParseError.{parse_refusal, IsParseRefusal}
 use Rattle.gixp_refs.specs.Refs.{v2_refs, ReadsRefs, RefsFail}
 use Rattle.gixp_refs.specs.RefAdvertisement.{Symref, symref_table, v1_refs}
 use Rattle.gixp_refs.specs.V1Refs.{ReadsV1, V1Fails}
-use Rattle.gixp_response.specs.declared.fetch.response.line.ShallowUpdate.{ShallowUpdate}
+use Rattle.gixp_shallow.specs.declared.update.ShallowUpdate.{ShallowUpdate}
 use Rattle.gixp_response.specs.declared.fetch.response.error.Error.{Error as answer_error}
 use Rattle.gixp_response.specs.declared.fetch.response.error.Error.TheVariants.{Memory as answer_memory}
-use Rattle.gixp_response.specs.Runs.{SoFar}
+use Rattle.gixp_packetline.specs.Runs.{SoFar}
 use Rattle.gixp_response.specs.ResponseError.{AnswerRefusal, answer_refusal, from_reader, IsAnswerRefusal}
 use Rattle.gixp_response.specs.Answer.{Found, refused, update_items}
 use Rattle.gixp_response.specs.AnswerReading.{AnswerFails, Passed}

@@ -2,13 +2,13 @@
 use Rattle.std.specs.Prelude.{◌≡◌, ◌⊎◌, ⊤, ℕ, zero, suc, ◌+◌, Bool, true, false, List, [], ◌∷◌, ◌++◌, Option, Some, None, IfSome, Result, Ok, Err}
 use Rattle.gixp_hash.specs.declared.object_id.ObjectId.{ObjectId}
 use Rattle.gixp_sidebands.specs.Questions.{TakesTexts}
-use Rattle.gixp_response.specs.declared.fetch.response.line.ShallowUpdate.{ShallowUpdate}
+use Rattle.gixp_shallow.specs.declared.update.ShallowUpdate.{ShallowUpdate}
 use Rattle.gixp_fetch.specs.declared.options.Outcome.{Outcome}
 use Rattle.gixp_fetch.specs.declared.error.Error.{Error}
 use Rattle.gixp_fetch.specs.FetchRounds.{Turn}
 use Rattle.gixp_fetch.specs.FetchShallow.{no_change}
-use Rattle.gixp_fetch.specs.Boundary.{IsBoundary}
-use Rattle.gixp_fetch.specs.Store.{StoreCalls}
+use Rattle.gixp_shallow.specs.Boundary.{IsBoundary}
+use Rattle.gixp_shallow.specs.Store.{StoreCalls}
 use Rattle.gixp_fetch.specs.Fetch.{Parties, Wishes}
 use Rattle.gixp_fetch.specs.Fetched.{FetchCall}
 use Rattle.gixp_fetch.specs.Sessions.{AreAnswers, rounds_of}

@@ -6,11 +6,11 @@ use Rattle.gixp_requests.specs.Arguments.{ArgumentsValue, can_use}
 use Rattle.gixp_graph.specs.Object.{Objects}
 use Rattle.gixp_refmap.specs.declared.fetch.Tags.{Tags}
 use Rattle.gixp_refmap.specs.declared.refmap.map.RefMap.{RefMap}
-use Rattle.gixp_negotiate.specs.declared.shallow.Shallow.{Shallow}
+use Rattle.gixp_shallow.specs.declared.shallow.Shallow.{Shallow}
 use Rattle.gixp_negotiate.specs.Ignored.{is_ignored}
 use Rattle.gixp_negotiate.specs.Marking.{LocalRefs, decision}
 use Rattle.gixp_negotiate.specs.Negotiate.{ActionValue}
-use Rattle.gixp_negotiate.specs.Shallow.{is_no_change}
+use Rattle.gixp_shallow.specs.Shallow.{is_no_change}
 use Rattle.gixp_negotiate.specs.Wants.{Wish, wishes, AddsWants}
 
 -- what a negotiation knows beside the map

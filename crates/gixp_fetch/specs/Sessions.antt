@@ -15,7 +15,7 @@ use Rattle.gixp_response.specs.Answer.{AnswerValue, Found, whole}
 use Rattle.gixp_response.specs.Beginnings.{expected as flags}
 use Rattle.gixp_response.specs.AnswerReading.{answer_of, AnswerBrokeOff}
 use Rattle.gixp_response.specs.Features.{Feature, missing_feature}
-use Rattle.gixp_response.specs.declared.fetch.response.line.ShallowUpdate.{ShallowUpdate}
+use Rattle.gixp_shallow.specs.declared.update.ShallowUpdate.{ShallowUpdate}
 use Rattle.gixp_requests.specs.Feature.{feature_values, has_feature}
 use Rattle.gixp_requests.specs.Arguments.{ArgumentsValue, is_v2, asks_nothing}
 use Rattle.gixp_requests.specs.Request.{request, sent_off}

@@ -4,11 +4,9 @@ ghost use Rattle.gixp_fetch.specs.Lent.{IsSameLock};
 ghost use Rattle.gixp_fetch.specs.Prepare.{ReleasesIf};
 ghost use Rattle.gixp_fetch.specs.Session.{is_any, Holds, HoldFails, SettlesBoundary, SettleFails};
 
-use crate::boundary::new_boundary;
 use crate::error::Error;
-use crate::shallow::ShallowStore;
 use gixp_hash::ObjectId;
-use gixp_response::fetch::response::ShallowUpdate;
+use gixp_shallow::{ShallowStore, ShallowUpdate, new_boundary};
 use std::alloc::Global;
 
 fn is_none(updates: &[ShallowUpdate]) -> bool

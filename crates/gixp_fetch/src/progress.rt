@@ -1,11 +1,11 @@
 //! What a fetch tells of its own progress.
 ghost use Rattle.std.specs.Prelude.{◌≡◌, ◌+◌, ◌∷◌, [], OnOk, OnErr, length};
 ghost use Rattle.std.specs.String.{string_bytes};
-ghost use Rattle.gixp_wire.specs.Progress.{ToldCalls, step, set_name};
+ghost use Rattle.gixp_progress.specs.Progress.{ToldCalls, step, set_name};
 ghost use Rattle.gixp_fetch.specs.FetchProgress.{round_calls, pack_calls};
 
 use gixp_negotiate::negotiate::Round;
-use gixp_wire::Progress;
+use gixp_progress::Progress;
 use std::alloc::{AllocError, Global};
 
 // One more step was made, and this is done now.

@@ -1,7 +1,7 @@
 -- Options that ask for a depth, and operands.
 use Rattle.std.proofs.Common.{◌≡◌, ◌<◌, ◌≤◌, ℕ, Bool, true, false, ◌&&◌, ◌||◌, List, [], ◌∷◌, length, map, drop, get_or, codes, Option, Some, is_some, Result, Ok, Err, IfOk, refl, ap, arith}
-use Rattle.gixp_negotiate.specs.declared.shallow.Shallow.{Shallow}
-use Rattle.gixp_negotiate.specs.Shallow.{ShallowValue, at_remote, shallow_value}
+use Rattle.gixp_shallow.specs.declared.shallow.Shallow.{Shallow}
+use Rattle.gixp_shallow.specs.Shallow.{ShallowValue, at_remote, shallow_value}
 use Rattle.gixp_fetch_parts.specs.LineOf.{LineParts}
 use Rattle.gixp_fetch_parts.specs.Choices.{value, has, has_cut, has_conflict, CutsHistory, AsksHistory}
 

@@ -9,7 +9,7 @@ use Rattle.gixp_packetline.specs.declared.protocol.Protocol.{Protocol}
 use Rattle.gixp_packetline.specs.declared.protocol.Protocol.TheVariants.{V0, V1, V2}
 use Rattle.gixp_refmap.specs.declared.fetch.Tags.{Tags}
 use Rattle.gixp_refmap.specs.declared.fetch.Tags.TheVariants.{All, Included, None as NoTags}
-use Rattle.gixp_negotiate.specs.Shallow.{ShallowValue, no_change, at_remote, deepens, since, excludes, shallow_value}
+use Rattle.gixp_shallow.specs.Shallow.{ShallowValue, no_change, at_remote, deepens, since, excludes, shallow_value}
 use Rattle.gixp_negotiators.specs.declared.algorithm.Algorithm.TheVariants.{Consecutive}
 use Rattle.gixp_negotiators.specs.Algorithm.{IsNameOf}
 use Rattle.gixp_fetch_parts.specs.declared.options.Haves.{Haves}

@@ -3,7 +3,7 @@ ghost use Rattle.std.specs.Prelude.{◌≡◌, ◌||◌, ℕ, true, false, if◌
 ghost use Rattle.std.specs.Option.{option_map};
 ghost use Rattle.bstr.specs.Owned.{bstring_bytes};
 ghost use Rattle.gixp_refspec.specs.PartialName.{name_bytes};
-ghost use Rattle.gixp_negotiate.specs.Shallow.{no_change, at_remote, deepens, shallow_value};
+ghost use Rattle.gixp_shallow.specs.Shallow.{no_change, at_remote, deepens, shallow_value};
 ghost use Rattle.gixp_fetch_parts.specs.LineOf.{line_of, line_value, LineParts};
 ghost use Rattle.gixp_fetch_parts.specs.declared.options.OptionError.TheVariants.{Memory};
 ghost use Rattle.gixp_fetch_parts.specs.Choices.{version_of, tags_of, has, values, has_conflict, IsHaves, IsNumber, IsSeconds};
@@ -11,7 +11,7 @@ ghost use Rattle.gixp_fetch_parts.specs.Choices.{CutsHistory, AsksHistory, AsksQ
 
 use crate::line::{Line, LineError};
 use bstr::BString;
-use gixp_negotiate::shallow::Shallow;
+use gixp_shallow::Shallow;
 use gixp_negotiators::Algorithm;
 use gixp_packetline::Protocol;
 use gixp_refmap::fetch::Tags;

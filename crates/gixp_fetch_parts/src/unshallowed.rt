@@ -3,7 +3,7 @@ ghost use Rattle.std.specs.Prelude.{◌≡◌};
 ghost use Rattle.gixp_fetch_parts.specs.Unshallowed.{unknown_id, unknown_unshallow};
 
 use gixp_hash::ObjectId;
-use gixp_response::fetch::response::ShallowUpdate;
+use gixp_shallow::ShallowUpdate;
 use std::collections::BTreeSet;
 
 // The id that an update takes out of the boundary, where it isn't in it.

@@ -16,7 +16,8 @@ use Rattle.gixp_graph.specs.GraphData.{HeldCommit, Commits, GraphData, commit_in
 use Rattle.gixp_graph.specs.Complete.{IsDue}
 use Rattle.gixp_graph.specs.Asked.{AsksOnce, AsksWhere, AsksEach}
 use Rattle.gixp_graph.specs.Walk.{Walk, IsUnread, Visits, VisitsEach, AsksDue, HasAsked, AsksAll, AsksSome}
-use Rattle.gixp_graph.specs.GraphLaws.{ids_total, same_from, faithful_reads}
+use Rattle.gixp_graph.specs.GraphLaws.{same_from, faithful_reads}
+use Rattle.gixp_hash.specs.IdLaws.{ids_total}
 use Rattle.gixp_graph.proofs.MarkLemmas.{true_or_false}
 use Rattle.gixp_graph.proofs.HeldLemmas.{unknown}
 use Rattle.gixp_graph.proofs.FaithfulLemmas.{complete_same}

@@ -13,7 +13,8 @@ use Rattle.gixp_graph.specs.declared.flags.Flags.{Flags}
 use Rattle.gixp_hash.specs.ObjectId.{id_cmp}
 use Rattle.gixp_graph.specs.Object.{Commit, commit_at}
 use Rattle.gixp_graph.specs.GraphData.{HeldCommit, shown, Commits, GraphData, found_in, looked_up, flagged, unmarked, put, is_complete, completed, if_unmarked, marked_found}
-use Rattle.gixp_graph.specs.GraphLaws.{ids_exact, ids_total, put_same}
+use Rattle.gixp_graph.specs.GraphLaws.{put_same}
+use Rattle.gixp_hash.specs.IdLaws.{ids_exact, ids_total}
 
 -- an id is itself
 pub same_id : (id : ObjectId) → eq_by_cmp id_cmp id id ≡ true

@@ -17,7 +17,8 @@ use Rattle.gixp_graph.specs.GraphData.{HeldCommit, Commits, parents_in, flagged}
 use Rattle.gixp_graph.specs.Table.{id_at, ids_at, AllNamed}
 use Rattle.gixp_graph.specs.Node.{ids_of, range_of, parent_numbers_of, parents_of, held_of, entry_of, held_in, IsInRange, IsTable}
 use Rattle.gixp_graph.specs.Visited.{IsOneToOne}
-use Rattle.gixp_graph.specs.GraphLaws.{ids_exact, ids_total, same_from}
+use Rattle.gixp_graph.specs.GraphLaws.{same_from}
+use Rattle.gixp_hash.specs.IdLaws.{ids_exact, ids_total}
 use Rattle.gixp_graph.proofs.HeldLemmas.{flagged_held}
 use Rattle.gixp_graph.proofs.MarkLemmas.{same_id, true_or_false, get_insert_other, get_insert_same}
 

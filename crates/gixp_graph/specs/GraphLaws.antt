@@ -5,26 +5,16 @@ use Rattle.std.specs.Option.{option_or, option_map_or}
 use Rattle.std.specs.declared.cmp.Ordering.{Ordering}
 use Rattle.std.specs.declared.cmp.Ordering.TheVariants.{Less, Equal, Greater}
 use Rattle.std.specs.Ordering.{is_eq, eq_by_cmp}
-use Rattle.std.specs.Cmp.{IsTotalOrder, on_total}
-use Rattle.std.specs.Cmp.Lexicographic.{nat_list_cmp_total}
-use Rattle.std.proofs.lemmas.Map.Lookups.{CmpEqualImpliesEq, exact_bytes}
 use Rattle.std.specs.FinMap as finite
 use Rattle.std.specs.FinMap.{get-insert, same_map}
 use Rattle.gixp_hash.specs.declared.object_id.ObjectId.{ObjectId}
 use Rattle.gixp_hash.specs.ObjectId.{id_cmp}
+use Rattle.gixp_hash.specs.IdLaws.{ids_exact, ids_total}
 use Rattle.gixp_graph.specs.Object.{Commit, commit_at, time_at}
 use Rattle.gixp_graph.specs.GraphData.{HeldCommit, Commits, GraphData, found_in, commit_in, as_read, unmarked, shown, shown_time, put, looked_up, is_complete, is_marked, IsFaithful}
 use Rattle.gixp_graph.specs.Run.{Call, IsRun}
 
 -- ---- ids
-
--- ids that compare alike are one
-pub ids_exact : CmpEqualImpliesEq id_cmp
-ids_exact a b h = ap (λ bytes. record { bytes = bytes }) (exact_bytes a.bytes b.bytes h)
-
--- the order of ids is total
-pub ids_total : IsTotalOrder id_cmp
-ids_total = on_total (λ d. d.bytes) nat_list_cmp_total
 
 -- what ties is equal
 same_at : (o : Ordering) → is_eq o ≡ true → o ≡ Equal

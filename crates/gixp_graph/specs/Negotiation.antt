@@ -3,7 +3,7 @@ use Rattle.std.specs.Prelude.{◌≡◌, ⊤, ℕ, ◌⊎◌}
 use Rattle.gixp_graph.specs.declared.objects.ObjectError.TheVariants as object
 use Rattle.gixp_graph.specs.declared.negotiator.NegotiatorError.{NegotiatorError}
 use Rattle.gixp_graph.specs.declared.negotiator.NegotiatorError.TheVariants.{Lookup, Memory}
-use Rattle.gixp_graph.specs.Object.{HasRisen}
+use Rattle.gixp_hash.specs.Failures.{HasRisen}
 use Rattle.gixp_graph.specs.GraphData.{GraphData}
 use Rattle.gixp_graph.specs.Run.{Call, Offer, RefusedCall, RefusedOffer}
 

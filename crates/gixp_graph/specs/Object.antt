@@ -39,10 +39,6 @@ time_at objects id = option_map (λ (c : Commit). c.time) (commit_at objects id)
 abbrev pub commit_of : CommitData → Commit
 commit_of c = record { time = c.time; parents = c.parents.items }
 
--- a count of failures went up; at the greatest value of its type it can't, and counts as risen
-abbrev pub HasRisen : ℕ → ℕ → Type 0
-HasRisen old new = (old < new) ⊎ (new ≡ 2 ^ 64 - 1)
-
 -- a kind as a number
 abbrev kind_number : ObjectKind → ℕ
 kind_number IsCommit = 0

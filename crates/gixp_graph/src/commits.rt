@@ -2,7 +2,7 @@
 ghost use Rattle.std.specs.Prelude.{◌≡◌, ◌≤◌, ◌<◌, ◌⊎◌, ◌↔◌, IfOk, IfErr, IfSome, IfNone, OnOk, OnErr, option_map, IsSome, IsTrue, unwrap_or, [], ◌∷◌, ◌++◌, length, Some, None, map, take, drop, ◌-◌};
 ghost use Rattle.std.specs.FinMap as finite;
 ghost use Rattle.gixp_graph.specs.declared.objects.ObjectError.TheVariants.{Memory};
-ghost use Rattle.gixp_graph.specs.Object.{HasRisen};
+ghost use Rattle.gixp_hash.specs.Failures.{HasRisen};
 ghost use Rattle.gixp_graph.specs.Asked.{AsksWhere};
 ghost use Rattle.gixp_graph.specs.Refusals.{TellsRefusal};
 ghost use Rattle.gixp_graph.specs.GraphData.{shown, graph_of, found_in, looked_up, flagged, parents_in};

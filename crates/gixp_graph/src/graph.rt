@@ -3,7 +3,8 @@ ghost use Rattle.std.specs.Prelude.{◌≡◌, ◌≤◌, ◌⊎◌, ◌↔◌, 
 ghost use Rattle.std.specs.FinMap as finite;
 ghost use Rattle.gixp_hash.specs.declared.object_id.ObjectId.{ObjectId};
 ghost use Rattle.gixp_graph.specs.declared.objects.ObjectError.TheVariants.{Memory};
-ghost use Rattle.gixp_graph.specs.Object.{HasRisen, commit_at, time_at};
+ghost use Rattle.gixp_graph.specs.Object.{commit_at, time_at};
+ghost use Rattle.gixp_hash.specs.Failures.{HasRisen};
 ghost use Rattle.gixp_graph.specs.GraphData.{graph_of, shown, shown_time, parents_in, found_in, looked_up, flagged, is_marked, OnlyMarks, IsFaithful};
 ghost use Rattle.gixp_graph.specs.Asked.{AsksWhere, AsksEach};
 ghost use Rattle.gixp_graph.specs.Refusals.{TellsRefusal};

@@ -6,7 +6,8 @@ ghost use Rattle.gixp_graph.specs.Asked.{AsksOnce};
 ghost use Rattle.gixp_graph.specs.Refusals.{Written, writing};
 ghost use Rattle.gixp_graph.specs.declared.objects.ObjectError.{ObjectError};
 ghost use Rattle.gixp_graph.specs.declared.objects.ObjectError.TheVariants.{Memory};
-ghost use Rattle.gixp_graph.specs.Object.{Objects as ObjectMap, kind_at, commit_at, commit_of, HasRisen};
+ghost use Rattle.gixp_graph.specs.Object.{Objects as ObjectMap, kind_at, commit_at, commit_of};
+ghost use Rattle.gixp_hash.specs.Failures.{HasRisen};
 
 use gixp_hash::ObjectId;
 use std::alloc::{AllocError, AllocFailed, Global};

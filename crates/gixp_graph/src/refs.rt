@@ -6,7 +6,7 @@ ghost use Rattle.std.specs.FinMap as map;
 ghost use Rattle.bstr.specs.BStr.{bstr_bytes};
 ghost use Rattle.gixp_hash.specs.declared.object_id.ObjectId.{ObjectId};
 ghost use Rattle.gixp_graph.specs.declared.refs.RefStoreError.TheVariants.{Memory};
-ghost use Rattle.gixp_graph.specs.Object.{HasRisen};
+ghost use Rattle.gixp_hash.specs.Failures.{HasRisen};
 ghost use Rattle.gixp_graph.specs.Refusals.{Written, writing};
 ghost use Rattle.gixp_graph.specs.declared.refs.RefStoreError.{RefStoreError};
 

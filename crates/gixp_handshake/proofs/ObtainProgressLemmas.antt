@@ -7,7 +7,7 @@ use Rattle.gixp_refs.specs.Ref.{RefValue}
 use Rattle.gixp_refspec.specs.Spec.{Spec}
 use Rattle.gixp_requests.specs.Feature.{FeatureValue}
 use Rattle.gixp_requests.specs.Command.{TableValue}
-use Rattle.gixp_wire.specs.Progress.{ProgressCall, ToldCalls}
+use Rattle.gixp_progress.specs.Progress.{ProgressCall, ToldCalls}
 use Rattle.gixp_refmap.specs.declared.ls_refs.error.Error.{Error as ListError}
 use Rattle.gixp_refmap.specs.declared.refmap.init.Context.{Context}
 use Rattle.gixp_refmap.specs.declared.refmap.init.Error.{Error as MapError}

@@ -1,7 +1,7 @@
 -- What a progress reporter is told, call after call.
 use Rattle.std.proofs.Common.{◌≡◌, Bool, true, List, [], ◌∷◌, ◌++◌, Result, Ok, Err, ap, sym, ◌∙◌, subst, append_assoc}
 use Rattle.std.proofs.lemmas.List.{append-nil}
-use Rattle.gixp_wire.specs.Progress.{ProgressCall, ToldCalls}
+use Rattle.gixp_progress.specs.Progress.{ProgressCall, ToldCalls}
 use Rattle.gixp_handshake.specs.ShakeProgress.{authenticating_calls, calls_if_denied, ToldPart, ToldUpTo}
 
 module _ {P : Type 0} (told : P → ProgressCall → P → Type 0) where

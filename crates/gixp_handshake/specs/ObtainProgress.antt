@@ -1,6 +1,6 @@
 -- What a progress reporter is told while a ref map is obtained.
 use Rattle.std.specs.Prelude.{◌≡◌, Option, Some, None, Result}
-use Rattle.gixp_wire.specs.Progress.{ProgressCall}
+use Rattle.gixp_progress.specs.Progress.{ProgressCall}
 use Rattle.gixp_refmap.specs.declared.refmap.init.Error.{Error as MapError}
 use Rattle.gixp_refmap.specs.ListingProgress.{TellsListedMap}
 use Rattle.gixp_handshake.specs.declared.handshake.ref_map.ObtainRefMap.{ObtainRefMap}

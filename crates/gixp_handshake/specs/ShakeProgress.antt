@@ -5,7 +5,7 @@ use Rattle.gixp_wire.specs.declared.service.SetServiceResponse.{SetServiceRespon
 use Rattle.gixp_capabilities.specs.declared.client.Error.{Error as ClientError}
 use Rattle.gixp_wire.specs.Greeting.{Parameter}
 use Rattle.gixp_wire.specs.Handshake.{Handshakes}
-use Rattle.gixp_wire.specs.Progress.{ProgressCall, init, step, set_name, ToldCalls}
+use Rattle.gixp_progress.specs.Progress.{ProgressCall, init, step, set_name, ToldCalls}
 use Rattle.gixp_packetline.specs.Reading.{Reading}
 use Rattle.gixp_handshake.specs.declared.handshake.error.Error.{Error}
 use Rattle.gixp_handshake.specs.declared.handshake.error.Error.TheVariants.{Memory}

@@ -18,7 +18,6 @@ pub mod UniqueLemmas
 pub mod DistinctLemmas
 pub mod DigestLemmas
 pub mod SoughtLemmas
-pub mod RepeatLemmas
 pub mod PlacedLemmas
 pub mod RowLemmas
 pub mod PlaceLemmas

@@ -1,5 +1,5 @@
 -- Keys at their places, and which of them are the first of equal ones.
-use Rattle.std.proofs.Common.{◌≡◌, ℕ, ◌+◌, ◌<◌, ◌≤◌, Bool, true, false, List, [], ◌∷◌, ◌++◌, length, take, map, get_or, replicate, Ordering, refl, sym, ap, subst, ◌∙◌, append_assoc, arith}
+use Rattle.std.proofs.Common.{◌≡◌, ℕ, ◌+◌, ◌<◌, ◌≤◌, Bool, true, false, List, [], ◌∷◌, ◌++◌, length, take, map, get_or, Ordering, refl, sym, ap, subst, ◌∙◌, append_assoc, arith}
 use Rattle.std.specs.Prelude.{◌&&◌, ◌||◌, ◌==◌, nat_lt, not}
 use Rattle.std.specs.List.{AllByRecursion, IsDistinct, list_any}
 use Rattle.std.specs.Ordering.{eq_by_cmp}
@@ -8,10 +8,11 @@ use Rattle.std.proofs.lemmas.List.Folds.{list_any-append}
 use Rattle.gixp_packetline.proofs.ListLemmas.{any_of_map, take-map_more}
 use Rattle.gixp_matching.specs.Firsts.{is_fresh, first_flags}
 use Rattle.gixp_matching.specs.Mappings.{Mapped, is_same}
-use Rattle.gixp_matching.specs.Repeats.{is_before, is_first, tested_from, placed, placed_from}
+use Rattle.gixp_repeats.specs.Repeats.{is_before, is_first, tested_from}
+use Rattle.gixp_repeats.proofs.RepeatLemmas.{eqb_other, eqb_later, tested_same}
+use Rattle.gixp_matching.specs.Placed.{placed, placed_from}
 use Rattle.gixp_matching.proofs.FirstLemmas.{or_none}
 use Rattle.gixp_matching.proofs.ListLemmas.{any_same}
-use Rattle.gixp_matching.proofs.RepeatLemmas.{eqb_other, eqb_later, tested_same}
 
 -- ---- places
 
@@ -152,11 +153,6 @@ tested_map f t n (x ∷ xs) = ap (λ l. t n ∷ l) (tested_map f t (n + 1) xs)
 tested_placed : {P : Type 0} (t : ℕ → Bool) (n k : ℕ) (xs : List P) → tested_from t n (placed_from k xs) ≡ tested_from t n xs
 tested_placed t n k [] = refl
 tested_placed t n k (x ∷ xs) = ap (λ l. t n ∷ l) (tested_placed t (n + 1) (k + 1) xs)
-
--- where no flag was taken yet
-pub tested_all : {A : Type 0} (n : ℕ) (xs : List A) → replicate (length xs) true ≡ tested_from (λ p. true) n xs
-tested_all n [] = refl
-tested_all n (x ∷ xs) = ap (λ l. true ∷ l) (tested_all (n + 1) xs)
 
 pub flags_are_first : {K P : Type 0} (R : K → K → Ordering) (t : P → P → Bool) (s : K → P) (g : Mapped → P)
     → ((x y : K) → eq_by_cmp R x y ≡ t (s x) (s y)) → ((a b : Mapped) → t (g a) (g b) ≡ is_same a b)

@@ -1,6 +1,7 @@
 -- What contracts cite.
 pub mod Sought
-pub mod Repeats
+pub use Rattle.gixp_repeats.specs.Repeats
+pub mod Placed
 pub mod Rising
 pub mod Rows
 pub mod Mappings

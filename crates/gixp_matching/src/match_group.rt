@@ -19,7 +19,6 @@ mod made;
 mod negatives;
 mod pairs;
 mod plain;
-mod repeats;
 mod rows;
 pub mod single;
 mod sorted;

@@ -17,7 +17,8 @@ use Rattle.gixp_hash.specs.declared.object_id.ObjectId.{ObjectId}
 use Rattle.gixp_hash.specs.ObjectId.{id_cmp}
 use Rattle.gixp_graph.specs.declared.objects.ObjectKind.{ObjectKind}
 use Rattle.gixp_graph.specs.Object.{Object, Commit, kind_at, commit_at, commit_of}
-use Rattle.gixp_graph.specs.GraphLaws.{ids_total, ids_exact, same_from}
+use Rattle.gixp_graph.specs.GraphLaws.{same_from}
+use Rattle.gixp_hash.specs.IdLaws.{ids_total, ids_exact}
 use Rattle.gixp_graph.proofs.MarkLemmas.{same_id, true_or_false}
 use Rattle.gixp_memory.specs.declared.objects.StoredObject.{StoredObject}
 use Rattle.gixp_memory.specs.declared.stored_refs.StoredRef.{StoredRef}

@@ -3,7 +3,8 @@ ghost use Rattle.std.specs.Prelude.{◌≡◌, ◌≤◌, ◌==◌, ◌+◌, ◌
 ghost use Rattle.std.specs.BTreeMap.{insert_entry};
 ghost use Rattle.gixp_hash.specs.ObjectId.{id_cmp};
 ghost use Rattle.gixp_graph.specs.Asked.{AsksOnce};
-ghost use Rattle.gixp_graph.specs.Object.{HasRisen, commit_at, commit_of};
+ghost use Rattle.gixp_graph.specs.Object.{commit_at, commit_of};
+ghost use Rattle.gixp_hash.specs.Failures.{HasRisen};
 ghost use Rattle.gixp_graph.specs.declared.objects.ObjectError.TheVariants.{Corrupt, Memory};
 ghost use Rattle.gixp_memory.specs.Memory.{KeepsCalls, is_corrupt_in, objects_of, stored_commit};
 

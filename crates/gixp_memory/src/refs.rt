@@ -1,7 +1,7 @@
 //! Refs in memory.
 ghost use Rattle.std.specs.Prelude.{◌≡◌, ◌≤◌, ◌⊎◌, [], None, IfOk, IfErr, IfSome, IfNone, OnOk, OnErr};
 ghost use Rattle.std.specs.BTreeMap.{insert_entry};
-ghost use Rattle.gixp_graph.specs.Object.{HasRisen};
+ghost use Rattle.gixp_hash.specs.Failures.{HasRisen};
 ghost use Rattle.gixp_graph.specs.declared.refs.RefStoreError.TheVariants.{Memory};
 ghost use Rattle.gixp_memory.specs.Memory.{KeepsTargets, name_cmp};
 

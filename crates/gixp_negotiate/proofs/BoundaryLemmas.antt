@@ -12,10 +12,10 @@ use Rattle.std.proofs.lemmas.Bool.Decides.{Decides-eqb, Decides-int_eq}
 use Rattle.std.proofs.lemmas.Slice.Eq.{bytes_eq-Decides, slice_eq-Decides}
 use Rattle.gixp_refspec.specs.declared.name.PartialName.{PartialName}
 use Rattle.gixp_refspec.specs.PartialName.{name_bytes}
-use Rattle.gixp_negotiate.specs.declared.shallow.Shallow.{Shallow}
-use Rattle.gixp_negotiate.specs.declared.shallow.Shallow.TheVariants.{NoChange, DepthAtRemote, Deepen, Since, Exclude}
+use Rattle.gixp_shallow.specs.declared.shallow.Shallow.{Shallow}
+use Rattle.gixp_shallow.specs.declared.shallow.Shallow.TheVariants.{NoChange, DepthAtRemote, Deepen, Since, Exclude}
 use Rattle.gixp_negotiate.specs.contracts.shallow.ShallowPartialEq.TheImpl.{eq-value}
-use Rattle.gixp_negotiate.specs.Shallow.{ShallowValue, at_remote, deepens, since, excludes, shallow_value}
+use Rattle.gixp_shallow.specs.Shallow.{ShallowValue, at_remote, deepens, since, excludes, shallow_value}
 
 -- what is of two kinds isn't one
 apart : {P : Type 0} {r : Bool} → r ≡ false → ¬ P → Decides r P

@@ -6,12 +6,12 @@ use Rattle.std.specs.List.{flat_map}
 use Rattle.gixp_hash.specs.declared.object_id.ObjectId.{ObjectId}
 use Rattle.std.proofs.Common.{inl, inr, Bool, true, false, Some, None}
 use Rattle.gixp_refmap.specs.declared.refmap.mapping.Mapping.{Mapping}
-use Rattle.gixp_negotiate.specs.declared.shallow.Shallow.{Shallow}
+use Rattle.gixp_shallow.specs.declared.shallow.Shallow.{Shallow}
 use Rattle.gixp_negotiate.specs.declared.negotiate.Error.{Error}
 use Rattle.gixp_negotiate.specs.declared.negotiate.Error.TheVariants.{Memory}
 use Rattle.gixp_negotiate.specs.Negotiate.{ActionValue, no_change, skip, negotiate}
 use Rattle.gixp_negotiate.specs.Marking.{early, settled, settle, is_lone_unborn, has_none}
-use Rattle.gixp_negotiate.specs.Shallow.{is_deepen_zero}
+use Rattle.gixp_shallow.specs.Shallow.{is_deepen_zero}
 use Rattle.gixp_negotiate.specs.Stopped.{IsNegotiate}
 use Rattle.gixp_negotiate.specs.Stores.{Listings, HasListed, RefusesToList, ListsFront, ListsUpTo, Lent, ListsBy}
 

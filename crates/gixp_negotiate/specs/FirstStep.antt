@@ -6,7 +6,7 @@ use Rattle.gixp_graph.specs.GraphData.{GraphValue}
 use Rattle.gixp_graph.specs.Negotiation.{NegotiatorCalls, IsRefusal}
 use Rattle.gixp_graph.specs.declared.negotiator.NegotiatorError.{NegotiatorError}
 use Rattle.gixp_refmap.specs.declared.refmap.mapping.Mapping.{Mapping}
-use Rattle.gixp_negotiate.specs.declared.shallow.Shallow.{Shallow}
+use Rattle.gixp_shallow.specs.declared.shallow.Shallow.{Shallow}
 use Rattle.gixp_negotiate.specs.declared.negotiate.Error.{Error}
 use Rattle.gixp_negotiate.specs.declared.negotiate.negotiation.NegotiateContext.{NegotiateContext}
 use Rattle.gixp_negotiate.specs.declared.negotiate.negotiation.Negotiation.{Negotiation}

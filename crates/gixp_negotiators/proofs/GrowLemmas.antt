@@ -14,7 +14,8 @@ use Rattle.gixp_hash.specs.declared.object_id.ObjectId.{ObjectId}
 use Rattle.gixp_hash.specs.ObjectId.{id_cmp}
 use Rattle.gixp_graph.specs.declared.flags.Flags.{Flags}
 use Rattle.gixp_graph.specs.GraphData.{HeldCommit, Commits, GraphData, graph_of, put, flagged, with_flags, is_marked, is_complete, parents_in}
-use Rattle.gixp_graph.specs.GraphLaws.{ids_total, same_from}
+use Rattle.gixp_graph.specs.GraphLaws.{same_from}
+use Rattle.gixp_hash.specs.IdLaws.{ids_total}
 use Rattle.gixp_negotiators.specs.Marks.{has_all, has_mark, Grows, AddsNone, AddsOnly}
 
 -- bits that are there stay

@@ -12,3 +12,4 @@ mod ItemLemmas
 pub mod RunLemmas
 pub mod LineLemmas
 pub mod PartsLemmas
+pub mod ReadingLemmas

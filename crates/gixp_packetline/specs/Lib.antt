@@ -8,6 +8,8 @@ pub mod Items
 pub mod Lines
 pub mod TransportState
 pub mod Reading
+pub mod Runs
+pub mod ReadFails
 pub mod Window
 pub mod PacketLine
 pub mod Order

@@ -7,7 +7,7 @@ use Rattle.gixp_packetline.specs.declared.protocol.Protocol.{Protocol}
 use Rattle.gixp_capabilities.specs.Capabilities.{CapabilityValue}
 use Rattle.gixp_packetline.specs.Reading.{Reading}
 use Rattle.gixp_packetline.specs.TransportState.{TransportState}
-use Rattle.gixp_response.specs.declared.fetch.response.line.ShallowUpdate.{ShallowUpdate}
+use Rattle.gixp_shallow.specs.declared.update.ShallowUpdate.{ShallowUpdate}
 use Rattle.gixp_response.specs.Answer.{AnswerValue}
 use Rattle.gixp_requests.specs.Feature.{has_feature}
 use Rattle.gixp_requests.specs.Command.{git_table}

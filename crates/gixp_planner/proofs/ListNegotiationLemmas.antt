@@ -8,7 +8,7 @@ use Rattle.gixp_refmap.specs.declared.refmap.map.RefMap.{RefMap}
 use Rattle.gixp_negotiate.specs.declared.negotiate.negotiation.Negotiation.{Negotiation}
 use Rattle.gixp_negotiate.specs.declared.negotiate.plain.HaveList.{HaveList}
 use Rattle.gixp_negotiate.specs.declared.negotiate.plain.NoRefs.{NoRefs}
-use Rattle.gixp_negotiate.specs.Shallow.{is_no_change}
+use Rattle.gixp_shallow.specs.Shallow.{is_no_change}
 use Rattle.gixp_negotiate.specs.Ignored.{is_ignored}
 use Rattle.gixp_negotiate.specs.Wants.{wishes}
 use Rattle.gixp_planner.proofs.SeenLemmas.{LookAlike}

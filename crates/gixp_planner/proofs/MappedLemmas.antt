@@ -24,7 +24,7 @@ use Rattle.gixp_capabilities.specs.Capabilities.{CapabilityValue}
 use Rattle.gixp_wire.specs.CapabilityAdvertisement.{Advertised, advertisement, ReadsAdvertisement}
 use Rattle.gixp_wire.specs.Transport.{TakesAnswer, SentBy, FailsBy, Sends, entered, with_written, first_answer, later_answers, answer_pieces}
 use Rattle.gixp_refs.specs.declared.handshake.Ref.{Ref}
-use Rattle.gixp_response.specs.declared.fetch.response.line.ShallowUpdate.{ShallowUpdate}
+use Rattle.gixp_shallow.specs.declared.update.ShallowUpdate.{ShallowUpdate}
 use Rattle.gixp_refs.specs.Ref.{ref_value}
 use Rattle.gixp_refs.specs.Refs.{v2_refs, ReadsRefs}
 use Rattle.gixp_refs.specs.RefAdvertisement.{Symref, symref_table, groups}

@@ -21,7 +21,7 @@ use Rattle.gixp_negotiate.proofs.WantLemmas.{adding_more, adding_fails, wishes-n
 use Rattle.gixp_handshake.specs.declared.handshake.read.Handshake.{Handshake}
 use Rattle.gixp_fetch.specs.declared.error.Error.{Error as FetchError}
 use Rattle.gixp_fetch.specs.declared.options.Outcome.{Outcome}
-use Rattle.gixp_fetch.specs.Store.{StoreCalls}
+use Rattle.gixp_shallow.specs.Store.{StoreCalls}
 use Rattle.gixp_fetch.specs.Fetch.{World, parties_of}
 use Rattle.gixp_planner.specs.declared.negotiation.PrintingNegotiation.{PrintingNegotiation}
 use Rattle.gixp_planner.specs.declared.printed.PrintedMap.{PrintedMap}

@@ -10,7 +10,7 @@ use Rattle.gixp_capabilities.specs.Capabilities.{CapabilityValue}
 use Rattle.gixp_sidebands.specs.Bands.{Side, side_reading}
 use Rattle.gixp_response.specs.declared.fetch.response.error.Error.{Error as response_error}
 use Rattle.gixp_response.specs.declared.fetch.response.error.Error.TheVariants as response
-use Rattle.gixp_response.specs.declared.fetch.response.line.ShallowUpdate.{ShallowUpdate}
+use Rattle.gixp_shallow.specs.declared.update.ShallowUpdate.{ShallowUpdate}
 use Rattle.gixp_response.specs.Answer.{AnswerValue}
 use Rattle.gixp_response.specs.Features.{Feature, feature_names, missing_name, missing_feature, Misses}
 use Rattle.gixp_requests.specs.Feature.{FeatureValue, feature_values}
@@ -23,8 +23,8 @@ use Rattle.gixp_fetch.specs.declared.consume.copy.CopyError.{CopyError}
 use Rattle.gixp_fetch.specs.declared.error.Error.{Error as FetchError}
 use Rattle.gixp_fetch.specs.declared.error.Error.TheVariants as fetch
 use Rattle.gixp_fetch.specs.declared.options.Outcome.{Outcome}
-use Rattle.gixp_fetch.specs.declared.shallow.ShallowError.{ShallowError}
-use Rattle.gixp_fetch.specs.declared.shallow.ShallowError.TheVariants as shallow
+use Rattle.gixp_shallow.specs.declared.store.ShallowError.{ShallowError}
+use Rattle.gixp_shallow.specs.declared.store.ShallowError.TheVariants as shallow
 use Rattle.gixp_fetch.specs.FetchError.{of_response, of_negotiate, of_lock, of_store_read, of_write}
 use Rattle.gixp_fetch.specs.FetchRounds.{At, Manner, manner_of}
 use Rattle.gixp_fetch.specs.FetchShallow.{no_change, shallow_asks, IsMissing}

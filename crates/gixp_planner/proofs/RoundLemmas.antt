@@ -5,7 +5,7 @@ use Rattle.std.specs.Prelude.{ℕ}
 use Rattle.gixp_hash.specs.declared.object_id.ObjectId.{ObjectId}
 use Rattle.gixp_packetline.specs.FrameText.{texts_of}
 use Rattle.gixp_packetline.specs.TransportState.{TransportState}
-use Rattle.gixp_response.specs.declared.fetch.response.line.ShallowUpdate.{ShallowUpdate}
+use Rattle.gixp_shallow.specs.declared.update.ShallowUpdate.{ShallowUpdate}
 use Rattle.gixp_response.specs.Answer.{AnswerValue}
 use Rattle.gixp_response.specs.AnswerReading.{answer_of, Answered}
 use Rattle.gixp_response.specs.Beginnings.{expected as flags}

@@ -4,7 +4,7 @@ use Rattle.gixp_packetline.specs.declared.protocol.Protocol.{Protocol}
 use Rattle.gixp_packetline.specs.Reading.{Reading}
 use Rattle.gixp_sidebands.specs.Bands.{Side}
 use Rattle.gixp_response.specs.Answer.{AnswerValue}
-use Rattle.gixp_response.specs.declared.fetch.response.line.ShallowUpdate.{ShallowUpdate}
+use Rattle.gixp_shallow.specs.declared.update.ShallowUpdate.{ShallowUpdate}
 use Rattle.gixp_requests.specs.Arguments.{ArgumentsValue}
 use Rattle.gixp_negotiate.specs.declared.negotiate.Round.{Round}
 use Rattle.gixp_negotiate.specs.declared.negotiate.Error.{Error as NegotiateError}
@@ -12,7 +12,7 @@ use Rattle.gixp_hash.specs.declared.object_id.ObjectId.{ObjectId}
 use Rattle.gixp_negotiate.specs.Negotiate.{ActionValue, action_value, negotiate, Window, NegotiationCalls, Lawful, IsWide}
 use Rattle.gixp_fetch.specs.declared.error.Error.{Error as FetchError}
 use Rattle.gixp_fetch.specs.declared.options.Outcome.{Outcome}
-use Rattle.gixp_fetch.specs.Store.{StoreCalls}
+use Rattle.gixp_shallow.specs.Store.{StoreCalls}
 use Rattle.gixp_fetch.specs.Bound.{Bounded, but_last}
 use Rattle.gixp_fetch.specs.Session.{MakesReady, Idle, ReadyFails}
 use Rattle.gixp_fetch.specs.FetchRounds.{At, Turn, Manner, manner_of, Turns, Rounds, updates_of, Packed, DoneWithout, Interrupts, TurnFails, Breaks, AsksBroken, told_of, RoundsFail, before_request, at_request, behind_request, at_answer, behind_answer, haves_of, windows_of}

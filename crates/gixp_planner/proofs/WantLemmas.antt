@@ -10,8 +10,8 @@ use Rattle.gixp_hash.specs.declared.object_id.ObjectId.{ObjectId}
 use Rattle.gixp_requests.specs.Arguments.{ArgumentsValue, can_use}
 use Rattle.gixp_graph.specs.Object.{Objects}
 use Rattle.gixp_refmap.specs.declared.refmap.mapping.Mapping.{Mapping}
-use Rattle.gixp_negotiate.specs.declared.shallow.Shallow.{Shallow}
-use Rattle.gixp_negotiate.specs.Shallow.{is_no_change, is_deepen_zero}
+use Rattle.gixp_shallow.specs.declared.shallow.Shallow.{Shallow}
+use Rattle.gixp_shallow.specs.Shallow.{is_no_change, is_deepen_zero}
 use Rattle.gixp_negotiate.specs.Negotiate.{ActionValue, no_change, skip}
 use Rattle.gixp_negotiate.specs.NegotiationMapping.{mapping_id}
 use Rattle.gixp_negotiate.specs.Marking.{LocalRefs, time_at, is_here, is_known, is_same, local_id, is_changed, any_changed, any_unknown, is_lone_unborn, has_none, early, settle, decide, decision}

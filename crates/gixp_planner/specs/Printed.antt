@@ -3,7 +3,7 @@ use Rattle.std.specs.Prelude.{◌≡◌, ℕ, List, [], ◌++◌, flat_map, reve
 use Rattle.std.specs.declared.alloc.AllocError.{AllocError}
 use Rattle.gixp_negotiate.specs.declared.negotiate.plain.NoRefs.{NoRefs}
 use Rattle.gixp_negotiate.specs.declared.negotiate.negotiation.Negotiation.{Negotiation}
-use Rattle.gixp_negotiate.specs.declared.shallow.Shallow.TheVariants.{NoChange}
+use Rattle.gixp_shallow.specs.declared.shallow.Shallow.TheVariants.{NoChange}
 use Rattle.gixp_negotiate.specs.Negotiate.{NegotiationCalls}
 use Rattle.gixp_refmap.specs.declared.fetch.Tags.TheVariants as tags
 use Rattle.gixp_refmap.specs.declared.refmap.mapping.Mapping.{Mapping}

@@ -1,3 +1,4 @@
+pub mod Progress
 pub mod Numbers
 pub mod Line
 pub mod Order

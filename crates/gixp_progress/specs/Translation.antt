@@ -2,7 +2,7 @@
 use Rattle.std.specs.Prelude.{ℕ, Bool, true, false, List, [], ◌∷◌, ◌++◌, codes, Option, Some, None}
 use Rattle.std.specs.List.{before_first}
 use Rattle.std.specs.Str.Lossy.{utf8_lossy}
-use Rattle.gixp_wire.specs.Progress.{ProgressCall, init, set, set_name, fail}
+use Rattle.gixp_progress.specs.Progress.{ProgressCall, init, set, set_name, fail}
 use Rattle.gixp_progress.specs.Line.{LineValue, is_colon, progress_line}
 
 -- the name after a text: the one that is shown, up to its first colon, and the text

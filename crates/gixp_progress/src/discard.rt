@@ -1,7 +1,7 @@
 //! A progress reporter that shows nothing.
 ghost use Rattle.std.specs.Prelude.{⊤, None};
 
-use gixp_wire::{NestedProgress, Progress};
+use crate::progress::{NestedProgress, Progress};
 use std::alloc::AllocError;
 
 /// Shows nothing, for a caller that has no progress reporter of its own.

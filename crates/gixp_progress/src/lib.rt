@@ -1,14 +1,16 @@
-//! Progress that a server reports on band 2 of its answer (gitprotocol-pack, "Packfile Data"), and what it makes a
-//! progress reporter show.
+//! Progress reporters, and the progress that a server reports on band 2 of its answer (gitprotocol-pack, "Packfile Data"),
+//! with what it makes a reporter show.
 #![tactic(auto)]
 
 mod discard;
 pub mod fetch;
 pub mod laws;
 mod numbers;
+mod progress;
 mod remote_progress;
 mod same;
 mod translate;
 
 pub use discard::Discard;
+pub use progress::{NestedProgress, Progress};
 pub use remote_progress::RemoteProgress;

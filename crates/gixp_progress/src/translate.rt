@@ -3,12 +3,12 @@ ghost use Rattle.std.specs.Prelude.{◌≡◌, [], ◌∷◌, ◌++◌, IfOk, On
 ghost use Rattle.std.specs.List.{before_first};
 ghost use Rattle.std.specs.Str.Lossy.{utf8_lossy};
 ghost use Rattle.bstr.specs.BStr.{bstr_bytes};
-ghost use Rattle.gixp_wire.specs.Progress.{ToldCalls, init, set_name};
+ghost use Rattle.gixp_progress.specs.Progress.{ToldCalls, init, set_name};
 ghost use Rattle.gixp_progress.specs.Line.{is_colon};
 ghost use Rattle.gixp_progress.specs.Translation.{name_for, error_calls, set_calls, calls_for};
 
+use crate::progress::Progress;
 use crate::remote_progress::RemoteProgress;
-use gixp_wire::Progress;
 use std::alloc::{AllocError, Global};
 
 // A name up to its first colon.

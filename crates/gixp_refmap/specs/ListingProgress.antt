@@ -1,6 +1,6 @@
 -- What a progress reporter is told of a listing.
 use Rattle.std.specs.Prelude.{◌≡◌, ◌⊎◌, List, [], ◌∷◌, codes, Result, Ok, Err}
-use Rattle.gixp_wire.specs.Progress.{ProgressCall, step, set_name, ToldCalls}
+use Rattle.gixp_progress.specs.Progress.{ProgressCall, step, set_name, ToldCalls}
 use Rattle.gixp_refmap.specs.declared.ls_refs.error.Error.{Error as ListError}
 use Rattle.gixp_refmap.specs.declared.ls_refs.error.Error.TheVariants as list
 use Rattle.gixp_refmap.specs.declared.refmap.init.Error.{Error as MapError}

@@ -5,19 +5,19 @@ use Rattle.gixp_packetline.specs.Lines.{refusal, before, lines_to}
 use Rattle.gixp_packetline.specs.Reading.{Reading, TakesLine, AtStop, Fails, IsPlain, refusal_of, lines_ahead}
 use Rattle.gixp_packetline.specs.declared.read.Error.{Error as ReadError}
 use Rattle.gixp_refs.specs.declared.handshake.Ref.{Ref}
-use Rattle.gixp_response.specs.declared.fetch.response.line.ShallowUpdate.{ShallowUpdate}
-use Rattle.gixp_response.specs.declared.fetch.response.line.ShallowUpdate.TheVariants.{Shallow}
+use Rattle.gixp_shallow.specs.declared.update.ShallowUpdate.{ShallowUpdate}
+use Rattle.gixp_shallow.specs.declared.update.ShallowUpdate.TheVariants.{Shallow}
 use Rattle.gixp_refs.specs.declared.handshake.refs.parse.Error.{Error}
 use Rattle.gixp_refs.specs.declared.handshake.refs.parse.Error.TheVariants.{Memory}
 use Rattle.gixp_refs.specs.Ref.{RefValue, ref_value}
 use Rattle.gixp_refs.specs.RefLine.{RefsRefusal, refusal_from, and_then}
 use Rattle.gixp_refs.specs.ParseError.{AnswersRefs, parse_refusal}
 use Rattle.gixp_refs.specs.Refs.{with_ref}
-use Rattle.gixp_response.specs.Runs.{SoFar}
+use Rattle.gixp_packetline.specs.Runs.{SoFar}
 use Rattle.gixp_refs.specs.RefAdvertisement.{Symref, V1Line, nothing, peels, names, shallows, v1_line, NamedRef, pair, closed, in_front, group_with, groups, v1_refs, with_update, v1_updates}
 use Rattle.gixp_refs.specs.V1Line.{SoFarValue, nothing_so_far, with_pair, with_line, with_text}
 use Rattle.gixp_refs.specs.V1Refs.{ReadsV1, V1Fails}
-use Rattle.gixp_response.proofs.RunLemmas.{so_far-start, so_far-line, so_far-at_stop, so_far-refuses}
+use Rattle.gixp_packetline.proofs.ReadingLemmas.{so_far-start, so_far-line, so_far-at_stop, so_far-refuses}
 
 in_front_none : {A : Type 0} (r : Result (List A) RefsRefusal) → r ≡ in_front [] r
 in_front_none (Ok xs) = refl

@@ -11,7 +11,7 @@ use Rattle.gixp_refs.specs.Ref.{RefValue, ref_value}
 use Rattle.gixp_refs.specs.RefLine.{RefsRefusal, refusal_from, v2_line}
 use Rattle.gixp_refs.specs.ParseError.{AnswersRefs, parse_refusal}
 use Rattle.gixp_refs.specs.Refs.{with_ref, refs_from, v2_refs, AreRefs, ReadsRefs, RefsFail, RefsSoFar, NextRef, NextOfRefs}
-use Rattle.gixp_response.proofs.RunLemmas.{so_far-start, so_far-line, so_far-at_stop, so_far-refuses}
+use Rattle.gixp_packetline.proofs.ReadingLemmas.{so_far-start, so_far-line, so_far-at_stop, so_far-refuses}
 
 -- these values in front of those of the rest
 abbrev behind : List RefValue → Result (List RefValue) RefsRefusal → Result (List RefValue) RefsRefusal

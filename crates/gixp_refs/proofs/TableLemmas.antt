@@ -17,7 +17,7 @@ use Rattle.bstr.specs.declared.bstring.BString.{BString}
 use Rattle.gixp_packetline.specs.Pieces.{Pieces}
 use Rattle.gixp_packetline.specs.Reading.{Reading, lines_ahead}
 use Rattle.gixp_refs.specs.declared.handshake.Ref.{Ref}
-use Rattle.gixp_response.specs.declared.fetch.response.line.ShallowUpdate.{ShallowUpdate}
+use Rattle.gixp_shallow.specs.declared.update.ShallowUpdate.{ShallowUpdate}
 use Rattle.gixp_refs.specs.declared.handshake.refs.parse.Error.{Error}
 use Rattle.gixp_refs.specs.Ref.{RefValue}
 use Rattle.gixp_refs.specs.RefLine.{RefsRefusal}

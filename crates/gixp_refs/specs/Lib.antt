@@ -7,8 +7,8 @@ pub use Rattle.gixp_packetline.specs.Lines
 pub use Rattle.gixp_hash.specs.ObjectId
 pub use Rattle.gixp_packetline.specs.Pieces
 pub use Rattle.gixp_packetline.specs.Reading
-pub use Rattle.gixp_response.specs.ReadFails
-pub use Rattle.gixp_response.specs.Runs
+pub use Rattle.gixp_packetline.specs.ReadFails
+pub use Rattle.gixp_packetline.specs.Runs
 pub mod Ref
 pub mod RefLine
 pub mod WrittenLine

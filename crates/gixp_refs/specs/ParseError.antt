@@ -10,7 +10,7 @@ use Rattle.gixp_refs.specs.declared.handshake.refs.parse.Error.TheVariants.{Io, 
 use Rattle.gixp_refs.specs.declared.handshake.refs.parse.Invariant.{Invariant}
 use Rattle.gixp_refs.specs.declared.handshake.refs.parse.Invariant.TheVariants.{UnbornObject, UnbornTag, UnbornNullTarget, PeeledAlone, PeeledElsewhere}
 use Rattle.gixp_refs.specs.RefLine.{RefsRefusal, io_failed, bad_frame, bad_id, malformed_symref, malformed_v1, malformed_v2, unknown_attribute, invariant, upload_pack, by_reader, no_memory, refusal_from, AttributeValues}
-use Rattle.gixp_response.specs.ReadFails.{Errors}
+use Rattle.gixp_packetline.specs.ReadFails.{Errors}
 
 -- what doesn't go together, as it shows
 abbrev pub invariant_text : Invariant → List ℕ

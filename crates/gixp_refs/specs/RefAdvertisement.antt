@@ -6,8 +6,8 @@ use Rattle.std.specs.Char.{is_whitespace}
 use Rattle.bstr.specs.Trim.{trim_end_by}
 use Rattle.gixp_capabilities.specs.Capabilities.{CapabilityValue}
 use Rattle.gixp_packetline.specs.Lines.{Ending, stop, refusal, Lines}
-use Rattle.gixp_response.specs.declared.fetch.response.line.ShallowUpdate.{ShallowUpdate}
-use Rattle.gixp_response.specs.declared.fetch.response.line.ShallowUpdate.TheVariants.{Shallow}
+use Rattle.gixp_shallow.specs.declared.update.ShallowUpdate.{ShallowUpdate}
+use Rattle.gixp_shallow.specs.declared.update.ShallowUpdate.TheVariants.{Shallow}
 use Rattle.gixp_capabilities.specs.Cut.{cut}
 use Rattle.gixp_refs.specs.Ref.{RefValue, peeled}
 use Rattle.gixp_refs.specs.RefLine.{RefsRefusal, malformed_symref, malformed_v1, invariant, refusal_from, id_value, and_then, target_of, born}

@@ -9,9 +9,9 @@ use Rattle.gixp_refs.specs.declared.handshake.Ref.{Ref}
 use Rattle.gixp_refs.specs.declared.handshake.refs.parse.Error.{Error}
 use Rattle.gixp_refs.specs.Ref.{RefValue, ref_value}
 use Rattle.gixp_refs.specs.RefLine.{RefsRefusal, refusal_from, v2_line}
-use Rattle.gixp_response.specs.ReadFails.{ReadFails}
+use Rattle.gixp_packetline.specs.ReadFails.{ReadFails}
 use Rattle.gixp_refs.specs.ParseError.{AnswersRefs, parse_refusal, parse_errors}
-use Rattle.gixp_response.specs.Runs.{SoFar}
+use Rattle.gixp_packetline.specs.Runs.{SoFar}
 
 -- a line's value in front of the others, or its refusal before theirs
 abbrev pub with_ref : Result RefValue RefsRefusal → Result (List RefValue) RefsRefusal → Result (List RefValue) RefsRefusal

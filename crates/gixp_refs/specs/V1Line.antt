@@ -2,8 +2,8 @@
 use Rattle.std.specs.Prelude.{ℕ, List, [], ◌∷◌, ◌++◌, map, Option, Some, None, Result, Ok, Err}
 use Rattle.std.specs.Option.{option_map}
 use Rattle.bstr.specs.Owned.{bstring_bytes}
-use Rattle.gixp_response.specs.declared.fetch.response.line.ShallowUpdate.{ShallowUpdate}
-use Rattle.gixp_response.specs.declared.fetch.response.line.ShallowUpdate.TheVariants.{Shallow}
+use Rattle.gixp_shallow.specs.declared.update.ShallowUpdate.{ShallowUpdate}
+use Rattle.gixp_shallow.specs.declared.update.ShallowUpdate.TheVariants.{Shallow}
 use Rattle.gixp_refs.specs.declared.handshake.refs.v1.Line.{Line}
 use Rattle.gixp_refs.specs.declared.handshake.refs.v1.Line.TheVariants.{Nothing, Peeled, Named, Shallow as ShallowLine}
 use Rattle.gixp_refs.specs.declared.handshake.refs.v1.RefLine.{RefLine}

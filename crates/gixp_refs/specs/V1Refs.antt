@@ -12,14 +12,14 @@ use Rattle.gixp_packetline.specs.Lines.{stop, lines_to}
 use Rattle.gixp_capabilities.specs.Capabilities.{CapabilityValue}
 use Rattle.gixp_packetline.specs.Reading.{Reading, AtStop, lines_ahead}
 use Rattle.gixp_refs.specs.declared.handshake.Ref.{Ref}
-use Rattle.gixp_response.specs.declared.fetch.response.line.ShallowUpdate.{ShallowUpdate}
+use Rattle.gixp_shallow.specs.declared.update.ShallowUpdate.{ShallowUpdate}
 use Rattle.gixp_refs.specs.declared.handshake.refs.parse.Error.{Error}
 use Rattle.gixp_refs.specs.declared.handshake.refs.parse.Error.TheVariants.{Memory}
 use Rattle.gixp_refs.specs.Ref.{RefValue, ref_value}
 use Rattle.gixp_refs.specs.RefLine.{RefsRefusal}
 use Rattle.gixp_refs.specs.ParseError.{AnswersRefs, parse_errors}
-use Rattle.gixp_response.specs.Runs.{SoFar}
-use Rattle.gixp_response.specs.ReadFails.{ReadFails}
+use Rattle.gixp_packetline.specs.Runs.{SoFar}
+use Rattle.gixp_packetline.specs.ReadFails.{ReadFails}
 use Rattle.gixp_refs.specs.RefAdvertisement.{Symref, symref_table, groups, v1_refs, v1_updates}
 
 -- a symref as plain data

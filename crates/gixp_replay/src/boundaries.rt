@@ -3,7 +3,7 @@
 //! `call=read` reads the bytes, `call=write` makes the text of the ids that stand in the lines of the bytes.
 use crate::report::Report;
 use crate::rows::{Row, Setting};
-use gixp_fetch::shallow::{ShallowError, shallow_ids, shallow_text};
+use gixp_shallow::{ShallowError, shallow_ids, shallow_text};
 use gixp_hash::ObjectId;
 use std::alloc::{AllocError, Global};
 

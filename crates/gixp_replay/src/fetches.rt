@@ -5,7 +5,7 @@
 //! the bytes. The report has the error of the first call that is refused, or what the fetch returned; then the pack, how
 //! often the lock was had and released, the boundary, what stands in the transport, and the bytes that were sent.
 ghost use Rattle.std.specs.Prelude.{◌≡◌};
-ghost use Rattle.gixp_fetch.specs.Store.{IsStoreRefusal};
+ghost use Rattle.gixp_shallow.specs.Store.{IsStoreRefusal};
 
 use crate::handshakes::{bodies, connection};
 use crate::lines::report_rest;
@@ -20,7 +20,7 @@ use gixp_fetch::consume::{ConsumePack, CopyError, CopyPack, ReadToEnd};
 use gixp_fetch::error::Error;
 use gixp_fetch::fetch::fetch;
 use gixp_fetch::options::{Context, Options, Outcome};
-use gixp_fetch::shallow::{ShallowError, ShallowStore};
+use gixp_shallow::{ShallowError, ShallowStore};
 use gixp_graph::Graph;
 use gixp_handshake::Handshake;
 use gixp_handshake::handshake::{handshake, obtain};

@@ -19,7 +19,7 @@ use gixp_memory::{Lent, MemoryObjects, MemoryRefs};
 use gixp_negotiate::negotiate::negotiation::{NegotiateContext, Negotiation};
 use gixp_negotiate::negotiate::one_round::State;
 use gixp_negotiate::negotiate::{Action, Error, Negotiate, Round};
-use gixp_negotiate::shallow::Shallow;
+use gixp_shallow::Shallow;
 use gixp_packetline::{PacketLine, Protocol, split_packet_line};
 use gixp_refmap::fetch::Tags;
 use gixp_requests::command::CommandTable;

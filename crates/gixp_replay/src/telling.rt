@@ -3,7 +3,7 @@ ghost use Rattle.std.specs.Prelude.{⊤, string_bytes};
 ghost use Rattle.std.specs.Option.{option_map};
 
 use crate::report::Report;
-use gixp_wire::Progress;
+use gixp_progress::Progress;
 use std::alloc::Global;
 
 /// Writes each call down.

@@ -5,7 +5,8 @@ use gixp_packetline::{MessageKind, Protocol, read};
 use gixp_refs::handshake::Ref;
 use gixp_refs::handshake::refs::parse;
 use gixp_requests::command::validate_argument_prefixes;
-use gixp_response::fetch::response::{Acknowledgement, ShallowUpdate};
+use gixp_response::fetch::response::Acknowledgement;
+use gixp_shallow::ShallowUpdate;
 use gixp_response::fetch::{Response, response};
 use std::alloc::{AllocError, Global};
 

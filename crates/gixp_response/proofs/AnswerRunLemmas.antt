@@ -13,7 +13,7 @@ use Rattle.gixp_response.specs.declared.fetch.response.error.Error.TheVariants.{
 use Rattle.gixp_response.specs.ResponseError.{AnswerRefusal, answer_refusal, from_reader, IsAnswerRefusal}
 use Rattle.gixp_response.specs.Answer.{AnswerValue, Found, whole, refused, front, is_of_line}
 use Rattle.gixp_response.specs.AnswerReading.{stop_of, last_stop, stop_behind, Going, IsRunning, EndsAt, ReadsAnswer, AnswerFails}
-use Rattle.gixp_response.proofs.RunLemmas.{Known, known_steps}
+use Rattle.gixp_packetline.proofs.ReadingLemmas.{Known, known_steps}
 
 -- a mark is no line
 mark_gives : (b : Bool) (kind : MessageKind) (p q : Pieces) (e : Refusal) (text : List ℕ)

@@ -3,10 +3,9 @@ use Rattle.std.proofs.Common.{◌≡◌, ℕ, ◌+◌, ◌<◌, ◌≤◌, Bool,
 use Rattle.std.specs.Prelude.{◌&&◌, ◌||◌, ◌==◌, nat_lt, not, Result, Ok, Err, OnOk}
 use Rattle.std.specs.List.{AllByRecursion, IsDistinct, fold, list_any, slice_set}
 use Rattle.std.specs.Ordering.{is_eq, eq_by_cmp}
-use Rattle.std.specs.Cmp.{IsTotalOrder}
 use Rattle.std.specs.Cmp.Lexicographic.{texts_ties}
 use Rattle.std.proofs.lemmas.Bool.{cases_Bool, or_cases, or_left, or_right}
-use Rattle.std.proofs.lemmas.Cmp.{nat_list_eq_equiv, nat_list_cmp_total, on_total}
+use Rattle.std.proofs.lemmas.Cmp.{nat_list_eq_equiv}
 use Rattle.std.proofs.lemmas.List.{append-nil, append_assoc, drop-set-lt, length-append, take_more_set}
 use Rattle.std.proofs.Math.Seq.{drop-cons}
 use Rattle.std.proofs.lemmas.List.Folds.{list_any-append}
@@ -18,7 +17,8 @@ use Rattle.gixp_response.specs.declared.fetch.response.line.Acknowledgement.TheV
 use Rattle.gixp_capabilities.specs.Capabilities.{is_text}
 use Rattle.gixp_response.specs.Answer.{AnswerValue}
 use Rattle.gixp_response.specs.Beginnings.{acknowledged, said_with, is_same_common, with_acknowledgement}
-use Rattle.gixp_response.specs.Repeats.{is_before, is_repeat, tested_from, flagged, named_from, AreNoted, without_repeats}
+use Rattle.gixp_response.specs.RepeatedCommons.{flagged, named_from, AreNoted, without_repeats}
+use Rattle.gixp_repeats.specs.Repeats.{is_before, is_repeat, tested_from}
 use Rattle.gixp_response.specs.declared.fetch.response.repeats.Repeats.{Repeats}
 
 -- `ready` names no commit
@@ -44,9 +44,6 @@ on_ok (Ok x) h f = f h
 on_ok (Err e) h f = tt
 
 -- ---- acknowledgements with repeats
-
-pub ids_total : IsTotalOrder id_cmp
-ids_total = on_total (λ id. id.bytes) nat_list_cmp_total
 
 pub length_tested : {A : Type 0} (t : ℕ → Bool) (n : ℕ) (xs : List A) → length (tested_from t n xs) ≡ length xs
 length_tested t n [] = refl

@@ -8,9 +8,9 @@ use Rattle.std.proofs.lemmas.Map.Text.{is_eq-slice_cmp}
 use Rattle.std.proofs.lemmas.Slice.Eq.{bytes_eq-Decides}
 use Rattle.gixp_hash.specs.declared.object_id.ObjectId.{ObjectId}
 use Rattle.gixp_hash.specs.ObjectId.{id_cmp}
-use Rattle.gixp_response.specs.Repeats.{front_of, front_cmp, row_cmp}
-use Rattle.gixp_response.proofs.CommonLemmas.{ids_total}
-use Rattle.gixp_response.proofs.RepeatLemmas.{place_total}
+use Rattle.gixp_response.specs.RepeatedCommons.{front_of, front_cmp, row_cmp}
+use Rattle.gixp_hash.specs.IdLaws.{ids_total}
+use Rattle.gixp_repeats.proofs.RepeatLemmas.{place_total}
 
 pub fronts_total : IsTotalOrder front_cmp
 fronts_total = then_total (on_total (λ id. front_of id.bytes) nat_cmp_total) ids_total

@@ -1,10 +1,8 @@
-pub mod RunLemmas
 mod AnswerRunLemmas
 mod SectionLemmas
 mod BeginningLemmas
 mod CommonLemmas
 mod FrontLemmas
-mod RepeatLemmas
 mod SectionGrammarLemmas
 mod BeginningGrammarLemmas
 mod RefusedBeginningLemmas

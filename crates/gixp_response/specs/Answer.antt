@@ -6,7 +6,7 @@ use Rattle.std.specs.declared.alloc.Global.{Global}
 use Rattle.std.specs.declared.io.ErrorKind.TheVariants.{UnexpectedEof}
 use Rattle.gixp_packetline.specs.Pieces.{Piece, Pieces, not_utf8}
 use Rattle.gixp_response.specs.declared.fetch.response.line.Acknowledgement.{Acknowledgement}
-use Rattle.gixp_response.specs.declared.fetch.response.line.ShallowUpdate.{ShallowUpdate}
+use Rattle.gixp_shallow.specs.declared.update.ShallowUpdate.{ShallowUpdate}
 use Rattle.gixp_response.specs.AnswerLine.{WantedValue}
 use Rattle.gixp_response.specs.ResponseError.{AnswerRefusal, io_failed, unknown_line, unknown_header, by_reader}
 

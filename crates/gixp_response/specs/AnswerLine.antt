@@ -11,8 +11,8 @@ use Rattle.gixp_capabilities.specs.Cut.{cut}
 use Rattle.gixp_capabilities.specs.Capabilities.{is_text}
 use Rattle.gixp_response.specs.declared.fetch.response.line.Acknowledgement.{Acknowledgement}
 use Rattle.gixp_response.specs.declared.fetch.response.line.Acknowledgement.TheVariants.{Common, Ready, Nak}
-use Rattle.gixp_response.specs.declared.fetch.response.line.ShallowUpdate.{ShallowUpdate}
-use Rattle.gixp_response.specs.declared.fetch.response.line.ShallowUpdate.TheVariants.{Shallow, Unshallow}
+use Rattle.gixp_shallow.specs.declared.update.ShallowUpdate.{ShallowUpdate}
+use Rattle.gixp_shallow.specs.declared.update.ShallowUpdate.TheVariants.{Shallow, Unshallow}
 use Rattle.gixp_response.specs.declared.fetch.response.line.WantedRef.{WantedRef}
 
 -- a wanted ref as plain data

@@ -9,7 +9,7 @@ use Rattle.gixp_packetline.specs.Pieces.{Refusal, io, Piece, line, mark, Pieces,
 use Rattle.gixp_packetline.specs.Reading.{Reading, BreaksOff, IsOutside, IsPlain, Rose}
 use Rattle.gixp_response.specs.declared.fetch.response.error.Error.{Error}
 use Rattle.gixp_response.specs.declared.fetch.response.error.Error.TheVariants.{Memory}
-use Rattle.gixp_response.specs.ReadFails.{LineRefused, ReaderRefused, NoMemory}
+use Rattle.gixp_packetline.specs.ReadFails.{LineRefused, ReaderRefused, NoMemory}
 use Rattle.gixp_response.specs.ResponseError.{AnswerRefusal, answer_errors, answer_refusal, from_reader, IsAnswerRefusal}
 use Rattle.gixp_response.specs.Answer.{AnswerValue, Found, whole, refused, front, is_of_line, both}
 use Rattle.gixp_response.specs.Sections.{v2_answer}

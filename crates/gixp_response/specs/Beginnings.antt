@@ -14,7 +14,7 @@ use Rattle.gixp_response.specs.ResponseError.{by_reader, from_reader}
 use Rattle.gixp_response.specs.Answer.{AnswerValue, Found, whole, refused}
 use Rattle.gixp_response.specs.declared.fetch.response.line.Acknowledgement.{Acknowledgement}
 use Rattle.gixp_response.specs.declared.fetch.response.line.Acknowledgement.TheVariants.{Common, Ready, Nak}
-use Rattle.gixp_response.specs.declared.fetch.response.line.ShallowUpdate.{ShallowUpdate}
+use Rattle.gixp_shallow.specs.declared.update.ShallowUpdate.{ShallowUpdate}
 use Rattle.gixp_response.specs.declared.fetch.response.beginnings.Said.{Said}
 use Rattle.gixp_response.specs.declared.fetch.response.beginnings.Said.TheVariants.{Acknowledgement as SaidAcknowledgement, ShallowUpdate as SaidUpdate}
 

@@ -10,9 +10,9 @@ pub use Rattle.gixp_wire.specs.Message
 pub use Rattle.gixp_hash.specs.ObjectId
 pub use Rattle.gixp_packetline.specs.Pieces
 pub use Rattle.gixp_packetline.specs.Reading
+pub use Rattle.gixp_packetline.specs.Runs
+pub use Rattle.gixp_packetline.specs.ReadFails
 pub use Rattle.gixp_wire.specs.Transport
-pub mod ReadFails
-pub mod Runs
 pub mod AnswerLine
 pub mod ResponseError
 pub mod Answer
@@ -22,6 +22,7 @@ pub mod AnswerReading
 pub mod Features
 pub mod SectionGrammar
 pub mod BeginningGrammar
-pub mod Repeats
+pub use Rattle.gixp_repeats.specs.Repeats
+pub mod RepeatedCommons
 pub mod Order
 pub mod AnswerMessage

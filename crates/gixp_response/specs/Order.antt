@@ -1,14 +1,11 @@
 -- The order of what an answer says.
 use Rattle.std.specs.Prelude.{ℕ}
 use Rattle.std.specs.declared.cmp.Ordering.{Ordering}
-use Rattle.std.specs.declared.cmp.Ordering.TheVariants.{Less, Greater}
 use Rattle.std.specs.Ordering.{nat_cmp, ordering_then}
 use Rattle.std.specs.Cmp.Lexicographic.{slice_cmp}
 use Rattle.gixp_hash.specs.ObjectId.{id_cmp}
 use Rattle.gixp_response.specs.declared.fetch.response.line.Acknowledgement.{Acknowledgement}
 use Rattle.gixp_response.specs.declared.fetch.response.line.Acknowledgement.TheVariants.{Common, Ready, Nak}
-use Rattle.gixp_response.specs.declared.fetch.response.line.ShallowUpdate.{ShallowUpdate}
-use Rattle.gixp_response.specs.declared.fetch.response.line.ShallowUpdate.TheVariants.{Shallow, Unshallow}
 use Rattle.gixp_response.specs.AnswerLine.{WantedValue}
 
 -- the place of an acknowledgement among the three kinds
@@ -21,13 +18,6 @@ acknowledgement_place Nak = 2
 abbrev pub acknowledgement_cmp : Acknowledgement → Acknowledgement → Ordering
 acknowledgement_cmp (Common a) (Common b) = id_cmp a b
 acknowledgement_cmp a b = nat_cmp (acknowledgement_place a) (acknowledgement_place b)
-
--- those that make a commit shallow stand first, and each kind is ordered by the ids
-abbrev pub update_cmp : ShallowUpdate → ShallowUpdate → Ordering
-update_cmp (Shallow a) (Shallow b) = id_cmp a b
-update_cmp (Shallow a) (Unshallow b) = Less
-update_cmp (Unshallow a) (Shallow b) = Greater
-update_cmp (Unshallow a) (Unshallow b) = id_cmp a b
 
 -- by the id, and then by the path
 abbrev pub wanted_cmp : WantedValue → WantedValue → Ordering

@@ -1,7 +1,7 @@
 //! Equality and order of what an answer says.
 ghost use Rattle.std.specs.Prelude.{◌≡◌, ◌↔◌, IsTrue};
 ghost use Rattle.gixp_response.specs.AnswerLine.{wanted_value};
-ghost use Rattle.gixp_response.specs.Order.{acknowledgement_cmp, update_cmp, wanted_cmp};
+ghost use Rattle.gixp_response.specs.Order.{acknowledgement_cmp, wanted_cmp};
 
 use crate::fetch::response;
 use crate::fetch::response::RequiredFeature;
@@ -25,20 +25,6 @@ fn order_of_acknowledgements(
     ensures { result ≡ acknowledgement_cmp first.now second.now }
 {
     first.cmp(second)
-}
-
-/// Two shallow updates are equal exactly where they are one value.
-fn is_same_update(left: &response::ShallowUpdate, right: &response::ShallowUpdate) -> bool
-    ensures { IsTrue result ↔ (left.now ≡ right.now) }
-{
-    left == right
-}
-
-/// Those that make a commit shallow stand first, and each kind is ordered by the ids.
-fn order_of_updates(earlier: &response::ShallowUpdate, later: &response::ShallowUpdate) -> Ordering
-    ensures { result ≡ update_cmp earlier.now later.now }
-{
-    earlier.cmp(later)
 }
 
 /// Two wanted refs are equal exactly where their ids and paths are.

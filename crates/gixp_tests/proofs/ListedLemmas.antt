@@ -11,7 +11,7 @@ use Rattle.gixp_graph.specs.declared.objects.CommitData.{CommitData}
 use Rattle.gixp_graph.specs.declared.objects.ObjectKind.TheVariants.{Commit as IsCommit}
 use Rattle.gixp_graph.specs.Object.{Object, Commit, kind_at, commit_at, commit_of}
 use Rattle.gixp_tests.specs.Listed.{object_of, objects_of, listed_at}
-use Rattle.gixp_graph.specs.GraphLaws.{ids_total}
+use Rattle.gixp_hash.specs.IdLaws.{ids_total}
 
 -- what is found among the objects is found in the list
 find_map : (es : List (ObjectId × CommitData)) (q : ObjectId)

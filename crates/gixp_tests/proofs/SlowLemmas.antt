@@ -17,7 +17,8 @@ use Rattle.gixp_graph.specs.Complete.{IsComplete}
 use Rattle.gixp_tests.specs.Slow.{AreKnown, ParentsAreKnown, IsMissingCommit, IsClosed}
 use Rattle.gixp_graph.specs.Walk.{count}
 use Rattle.gixp_graph.specs.CountLaws.{count_lt}
-use Rattle.gixp_graph.specs.GraphLaws.{ids_total, same_from}
+use Rattle.gixp_graph.specs.GraphLaws.{same_from}
+use Rattle.gixp_hash.specs.IdLaws.{ids_total}
 
 -- where no commit is missing, all that is complete is known
 pub closed_complete : (read : ObjectId → Option Commit) (tips : List ObjectId) (cutoff : Option ℤ) (known : List ObjectId)

@@ -11,7 +11,8 @@ use Rattle.gixp_hash.specs.declared.object_id.ObjectId.{ObjectId}
 use Rattle.gixp_hash.specs.ObjectId.{id_cmp}
 use Rattle.gixp_graph.specs.GraphData.{GraphData}
 use Rattle.gixp_graph.specs.Asked.{AsksWhere, AsksEach}
-use Rattle.gixp_graph.specs.GraphLaws.{ids_total, same_from}
+use Rattle.gixp_graph.specs.GraphLaws.{same_from}
+use Rattle.gixp_hash.specs.IdLaws.{ids_total}
 use Rattle.gixp_updates.specs.Search.{Search, LooksUp, KeepsAsked}
 use Rattle.gixp_updates.proofs.LookLemmas.{looks_on}
 

@@ -18,7 +18,8 @@ use Rattle.gixp_hash.specs.ObjectId.{id_cmp}
 use Rattle.gixp_graph.specs.Object.{Objects, Object, Commit, commit_at, time_at}
 use Rattle.gixp_graph.specs.GraphData.{HeldCommit, GraphData, graph_of, found_in, looked_up, put, unmarked, shown}
 use Rattle.gixp_graph.specs.declared.flags.Flags.{Flags}
-use Rattle.gixp_graph.specs.GraphLaws.{ids_total, same_from, put_same}
+use Rattle.gixp_graph.specs.GraphLaws.{same_from, put_same}
+use Rattle.gixp_hash.specs.IdLaws.{ids_total}
 use Rattle.gixp_graph.specs.CountLaws.{count_le, count_lt}
 use Rattle.gixp_updates.specs.declared.refs.heap.Pending.{Pending}
 use Rattle.gixp_updates.specs.declared.refs.heap.Heap.{Heap}

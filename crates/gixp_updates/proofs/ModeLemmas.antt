@@ -4,7 +4,8 @@ use Rattle.std.specs.Prelude.{Result, Ok, Err, IfOk}
 use Rattle.std.specs.Bool.{MatchBool}
 use Rattle.std.specs.List.{AllZip}
 use Rattle.gixp_graph.specs.declared.objects.ObjectError.TheVariants.{Memory as no_memory}
-use Rattle.gixp_graph.specs.Object.{Objects, HasRisen}
+use Rattle.gixp_graph.specs.Object.{Objects}
+use Rattle.gixp_hash.specs.Failures.{HasRisen}
 use Rattle.gixp_graph.specs.GraphData.{GraphValue}
 use Rattle.gixp_graph.specs.Refusals.{TellsRefusal, writing}
 use Rattle.gixp_updates.specs.declared.refs.error.Error.{Error}

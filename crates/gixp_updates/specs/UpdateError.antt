@@ -2,7 +2,7 @@
 use Rattle.std.specs.Prelude.{◌≡◌, ◌≢◌, ℕ, ◌≤◌, Option, IsSome, Result, Ok, Err}
 use Rattle.gixp_graph.specs.declared.objects.ObjectError.{ObjectError}
 use Rattle.gixp_graph.specs.declared.objects.ObjectError.TheVariants.{Io, Corrupt, Memory as no_memory}
-use Rattle.gixp_graph.specs.Object.{HasRisen}
+use Rattle.gixp_hash.specs.Failures.{HasRisen}
 use Rattle.gixp_graph.specs.GraphData.{GraphValue}
 use Rattle.gixp_graph.specs.Refusals.{TellsRefusal, writing}
 use Rattle.gixp_updates.specs.LookUps.{LooksUp}

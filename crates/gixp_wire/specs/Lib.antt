@@ -13,7 +13,6 @@ pub mod Transport
 pub mod Bodies
 pub mod Connection
 pub mod Service
-pub mod Progress
 pub mod Spurious
 pub mod CapabilityAdvertisement
 pub mod Named

@@ -8,8 +8,8 @@ use crate::consume::ConsumePack;
 use crate::remote_text::WithSidebands;
 use bstr::BStr;
 use gixp_packetline::{ExtendedBufRead, ServerMessage, read};
+use gixp_progress::Progress;
 use gixp_sidebands::Interrupt;
-use gixp_wire::Progress;
 use std::io::{self, BufRead, ErrorKind, Write};
 use thiserror::Error as DeriveError;
 

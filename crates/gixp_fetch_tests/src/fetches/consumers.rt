@@ -7,7 +7,7 @@ use gixp_fetch::WithSidebands;
 use gixp_fetch::consume::{ConsumePack, CopyError};
 use gixp_packetline::{ExtendedBufRead, read};
 use gixp_sidebands::Interrupt;
-use gixp_wire::Progress;
+use gixp_progress::Progress;
 use std::io::{ErrorKind, Read};
 
 /// What a consumer says after its byte.

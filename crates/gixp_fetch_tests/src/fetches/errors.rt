@@ -3,7 +3,7 @@ use bstr::BString;
 use gixp_capabilities::client;
 use gixp_fetch::consume::CopyError;
 use gixp_fetch::error::Error;
-use gixp_fetch::shallow::ShallowError;
+use gixp_shallow::ShallowError;
 use gixp_negotiate::negotiate;
 use gixp_packetline::read;
 use gixp_response::fetch::response;

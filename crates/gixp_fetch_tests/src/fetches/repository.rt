@@ -2,7 +2,7 @@
 use crate::negotiations::repository::id;
 use gixp_doubles::Recorder;
 use gixp_memory::{MemoryObjects, MemoryRefs};
-use gixp_negotiate::shallow::Shallow;
+use gixp_shallow::Shallow;
 use std::alloc::{AllocError, Global};
 
 /// The objects that are looked up, the refs, what chooses the haves, and how much history is asked for.

@@ -7,7 +7,7 @@ use gixp_negotiate::negotiate::Negotiate;
 use gixp_negotiate::negotiate::negotiation::{NegotiateContext, Negotiation};
 use gixp_negotiate::negotiate::one_round::State;
 use gixp_negotiate::negotiate::plain::{NoObjects, NoRefs};
-use gixp_negotiate::shallow::Shallow;
+use gixp_shallow::Shallow;
 use gixp_packetline::{LineReader, Protocol};
 use gixp_refmap::fetch::Tags;
 use gixp_requests::command::CommandTable;

@@ -3,7 +3,7 @@ use crate::shown::texts;
 use gixp_graph::{ObjectError, RefStoreError};
 use gixp_negotiate::negotiate::one_round::window_size;
 use gixp_negotiate::negotiate::{Action, Error, Round};
-use gixp_negotiate::shallow::Shallow;
+use gixp_shallow::Shallow;
 use std::alloc::AllocError;
 use std::io::ErrorKind;
 use std::test::Fail;

@@ -7,7 +7,7 @@ use gixp_negotiate::negotiate::negotiation::{NegotiateContext, Negotiation};
 use gixp_negotiate::negotiate::one_round::State;
 use gixp_negotiate::negotiate::plain::{HaveList, NoObjects, NoRefs};
 use gixp_negotiate::negotiate::{Action, Error, Negotiate};
-use gixp_negotiate::shallow::Shallow;
+use gixp_shallow::Shallow;
 use gixp_packetline::{LineReader, Protocol};
 use gixp_refmap::RefMap;
 use gixp_refmap::fetch::Tags;

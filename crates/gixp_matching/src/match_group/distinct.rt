@@ -1,15 +1,16 @@
 //! Of equal mappings the first.
 ghost use Rattle.std.specs.Prelude.{◌≡◌, ◌∷◌, ◌++◌, IfOk, IsTrue, OnOk, [], map};
+ghost use Rattle.std.specs.List.{list_all};
 ghost use Rattle.gixp_matching.specs.Apart.{parts, key_parts};
 ghost use Rattle.gixp_matching.specs.Digest.{number_parts, parts_digest, with_digest};
 ghost use Rattle.gixp_matching.specs.Mappings.{firsts};
 ghost use Rattle.gixp_matching.specs.Firsts.{first_flags, flagged, TellsFirsts};
-ghost use Rattle.gixp_matching.specs.Repeats.{placed, placed_from};
+ghost use Rattle.gixp_matching.specs.Placed.{placed, placed_from};
 
 use crate::match_group::digest::key_digest;
 use crate::match_group::key::{AsMapping, Key};
-use crate::match_group::repeats::{are_all, first_flags};
 use crate::match_group::sorted::{are_distinct, rises};
+use gixp_repeats::first_flags;
 use std::alloc::{AllocError, Global};
 
 /// A source and a local name behind their number, so that mostly the numbers are compared.
@@ -121,6 +122,13 @@ fn flagged<M: Drop>(alloc: Global, mappings: Vec<M>, flags: Vec<bool>) -> Result
         .filter(|(_, is_first)| *is_first)
         .map(|(mapping, _)| mapping)
         .collect(alloc)
+}
+
+/// Whether all flags are true.
+fn are_all(flags: &[bool]) -> bool
+    ensures { result ≡ list_all (λ flag. flag) flags.now }
+{
+    flags.iter().all(|flag| *flag)
 }
 
 /// Of mappings with equal source and local name the first. Mostly no two are equal, and then none is moved.

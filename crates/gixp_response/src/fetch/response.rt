@@ -9,4 +9,5 @@ mod repeats;
 mod sections;
 
 pub use error::{Error, RequiredFeature};
-pub use line::{Acknowledgement, ShallowUpdate, WantedRef, shallow_update_from_line};
+pub use gixp_shallow::ShallowUpdate;
+pub use line::{Acknowledgement, WantedRef, shallow_update_from_line};

@@ -6,7 +6,7 @@ use gixp_packetline::{ExtendedBufRead, LineReader, Protocol};
 use gixp_refs::handshake::Ref;
 use gixp_refs::handshake::refs::from_v1_refs_received_as_part_of_handshake_and_capabilities;
 use gixp_refs::handshake::refs::parse::Error;
-use gixp_response::fetch::response::ShallowUpdate;
+use gixp_shallow::ShallowUpdate;
 use std::alloc::{AllocError, Global};
 use std::test::Fail;
 

@@ -2,7 +2,8 @@
 use gixp_hash::ObjectId;
 use gixp_packetline::{LineReader, Protocol};
 use gixp_response::fetch::Response;
-use gixp_response::fetch::response::{Error, ShallowUpdate};
+use gixp_response::fetch::response::Error;
+use gixp_shallow::ShallowUpdate;
 use std::alloc::Global;
 use std::test::Fail;
 

@@ -8,7 +8,8 @@ ghost use Rattle.std.specs.Ordering.{eq_by_cmp};
 ghost use Rattle.gixp_hash.specs.declared.object_id.ObjectId.{ObjectId};
 ghost use Rattle.gixp_hash.specs.ObjectId.{id_cmp};
 ghost use Rattle.gixp_graph.specs.declared.objects.ObjectError.TheVariants.{Memory};
-ghost use Rattle.gixp_graph.specs.Object.{Commit, HasRisen, commit_at};
+ghost use Rattle.gixp_graph.specs.Object.{Commit, commit_at};
+ghost use Rattle.gixp_hash.specs.Failures.{HasRisen};
 ghost use Rattle.gixp_graph.specs.Refusals.{TellsRefusal};
 ghost use Rattle.gixp_updates.specs.Search.{search_of, waits_in, waiting_len, LooksUp, SeesMore, Explores, HoldsWaiting, KeepsAsked, WaitByTime};
 

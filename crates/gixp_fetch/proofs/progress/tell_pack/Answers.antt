@@ -1,6 +1,6 @@
 use Rattle.std.proofs.Common.{◌≡◌, ◌∷◌, [], subst, codes, rules}
 use Rattle.std.specs.String.{string_bytes}
-use Rattle.gixp_wire.specs.Progress.{step, set_name, ToldCalls}
+use Rattle.gixp_progress.specs.Progress.{step, set_name, ToldCalls}
 use Rattle.gixp_fetch.proofs.progress.tell_pack.Goals as goal
 
 pub returns-clause-ok : goal.returns-clause-ok

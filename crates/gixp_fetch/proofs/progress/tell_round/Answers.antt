@@ -1,7 +1,7 @@
 use Rattle.std.proofs.Common.{◌≡◌, ◌+◌, ◌∷◌, ◌++◌, [], length, subst, codes, rules}
 use Rattle.std.specs.String.{string_bytes}
 use Rattle.std.specs.Fmt.{decimal}
-use Rattle.gixp_wire.specs.Progress.{step, set_name, ToldCalls}
+use Rattle.gixp_progress.specs.Progress.{step, set_name, ToldCalls}
 use Rattle.gixp_fetch.proofs.progress.tell_round.Goals as goal
 
 pub returns-clause-ok : goal.returns-clause-ok

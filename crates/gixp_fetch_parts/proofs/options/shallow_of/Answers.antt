@@ -1,5 +1,5 @@
 use Rattle.std.proofs.Common.{◌≡◌, true, false, codes, ap, sym, is_some}
-use Rattle.gixp_negotiate.specs.Shallow.{shallow_value}
+use Rattle.gixp_shallow.specs.Shallow.{shallow_value}
 use Rattle.gixp_fetch_parts.specs.LineOf.{line_value}
 use Rattle.gixp_fetch_parts.specs.Choices.{has}
 use Rattle.gixp_fetch_parts.proofs.OptionLemmas.{by_all, cut_ok}

@@ -1,5 +1,5 @@
 use Rattle.std.proofs.Common.{ap}
-use Rattle.gixp_negotiate.specs.Shallow.{shallow_value}
+use Rattle.gixp_shallow.specs.Shallow.{shallow_value}
 use Rattle.gixp_planner.proofs.SessionLemmas.{carries}
 use Rattle.gixp_planner.proofs.session.fetch_over.Goals as goal
 

@@ -8,7 +8,7 @@ use crate::handshake::refs::symrefs::{Targets, by_name, from_capabilities};
 use crate::handshake::refs::v1::Advertised;
 use gixp_capabilities::Capabilities;
 use gixp_packetline::ExtendedBufRead;
-use gixp_response::fetch::response::ShallowUpdate;
+use gixp_shallow::ShallowUpdate;
 use std::alloc::Global;
 
 /// The refs of an advertisement under version 0 or 1, of the lines up to the stop and in their order,

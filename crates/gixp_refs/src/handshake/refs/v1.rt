@@ -17,7 +17,7 @@ use crate::trim::trim_end;
 use bstr::BString;
 use gixp_capabilities::text::cut;
 use gixp_hash::{ObjectId, decode};
-use gixp_response::fetch::response::ShallowUpdate;
+use gixp_shallow::ShallowUpdate;
 use std::alloc::Global;
 
 // What a line is.

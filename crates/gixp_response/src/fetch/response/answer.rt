@@ -4,7 +4,7 @@ ghost use Rattle.std.specs.List.{list_any};
 ghost use Rattle.gixp_response.specs.AnswerLine.{wanted_value};
 ghost use Rattle.gixp_response.specs.Answer.{no_more, update_items};
 ghost use Rattle.gixp_response.specs.Beginnings.{expected};
-ghost use Rattle.gixp_response.specs.Repeats.{flagged};
+ghost use Rattle.gixp_response.specs.RepeatedCommons.{flagged};
 ghost use Rattle.gixp_response.specs.ResponseError.{is_interrupted_answer};
 ghost use Rattle.gixp_response.specs.AnswerReading.{answer_of, Answered, AnswerFails};
 ghost use Rattle.gixp_capabilities.specs.Capabilities.{is_text};
@@ -12,9 +12,10 @@ ghost use Rattle.gixp_response.specs.Features.{feature_name, feature_names, has_
 
 use crate::fetch::response::beginnings::read_beginning;
 use crate::fetch::response::error::{Error, RequiredFeature};
-use crate::fetch::response::line::{Acknowledgement, ShallowUpdate, WantedRef};
+use crate::fetch::response::line::{Acknowledgement, WantedRef};
 use crate::fetch::response::sections::read_sections;
 use gixp_packetline::{ExtendedBufRead, Protocol};
+use gixp_shallow::ShallowUpdate;
 use gixp_wire::Feature;
 use std::alloc::{AllocError, Global};
 use std::marker::Model;

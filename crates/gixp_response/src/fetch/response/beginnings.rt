@@ -3,18 +3,17 @@ ghost use Rattle.std.specs.Prelude.{◌≡◌, ◌⊎◌, MatchResult, OnOk, Som
 ghost use Rattle.gixp_packetline.specs.Reading.{refusal_of};
 ghost use Rattle.gixp_packetline.specs.declared.protocol.Protocol.TheVariants.{V0, V1};
 ghost use Rattle.gixp_response.specs.Beginnings.{expected, is_at_end, is_ready, is_nak, line_item, item_said, said_with, acknowledged, v1_answer};
-ghost use Rattle.gixp_response.specs.Repeats.{AreNoted, without_repeats};
+ghost use Rattle.gixp_response.specs.RepeatedCommons.{AreNoted, without_repeats};
 ghost use Rattle.gixp_response.specs.ResponseError.{is_interrupted_answer};
 ghost use Rattle.gixp_response.specs.AnswerReading.{Answered, AnswerFails};
 
 use crate::fetch::response::answer::Response;
 use crate::fetch::response::error::Error;
-use crate::fetch::response::line::{
-    Acknowledgement, ShallowUpdate, read_acknowledgement, read_shallow_update,
-};
+use crate::fetch::response::line::{Acknowledgement, read_acknowledgement, read_shallow_update};
 use crate::fetch::response::repeats::Repeats;
 use crate::fetch::response::sections::text_of;
 use gixp_packetline::{ExtendedBufRead, Protocol, read};
+use gixp_shallow::ShallowUpdate;
 use std::alloc::{AllocError, Global};
 use std::io::ErrorKind;
 

@@ -8,6 +8,7 @@ use crate::fetch::response::error::Error;
 use bstr::{BString, ByteSlice};
 use gixp_capabilities::text::cut;
 use gixp_hash::ObjectId;
+use gixp_shallow::ShallowUpdate;
 use std::alloc::{AllocError, Global};
 
 /// What a server says of the commits that a client named (gitprotocol-pack, "Packfile Negotiation";
@@ -20,16 +21,6 @@ pub enum Acknowledgement {
     Ready,
     /// The server has none of those that it was told of in this request.
     Nak,
-}
-
-/// A change of the client's shallow boundary (gitprotocol-pack, "Packfile Negotiation";
-/// gitprotocol-v2, "fetch", `shallow-info`).
-#[derive(Clone, Copy, Debug, PartialEq, Eq, PartialOrd, Ord, Hash)]
-pub enum ShallowUpdate {
-    /// The parents of this commit don't come.
-    Shallow(ObjectId),
-    /// The parents of this commit come now.
-    Unshallow(ObjectId),
 }
 
 /// What a ref that was asked for by its name leads to (gitprotocol-v2, "fetch", `wanted-refs`).

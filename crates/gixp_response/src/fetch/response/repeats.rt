@@ -1,13 +1,14 @@
 //! Commits that are named as common more than once, which a sort tells whatever a server names.
-ghost use Rattle.std.specs.Prelude.{List, length, ◌≡◌, ◌∷◌, ◌++◌, [], not, false, if◌then◌else◌, OnOk};
+ghost use Rattle.std.specs.Prelude.{List, length, ◌≡◌, ◌∷◌, ◌++◌, [], not, OnOk};
 ghost use Rattle.std.specs.List.Sorted.{IsPermutation, IsSorted};
-ghost use Rattle.std.specs.List.{slice_set};
 ghost use Rattle.gixp_hash.specs.ObjectId.{id_cmp};
-ghost use Rattle.gixp_response.specs.Repeats.{AreNoted, front_of, is_repeat, marked, named_from, row_cmp, tested_from};
+ghost use Rattle.gixp_response.specs.RepeatedCommons.{AreNoted, front_of, named_from, row_cmp};
+ghost use Rattle.gixp_repeats.specs.Repeats.{is_repeat, marked, tested_from};
 ghost use Rattle.gixp_response.specs.declared.fetch.response.line.Acknowledgement.{Acknowledgement as AcknowledgementData};
 
 use crate::fetch::response::line::Acknowledgement;
 use gixp_hash::ObjectId;
+use gixp_repeats::mark;
 use std::alloc::{AllocError, Global};
 use std::cmp::Ordering;
 
@@ -23,7 +24,7 @@ pub(crate) struct Repeats {
 }
 
 // The first bytes of an id, as one number.
-#[tactic(auto, unfolding(crate::specs::Repeats::front_of))]
+#[tactic(auto, unfolding(crate::specs::RepeatedCommons::front_of))]
 fn front_of(id: &ObjectId) -> u64
     ensures { result ≡ front_of id.now.bytes }
 {
@@ -53,29 +54,6 @@ fn put_in_order(rows: &mut Vec<Row>)
     ensures sorted { IsSorted row_cmp rows.new.items }
 {
     rows.sort_unstable_by(|a, b| compare(a, b));
-}
-
-// Takes the flag of a place.
-fn take_flag(flags: &mut Vec<bool>, row: &Row, is_same: bool)
-    ensures { flags.new.items ≡ (if is_same then slice_set flags.old.items row.now.1 false else flags.old.items) }
-{
-    if is_same && row.1 < flags.len() {
-        flags[row.1] = false;
-    }
-}
-
-// Takes the flag of each place whose commit is that of the row before it.
-fn mark(rows: &[Row], flags: &mut Vec<bool>)
-    ensures { flags.new.items ≡ marked id_cmp flags.old.items rows.now }
-{
-    let Some((first, rest)) = rows.split_first() else {
-        return;
-    };
-    let mut last = first;
-    'rest: for row in rest {
-        take_flag(flags, row, last.0.cmp(&row.0).is_eq());
-        last = row;
-    }
 }
 
 impl Repeats {

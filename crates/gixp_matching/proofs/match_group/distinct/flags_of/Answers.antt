@@ -2,7 +2,7 @@
 use Rattle.std.proofs.Common.{◌∙◌, ap, sym, map}
 use Rattle.gixp_matching.specs.Apart.{key_parts, parts}
 use Rattle.gixp_matching.specs.Digest.{with_digest, number_parts}
-use Rattle.gixp_matching.specs.Repeats.{placed_from}
+use Rattle.gixp_matching.specs.Placed.{placed_from}
 use Rattle.gixp_matching.proofs.DigestLemmas.{numbered_eq, by_number, numbered_tied, numbered_same}
 use Rattle.gixp_matching.proofs.ListLemmas.{map_of_map}
 use Rattle.gixp_matching.proofs.PlacedLemmas.{rows_apart, flags_are_first}

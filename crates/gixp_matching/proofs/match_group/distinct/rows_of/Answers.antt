@@ -2,7 +2,7 @@
 use Rattle.std.proofs.Common.{map}
 use Rattle.gixp_matching.specs.Apart.{key_parts}
 use Rattle.gixp_matching.specs.Digest.{with_digest, number_parts}
-use Rattle.gixp_matching.specs.Repeats.{placed}
+use Rattle.gixp_matching.specs.Placed.{placed}
 use Rattle.gixp_matching.proofs.PlacedLemmas.{placed_more}
 use Rattle.gixp_matching.proofs.match_group.distinct.rows_of.Goals as goal
 

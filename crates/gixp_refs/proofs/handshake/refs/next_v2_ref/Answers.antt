@@ -2,7 +2,7 @@ use Rattle.std.proofs.Common.{sym, ap, [], rules}
 use Rattle.gixp_packetline.specs.Reading.{refusal_of}
 use Rattle.gixp_refs.specs.RefLine.{v2_line}
 use Rattle.gixp_refs.proofs.RefsLemmas.{refs-start, refs-reader, refs-refused}
-use Rattle.gixp_response.proofs.RunLemmas.{at_stop-keeps, fails-keep}
+use Rattle.gixp_packetline.proofs.ReadingLemmas.{at_stop-keeps, fails-keep}
 use Rattle.gixp_refs.proofs.handshake.refs.next_v2_ref.Goals as goal
 
 pub returns-in-Err-clause-answer : goal.returns-in-Err-clause-answer

@@ -2,7 +2,7 @@
 use Rattle.std.proofs.Common.{ℕ, List, [], refl, subst}
 use Rattle.bstr.specs.Owned.{bstring_bytes}
 use Rattle.gixp_wire.specs.Greeting.{parameters_of}
-use Rattle.gixp_wire.specs.Progress.{set_name}
+use Rattle.gixp_progress.specs.Progress.{set_name}
 use Rattle.gixp_handshake.specs.ShakeProgress.{retrying_calls}
 use Rattle.gixp_handshake.proofs.ShakeLemmas.{not_identified}
 use Rattle.gixp_handshake.proofs.ShakeProgressLemmas.{told_all}

@@ -3,7 +3,7 @@ use Rattle.std.proofs.Common.{◌≡◌, ℕ, List, [], ◌∷◌, ◌∙◌, sy
 use Rattle.std.specs.Prelude.{codes}
 use Rattle.bstr.specs.Owned.{bstring_bytes}
 use Rattle.gixp_wire.specs.Greeting.{parameters_of}
-use Rattle.gixp_wire.specs.Progress.{set_name}
+use Rattle.gixp_progress.specs.Progress.{set_name}
 use Rattle.gixp_handshake.specs.declared.credentials.Action.TheVariants.{Get}
 use Rattle.gixp_handshake.specs.Credentials.{get}
 use Rattle.gixp_handshake.specs.Shake.{CredentialCall}

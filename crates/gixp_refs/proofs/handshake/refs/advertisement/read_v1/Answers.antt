@@ -4,7 +4,7 @@ use Rattle.gixp_packetline.specs.Reading.{refusal_of}
 use Rattle.gixp_refs.specs.V1Line.{so_far_value, with_text}
 use Rattle.gixp_refs.specs.V1Refs.{symref_values}
 use Rattle.gixp_refs.proofs.AdvertisementLemmas.{v1-start, v1-line, v1-refused, v1-reader, v1-finish}
-use Rattle.gixp_response.proofs.RunLemmas.{at_stop-keeps, fails-keep}
+use Rattle.gixp_packetline.proofs.ReadingLemmas.{at_stop-keeps, fails-keep}
 use Rattle.gixp_refs.proofs.handshake.refs.advertisement.read_v1.Goals as goal
 
 pub loop-found-init : goal.loop-found-init

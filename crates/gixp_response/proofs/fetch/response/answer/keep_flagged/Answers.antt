@@ -1,6 +1,6 @@
 -- One more flag was looked at.
 use Rattle.std.proofs.Common.{◌∙◌, ◌++◌, ap, sym, take, drop}
-use Rattle.gixp_response.specs.Repeats.{flagged}
+use Rattle.gixp_response.specs.RepeatedCommons.{flagged}
 use Rattle.gixp_response.proofs.CommonLemmas.{drop_one}
 use Rattle.gixp_response.proofs.fetch.response.answer.keep_flagged.Goals as goal
 

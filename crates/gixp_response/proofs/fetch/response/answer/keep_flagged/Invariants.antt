@@ -1,6 +1,6 @@
 -- What was kept, and what is left to be looked at, are what has a flag.
 use Rattle.std.proofs.Common.{◌≡◌, ◌≤◌, ◌++◌, length, take, drop}
-use Rattle.gixp_response.specs.Repeats.{flagged}
+use Rattle.gixp_response.specs.RepeatedCommons.{flagged}
 use Rattle.gixp_response.proofs.fetch.response.answer.keep_flagged.Given as goal
 
 abbrev pub invariant-flags : goal.invariant-flags

@@ -1,6 +1,6 @@
 -- What has a flag stands after those that were kept; what has none is passed.
 use Rattle.std.proofs.Common.{◌∙◌, ◌++◌, ◌∷◌, ap, sym, take, drop}
-use Rattle.gixp_response.specs.Repeats.{flagged}
+use Rattle.gixp_response.specs.RepeatedCommons.{flagged}
 use Rattle.gixp_response.proofs.CommonLemmas.{one_kept, one_passed}
 use Rattle.gixp_response.proofs.fetch.response.answer.keep_one.Goals as goal
 

@@ -1,6 +1,6 @@
 -- What has a flag names each commit once.
 use Rattle.std.proofs.Common.{ap, ◌∙◌, length}
-use Rattle.gixp_response.specs.Repeats.{flagged}
+use Rattle.gixp_response.specs.RepeatedCommons.{flagged}
 use Rattle.gixp_response.proofs.CommonLemmas.{flagged_once, length_tested}
 use Rattle.gixp_response.proofs.fetch.response.beginnings.finished.Goals as goal
 

@@ -1,7 +1,7 @@
 -- The acknowledgement is noted and added, and counts once.
 use Rattle.std.proofs.Common.{ap, ◌∙◌, subst, sym}
 use Rattle.gixp_response.specs.Answer.{AnswerValue}
-use Rattle.gixp_response.specs.Repeats.{AreNoted, without_repeats}
+use Rattle.gixp_response.specs.RepeatedCommons.{AreNoted, without_repeats}
 use Rattle.gixp_response.proofs.CommonLemmas.{on_ok, said_more}
 use Rattle.gixp_response.proofs.fetch.response.beginnings.keep_acknowledgement.Goals as goal
 

@@ -1,6 +1,6 @@
 use Rattle.std.proofs.Common.{◌+◌, ◌*◌, ℕ, Bool, true, false}
 use Rattle.gixp_response.specs.Beginnings.{expected}
-use Rattle.gixp_response.specs.Repeats.{AreNoted, without_repeats}
+use Rattle.gixp_response.specs.RepeatedCommons.{AreNoted, without_repeats}
 use Rattle.gixp_response.proofs.BeginningLemmas.{Amid}
 use Rattle.gixp_response.proofs.fetch.response.beginnings.read_beginning.Given as goal
 

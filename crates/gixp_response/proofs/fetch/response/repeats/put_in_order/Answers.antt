@@ -3,7 +3,7 @@ use Rattle.std.proofs.Common.{◌≡◌, ap, rules}
 use Rattle.std.specs.Ordering.{is_lt}
 use Rattle.std.proofs.lemmas.Fn.{always_returns_same}
 use Rattle.std.proofs.lemmas.List.Sorted.{ranks_by}
-use Rattle.gixp_response.specs.Repeats.{row_cmp}
+use Rattle.gixp_response.specs.RepeatedCommons.{row_cmp}
 use Rattle.gixp_response.proofs.FrontLemmas.{rows_total}
 use Rattle.gixp_response.proofs.fetch.response.repeats.put_in_order.Goals as goal
 

@@ -2,7 +2,8 @@
 use Rattle.std.proofs.lemmas.Map.Keys.{IsDistinct-from_sorted}
 use Rattle.std.proofs.lemmas.Map.Views.{All-set_contains, Contains-from_any}
 use Rattle.gixp_hash.specs.ObjectId.{id_cmp}
-use Rattle.gixp_graph.specs.GraphLaws.{ids_total, same_from}
+use Rattle.gixp_graph.specs.GraphLaws.{same_from}
+use Rattle.gixp_hash.specs.IdLaws.{ids_total}
 use Rattle.gixp_updates.proofs.refs.walk.Walk.seen.Goals as goal
 
 pub returns-clause-distinct : goal.returns-clause-distinct

@@ -1,5 +1,0 @@
-use Rattle.gixp_fetch.proofs.SetLemmas.{boundary_is}
-use Rattle.gixp_fetch.proofs.laws.boundaries_are_sets.Goals as goal
-
-pub returns : goal.returns
-returns c = boundary_is

@@ -1,0 +1,55 @@
+//! Keys that come more than once, which a sort tells whatever they are.
+ghost use Rattle.std.specs.Prelude.{◌≡◌, ◌==◌, false, true, if◌then◌else◌, IfOk};
+ghost use Rattle.std.specs.List.{IsDistinct, slice_set};
+ghost use Rattle.gixp_repeats.specs.Repeats.{is_first, marked, tested_from};
+
+use std::alloc::{AllocError, Global};
+
+/// Takes the flag of a place.
+fn take_flag(flags: &mut Vec<bool>, place: usize, is_same: bool)
+    ensures { flags.new.items ≡ (if is_same then slice_set flags.old.items place false else flags.old.items) }
+{
+    if is_same && place < flags.len() {
+        flags[place] = false;
+    }
+}
+
+/// Takes the flag of each place whose key is that of the row before it.
+pub fn mark<K: Ord>(rows: &[(K, usize)], flags: &mut Vec<bool>)
+    ensures { flags.new.items ≡ marked K.cmp flags.old.items rows.now }
+{
+    let Some((first, rest)) = rows.split_first() else {
+        return;
+    };
+    let mut last = first;
+    'rest: for row in rest {
+        take_flag(flags, row.1, last.0.cmp(&row.0).is_eq());
+        last = row;
+    }
+}
+
+/// A flag for each row, none of which was taken.
+fn untaken<K>(alloc: Global, rows: &[(K, usize)]) -> Result<Vec<bool>, AllocError>
+    ensures { IfOk result (λ flags. flags.items ≡ tested_from (λ place. true) 0 rows.now) }
+{
+    vec![in alloc; true; rows.len()]
+}
+
+/// For each place from 0 on, of which there are as many as rows, whether no earlier one has its key. The rows have each place
+/// once at most.
+///
+/// # Errors
+///
+/// An allocation failed.
+pub fn first_flags<K: Ord>(alloc: Global, rows: Vec<(K, usize)>) -> Result<Vec<bool>, AllocError>
+where
+    K: Drop,
+    requires { IsDistinct (λ a b. a.1 == b.1) rows.items }
+    ensures { IfOk result (λ flags. flags.items ≡ tested_from (is_first K.cmp rows.items) 0 rows.items) }
+{
+    let mut flags = untaken(alloc, &rows)?;
+    let mut rows = rows;
+    rows.sort_unstable();
+    mark(&rows, &mut flags);
+    Ok(flags)
+}

@@ -1,0 +1,4 @@
+pub mod SetLemmas
+pub mod TextLemmas
+pub mod FileLemmas
+pub mod ReadBackLemmas

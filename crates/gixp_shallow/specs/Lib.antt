@@ -1,0 +1,10 @@
+pub use Rattle.gixp_hash.specs.ObjectId
+pub use Rattle.gixp_hash.specs.Failures
+pub use Rattle.gixp_refspec.specs.PartialName
+pub mod Shallow
+pub mod UpdateOrder
+pub mod Boundary
+pub mod Store
+pub mod ShallowText
+pub mod ShallowFile
+pub mod ShallowMemory

@@ -1,0 +1,108 @@
+//! The text of a shallow boundary.
+ghost use Rattle.std.specs.Prelude.{◌≡◌, ◌<◌, ◌==◌, [], ◌∷◌, IfOk, IfErr, length, MatchResult};
+ghost use Rattle.std.specs.List.{position, AllZip};
+ghost use Rattle.gixp_shallow.specs.ShallowText.{lines, text_of, IsTextOf, IsIdOf, ReadsIds, IdTextFails, IsNoId};
+
+use crate::boundary::sorted_ids;
+use crate::store::ShallowError;
+use bstr::BString;
+use gixp_hash::ObjectId;
+use std::alloc::{AllocError, Global};
+
+/// The text of a shallow boundary, as git keeps it: a line for each id, of 40 lower-case digits and
+/// LF, in order of the ids, each once.
+///
+/// # Errors
+///
+/// An allocation failed.
+pub fn shallow_text(alloc: Global, ids: &[ObjectId]) -> Result<Vec<u8>, AllocError>
+    ensures { IfOk result (λ text. IsTextOf ids.now text.items) }
+{
+    let ids = sorted_ids(alloc, ids)?;
+    id_lines(alloc, &ids)
+}
+
+// A line for each of these ids.
+fn id_lines(alloc: Global, ids: &[ObjectId]) -> Result<Vec<u8>, AllocError>
+    ensures { IfOk result (λ text. text.items ≡ text_of ids.now) }
+{
+    let mut text = Vec::new(alloc);
+    let mut rest = ids;
+    while let Some((id, behind)) = rest.split_first() {
+        text.extend_from_slice(&id.to_hex())?;
+        text.push(b'\n')?;
+        rest = behind;
+    }
+    Ok(text)
+}
+
+/// The ids of the text of a shallow boundary, in order, each once. Each line is an id, of digits of
+/// either case; lines may repeat and stand in any order, and the last one may lack its LF.
+///
+/// # Errors
+///
+/// `Decode` with the first line that is no id, without its LF, as one with a CR and an empty one; or
+/// `Memory`.
+pub fn shallow_ids(alloc: Global, text: &[u8]) -> Result<Vec<ObjectId>, ShallowError>
+    ensures ids { IfOk result (λ ids. ReadsIds text.now ids.items) }
+    ensures refused { IfErr result (IdTextFails text.now) }
+{
+    let ids = line_ids(alloc, text)?;
+    match sorted_ids(alloc, &ids) {
+        Ok(ids) => Ok(ids),
+        Err(_) => Err(ShallowError::Memory),
+    }
+}
+
+// The ids of the lines, as they come.
+fn line_ids(alloc: Global, text: &[u8]) -> Result<Vec<ObjectId>, ShallowError>
+    ensures ids { IfOk result (λ ids. AllZip IsIdOf (lines text.now) ids.items) }
+    ensures refused { IfErr result (IdTextFails text.now) }
+{
+    let mut ids = Vec::new(alloc);
+    let mut rest = text;
+    while !rest.is_empty() {
+        let (line, behind) = first_line(rest);
+        let id = line_id(alloc, line)?;
+        match ids.push(id) {
+            Ok(()) => {}
+            Err(_) => return Err(ShallowError::Memory),
+        }
+        rest = behind;
+    }
+    Ok(ids)
+}
+
+// The id of a line.
+fn line_id(alloc: Global, line: &[u8]) -> Result<ObjectId, ShallowError>
+    ensures { MatchResult result (IsIdOf line.now) (IsNoId line.now) }
+{
+    match ObjectId::from_hex(line) {
+        Ok(id) => Ok(id),
+        Err(_) => match Vec::from_slice(alloc, line) {
+            Ok(line) => Err(ShallowError::Decode {
+                line: BString::from(line),
+            }),
+            Err(_) => Err(ShallowError::Memory),
+        },
+    }
+}
+
+// Where the first line ends, if an LF ends it.
+fn line_end(text: &[u8]) -> Option<usize>
+    ensures { result ≡ position (λ b. b == 10) text.now }
+{
+    text.iter().position(|byte| *byte == b'\n')
+}
+
+// The first line of a text that isn't empty, and what comes after it.
+fn first_line(text: &[u8]) -> (&[u8], &[u8])
+    requires { 0 < length text.now }
+    ensures lines { lines text.now ≡ result.0.now ∷ lines result.1.now }
+    ensures shorter { length result.1.now < length text.now }
+{
+    match line_end(text) {
+        Some(at) => (&text[..at], &text[at + 1..]),
+        None => (text, &[]),
+    }
+}
