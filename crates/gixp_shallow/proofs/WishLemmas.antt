@@ -14,7 +14,7 @@ use Rattle.gixp_refspec.specs.declared.name.PartialName.{PartialName}
 use Rattle.gixp_refspec.specs.PartialName.{name_bytes}
 use Rattle.gixp_shallow.specs.declared.shallow.Shallow.{Shallow}
 use Rattle.gixp_shallow.specs.declared.shallow.Shallow.TheVariants.{NoChange, DepthAtRemote, Deepen, Since, Exclude}
-use Rattle.gixp_negotiate.specs.contracts.shallow.ShallowPartialEq.TheImpl.{eq-value}
+use Rattle.gixp_shallow.specs.contracts.shallow.ShallowPartialEq.TheImpl.{eq-value}
 use Rattle.gixp_shallow.specs.Shallow.{ShallowValue, at_remote, deepens, since, excludes, shallow_value}
 
 -- what is of two kinds isn't one
