@@ -2,7 +2,7 @@
 //! to a server and what it would map. Its stored run plans over the recorded session of `data/`.
 #![tactic(auto)]
 
-use gixp_plan_command::run;
+use gixp_planner::run;
 use std::process::ExitCode;
 
 fn main(rt: HostRuntime) -> ExitCode {

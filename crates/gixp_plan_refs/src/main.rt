@@ -1,7 +1,7 @@
 //! The program `gixp_plan`, with a stored run of its command `refs`.
 #![tactic(auto)]
 
-use gixp_plan_command::run;
+use gixp_planner::run;
 use std::process::ExitCode;
 
 fn main(rt: HostRuntime) -> ExitCode {

@@ -22,3 +22,4 @@ pub mod LaterLemmas
 pub mod ListNegotiationLemmas
 pub mod StandInLemmas
 pub mod PrintedLemmas
+mod WordRows

@@ -12,3 +12,5 @@ pub mod Sought
 pub mod Follows
 pub mod Alike
 pub mod Printed
+pub mod Failure
+pub mod Words

@@ -1,16 +1,15 @@
 //! The commands of the program `gixp_plan`: `refs FILE` lists the refs of a recorded answer, and `plan DIR SPEC..` prints what
 //! a client would send to a server and what it would map. A program of its own has each stored run of them.
-#![tactic(auto)]
-
 mod failure;
 mod session;
 mod words;
 
-use crate::failure::{Failure, status_of};
-use crate::session::{spec_texts, write_plan};
-use crate::words::{file_of, session_of};
+use crate::command::failure::{Failure, status_of};
+use crate::command::session::{spec_texts, write_plan};
+use crate::command::words::{file_of, session_of};
+use crate::error::PlanError;
+use crate::recording::{read_bodies, read_haves};
 use gixp_listing::list_refs;
-use gixp_planner::{PlanError, read_bodies, read_haves};
 use std::fs::File;
 use std::process::ExitCode;
 use std::{env, io};

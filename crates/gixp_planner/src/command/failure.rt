@@ -2,10 +2,10 @@
 ghost use Rattle.std.specs.Prelude.{◌≡◌};
 ghost use Rattle.std.specs.Process.{exit_status};
 ghost use Rattle.gixp_listing.specs.ErrorName.{list_error_name};
-ghost use Rattle.gixp_plan_command.specs.Failure.{name_of, list_refusal, status_of, words_refusal};
+ghost use Rattle.gixp_planner.specs.Failure.{name_of, list_refusal, status_of, words_refusal};
 
+use crate::error::PlanError;
 use gixp_listing::ListError;
-use gixp_planner::PlanError;
 use std::io::ErrorKind;
 use std::process::ExitCode;
 use thiserror::Error as DeriveError;

@@ -1,7 +1,7 @@
 //! The words of the command line.
 ghost use Rattle.std.specs.Prelude.{◌≡◌, map, string_bytes};
 ghost use Rattle.std.specs.Option.{option_copied, option_map};
-ghost use Rattle.gixp_plan_command.specs.Words.{file_of, session_of};
+ghost use Rattle.gixp_planner.specs.Words.{file_of, session_of};
 
 // The file of `refs FILE` after the program's name, or none for other words.
 pub(crate) fn file_of(words: &[String]) -> Option<&str>

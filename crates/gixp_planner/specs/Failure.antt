@@ -5,8 +5,8 @@ use Rattle.std.specs.declared.io.ErrorKind.TheVariants.{OutOfMemory}
 use Rattle.gixp_listing.specs.declared.list.ListError.{ListError}
 use Rattle.gixp_listing.specs.ErrorName.{list_error_name}
 use Rattle.gixp_planner.specs.Refusal.{PlanRefusal, refusal_of}
-use Rattle.gixp_plan_command.specs.declared.failure.Failure.{Failure}
-use Rattle.gixp_plan_command.specs.declared.failure.Failure.TheVariants.{Usage, Refused, Unplanned}
+use Rattle.gixp_planner.specs.declared.command.failure.Failure.{Failure}
+use Rattle.gixp_planner.specs.declared.command.failure.Failure.TheVariants.{Usage, Refused, Unplanned}
 
 -- the words are none of the usage; what was refused, by its name; or by which step of a plan
 pub data FailureName : Type 0 where

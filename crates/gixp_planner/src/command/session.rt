@@ -8,13 +8,14 @@ ghost use Rattle.gixp_planner.specs.Session.{FetchesMapped};
 ghost use Rattle.gixp_planner.specs.PlannedText.{PlannedText};
 ghost use Rattle.gixp_planner.specs.Refusal.{IsPlanMemory};
 
+use crate::error::PlanError;
+use crate::planning::plan;
 use bstr::BString;
 use gix_protocol::fetch::negotiate::{
     Graph, HaveList, Negotiate, Negotiation, NoObjects, NoRefs, Objects,
 };
 use gix_protocol::fetch::{ConsumePack, ReadToEnd, Shallow, ShallowMemory, ShallowStore, Tags};
 use gix_protocol::transport::{Body, Discard, Interrupt, NeverInterrupt, ObjectId};
-use gixp_planner::{PlanError, plan};
 use std::alloc::{AllocError, Global};
 use std::io::Write;
 

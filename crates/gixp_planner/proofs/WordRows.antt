@@ -1,6 +1,6 @@
 -- The words of some command lines.
 use Rattle.std.proofs.Common.{◌≡◌, ℕ, List, [], ◌∷◌, codes, Some, None, refl}
-use Rattle.gixp_plan_command.specs.Words.{file_of, session_of}
+use Rattle.gixp_planner.specs.Words.{file_of, session_of}
 
 abbrev line : List (List ℕ) → List (List ℕ)
 line words = codes "gixp_plan" ∷ words
