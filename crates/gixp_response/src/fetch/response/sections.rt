@@ -146,27 +146,20 @@ pub(crate) fn read_sections<R: ExtendedBufRead>(
     let mut answer = Response::empty(alloc);
     let mut at = None;
     loop {
-        match reader.next_line() {
-            Ok(true) => {}
-            Ok(false) => match at {
-                None => return Err(Error::Io(ErrorKind::UnexpectedEof)),
-                Some(_) => {
-                    if is_flush(reader.stopped_at()) {
-                        return Ok(answer);
-                    }
-                    reader.reset(Protocol::V2);
-                    at = None;
-                    continue;
-                }
-            },
-            Err(e) => return Err(Error::from(e)),
-        }
-        match at {
-            None => match read_header(alloc, reader.line())? {
+        match (reader.next_line()?, at) {
+            (true, None) => match read_header(alloc, reader.line())? {
                 Header::Of(section) => at = Some(section),
                 Header::Packfile => return Ok(answer.with_pack()),
             },
-            Some(section) => add_item(alloc, section, reader.line(), &mut answer)?,
+            (true, Some(section)) => add_item(alloc, section, reader.line(), &mut answer)?,
+            (false, None) => return Err(Error::Io(ErrorKind::UnexpectedEof)),
+            (false, Some(_)) => {
+                if is_flush(reader.stopped_at()) {
+                    return Ok(answer);
+                }
+                reader.reset(Protocol::V2);
+                at = None;
+            }
         }
     }
 }
