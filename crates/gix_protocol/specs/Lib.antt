@@ -130,7 +130,7 @@ pub use Rattle.gixp_negotiate.specs.FirstStep
 pub use Rattle.gixp_negotiate.specs.MarkLaws
 pub use Rattle.gixp_negotiate.specs.RoundLaws
 pub use Rattle.gixp_negotiate.specs.Ignored
-pub use Rattle.gixp_negotiate.specs.Plain
+pub use Rattle.gixp_negotiators.specs.HaveList
 pub use Rattle.gixp_negotiate.specs.DecisionLaws
 pub use Rattle.gixp_fetch.specs.FetchError
 pub use Rattle.gixp_fetch.specs.Store
@@ -265,9 +265,9 @@ pub use Rattle.gixp_negotiate.specs.declared.negotiate.Error as NegotiateErrorTy
 pub use Rattle.gixp_negotiate.specs.declared.negotiate.ignore.IgnoreMapping as IgnoreMappingType
 pub use Rattle.gixp_negotiate.specs.declared.negotiate.negotiation.NegotiateContext as NegotiateContextType
 pub use Rattle.gixp_negotiate.specs.declared.negotiate.negotiation.Negotiation as NegotiationType
-pub use Rattle.gixp_negotiate.specs.declared.negotiate.plain.NoObjects as NoObjectsType
-pub use Rattle.gixp_negotiate.specs.declared.negotiate.plain.NoRefs as NoRefsType
-pub use Rattle.gixp_negotiate.specs.declared.negotiate.plain.HaveList as HaveListType
+pub use Rattle.gixp_graph.specs.declared.empty.NoObjects as NoObjectsType
+pub use Rattle.gixp_graph.specs.declared.empty.NoRefs as NoRefsType
+pub use Rattle.gixp_negotiators.specs.declared.have_list.HaveList as HaveListType
 pub use Rattle.gixp_negotiate.specs.declared.shallow.Shallow as ShallowType
 pub use Rattle.gixp_fetch.specs.declared.consume.copy.CopyError as CopyErrorType
 pub use Rattle.gixp_fetch.specs.declared.consume.copy.CopyPack as CopyPackType

@@ -26,10 +26,18 @@ entry_value e = (e.0, commit_of e.1)
 abbrev pub with_commit : Objects → ObjectId → Commit → Objects
 with_commit objects id c = finite.insert objects id (record { kind = Some IsCommit; commit = Some c })
 
+-- an object, whose kind may not be known, unless there is one of that id
+abbrev pub with_new : Objects → ObjectId → Option ObjectKind → Objects
+with_new objects id kind = if finite.contains_key objects id then objects
+    else finite.insert objects id (record { kind = kind; commit = None })
+
 -- an object of a kind, unless there is one of that id
 abbrev pub with_kind : Objects → ObjectId → ObjectKind → Objects
-with_kind objects id kind = if finite.contains_key objects id then objects
-    else finite.insert objects id (record { kind = Some kind; commit = None })
+with_kind objects id kind = with_new objects id (Some kind)
+
+-- an object whose kind isn't known, unless there is one of that id
+abbrev pub with_id : Objects → ObjectId → Objects
+with_id objects id = with_new objects id None
 
 -- a ref, its id, and that of the object which is no tag that it leads to
 pub record PeeledRef : Type 0 where

@@ -1,12 +1,12 @@
 //! The objects of a repository, filled from lists or from texts.
-ghost use Rattle.std.specs.Prelude.{◌≡◌, Some, None, IfOk, IfSome, OnOk, OnErr, is_some, option_map, true, false};
+ghost use Rattle.std.specs.Prelude.{◌≡◌, Some, None, IfOk, IfErr, IfSome, OnOk, OnErr, is_some, option_map, true, false};
 ghost use Rattle.std.specs.FinMap as finite;
 ghost use Rattle.gixp_graph.specs.Object.{commit_of};
+ghost use Rattle.gixp_graph.specs.declared.objects.ObjectError.TheVariants.{Memory};
 ghost use Rattle.gixp_memory.specs.Text.{FillsByText, line_words};
-ghost use Rattle.gixp_memory.specs.Repository.{with_commit, with_kind, commit_line, kind_line, commit_of_words, kind_of_words, named_kind};
+ghost use Rattle.gixp_memory.specs.Repository.{with_commit, with_new, with_kind, with_id, commit_line, kind_line, commit_of_words, kind_of_words, named_kind};
 ghost use Rattle.gixp_memory.specs.Repository.{entry_value, answered_kind, answer_of_words, answer_to, with_answer};
 
-use crate::objects::{StoredObject, copied};
 use crate::texts::{
     TextError, line_words, named_id, named_ids, named_kind, seconds, text_lines, without_line_end,
 };
@@ -15,6 +15,15 @@ use gixp_hash::ObjectId;
 use std::alloc::{AllocError, Global};
 use std::collections::BTreeMap;
 use std::marker::Model;
+
+/// What a repository in memory has under an id.
+#[derive(Drop)]
+pub(crate) struct StoredObject {
+    /// None where it isn't known.
+    pub kind: Option<ObjectKind>,
+    /// Where it is a commit.
+    pub commit: Option<CommitData>,
+}
 
 /// The objects of a repository in memory: by their ids, each with its kind, commits with their time and parents.
 ///
@@ -54,22 +63,28 @@ impl StoredObjects {
     fn put(
         &mut self,
         id: ObjectId,
-        kind: ObjectKind,
+        kind: Option<ObjectKind>,
         commit: Option<CommitData>,
     ) -> Result<(), AllocError>
         ensures ok { OnOk result (self.new ≡ finite.insert self.old id
-            (record { kind = Some kind; commit = option_map commit_of commit })) }
+            (record { kind = kind; commit = option_map commit_of commit })) }
         ensures err { OnErr result (self.new ≡ self.old) }
     {
-        let object = StoredObject {
-            kind: Some(kind),
-            commit,
-            is_corrupt: false,
-        };
-        match self.objects.insert(id, object) {
+        match self.objects.insert(id, StoredObject { kind, commit }) {
             Ok(_) => Ok(()),
             Err(_) => Err(AllocError),
         }
+    }
+
+    // Adds an object unless there is one of that id.
+    fn put_new(&mut self, id: ObjectId, kind: Option<ObjectKind>) -> Result<(), AllocError>
+        ensures ok { OnOk result (self.new ≡ with_new self.old id kind) }
+        ensures err { OnErr result (self.new ≡ self.old) }
+    {
+        if self.has_object(&id) {
+            return Ok(());
+        }
+        self.put(id, kind, None)
     }
 
     /// Adds an object of a kind. Where one of that id is there, it stays as it is.
@@ -81,10 +96,19 @@ impl StoredObjects {
         ensures ok { OnOk result (self.new ≡ with_kind self.old id kind) }
         ensures err { OnErr result (self.new ≡ self.old) }
     {
-        if self.has_object(&id) {
-            return Ok(());
-        }
-        self.put(id, kind, None)
+        self.put_new(id, Some(kind))
+    }
+
+    /// Adds an object whose kind isn't known. Where one of that id is there, it stays as it is.
+    ///
+    /// # Errors
+    ///
+    /// An allocation failure; nothing is added then.
+    pub fn add_id(&mut self, id: ObjectId) -> Result<(), AllocError>
+        ensures ok { OnOk result (self.new ≡ with_id self.old id) }
+        ensures err { OnErr result (self.new ≡ self.old) }
+    {
+        self.put_new(id, None)
     }
 
     /// Adds a commit. What was there of that id goes.
@@ -96,7 +120,7 @@ impl StoredObjects {
         ensures ok { OnOk result (self.new ≡ with_commit self.old id (commit_of commit)) }
         ensures err { OnErr result (self.new ≡ self.old) }
     {
-        self.put(id, ObjectKind::Commit, Some(commit))
+        self.put(id, Some(ObjectKind::Commit), Some(commit))
     }
 
     // Adds the commit of a line. Returns whether it is one.
@@ -302,6 +326,21 @@ fn kind_in(alloc: Global, line: &[u8]) -> Result<Option<(ObjectId, ObjectKind)>,
         return Ok(None);
     };
     Ok(Some((id, kind)))
+}
+
+// A commit once more.
+fn copied(alloc: Global, commit: &Option<CommitData>) -> Result<Option<CommitData>, ObjectError>
+    ensures found { IfOk result (λ copy. option_map commit_of copy ≡ option_map commit_of commit.now) }
+    ensures failed { IfErr result (λ e. e ≡ Memory) }
+{
+    match commit {
+        Some(commit) => {
+            let time = commit.time;
+            let parents = Vec::from_slice(alloc, commit.parents.as_slice())?;
+            Ok(Some(CommitData { time, parents }))
+        }
+        None => Ok(None),
+    }
 }
 
 impl Find for StoredObjects {

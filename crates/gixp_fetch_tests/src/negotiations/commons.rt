@@ -1,12 +1,11 @@
 //! An answer that names commits as common that nobody sent.
 use crate::negotiations::repository::{had_memory, id, ref_map};
 use gixp_doubles::Recorder;
-use gixp_graph::Graph;
+use gixp_graph::{Graph, NoObjects, NoRefs};
 use gixp_hash::ObjectId;
 use gixp_negotiate::negotiate::Negotiate;
 use gixp_negotiate::negotiate::negotiation::{NegotiateContext, Negotiation};
 use gixp_negotiate::negotiate::one_round::State;
-use gixp_negotiate::negotiate::plain::{NoObjects, NoRefs};
 use gixp_negotiate::shallow::Shallow;
 use gixp_packetline::{LineReader, Protocol};
 use gixp_refmap::fetch::Tags;

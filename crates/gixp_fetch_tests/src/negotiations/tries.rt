@@ -1,13 +1,14 @@
 //! What a call finds after one that was refused.
 use crate::negotiations::repository::{chain, had_memory, id, ref_map};
-use gixp_doubles::Recorder;
-use gixp_graph::{Flags, Graph, NegotiatorError, ObjectError, Objects, RefStoreError};
-use gixp_memory::{MemoryObjects, MemoryRefs};
+use gixp_doubles::{MemoryObjects, MemoryRefs, Recorder};
+use gixp_graph::{
+    Flags, Graph, NegotiatorError, NoObjects, NoRefs, ObjectError, Objects, RefStoreError,
+};
 use gixp_negotiate::negotiate::negotiation::{NegotiateContext, Negotiation};
 use gixp_negotiate::negotiate::one_round::State;
-use gixp_negotiate::negotiate::plain::{HaveList, NoObjects, NoRefs};
 use gixp_negotiate::negotiate::{Action, Error, Negotiate};
 use gixp_negotiate::shallow::Shallow;
+use gixp_negotiators::HaveList;
 use gixp_packetline::{LineReader, Protocol};
 use gixp_refmap::RefMap;
 use gixp_refmap::fetch::Tags;
