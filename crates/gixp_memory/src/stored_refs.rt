@@ -8,10 +8,11 @@ ghost use Rattle.gixp_memory.specs.Repository.{held_ref, ref_line, ref_by, ref_n
 ghost use Rattle.gixp_memory.specs.declared.stored_refs.StoredRef.{StoredRef};
 ghost use Rattle.std.specs.Option.{option_copied};
 
-use crate::texts::{TextError, line_words, named_id, text_lines};
+use crate::texts::{TextError, named_id};
 use bstr::BStr;
 use gixp_graph::{RefStore, RefStoreError};
 use gixp_hash::ObjectId;
+use gixp_text::{line_words, text_lines};
 use std::alloc::{AllocError, Global};
 use std::collections::BTreeMap;
 use std::marker::Model;
