@@ -4,6 +4,7 @@ ghost use Rattle.std.specs.FinMap as finite;
 ghost use Rattle.gixp_graph.specs.Object.{commit_of};
 ghost use Rattle.gixp_graph.specs.declared.objects.ObjectError.TheVariants.{Memory};
 ghost use Rattle.gixp_text.specs.Lines.{line_words};
+ghost use Rattle.gixp_memory.specs.Memory.{kind_answered, answer_value};
 ghost use Rattle.gixp_memory.specs.Text.{FillsByText};
 ghost use Rattle.gixp_memory.specs.Repository.{with_commit, with_new, with_kind, with_id, commit_line, kind_line, commit_of_words, kind_of_words, named_kind};
 ghost use Rattle.gixp_memory.specs.Repository.{entry_value, answered_kind, answer_of_words, answer_to, with_answer};
@@ -219,35 +220,47 @@ impl StoredObjects {
         ensures err { OnErr result (self.new ≡ self.old) }
     {
         match answer_to(alloc, id, line)? {
-            Some(Some(kind)) => {
+            Some(Answered::Kind(kind)) => {
                 self.add(*id, kind)?;
                 Ok(true)
             }
-            Some(None) => Ok(true),
+            Some(Answered::Missing) => Ok(true),
             None => Ok(false),
         }
     }
 }
 
-// The kind that an answer names, or none where the object is missing.
-fn answered_kind(word: &[u8]) -> Option<Option<ObjectKind>>
-    ensures { result ≡ answered_kind word.now }
+// What an answer tells of an object.
+#[derive(Clone, Copy)]
+enum Answered {
+    // It is there, and of this kind.
+    Kind(ObjectKind),
+    Missing,
+}
+
+// What the word behind the id of an answer tells.
+fn answered_kind(word: &[u8]) -> Option<Answered>
+    ensures { option_map kind_answered result ≡ answered_kind word.now }
 {
     if word == b"missing".as_slice() {
-        return Some(None);
+        return Some(Answered::Missing);
     }
+    sized_kind(word)
+}
+
+// What an answer tells whose last word is a size.
+fn sized_kind(word: &[u8]) -> Option<Answered>
+    ensures { option_map kind_answered result ≡ option_map (λ kind. Some kind) (named_kind word.now) }
+{
     match named_kind(word) {
-        Some(kind) => Some(Some(kind)),
+        Some(kind) => Some(Answered::Kind(kind)),
         None => None,
     }
 }
 
 // The id of an answer, and what it tells.
-fn answer_in(
-    alloc: Global,
-    line: &[u8],
-) -> Result<Option<(ObjectId, Option<ObjectKind>)>, AllocError>
-    ensures { IfOk result (λ found. found ≡ answer_of_words (line_words line.now)) }
+fn answer_in(alloc: Global, line: &[u8]) -> Result<Option<(ObjectId, Answered)>, AllocError>
+    ensures { IfOk result (λ found. option_map answer_value found ≡ answer_of_words (line_words line.now)) }
 {
     let Ok(words) = line_words(alloc, line) else {
         return Err(AllocError);
@@ -263,23 +276,9 @@ fn answer_in(
     Ok(Some((id, kind)))
 }
 
-// The kind of an object whose size an answer tells.
-fn sized_kind(word: &[u8]) -> Option<Option<ObjectKind>>
-    ensures { result ≡ option_map (λ kind. Some kind) (named_kind word.now) }
-{
-    match named_kind(word) {
-        Some(kind) => Some(Some(kind)),
-        None => None,
-    }
-}
-
 // What the answer to an id tells; none where the line is no answer to it.
-fn answer_to(
-    alloc: Global,
-    id: &ObjectId,
-    line: &[u8],
-) -> Result<Option<Option<ObjectKind>>, AllocError>
-    ensures { IfOk result (λ found. found ≡ answer_to id.now line.now) }
+fn answer_to(alloc: Global, id: &ObjectId, line: &[u8]) -> Result<Option<Answered>, AllocError>
+    ensures { IfOk result (λ found. option_map kind_answered found ≡ answer_to id.now line.now) }
 {
     match answer_in(alloc, without_line_end(line))? {
         Some((answered, kind)) => {

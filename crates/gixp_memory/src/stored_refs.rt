@@ -167,7 +167,8 @@ fn named_ids_of(
     alloc: Global,
     names: &BTreeMap<Vec<u8>, StoredRef>,
 ) -> Result<Vec<(BStr<'_>, ObjectId)>, AllocError>
-    ensures { IfOk result (λ refs. map named_id_of refs.items ≡ map (λ (e : Vec ℕ Global × StoredRef). (e.0.items, e.1.id)) names.now.entries) }
+    ensures { IfOk result (λ refs. map named_id_of refs.items
+        ≡ map (λ (e : Vec ℕ Global × StoredRef). (e.0.items, e.1.id)) names.now.entries) }
 {
     names
         .iter()
