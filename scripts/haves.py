@@ -536,7 +536,7 @@ def build(work):
         (source.parent / name / "Lib.antt").write_text("")
     shutil.copy(TOP / "HANDLES", work / "HANDLES")
     lines = (TOP / "crates.txt").read_text()
-    (work / "crates.txt").write_text(lines + "gixp_haves: gix_protocol gixp_memory bstr\n")
+    (work / "crates.txt").write_text(lines + "gixp_haves: gix_protocol gixp_memory gixp_doubles bstr\n")
     return source.parent
 
 

@@ -130,7 +130,7 @@ pub use Rattle.gixp_negotiate.specs.FirstStep
 pub use Rattle.gixp_negotiate.specs.MarkLaws
 pub use Rattle.gixp_negotiate.specs.RoundLaws
 pub use Rattle.gixp_negotiate.specs.Ignored
-pub use Rattle.gixp_negotiate.specs.Plain
+pub use Rattle.gixp_negotiators.specs.HaveList
 pub use Rattle.gixp_negotiate.specs.DecisionLaws
 pub use Rattle.gixp_fetch.specs.FetchError
 pub use Rattle.gixp_shallow.specs.Store
@@ -164,6 +164,7 @@ pub use Rattle.gixp_negotiators.specs.Passing as NegotiatorPassing
 pub use Rattle.gixp_negotiators.specs.Spread as NegotiatorSpread
 pub use Rattle.gixp_negotiators.specs.SpreadLaws as NegotiatorSpreadLaws
 pub use Rattle.gixp_negotiators.specs.Waiting as NegotiatorWaiting
+pub use Rattle.gixp_text.specs.Lines as TextLines
 pub use Rattle.gixp_memory.specs.Text as RepositoryText
 pub use Rattle.gixp_memory.specs.Repository
 pub use Rattle.gixp_packetline.specs.ServerMessage
@@ -265,9 +266,9 @@ pub use Rattle.gixp_negotiate.specs.declared.negotiate.Error as NegotiateErrorTy
 pub use Rattle.gixp_negotiate.specs.declared.negotiate.ignore.IgnoreMapping as IgnoreMappingType
 pub use Rattle.gixp_negotiate.specs.declared.negotiate.negotiation.NegotiateContext as NegotiateContextType
 pub use Rattle.gixp_negotiate.specs.declared.negotiate.negotiation.Negotiation as NegotiationType
-pub use Rattle.gixp_negotiate.specs.declared.negotiate.plain.NoObjects as NoObjectsType
-pub use Rattle.gixp_negotiate.specs.declared.negotiate.plain.NoRefs as NoRefsType
-pub use Rattle.gixp_negotiate.specs.declared.negotiate.plain.HaveList as HaveListType
+pub use Rattle.gixp_graph.specs.declared.empty.NoObjects as NoObjectsType
+pub use Rattle.gixp_graph.specs.declared.empty.NoRefs as NoRefsType
+pub use Rattle.gixp_negotiators.specs.declared.have_list.HaveList as HaveListType
 pub use Rattle.gixp_shallow.specs.declared.shallow.Shallow as ShallowType
 pub use Rattle.gixp_fetch.specs.declared.consume.copy.CopyError as CopyErrorType
 pub use Rattle.gixp_fetch.specs.declared.consume.copy.CopyPack as CopyPackType

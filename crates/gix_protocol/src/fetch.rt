@@ -5,16 +5,15 @@ pub use gixp_fetch::consume::{ConsumePack, CopyError, CopyPack, ReadToEnd};
 pub use gixp_fetch::error::Error;
 pub use gixp_fetch::fetch::fetch;
 pub use gixp_fetch::options::{Context, NegotiateOutcome, Options, Outcome};
-pub use gixp_shallow::{
-    ShallowError, ShallowFile, ShallowMemory, ShallowStore, shallow_ids, shallow_text,
-};
 pub use gixp_fetch::{RemoteText, WithSidebands, laws};
 pub use gixp_negotiate::negotiate::Negotiate;
 pub use gixp_negotiate::negotiate::negotiation::NegotiateContext;
-pub use gixp_shallow::Shallow;
 pub use gixp_progress::fetch::ProgressId;
 pub use gixp_refmap::fetch::Tags;
 pub use gixp_refmap::{RefMap, refmap};
 pub use gixp_requests::fetch::{Arguments, arguments};
 pub use gixp_response::fetch::{Response, response};
+pub use gixp_shallow::{
+    Shallow, ShallowError, ShallowFile, ShallowMemory, ShallowStore, shallow_ids, shallow_text,
+};
 pub use gixp_updates::refs;

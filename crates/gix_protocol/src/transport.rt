@@ -9,7 +9,10 @@ pub use gixp_packetline::{
 };
 pub use gixp_progress::{Discard, NestedProgress, Progress};
 pub use gixp_sidebands::{BandText, Interrupt, InterruptFlag, NeverInterrupt};
-pub use gixp_wire::{Account, Bodies, Body, Connection, Feature, IsSpuriousError, MAX_LINE, Message, Opening, Service, SetServiceResponse, Transport, fits_line};
+pub use gixp_wire::{
+    Account, Bodies, Body, Connection, Feature, IsSpuriousError, MAX_LINE, Message, Opening,
+    Service, SetServiceResponse, Transport, fits_line,
+};
 
 /// A reader of bands whose transport and interrupt are lent for the same time.
 pub type WithSidebands<'a, T, P, I> = gixp_sidebands::WithSidebands<'a, 'a, T, P, I>;

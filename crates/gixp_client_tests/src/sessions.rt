@@ -5,10 +5,10 @@ use gixp_client::{
     Error, Fetched, Listener, LocalChange, Repository, Request, Session, Silent, State,
     local_changes, over_streams,
 };
-use gixp_doubles::{Device, Paper};
+use gixp_doubles::{Device, MemoryRefs, Paper};
 use gixp_fetch::consume::CopyPack;
 use gixp_graph::{RefStore, RefStoreError};
-use gixp_memory::{MemoryRefs, StoredObjects, StoredRefs};
+use gixp_memory::{StoredObjects, StoredRefs};
 use gixp_wire::{Connection, Transport};
 use std::alloc::{AllocError, Global};
 use std::io::ErrorKind;

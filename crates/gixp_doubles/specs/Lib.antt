@@ -1,2 +1,4 @@
 pub mod Recorder
+pub mod Repository
 pub mod Told
+pub use Rattle.gixp_memory.specs.Repository as MemoryRepository

@@ -1,13 +1,17 @@
 //! Doubles for tests and replays: readers and writers of bytes in memory that fail at one call, a progress reporter and a
-//! negotiator that write down what they are told.
+//! negotiator that write down what they are told, and a repository whose calls are written down and made to fail.
 #![tactic(auto)]
 
 mod device;
+mod objects;
 mod paper;
 mod recorder;
+mod refs;
 mod told;
 
 pub use device::{Device, Pieces, next_random};
+pub use objects::{LentObjects, MemoryObjects};
 pub use paper::Paper;
 pub use recorder::Recorder;
+pub use refs::MemoryRefs;
 pub use told::{Call, Lent, Told};

@@ -3,8 +3,7 @@ ghost use Rattle.std.specs.Prelude.{◌≡◌, [], false, string_bytes};
 ghost use Rattle.std.specs.Option.{option_map};
 ghost use Rattle.gixp_doubles.specs.Told.{call_of, WritesDown, AddsChild};
 
-use gixp_progress::Discard;
-use gixp_progress::{NestedProgress, Progress};
+use gixp_progress::{Discard, NestedProgress, Progress};
 use std::alloc::{AllocError, Global};
 
 /// What a progress reporter is told.

@@ -7,14 +7,14 @@ use crate::step::Wishes;
 use gix_protocol::command::{CommandTable, Feature};
 use gix_protocol::credentials::{self, Action};
 use gix_protocol::fetch::negotiate::{
-    Graph, HaveList, Negotiate, NegotiateContext, Negotiation, NoObjects, NoRefs,
+    Graph, HaveList, Negotiate, NegotiateContext, Negotiation, NoObjects, NoRefs, Shared,
+    StoredObjects,
 };
 use gix_protocol::fetch::refmap::init;
 use gix_protocol::fetch::{self, Outcome, RefMap, Shallow, ShallowMemory, Tags};
 use gix_protocol::handshake::{self, obtain_mappings};
 use gix_protocol::transport::{Discard, NeverInterrupt, ObjectId, Protocol, Service, Transport};
 use gix_protocol::{Handshake, agent};
-use gixp_memory::{MemoryObjects, StoredObject};
 use std::alloc::{AllocError, Global};
 
 // How the client names itself.
@@ -86,15 +86,10 @@ fn fetch_over<N: Negotiate, T: Transport>(
 }
 
 // The objects that are there: their kinds aren't known.
-fn objects_of(alloc: Global, haves: &[ObjectId]) -> Result<MemoryObjects, AllocError> {
-    let mut objects = MemoryObjects::new(alloc);
+fn objects_of(alloc: Global, haves: &[ObjectId]) -> Result<StoredObjects, AllocError> {
+    let mut objects = StoredObjects::new(alloc);
     for id in haves {
-        let object = StoredObject {
-            kind: None,
-            commit: None,
-            is_corrupt: false,
-        };
-        objects.add(*id, object)?;
+        objects.add_id(*id)?;
     }
     Ok(objects)
 }
@@ -110,6 +105,7 @@ fn fetch_mapped<T: Transport>(
     transport: &mut T,
 ) -> Result<Option<Outcome>, fetch::Error<AllocError, Left>> {
     let objects = objects_of(alloc, &haves)?;
+    let objects = Shared::new(&objects);
     let mut graph = Graph::new(alloc, NoObjects);
     let mut negotiator = HaveList::new(haves);
     let mut refs = NoRefs;

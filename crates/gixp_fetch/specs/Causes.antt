@@ -122,7 +122,8 @@ module _ {N I A S C P X : Type 0} (parties : Parties N I A S C P X) (call : Fetc
     pub sent : Reading
     pub wrote : WroteRequests old.reading sent requests
     pub done : Bool
-    pub why : ((r : AnswerRefusal) × IfSome (view banded sent).to_come (λ p. answer_of call.version (flags done (not done)) p ≡ answer_refused r)
+    pub why : ((r : AnswerRefusal)
+        × IfSome (view banded sent).to_come (λ p. answer_of call.version (flags done (not done)) p ≡ answer_refused r)
         × IsAnswerRefusal e r) ⊎ AnswerFromOutside (view_plain banded parties.plain) (view banded sent) (view banded new.reading) e
     pub held : new.reading.held ≡ sent.held
     pub before : I

@@ -2,6 +2,7 @@
 #![tactic(auto)]
 
 mod commits;
+mod empty;
 pub mod flags;
 pub mod graph;
 pub mod negotiator;
@@ -15,6 +16,7 @@ mod times;
 mod visited;
 mod walk;
 
+pub use empty::{NoObjects, NoRefs};
 pub use flags::Flags;
 pub use graph::Graph;
 pub use negotiator::{Negotiator, NegotiatorError};

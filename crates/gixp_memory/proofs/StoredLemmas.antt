@@ -20,9 +20,9 @@ use Rattle.gixp_graph.specs.Object.{Object, Commit, kind_at, commit_at, commit_o
 use Rattle.gixp_graph.specs.GraphLaws.{same_from}
 use Rattle.gixp_hash.specs.IdLaws.{ids_total, ids_exact}
 use Rattle.gixp_graph.proofs.MarkLemmas.{same_id, true_or_false}
-use Rattle.gixp_memory.specs.declared.objects.StoredObject.{StoredObject}
+use Rattle.gixp_memory.specs.declared.stored_objects.StoredObject.{StoredObject}
 use Rattle.gixp_memory.specs.declared.stored_refs.StoredRef.{StoredRef}
-use Rattle.gixp_memory.specs.Memory.{object_of, objects_of, refs_of, name_cmp}
+use Rattle.gixp_memory.specs.Memory.{object_of, objects_of, name_cmp}
 use Rattle.gixp_memory.specs.RefEntries.{named_ref}
 use Rattle.gixp_memory.specs.Repository.{held_ref, PeeledRef, with_ref, ref_named, peeled_ids}
 
@@ -80,22 +80,6 @@ commit_stored es q = ap (option_and_then (λ (x : Object). x.commit)) (get_store
 -- a commit that is there
 abbrev pub some_commit : Commit → Option Commit
 some_commit c = Some c
-
--- ---- refs
-
-abbrev NamedId : Type 0
-NamedId = Vec ℕ Global × ObjectId
-
--- what is found among the refs is what the name holds
-find_named : (es : List NamedId) (q : List ℕ) → find (slice_cmp nat_cmp) q (map (λ (e : NamedId). (e.0.items, e.1)) es)
-    ≡ lookup (is_at (λ (k : Vec ℕ Global). slice_cmp nat_cmp q k.items)) es
-find_named [] q = refl
-find_named (e ∷ es) q = ap (cond (eq_by_cmp (slice_cmp nat_cmp) q e.0.items) (Some e.1)) (find_named es q)
-
--- the id that a name holds
-pub named : (es : List NamedId) (q : List ℕ)
-    → finite.get (refs_of es) q ≡ lookup (is_at (λ (k : Vec ℕ Global). slice_cmp nat_cmp q k.items)) es
-named es q = get-from_entries nat_list_cmp_total (map (λ (e : NamedId). (e.0.items, e.1)) es) q ∙ find_named es q
 
 -- ---- what is filled
 

@@ -14,7 +14,8 @@ use Rattle.gixp_graph.specs.declared.objects.ObjectKind.{ObjectKind}
 use Rattle.gixp_graph.specs.declared.objects.ObjectKind.TheVariants.{Commit as IsCommit, Tree, Blob, Tag}
 use Rattle.gixp_graph.specs.declared.objects.CommitData.{CommitData}
 use Rattle.gixp_graph.specs.Object.{Objects, Commit, commit_of}
-use Rattle.gixp_memory.specs.Text.{is_text, line_words}
+use Rattle.gixp_text.specs.Lines.{line_words}
+use Rattle.gixp_memory.specs.Text.{is_text}
 
 -- what a commit that was read is, with its id
 abbrev pub entry_value : ObjectId × CommitData → ObjectId × Commit
@@ -26,10 +27,18 @@ entry_value e = (e.0, commit_of e.1)
 abbrev pub with_commit : Objects → ObjectId → Commit → Objects
 with_commit objects id c = finite.insert objects id (record { kind = Some IsCommit; commit = Some c })
 
+-- an object, whose kind may not be known, unless there is one of that id
+abbrev pub with_new : Objects → ObjectId → Option ObjectKind → Objects
+with_new objects id kind = if finite.contains_key objects id then objects
+    else finite.insert objects id (record { kind = kind; commit = None })
+
 -- an object of a kind, unless there is one of that id
 abbrev pub with_kind : Objects → ObjectId → ObjectKind → Objects
-with_kind objects id kind = if finite.contains_key objects id then objects
-    else finite.insert objects id (record { kind = Some kind; commit = None })
+with_kind objects id kind = with_new objects id (Some kind)
+
+-- an object whose kind isn't known, unless there is one of that id
+abbrev pub with_id : Objects → ObjectId → Objects
+with_id objects id = with_new objects id None
 
 -- a ref, its id, and that of the object which is no tag that it leads to
 pub record PeeledRef : Type 0 where

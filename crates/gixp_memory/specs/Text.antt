@@ -1,27 +1,13 @@
 -- Texts that are read line by line, as git writes them.
-use Rattle.std.specs.Prelude.{◌≡◌, ◌==◌, ◌-◌, ◌<◌, ℕ, List, [], ◌∷◌, take, drop, nat_eq, Bool, Option, Some, None, option_and_then, Result, Ok, Err}
-use Rattle.std.specs.List.{slice_split}
+use Rattle.std.specs.Prelude.{◌≡◌, ◌-◌, ◌<◌, ℕ, List, [], ◌∷◌, take, drop, nat_eq, Bool, Option, Some, None, option_and_then, Result, Ok, Err}
 use Rattle.std.specs.Cmp.Lexicographic.{pointwise}
-use Rattle.std.specs.Io.BufRead.{strip_last}
+use Rattle.gixp_text.specs.Lines.{text_lines}
 use Rattle.gixp_memory.specs.declared.texts.TextError.{TextError}
 use Rattle.gixp_memory.specs.declared.texts.TextError.TheVariants.{Line, Memory}
 
 -- whether two texts are one
 abbrev pub is_text : List ℕ → List ℕ → Bool
 is_text = pointwise nat_eq
-
--- the pieces of a text between its LFs
-abbrev pub text_pieces : List ℕ → List (List ℕ)
-text_pieces text = slice_split (λ b. b == 10) text
-
--- the lines of a text, each of which ends in LF; the last one may lack it
-abbrev pub text_lines : List ℕ → List (List ℕ)
-text_lines [] = []
-text_lines (b ∷ text) = text_pieces (strip_last 10 (b ∷ text))
-
--- the words of a line, between single blanks
-abbrev pub line_words : List ℕ → List (List ℕ)
-line_words line = slice_split (λ b. b == 32) line
 
 -- what some lines make of a state, each of which changes it, or can't be read
 abbrev pub after_lines : {S : Type 0} → (S → List ℕ → Option S) → S → List (List ℕ) → Option S

@@ -1,20 +1,30 @@
 //! The objects of a repository, filled from lists or from texts.
-ghost use Rattle.std.specs.Prelude.{◌≡◌, Some, None, IfOk, IfSome, OnOk, OnErr, is_some, option_map, true, false};
+ghost use Rattle.std.specs.Prelude.{◌≡◌, Some, None, IfOk, IfErr, IfSome, OnOk, OnErr, is_some, option_map, true, false};
 ghost use Rattle.std.specs.FinMap as finite;
 ghost use Rattle.gixp_graph.specs.Object.{commit_of};
-ghost use Rattle.gixp_memory.specs.Text.{FillsByText, line_words};
-ghost use Rattle.gixp_memory.specs.Repository.{with_commit, with_kind, commit_line, kind_line, commit_of_words, kind_of_words, named_kind};
+ghost use Rattle.gixp_graph.specs.declared.objects.ObjectError.TheVariants.{Memory};
+ghost use Rattle.gixp_text.specs.Lines.{line_words};
+ghost use Rattle.gixp_memory.specs.Memory.{kind_answered, answer_value};
+ghost use Rattle.gixp_memory.specs.Text.{FillsByText};
+ghost use Rattle.gixp_memory.specs.Repository.{with_commit, with_new, with_kind, with_id, commit_line, kind_line, commit_of_words, kind_of_words, named_kind};
 ghost use Rattle.gixp_memory.specs.Repository.{entry_value, answered_kind, answer_of_words, answer_to, with_answer};
 
-use crate::objects::{StoredObject, copied};
-use crate::texts::{
-    TextError, line_words, named_id, named_ids, named_kind, seconds, text_lines, without_line_end,
-};
+use crate::texts::{TextError, named_id, named_ids, named_kind, seconds};
 use gixp_graph::{CommitData, Find, ObjectError, ObjectKind};
 use gixp_hash::ObjectId;
+use gixp_text::{line_words, text_lines, without_line_end};
 use std::alloc::{AllocError, Global};
 use std::collections::BTreeMap;
 use std::marker::Model;
+
+/// What a repository in memory has under an id.
+#[derive(Drop)]
+pub(crate) struct StoredObject {
+    /// None where it isn't known.
+    pub kind: Option<ObjectKind>,
+    /// Where it is a commit.
+    pub commit: Option<CommitData>,
+}
 
 /// The objects of a repository in memory: by their ids, each with its kind, commits with their time and parents.
 ///
@@ -54,22 +64,28 @@ impl StoredObjects {
     fn put(
         &mut self,
         id: ObjectId,
-        kind: ObjectKind,
+        kind: Option<ObjectKind>,
         commit: Option<CommitData>,
     ) -> Result<(), AllocError>
         ensures ok { OnOk result (self.new ≡ finite.insert self.old id
-            (record { kind = Some kind; commit = option_map commit_of commit })) }
+            (record { kind = kind; commit = option_map commit_of commit })) }
         ensures err { OnErr result (self.new ≡ self.old) }
     {
-        let object = StoredObject {
-            kind: Some(kind),
-            commit,
-            is_corrupt: false,
-        };
-        match self.objects.insert(id, object) {
+        match self.objects.insert(id, StoredObject { kind, commit }) {
             Ok(_) => Ok(()),
             Err(_) => Err(AllocError),
         }
+    }
+
+    // Adds an object unless there is one of that id.
+    fn put_new(&mut self, id: ObjectId, kind: Option<ObjectKind>) -> Result<(), AllocError>
+        ensures ok { OnOk result (self.new ≡ with_new self.old id kind) }
+        ensures err { OnErr result (self.new ≡ self.old) }
+    {
+        if self.has_object(&id) {
+            return Ok(());
+        }
+        self.put(id, kind, None)
     }
 
     /// Adds an object of a kind. Where one of that id is there, it stays as it is.
@@ -81,10 +97,19 @@ impl StoredObjects {
         ensures ok { OnOk result (self.new ≡ with_kind self.old id kind) }
         ensures err { OnErr result (self.new ≡ self.old) }
     {
-        if self.has_object(&id) {
-            return Ok(());
-        }
-        self.put(id, kind, None)
+        self.put_new(id, Some(kind))
+    }
+
+    /// Adds an object whose kind isn't known. Where one of that id is there, it stays as it is.
+    ///
+    /// # Errors
+    ///
+    /// An allocation failure; nothing is added then.
+    pub fn add_id(&mut self, id: ObjectId) -> Result<(), AllocError>
+        ensures ok { OnOk result (self.new ≡ with_id self.old id) }
+        ensures err { OnErr result (self.new ≡ self.old) }
+    {
+        self.put_new(id, None)
     }
 
     /// Adds a commit. What was there of that id goes.
@@ -96,7 +121,7 @@ impl StoredObjects {
         ensures ok { OnOk result (self.new ≡ with_commit self.old id (commit_of commit)) }
         ensures err { OnErr result (self.new ≡ self.old) }
     {
-        self.put(id, ObjectKind::Commit, Some(commit))
+        self.put(id, Some(ObjectKind::Commit), Some(commit))
     }
 
     // Adds the commit of a line. Returns whether it is one.
@@ -195,35 +220,47 @@ impl StoredObjects {
         ensures err { OnErr result (self.new ≡ self.old) }
     {
         match answer_to(alloc, id, line)? {
-            Some(Some(kind)) => {
+            Some(Answered::Kind(kind)) => {
                 self.add(*id, kind)?;
                 Ok(true)
             }
-            Some(None) => Ok(true),
+            Some(Answered::Missing) => Ok(true),
             None => Ok(false),
         }
     }
 }
 
-// The kind that an answer names, or none where the object is missing.
-fn answered_kind(word: &[u8]) -> Option<Option<ObjectKind>>
-    ensures { result ≡ answered_kind word.now }
+// What an answer tells of an object.
+#[derive(Clone, Copy)]
+enum Answered {
+    // It is there, and of this kind.
+    Kind(ObjectKind),
+    Missing,
+}
+
+// What the word behind the id of an answer tells.
+fn answered_kind(word: &[u8]) -> Option<Answered>
+    ensures { option_map kind_answered result ≡ answered_kind word.now }
 {
     if word == b"missing".as_slice() {
-        return Some(None);
+        return Some(Answered::Missing);
     }
+    sized_kind(word)
+}
+
+// What an answer tells whose last word is a size.
+fn sized_kind(word: &[u8]) -> Option<Answered>
+    ensures { option_map kind_answered result ≡ option_map (λ kind. Some kind) (named_kind word.now) }
+{
     match named_kind(word) {
-        Some(kind) => Some(Some(kind)),
+        Some(kind) => Some(Answered::Kind(kind)),
         None => None,
     }
 }
 
 // The id of an answer, and what it tells.
-fn answer_in(
-    alloc: Global,
-    line: &[u8],
-) -> Result<Option<(ObjectId, Option<ObjectKind>)>, AllocError>
-    ensures { IfOk result (λ found. found ≡ answer_of_words (line_words line.now)) }
+fn answer_in(alloc: Global, line: &[u8]) -> Result<Option<(ObjectId, Answered)>, AllocError>
+    ensures { IfOk result (λ found. option_map answer_value found ≡ answer_of_words (line_words line.now)) }
 {
     let Ok(words) = line_words(alloc, line) else {
         return Err(AllocError);
@@ -239,23 +276,9 @@ fn answer_in(
     Ok(Some((id, kind)))
 }
 
-// The kind of an object whose size an answer tells.
-fn sized_kind(word: &[u8]) -> Option<Option<ObjectKind>>
-    ensures { result ≡ option_map (λ kind. Some kind) (named_kind word.now) }
-{
-    match named_kind(word) {
-        Some(kind) => Some(Some(kind)),
-        None => None,
-    }
-}
-
 // What the answer to an id tells; none where the line is no answer to it.
-fn answer_to(
-    alloc: Global,
-    id: &ObjectId,
-    line: &[u8],
-) -> Result<Option<Option<ObjectKind>>, AllocError>
-    ensures { IfOk result (λ found. found ≡ answer_to id.now line.now) }
+fn answer_to(alloc: Global, id: &ObjectId, line: &[u8]) -> Result<Option<Answered>, AllocError>
+    ensures { IfOk result (λ found. option_map kind_answered found ≡ answer_to id.now line.now) }
 {
     match answer_in(alloc, without_line_end(line))? {
         Some((answered, kind)) => {
@@ -302,6 +325,21 @@ fn kind_in(alloc: Global, line: &[u8]) -> Result<Option<(ObjectId, ObjectKind)>,
         return Ok(None);
     };
     Ok(Some((id, kind)))
+}
+
+// A commit once more.
+fn copied(alloc: Global, commit: &Option<CommitData>) -> Result<Option<CommitData>, ObjectError>
+    ensures found { IfOk result (λ copy. option_map commit_of copy ≡ option_map commit_of commit.now) }
+    ensures failed { IfErr result (λ e. e ≡ Memory) }
+{
+    match commit {
+        Some(commit) => {
+            let time = commit.time;
+            let parents = Vec::from_slice(alloc, commit.parents.as_slice())?;
+            Ok(Some(CommitData { time, parents }))
+        }
+        None => Ok(None),
+    }
 }
 
 impl Find for StoredObjects {

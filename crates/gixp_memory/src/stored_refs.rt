@@ -8,10 +8,11 @@ ghost use Rattle.gixp_memory.specs.Repository.{held_ref, ref_line, ref_by, ref_n
 ghost use Rattle.gixp_memory.specs.declared.stored_refs.StoredRef.{StoredRef};
 ghost use Rattle.std.specs.Option.{option_copied};
 
-use crate::texts::{TextError, line_words, named_id, text_lines};
+use crate::texts::{TextError, named_id};
 use bstr::BStr;
 use gixp_graph::{RefStore, RefStoreError};
 use gixp_hash::ObjectId;
+use gixp_text::{line_words, text_lines};
 use std::alloc::{AllocError, Global};
 use std::collections::BTreeMap;
 use std::marker::Model;
@@ -166,7 +167,8 @@ fn named_ids_of(
     alloc: Global,
     names: &BTreeMap<Vec<u8>, StoredRef>,
 ) -> Result<Vec<(BStr<'_>, ObjectId)>, AllocError>
-    ensures { IfOk result (λ refs. map named_id_of refs.items ≡ map (λ (e : Vec ℕ Global × StoredRef). (e.0.items, e.1.id)) names.now.entries) }
+    ensures { IfOk result (λ refs. map named_id_of refs.items
+        ≡ map (λ (e : Vec ℕ Global × StoredRef). (e.0.items, e.1.id)) names.now.entries) }
 {
     names
         .iter()

@@ -1,8 +1,6 @@
-//! Lines, words, ids and numbers of the texts that git writes of a repository.
+//! Ids, kinds and numbers of the texts that git writes of a repository.
 ghost use Rattle.std.specs.Prelude.{◌≡◌, ◌<◌, ◌^◌, IfOk, IfSome, map, option_map};
-ghost use Rattle.std.specs.Io.BufRead.{strip_last};
 ghost use Rattle.bstr.specs.BStr.{bstr_bytes};
-ghost use Rattle.gixp_memory.specs.Text.{text_pieces, text_lines, line_words};
 ghost use Rattle.gixp_memory.specs.Repository.{named_id, named_ids, named_kind, one_digit_more, digits_more, seconds};
 
 use bstr::BStr;
@@ -40,44 +38,6 @@ impl<T: Drop> From<AllocFailed<T>> for TextError {
     fn from(_error: AllocFailed<T>) -> TextError {
         TextError::Memory
     }
-}
-
-// The text without one ending LF.
-pub(crate) fn without_line_end(text: &[u8]) -> &[u8]
-    ensures { result.now ≡ strip_last 10 text.now }
-{
-    match text {
-        [front @ .., b'\n'] => front,
-        _ => text,
-    }
-}
-
-// The pieces between LFs.
-fn text_pieces(alloc: Global, text: &[u8]) -> Result<Vec<BStr<'_>>, AllocError>
-    ensures { IfOk result (λ found. map bstr_bytes found.items ≡ text_pieces text.now) }
-{
-    text.split(|byte| *byte == b'\n')
-        .map(BStr::new)
-        .collect(alloc)
-}
-
-// The lines of a text.
-pub(crate) fn text_lines(alloc: Global, text: &[u8]) -> Result<Vec<BStr<'_>>, AllocError>
-    ensures { IfOk result (λ found. map bstr_bytes found.items ≡ text_lines text.now) }
-{
-    if text.is_empty() {
-        return Ok(Vec::new(alloc));
-    }
-    text_pieces(alloc, without_line_end(text))
-}
-
-// The words of a line.
-pub(crate) fn line_words(alloc: Global, line: &[u8]) -> Result<Vec<BStr<'_>>, AllocError>
-    ensures { IfOk result (λ found. map bstr_bytes found.items ≡ line_words line.now) }
-{
-    line.split(|byte| *byte == b' ')
-        .map(BStr::new)
-        .collect(alloc)
 }
 
 // The id that a word is.

@@ -6,6 +6,7 @@ pub mod AlgorithmLaws
 pub mod Calls
 pub mod Distance
 pub mod Errors
+pub mod HaveList
 pub mod MarkLaws
 pub mod Marks
 pub mod Passing

@@ -3,6 +3,7 @@
 
 mod algorithm;
 mod consecutive;
+mod have_list;
 mod marks;
 mod noop;
 mod queue;
@@ -11,5 +12,6 @@ mod skipping;
 
 pub use algorithm::{Algorithm, AnyNegotiator};
 pub use consecutive::Consecutive;
+pub use have_list::HaveList;
 pub use noop::Noop;
 pub use skipping::Skipping;

@@ -1,7 +1,7 @@
 //! Small histories in memory.
+use gixp_doubles::MemoryObjects;
 use gixp_graph::{CommitData, Graph, Negotiator, NegotiatorError, Objects};
 use gixp_hash::ObjectId;
-use gixp_memory::MemoryObjects;
 use std::alloc::{AllocError, Global};
 
 /// An id for each number.

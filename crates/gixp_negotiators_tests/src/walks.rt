@@ -1,7 +1,7 @@
 //! What the negotiators offer.
 use crate::history::{add, haves, id, line};
+use gixp_doubles::MemoryObjects;
 use gixp_graph::{Graph, Negotiator};
-use gixp_memory::MemoryObjects;
 use gixp_negotiators::{Algorithm, Consecutive, Skipping};
 use std::test::Fail;
 

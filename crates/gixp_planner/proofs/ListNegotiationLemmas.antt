@@ -6,8 +6,8 @@ use Rattle.gixp_graph.specs.Object.{Objects}
 use Rattle.gixp_refmap.specs.declared.fetch.Tags.TheVariants as tags
 use Rattle.gixp_refmap.specs.declared.refmap.map.RefMap.{RefMap}
 use Rattle.gixp_negotiate.specs.declared.negotiate.negotiation.Negotiation.{Negotiation}
-use Rattle.gixp_negotiate.specs.declared.negotiate.plain.HaveList.{HaveList}
-use Rattle.gixp_negotiate.specs.declared.negotiate.plain.NoRefs.{NoRefs}
+use Rattle.gixp_negotiators.specs.declared.have_list.HaveList.{HaveList}
+use Rattle.gixp_graph.specs.declared.empty.NoRefs.{NoRefs}
 use Rattle.gixp_shallow.specs.Shallow.{is_no_change}
 use Rattle.gixp_negotiate.specs.Ignored.{is_ignored}
 use Rattle.gixp_negotiate.specs.Wants.{wishes}

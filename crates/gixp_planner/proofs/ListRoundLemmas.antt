@@ -11,7 +11,7 @@ use Rattle.gixp_response.specs.Answer.{AnswerValue}
 use Rattle.gixp_negotiate.specs.declared.negotiate.Round.{Round}
 use Rattle.gixp_negotiate.specs.Negotiate.{Window, ActionValue, no_change, skip, negotiate}
 use Rattle.gixp_negotiate.specs.Marking.{tips_in, Acts}
-use Rattle.gixp_negotiate.specs.Plain.{stays, offers_first, list_calls}
+use Rattle.gixp_negotiators.specs.HaveList.{stays, offers_first, list_calls}
 use Rattle.gixp_negotiate.specs.Rounds.{offering, Offered, OneRound, commons_of, is_any, with_kept, kept_ids, asks_haves, advanced, is_last}
 
 run-stays : (ids : List ObjectId) (n : List ObjectId) (g : GraphData) (m : List ObjectId) (h : GraphData) → IsRun stays ids n g m h → m ≡ n

@@ -13,7 +13,7 @@ use Rattle.gixp_requests.specs.Arguments.{ArgumentsValue, can_use}
 use Rattle.gixp_graph.specs.Object.{Objects}
 use Rattle.gixp_refmap.specs.declared.refmap.mapping.Mapping.{Mapping}
 use Rattle.gixp_refmap.specs.declared.refmap.map.RefMap.{RefMap}
-use Rattle.gixp_negotiate.specs.declared.negotiate.plain.NoRefs.{NoRefs}
+use Rattle.gixp_graph.specs.declared.empty.NoRefs.{NoRefs}
 use Rattle.gixp_negotiate.specs.declared.negotiate.negotiation.Negotiation.{Negotiation}
 use Rattle.gixp_negotiate.specs.Negotiate.{NegotiationCalls}
 use Rattle.gixp_negotiate.specs.Wants.{Wish, want, want_ref, have, asking, asking_all, wishes, wishes_of, AddsWants, AddsSomeWants, Adding}

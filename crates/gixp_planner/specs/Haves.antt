@@ -1,21 +1,11 @@
 -- The haves that a text names, one id on each line (gitprotocol-common, "ABNF Notation", `obj-id`).
-use Rattle.std.specs.Prelude.{ℕ, ◌≡◌, ◌⊎◌, ◌==◌, List, [], ◌∷◌, map, codes, Option, Some, None, Vec, Result, Ok, Err}
-use Rattle.std.specs.List.{slice_split}
-use Rattle.std.specs.Io.BufRead.{strip_last}
+use Rattle.std.specs.Prelude.{ℕ, ◌≡◌, ◌⊎◌, List, [], ◌∷◌, map, codes, Option, Some, None, Vec, Result, Ok, Err}
 use Rattle.std.specs.declared.alloc.Global.{Global}
 use Rattle.gixp_hash.specs.declared.object_id.ObjectId.{ObjectId}
 use Rattle.gixp_hash.specs.ObjectId.{id_of}
+use Rattle.gixp_text.specs.Lines.{text_lines}
 use Rattle.gixp_planner.specs.declared.error.PlanError.{PlanError}
 use Rattle.gixp_planner.specs.Refusal.{refusal, refusal_of, IsPlanMemory}
-
--- the pieces of a text between its LFs
-abbrev pub pieces : List ℕ → List (List ℕ)
-pieces text = slice_split (λ b. b == 10) text
-
--- the lines of a text, each of which ends in LF; the last one may lack it
-abbrev pub have_lines : List ℕ → List (List ℕ)
-have_lines [] = []
-have_lines (b ∷ text) = pieces (strip_last 10 (b ∷ text))
 
 abbrev pub with_id : Option (List ℕ) → Option (List (List ℕ)) → Option (List (List ℕ))
 with_id (Some id) (Some ids) = Some (id ∷ ids)
@@ -31,6 +21,6 @@ bytes_of ids = map (λ (id : ObjectId). id.bytes) ids
 
 -- these are the ids of the text; or a line of it is none, or an allocation failed
 abbrev pub ReadsHaves : List ℕ → Result (Vec ObjectId Global) PlanError → Type 0
-ReadsHaves text (Ok ids) = ids_of (have_lines text) ≡ Some (bytes_of ids.items)
-ReadsHaves text (Err e) = ((refusal_of e ≡ refusal (codes "have") (codes "Decode")) × (ids_of (have_lines text) ≡ None))
+ReadsHaves text (Ok ids) = ids_of (text_lines text) ≡ Some (bytes_of ids.items)
+ReadsHaves text (Err e) = ((refusal_of e ≡ refusal (codes "have") (codes "Decode")) × (ids_of (text_lines text) ≡ None))
     ⊎ IsPlanMemory (codes "have") e

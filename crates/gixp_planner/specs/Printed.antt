@@ -1,7 +1,7 @@
 -- A ref map that gives way to what is printed of it, and a negotiation over such a map.
 use Rattle.std.specs.Prelude.{◌≡◌, ℕ, List, [], ◌++◌, flat_map, reverse, Option, Some, None, vec_items}
 use Rattle.std.specs.declared.alloc.AllocError.{AllocError}
-use Rattle.gixp_negotiate.specs.declared.negotiate.plain.NoRefs.{NoRefs}
+use Rattle.gixp_graph.specs.declared.empty.NoRefs.{NoRefs}
 use Rattle.gixp_negotiate.specs.declared.negotiate.negotiation.Negotiation.{Negotiation}
 use Rattle.gixp_shallow.specs.declared.shallow.Shallow.TheVariants.{NoChange}
 use Rattle.gixp_negotiate.specs.Negotiate.{NegotiationCalls}

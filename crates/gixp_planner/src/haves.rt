@@ -1,44 +1,13 @@
 //! The haves that a plan offers.
-ghost use Rattle.std.specs.Prelude.{◌≡◌, IfOk, map};
-ghost use Rattle.std.specs.Io.BufRead.{strip_last};
+ghost use Rattle.std.specs.Prelude.{◌≡◌};
 ghost use Rattle.std.specs.Option.{option_map};
-ghost use Rattle.bstr.specs.BStr.{bstr_bytes};
 ghost use Rattle.gixp_hash.specs.ObjectId.{id_of};
-ghost use Rattle.gixp_planner.specs.Haves.{pieces, have_lines, ReadsHaves};
+ghost use Rattle.gixp_planner.specs.Haves.{ReadsHaves};
 
 use crate::error::PlanError;
-use bstr::BStr;
 use gix_protocol::transport::ObjectId;
-use std::alloc::{AllocError, Global};
-
-// The text without one ending LF.
-pub(crate) fn without_line_end(text: &[u8]) -> &[u8]
-    ensures { result.now ≡ strip_last 10 text.now }
-{
-    match text {
-        [front @ .., b'\n'] => front,
-        _ => text,
-    }
-}
-
-// The pieces between LFs.
-fn pieces(alloc: Global, text: &[u8]) -> Result<Vec<BStr<'_>>, AllocError>
-    ensures { IfOk result (λ found. map bstr_bytes found.items ≡ pieces text.now) }
-{
-    text.split(|byte| *byte == b'\n')
-        .map(BStr::new)
-        .collect(alloc)
-}
-
-// The lines of a text.
-fn have_lines(alloc: Global, text: &[u8]) -> Result<Vec<BStr<'_>>, AllocError>
-    ensures { IfOk result (λ found. map bstr_bytes found.items ≡ have_lines text.now) }
-{
-    if text.is_empty() {
-        return Ok(Vec::new(alloc));
-    }
-    pieces(alloc, without_line_end(text))
-}
+use gixp_text::text_lines;
+use std::alloc::Global;
 
 // The id that a line is, if it is one.
 fn id_in(line: &[u8]) -> Option<ObjectId>
@@ -60,7 +29,7 @@ fn id_in(line: &[u8]) -> Option<ObjectId>
 pub fn parse_haves(alloc: Global, text: &[u8]) -> Result<Vec<ObjectId>, PlanError>
     ensures { ReadsHaves text.now result }
 {
-    let Ok(lines) = have_lines(alloc, text) else {
+    let Ok(lines) = text_lines(alloc, text) else {
         return Err(PlanError::memory("have"));
     };
     let mut ids = Vec::new(alloc);

@@ -13,13 +13,13 @@ ghost use Rattle.gixp_planner.specs.Text.{frame_content, frame_shown, request_sh
 ghost use Rattle.gixp_planner.specs.Printed.{text_behind, printed_text, mapped_text};
 
 use crate::error::{PlanError, amount_of, answered};
-use crate::haves::without_line_end;
 use crate::printed::PrintedMap;
 use bstr::BString;
 use gix_protocol::fetch::refmap::{Mapping, Source};
 use gix_protocol::refspec::match_group::validate::Fix;
 use gixp_listing::append;
 use gixp_packetline::{MessageKind, PacketLine, split_packet_line};
+use gixp_text::without_line_end;
 use std::alloc::{AllocError, Global};
 use std::io;
 use std::io::Write;

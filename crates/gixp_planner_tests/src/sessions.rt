@@ -1,9 +1,9 @@
 //! Recorded sessions in folders, and what is planned over them.
 use bstr::BString;
 use gixp_doubles::Paper;
-use gixp_graph::Graph;
+use gixp_graph::{Graph, NoObjects};
 use gixp_hash::ObjectId;
-use gixp_negotiate::negotiate::plain::{HaveList, NoObjects};
+use gixp_negotiators::HaveList;
 use gixp_planner::{PlanError, parse_haves, plan, read_bodies, read_haves};
 use gixp_wire::Body;
 use std::alloc::{AllocError, Global};

@@ -3,8 +3,8 @@
 //! `call=read` reads the bytes, `call=write` makes the text of the ids that stand in the lines of the bytes.
 use crate::report::Report;
 use crate::rows::{Row, Setting};
-use gixp_shallow::{ShallowError, shallow_ids, shallow_text};
 use gixp_hash::ObjectId;
+use gixp_shallow::{ShallowError, shallow_ids, shallow_text};
 use std::alloc::{AllocError, Global};
 
 pub(crate) const SETTINGS: &[Setting] = &[("call", &["read", "write"], 0)];

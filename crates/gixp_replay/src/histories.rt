@@ -22,9 +22,9 @@
 //!     answer-many FROM COUNT     an answer of so many common ids, from this one on
 use crate::rows::{cut_at_byte, meaning_of, number};
 use bstr::{BStr, BString};
+use gixp_doubles::{MemoryObjects, MemoryRefs};
 use gixp_graph::{CommitData, ObjectError, ObjectKind, RefStoreError};
 use gixp_hash::ObjectId;
-use gixp_memory::{MemoryObjects, MemoryRefs, StoredObject};
 use gixp_packetline::{LineReader, Protocol};
 use gixp_refmap::refmap::{Mapping, RefMap, Source, SpecIndex};
 use gixp_refs::handshake::Ref;
@@ -188,20 +188,11 @@ fn commit(alloc: Global, words: &[u8]) -> Result<CommitData, AllocError> {
     })
 }
 
-fn plain(word: &[u8]) -> StoredObject {
-    StoredObject {
-        kind: meaning_of(&KINDS, word),
-        commit: None,
-        is_corrupt: false,
-    }
-}
-
-fn corrupt() -> StoredObject {
-    StoredObject {
-        kind: Some(ObjectKind::Commit),
-        commit: None,
-        is_corrupt: true,
-    }
+// A commit that can't be read.
+fn add_broken(objects: &mut MemoryObjects, id: ObjectId) -> Result<(), AllocError> {
+    objects.add(id, Some(ObjectKind::Commit))?;
+    objects.corrupt.insert(id)?;
+    Ok(())
 }
 
 // An object. False where the line has none.
@@ -220,15 +211,15 @@ fn add_object(
         }
         Line::Packed => history.objects.add_commit(id, commit(alloc, rest)?)?,
         Line::Object => {
-            history.existing.add(id, plain(rest))?;
-            history.objects.add(id, plain(rest))?;
+            history.existing.add(id, meaning_of(&KINDS, rest))?;
+            history.objects.add(id, meaning_of(&KINDS, rest))?;
         }
         Line::Broken => {
-            history.existing.add(id, corrupt())?;
-            history.objects.add(id, corrupt())?;
+            add_broken(&mut history.existing, id)?;
+            add_broken(&mut history.objects, id)?;
         }
         Line::Apart => {
-            history.existing.add(id, plain(rest))?;
+            history.existing.add(id, meaning_of(&KINDS, rest))?;
             return Ok(true);
         }
         _ => return Ok(false),

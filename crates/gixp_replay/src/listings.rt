@@ -4,8 +4,8 @@
 //! else the list is prepared first: `prepare` with the prefixes of the refspecs, `prepare-all` without, `prepare-twice`
 //! twice with them. `without=unborn` and `without=ref-prefix` are tables of commands that don't know these,
 //! `without=agent` is a client that names itself by a feature that the server doesn't have. `letters` is how many letters
-//! come after the client's name. The bytes are a line of refspecs, a line of those that go with the fetch alone, a line of bodies as `bodies_of` reads
-//! them, and the bytes of the server.
+//! come after the client's name. The bytes are a line of refspecs, a line of those that go with the fetch alone, a line of
+//! bodies as `bodies_of` reads them, and the bytes of the server.
 use crate::lines::report_rest;
 use crate::map_values::{init_error, report_map};
 use crate::maps::context_of;

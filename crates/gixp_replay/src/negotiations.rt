@@ -12,19 +12,18 @@ use crate::histories::History;
 use crate::report::Report;
 use crate::rows::{NO_YES, Row, Setting};
 use crate::values::client_error;
-use gixp_doubles::{Device, Recorder};
-use gixp_graph::{Flags, Graph, Objects};
+use gixp_doubles::{Device, LentObjects, MemoryObjects, MemoryRefs, Recorder};
+use gixp_graph::{Find, Flags, Graph, Objects};
 use gixp_hash::ObjectId;
-use gixp_memory::{Lent, MemoryObjects, MemoryRefs};
 use gixp_negotiate::negotiate::negotiation::{NegotiateContext, Negotiation};
 use gixp_negotiate::negotiate::one_round::State;
 use gixp_negotiate::negotiate::{Action, Error, Negotiate, Round};
-use gixp_shallow::Shallow;
 use gixp_packetline::{PacketLine, Protocol, split_packet_line};
 use gixp_refmap::fetch::Tags;
 use gixp_requests::command::CommandTable;
 use gixp_requests::fetch::Arguments;
 use gixp_response::fetch::Response;
+use gixp_shallow::Shallow;
 use gixp_wire::Transport;
 use std::alloc::{AllocError, Global};
 use std::mem;
@@ -339,15 +338,18 @@ fn report_marks<G: Objects>(graph: &Graph<G>, ids: &[ObjectId], report: &mut Rep
 }
 
 // The ids that were looked up, in order, those of commits that were read twice with a mark.
-fn report_looks(objects: &mut MemoryObjects, report: &mut Report) -> Result<(), AllocError> {
+fn report_looks(
+    alloc: Global,
+    objects: &mut MemoryObjects,
+    report: &mut Report,
+) -> Result<(), AllocError> {
     report.word("looked ");
     objects.looked_up.sort()?;
     let mut last = None;
     for id in &objects.looked_up {
         if last == Some(*id) {
-            match objects.objects.get(id) {
-                Some(object) if object.commit.is_some() => report.word("twice "),
-                _ => {}
+            if let Ok(Some(_)) = objects.objects.find_commit(alloc, id) {
+                report.word("twice ");
             }
             continue;
         }
@@ -398,7 +400,7 @@ fn run_history(
     recorder: &mut Recorder,
     report: &mut Report,
 ) -> Result<(), AllocError> {
-    let mut graph = Graph::new(alloc, Lent { objects });
+    let mut graph = Graph::new(alloc, LentObjects { objects });
     run_graph(alloc, row, history, &mut graph, recorder, report)?;
     report_marks(&graph, &history.ids, report);
     Ok(())
@@ -427,7 +429,7 @@ pub(crate) fn report_negotiation(
         &mut recorder,
         report,
     )?;
-    report_looks(&mut objects, report)?;
+    report_looks(alloc, &mut objects, report)?;
     report.word("known ");
     report_ids(&recorder.known, report);
     report.word("tips ");

@@ -2,8 +2,8 @@
 //!
 //! `version`, `limit` (how many bytes are read at most), `reads` (a number from which sizes and kinds of reads follow, 0
 //! for large reads alone), `interrupt-at` (which question for an interrupt is answered with true) and `memory-at` (which
-//! text can't be allocated), both from 0 on. The report has how the reading ended, the bytes, the texts, and how many reads were interrupted and
-//! could not be allocated; where no read fails, what stands in the line reader follows.
+//! text can't be allocated), both from 0 on. The report has how the reading ended, the bytes, the texts, and how many reads
+//! were interrupted and could not be allocated; where no read fails, what stands in the line reader follows.
 use crate::lines::{is_failure, report_failures, report_rest};
 use crate::report::Report;
 use crate::rows::{Row, Setting};

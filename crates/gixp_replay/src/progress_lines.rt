@@ -5,8 +5,7 @@
 use crate::report::Report;
 use crate::rows::{NO_YES, Row, Setting, cut_at_byte};
 use crate::telling::Telling;
-use gixp_progress::RemoteProgress;
-use gixp_progress::Progress;
+use gixp_progress::{Progress, RemoteProgress};
 use std::alloc::{AllocError, Global};
 
 pub(crate) const SETTINGS: &[Setting] = &[("error", NO_YES, 0)];

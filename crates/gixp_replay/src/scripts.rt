@@ -10,11 +10,11 @@
 use crate::rows::{cut_at_byte, meaning_of, number};
 use bstr::{BStr, BString};
 use gixp_hash::ObjectId;
-use gixp_shallow::Shallow;
 use gixp_refmap::fetch::Tags;
 use gixp_refspec::parse::{Operation, parse};
 use gixp_refspec::{PartialName, RefSpec};
 use gixp_requests::command::CommandTable;
+use gixp_shallow::Shallow;
 use std::alloc::{AllocError, Global};
 use std::num::NonZeroU32;
 

@@ -6,8 +6,8 @@ use gixp_refs::handshake::Ref;
 use gixp_refs::handshake::refs::parse;
 use gixp_requests::command::validate_argument_prefixes;
 use gixp_response::fetch::response::Acknowledgement;
-use gixp_shallow::ShallowUpdate;
 use gixp_response::fetch::{Response, response};
+use gixp_shallow::ShallowUpdate;
 use std::alloc::{AllocError, Global};
 
 /// The version of this number, 2 for all above.

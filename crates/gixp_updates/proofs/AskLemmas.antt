@@ -1,11 +1,10 @@
 -- Which ids the objects were asked for.
-use Rattle.std.proofs.Common.{◌≡◌, ◌∙◌, ◌⊎◌, inl, inr, ⊎_elim, Bool, true, false, true≢false, List, [], ◌∷◌, ◌++◌, append-nil, append_assoc, None, refl, sym, ap, subst}
-use Rattle.std.specs.List.{IsDistinct}
+use Rattle.std.proofs.Common.{◌≡◌, ◌∙◌, ◌⊎◌, inl, inr, ⊎_elim, Bool, true, false, true≢false, List, [], ◌∷◌, ◌++◌, append_assoc, None, refl, sym, ap, subst}
 use Rattle.std.specs.Ordering.{eq_by_cmp}
 use Rattle.std.proofs.lemmas.Cmp.{eq_by_cmp_equiv}
 use Rattle.std.proofs.lemmas.Map.Keys.{IsDistinct-push}
 use Rattle.std.proofs.lemmas.List.Folds.{list_any_none}
-use Rattle.std.proofs.lemmas.List.Elements.{All-nil, All-push, All-weaker}
+use Rattle.std.proofs.lemmas.List.Elements.{All-push, All-weaker}
 use Rattle.std.specs.FinMap as finite
 use Rattle.gixp_hash.specs.declared.object_id.ObjectId.{ObjectId}
 use Rattle.gixp_hash.specs.ObjectId.{id_cmp}
@@ -15,11 +14,6 @@ use Rattle.gixp_graph.specs.GraphLaws.{same_from}
 use Rattle.gixp_hash.specs.IdLaws.{ids_total}
 use Rattle.gixp_updates.specs.Search.{Search, LooksUp, KeepsAsked}
 use Rattle.gixp_updates.proofs.LookLemmas.{looks_on}
-
--- none
-pub asks_none : (P : ObjectId → Type 0) (old : List ObjectId) → AsksEach P old old
-unfolding IsDistinct
-asks_none P old = record { ids = []; appended = sym (append-nil old); distinct = tt; each = All-nil P }
 
 -- of another property
 pub asks_weaker : (P Q : ObjectId → Type 0) → ((q : ObjectId) → P q → Q q) → (old new : List ObjectId) → AsksEach P old new

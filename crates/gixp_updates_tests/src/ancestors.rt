@@ -1,7 +1,8 @@
 //! Walks to the ancestors of a commit.
 use crate::repository::{add, id, objects};
+use gixp_doubles::MemoryObjects;
 use gixp_graph::{Graph, Shared};
-use gixp_memory::{MemoryObjects, StoredObjects};
+use gixp_memory::StoredObjects;
 use gixp_updates::refs::ancestor::is_ancestor;
 use gixp_updates::refs::update::Error;
 use std::test::Fail;

@@ -5,10 +5,8 @@ use crate::fetches::repository::sound;
 use crate::fetches::runs::{V2, run};
 use crate::transports::memory;
 use gixp_fetch::consume::ReadToEnd;
-use gixp_shallow::ShallowMemory;
-use gixp_shallow::Shallow;
-use gixp_progress::Discard;
-use gixp_progress::{NestedProgress, Progress};
+use gixp_progress::{Discard, NestedProgress, Progress};
+use gixp_shallow::{Shallow, ShallowMemory};
 use std::alloc::{AllocError, Global};
 use std::test::Fail;
 

@@ -6,8 +6,8 @@ ghost use Rattle.gixp_fetch.specs.Receive.{ReadsOn};
 use gixp_fetch::WithSidebands;
 use gixp_fetch::consume::{ConsumePack, CopyError};
 use gixp_packetline::{ExtendedBufRead, read};
-use gixp_sidebands::Interrupt;
 use gixp_progress::Progress;
+use gixp_sidebands::Interrupt;
 use std::io::{ErrorKind, Read};
 
 /// What a consumer says after its byte.

@@ -1,7 +1,6 @@
 //! A repository with a ref and without objects, of which one call may fail.
 use crate::negotiations::repository::id;
-use gixp_doubles::Recorder;
-use gixp_memory::{MemoryObjects, MemoryRefs};
+use gixp_doubles::{MemoryObjects, MemoryRefs, Recorder};
 use gixp_shallow::Shallow;
 use std::alloc::{AllocError, Global};
 

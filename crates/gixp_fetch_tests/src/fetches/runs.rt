@@ -2,27 +2,24 @@
 use crate::fetches::repository::Repository;
 use crate::shown::shown;
 use bstr::BStr;
-use gixp_doubles::Recorder;
+use gixp_doubles::{MemoryObjects, MemoryRefs, Recorder};
 use gixp_fetch::consume::{ConsumePack, CopyError};
 use gixp_fetch::error::Error;
 use gixp_fetch::fetch::fetch;
 use gixp_fetch::options::{Context, Options, Outcome};
-use gixp_shallow::ShallowStore;
-use gixp_graph::Graph;
+use gixp_graph::{Graph, NoObjects};
 use gixp_handshake::{Handshake, handshake};
-use gixp_memory::{MemoryObjects, MemoryRefs};
 use gixp_negotiate::negotiate::negotiation::{NegotiateContext, Negotiation};
-use gixp_negotiate::negotiate::plain::NoObjects;
-use gixp_shallow::Shallow;
+use gixp_progress::NestedProgress;
 use gixp_refmap::RefMap;
 use gixp_refmap::fetch::Tags;
 use gixp_refmap::refmap::init;
 use gixp_refspec::RefSpec;
 use gixp_refspec::parse::{Operation, parse};
 use gixp_requests::command::{CommandTable, Feature};
+use gixp_shallow::{Shallow, ShallowStore};
 use gixp_sidebands::NeverInterrupt;
 use gixp_wire::{Service, Transport};
-use gixp_progress::NestedProgress;
 use std::alloc::{AllocError, Global};
 
 /// What a server of version 2 says: its capabilities, its refs, an answer without a pack, and one with it.

@@ -1,18 +1,17 @@
 //! An answer that names commits as common that nobody sent.
 use crate::negotiations::repository::{had_memory, id, ref_map};
 use gixp_doubles::Recorder;
-use gixp_graph::Graph;
+use gixp_graph::{Graph, NoObjects, NoRefs};
 use gixp_hash::ObjectId;
 use gixp_negotiate::negotiate::Negotiate;
 use gixp_negotiate::negotiate::negotiation::{NegotiateContext, Negotiation};
 use gixp_negotiate::negotiate::one_round::State;
-use gixp_negotiate::negotiate::plain::{NoObjects, NoRefs};
-use gixp_shallow::Shallow;
 use gixp_packetline::{LineReader, Protocol};
 use gixp_refmap::fetch::Tags;
 use gixp_requests::command::CommandTable;
 use gixp_requests::fetch::Arguments;
 use gixp_response::fetch::Response;
+use gixp_shallow::Shallow;
 use std::alloc::{AllocError, Global};
 use std::test::Fail;
 

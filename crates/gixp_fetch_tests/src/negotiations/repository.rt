@@ -1,8 +1,8 @@
 //! A small repository in memory.
 use bstr::BString;
+use gixp_doubles::MemoryObjects;
 use gixp_graph::CommitData;
 use gixp_hash::ObjectId;
-use gixp_memory::MemoryObjects;
 use gixp_negotiate::negotiate::Error;
 use gixp_refmap::refmap::{Mapping, RefMap, Source, SpecIndex};
 use gixp_refs::handshake::Ref;

@@ -1,19 +1,20 @@
 //! What a call finds after one that was refused.
 use crate::negotiations::repository::{chain, had_memory, id, ref_map};
-use gixp_doubles::Recorder;
-use gixp_graph::{Flags, Graph, NegotiatorError, ObjectError, Objects, RefStoreError};
-use gixp_memory::{MemoryObjects, MemoryRefs};
+use gixp_doubles::{MemoryObjects, MemoryRefs, Recorder};
+use gixp_graph::{
+    Flags, Graph, NegotiatorError, NoObjects, NoRefs, ObjectError, Objects, RefStoreError,
+};
 use gixp_negotiate::negotiate::negotiation::{NegotiateContext, Negotiation};
 use gixp_negotiate::negotiate::one_round::State;
-use gixp_negotiate::negotiate::plain::{HaveList, NoObjects, NoRefs};
 use gixp_negotiate::negotiate::{Action, Error, Negotiate};
-use gixp_shallow::Shallow;
+use gixp_negotiators::HaveList;
 use gixp_packetline::{LineReader, Protocol};
 use gixp_refmap::RefMap;
 use gixp_refmap::fetch::Tags;
 use gixp_requests::command::CommandTable;
 use gixp_requests::fetch::Arguments;
 use gixp_response::fetch::Response;
+use gixp_shallow::Shallow;
 use std::alloc::{AllocError, Global};
 use std::io::ErrorKind;
 use std::test::Fail;

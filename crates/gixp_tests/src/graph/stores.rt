@@ -1,32 +1,11 @@
-//! A store without refs, and a caller that knows only a store's contract.
-ghost use Rattle.std.specs.Prelude.{◌≡◌, IfOk, []};
-ghost use Rattle.std.specs.FinMap as map;
+//! A caller that knows only a store's contract, over a store without refs.
+ghost use Rattle.std.specs.Prelude.{◌≡◌, IfOk};
 
 use bstr::BStr;
-use gixp_graph::{RefStore, RefStoreError};
+use gixp_graph::{NoRefs, RefStore, RefStoreError};
 use gixp_hash::ObjectId;
 use std::alloc::Global;
 use std::test::Fail;
-
-/// No refs.
-#[derive(Drop)]
-struct NoRefs {}
-
-impl RefStore for NoRefs {
-    ghost refs = { λ _. map.empty };
-
-    ghost targets = { λ _. [] };
-
-    ghost failures = { λ _. 0 };
-
-    fn find(&self, _name: BStr<'_>) -> Option<ObjectId> {
-        None
-    }
-
-    fn peeled(&mut self, alloc: Global) -> Result<Vec<ObjectId>, RefStoreError> {
-        Ok(Vec::new(alloc))
-    }
-}
 
 /// What the refs peel to, listed twice: the same ids.
 fn list_twice<R: RefStore>(
@@ -43,7 +22,7 @@ fn list_twice<R: RefStore>(
 #[test]
 fn no_refs(rt: HostRuntime) -> Result<(), Fail> {
     let alloc = rt.alloc();
-    let mut refs = NoRefs {};
+    let mut refs = NoRefs;
     assert!(rt; refs.find(BStr::new(b"refs/heads/main")).is_none());
     let (first, second) = list_twice(alloc, &mut refs)?;
     assert!(rt; first.is_empty() && second.is_empty());

@@ -114,7 +114,8 @@ fn by_ancestry<P: Objects>(
 ) -> Result<Mode, Error>
     ensures mode { IfOk result (λ mode. ByAncestry graph.old.graph.objects is_forced old.now new.now mode) }
     ensures consults { Consults most_commits result graph.old graph.new }
-    ensures limited { KeepsLimit (commit_at graph.old.graph.objects) (λ q. q ≡ new.now) most_commits 0 result graph.old.asked graph.new.asked }
+    ensures limited { KeepsLimit (commit_at graph.old.graph.objects) (λ q. q ≡ new.now) most_commits 0 result
+        graph.old.asked graph.new.asked }
 {
     if is_ancestor(alloc, graph, old, new, most_commits)? {
         return Ok(Mode::FastForward);

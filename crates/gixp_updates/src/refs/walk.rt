@@ -93,7 +93,8 @@ impl Walk {
         graph: &mut Graph<O>,
         id: &ObjectId,
     ) -> Result<(), ObjectError>
-        ensures by_time { OnOk result (WaitByTime graph.old.graph.objects self.old.heap → WaitByTime graph.old.graph.objects self.new.heap) }
+        ensures by_time { OnOk result (WaitByTime graph.old.graph.objects self.old.heap
+            → WaitByTime graph.old.graph.objects self.new.heap) }
         ensures explores { OnOk result (Explores graph.old.graph.objects (id.now ∷ []) (search_of self.old) (search_of self.new)) }
         ensures more { SeesMore (id.now ∷ []) (search_of self.old) (search_of self.new) }
         ensures holds { OnOk result (HoldsWaiting graph.old.graph (search_of self.old)

@@ -10,7 +10,7 @@ use Rattle.gixp_graph.specs.Object.{Objects, Commit, commit_at}
 use Rattle.gixp_updates.specs.Ancestors.{IsAncestor, IsReachedFrom}
 use Rattle.gixp_updates.specs.Search.{Search, search_of}
 use Rattle.gixp_updates.proofs.LookLemmas.{looks_none, looks_on}
-use Rattle.gixp_updates.proofs.AskLemmas.{asks_none}
+use Rattle.gixp_graph.proofs.AskedLemmas.{asks_none}
 use Rattle.gixp_updates.proofs.LimitLemmas.{within_begun, within_step, asked_within}
 use Rattle.gixp_updates.proofs.SearchLemmas.{ancestor_there, the_commit, begun_reached, search_begun, taken_ancestor, step_reached, search_step, not_found, asked_reached, asked_seen, beyond, taken_waits, others_wait, explored}
 use Rattle.gixp_updates.proofs.refs.ancestor.is_ancestor.Goals as goal
