@@ -13,4 +13,4 @@ pub use gixp_handshake::{
 };
 pub use gixp_progress::RemoteProgress;
 pub use gixp_refmap::{LsRefsCommand, ls_refs};
-pub use gixp_requests::{Command, agent, command};
+pub use gixp_requests::{Command, agent, agent_feature, command};

@@ -21,7 +21,7 @@ use gix_protocol::fetch::{
 };
 use gix_protocol::handshake::{self, obtain_mappings};
 use gix_protocol::transport::{Discard, Interrupt, NeverInterrupt, Service, Transport};
-use gix_protocol::{Handshake, agent};
+use gix_protocol::{Handshake, agent_feature};
 use std::alloc::{AllocError, Global};
 
 /// How far a session came.
@@ -34,10 +34,10 @@ pub(crate) struct Course {
 }
 
 // How the planner names itself.
-fn agent_feature(alloc: Global) -> Result<Feature, AllocError>
+fn planner_feature(alloc: Global) -> Result<Feature, AllocError>
     ensures { IfOk result (λ f. feature_value f ≡ planner_agent) }
 {
-    Ok(("agent", Some(agent(alloc, "git/gixp-plan")?)))
+    agent_feature(alloc, "git/gixp-plan")
 }
 
 // A handshake without an account.
@@ -68,7 +68,7 @@ fn map_refs<T: Transport>(
     ensures map { MapsRefs context handshake.old T.is_plain (T.reading transport.old) (T.reading transport.new) result }
     ensures handshake { IfOk result (λ _. handshake.new ≡ without_refs handshake.old) }
 {
-    let agent = agent_feature(alloc)?;
+    let agent = planner_feature(alloc)?;
     let mut quiet = Discard;
     let table = CommandTable::git();
     obtain_mappings(
@@ -141,7 +141,7 @@ fn fetch_mapped<'a, O: Objects, G: Objects, N: Negotiator, T: Transport>(
         (λ s. (s.ids.items ≡ []) × (s.locked ≡ false)) handshake.old (T.reading transport.old) (T.reading transport.new) result.1 }
 {
     let printed = PrintedMap::new(alloc, map);
-    let Ok(agent) = agent_feature(alloc) else {
+    let Ok(agent) = planner_feature(alloc) else {
         return (printed, Err(fetch::Error::Memory));
     };
     let mut refs = NoRefs;

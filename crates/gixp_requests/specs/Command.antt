@@ -106,3 +106,7 @@ initial_arguments table Fetch features = lines_with features table.fetch_argumen
 -- `git/` comes before a name that doesn't begin with it
 abbrev pub agent_of : List ℕ → List ℕ
 agent_of name = if starts_with nat_eq name (codes "git/") then name else codes "git/" ++ name
+
+-- the feature by which a client of this name introduces itself
+abbrev pub agent_feature : List ℕ → FeatureValue
+agent_feature name = record { name = codes "agent"; value = Some (agent_of name) }

@@ -7,4 +7,4 @@ mod same;
 mod util;
 
 pub use command::Command;
-pub use util::agent;
+pub use util::{agent, agent_feature};

@@ -1,8 +1,10 @@
 //! How a client names itself.
 ghost use Rattle.std.specs.Prelude.{◌≡◌, IfOk};
 ghost use Rattle.std.specs.String.{string_bytes};
-ghost use Rattle.gixp_requests.specs.Command.{agent_of};
+ghost use Rattle.gixp_requests.specs.Command.{agent_feature, agent_of};
+ghost use Rattle.gixp_requests.specs.Feature.{feature_value};
 
+use gixp_wire::Feature;
 use std::alloc::{AllocError, Global};
 
 /// The name of a client as servers know it: `git/` comes before a name that doesn't begin with it
@@ -18,4 +20,15 @@ pub fn agent(alloc: Global, name: &str) -> Result<String, AllocError>
         return String::from_str(alloc, name);
     }
     format!(in alloc; "git/{name}")
+}
+
+/// The feature by which a client of this name introduces itself (gitprotocol-v2, "Capabilities", `agent`).
+///
+/// # Errors
+///
+/// Only when an allocation fails.
+pub fn agent_feature(alloc: Global, name: &str) -> Result<Feature, AllocError>
+    ensures { IfOk result (λ feature. feature_value feature ≡ agent_feature name.now) }
+{
+    Ok(("agent", Some(agent(alloc, name)?)))
 }

@@ -5,3 +5,4 @@ mod TellLemmas
 mod AskLemmas
 mod BandItemLemmas
 pub mod EndLemmas
+pub mod PassLemmas
