@@ -1,5 +1,11 @@
 -- A session of a planner: a handshake without an account, the ref map of the server's refs, and a fetch of what is mapped.
-use Rattle.std.specs.Prelude.{ℕ, ◌≡◌, ◌==◌, ◌⊎◌, ⊤, Bool, true, false, if◌then◌else◌, List, [], ◌∷◌, codes, Option, Some, None, Result, Ok, Err}
+use Rattle.std.specs.Prelude.{ℕ, ◌≡◌, ◌==◌, ◌⊎◌, ⊤, Bool, true, false, if◌then◌else◌, List, [], ◌∷◌, codes, Option, Some, None, Result, Ok, Err, IfOk, IsOk}
+use Rattle.std.specs.declared.alloc.AllocError.{AllocError}
+use Rattle.gixp_graph.specs.GraphData.{GraphValue}
+use Rattle.gixp_graph.specs.declared.empty.NoRefs.{NoRefs}
+use Rattle.gixp_shallow.specs.declared.shallow.Shallow.TheVariants.{NoChange}
+use Rattle.gixp_shallow.specs.declared.store.memory.ShallowMemory.{ShallowMemory}
+use Rattle.gixp_negotiate.specs.declared.negotiate.negotiation.Negotiation.{Negotiation}
 use Rattle.gixp_wire.specs.declared.service.Service.TheVariants.{UploadPack}
 use Rattle.gixp_packetline.specs.Reading.{Reading}
 use Rattle.gixp_requests.specs.Feature.{FeatureValue}
@@ -61,6 +67,17 @@ planner_call h = record {
 pub record Carries {N I A S C P X : Type 0} (parties : Parties N I A S C P X) (h : Handshake) (first : World N I S C)
     (r : Result (Option Outcome) (FetchError A X)) (last : World N I S C) (progress : P) : Type 0 where
   pub fetched : Fetches parties (planner_call h) first r last progress
+
+-- a negotiation over these objects, this graph, this negotiator and this ref map, with no alternates, that asks for no tags and no
+-- change of the boundary
+abbrev pub NegotiatesOver : {O N G : Type 0} → O → GraphValue → N → RefMap → Negotiation O NoRefs N G AllocError → Type 0
+NegotiatesOver objects graph negotiator map n = (n.context.objects.now ≡ objects) × (n.context.graph.now ≡ graph)
+    × (n.context.negotiator.now ≡ negotiator) × (n.ref_map.now ≡ map) × (n.shallow.now ≡ NoChange) × (n.tags ≡ tags.None)
+    × IfOk n.context.alternates (λ a. a.now ≡ []) × IsOk n.context.alternates
+
+-- a boundary without a commit, whose lock nobody has
+abbrev pub IsEmptyBoundary : ShallowMemory → Type 0
+IsEmptyBoundary s = (s.ids.items ≡ []) × (s.locked ≡ false)
 
 -- one that asks some interrupt and lends its pack to some consumer, with no lock before or after it
 pub record CarriesOn {N I A S C P X : Type 0} (parties : Parties N I A S C P X) (h : Handshake) (negotiate : N) (old : Reading)

@@ -9,6 +9,7 @@ ghost use Rattle.gixp_planner.specs.Mapped.{MappingsFollow};
 ghost use Rattle.gixp_planner.specs.Sought.{RefMapsFollow};
 ghost use Rattle.gixp_planner.specs.Follows.{Follow};
 ghost use Rattle.gixp_planner.specs.Alike.{CoursesFollow};
+ghost use Rattle.gixp_planner.specs.Session.{NegotiatesOver, IsEmptyBoundary};
 
 use gix_protocol::fetch::negotiate::{HaveList, Negotiate, Negotiation, NoRefs, Objects};
 use gix_protocol::fetch::{ConsumePack, ReadToEnd, Shallow, ShallowMemory, ShallowStore, Tags};
@@ -49,13 +50,9 @@ pub fn texts_follow_bodies<'a, O: Objects + 'a, G: Objects + 'a>()
         → Follow
         (parties_of ⟦<Negotiation<'a, O, NoRefs, HaveList, G, AllocError> as Negotiate>⟧.calls ⟦<ShallowMemory as ShallowStore>⟧.calls
         ⟦<NeverInterrupt as Interrupt>⟧.says ⟦<ReadToEnd as ConsumePack<Discard>>⟧.consumes true)
-        (λ m n. (n.context.objects.now ≡ objects) × (n.context.graph.now ≡ graph) × (n.context.negotiator.now ≡ haves)
-        × (n.ref_map.now ≡ m) × (n.shallow.now ≡ Shallow.NoChange) × (n.tags ≡ Tags.None)
-        × IfOk n.context.alternates (λ a. a.now ≡ []) × IsOk n.context.alternates)
-        (λ m n. (n.context.objects.now ≡ others) × (n.context.graph.now ≡ another) × (n.context.negotiator.now ≡ haves)
-        × (n.ref_map.now ≡ m) × (n.shallow.now ≡ Shallow.NoChange) × (n.tags ≡ Tags.None)
-        × IfOk n.context.alternates (λ a. a.now ≡ []) × IsOk n.context.alternates)
-        (λ s. (s.ids.items ≡ []) × (s.locked ≡ false))
+        (NegotiatesOver objects graph haves)
+        (NegotiatesOver others another haves)
+        IsEmptyBoundary
         bodies specs }
 {}
 
@@ -72,12 +69,8 @@ pub fn courses_follow_bodies<'a, O: Objects + 'a, G: Objects + 'a>()
         → CoursesFollow
         (parties_of ⟦<Negotiation<'a, O, NoRefs, HaveList, G, AllocError> as Negotiate>⟧.calls ⟦<ShallowMemory as ShallowStore>⟧.calls
         ⟦<NeverInterrupt as Interrupt>⟧.says ⟦<ReadToEnd as ConsumePack<Discard>>⟧.consumes true)
-        (λ m n. (n.context.objects.now ≡ objects) × (n.context.graph.now ≡ graph) × (n.context.negotiator.now ≡ haves)
-        × (n.ref_map.now ≡ m) × (n.shallow.now ≡ Shallow.NoChange) × (n.tags ≡ Tags.None)
-        × IfOk n.context.alternates (λ a. a.now ≡ []) × IsOk n.context.alternates)
-        (λ m n. (n.context.objects.now ≡ others) × (n.context.graph.now ≡ another) × (n.context.negotiator.now ≡ haves)
-        × (n.ref_map.now ≡ m) × (n.shallow.now ≡ Shallow.NoChange) × (n.tags ≡ Tags.None)
-        × IfOk n.context.alternates (λ a. a.now ≡ []) × IsOk n.context.alternates)
-        (λ s. (s.ids.items ≡ []) × (s.locked ≡ false))
+        (NegotiatesOver objects graph haves)
+        (NegotiatesOver others another haves)
+        IsEmptyBoundary
         bodies specs }
 {}

@@ -2,7 +2,7 @@
 ghost use Rattle.std.specs.Prelude.{◌≡◌, [], true, false, map, Ok, IfOk, IsOk};
 ghost use Rattle.bstr.specs.Owned.{bstring_bytes};
 ghost use Rattle.gixp_fetch.specs.Fetch.{parties_of};
-ghost use Rattle.gixp_planner.specs.Session.{FetchesMapped, end_counted};
+ghost use Rattle.gixp_planner.specs.Session.{FetchesMapped, end_counted, NegotiatesOver, IsEmptyBoundary};
 ghost use Rattle.gixp_planner.specs.Text.{ended_of};
 ghost use Rattle.gixp_planner.specs.PlannedText.{PlannedText, IsOutcome};
 ghost use Rattle.gixp_planner.specs.Mapped.{ShowsFetch};
@@ -89,10 +89,8 @@ pub fn plan<'a, O: Objects, G: Objects, N: Negotiator, W: Write>(
         (λ m h old new r. FetchesMapped
         (parties_of ⟦<Negotiation<'a, O, NoRefs, N, G, AllocError> as Negotiate>⟧.calls ⟦<ShallowMemory as ShallowStore>⟧.calls
         ⟦<NeverInterrupt as Interrupt>⟧.says ⟦<ReadToEnd as ConsumePack<Discard>>⟧.consumes true)
-        (λ n. (n.context.objects.now ≡ objects.now) × (n.context.graph.now ≡ graph.old) × (n.context.negotiator.now ≡ negotiator.old)
-        × (n.ref_map.now ≡ m) × (n.shallow.now ≡ Shallow.NoChange) × (n.tags ≡ Tags.None)
-        × IfOk n.context.alternates (λ a. a.now ≡ []) × IsOk n.context.alternates)
-        (λ s. (s.ids.items ≡ []) × (s.locked ≡ false)) h old new r)
+        (NegotiatesOver objects.now graph.old negotiator.old m)
+        IsEmptyBoundary h old new r)
         bodies.items (map bstring_bytes specs.now) (W.contents writer.old) (W.contents writer.new) result }
     ensures mapped { ShowsFetch bodies.items (map bstring_bytes specs.now) (W.contents writer.old) (W.contents writer.new) result }
 {

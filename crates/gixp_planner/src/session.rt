@@ -3,7 +3,7 @@ ghost use Rattle.std.specs.Prelude.{◌≡◌, [], true, false, Some, None, Ok, 
 ghost use Rattle.gixp_fetch.specs.Fetch.{parties_of};
 ghost use Rattle.gixp_requests.specs.Feature.{feature_value};
 ghost use Rattle.gixp_handshake.specs.Taken.{without_refs};
-ghost use Rattle.gixp_planner.specs.Session.{planner_agent, GreetsWithoutAccount, MapsRefs, CarriesOn, FetchesMapped, RunsPrinted, end_of};
+ghost use Rattle.gixp_planner.specs.Session.{planner_agent, GreetsWithoutAccount, MapsRefs, CarriesOn, FetchesMapped, RunsPrinted, end_of, NegotiatesOver, IsEmptyBoundary};
 ghost use Rattle.gixp_planner.specs.Printed.{printed_text, mapped_text};
 ghost use Rattle.gixp_planner.specs.Text.{ended_of, map_shown};
 
@@ -135,10 +135,8 @@ fn fetch_mapped<'a, O: Objects, G: Objects, N: Negotiator, T: Transport>(
     ensures { (printed_text result.0 ≡ map_shown map) × FetchesMapped
         (parties_of ⟦<Negotiation<'a, O, NoRefs, N, G, AllocError> as Negotiate>⟧.calls ⟦<ShallowMemory as ShallowStore>⟧.calls
         ⟦<NeverInterrupt as Interrupt>⟧.says ⟦<ReadToEnd as ConsumePack<Discard>>⟧.consumes T.is_plain)
-        (λ n. (n.context.objects.now ≡ objects.now) × (n.context.graph.now ≡ graph.old) × (n.context.negotiator.now ≡ negotiator.old)
-        × (n.ref_map.now ≡ map) × (n.shallow.now ≡ Shallow.NoChange) × (n.tags ≡ Tags.None)
-        × IfOk n.context.alternates (λ a. a.now ≡ []) × IsOk n.context.alternates)
-        (λ s. (s.ids.items ≡ []) × (s.locked ≡ false)) handshake.old (T.reading transport.old) (T.reading transport.new) result.1 }
+        (NegotiatesOver objects.now graph.old negotiator.old map)
+        IsEmptyBoundary handshake.old (T.reading transport.old) (T.reading transport.new) result.1 }
 {
     let printed = PrintedMap::new(alloc, map);
     let Ok(agent) = planner_feature(alloc) else {
@@ -198,10 +196,8 @@ pub(crate) fn run<'a, O: Objects, G: Objects, N: Negotiator, T: Transport>(
         (λ m h old new r. FetchesMapped
         (parties_of ⟦<Negotiation<'a, O, NoRefs, N, G, AllocError> as Negotiate>⟧.calls ⟦<ShallowMemory as ShallowStore>⟧.calls
         ⟦<NeverInterrupt as Interrupt>⟧.says ⟦<ReadToEnd as ConsumePack<Discard>>⟧.consumes T.is_plain)
-        (λ n. (n.context.objects.now ≡ objects.now) × (n.context.graph.now ≡ graph.old) × (n.context.negotiator.now ≡ negotiator.old)
-        × (n.ref_map.now ≡ m) × (n.shallow.now ≡ Shallow.NoChange) × (n.tags ≡ Tags.None)
-        × IfOk n.context.alternates (λ a. a.now ≡ []) × IsOk n.context.alternates)
-        (λ s. (s.ids.items ≡ []) × (s.locked ≡ false)) h old new r)
+        (NegotiatesOver objects.now graph.old negotiator.old m)
+        IsEmptyBoundary h old new r)
         context T.is_plain (T.reading transport.old) (T.reading transport.new) (mapped_text result.mapped) (ended_of result.ended) }
 {
     let mut handshake = match greet(alloc, transport) {

@@ -4,7 +4,7 @@ ghost use Rattle.std.specs.FinMap as finite;
 ghost use Rattle.bstr.specs.Owned.{bstring_bytes};
 ghost use Rattle.gixp_fetch.specs.Fetch.{parties_of};
 ghost use Rattle.gixp_graph.specs.GraphData.{GraphValue, graph_of};
-ghost use Rattle.gixp_planner.specs.Session.{FetchesMapped};
+ghost use Rattle.gixp_planner.specs.Session.{FetchesMapped, NegotiatesOver, IsEmptyBoundary};
 ghost use Rattle.gixp_planner.specs.PlannedText.{PlannedText};
 ghost use Rattle.gixp_planner.specs.Refusal.{IsPlanMemory};
 
@@ -63,10 +63,8 @@ pub(crate) fn write_plan<'a, W: Write>(
         (parties_of ⟦<Negotiation<'a, NoObjects, NoRefs, HaveList, NoObjects, AllocError> as Negotiate>⟧.calls
         ⟦<ShallowMemory as ShallowStore>⟧.calls ⟦<NeverInterrupt as Interrupt>⟧.says
         ⟦<ReadToEnd as ConsumePack<Discard>>⟧.consumes true)
-        (λ n. (n.context.objects.now ≡ objects) × (n.context.graph.now ≡ graph) × (n.context.negotiator.now ≡ haves.items)
-        × (n.ref_map.now ≡ m) × (n.shallow.now ≡ Shallow.NoChange) × (n.tags ≡ Tags.None)
-        × IfOk n.context.alternates (λ a. a.now ≡ []) × IsOk n.context.alternates)
-        (λ s. (s.ids.items ≡ []) × (s.locked ≡ false)) h old new r)
+        (NegotiatesOver objects graph haves.items m)
+        IsEmptyBoundary h old new r)
         bodies.items (map bstring_bytes specs.now) (W.contents writer.old) (W.contents writer.new) result }
 {
     let mut negotiator = HaveList::new(haves);
