@@ -1,5 +1,5 @@
 //! Laws of the definitions that contracts cite. The functions do nothing: a caller that cites a law calls one.
-ghost use Rattle.std.specs.Prelude.{◌≡◌, ℕ, true, false, [], List, IfOk, IsOk};
+ghost use Rattle.std.specs.Prelude.{◌≡◌, ℕ, true, List};
 ghost use Rattle.gixp_fetch.specs.Fetch.{parties_of};
 ghost use Rattle.gixp_wire.specs.declared.bodies.Body.{Body};
 ghost use Rattle.gixp_hash.specs.declared.object_id.ObjectId.{ObjectId};
@@ -12,7 +12,7 @@ ghost use Rattle.gixp_planner.specs.Alike.{CoursesFollow};
 ghost use Rattle.gixp_planner.specs.Session.{NegotiatesOver, IsEmptyBoundary};
 
 use gix_protocol::fetch::negotiate::{HaveList, Negotiate, Negotiation, NoRefs, Objects};
-use gix_protocol::fetch::{ConsumePack, ReadToEnd, Shallow, ShallowMemory, ShallowStore, Tags};
+use gix_protocol::fetch::{ConsumePack, ReadToEnd, ShallowMemory, ShallowStore};
 use gix_protocol::transport::{Discard, Interrupt, NeverInterrupt};
 use std::alloc::AllocError;
 

@@ -1,5 +1,5 @@
 //! A plan over recorded answers.
-ghost use Rattle.std.specs.Prelude.{◌≡◌, [], true, false, map, Ok, IfOk, IsOk};
+ghost use Rattle.std.specs.Prelude.{◌≡◌, true, map, Ok};
 ghost use Rattle.bstr.specs.Owned.{bstring_bytes};
 ghost use Rattle.gixp_fetch.specs.Fetch.{parties_of};
 ghost use Rattle.gixp_planner.specs.Session.{FetchesMapped, end_counted, NegotiatesOver, IsEmptyBoundary};
@@ -13,7 +13,7 @@ use crate::refspecs::read_specs;
 use crate::session::run;
 use bstr::BString;
 use gix_protocol::fetch::negotiate::{Graph, Negotiate, Negotiation, Negotiator, NoRefs, Objects};
-use gix_protocol::fetch::{ConsumePack, ReadToEnd, Shallow, ShallowMemory, ShallowStore, Tags};
+use gix_protocol::fetch::{ConsumePack, ReadToEnd, ShallowMemory, ShallowStore};
 use gix_protocol::transport::{Bodies, Body, Discard, Interrupt, NeverInterrupt};
 use gixp_fetch::laws::sessions_are_bounded;
 use std::alloc::{AllocError, Global};

@@ -1,5 +1,5 @@
 //! A session over recorded answers.
-ghost use Rattle.std.specs.Prelude.{◌≡◌, [], true, false, Some, None, Ok, IfOk, IsOk};
+ghost use Rattle.std.specs.Prelude.{◌≡◌, true, false, Some, None, Ok, IfOk};
 ghost use Rattle.gixp_fetch.specs.Fetch.{parties_of};
 ghost use Rattle.gixp_requests.specs.Feature.{feature_value};
 ghost use Rattle.gixp_handshake.specs.Taken.{without_refs};

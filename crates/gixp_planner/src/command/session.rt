@@ -1,5 +1,5 @@
 //! A plan over the bodies and the haves of a recorded session.
-ghost use Rattle.std.specs.Prelude.{◌≡◌, [], false, true, IfOk, IfErr, IsOk, codes, map, string_bytes};
+ghost use Rattle.std.specs.Prelude.{◌≡◌, true, IfOk, IfErr, codes, map, string_bytes};
 ghost use Rattle.std.specs.FinMap as finite;
 ghost use Rattle.bstr.specs.Owned.{bstring_bytes};
 ghost use Rattle.gixp_fetch.specs.Fetch.{parties_of};
@@ -14,7 +14,7 @@ use bstr::BString;
 use gix_protocol::fetch::negotiate::{
     Graph, HaveList, Negotiate, Negotiation, NoObjects, NoRefs, Objects,
 };
-use gix_protocol::fetch::{ConsumePack, ReadToEnd, Shallow, ShallowMemory, ShallowStore, Tags};
+use gix_protocol::fetch::{ConsumePack, ReadToEnd, ShallowMemory, ShallowStore};
 use gix_protocol::transport::{Body, Discard, Interrupt, NeverInterrupt, ObjectId};
 use std::alloc::{AllocError, Global};
 use std::io::Write;
