@@ -286,13 +286,15 @@ module _ {C P : Type 0} (consumes : C → Side → P → Result Bool CopyError �
 
     -- of known pieces, unless it was for memory
     module _ (is_other : e ≡ fetch.Memory → ⊥) (pieces : Pieces) (known : from.to_come ≡ Some pieces) where
-      by-consumer : (name asks : GName) (p : P) (x : CopyError) (end : Side) → Consumed consumes c (fresh_side name asks from) p (Err x) d end q
+      by-consumer : (name asks : GName) (p : P) (x : CopyError) (end : Side)
+          → Consumed consumes c (fresh_side name asks from) p (Err x) d end q
           → e ≡ fetch.ConsumePack x → end.reading.failures ≡ 0 → Ended ≡ pack_ended (end_left from pieces)
       by-consumer name asks p x end f g v =
           if-known (λ p. Ended ≡ pack_ended (end_left from p)) from.to_come pieces known
           (refused-so x g (follows.refuses c (fresh_side name asks from) p x d end q f.took v))
 
-      by-rest : (name asks : GName) (p : P) (x : read_error) (mid end : Side) → Consumed consumes c (fresh_side name asks from) p (Ok true) d mid q
+      by-rest : (name asks : GName) (p : P) (x : read_error) (mid end : Side)
+          → Consumed consumes c (fresh_side name asks from) p (Ok true) d mid q
           → DrainFails (side_reading mid) (side_reading end) x → e ≡ of_read x → end.reading.failures ≡ 0
           → Ended ≡ pack_ended (end_left from pieces)
       by-rest name asks p x mid end f h g v =

@@ -65,7 +65,8 @@ wishes_both ignores objects by_name new_only (x ∷ xs) ys [] = sym (wishes-none
 wishes_both ignores objects by_name new_only (x ∷ xs) ys (k ∷ ks) =
     let of_x = wishes_of ignores objects by_name new_only x k in
     ap (λ l. of_x ++ l) (wishes_both ignores objects by_name new_only xs ys ks)
-    ∙ sym (append_assoc of_x (wishes ignores objects by_name new_only xs ks) (wishes ignores objects by_name new_only ys (drop (length xs) ks)))
+    ∙ sym (append_assoc of_x (wishes ignores objects by_name new_only xs ks)
+    (wishes ignores objects by_name new_only ys (drop (length xs) ks)))
 
 -- lines that are asked for change no feature
 features_kept : (ws : List Wish) (a : ArgumentsValue) → (asking_all ws a).features ≡ a.features

@@ -239,7 +239,8 @@ module _ {N I A S C P : Type 0} (parties : Parties N I A S C P CopyError) (basis
           ++ told) false old.consumer read old.locked end.reading e new.consumer new.store new.locked new.reading progress → WayOr
       delivered-way ids read action rounds updates reply end progress g (at_lock h c r) =
           by-hold (is_any (updates ++ told) && not old.locked) read new.store old.locked new.locked h
-      delivered-way ids read action rounds updates reply end progress g (at_boundary held h r s) = by-settling (updates ++ told) held new.store s
+      delivered-way ids read action rounds updates reply end progress g (at_boundary held h r s) =
+          by-settling (updates ++ told) held new.store s
       delivered-way ids read action rounds updates reply end progress g (at_pack h r) = by-pack r
         where
           stood : end.reading.failures ≡ 0

@@ -210,7 +210,16 @@ module _ {N M I A : Type 0} (calls : NegotiationCalls N A) (others : Negotiation
     refused old e n reading i (inl u) =
         let r = k.round_fails old.negotiate old.window old.asked old.previous u.error n u.window u.asked u.refused in
         record {
-          fails = inl (record { error = u.error; own = u.own; window = u.window; asked = u.asked; refused = r.0; gives = u.gives; stands = u.stands; unasked = u.unasked });
+          fails = inl (record {
+            error = u.error;
+            own = u.own;
+            window = u.window;
+            asked = u.asked;
+            refused = r.0;
+            gives = u.gives;
+            stands = u.stands;
+            unasked = u.unasked;
+          });
           told = refl;
           stays = r.1;
         }

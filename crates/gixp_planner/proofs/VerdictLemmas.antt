@@ -328,8 +328,8 @@ module _ {N I A : Type 0} (m : Manner N I A) where
     stops left (behind_answer sent s reply a h w) k = inl w
 
   -- how rounds fail
-  module _ (never : ((i j : I) → m.says i true j → ⊥) × (m.plain ≡ true)) (x : At N I) (alone : x.reading.held.persists ≡ false) (new : Reading)
-      (z : new.failures ≡ 0) (e : FetchError A CopyError) (undisturbed : IsDisturbed e → ⊥) where
+  module _ (never : ((i j : I) → m.says i true j → ⊥) × (m.plain ≡ true)) (x : At N I) (alone : x.reading.held.persists ≡ false)
+      (new : Reading) (z : new.failures ≡ 0) (e : FetchError A CopyError) (undisturbed : IsDisturbed e → ⊥) where
     abbrev pub RunStops : Type 0
     RunStops = (e ≡ fetch.Memory) ⊎ Ran x new (end_of {A = A} {X = CopyError} (Err e))
 
