@@ -27,8 +27,8 @@ WORD = rf"({'|'.join(WORDS)})"
 DOCUMENTS = ["README.md", "CONTRIBUTING.md", "docs/*.md", "models/README.md", "crates/*/README.md", "examples/**/*.md"]
 PROOFS, ARCHITECTURE = "docs/PROOFS.md", "docs/ARCHITECTURE.md"
 TEST_MODULES = {
-    "gixp_tests": ["streams", "fetch", "listing", "graph", "refspecs"],
-    "gixp_fetch_tests": ["handshakes", "negotiations", "fetches"],
+    "gixp_test_lower": ["streams", "fetch", "listing", "graph", "refspecs"],
+    "gixp_test_fetch": ["handshakes", "negotiations", "fetches"],
 }
 
 
@@ -116,7 +116,7 @@ def sentences():
         peers.count("gogit"), peers.count("dulwich"), peers.count("git")]
     yield PROOFS, rf"{NUMBER} names \(`git_name`\) and {NUMBER} refspecs", [names.count("ref-name"), names.count("refspec")]
     for crate in crates():
-        if crate.endswith("_tests"):
+        if crate.startswith("gixp_test_"):
             parts = TEST_MODULES.get(crate, [])
             found = "".join(rf"[^|\n]*?\({NUMBER}\)" for _ in parts)
             yield PROOFS, rf"(?m)^\| `{crate}` \| {NUMBER} \|{found}", [tests(crate), *(tests(crate, part) for part in parts)]

@@ -1,7 +1,0 @@
--- Whether a commit is listed.
-use Rattle.std.proofs.Common.{◌∙◌, sym}
-use Rattle.gixp_tests.proofs.ListedLemmas.{key_listed}
-use Rattle.gixp_tests.proofs.graph.repository.RepositoryObjects.exists.Goals as goal
-
-pub returns : goal.returns
-returns c = c.contains_key.ensures ∙ sym (key_listed c.args.self.now.commits.entries c.args.id.now)
