@@ -1,12 +1,12 @@
 //! An answer that names commits as common that nobody sent.
-use crate::negotiations::repository::{had_memory, id, ref_map};
+use crate::negotiations::repository::{answer, had_memory, id, ref_map};
 use gixp_doubles::Recorder;
 use gixp_graph::{Graph, NoObjects, NoRefs};
 use gixp_hash::ObjectId;
 use gixp_negotiate::negotiate::Negotiate;
 use gixp_negotiate::negotiate::negotiation::{NegotiateContext, Negotiation};
 use gixp_negotiate::negotiate::one_round::State;
-use gixp_packetline::{LineReader, Protocol};
+use gixp_packetline::Protocol;
 use gixp_refmap::fetch::Tags;
 use gixp_requests::command::CommandTable;
 use gixp_requests::fetch::Arguments;
@@ -28,8 +28,8 @@ fn strangers(alloc: Global) -> Result<Vec<ObjectId>, AllocError> {
     Ok(ids)
 }
 
-// An answer of version 2 that names these as common.
-fn answer(alloc: Global, ids: &[ObjectId]) -> Result<Response, Fail> {
+// The answer that names these as common.
+fn acknowledged(alloc: Global, ids: &[ObjectId]) -> Result<Response, Fail> {
     let mut text = Vec::from_slice(alloc, b"0014acknowledgments\n")?;
     for id in ids {
         text.extend_from_slice(b"0031ACK ")?;
@@ -37,16 +37,14 @@ fn answer(alloc: Global, ids: &[ObjectId]) -> Result<Response, Fail> {
         text.push(b'\n')?;
     }
     text.extend_from_slice(b"0000")?;
-    let mut bytes = text.as_slice();
-    let mut reader = LineReader::new(alloc, &mut bytes)?;
-    Ok(Response::from_line_reader(alloc, Protocol::V2, &mut reader, false, true)?)
+    answer(alloc, &text)
 }
 
 #[test]
 fn takes_in_many_ids_that_nobody_sent(rt: HostRuntime) -> Result<(), Fail> {
     let alloc = rt.alloc();
     let ids = strangers(alloc)?;
-    let common = answer(alloc, &ids)?;
+    let common = acknowledged(alloc, &ids)?;
     let map = ref_map(alloc, &[9])?;
     let offered = Vec::from_slice(alloc, &[id(1), id(2), id(3)])?;
     let mut recorder = Recorder::new(alloc, offered);

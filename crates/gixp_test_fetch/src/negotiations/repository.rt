@@ -4,9 +4,12 @@ use gixp_doubles::MemoryObjects;
 use gixp_graph::CommitData;
 use gixp_hash::ObjectId;
 use gixp_negotiate::negotiate::Error;
+use gixp_packetline::{LineReader, Protocol};
 use gixp_refmap::refmap::{Mapping, RefMap, Source, SpecIndex};
 use gixp_refs::handshake::Ref;
+use gixp_response::fetch::Response;
 use std::alloc::{AllocError, Global};
+use std::test::Fail;
 
 /// An id for each number.
 pub(crate) fn id(number: u8) -> ObjectId {
@@ -44,6 +47,13 @@ pub(crate) fn ref_map(alloc: Global, numbers: &[u8]) -> Result<RefMap, AllocErro
         })?;
     }
     Ok(map)
+}
+
+/// An answer of version 2 to a client that isn't done.
+pub(crate) fn answer(alloc: Global, text: &[u8]) -> Result<Response, Fail> {
+    let mut bytes = text;
+    let mut reader = LineReader::new(alloc, &mut bytes)?;
+    Ok(Response::from_line_reader(alloc, Protocol::V2, &mut reader, false, true)?)
 }
 
 /// Tells of an allocation that failed in a call.

@@ -1,5 +1,5 @@
 //! What a call finds after one that was refused.
-use crate::negotiations::repository::{chain, had_memory, id, ref_map};
+use crate::negotiations::repository::{answer, chain, had_memory, id, ref_map};
 use gixp_doubles::{MemoryObjects, MemoryRefs, Recorder};
 use gixp_graph::{
     Flags, Graph, NegotiatorError, NoObjects, NoRefs, ObjectError, Objects, RefStoreError,
@@ -8,13 +8,11 @@ use gixp_negotiate::negotiate::negotiation::{NegotiateContext, Negotiation};
 use gixp_negotiate::negotiate::one_round::State;
 use gixp_negotiate::negotiate::{Action, Error, Negotiate};
 use gixp_negotiators::HaveList;
-use gixp_packetline::{LineReader, Protocol};
+use gixp_packetline::Protocol;
 use gixp_refmap::RefMap;
 use gixp_refmap::fetch::Tags;
 use gixp_requests::command::CommandTable;
 use gixp_requests::fetch::Arguments;
-use gixp_response::fetch::Response;
-use gixp_shallow::Shallow;
 use std::alloc::{AllocError, Global};
 use std::io::ErrorKind;
 use std::test::Fail;
@@ -35,12 +33,6 @@ fn is_complete<O: Objects>(graph: &Graph<O>, number: u8) -> bool {
 
 fn arguments(alloc: Global) -> Result<Arguments, AllocError> {
     Arguments::new(alloc, &CommandTable::git(), Protocol::V2, Vec::new(alloc))
-}
-
-fn answer(alloc: Global, text: &str) -> Result<Response, Fail> {
-    let mut bytes = text.as_bytes();
-    let mut reader = LineReader::new(alloc, &mut bytes)?;
-    Ok(Response::from_line_reader(alloc, Protocol::V2, &mut reader, false, true)?)
 }
 
 fn opened(alternates: &mut [MemoryRefs]) -> Result<&mut [MemoryRefs], u8> {
@@ -195,7 +187,7 @@ fn keeps_the_window_of_a_refused_round(rt: HostRuntime) -> Result<(), Fail> {
     let mut asked = arguments(alloc)?;
     let common = answer(
         alloc,
-        "0014acknowledgments\n0031ACK cccccccccccccccccccccccccccccccccccccccc\n0000",
+        b"0014acknowledgments\n0031ACK cccccccccccccccccccccccccccccccccccccccc\n0000",
     )?;
     let refused = negotiation.one_round(&mut state, &mut asked, Some(&common));
     had_memory(&refused)?;
