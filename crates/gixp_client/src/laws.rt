@@ -17,9 +17,9 @@ ghost use Rattle.gixp_client.specs.declared.request.Request.{Request};
 use gixp_fetch::consume::ConsumePack;
 use gixp_fetch::laws::headline;
 use gixp_fetch::mapped::NegotiatesMap;
-use gixp_shallow::{ShallowMemory, ShallowStore};
 use gixp_negotiate::negotiate::Negotiate;
 use gixp_negotiate::negotiate::negotiation::PaysForHaves;
+use gixp_shallow::{ShallowMemory, ShallowStore};
 use gixp_sidebands::Interrupt;
 
 /// A session that was opened, a ref map of it, and a fetch of what is mapped are one run of the law

@@ -7,12 +7,12 @@ ghost use Rattle.gixp_client.specs.ClientCalls.{some_spec};
 
 use crate::error::Error;
 use bstr::{BStr, BString};
-use gixp_shallow::Shallow;
 use gixp_negotiators::Algorithm;
 use gixp_refmap::fetch::Tags;
 use gixp_refmap::refmap::init;
 use gixp_refspec::RefSpec;
 use gixp_refspec::parse::{Operation, parse};
+use gixp_shallow::Shallow;
 use std::alloc::{AllocError, Global};
 
 /// What a session is asked for: what is mapped, and how it is fetched.

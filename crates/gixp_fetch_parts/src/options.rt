@@ -11,11 +11,11 @@ ghost use Rattle.gixp_fetch_parts.specs.Choices.{CutsHistory, AsksHistory, AsksQ
 
 use crate::line::{Line, LineError};
 use bstr::BString;
-use gixp_shallow::Shallow;
 use gixp_negotiators::Algorithm;
 use gixp_packetline::Protocol;
 use gixp_refmap::fetch::Tags;
 use gixp_refspec::PartialName;
+use gixp_shallow::Shallow;
 use std::alloc::{AllocError, AllocFailed, Global};
 use std::num::NonZeroU32;
 

@@ -13,6 +13,7 @@ use gixp_refmap::RefMap;
 use gixp_refmap::fetch::Tags;
 use gixp_requests::command::CommandTable;
 use gixp_requests::fetch::Arguments;
+use gixp_shallow::Shallow;
 use std::alloc::{AllocError, Global};
 use std::io::ErrorKind;
 use std::test::Fail;
