@@ -95,9 +95,10 @@ pub named_run : {N I A C P X : Type 0} (parties : Parties N I A ShallowMemory C 
     → FetchesInSession parties map_of knows (session_call kept (client_feature (string_bytes held')) request) made known boundary boundary' middle
     consumer told new consumer'
     → IsOneRun parties map_of knows (client_feature agent) request start made known boundary consumer told new consumer'
-named_run parties map_of knows law parameters agent held held' request start shaken middle handshake kept made known boundary consumer told
-    new consumer' n e opens maps keeps fetched =
-    law parameters (client_feature agent) request start shaken middle handshake kept made known boundary boundary' consumer told new consumer' opens
+named_run parties map_of knows law parameters agent held held' request start shaken middle handshake kept made known boundary boundary'
+    consumer told new consumer' n e opens maps keeps fetched =
+    law parameters (client_feature agent) request start shaken middle handshake kept made known boundary boundary' consumer told new
+    consumer' opens
     (subst (λ (x : List ℕ). MapsInSession request (client_feature x) handshake parties.plain shaken middle (Ok made)) n maps) keeps
     (subst (λ (x : List ℕ). FetchesInSession parties map_of knows (session_call kept (client_feature x) request) made known boundary boundary' middle
     consumer told new consumer') (ap (λ (x : String Global). string_bytes x) e ∙ n) fetched)

@@ -1,10 +1,9 @@
 -- The sentence of an error of a session, as far as its parts state what they print.
-use Rattle.std.specs.Prelude.{◌++◌, ℕ, Bool, true, false, if◌then◌else◌, List, codes, Option, Some, None, string_bytes}
+use Rattle.std.specs.Prelude.{◌++◌, ℕ, List, codes, Option, Some, None, string_bytes}
 use Rattle.std.specs.Fmt.{decimal}
 use Rattle.std.specs.declared.io.ErrorKind.{ErrorKind}
 use Rattle.std.specs.declared.io.ErrorKind.TheVariants.{UnexpectedEof}
 use Rattle.gixp_client.specs.ClientError.{said_in, place_of, kind_in}
-use Rattle.gixp_client.specs.ServerWords.{shown_words}
 use Rattle.gixp_client.specs.declared.consumer.PackError.TheVariants as pack
 use Rattle.gixp_client.specs.declared.error.Error.{Error}
 use Rattle.gixp_client.specs.declared.error.Error.TheVariants.{UnsupportedListing, Unnegotiated, MissingFeature, ShallowServer, Pack, Reported, Over, Memory}
@@ -31,9 +30,9 @@ abbrev pub unsaid_sentence : Error → Option (List ℕ)
 unsaid_sentence (Pack (pack.Write kind)) = None
 unsaid_sentence e = kind_sentence e (kind_in e)
 
--- by the server's own words, where there are any
+-- where the server says why, its words are in the sentence, and nothing is stated of it
 abbrev pub said_sentence : Error → Option (List ℕ) → Option (List ℕ)
-said_sentence e (Some words) = Some (codes "the server said: " ++ shown_words words)
+said_sentence e (Some words) = None
 said_sentence e None = unsaid_sentence e
 
 abbrev pub sentence_of : Error → Option (List ℕ)

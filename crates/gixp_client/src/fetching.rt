@@ -82,9 +82,10 @@ where
         messages: &Kept,
         goes_on: bool,
     ) -> Result<Option<Outcome>, Error>
-        ensures { ((is_reported goes_on messages.now.texts.items ≡ false) × (result ≡ came) × (self.new ≡ self.old))
-            ⊎ ((is_reported goes_on messages.now.texts.items ≡ true) × IsReportIn result
-            × (self.new ≡ record self.old { state = State.Ended })) }
+        ensures reported { ((is_reported goes_on messages.now.texts.items ≡ false) × (result ≡ came) × (self.new.state ≡ self.old.state))
+            ⊎ ((is_reported goes_on messages.now.texts.items ≡ true) × IsReportIn result × (self.new.state ≡ State.Ended)) }
+        ensures transport { self.new.transport.inner ≡ self.old.transport.inner }
+        ensures others { self.new ≡ record self.old { state = self.new.state } }
     {
         if is_reported(messages, goes_on) {
             self.state = State::Ended;
@@ -207,7 +208,7 @@ where
         let after = store.ids();
         match settled(alloc, came, messages, request, before, after) {
             Ok(fetched) => Ok(fetched),
-            Err(e) => Err(e),
+            Err(why) => Err(why),
         }
     }
 }

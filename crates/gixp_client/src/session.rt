@@ -304,6 +304,7 @@ impl<T: Transport + Drop, L: Listener + Drop, P: NestedProgress + Drop> Session<
         let name = named(self.alloc, &self.agent)?;
         let here = self.refs_here()?;
         let is_here = has_refs(&self.shaken.refs);
+        let version = self.shaken.server_protocol_version;
         let made = obtain(
             self.alloc,
             &mut self.shaken,
@@ -318,7 +319,7 @@ impl<T: Transport + Drop, L: Listener + Drop, P: NestedProgress + Drop> Session<
             Ok(map) => Ok(map),
             Err(e) => {
                 let e = Error::from(e);
-                self.state = behind_map(is_here, self.shaken.server_protocol_version, &e);
+                self.state = behind_map(is_here, version, &e);
                 Err(e)
             }
         }

@@ -36,11 +36,6 @@ struct Text<'a> {
 }
 
 impl Display for Text<'_> {
-    ghost use Rattle.std.specs.Prelude.{Some};
-    ghost use Rattle.gixp_client.specs.ServerWords.{shown_text};
-
-    ghost output = { λ t. Some (shown_text t.text.now) };
-
     fn fmt<W: fmt::Write>(&self, f: &mut fmt::Formatter<W>) -> fmt::Result {
         for c in self.text.chars() {
             f.write_char(shown_char(c))?;
@@ -56,11 +51,6 @@ struct Bytes<'a> {
 }
 
 impl Display for Bytes<'_> {
-    ghost use Rattle.std.specs.Prelude.{Some, map};
-    ghost use Rattle.gixp_client.specs.ServerWords.{shown_byte};
-
-    ghost output = { λ b. Some (map shown_byte b.bytes.now) };
-
     fn fmt<W: fmt::Write>(&self, f: &mut fmt::Formatter<W>) -> fmt::Result {
         for byte in self.bytes {
             f.write_char(shown_byte(*byte) as char)?;
@@ -77,11 +67,6 @@ pub(crate) struct Words<'a> {
 }
 
 impl Display for Words<'_> {
-    ghost use Rattle.std.specs.Prelude.{Some};
-    ghost use Rattle.gixp_client.specs.ServerWords.{shown_words};
-
-    ghost output = { λ w. Some (shown_words w.words.now) };
-
     fn fmt<W: fmt::Write>(&self, f: &mut fmt::Formatter<W>) -> fmt::Result {
         let bytes = without_feed(self.words);
         match str::from_utf8(bytes) {
