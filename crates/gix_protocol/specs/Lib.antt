@@ -158,6 +158,7 @@ pub use Rattle.gixp_negotiators.specs.Algorithm as NegotiatorAlgorithm
 pub use Rattle.gixp_negotiators.specs.AlgorithmLaws as NegotiatorAlgorithmLaws
 pub use Rattle.gixp_negotiators.specs.Calls as NegotiatorCalls
 pub use Rattle.gixp_negotiators.specs.Distance as NegotiatorDistance
+pub use Rattle.gixp_negotiators.specs.Errors as NegotiatorErrors
 pub use Rattle.gixp_negotiators.specs.Marks as NegotiatorMarks
 pub use Rattle.gixp_negotiators.specs.MarkLaws as NegotiatorMarkLaws
 pub use Rattle.gixp_negotiators.specs.Passing as NegotiatorPassing
@@ -165,6 +166,7 @@ pub use Rattle.gixp_negotiators.specs.Spread as NegotiatorSpread
 pub use Rattle.gixp_negotiators.specs.SpreadLaws as NegotiatorSpreadLaws
 pub use Rattle.gixp_negotiators.specs.Waiting as NegotiatorWaiting
 pub use Rattle.gixp_text.specs.Lines as TextLines
+pub use Rattle.gixp_negotiators.specs.WaitingLaws as NegotiatorWaitingLaws
 pub use Rattle.gixp_memory.specs.Text as RepositoryText
 pub use Rattle.gixp_memory.specs.Repository
 pub use Rattle.gixp_packetline.specs.ServerMessage
@@ -309,13 +311,17 @@ pub use Rattle.gixp_client.specs.Boundaries
 pub use Rattle.gixp_client.specs.Changes
 pub use Rattle.gixp_client.specs.ClientCalls
 pub use Rattle.gixp_client.specs.ClientError
+pub use Rattle.gixp_client.specs.ClientMaps
 pub use Rattle.gixp_client.specs.ClientPromise
 pub use Rattle.gixp_client.specs.Filters
 pub use Rattle.gixp_client.specs.Heard
 pub use Rattle.gixp_client.specs.Listening
 pub use Rattle.gixp_client.specs.Requests
+pub use Rattle.gixp_client.specs.Sentences
+pub use Rattle.gixp_client.specs.ServerWords
+pub use Rattle.gixp_client.specs.SessionStates
 pub use Rattle.gixp_client.specs.Windows
 pub use Rattle.gixp_client.specs.declared.error.Error as SessionErrorType
 pub use Rattle.gixp_client.specs.declared.request.Request as RequestType
-pub use Rattle.gixp_client.specs.declared.session.State as SessionStateType
+pub use Rattle.gixp_client.specs.declared.state.State as SessionStateType
 pub use Rattle.gixp_client.specs.declared.session.Session as SessionType

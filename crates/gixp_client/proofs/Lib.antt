@@ -4,3 +4,5 @@ pub mod CloneLemmas
 pub mod ShownLemmas
 pub mod ChangeLemmas
 pub mod BoundaryLemmas
+pub mod MapLemmas
+pub mod SettleLemmas

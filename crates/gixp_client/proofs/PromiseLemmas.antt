@@ -30,14 +30,14 @@ pub one_run : {N I A C P X : Type 0} (parties : Parties N I A ShallowMemory C P 
     (run : Run parties map_of knows call context start made old came new progress)
     → Promise parties map_of knows call context start made old came new progress run)
     → (parameters : List Parameter) (agent : FeatureValue) (request : Request) (start shaken middle : Reading)
-    (handshake kept : Handshake) (made : RefMap) (known : Knowledge) (boundary : List ObjectId) (consumer : C)
+    (handshake kept : Handshake) (made : RefMap) (known : Knowledge) (boundary boundary' : List ObjectId) (consumer : C)
     (told : Result (Option Outcome) Error) (new : Reading) (consumer' : C)
     → OpensSession parameters parties.plain start shaken handshake
     → MapsInSession request agent handshake parties.plain shaken middle (Ok made)
     → kept ≡ record handshake { refs = kept.refs }
-    → FetchesInSession parties map_of knows (session_call kept agent request) made known boundary middle consumer told new consumer'
+    → FetchesInSession parties map_of knows (session_call kept agent request) made known boundary boundary' middle consumer told new consumer'
     → IsOneRun parties map_of knows agent request start made known boundary consumer told new consumer'
-one_run parties map_of knows promises parameters agent request start shaken middle handshake kept made known boundary consumer told new
+one_run parties map_of knows promises parameters agent request start shaken middle handshake kept made known boundary boundary' consumer told new
     consumer' opens maps keeps fetched =
     let f = fetched.fetches in let h = f.holds.holds in
     let run : Run parties map_of knows (session_call kept agent request) maps.context start made
@@ -78,26 +78,27 @@ one_run parties map_of knows promises parameters agent request start shaken midd
 -- the same by the name of the client, which the session holds
 pub named_run : {N I A C P X : Type 0} (parties : Parties N I A ShallowMemory C P X) (map_of : N → RefMap) (knows : N → Knowledge)
     → ((parameters : List Parameter) (agent : FeatureValue) (request : Request) (start shaken middle : Reading)
-    (handshake kept : Handshake) (made : RefMap) (known : Knowledge) (boundary : List ObjectId) (consumer : C)
+    (handshake kept : Handshake) (made : RefMap) (known : Knowledge) (boundary boundary' : List ObjectId) (consumer : C)
     (told : Result (Option Outcome) Error) (new : Reading) (consumer' : C)
     → OpensSession parameters parties.plain start shaken handshake
     → MapsInSession request agent handshake parties.plain shaken middle (Ok made)
     → kept ≡ record handshake { refs = kept.refs }
-    → FetchesInSession parties map_of knows (session_call kept agent request) made known boundary middle consumer told new consumer'
+    → FetchesInSession parties map_of knows (session_call kept agent request) made known boundary boundary' middle consumer told new consumer'
     → IsOneRun parties map_of knows agent request start made known boundary consumer told new consumer')
     → (parameters : List Parameter) (agent : List ℕ) (held held' : String Global) (request : Request) (start shaken middle : Reading)
-    (handshake kept : Handshake) (made : RefMap) (known : Knowledge) (boundary : List ObjectId) (consumer : C)
+    (handshake kept : Handshake) (made : RefMap) (known : Knowledge) (boundary boundary' : List ObjectId) (consumer : C)
     (told : Result (Option Outcome) Error) (new : Reading) (consumer' : C)
     → string_bytes held ≡ agent → held' ≡ held
     → OpensSession parameters parties.plain start shaken handshake
     → MapsInSession request (client_feature (string_bytes held)) handshake parties.plain shaken middle (Ok made)
     → kept ≡ record handshake { refs = kept.refs }
-    → FetchesInSession parties map_of knows (session_call kept (client_feature (string_bytes held')) request) made known boundary middle
+    → FetchesInSession parties map_of knows (session_call kept (client_feature (string_bytes held')) request) made known boundary boundary' middle
     consumer told new consumer'
     → IsOneRun parties map_of knows (client_feature agent) request start made known boundary consumer told new consumer'
-named_run parties map_of knows law parameters agent held held' request start shaken middle handshake kept made known boundary consumer told
-    new consumer' n e opens maps keeps fetched =
-    law parameters (client_feature agent) request start shaken middle handshake kept made known boundary consumer told new consumer' opens
+named_run parties map_of knows law parameters agent held held' request start shaken middle handshake kept made known boundary boundary'
+    consumer told new consumer' n e opens maps keeps fetched =
+    law parameters (client_feature agent) request start shaken middle handshake kept made known boundary boundary' consumer told new
+    consumer' opens
     (subst (λ (x : List ℕ). MapsInSession request (client_feature x) handshake parties.plain shaken middle (Ok made)) n maps) keeps
-    (subst (λ (x : List ℕ). FetchesInSession parties map_of knows (session_call kept (client_feature x) request) made known boundary middle
+    (subst (λ (x : List ℕ). FetchesInSession parties map_of knows (session_call kept (client_feature x) request) made known boundary boundary' middle
     consumer told new consumer') (ap (λ (x : String Global). string_bytes x) e ∙ n) fetched)

@@ -58,16 +58,17 @@ same_knowledge t u s r o p e f l m a b c d g =
 
 -- a fetch from this boundary, as it is told
 pub in_session : {N I A C P X : Type 0} (parties : Parties N I A ShallowMemory C P X) (map_of : N → RefMap) (knows : N → Knowledge)
-    (shaken : Handshake) (request : Request) (made : RefMap) (known : Knowledge) (boundary : List ObjectId) (old : Reading) (consumer : C)
+    (shaken : Handshake) (request : Request) (made : RefMap) (known : Knowledge) (boundary boundary' : List ObjectId) (old : Reading) (consumer : C)
     (told told' : Result (Option Outcome) Error) (new new' : Reading) (consumer' : C) (store store' : ShallowMemory)
-    (name name' : FeatureValue) → store.ids.items ≡ boundary → name ≡ name' → told ≡ told' → new ≡ new'
+    (name name' : FeatureValue) → store.ids.items ≡ boundary → store'.ids.items ≡ boundary' → name ≡ name' → told ≡ told' → new ≡ new'
     → FetchesMap parties map_of knows (session_call shaken name request) made known old store consumer told new store' consumer'
-    → FetchesInSession parties map_of knows (session_call shaken name' request) made known boundary old consumer told' new' consumer'
-in_session parties map_of knows shaken request made known boundary old consumer told told' new new' consumer' store store' name name'
-    before named tells stands f = record {
+    → FetchesInSession parties map_of knows (session_call shaken name' request) made known boundary boundary' old consumer told' new' consumer'
+in_session parties map_of knows shaken request made known boundary boundary' old consumer told told' new new' consumer' store store' name name'
+    before after named tells stands f = record {
       store = store;
       store' = store';
       before = before;
+      after = after;
       fetches =
           subst (λ (x : Reading). FetchesMap parties map_of knows (session_call shaken name' request) made known old store consumer told' x
           store' consumer') stands (subst (λ (x : Result (Option Outcome) Error). FetchesMap parties map_of knows

@@ -1,7 +1,6 @@
 -- What the calls of a client's session do: one handshake, ref maps over it, and fetches.
-use Rattle.std.specs.Prelude.{◌≡◌, ℕ, Bool, true, false, List, [], ◌∷◌, map, codes, Option, Some, None, Result, Ok, Err}
-use Rattle.gixp_packetline.specs.declared.protocol.Protocol.{Protocol}
-use Rattle.gixp_packetline.specs.declared.protocol.Protocol.TheVariants.{V0, V1, V2}
+use Rattle.std.specs.Prelude.{◌≡◌, ℕ, Bool, true, false, List, [], ◌∷◌, map, codes, Option, Some, None, Vec, Result, Ok, Err}
+use Rattle.std.specs.declared.alloc.Global.{Global}
 use Rattle.gixp_packetline.specs.Reading.{Reading}
 use Rattle.gixp_wire.specs.Greeting.{Parameter}
 use Rattle.gixp_wire.specs.declared.service.Service.TheVariants.{UploadPack}
@@ -10,13 +9,13 @@ use Rattle.gixp_requests.specs.Feature.{FeatureValue}
 use Rattle.gixp_requests.specs.Command.{git_table, agent_of}
 use Rattle.gixp_refspec.specs.Spec.{Spec}
 use Rattle.gixp_refspec.specs.RefSpec.{owned_value_of}
+use Rattle.gixp_refs.specs.declared.handshake.Ref.{Ref}
+use Rattle.gixp_refmap.specs.Listing.{listing, Lists}
 use Rattle.gixp_refmap.specs.Tags.{tags_asked}
 use Rattle.gixp_refmap.specs.Values.{ContextValue, context_value}
 use Rattle.gixp_refmap.specs.declared.ls_refs.error.Error.{Error as ListError}
-use Rattle.gixp_refmap.specs.declared.ls_refs.error.Error.TheVariants as list
 use Rattle.gixp_refmap.specs.declared.refmap.init.Context.{Context}
 use Rattle.gixp_refmap.specs.declared.refmap.init.Error.{Error as MapError}
-use Rattle.gixp_refmap.specs.declared.refmap.init.Error.TheVariants as init
 use Rattle.gixp_refmap.specs.declared.refmap.map.RefMap.{RefMap}
 use Rattle.gixp_handshake.specs.declared.handshake.read.Handshake.{Handshake}
 use Rattle.gixp_handshake.specs.Shake.{CredentialCall, CompletesHandshake}
@@ -34,10 +33,9 @@ use Rattle.gixp_fetch.specs.Fetched.{FetchCall, Fetches, call_of, unlocked_world
 use Rattle.gixp_fetch.specs.Mapped.{Knowledge}
 use Rattle.gixp_client.specs.ClientError.{IsToldOf, of_request}
 use Rattle.gixp_client.specs.declared.error.Error.{Error}
-use Rattle.gixp_client.specs.declared.error.Error.TheVariants as client
 use Rattle.gixp_client.specs.declared.request.Request.{Request}
-use Rattle.gixp_client.specs.declared.session.State.{State}
-use Rattle.gixp_client.specs.declared.session.State.TheVariants.{AtStop, Ended, Broken}
+use Rattle.gixp_client.specs.declared.state.State.{State}
+use Rattle.gixp_client.specs.declared.state.State.TheVariants.{AtStop, Ended, Broken}
 
 -- the feature that names a client by this text
 abbrev pub named_feature : List ℕ → FeatureValue
@@ -60,44 +58,22 @@ pub record OpensSession (parameters : List Parameter) (plain : Bool) (old new : 
   pub credentials : List CredentialCall
   pub shakes : CompletesHandshake UploadPack parameters plain old new credentials (Ok shaken)
 
+-- all refs are listed, by no prefix, or aren't (gitprotocol-v2, "ls-refs")
+abbrev pub ListsInSession : FeatureValue → Handshake → Bool → Reading → Reading → Result (Vec Ref Global) ListError → Type 0
+ListsInSession agent shaken plain old new r = Lists (listing git_table None shaken.capabilities agent) plain old new r
+
+-- the refs that are here, or else those that are listed
+abbrev pub GivesRefs : FeatureValue → Handshake → Bool → Reading → Option (Vec Ref Global) → List Ref → Type 0
+GivesRefs agent shaken plain old (Some here) refs = refs ≡ here.items
+GivesRefs agent shaken plain old None refs =
+    (listed : Vec Ref Global) × (new : Reading) × ListsInSession agent shaken plain old new (Ok listed) × (refs ≡ listed.items)
+
 -- the ref map of the refspecs of a request, or why there is none, as it is obtained by the handshake
 pub record MapsInSession (request : Request) (agent : FeatureValue) (shaken : Handshake) (plain : Bool) (old new : Reading)
     (r : Result RefMap MapError) : Type 0 where
   pub context : Context
   pub asked : context_value context ≡ asked_specs request
   pub obtains : Obtains git_table agent context shaken plain old new r
-
--- where a session stands behind refs that weren't listed: of a command that the server doesn't take nothing was sent
-abbrev pub behind_list : ListError → State
-behind_list (list.ArgumentValidation e) = AtStop
-behind_list e = Broken
-
--- behind a ref map that was refused: refs that go to one name were listed whole
-abbrev pub behind_init : MapError → State
-behind_init (init.UnknownObjectFormat format) = AtStop
-behind_init (init.MappingValidation e) = AtStop
-behind_init (init.ListRefs e) = behind_list e
-behind_init init.Memory = Broken
-
--- the refs were here, and nothing was sent
-abbrev pub behind_init_if : Bool → MapError → State
-behind_init_if true e = AtStop
-behind_init_if false e = behind_init e
-
--- behind a pack: a server of version 0 or 1 has gone
-abbrev pub behind_pack : Protocol → State
-behind_pack V0 = Ended
-behind_pack V1 = Ended
-behind_pack V2 = AtStop
-
--- behind a fetch: nothing was sent where there was nothing to ask for, the server doesn't offer what was asked for, or the local refs
--- can't be read, which are read first
-abbrev pub behind_fetch : Protocol → Result (Option Outcome) Error → State
-behind_fetch version (Ok None) = AtStop
-behind_fetch version (Ok (Some outcome)) = behind_pack version
-behind_fetch version (Err (client.MissingFeature feature)) = AtStop
-behind_fetch version (Err (client.LocalRefs e)) = AtStop
-behind_fetch version (Err e) = Broken
 
 -- what is told of a fetch: its outcome, or its refusal with nothing of the caller's in it
 abbrev pub IsToldCame : {A X : Type 0} → Result (Option Outcome) (FetchError A X) → Result (Option Outcome) Error → Type 0
@@ -148,12 +124,13 @@ session_knowledge request objects refs =
     record { tags = request.tags; shallow = request.shallow; commits = objects; existing = objects; refs = refs }
 
 module _ {N I A C P X : Type 0} (parties : Parties N I A ShallowMemory C P X) (map_of : N → RefMap) (knows : N → Knowledge) where
-  -- a fetch of a session, from this boundary
-  pub record FetchesInSession (call : FetchCall) (made : RefMap) (known : Knowledge) (boundary : List ObjectId) (old : Reading)
+  -- a fetch of a session, from this boundary to that one
+  pub record FetchesInSession (call : FetchCall) (made : RefMap) (known : Knowledge) (boundary boundary' : List ObjectId) (old : Reading)
       (consumer : C) (told : Result (Option Outcome) Error) (new : Reading) (consumer' : C) : Type 0 where
     pub store : ShallowMemory
     pub store' : ShallowMemory
     pub before : store.ids.items ≡ boundary
+    pub after : store'.ids.items ≡ boundary'
     pub fetches : FetchesMap parties map_of knows call made known old store consumer told new store' consumer'
 
 -- the end, as it is told

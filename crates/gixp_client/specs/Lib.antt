@@ -2,6 +2,10 @@ pub mod Windows
 pub mod Filters
 pub mod ClientError
 pub mod ClientCalls
+pub mod SessionStates
+pub mod ServerWords
+pub mod Sentences
+pub mod ClientMaps
 pub mod ClientPromise
 pub mod Listening
 pub mod Heard

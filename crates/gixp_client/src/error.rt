@@ -5,7 +5,8 @@ ghost use Rattle.bstr.specs.BStr.{bstr_bytes};
 ghost use Rattle.gixp_client.specs.ClientError.{said_in, place_of, kind_in, of_shake, of_refs, of_list, of_init, of_request, of_negotiation, of_refused_pack};
 
 use crate::consumer::PackError;
-use crate::refusal::{answer_kind, client_kind, pack_kind, parse_kind, write_words};
+use crate::refusal::{answer_kind, client_kind, pack_kind, parse_kind};
+use crate::words::Words;
 use bstr::{BStr, BString};
 use gixp_capabilities::client;
 use gixp_fetch::consume::CopyError;
@@ -131,10 +132,21 @@ impl Error {
             _ => None,
         }
     }
+}
 
-    // What is said where neither the server nor a read or write failed.
-    fn write_rest<W: fmt::Write>(&self, f: &mut fmt::Formatter<W>) -> fmt::Result {
-        match self {
+// What is said of an error where neither the server nor a read or write failed.
+#[derive(Drop)]
+struct Rest<'a> {
+    error: &'a Error,
+}
+
+impl Display for Rest<'_> {
+    ghost use Rattle.gixp_client.specs.Sentences.{rest_sentence};
+
+    ghost output = { λ r. rest_sentence r.error.now };
+
+    fn fmt<W: fmt::Write>(&self, f: &mut fmt::Formatter<W>) -> fmt::Result {
+        match self.error {
             Error::Refspec { spec, why } => write!(f, "{spec:?} is no refspec: {why}"),
             Error::Handshake(e) => write!(f, "the handshake was refused: {e:?}"),
             Error::Refs(e) => write!(f, "the list of refs can't be read: {e:?}"),
@@ -146,6 +158,9 @@ impl Error {
             }
             Error::Conflicts(e) => write!(f, "the refs can't be mapped: {e}"),
             Error::Request(e) => write!(f, "a request wasn't sent: {e:?}"),
+            Error::Answer(response::Error::MissingServerCapability { feature }) => {
+                write!(f, "the server doesn't offer {feature}")
+            }
             Error::Answer(e) => write!(f, "an answer can't be read: {e:?}"),
             Error::Unnegotiated { rounds } => {
                 write!(f, "no pack came after {rounds} round(s) of the negotiation")
@@ -165,10 +180,16 @@ impl Error {
 }
 
 impl Display for Error {
+    ghost use Rattle.gixp_client.specs.Sentences.{sentence_of};
+
+    ghost output = { sentence_of };
+
     fn fmt<W: fmt::Write>(&self, f: &mut fmt::Formatter<W>) -> fmt::Result {
-        if let Some(words) = self.server_message() {
-            f.write_str("the server said: ")?;
-            return write_words(f, words.as_bytes());
+        if let Some(said) = self.server_message() {
+            let words = Words {
+                words: said.as_bytes(),
+            };
+            return write!(f, "the server said: {words}");
         }
         if let Error::Pack(PackError::Write(kind)) = self {
             return write!(f, "the pack can't be written: {kind:?}");
@@ -178,7 +199,7 @@ impl Display for Error {
                 write!(f, "the connection ended within {}", self.place())
             }
             Some(kind) => write!(f, "the connection failed within {}: {kind:?}", self.place()),
-            None => self.write_rest(f),
+            None => Rest { error: self }.fmt(f),
         }
     }
 }

@@ -1,5 +1,8 @@
 //! Laws of the definitions, each a function whose contract is the law.
-ghost use Rattle.std.specs.Prelude.{◌≡◌, ℕ, Bool, List, Option, Result, Ok};
+ghost use Rattle.std.specs.Prelude.{◌≡◌, ℕ, Bool, List, Option, Some, None, Vec, Result, Ok};
+ghost use Rattle.std.specs.declared.alloc.Global.{Global as Allocator};
+ghost use Rattle.gixp_refs.specs.declared.handshake.Ref.{Ref};
+ghost use Rattle.gixp_refmap.specs.declared.refmap.init.Error.{Error as MapError};
 ghost use Rattle.gixp_packetline.specs.Reading.{Reading};
 ghost use Rattle.gixp_hash.specs.declared.object_id.ObjectId.{ObjectId};
 ghost use Rattle.gixp_wire.specs.Greeting.{Parameter};
@@ -10,6 +13,7 @@ ghost use Rattle.gixp_fetch.specs.declared.options.Outcome.{Outcome};
 ghost use Rattle.gixp_fetch.specs.Fetch.{parties_of};
 ghost use Rattle.gixp_fetch.specs.Mapped.{Knowledge};
 ghost use Rattle.gixp_client.specs.ClientCalls.{OpensSession, MapsInSession, FetchesInSession, session_call};
+ghost use Rattle.gixp_client.specs.ClientMaps.{MapsRefsHere, ListsForMap};
 ghost use Rattle.gixp_client.specs.ClientPromise.{IsOneRun};
 ghost use Rattle.gixp_client.specs.declared.error.Error.{Error};
 ghost use Rattle.gixp_client.specs.declared.request.Request.{Request};
@@ -27,15 +31,26 @@ use gixp_sidebands::Interrupt;
 /// Of the handshake nothing but its refs may have changed in between.
 pub fn sessions_are_runs<N: PaysForHaves + NegotiatesMap, I: Interrupt, P, C: ConsumePack<P>>()
     ensures { (plain : Bool) (parameters : List Parameter) (agent : FeatureValue) (request : Request) (start shaken middle : Reading)
-        (handshake kept : Handshake) (made : RefMap) (known : Knowledge) (boundary : List ObjectId) (consumer : C)
+        (handshake kept : Handshake) (made : RefMap) (known : Knowledge) (boundary after : List ObjectId) (consumer : C)
         (told : Result (Option Outcome) Error) (new : Reading) (consumer' : C)
         → OpensSession parameters plain start shaken handshake
         → MapsInSession request agent handshake plain shaken middle (Ok made)
         → kept ≡ record handshake { refs = kept.refs }
         → FetchesInSession (parties_of N.calls ⟦<ShallowMemory as ShallowStore>⟧.calls I.says C.consumes plain) N.map_of N.knows
-        (session_call kept agent request) made known boundary middle consumer told new consumer'
+        (session_call kept agent request) made known boundary after middle consumer told new consumer'
         → IsOneRun (parties_of N.calls ⟦<ShallowMemory as ShallowStore>⟧.calls I.says C.consumes plain) N.map_of N.knows
         agent request start made known boundary consumer told new consumer' }
 {
     headline::<N, ShallowMemory, I, P, C>();
 }
+
+/// A ref map of a session is made of the refs that are here, where they are, and nothing is sent for it; else the server lists those
+/// of the prefixes of its refspecs, at each call anew, so that no list for other refspecs answers for these.
+pub fn maps_list_again()
+    ensures here { (request : Request) (agent : FeatureValue) (shaken : Handshake) (refs : Vec Ref Allocator) (plain : Bool)
+        (old new : Reading) (made : Result RefMap MapError) → shaken.refs ≡ Some refs → MapsInSession request agent shaken plain old new made
+        → MapsRefsHere request shaken refs.items old new made }
+    ensures again { (request : Request) (agent : FeatureValue) (shaken : Handshake) (plain : Bool) (old new : Reading)
+        (made : Result RefMap MapError) → shaken.refs ≡ None → MapsInSession request agent shaken plain old new made
+        → ListsForMap request agent shaken plain old new made }
+{}

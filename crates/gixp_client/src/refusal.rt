@@ -1,4 +1,4 @@
-//! What lower errors say of a read or a write that failed, and the words of a server as they are shown.
+//! What lower errors say of a read or a write that failed, and what is told of a refused fetch.
 ghost use Rattle.std.specs.Prelude.{◌≡◌};
 ghost use Rattle.gixp_client.specs.ClientError.{NamesMissing, IsToldOf, client_kind, parse_kind, answer_kind, pack_kind};
 ghost use Rattle.gixp_client.specs.ClientCalls.{IsToldCame};
@@ -12,7 +12,6 @@ use gixp_packetline::read;
 use gixp_refs::handshake::refs::parse;
 use gixp_response::fetch::response;
 use std::alloc::Global;
-use std::fmt;
 use std::io::ErrorKind;
 
 /// That of a call which speaks to the server.
@@ -55,31 +54,6 @@ pub(crate) fn pack_kind(e: &PackError) -> Option<ErrorKind>
         PackError::Read(read::Error::Io(kind)) => Some(*kind),
         _ => None,
     }
-}
-
-// Writes a text, with a question mark for each control character.
-fn write_text<W: fmt::Write>(f: &mut fmt::Formatter<W>, text: &str) -> fmt::Result {
-    for shown in text.chars() {
-        f.write_char(if shown.is_control() { '?' } else { shown })?;
-    }
-    Ok(())
-}
-
-/// Writes the words of a server without one line end behind them, so that a terminal takes none of them for a command: a
-/// control character is a question mark, and so is what isn't ASCII where they aren't UTF-8.
-pub(crate) fn write_words<W: fmt::Write>(f: &mut fmt::Formatter<W>, words: &[u8]) -> fmt::Result {
-    let words = words.strip_suffix(b"\n".as_slice()).unwrap_or(words);
-    if let Ok(text) = str::from_utf8(words) {
-        return write_text(f, text);
-    }
-    for byte in words {
-        f.write_char(if 32 <= *byte && *byte < 127 {
-            *byte as char
-        } else {
-            '?'
-        })?;
-    }
-    Ok(())
 }
 
 /// What the server doesn't offer.

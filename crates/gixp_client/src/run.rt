@@ -7,7 +7,6 @@ ghost use Rattle.gixp_client.specs.ClientCalls.{named_feature, HoldsAndTells, Fe
 use crate::error::Error;
 use crate::over::Filtered;
 use crate::refusal::told;
-use crate::repository::Repository;
 use crate::request::Request;
 use crate::windows::{MOST_HAVES, Windowed};
 use gixp_fetch::consume::ConsumePack;
@@ -20,7 +19,7 @@ use gixp_memory::NoAlternates;
 use gixp_negotiate::negotiate::Negotiate;
 use gixp_negotiate::negotiate::negotiation::{NegotiateContext, Negotiation};
 use gixp_packetline::Protocol;
-use gixp_progress::Discard;
+use gixp_progress::NestedProgress;
 use gixp_refmap::RefMap;
 use gixp_requests::command::{CommandTable, Feature};
 use gixp_shallow::{ShallowMemory, ShallowStore};
@@ -57,25 +56,47 @@ fn named(agent: String) -> Feature
     ("agent", Some(agent))
 }
 
+/// What a fetch is of: what is mapped, whose repository fetches it and how, and who chooses the haves.
+pub(crate) struct Wanted<'a, F, R, N> {
+    pub(crate) map: &'a RefMap,
+    pub(crate) objects: &'a F,
+    pub(crate) refs: &'a mut R,
+    pub(crate) request: &'a Request,
+    pub(crate) negotiator: &'a mut N,
+}
+
+/// With whom a fetch speaks, and who hears how far it has come.
+pub(crate) struct Peer<'s, T, P> {
+    pub(crate) shaken: &'s mut Handshake,
+    pub(crate) transport: &'s mut T,
+    pub(crate) progress: &'s mut P,
+}
+
 // Fetches what a negotiation asks for. No signature here names a static lifetime, which the negotiation's own stand beside.
-fn fetch_over<N: Negotiate, T: Transport, C: ConsumePack<Discard>>(
+fn fetch_over<N: Negotiate, T: Transport, P: NestedProgress, C: ConsumePack<P>>(
     alloc: Global,
     negotiation: &mut N,
     agent: String,
     request: &Request,
-    shaken: &mut Handshake,
-    transport: &mut T,
+    peer: Peer<'_, T, P>,
     store: &mut ShallowMemory,
     pack: &mut C,
 ) -> Result<Option<Outcome>, Error>
 where
+    P::SubProgress: Drop,
     C::Error: Into<Error>,
-    ensures taken { shaken.new ≡ record shaken.old { v1_shallow_updates = None } }
+    ensures taken { peer.exit.0.now ≡ record peer.entry.shaken.now { v1_shallow_updates = None } }
     ensures fetched { HoldsAndTells
         (parties_of N.calls ⟦<ShallowMemory as ShallowStore>⟧.calls ⟦<NeverInterrupt as Interrupt>⟧.says C.consumes T.is_plain)
-        (session_call shaken.old (named_feature (string_bytes agent)) request.now) negotiation.old (T.reading transport.old) store.old
-        pack.old result negotiation.new (T.reading transport.new) store.new pack.new }
+        (session_call peer.entry.shaken.now (named_feature (string_bytes agent)) request.now) negotiation.old
+        (T.reading peer.entry.transport.now) store.old pack.old result negotiation.new (T.reading peer.exit.1.0.now) store.new
+        pack.new }
 {
+    let Peer {
+        shaken,
+        transport,
+        progress,
+    } = peer;
     let context = Context {
         handshake: shaken,
         transport,
@@ -88,12 +109,11 @@ where
         reject_shallow_remote: request.rejects_shallow,
     };
     let mut never = NeverInterrupt;
-    let mut quiet = Discard;
     let came = fetch(
         alloc,
         negotiation,
         pack,
-        &mut quiet,
+        progress,
         &mut never,
         named(agent),
         context,
@@ -109,42 +129,42 @@ pub(crate) fn fetch_mapped<
     R: RefStore,
     N: Negotiator,
     T: Transport,
-    C: ConsumePack<Discard>,
+    P: NestedProgress,
+    C: ConsumePack<P>,
 >(
     alloc: Global,
-    map: &'a RefMap,
-    repository: Repository<'a, F, R>,
-    request: &'a Request,
-    negotiator: &'a mut N,
+    wanted: Wanted<'a, F, R, N>,
     agent: String,
-    shaken: &mut Handshake,
-    transport: &mut T,
+    peer: Peer<'_, T, P>,
     store: &mut ShallowMemory,
     pack: &mut C,
 ) -> Result<Option<Outcome>, Error>
 where
+    P::SubProgress: Drop,
     C::Error: Into<Error>,
-    ensures taken { shaken.new ≡ record shaken.old { v1_shallow_updates = None } }
+    ensures taken { peer.exit.0.now ≡ record peer.entry.shaken.now { v1_shallow_updates = None } }
     ensures fetched { FetchesMap
         (parties_of ⟦<SessionNegotiation<'a, F, R, N> as Negotiate>⟧.calls ⟦<ShallowMemory as ShallowStore>⟧.calls
         ⟦<NeverInterrupt as Interrupt>⟧.says C.consumes T.is_plain)
         ⟦<SessionNegotiation<'a, F, R, N> as NegotiatesMap>⟧.map_of ⟦<SessionNegotiation<'a, F, R, N> as NegotiatesMap>⟧.knows
-        (session_call shaken.old (named_feature (string_bytes agent)) request.now) map.now
+        (session_call peer.entry.shaken.now (named_feature (string_bytes agent)) wanted.entry.request.now) wanted.entry.map.now
         (record {
-          tags = request.now.tags;
-          shallow = request.now.shallow;
-          commits = F.contents repository.entry.objects.now;
-          existing = F.contents repository.entry.objects.now;
-          refs = R.refs repository.entry.refs.now;
+          tags = wanted.entry.request.now.tags;
+          shallow = wanted.entry.request.now.shallow;
+          commits = F.contents wanted.entry.objects.now;
+          existing = F.contents wanted.entry.objects.now;
+          refs = R.refs wanted.entry.refs.now;
         })
-        (T.reading transport.old) store.old pack.old result (T.reading transport.new) store.new pack.new }
+        (T.reading peer.entry.transport.now) store.old pack.old result (T.reading peer.exit.1.0.now) store.new pack.new }
 {
-    let Repository {
+    let Wanted {
+        map,
         objects,
         refs,
-        boundary: _,
-    } = repository;
-    let most = most_haves(shaken.server_protocol_version, request.is_over_pipes);
+        request,
+        negotiator,
+    } = wanted;
+    let most = most_haves(peer.shaken.server_protocol_version, request.is_over_pipes);
     let shared = Shared::new(objects);
     let mut graph = Graph::new(alloc, Shared::new(objects));
     let context = NegotiateContext {
@@ -157,14 +177,5 @@ where
     let negotiation = Negotiation::new(context, map, &request.shallow, request.tags);
     let windowed = Windowed::new(negotiation, most);
     let mut filtered = Filtered::new(windowed, request.filter.as_deref());
-    fetch_over(
-        alloc,
-        &mut filtered,
-        agent,
-        request,
-        shaken,
-        transport,
-        store,
-        pack,
-    )
+    fetch_over(alloc, &mut filtered, agent, request, peer, store, pack)
 }

@@ -1,80 +1,53 @@
 //! A session with a server.
-ghost use Rattle.std.specs.Prelude.{◌≡◌, ◌≢◌, ◌⊎◌, [], None, Ok, Err, IfOk, IfErr, OnOk, MatchResult, is_some, string_bytes};
+ghost use Rattle.std.specs.Prelude.{◌≡◌, ◌≢◌, ◌⊎◌, [], Some, None, Ok, Err, IfOk, IfErr, OnOk, MatchResult, is_some, string_bytes, Vec};
 ghost use Rattle.std.specs.Option.{option_map};
+ghost use Rattle.std.specs.declared.alloc.Global.{Global as Allocator};
+ghost use Rattle.gixp_wire.specs.declared.service.Service.TheVariants.{UploadPack};
 ghost use Rattle.gixp_wire.specs.Greeting.{parameters_of};
+ghost use Rattle.gixp_refs.specs.declared.handshake.Ref.{Ref as ListedRef};
 ghost use Rattle.gixp_requests.specs.Feature.{feature_value};
+ghost use Rattle.gixp_refmap.specs.declared.ls_refs.error.Error.{Error as ListError};
 ghost use Rattle.gixp_refmap.specs.declared.refmap.init.Error.{Error as MapError};
 ghost use Rattle.gixp_handshake.specs.HandshakeValues.{refs_value};
+ghost use Rattle.gixp_handshake.specs.ObtainProgress.{TellsObtained};
+ghost use Rattle.gixp_handshake.specs.ShakeProgress.{TellsShake};
 ghost use Rattle.gixp_client.specs.ClientError.{of_list, of_init};
-ghost use Rattle.std.specs.Prelude.{Option, Result};
-ghost use Rattle.gixp_fetch.specs.declared.options.Outcome.{Outcome};
-ghost use Rattle.gixp_fetch.specs.Fetch.{parties_of};
-ghost use Rattle.gixp_client.specs.ClientError.{IsUnsent};
-ghost use Rattle.gixp_client.specs.ClientCalls.{session_call, session_knowledge, named_feature, FetchesMap, FetchesInSession, ClosesSession, client_feature, OpensSession, MapsInSession, behind_list, behind_init, behind_init_if, behind_fetch};
+ghost use Rattle.gixp_client.specs.ClientCalls.{client_feature, OpensSession, ListsInSession, GivesRefs, MapsInSession, ClosesSession};
+ghost use Rattle.gixp_client.specs.SessionStates.{behind_refusal, behind_map};
 
-use crate::boundary::Boundary;
 use crate::error::Error;
-use crate::fetched::Fetched;
 use crate::heard::Heard;
-use crate::listen::{Kept, Listener};
-use crate::refusal::missing;
-use crate::repository::Repository;
+use crate::listen::Listener;
 use crate::request::Request;
-use crate::run::{SessionNegotiation, fetch_mapped};
+use crate::state::{State, behind_map, behind_refusal};
 use gixp_capabilities::Capabilities;
-use gixp_fetch::consume::ConsumePack;
-use gixp_fetch::mapped::NegotiatesMap;
-use gixp_fetch::options::Outcome;
-use gixp_graph::{Find, Negotiator, RefStore};
 use gixp_handshake::credentials::{self, Action};
-use gixp_handshake::handshake::{self, handshake, obtain};
+use gixp_handshake::handshake::{handshake, obtain};
 use gixp_handshake::{Handshake, indicate_end_of_interaction};
-use gixp_hash::ObjectId;
-use gixp_negotiate::negotiate::Negotiate;
-use gixp_negotiators::AnyNegotiator;
 use gixp_packetline::Protocol;
-use gixp_progress::Discard;
-use gixp_refmap::refmap::{copied_refs, init};
-use gixp_refmap::{LsRefsCommand, RefMap, ls_refs};
+use gixp_progress::{Discard, NestedProgress};
+use gixp_refmap::refmap::copied_refs;
+use gixp_refmap::{LsRefsCommand, RefMap};
 use gixp_refs::handshake::Ref;
+use gixp_requests::agent;
 use gixp_requests::command::{CommandTable, Feature};
-use gixp_requests::fetch::Arguments;
-use gixp_requests::{Command, agent};
-use gixp_shallow::{Shallow, ShallowMemory, ShallowStore};
-use gixp_sidebands::{Interrupt, NeverInterrupt};
 use gixp_wire::{Service, Transport};
 use std::alloc::{AllocError, Global};
-
-/// Where a session stands.
-#[derive(Clone, Copy, Debug, PartialEq, Eq, Drop)]
-pub enum State {
-    /// The server waits for a request: the transport is behind all that it said.
-    AtStop,
-    /// The conversation is over.
-    Ended,
-    /// A call was refused within a request or its answer. Nothing can be asked for any more.
-    Broken,
-}
 
 /// A session with a server: after the handshake its refs can be listed and mapped, and what is mapped fetched, under version 2 as
 /// often as need be.
 ///
-/// A call that is refused before anything was sent leaves it as it was; after any other it is `Broken`, and every later call is
-/// refused (`Error::Over`) and sends nothing. When it is dropped it is closed.
-pub struct Session<T: Transport + Drop, L: Listener + Drop> {
-    alloc: Global,
-    transport: Heard<T, L>,
-    shaken: Handshake,
-    agent: String,
-    state: State,
-}
-
-// The name of a client as the server is told it.
-fn client_name(alloc: Global, name: &String) -> Result<String, AllocError>
-    ensures { IfOk result (λ text. named_feature (string_bytes text) ≡ client_feature (string_bytes name.now)) }
-{
-    let text = agent(alloc, name.as_str())?;
-    Ok(text)
+/// `state` says where a refused call leaves it. A call that is refused before anything was sent leaves it as it was, and so does one
+/// that gives up where the server waits for a request; where the server says why it refuses, it has gone; and behind a failed read or
+/// write, or what can't be read, the session is broken. Then every later call is refused (`Error::Over`) and sends nothing. When it is
+/// dropped it is closed.
+pub struct Session<T: Transport + Drop, L: Listener + Drop, P: NestedProgress + Drop = Discard> {
+    pub(crate) alloc: Global,
+    pub(crate) transport: Heard<T, L>,
+    pub(crate) shaken: Handshake,
+    pub(crate) agent: String,
+    pub(crate) state: State,
+    pub(crate) progress: P,
 }
 
 // The feature that names a client.
@@ -95,57 +68,7 @@ fn has_refs(refs: &Option<Vec<Ref>>) -> bool
     }
 }
 
-// Where a session stands behind a refused listing. That of a command that the server doesn't take was sent nothing of.
-fn behind_listing(e: &ls_refs::Error) -> State
-    ensures { result ≡ behind_list e.now }
-{
-    match e {
-        ls_refs::Error::ArgumentValidation(_) => State::AtStop,
-        _ => State::Broken,
-    }
-}
-
-// Where it stands behind a refused ref map.
-fn behind_map(e: &init::Error) -> State
-    ensures { result ≡ behind_init e.now }
-{
-    match e {
-        init::Error::UnknownObjectFormat { .. } | init::Error::MappingValidation(_) => {
-            State::AtStop
-        }
-        init::Error::ListRefs(e) => behind_listing(e),
-        init::Error::Memory => State::Broken,
-    }
-}
-
-// Where it stands behind one of refs that are here, for which nothing was sent, or of others.
-fn behind_mapping(is_here: bool, e: &init::Error) -> State
-    ensures { result ≡ behind_init_if is_here e.now }
-{
-    if is_here {
-        State::AtStop
-    } else {
-        behind_map(e)
-    }
-}
-
-// Where it stands behind a fetch. A server of version 0 or 1 ends behind a pack.
-fn behind_fetch(version: Protocol, came: &Result<Option<Outcome>, Error>) -> State
-    ensures { result ≡ behind_fetch version came.now }
-{
-    match came {
-        Ok(None) => State::AtStop,
-        Ok(Some(_)) => match version {
-            Protocol::V2 => State::AtStop,
-            Protocol::V0 | Protocol::V1 => State::Ended,
-        },
-        Err(Error::MissingFeature { .. }) => State::AtStop,
-        Err(Error::LocalRefs(_)) => State::AtStop,
-        Err(_) => State::Broken,
-    }
-}
-
-impl<T: Transport + Drop, L: Listener + Drop> Session<T, L> {
+impl<T: Transport + Drop, L: Listener + Drop> Session<T, L, Discard> {
     /// Shakes hands (gitprotocol-pack, "Reference Discovery"; gitprotocol-v2, "Capability Advertisement"), without an account. The
     /// versions that are accepted are those of the transport. The server knows the client by this agent, and what it says beside its
     /// answers goes to the listener.
@@ -158,7 +81,7 @@ impl<T: Transport + Drop, L: Listener + Drop> Session<T, L> {
         transport: T,
         agent: &str,
         listener: L,
-    ) -> Result<Session<T, L>, Error>
+    ) -> Result<Session<T, L, Discard>, Error>
         ensures opened { IfOk result (λ s. OpensSession [] T.is_plain (T.reading transport) (T.reading s.transport.inner) s.shaken) }
         ensures named { IfOk result (λ s. string_bytes s.agent ≡ agent.now) }
         ensures state { IfOk result (λ s. s.state ≡ State.AtStop) }
@@ -170,11 +93,15 @@ impl<T: Transport + Drop, L: Listener + Drop> Session<T, L> {
             listener,
             |_: Action| -> Result<Option<credentials::Outcome>, credentials::Error> { Ok(None) },
             Vec::new(alloc),
+            Discard,
         )
     }
+}
 
-    /// Shakes hands as `open` does, with these parameters beside those of the transport. Where the server wants an account, `authenticate` is asked for
-    /// one, and told afterwards to store or to erase it (gitcredentials).
+impl<T: Transport + Drop, L: Listener + Drop, P: NestedProgress + Drop> Session<T, L, P> {
+    /// Shakes hands as `open` does, with these parameters beside those of the transport. Where the server wants an account,
+    /// `authenticate` is asked for one, and told afterwards to store or to erase it (gitcredentials). The progress reporter is told
+    /// of all calls of the session, as `handshake`, `obtain` and `fetch` say.
     ///
     /// # Errors
     ///
@@ -186,7 +113,8 @@ impl<T: Transport + Drop, L: Listener + Drop> Session<T, L> {
         listener: L,
         authenticate: A,
         extra_parameters: Vec<(String, Option<String>)>,
-    ) -> Result<Session<T, L>, Error>
+        progress: P,
+    ) -> Result<Session<T, L, P>, Error>
     where
         A: FnMut(Action) -> Result<Option<credentials::Outcome>, credentials::Error> + Drop,
         requires { A.IsAlwaysCallable authenticate }
@@ -194,16 +122,19 @@ impl<T: Transport + Drop, L: Listener + Drop> Session<T, L> {
             (T.reading s.transport.inner) s.shaken) }
         ensures named { IfOk result (λ s. string_bytes s.agent ≡ agent.now) }
         ensures state { IfOk result (λ s. s.state ≡ State.AtStop) }
+        ensures told { IfOk result (λ s. TellsShake P.told UploadPack (parameters_of extra_parameters.items) (T.reading transport) progress
+            (Ok s.shaken) s.progress) }
     {
         let agent = String::from_str(alloc, agent)?;
         let mut transport = Heard::new(alloc, transport, listener);
+        let mut progress = progress;
         let shaken = handshake(
             alloc,
             &mut transport,
             Service::UploadPack,
             authenticate,
             extra_parameters,
-            &mut Discard,
+            &mut progress,
         )?;
         Ok(Session {
             alloc,
@@ -211,6 +142,7 @@ impl<T: Transport + Drop, L: Listener + Drop> Session<T, L> {
             shaken,
             agent,
             state: State::AtStop,
+            progress,
         })
     }
 
@@ -235,8 +167,15 @@ impl<T: Transport + Drop, L: Listener + Drop> Session<T, L> {
         &self.shaken.capabilities
     }
 
+    /// The progress reporter, as it was told so far.
+    pub fn progress(&self) -> &P
+        ensures { result.now ≡ self.now.progress }
+    {
+        &self.progress
+    }
+
     // Refuses a call where the session is broken or over.
-    fn expect_open(&self) -> Result<(), Error>
+    pub(crate) fn expect_open(&self) -> Result<(), Error>
         ensures { MatchResult result (λ _. self.now.state ≡ State.AtStop) (λ e. (e ≡ Error.Over) × (self.now.state ≢ State.AtStop)) }
     {
         match self.state {
@@ -245,8 +184,20 @@ impl<T: Transport + Drop, L: Listener + Drop> Session<T, L> {
         }
     }
 
-    // Lists all refs.
-    fn list(&mut self) -> Result<Vec<Ref>, Error> {
+    // Asks for all refs, and keeps them.
+    fn ask_refs(&mut self) -> Result<(), Error>
+        ensures over { self.old.state ≢ State.AtStop → (result ≡ Err Error.Over) × (self.new ≡ self.old) }
+        ensures listed { OnOk result ((refs : Vec ListedRef Allocator) × ListsInSession (client_feature (string_bytes self.old.agent))
+            self.old.shaken T.is_plain (T.reading self.old.transport.inner) (T.reading self.new.transport.inner) (Ok refs)
+            × (self.new.shaken ≡ record self.old.shaken { refs = Some refs })) }
+        ensures refused { IfErr result (λ e. ((self.new ≡ self.old) × ((e ≡ Error.Over) ⊎ (e ≡ Error.Memory)))
+            ⊎ ((x : ListError) × ListsInSession (client_feature (string_bytes self.old.agent)) self.old.shaken T.is_plain
+            (T.reading self.old.transport.inner) (T.reading self.new.transport.inner) (Err x) × (e ≡ of_list x)
+            × (self.new.state ≡ behind_refusal self.old.shaken.server_protocol_version (of_list x))
+            × (self.new.shaken ≡ self.old.shaken))) }
+        ensures stays { OnOk result (self.new.state ≡ self.old.state) }
+        ensures agent { self.new.agent ≡ self.old.agent }
+    {
         self.expect_open()?;
         let table = CommandTable::git();
         let name = named(self.alloc, &self.agent)?;
@@ -257,26 +208,57 @@ impl<T: Transport + Drop, L: Listener + Drop> Session<T, L> {
             &self.shaken.capabilities,
             name,
         )?;
-        match command.invoke_blocking(self.alloc, &mut self.transport, &mut Discard) {
-            Ok(refs) => Ok(refs),
+        match command.invoke_blocking(self.alloc, &mut self.transport, &mut self.progress) {
+            Ok(refs) => {
+                self.shaken.refs = Some(refs);
+                Ok(())
+            }
             Err(e) => {
-                self.state = behind_listing(&e);
-                Err(Error::from(e))
+                let e = Error::from(e);
+                self.state = behind_refusal(self.shaken.server_protocol_version, &e);
+                Err(e)
             }
         }
     }
 
-    /// All refs of the server: those that came with the handshake (versions 0 and 1), or those that it lists when it is asked
-    /// (version 2), which happens once. They stay in the session, and later ref maps are made of them.
+    /// Lists all refs of the server, unless they are here: those that came with the handshake (versions 0 and 1), or of an earlier call
+    /// (version 2; gitprotocol-v2, "ls-refs"). They stay in the session, and later ref maps are made of them.
     ///
     /// # Errors
     ///
-    /// `Refs`, `Request` or `UnsupportedListing` where they can't be listed, `Over`, or `Memory`.
-    pub fn refs(&mut self) -> Result<&[Ref], Error> {
-        if self.shaken.refs.is_none() {
-            let refs = self.list()?;
-            self.shaken.refs = Some(refs);
+    /// `Refs`, `Request` or `UnsupportedListing` where they can't be listed, `Over`, or `Memory`; `state` says what stands then, and
+    /// no refs are kept.
+    pub fn list(&mut self) -> Result<(), Error>
+        ensures here { self.old.shaken.refs ≢ None → (result ≡ Ok tt) × (self.new ≡ self.old) }
+        ensures over { self.old.shaken.refs ≡ None → self.old.state ≢ State.AtStop → (result ≡ Err Error.Over) × (self.new ≡ self.old) }
+        ensures listed { self.old.shaken.refs ≡ None → OnOk result ((refs : Vec ListedRef Allocator) × ListsInSession
+            (client_feature (string_bytes self.old.agent)) self.old.shaken T.is_plain (T.reading self.old.transport.inner)
+            (T.reading self.new.transport.inner) (Ok refs) × (self.new.shaken ≡ record self.old.shaken { refs = Some refs })) }
+        ensures refused { IfErr result (λ e. ((self.new ≡ self.old) × ((e ≡ Error.Over) ⊎ (e ≡ Error.Memory)))
+            ⊎ ((x : ListError) × ListsInSession (client_feature (string_bytes self.old.agent)) self.old.shaken T.is_plain
+            (T.reading self.old.transport.inner) (T.reading self.new.transport.inner) (Err x) × (e ≡ of_list x)
+            × (self.new.state ≡ behind_refusal self.old.shaken.server_protocol_version (of_list x))
+            × (self.new.shaken ≡ self.old.shaken))) }
+        ensures stays { OnOk result (self.new.state ≡ self.old.state) }
+        ensures agent { self.new.agent ≡ self.old.agent }
+    {
+        match self.shaken.refs {
+            Some(_) => Ok(()),
+            None => self.ask_refs(),
         }
+    }
+
+    /// All refs of the server, listed as `list` does.
+    ///
+    /// # Errors
+    ///
+    /// As `list`. Refs that are here are given whatever the state.
+    pub fn refs(&mut self) -> Result<&[Ref], Error>
+        ensures given { IfOk result (λ refs. GivesRefs (client_feature (string_bytes self.old.agent)) self.old.shaken T.is_plain
+            (T.reading self.old.transport.inner) self.old.shaken.refs refs.now) }
+        ensures refused { IfErr result (λ e. (e ≡ Error.Over) ⊎ (e ≡ Error.Memory) ⊎ ((x : ListError) × (e ≡ of_list x))) }
+    {
+        self.list()?;
         match &self.shaken.refs {
             Some(refs) => Ok(refs),
             None => Ok(&[]),
@@ -293,9 +275,11 @@ impl<T: Transport + Drop, L: Listener + Drop> Session<T, L> {
         }
     }
 
-    /// What the refspecs of a request, and that of its tags, map of the refs of the server (git-fetch, "<refspec>"). It is made of
-    /// the refs that are here, with no request, where all of them are; else the server lists those of the refspecs' prefixes, which
-    /// then are in the map.
+    /// What the refspecs of a request, and that of its tags, map of the refs of the server (git-fetch, "<refspec>").
+    ///
+    /// It is made of the refs that are here, with no request, where all of them are: those of the handshake, or of a call of `refs`.
+    /// Else the server lists those of these refspecs' prefixes, at each call anew, and they stay in the map alone: what was listed for
+    /// other refspecs never answers for these ([`laws::maps_list_again`](crate::laws::maps_list_again)).
     ///
     /// # Errors
     ///
@@ -308,8 +292,9 @@ impl<T: Transport + Drop, L: Listener + Drop> Session<T, L> {
         ensures refused { IfErr result (λ e. ((self.new ≡ self.old) × ((e ≡ Error.Over) ⊎ (e ≡ Error.Memory)))
             ⊎ ((x : MapError) × MapsInSession request.now (client_feature (string_bytes self.old.agent)) self.old.shaken T.is_plain
             (T.reading self.old.transport.inner) (T.reading self.new.transport.inner) (Err x) × (e ≡ of_init x)
-            × (self.new.state ≡ behind_init_if (is_some self.old.shaken.refs) x))) }
+            × (self.new.state ≡ behind_map (is_some self.old.shaken.refs) self.old.shaken.server_protocol_version (of_init x)))) }
         ensures stays { OnOk result (self.new.state ≡ self.old.state) }
+        ensures told { IfOk result (λ m. TellsObtained P.told self.old.shaken.refs self.old.progress (Ok m) self.new.progress) }
         ensures handshake { self.new.shaken ≡ record self.old.shaken { refs = self.new.shaken.refs } }
         ensures refs { option_map refs_value self.new.shaken.refs ≡ option_map refs_value self.old.shaken.refs }
         ensures agent { self.new.agent ≡ self.old.agent }
@@ -319,156 +304,24 @@ impl<T: Transport + Drop, L: Listener + Drop> Session<T, L> {
         let name = named(self.alloc, &self.agent)?;
         let here = self.refs_here()?;
         let is_here = has_refs(&self.shaken.refs);
+        let version = self.shaken.server_protocol_version;
         let made = obtain(
             self.alloc,
             &mut self.shaken,
             &CommandTable::git(),
             name,
             context,
-            &mut Discard,
+            &mut self.progress,
             &mut self.transport,
         );
         self.shaken.refs = here;
         match made {
             Ok(map) => Ok(map),
             Err(e) => {
-                self.state = behind_mapping(is_here, &e);
-                Err(Error::from(e))
+                let e = Error::from(e);
+                self.state = behind_map(is_here, version, &e);
+                Err(e)
             }
-        }
-    }
-
-    // A fetch, and where the session then stands.
-    fn carry_out<'a, F: Find, R: RefStore, N: Negotiator, C: ConsumePack<Discard>>(
-        &mut self,
-        map: &'a RefMap,
-        repository: Repository<'a, F, R>,
-        request: &'a Request,
-        negotiator: &'a mut N,
-        agent: String,
-        store: &mut ShallowMemory,
-        pack: &mut C,
-    ) -> Result<Option<Outcome>, Error>
-    where
-        C::Error: Into<Error>,
-        ensures fetched { FetchesMap
-            (parties_of ⟦<SessionNegotiation<'a, F, R, N> as Negotiate>⟧.calls ⟦<ShallowMemory as ShallowStore>⟧.calls
-            ⟦<NeverInterrupt as Interrupt>⟧.says C.consumes T.is_plain)
-            ⟦<SessionNegotiation<'a, F, R, N> as NegotiatesMap>⟧.map_of ⟦<SessionNegotiation<'a, F, R, N> as NegotiatesMap>⟧.knows
-            (session_call self.old.shaken (named_feature (string_bytes agent)) request.now) map.now
-            (session_knowledge request.now (F.contents repository.entry.objects.now) (R.refs repository.entry.refs.now))
-            (T.reading self.old.transport.inner) store.old pack.old result (T.reading self.new.transport.inner) store.new pack.new }
-        ensures state { self.new.state ≡ behind_fetch self.old.shaken.server_protocol_version result }
-    {
-        let version = self.shaken.server_protocol_version;
-        let came = fetch_mapped(
-            self.alloc,
-            map,
-            repository,
-            request,
-            negotiator,
-            agent,
-            &mut self.shaken,
-            &mut self.transport,
-            store,
-            pack,
-        );
-        self.state = behind_fetch(version, &came);
-        came
-    }
-
-    /// Fetches what is mapped, as the request asks for it: the pack goes to its consumer, as a `CopyPack` of a writer. Where nothing
-    /// is mapped, nothing is sent.
-    ///
-    /// # Errors
-    ///
-    /// Those of [`Error`]. What the consumer has is then to be thrown away, and the boundary and the refs are to stay as they are.
-    pub fn fetch<'a, F: Find, R: RefStore, C: ConsumePack<Discard>>(
-        &mut self,
-        map: &'a RefMap,
-        repository: Repository<'a, F, R>,
-        request: &'a Request,
-        pack: &mut C,
-    ) -> Result<Fetched, Error>
-    where
-        C::Error: Into<Error>,
-        ensures over { self.old.state ≢ State.AtStop → (result ≡ Err Error.Over) × (self.new ≡ self.old) × (pack.new ≡ pack.old) }
-        ensures fetched { IfOk result (λ f. ((map.now.mappings.items ≡ []) × (f.outcome ≡ None) × (self.new ≡ self.old) × (pack.new ≡ pack.old))
-            ⊎ FetchesInSession (parties_of ⟦<SessionNegotiation<'a, F, R, AnyNegotiator> as Negotiate>⟧.calls ⟦<ShallowMemory as ShallowStore>⟧.calls
-            ⟦<NeverInterrupt as Interrupt>⟧.says C.consumes T.is_plain)
-            ⟦<SessionNegotiation<'a, F, R, AnyNegotiator> as NegotiatesMap>⟧.map_of ⟦<SessionNegotiation<'a, F, R, AnyNegotiator> as NegotiatesMap>⟧.knows
-            (session_call self.old.shaken (client_feature (string_bytes self.old.agent)) request.now) map.now
-            (session_knowledge request.now (F.contents repository.entry.objects.now) (R.refs repository.entry.refs.now))
-            repository.entry.boundary.now (T.reading self.old.transport.inner) pack.old (Ok f.outcome)
-            (T.reading self.new.transport.inner) pack.new) }
-        ensures refused { IfErr result (λ e. (IsUnsent e × (self.new ≡ self.old) × (pack.new ≡ pack.old))
-            ⊎ ((told : Result (Option Outcome) Error) × FetchesInSession (parties_of ⟦<SessionNegotiation<'a, F, R, AnyNegotiator> as Negotiate>⟧.calls ⟦<ShallowMemory as ShallowStore>⟧.calls
-            ⟦<NeverInterrupt as Interrupt>⟧.says C.consumes T.is_plain)
-            ⟦<SessionNegotiation<'a, F, R, AnyNegotiator> as NegotiatesMap>⟧.map_of ⟦<SessionNegotiation<'a, F, R, AnyNegotiator> as NegotiatesMap>⟧.knows
-            (session_call self.old.shaken (client_feature (string_bytes self.old.agent)) request.now) map.now
-            (session_knowledge request.now (F.contents repository.entry.objects.now) (R.refs repository.entry.refs.now))
-            repository.entry.boundary.now (T.reading self.old.transport.inner) pack.old told
-            (T.reading self.new.transport.inner) pack.new
-            × (self.new.state ≡ behind_fetch self.old.shaken.server_protocol_version told))) }
-    {
-        let mut negotiator = request.algorithm.negotiator(self.alloc);
-        self.fetch_with(map, repository, request, &mut negotiator, pack)
-    }
-
-    /// The same, with a negotiator of the caller's in place of the request's algorithm. It is for one fetch.
-    ///
-    /// # Errors
-    ///
-    /// As `fetch`.
-    pub fn fetch_with<'a, F: Find, R: RefStore, N: Negotiator, C: ConsumePack<Discard>>(
-        &mut self,
-        map: &'a RefMap,
-        repository: Repository<'a, F, R>,
-        request: &'a Request,
-        negotiator: &'a mut N,
-        pack: &mut C,
-    ) -> Result<Fetched, Error>
-    where
-        C::Error: Into<Error>,
-        ensures over { self.old.state ≢ State.AtStop → (result ≡ Err Error.Over) × (self.new ≡ self.old) × (pack.new ≡ pack.old) }
-        ensures fetched { IfOk result (λ f. ((map.now.mappings.items ≡ []) × (f.outcome ≡ None) × (self.new ≡ self.old) × (pack.new ≡ pack.old))
-            ⊎ FetchesInSession (parties_of ⟦<SessionNegotiation<'a, F, R, N> as Negotiate>⟧.calls ⟦<ShallowMemory as ShallowStore>⟧.calls
-            ⟦<NeverInterrupt as Interrupt>⟧.says C.consumes T.is_plain)
-            ⟦<SessionNegotiation<'a, F, R, N> as NegotiatesMap>⟧.map_of ⟦<SessionNegotiation<'a, F, R, N> as NegotiatesMap>⟧.knows
-            (session_call self.old.shaken (client_feature (string_bytes self.old.agent)) request.now) map.now
-            (session_knowledge request.now (F.contents repository.entry.objects.now) (R.refs repository.entry.refs.now))
-            repository.entry.boundary.now (T.reading self.old.transport.inner) pack.old (Ok f.outcome)
-            (T.reading self.new.transport.inner) pack.new) }
-        ensures refused { IfErr result (λ e. (IsUnsent e × (self.new ≡ self.old) × (pack.new ≡ pack.old))
-            ⊎ ((told : Result (Option Outcome) Error) × FetchesInSession (parties_of ⟦<SessionNegotiation<'a, F, R, N> as Negotiate>⟧.calls ⟦<ShallowMemory as ShallowStore>⟧.calls
-            ⟦<NeverInterrupt as Interrupt>⟧.says C.consumes T.is_plain)
-            ⟦<SessionNegotiation<'a, F, R, N> as NegotiatesMap>⟧.map_of ⟦<SessionNegotiation<'a, F, R, N> as NegotiatesMap>⟧.knows
-            (session_call self.old.shaken (client_feature (string_bytes self.old.agent)) request.now) map.now
-            (session_knowledge request.now (F.contents repository.entry.objects.now) (R.refs repository.entry.refs.now))
-            repository.entry.boundary.now (T.reading self.old.transport.inner) pack.old told
-            (T.reading self.new.transport.inner) pack.new
-            × (self.new.state ≡ behind_fetch self.old.shaken.server_protocol_version told))) }
-    {
-        self.expect_open()?;
-        let alloc = self.alloc;
-        let before = repository.boundary;
-        if map.is_empty() {
-            return Ok(Fetched {
-                outcome: None,
-                boundary: Boundary::kept(alloc, before)?,
-                messages: Kept::new(alloc),
-            });
-        }
-        expect_filter(alloc, &self.shaken, request)?;
-        let agent = client_name(alloc, &self.agent)?;
-        let mut store = store_of(alloc, before)?;
-        let came = self.carry_out(
-            map, repository, request, negotiator, agent, &mut store, pack,
-        );
-        let messages = self.transport.take_kept(alloc);
-        match settled(alloc, came, messages, request, before, store.ids()) {
-            Ok(fetched) => Ok(fetched),
-            Err(e) => Err(e),
         }
     }
 
@@ -482,6 +335,7 @@ impl<T: Transport + Drop, L: Listener + Drop> Session<T, L> {
             shaken: _shaken,
             agent: _agent,
             state: _state,
+            progress: _progress,
         } = self;
         transport.into_inner()
     }
@@ -492,7 +346,7 @@ impl<T: Transport + Drop, L: Listener + Drop> Session<T, L> {
     ///
     /// # Errors
     ///
-    /// `Request` where the write failed.
+    /// `Request` where the write failed, or `Memory`. The session is over all the same.
     pub fn close(&mut self) -> Result<(), Error>
         ensures closes { ClosesSession self.old.state (T.reading self.old.transport.inner) (T.reading self.new.transport.inner) result }
         ensures over { self.new.state ≢ State.AtStop }
@@ -511,7 +365,7 @@ impl<T: Transport + Drop, L: Listener + Drop> Session<T, L> {
     }
 }
 
-impl<T: Transport + Drop, L: Listener + Drop> Drop for Session<T, L> {
+impl<T: Transport + Drop, L: Listener + Drop, P: NestedProgress + Drop> Drop for Session<T, L, P> {
     // It is closed. A server that is gone already has nothing more to say.
     fn drop(mut self) {
         let _ = self.close();
@@ -521,72 +375,7 @@ impl<T: Transport + Drop, L: Listener + Drop> Drop for Session<T, L> {
             shaken: _shaken,
             agent: _agent,
             state: _state,
+            progress: _progress,
         } = self;
-    }
-}
-
-// What came of a fetch, unless the server reported an error beside it.
-fn unless_reported(
-    came: Result<Option<Outcome>, Error>,
-    messages: &Kept,
-    goes_on: bool,
-) -> Result<Option<Outcome>, Error>
-    ensures { IfOk result (λ outcome. came ≡ Ok outcome) }
-{
-    if goes_on {
-        return came;
-    }
-    match messages.first_error() {
-        Some(said) => Err(Error::Reported {
-            message: said.text.clone()?,
-        }),
-        None => came,
-    }
-}
-
-// A store of a boundary.
-fn store_of(alloc: Global, boundary: &[ObjectId]) -> Result<ShallowMemory, AllocError>
-    ensures { IfOk result (λ store. store.ids.items ≡ boundary.now) }
-{
-    let ids = Vec::from_slice(alloc, boundary)?;
-    Ok(ShallowMemory::new(ids))
-}
-
-// What came of a fetch, and what becomes of the boundary.
-fn settled(
-    alloc: Global,
-    came: Result<Option<Outcome>, Error>,
-    messages: Kept,
-    request: &Request,
-    before: &[ObjectId],
-    after: &[ObjectId],
-) -> Result<Fetched, Error>
-    ensures { IfOk result (λ f. came ≡ Ok f.outcome) }
-{
-    let outcome = unless_reported(came, &messages, request.goes_on)?;
-    let is_asked = !matches!(request.shallow, Shallow::NoChange);
-    let boundary = Boundary::changed(alloc, before, after, is_asked)?;
-    Ok(Fetched {
-        outcome,
-        boundary,
-        messages,
-    })
-}
-
-// Refuses a filter where the server offers none.
-fn expect_filter(alloc: Global, shaken: &Handshake, request: &Request) -> Result<(), Error>
-    ensures { IfErr result IsUnsent }
-{
-    if request.filter.is_none() {
-        return Ok(());
-    }
-    let table = CommandTable::git();
-    let version = shaken.server_protocol_version;
-    let features = table.default_features(alloc, Command::Fetch, version, &shaken.capabilities)?;
-    let arguments = Arguments::new(alloc, &table, version, features)?;
-    if arguments.can_use_filter() {
-        Ok(())
-    } else {
-        Err(missing(alloc, "filter"))
     }
 }

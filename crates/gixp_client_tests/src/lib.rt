@@ -3,10 +3,18 @@
 #![tactic(auto)]
 
 #[cfg(test)]
+mod fetches;
+#[cfg(test)]
+mod growth;
+#[cfg(test)]
 mod lines;
 #[cfg(test)]
 mod listeners;
 #[cfg(test)]
+mod refusals;
+#[cfg(test)]
 mod servers;
 #[cfg(test)]
 mod sessions;
+#[cfg(test)]
+mod unreadable;

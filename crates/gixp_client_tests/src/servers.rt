@@ -40,6 +40,24 @@ pub(crate) const EMPTY: &[&[u8]] = &[b""];
 /// A refusal.
 pub(crate) const DENIED: &[&[u8]] = &[b"ERR access denied\n"];
 
+/// An answer without a pack, though the client said `done`.
+pub(crate) const UNPACKED: &[&[u8]] = &[b"acknowledgments\n", b"NAK\n", b""];
+
+/// What a server of version 0 says first.
+pub(crate) const OLD: &[&[u8]] = &[
+    b"7257effbd41e1233eaae5744e614c5c728e3c979 refs/heads/main\0multi_ack_detailed side-band-64k include-tag\n",
+    b"",
+];
+
+/// The same of one that lacks what its answers need.
+pub(crate) const OLDER: &[&[u8]] = &[
+    b"7257effbd41e1233eaae5744e614c5c728e3c979 refs/heads/main\0ofs-delta\n",
+    b"",
+];
+
+/// The pack of a server of version 0.
+pub(crate) const OLD_PACK: &[&[u8]] = &[b"NAK\n", b"\x01PACK", b""];
+
 /// A transport over the answers of a server, each the packet lines of these payloads.
 pub(crate) fn server(alloc: Global, answers: &[&[&[u8]]]) -> Result<Bodies, AllocError> {
     let mut bodies = Vec::new(alloc);

@@ -1,6 +1,6 @@
 -- A ref map of a session.
-use Rattle.std.proofs.Common.{ap, inr, ◌∙◌}
-use Rattle.gixp_client.specs.ClientCalls.{behind_init_if}
+use Rattle.std.proofs.Common.{inr}
+use Rattle.gixp_client.proofs.MapLemmas.{state_behind_map}
 use Rattle.gixp_client.proofs.RunLemmas.{as_obtained}
 use Rattle.gixp_client.proofs.session.Session.map.Goals as goal
 
@@ -19,6 +19,6 @@ returns-in-Err-clause-refused g c = inr (
     asked = c.in_ok-context.ensures;
     obtains = as_obtained _ _ _ _ _ _ _ _ _ c.git.ensures c.in_ok-name.ensures c.in-Err.ensures.map;
   },
-  c.from.ensures,
-  c.behind_mapping-self.ensures ∙ ap (λ b. behind_init_if b c.in-Err.e) c.has_refs-is_here.ensures,
+  c.from-e.ensures,
+  state_behind_map _ _ _ _ _ _ c.behind_map-self.ensures c.has_refs-is_here.ensures c.from-e.ensures,
 )

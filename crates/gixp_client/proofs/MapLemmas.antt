@@ -1,0 +1,101 @@
+-- Which refs a session lists, and which its ref maps are made of, by its handshake.
+use Rattle.std.proofs.Common.{rules, ◌≡◌, ◌≢◌, ◌⊎◌, Bool, true, List, Option, Some, None, Result, Ok, Err, subst, sym, ap, ◌∙◌, inl, inr}
+use Rattle.std.specs.Prelude.{Vec, unwrap_or}
+use Rattle.std.specs.declared.alloc.Global.{Global}
+use Rattle.gixp_packetline.specs.Reading.{Reading}
+use Rattle.gixp_capabilities.specs.Capabilities.{CapabilityValue}
+use Rattle.gixp_refs.specs.declared.handshake.Ref.{Ref}
+use Rattle.gixp_requests.specs.Feature.{FeatureValue}
+use Rattle.gixp_requests.specs.Command.{TableValue, git_table}
+use Rattle.gixp_packetline.specs.declared.protocol.Protocol.{Protocol}
+use Rattle.gixp_refmap.specs.Listing.{Listing, listing, listing_of, Listed}
+use Rattle.gixp_refmap.specs.Mapping.{joined_specs}
+use Rattle.gixp_refmap.specs.declared.refmap.init.Context.{Context}
+use Rattle.gixp_refmap.specs.declared.refmap.init.Error.{Error as MapError}
+use Rattle.gixp_refmap.specs.declared.refmap.init.Error.TheVariants.{Memory}
+use Rattle.gixp_refmap.specs.declared.refmap.map.RefMap.{RefMap}
+use Rattle.gixp_handshake.specs.declared.handshake.read.Handshake.{Handshake}
+use Rattle.gixp_handshake.specs.declared.handshake.ref_map.ObtainRefMap.{ObtainRefMap}
+use Rattle.gixp_handshake.specs.declared.handshake.ref_map.ObtainRefMap.TheVariants.{Existing, LsRefsCommand}
+use Rattle.gixp_handshake.specs.Obtain.{prefixes_if, MakesMap, PreparesBy, ObtainsBy, FetchesList}
+use Rattle.gixp_client.specs.ClientCalls.{ListsInSession, GivesRefs, MapsInSession}
+use Rattle.gixp_client.specs.SessionStates.{behind_map}
+use Rattle.gixp_client.specs.declared.error.Error.{Error}
+use Rattle.gixp_client.specs.declared.state.State.{State}
+use Rattle.gixp_client.specs.ClientMaps.{MapsRefsHere, ListsForMap, listing_for}
+use Rattle.gixp_client.specs.declared.request.Request.{Request}
+
+-- where a session stands behind a ref map
+pub state_behind_map : (b b' : Bool) (version : Protocol) (e e' : Error) (s : State) → s ≡ behind_map b version e → b ≡ b' → e ≡ e'
+    → s ≡ behind_map b' version e'
+state_behind_map b b' version e e' s h k l = h ∙ (ap (λ (x : Bool). behind_map x version e) k ∙ ap (behind_map b' version) l)
+
+-- all refs were listed, by git's table and this name
+pub as_listed : (table : TableValue) (agent name : FeatureValue) (caps : List CapabilityValue) (l : Listing) (old new : Reading)
+    (refs : List Ref) → table ≡ git_table → agent ≡ name → l ≡ listing table None caps agent → Listed l old new refs
+    → Listed (listing git_table None caps name) old new refs
+as_listed table agent name caps l old new refs t a e h =
+    subst (λ (x : FeatureValue). Listed (listing git_table None caps x) old new refs) a
+    (subst (λ (x : TableValue). Listed (listing x None caps agent) old new refs) t
+    (subst (λ (x : Listing). Listed x old new refs) e h))
+
+-- by what was prepared of these refs
+pub made_of_refs : (agent : FeatureValue) (context : Context) (caps : List CapabilityValue) (refs : Vec Ref Global) (plain : Bool)
+    (old new : Reading) (r : Result RefMap MapError) (prepared : Result ObtainRefMap MapError)
+    → PreparesBy (Some refs) git_table true agent context caps prepared → ObtainsBy prepared plain old new r
+    → (new ≡ old) × MakesMap caps context refs.items r
+made_of_refs agent context caps refs plain old new r (Ok (Existing m)) p o =
+    (o.0, subst (λ (x : Result RefMap MapError). MakesMap caps context refs.items x) (sym o.1) p)
+made_of_refs agent context caps refs plain old new r (Ok (LsRefsCommand command handed)) p o = absurd p
+made_of_refs agent context caps refs plain old new r (Err e) p o =
+    (o.0, subst (λ (x : Result RefMap MapError). MakesMap caps context refs.items x) (sym o.1) p)
+
+-- and by that of none
+pub made_of_none : (agent : FeatureValue) (context : Context) (shaken : Handshake) (plain : Bool)
+    (old new : Reading) (r : Result RefMap MapError) (prepared : Result ObtainRefMap MapError)
+    → PreparesBy None git_table true agent context shaken.capabilities prepared → ObtainsBy prepared plain old new r
+    → ((new ≡ old) × (r ≡ Err Memory)) ⊎ FetchesList (listing_for agent shaken context) context plain old new r
+made_of_none agent context shaken plain old new r (Ok (Existing m)) p o = absurd p
+made_of_none agent context shaken plain old new r (Ok (LsRefsCommand command handed)) p o =
+    inr (subst (λ (x : Context). FetchesList (listing_for agent shaken context) x plain old new r) p.1
+    (subst (λ (x : Listing). FetchesList x handed plain old new r) p.0 o))
+made_of_none agent context shaken plain old new r (Err e) p o = inl (o.0, o.1 ∙ ap Err p)
+
+pub maps_refs_here : (request : Request) (agent : FeatureValue) (shaken : Handshake) (refs : Vec Ref Global) (plain : Bool) (old new : Reading)
+    (r : Result RefMap MapError) → shaken.refs ≡ Some refs → MapsInSession request agent shaken plain old new r
+    → MapsRefsHere request shaken refs.items old new r
+maps_refs_here request agent shaken refs plain old new r e m =
+    let made = made_of_refs agent m.context shaken.capabilities refs plain old new r m.obtains.prepared
+    (subst (λ (x : Option (Vec Ref Global)). PreparesBy x git_table true agent m.context shaken.capabilities m.obtains.prepared) e
+    m.obtains.prepares) m.obtains.obtains in
+    record { context = m.context; asked = m.asked; unsent = made.0; maps = made.1 }
+
+pub lists_for_map : (request : Request) (agent : FeatureValue) (shaken : Handshake) (plain : Bool) (old new : Reading)
+    (r : Result RefMap MapError) → shaken.refs ≡ None → MapsInSession request agent shaken plain old new r
+    → ListsForMap request agent shaken plain old new r
+lists_for_map request agent shaken plain old new r e m = record {
+  context = m.context;
+  asked = m.asked;
+  lists = made_of_none agent m.context shaken plain old new r m.obtains.prepared
+      (subst (λ (x : Option (Vec Ref Global)). PreparesBy x git_table true agent m.context shaken.capabilities m.obtains.prepared) e
+      m.obtains.prepares) m.obtains.obtains;
+}
+
+-- the refs that are lent, by whether refs were here
+pub gives_by : (agent : FeatureValue) (shaken : Handshake) (plain : Bool) (old new : Reading) (kept : Handshake) (found : Vec Ref Global)
+    (refs : List Ref) (here : Option (Vec Ref Global)) → shaken.refs ≡ here
+    → ((v : Vec Ref Global) → shaken.refs ≡ Some v → kept ≡ shaken)
+    → (shaken.refs ≡ None → (v : Vec Ref Global) × ListsInSession agent shaken plain old new (Ok v) × (kept ≡ record shaken { refs = Some v }))
+    → kept.refs ≡ Some found → refs ≡ found.items → GivesRefs agent shaken plain old here refs
+gives_by agent shaken plain old new kept found refs (Some v) e stays lists is lent =
+    lent ∙ ap (λ (x : Option (Vec Ref Global)). (unwrap_or x found).items) (sym is ∙ (ap (λ (h : Handshake). h.refs) (stays v e) ∙ e))
+gives_by agent shaken plain old new kept found refs None e stays lists is lent = let l = lists e in (
+  l.0,
+  new,
+  l.1,
+  lent ∙ ap (λ (x : Option (Vec Ref Global)). (unwrap_or x found).items) (sym is ∙ ap (λ (h : Handshake). h.refs) l.2),
+)
+
+pub some_is_not_none : {A : Type 0} (o : Option A) (v : A) → o ≡ Some v → o ≢ None
+some_is_not_none None v e h = search (rules, e)
+some_is_not_none (Some w) v e h = search (rules, h)

@@ -1,0 +1,36 @@
+-- Which refs a ref map of a session is made of (gitprotocol-v2, "ls-refs").
+use Rattle.std.specs.Prelude.{◌≡◌, ◌⊎◌, Bool, true, List, Result, Err}
+use Rattle.gixp_packetline.specs.Reading.{Reading}
+use Rattle.gixp_refs.specs.declared.handshake.Ref.{Ref}
+use Rattle.gixp_requests.specs.Feature.{FeatureValue}
+use Rattle.gixp_requests.specs.Command.{git_table}
+use Rattle.gixp_refmap.specs.Listing.{Listing, listing}
+use Rattle.gixp_refmap.specs.Mapping.{joined_specs}
+use Rattle.gixp_refmap.specs.Values.{context_value}
+use Rattle.gixp_refmap.specs.declared.refmap.init.Context.{Context}
+use Rattle.gixp_refmap.specs.declared.refmap.init.Error.{Error as MapError}
+use Rattle.gixp_refmap.specs.declared.refmap.init.Error.TheVariants.{Memory}
+use Rattle.gixp_refmap.specs.declared.refmap.map.RefMap.{RefMap}
+use Rattle.gixp_handshake.specs.declared.handshake.read.Handshake.{Handshake}
+use Rattle.gixp_handshake.specs.Obtain.{prefixes_if, MakesMap, FetchesList}
+use Rattle.gixp_client.specs.ClientCalls.{asked_specs}
+use Rattle.gixp_client.specs.declared.request.Request.{Request}
+
+-- of these refs, and nothing was sent
+pub record MapsRefsHere (request : Request) (shaken : Handshake) (refs : List Ref) (old new : Reading) (r : Result RefMap MapError) : Type 0 where
+  pub context : Context
+  pub asked : context_value context ≡ asked_specs request
+  pub unsent : new ≡ old
+  pub maps : MakesMap shaken.capabilities context refs r
+
+-- the command that lists the refs of the prefixes of refspecs
+abbrev pub listing_for : FeatureValue → Handshake → Context → Listing
+listing_for agent shaken context =
+    listing git_table (prefixes_if true (joined_specs context.fetch_refspecs.items context.extra_refspecs.items)) shaken.capabilities agent
+
+-- of the refs of the prefixes of these refspecs, which the server lists for them; or an allocation failed before, and nothing was sent
+pub record ListsForMap (request : Request) (agent : FeatureValue) (shaken : Handshake) (plain : Bool) (old new : Reading)
+    (r : Result RefMap MapError) : Type 0 where
+  pub context : Context
+  pub asked : context_value context ≡ asked_specs request
+  pub lists : ((new ≡ old) × (r ≡ Err Memory)) ⊎ FetchesList (listing_for agent shaken context) context plain old new r

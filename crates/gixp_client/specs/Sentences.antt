@@ -1,0 +1,39 @@
+-- The sentence of an error of a session, as far as its parts state what they print.
+use Rattle.std.specs.Prelude.{◌++◌, ℕ, List, codes, Option, Some, None, string_bytes}
+use Rattle.std.specs.Fmt.{decimal}
+use Rattle.std.specs.declared.io.ErrorKind.{ErrorKind}
+use Rattle.std.specs.declared.io.ErrorKind.TheVariants.{UnexpectedEof}
+use Rattle.gixp_client.specs.ClientError.{said_in, place_of, kind_in}
+use Rattle.gixp_client.specs.declared.consumer.PackError.TheVariants as pack
+use Rattle.gixp_client.specs.declared.error.Error.{Error}
+use Rattle.gixp_client.specs.declared.error.Error.TheVariants.{UnsupportedListing, Unnegotiated, MissingFeature, ShallowServer, Pack, Reported, Over, Memory}
+
+-- where neither the server nor a read or write failed
+abbrev pub rest_sentence : Error → Option (List ℕ)
+rest_sentence UnsupportedListing = Some (codes "the server doesn't list refs as it is asked to")
+rest_sentence (Unnegotiated rounds) = Some (codes "no pack came after " ++ decimal rounds ++ codes " round(s) of the negotiation")
+rest_sentence (MissingFeature feature) = Some (codes "the server doesn't offer " ++ string_bytes feature)
+rest_sentence ShallowServer = Some (codes "the server's repository is shallow")
+rest_sentence (Reported message) = Some (codes "the server reported an error")
+rest_sentence Over = Some (codes "the session is over")
+rest_sentence Memory = Some (codes "out of memory")
+rest_sentence _ = None
+
+-- where a read or write failed with this kind, if one did
+abbrev pub kind_sentence : Error → Option ErrorKind → Option (List ℕ)
+kind_sentence e (Some UnexpectedEof) = Some (codes "the connection ended within " ++ place_of e)
+kind_sentence e (Some _) = None
+kind_sentence e None = rest_sentence e
+
+-- a pack that can't be written
+abbrev pub unsaid_sentence : Error → Option (List ℕ)
+unsaid_sentence (Pack (pack.Write kind)) = None
+unsaid_sentence e = kind_sentence e (kind_in e)
+
+-- where the server says why, its words are in the sentence, and nothing is stated of it
+abbrev pub said_sentence : Error → Option (List ℕ) → Option (List ℕ)
+said_sentence e (Some words) = None
+said_sentence e None = unsaid_sentence e
+
+abbrev pub sentence_of : Error → Option (List ℕ)
+sentence_of e = said_sentence e (said_in e)

@@ -1,0 +1,215 @@
+//! The fetches of a session.
+ghost use Rattle.std.specs.Prelude.{◌≡◌, ◌≢◌, ◌⊎◌, true, false, [], List, None, Ok, Err, IfOk, IfErr, Option, Result, string_bytes};
+ghost use Rattle.gixp_hash.specs.declared.object_id.ObjectId.{ObjectId as Id};
+ghost use Rattle.gixp_fetch.specs.declared.options.Outcome.{Outcome};
+ghost use Rattle.gixp_fetch.specs.Fetch.{parties_of};
+ghost use Rattle.gixp_fetch.specs.FetchShallow.{shallow_value, is_change};
+ghost use Rattle.gixp_client.specs.Boundaries.{IsLeftBoundary, IsBoundaryAfter};
+ghost use Rattle.gixp_client.specs.ClientError.{IsUnsent};
+ghost use Rattle.gixp_client.specs.ClientCalls.{named_feature, client_feature, session_call, session_knowledge, FetchesMap, FetchesInSession};
+ghost use Rattle.gixp_client.specs.SessionStates.{behind_fetch, is_reported, IsReportIn, IsRefusedFetch};
+
+use crate::boundary::Boundary;
+use crate::error::Error;
+use crate::fetched::Fetched;
+use crate::listen::{Kept, Listener};
+use crate::repository::Repository;
+use crate::request::Request;
+use crate::run::{Peer, SessionNegotiation, Wanted, fetch_mapped};
+use crate::session::Session;
+use crate::settle::{expect_filter, is_reported, reported, settled, store_of};
+use crate::state::{State, behind_fetch};
+use gixp_fetch::consume::ConsumePack;
+use gixp_fetch::mapped::NegotiatesMap;
+use gixp_fetch::options::Outcome;
+use gixp_graph::{Find, Negotiator, RefStore};
+use gixp_negotiate::negotiate::Negotiate;
+use gixp_negotiators::AnyNegotiator;
+use gixp_progress::NestedProgress;
+use gixp_refmap::RefMap;
+use gixp_requests::agent;
+use gixp_shallow::{ShallowMemory, ShallowStore};
+use gixp_sidebands::{Interrupt, NeverInterrupt};
+use gixp_wire::Transport;
+use std::alloc::{AllocError, Global};
+
+// The name of a client as the server is told it.
+fn client_name(alloc: Global, name: &String) -> Result<String, AllocError>
+    ensures { IfOk result (λ text. named_feature (string_bytes text) ≡ client_feature (string_bytes name.now)) }
+{
+    let text = agent(alloc, name.as_str())?;
+    Ok(text)
+}
+
+impl<T: Transport + Drop, L: Listener + Drop, P: NestedProgress + Drop> Session<T, L, P>
+where
+    P::SubProgress: Drop,
+{
+    // A fetch, and where the session then stands.
+    fn carry_out<'a, F: Find, R: RefStore, N: Negotiator, C: ConsumePack<P>>(
+        &mut self,
+        wanted: Wanted<'a, F, R, N>,
+        agent: String,
+        store: &mut ShallowMemory,
+        pack: &mut C,
+    ) -> Result<Option<Outcome>, Error>
+    where
+        C::Error: Into<Error>,
+        ensures fetched { FetchesMap
+            (parties_of ⟦<SessionNegotiation<'a, F, R, N> as Negotiate>⟧.calls ⟦<ShallowMemory as ShallowStore>⟧.calls
+            ⟦<NeverInterrupt as Interrupt>⟧.says C.consumes T.is_plain)
+            ⟦<SessionNegotiation<'a, F, R, N> as NegotiatesMap>⟧.map_of ⟦<SessionNegotiation<'a, F, R, N> as NegotiatesMap>⟧.knows
+            (session_call self.old.shaken (named_feature (string_bytes agent)) wanted.entry.request.now) wanted.entry.map.now
+            (session_knowledge wanted.entry.request.now (F.contents wanted.entry.objects.now) (R.refs wanted.entry.refs.now))
+            (T.reading self.old.transport.inner) store.old pack.old result (T.reading self.new.transport.inner) store.new pack.new }
+        ensures state { self.new.state ≡ behind_fetch self.old.shaken.server_protocol_version result }
+    {
+        let version = self.shaken.server_protocol_version;
+        let alloc = self.alloc;
+        let peer = Peer {
+            shaken: &mut self.shaken,
+            transport: &mut self.transport,
+            progress: &mut self.progress,
+        };
+        let came = fetch_mapped(alloc, wanted, agent, peer, store, pack);
+        self.state = behind_fetch(version, &came);
+        came
+    }
+
+    // What came of a fetch, or the error that the server reported beside it. A server that reports one has gone.
+    fn unless_reported(
+        &mut self,
+        came: Result<Option<Outcome>, Error>,
+        messages: &Kept,
+        goes_on: bool,
+    ) -> Result<Option<Outcome>, Error>
+        ensures reported { ((is_reported goes_on messages.now.texts.items ≡ false) × (result ≡ came) × (self.new.state ≡ self.old.state))
+            ⊎ ((is_reported goes_on messages.now.texts.items ≡ true) × IsReportIn result × (self.new.state ≡ State.Ended)) }
+        ensures transport { self.new.transport.inner ≡ self.old.transport.inner }
+        ensures others { self.new ≡ record self.old { state = self.new.state } }
+    {
+        if is_reported(messages, goes_on) {
+            self.state = State::Ended;
+            return Err(reported(messages));
+        }
+        came
+    }
+
+    /// Fetches what is mapped, as the request asks for it: the pack goes to its consumer, as a `CopyPack` of a writer. Where nothing
+    /// is mapped, nothing is sent.
+    ///
+    /// # Errors
+    ///
+    /// Those of [`Error`]. What the consumer has is then to be thrown away, and the boundary and the refs are to stay as they are.
+    /// `state` says whether another call may come.
+    pub fn fetch<'a, F: Find, R: RefStore, C: ConsumePack<P>>(
+        &mut self,
+        map: &'a RefMap,
+        repository: Repository<'a, F, R>,
+        request: &'a Request,
+        pack: &mut C,
+    ) -> Result<Fetched, Error>
+    where
+        C::Error: Into<Error>,
+        ensures over { self.old.state ≢ State.AtStop → (result ≡ Err Error.Over) × (self.new ≡ self.old) × (pack.new ≡ pack.old) }
+        ensures fetched { IfOk result (λ f. ((map.now.mappings.items ≡ []) × (f.outcome ≡ None) × (self.new ≡ self.old) × (pack.new ≡ pack.old)
+            × IsLeftBoundary repository.entry.boundary.now [] [] f.boundary)
+            ⊎ ((after : List Id) × FetchesInSession
+            (parties_of ⟦<SessionNegotiation<'a, F, R, AnyNegotiator> as Negotiate>⟧.calls ⟦<ShallowMemory as ShallowStore>⟧.calls
+            ⟦<NeverInterrupt as Interrupt>⟧.says C.consumes T.is_plain)
+            ⟦<SessionNegotiation<'a, F, R, AnyNegotiator> as NegotiatesMap>⟧.map_of ⟦<SessionNegotiation<'a, F, R, AnyNegotiator> as NegotiatesMap>⟧.knows
+            (session_call self.old.shaken (client_feature (string_bytes self.old.agent)) request.now) map.now
+            (session_knowledge request.now (F.contents repository.entry.objects.now) (R.refs repository.entry.refs.now))
+            repository.entry.boundary.now after (T.reading self.old.transport.inner) pack.old (Ok f.outcome)
+            (T.reading self.new.transport.inner) pack.new
+            × IsBoundaryAfter (is_change (shallow_value request.now.shallow)) repository.entry.boundary.now after f.boundary)) }
+        ensures stands { IfOk result (λ f. self.new.state ≡ behind_fetch self.old.shaken.server_protocol_version (Ok f.outcome)) }
+        ensures refused { IfErr result (λ e. (IsUnsent e × (self.new ≡ self.old) × (pack.new ≡ pack.old))
+            ⊎ ((told : Result (Option Outcome) Error) × (after : List Id) × FetchesInSession
+            (parties_of ⟦<SessionNegotiation<'a, F, R, AnyNegotiator> as Negotiate>⟧.calls ⟦<ShallowMemory as ShallowStore>⟧.calls
+            ⟦<NeverInterrupt as Interrupt>⟧.says C.consumes T.is_plain)
+            ⟦<SessionNegotiation<'a, F, R, AnyNegotiator> as NegotiatesMap>⟧.map_of ⟦<SessionNegotiation<'a, F, R, AnyNegotiator> as NegotiatesMap>⟧.knows
+            (session_call self.old.shaken (client_feature (string_bytes self.old.agent)) request.now) map.now
+            (session_knowledge request.now (F.contents repository.entry.objects.now) (R.refs repository.entry.refs.now))
+            repository.entry.boundary.now after (T.reading self.old.transport.inner) pack.old told
+            (T.reading self.new.transport.inner) pack.new
+            × IsRefusedFetch self.old.shaken.server_protocol_version told e self.new.state)) }
+    {
+        let mut negotiator = request.algorithm.negotiator(self.alloc);
+        self.fetch_with(map, repository, request, &mut negotiator, pack)
+    }
+
+    /// The same, with a negotiator of the caller's in place of the request's algorithm. It is for one fetch.
+    ///
+    /// # Errors
+    ///
+    /// As `fetch`.
+    pub fn fetch_with<'a, F: Find, R: RefStore, N: Negotiator, C: ConsumePack<P>>(
+        &mut self,
+        map: &'a RefMap,
+        repository: Repository<'a, F, R>,
+        request: &'a Request,
+        negotiator: &'a mut N,
+        pack: &mut C,
+    ) -> Result<Fetched, Error>
+    where
+        C::Error: Into<Error>,
+        ensures over { self.old.state ≢ State.AtStop → (result ≡ Err Error.Over) × (self.new ≡ self.old) × (pack.new ≡ pack.old) }
+        ensures fetched { IfOk result (λ f. ((map.now.mappings.items ≡ []) × (f.outcome ≡ None) × (self.new ≡ self.old) × (pack.new ≡ pack.old)
+            × IsLeftBoundary repository.entry.boundary.now [] [] f.boundary)
+            ⊎ ((after : List Id) × FetchesInSession
+            (parties_of ⟦<SessionNegotiation<'a, F, R, N> as Negotiate>⟧.calls ⟦<ShallowMemory as ShallowStore>⟧.calls
+            ⟦<NeverInterrupt as Interrupt>⟧.says C.consumes T.is_plain)
+            ⟦<SessionNegotiation<'a, F, R, N> as NegotiatesMap>⟧.map_of ⟦<SessionNegotiation<'a, F, R, N> as NegotiatesMap>⟧.knows
+            (session_call self.old.shaken (client_feature (string_bytes self.old.agent)) request.now) map.now
+            (session_knowledge request.now (F.contents repository.entry.objects.now) (R.refs repository.entry.refs.now))
+            repository.entry.boundary.now after (T.reading self.old.transport.inner) pack.old (Ok f.outcome)
+            (T.reading self.new.transport.inner) pack.new
+            × IsBoundaryAfter (is_change (shallow_value request.now.shallow)) repository.entry.boundary.now after f.boundary)) }
+        ensures stands { IfOk result (λ f. self.new.state ≡ behind_fetch self.old.shaken.server_protocol_version (Ok f.outcome)) }
+        ensures refused { IfErr result (λ e. (IsUnsent e × (self.new ≡ self.old) × (pack.new ≡ pack.old))
+            ⊎ ((told : Result (Option Outcome) Error) × (after : List Id) × FetchesInSession
+            (parties_of ⟦<SessionNegotiation<'a, F, R, N> as Negotiate>⟧.calls ⟦<ShallowMemory as ShallowStore>⟧.calls
+            ⟦<NeverInterrupt as Interrupt>⟧.says C.consumes T.is_plain)
+            ⟦<SessionNegotiation<'a, F, R, N> as NegotiatesMap>⟧.map_of ⟦<SessionNegotiation<'a, F, R, N> as NegotiatesMap>⟧.knows
+            (session_call self.old.shaken (client_feature (string_bytes self.old.agent)) request.now) map.now
+            (session_knowledge request.now (F.contents repository.entry.objects.now) (R.refs repository.entry.refs.now))
+            repository.entry.boundary.now after (T.reading self.old.transport.inner) pack.old told
+            (T.reading self.new.transport.inner) pack.new
+            × IsRefusedFetch self.old.shaken.server_protocol_version told e self.new.state)) }
+    {
+        self.expect_open()?;
+        let alloc = self.alloc;
+        let before = repository.boundary;
+        if map.is_empty() {
+            return Ok(Fetched {
+                outcome: None,
+                boundary: Boundary::kept(alloc, before)?,
+                messages: Kept::new(alloc),
+            });
+        }
+        expect_filter(alloc, &self.shaken, request)?;
+        let agent = client_name(alloc, &self.agent)?;
+        let mut store = store_of(alloc, before)?;
+        let Repository {
+            objects,
+            refs,
+            boundary: _,
+        } = repository;
+        let wanted = Wanted {
+            map,
+            objects,
+            refs,
+            request,
+            negotiator,
+        };
+        let came = self.carry_out(wanted, agent, &mut store, pack);
+        let messages = self.transport.take_kept(alloc);
+        let came = self.unless_reported(came, &messages, request.goes_on);
+        let after = store.ids();
+        match settled(alloc, came, messages, request, before, after) {
+            Ok(fetched) => Ok(fetched),
+            Err(why) => Err(why),
+        }
+    }
+}

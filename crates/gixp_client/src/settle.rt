@@ -1,0 +1,118 @@
+//! What stands before a fetch of a session, and what is made of it after.
+ghost use Rattle.std.specs.Prelude.{◌≡◌, ◌⊎◌, IfOk, IfErr, Ok, Err};
+ghost use Rattle.std.specs.List.{list_any};
+ghost use Rattle.gixp_fetch.specs.FetchShallow.{shallow_value, is_change};
+ghost use Rattle.gixp_client.specs.ClientError.{IsUnsent};
+ghost use Rattle.gixp_client.specs.Boundaries.{IsBoundaryAfter};
+ghost use Rattle.gixp_client.specs.SessionStates.{is_reported, IsReport};
+
+use crate::boundary::Boundary;
+use crate::error::Error;
+use crate::fetched::Fetched;
+use crate::listen::Kept;
+use crate::refusal::missing;
+use crate::request::Request;
+use gixp_fetch::options::Outcome;
+use gixp_handshake::Handshake;
+use gixp_hash::ObjectId;
+use gixp_requests::Command;
+use gixp_requests::command::CommandTable;
+use gixp_requests::fetch::Arguments;
+use gixp_shallow::{Shallow, ShallowMemory};
+use std::alloc::{AllocError, Global};
+
+/// A store of a boundary.
+pub(crate) fn store_of(alloc: Global, boundary: &[ObjectId]) -> Result<ShallowMemory, AllocError>
+    ensures { IfOk result (λ store. store.ids.items ≡ boundary.now) }
+{
+    let ids = Vec::from_slice(alloc, boundary)?;
+    Ok(ShallowMemory::new(ids))
+}
+
+/// Refuses a filter where the server offers none.
+pub(crate) fn expect_filter(
+    alloc: Global,
+    shaken: &Handshake,
+    request: &Request,
+) -> Result<(), Error>
+    ensures { IfErr result IsUnsent }
+{
+    if request.filter.is_none() {
+        return Ok(());
+    }
+    let table = CommandTable::git();
+    let version = shaken.server_protocol_version;
+    let features = table.default_features(alloc, Command::Fetch, version, &shaken.capabilities)?;
+    let arguments = Arguments::new(alloc, &table, version, features)?;
+    if arguments.can_use_filter() {
+        Ok(())
+    } else {
+        Err(missing(alloc, "filter"))
+    }
+}
+
+// Whether one of the texts is an error.
+fn has_error(messages: &Kept) -> bool
+    ensures { result ≡ list_any (λ said. said.is_error) messages.now.texts.items }
+{
+    messages.texts().iter().any(|said| said.is_error)
+}
+
+/// Whether the server reported an error at which a fetch doesn't go on.
+pub(crate) fn is_reported(messages: &Kept, goes_on: bool) -> bool
+    ensures { result ≡ is_reported goes_on messages.now.texts.items }
+{
+    !goes_on && has_error(messages)
+}
+
+/// What is told of it.
+pub(crate) fn reported(messages: &Kept) -> Error
+    ensures { IsReport result }
+{
+    match messages.first_error() {
+        Some(said) => match said.text.clone() {
+            Ok(message) => Error::Reported { message },
+            Err(_) => Error::Memory,
+        },
+        None => Error::Memory,
+    }
+}
+
+// Whether another boundary is asked for.
+fn asks_change(shallow: &Shallow) -> bool
+    ensures { result ≡ is_change (shallow_value shallow.now) }
+{
+    match shallow {
+        Shallow::NoChange => false,
+        _ => true,
+    }
+}
+
+/// What came of a fetch, and what becomes of the boundary.
+pub(crate) fn settled(
+    alloc: Global,
+    came: Result<Option<Outcome>, Error>,
+    messages: Kept,
+    request: &Request,
+    before: &[ObjectId],
+    after: &[ObjectId],
+) -> Result<Fetched, Error>
+    ensures outcome { IfOk result (λ f. came ≡ Ok f.outcome) }
+    ensures boundary { IfOk result (λ f. IsBoundaryAfter (is_change (shallow_value request.now.shallow)) before.now after.now f.boundary) }
+    ensures messages { IfOk result (λ f. f.messages ≡ messages) }
+    ensures refused { IfErr result (λ e. (came ≡ Err e) ⊎ (e ≡ Error.Memory)) }
+{
+    let outcome = match came {
+        Ok(outcome) => outcome,
+        Err(e) => return Err(e),
+    };
+    let is_asked = asks_change(&request.shallow);
+    match Boundary::changed(alloc, before, after, is_asked) {
+        Ok(boundary) => Ok(Fetched {
+            outcome,
+            boundary,
+            messages,
+        }),
+        Err(_) => Err(Error::Memory),
+    }
+}

@@ -1,0 +1,110 @@
+//! Where a session stands.
+ghost use Rattle.std.specs.Prelude.{◌≡◌, is_some};
+ghost use Rattle.gixp_client.specs.ClientError.{said_in};
+ghost use Rattle.gixp_client.specs.SessionStates.{behind_answers, behind_request, behind_answer, behind_unsaid, behind_refusal, behind_map, behind_fetch};
+
+use crate::error::Error;
+use gixp_capabilities::client;
+use gixp_fetch::options::Outcome;
+use gixp_packetline::Protocol;
+use gixp_response::fetch::response;
+
+/// Where a session stands.
+#[derive(Clone, Copy, Debug, PartialEq, Eq, Drop)]
+pub enum State {
+    /// The server waits for a request: the transport is behind all that it said.
+    AtStop,
+    /// The conversation is over: the server has gone, or was told that nothing more is asked for.
+    Ended,
+    /// A request or its answer failed, so that nobody knows what comes next. Nothing can be asked for any more.
+    Broken,
+}
+
+// Behind a whole answer, by what a server of version 0 or 1 is then.
+fn behind_answers(version: Protocol, otherwise: State) -> State
+    ensures { result ≡ behind_answers version otherwise }
+{
+    match version {
+        Protocol::V2 => State::AtStop,
+        Protocol::V0 | Protocol::V1 => otherwise,
+    }
+}
+
+// Behind a request that wasn't sent.
+fn behind_request(e: &client::Error) -> State
+    ensures { result ≡ behind_request e.now }
+{
+    match e {
+        client::Error::LineTooLong => State::AtStop,
+        _ => State::Broken,
+    }
+}
+
+// Behind an answer that wasn't read.
+fn behind_answer(e: &response::Error) -> State
+    ensures { result ≡ behind_answer e.now }
+{
+    match e {
+        response::Error::MissingServerCapability { .. } => State::AtStop,
+        _ => State::Broken,
+    }
+}
+
+// Behind a call that was refused otherwise than by the server's words.
+fn behind_unsaid(version: Protocol, e: &Error) -> State
+    ensures { result ≡ behind_unsaid version e.now }
+{
+    match e {
+        Error::Refspec { .. } | Error::UnsupportedListing => State::AtStop,
+        Error::UnknownObjectFormat { .. } | Error::Conflicts(_) => State::AtStop,
+        Error::MissingFeature { .. } | Error::LocalRefs(_) => State::AtStop,
+        Error::Request(e) => behind_request(e),
+        Error::Answer(e) => behind_answer(e),
+        Error::Unnegotiated { .. } => behind_answers(version, State::Ended),
+        Error::Objects(_) => behind_answers(version, State::Broken),
+        _ => State::Broken,
+    }
+}
+
+// Whether the server said why.
+fn is_said(e: &Error) -> bool
+    ensures { result ≡ is_some (said_in e.now) }
+{
+    match e.server_message() {
+        Some(_) => true,
+        None => false,
+    }
+}
+
+/// Behind a call that was refused with this error.
+pub(crate) fn behind_refusal(version: Protocol, e: &Error) -> State
+    ensures { result ≡ behind_refusal version e.now }
+{
+    if is_said(e) {
+        State::Ended
+    } else {
+        behind_unsaid(version, e)
+    }
+}
+
+/// Behind a ref map, by whether the refs were here.
+pub(crate) fn behind_map(is_here: bool, version: Protocol, e: &Error) -> State
+    ensures { result ≡ behind_map is_here version e.now }
+{
+    if is_here {
+        State::AtStop
+    } else {
+        behind_refusal(version, e)
+    }
+}
+
+/// Behind a fetch.
+pub(crate) fn behind_fetch(version: Protocol, came: &Result<Option<Outcome>, Error>) -> State
+    ensures { result ≡ behind_fetch version came.now }
+{
+    match came {
+        Ok(None) => State::AtStop,
+        Ok(Some(_)) => behind_answers(version, State::Ended),
+        Err(e) => behind_refusal(version, e),
+    }
+}
