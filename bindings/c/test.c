@@ -87,7 +87,7 @@ static void refs(void)
 #define CAPS "symref=HEAD:refs/heads/main agent=git/2"
 
 /* An advertisement of version 1, of which each line is 4 bytes longer than its text. */
-static const char FIRST[] = "000eversion 1\n" "005d" ID " HEAD\0" CAPS "\n" "003d" ID " refs/heads/main\n"
+static const char FIRST[] = "000eversion 1\n" "005a" ID " HEAD\0" CAPS "\n" "003d" ID " refs/heads/main\n"
                             "003a" OTHER " refs/tags/v1\n" "003d" ID " refs/tags/v1^{}\n" "0035shallow " OTHER "\n" "0000";
 
 static uint32_t advertised(const char *text, size_t len, size_t from, gixp_ref *records, size_t room, gixp_found *found)
