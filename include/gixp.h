@@ -35,10 +35,15 @@ enum {
     GIXP_BAD_LINE = 21,
     GIXP_BAD_ATTRIBUTE = 22,
     GIXP_BAD_UNBORN = 23,
+    GIXP_BAD_PEELED = 24,     /* of an advertisement: a peeled line that doesn't follow the ref line of its name */
+    GIXP_BAD_SYMREF = 25,
     GIXP_NO_ANSWER = 30,      /* a session: there is no answer yet */
     GIXP_TOO_MANY_ANSWERS = 31,
     GIXP_BAD_SPEC = 32,       /* 32 to 39: a refspec is none */
     GIXP_BAD_HANDSHAKE = 40,  /* 40 to 49: the first answer is refused */
+    GIXP_NO_CAPABILITIES = 46, /* an advertisement whose first ref line has no NUL */
+    GIXP_VERSION_TWO = 47,    /* a server that lists its refs where it is asked for them */
+    GIXP_UNKNOWN_VERSION = 48,
     GIXP_BAD_REFS = 50,       /* 50 to 59: the refs, or their mappings */
     GIXP_CONFLICT = 51,       /* two refs go to one local name */
     GIXP_BAD_FETCH = 60       /* 60 to 69: the fetch */
@@ -68,7 +73,7 @@ typedef struct gixp_ref {
     gixp_span target;
 } gixp_ref;
 
-/* How far a call of gixp_refs came. */
+/* How far a call of gixp_refs or gixp_advertised came. */
 typedef struct gixp_found {
     size_t count;             /* records that were written; with GIXP_NO_ROOM, how many are needed at least */
     size_t next;              /* the place behind what was read, or of what is refused */
@@ -79,6 +84,13 @@ typedef struct gixp_found {
  * read, and `next` is behind it. GIXP_MORE: call again with `next`. Else what stands at `next` is refused, and the refs before
  * it are in the records. */
 uint32_t gixp_refs(const uint8_t *answer, size_t answer_len, size_t from, gixp_ref *records, size_t records_len, gixp_found *found);
+
+/* Refs of an advertisement of version 0 or 1 from a place on, 0 at first, as many as there are records for. `answer` begins with what
+ * the server says first. A tag has one record for its ref line and its peeled line; shallow lines have none, nor has the line of an
+ * empty repository. As gixp_refs, but what is refused may stand behind `next`, since a ref line is read once it shows what comes after
+ * it. */
+uint32_t gixp_advertised(const uint8_t *answer, size_t answer_len, size_t from, gixp_ref *records, size_t records_len,
+                         gixp_found *found);
 
 /* A packet line of a pack. */
 typedef struct gixp_piece_record {
@@ -115,6 +127,18 @@ uint32_t gixp_map(const uint8_t *answer, size_t answer_len, const gixp_ref *refs
 /* The prefixes that a server is asked for, for refspecs one on a line: each with an LF behind it. */
 uint32_t gixp_prefixes(const uint8_t *specs, size_t specs_len, uint8_t *buffer, size_t buffer_len, size_t *len);
 
+/* What a client wants. Refspecs stand one on a line. Ids are 20 bytes each: those of objects that are there, which are offered in this
+ * order and not asked for, and those of the boundary of a shallow repository. A depth of 0 leaves the boundary as it is. */
+typedef struct gixp_wishes {
+    const uint8_t *specs;
+    size_t specs_len;
+    const uint8_t *haves;
+    size_t haves_len;
+    const uint8_t *boundary;
+    size_t boundary_len;
+    uint32_t depth;
+} gixp_wishes;
+
 /* What a client does next. */
 typedef struct gixp_step {
     uint32_t kind;            /* 0 nothing, 1 send the request, 2 take the pack */
@@ -124,15 +148,12 @@ typedef struct gixp_step {
 
 /* What a client does next, of the answers so far: of the first, which a server gives when it is asked for `git-upload-pack`, and of
  * those to each request that this call told. They stand one behind another in `answers`, and `ends` has the place at which each
- * ends. Of the last a beginning will do that reaches to the pack; of a shorter one GIXP_INCOMPLETE is returned. Refspecs stand one
- * on a line. Ids are 20 bytes each: those of objects that are there, which are offered in this order and not asked for, and those
- * of the boundary of a shallow repository. A depth of 0 leaves the boundary as it is.
+ * ends. Of the last a beginning will do that reaches to the pack; of a shorter one GIXP_INCOMPLETE is returned.
  *
  * With GIXP_NO_ROOM `length` is what the request needs. With GIXP_SERVER it is the length of the server's own words, which are in
  * `request` if that has room for them. */
-uint32_t gixp_next(const uint8_t *answers, size_t answers_len, const size_t *ends, size_t ends_len, const uint8_t *specs,
-                   size_t specs_len, const uint8_t *haves, size_t haves_len, const uint8_t *boundary, size_t boundary_len,
-                   uint32_t depth, uint8_t *request, size_t request_len, gixp_step *step);
+uint32_t gixp_next(const uint8_t *answers, size_t answers_len, const size_t *ends, size_t ends_len, const gixp_wishes *wishes,
+                   uint8_t *request, size_t request_len, gixp_step *step);
 
 /* The text of a number that a call returned, in ASCII, with no NUL behind it. */
 uint32_t gixp_error_text(uint32_t code, uint8_t *buffer, size_t buffer_len, size_t *len);

@@ -9,6 +9,7 @@ TOP = pathlib.Path(__file__).resolve().parent.parent
 # What a parameter or field of the exports is in C.
 PLAIN = {"u8": "uint8_t", "u32": "uint32_t", "usize": "size_t", "Span": "gixp_span", "RefRecord": "gixp_ref",
          "FoundRecord": "gixp_found", "PieceRecord": "gixp_piece_record", "StepRecord": "gixp_step",
+         "WishesRecord": "gixp_wishes",
          "MappingRecord": "gixp_mapping", "MappedRecord": "gixp_mapped"}
 
 
@@ -25,13 +26,18 @@ def in_c(type_):
     array = re.fullmatch(r"\[(\w+); (\d+)\]", type_)
     if array:
         return [PLAIN[array.group(1)] + "[%s]" % array.group(2)]
-    slice_ = re.fullmatch(r"&(mut )?\[(\w+)\]", type_)
+    slice_ = re.fullmatch(r"&(?:'a )?(mut )?\[(\w+)\]", type_)
     if slice_:
         return [("" if slice_.group(1) else "const ") + PLAIN[slice_.group(2)] + " *", "size_t"]
-    one = re.fullmatch(r"&mut (\w+)", type_)
+    one = re.fullmatch(r"&(mut )?(\w+)(<'_>)?", type_)
     if one:
-        return [PLAIN[one.group(1)] + " *"]
+        return [("" if one.group(1) else "const ") + PLAIN[one.group(2)] + " *"]
     return [PLAIN[type_]]
+
+
+def fields_in_c(name, types):
+    """-> the fields of a C record that a field is: of a slice two."""
+    return [(name + ("_len" if place else ""), type_) for place, type_ in enumerate(types)]
 
 
 def exports():
@@ -40,8 +46,8 @@ def exports():
         for name, parameters, result in re.findall(r'extern "C" fn (\w+)\((.*?)\) -> (\w+)', text, re.S):
             types = re.findall(r"\w+: ([^,]+(?:\[[^]]*\])?),?\s", parameters + "\n")
             functions[name] = PLAIN[result], [c for t in types for c in in_c(t.strip())]
-        for name, fields in re.findall(r"#\[repr\(C\)\].*?pub struct (\w+) \{(.*?)\n\}", text, re.S):
-            records[PLAIN[name]] = [(f, *in_c(t)) for f, t in re.findall(r"pub (\w+): ([^,]+),", fields)]
+        for name, fields in re.findall(r"#\[repr\(C\)\].*?pub struct (\w+)(?:<'a>)? \{(.*?)\n\}", text, re.S):
+            records[PLAIN[name]] = [field for f, t in re.findall(r"pub (\w+): ([^,]+),", fields) for field in fields_in_c(f, in_c(t))]
     return functions, records
 
 
@@ -51,7 +57,8 @@ def header():
     for result, name, parameters in re.findall(r"^(\w+) (gixp_\w+)\((.*?)\);", text, re.S | re.M):
         functions[name] = result, [re.fullmatch(r"(.*?)\w+", " ".join(p.split())).group(1).strip() for p in parameters.split(",")]
     for fields, name in re.findall(r"typedef struct \w+ \{(.*?)\} (\w+);", text, re.S):
-        records[name] = [(f, t + n) for t, f, n in re.findall(r"(\w+) (\w+)(\[\d+\])?;", re.sub(r"(\w+), (\w+);", r"\1; size_t \2;", fields))]
+        fields = re.sub(r"(\w+), (\w+);", r"\1; size_t \2;", fields)
+        records[name] = [(f, " ".join(t.split()) + n) for t, f, n in re.findall(r"((?:const )?\w+ \*?)(\w+)(\[\d+\])?;", fields)]
     return functions, records
 
 

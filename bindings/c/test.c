@@ -83,6 +83,60 @@ static void refs(void)
     free(records);
 }
 
+#define OTHER "89abcdef0123456789abcdef0123456789abcdef"
+#define CAPS "symref=HEAD:refs/heads/main agent=git/2"
+
+/* An advertisement of version 1, of which each line is 4 bytes longer than its text. */
+static const char FIRST[] = "000eversion 1\n" "005a" ID " HEAD\0" CAPS "\n" "003d" ID " refs/heads/main\n"
+                            "003a" OTHER " refs/tags/v1\n" "003d" ID " refs/tags/v1^{}\n" "0035shallow " OTHER "\n" "0000";
+
+static uint32_t advertised(const char *text, size_t len, size_t from, gixp_ref *records, size_t room, gixp_found *found)
+{
+    uint8_t *answer = copy(text, len);
+    uint32_t code = gixp_advertised(answer, len, from, records, room, found);
+    free(answer);
+    return code;
+}
+
+static void advertisements(void)
+{
+    size_t len = sizeof FIRST - 1, from = 0;
+    const uint8_t *answer = (const uint8_t *)FIRST;
+    gixp_ref *records = __real_malloc(3 * sizeof *records);
+    gixp_found found = {7, 7, {7, 7}};
+    CHECK(advertised(FIRST, len, len + 1, records, 3, &found) == GIXP_BAD_PLACE && found.count == 7 && found.next == 7);
+    CHECK(advertised(FIRST, len, 0, records, 0, &found) == GIXP_NO_ROOM && found.count == 1 && found.next == 7);
+    CHECK(advertised(FIRST, len, 0, records, 3, &found) == GIXP_MORE && found.count == 3);
+    CHECK(records[0].kind == GIXP_SYMBOLIC && is_text(answer, records[0].name, "HEAD"));
+    CHECK(is_text(answer, records[0].target, "refs/heads/main") && records[0].object[0] == 0x01);
+    CHECK(records[1].kind == GIXP_DIRECT && is_text(answer, records[1].name, "refs/heads/main"));
+    CHECK(records[2].kind == GIXP_PEELED && is_text(answer, records[2].name, "refs/tags/v1"));
+    CHECK(records[2].tag[0] == 0x89 && records[2].object[0] == 0x01);
+    CHECK(advertised(FIRST, len, found.next, records, 3, &found) == GIXP_OK && found.count == 0 && found.next == len);
+    /* one at a time */
+    for (int i = 0; i < 3; i++, from = found.next)
+        CHECK(advertised(FIRST, len, from, records, 1, &found) == GIXP_MORE && found.count == 1);
+    CHECK(is_text(answer, records[0].name, "refs/tags/v1"));
+    CHECK(advertised(FIRST, len, from, records, 1, &found) == GIXP_OK && found.count == 0);
+    for (size_t cut = 0; cut < len; cut++)
+        CHECK(advertised(FIRST, cut, 0, records, 3, &found) == (found.count < 3 ? GIXP_INCOMPLETE : GIXP_MORE));
+    static const struct { const char *text; size_t len; uint32_t code; } rows[] = {
+        {"zzzz", 4, GIXP_BAD_HEX}, {"fff1", 4, GIXP_TOO_LONG}, {"0004", 4, GIXP_NO_PAYLOAD}, {"0003", 4, GIXP_TOO_SHORT},
+        {"000aERR no", 10, GIXP_SERVER}, {"0001", 4, GIXP_UNEXPECTED}, {"00", 2, GIXP_INCOMPLETE}, {"", 0, GIXP_INCOMPLETE},
+        {"0006a\n", 6, GIXP_NO_CAPABILITIES}, {"000eversion 2\n", 14, GIXP_VERSION_TWO}, {"000eversion 3\n", 14, GIXP_UNKNOWN_VERSION},
+        {"000ax y\0a\n", 10, GIXP_BAD_ID}, {"0007a\0\n", 7, GIXP_BAD_LINE}, {"0032" ID " H^{}\0", 50, GIXP_BAD_PEELED},
+        {"0037" ID " H\0symref=H\n", 55, GIXP_BAD_SYMREF}, {"0000", 4, GIXP_OK},
+    };
+    for (size_t i = 0; i < sizeof rows / sizeof *rows; i++) {
+        CHECK(advertised(rows[i].text, rows[i].len, 0, records, 3, &found) == rows[i].code && found.count == 0);
+        CHECK((found.words.len == 2) == (rows[i].code == GIXP_SERVER));
+    }
+    allowed = 0;
+    CHECK(advertised(FIRST, len, 0, records, 3, &found) == GIXP_NO_MEMORY && found.count == 0 && found.next == 0);
+    allowed = -1;
+    free(records);
+}
+
 static void pieces(void)
 {
     static const char text[] = "0009\001PACK" "000a\002half\n" "0005\001" "000b\003wrong\n" "0005\004";
@@ -146,6 +200,11 @@ static void maps(void)
     CHECK(mapped("a:b:c", 4, records, 2, names, 19, &counts) >= GIXP_BAD_SPEC && counts.mappings == 0);
     CHECK(mapped("HEAD:refs/x\nrefs/heads/main:refs/x", 4, records, 2, names, 19, &counts) == GIXP_CONFLICT && counts.mappings == 1);
     CHECK(records[0].item == 2 && is_text(names, records[0].local, "refs/x"));
+    /* a name without slashes is one of a branch; a pattern's local name is taken as it is, and taken out where it is no ref's */
+    CHECK(mapped("refs/heads/main:x", 4, records, 2, names, 19, &counts) == GIXP_OK && counts.mappings == 1 && counts.fixes == 0);
+    CHECK(records[0].has_local == 1 && is_text(names, records[0].local, "refs/heads/x"));
+    CHECK(mapped("refs/heads/*:x/*", 4, records, 2, names, 19, &counts) == GIXP_OK && counts.mappings == 0 && counts.fixes == 1);
+    CHECK(records[0].has_local == 1 && is_text(names, records[0].local, "x/main"));
     uint32_t code = GIXP_NO_MEMORY;
     long tried = 0;
     for (; code == GIXP_NO_MEMORY && tried < 1000; tried++) {
@@ -197,7 +256,8 @@ static uint32_t next(const char *answers, const size_t *ends, size_t count, uint
 {
     size_t len = count ? ends[count - 1] : 0;
     uint8_t *bytes = copy(answers, len), *none = copy("", 0), *spec = copy(SPEC, strlen(SPEC));
-    uint32_t code = gixp_next(bytes, len, ends, count, spec, strlen(SPEC), none, 0, none, 0, 0, request, room, step);
+    gixp_wishes wishes = {spec, strlen(SPEC), none, 0, none, 0, 0};
+    uint32_t code = gixp_next(bytes, len, ends, count, &wishes, request, room, step);
     free(spec);
     free(none);
     free(bytes);
@@ -223,10 +283,13 @@ static void session(void)
     uint8_t *bytes = copy(GREETING, ends[0]), *spec = copy(SPEC, len), *ids = copy(LISTED, 40), *empty = copy("", 0);
     static const size_t wrong[][2] = {{19, 0}, {21, 20}, {20, 1}, {0, 39}};
     for (size_t i = 0; i < sizeof wrong / sizeof *wrong; i++)
-        CHECK(gixp_next(bytes, ends[0], ends, 1, spec, len, ids, wrong[i][0], ids, wrong[i][1], 0, room, 4096, &step) == GIXP_BAD_PLACE
-              && step.length == 0);
-    CHECK(gixp_next(bytes, ends[0], ends, 1, spec, len, ids, 40, ids, 20, 3, empty, 0, &step) == GIXP_NO_ROOM && step.length == needed);
-    CHECK(gixp_next(empty, 0, ends, 0, spec, len, empty, 0, empty, 0, 0, room, 4096, &step) == GIXP_NO_ANSWER);
+    {
+        gixp_wishes wishes = {spec, len, ids, wrong[i][0], ids, wrong[i][1], 0};
+        CHECK(gixp_next(bytes, ends[0], ends, 1, &wishes, room, 4096, &step) == GIXP_BAD_PLACE && step.length == 0);
+    }
+    gixp_wishes some = {spec, len, ids, 40, ids, 20, 3}, none = {spec, len, empty, 0, empty, 0, 0};
+    CHECK(gixp_next(bytes, ends[0], ends, 1, &some, empty, 0, &step) == GIXP_NO_ROOM && step.length == needed);
+    CHECK(gixp_next(empty, 0, ends, 0, &none, room, 4096, &step) == GIXP_NO_ANSWER);
     free(empty);
     free(ids);
     free(spec);
@@ -252,6 +315,7 @@ static void session(void)
 int main(void)
 {
     refs();
+    advertisements();
     pieces();
     texts();
     maps();

@@ -36,6 +36,11 @@ class _Piece(Structure):
     _fields_ = [("band", c_uint32), ("text", _Span), ("next", c_size_t)]
 
 
+class _Wishes(Structure):
+    _fields_ = [("specs", c_char_p), ("specs_len", c_size_t), ("haves", c_char_p), ("haves_len", c_size_t), ("boundary", c_char_p),
+                ("boundary_len", c_size_t), ("depth", c_uint32)]
+
+
 class _Step(Structure):
     _fields_ = [("kind", c_uint32), ("length", c_size_t), ("place", c_size_t)]
 
@@ -54,9 +59,9 @@ _lib.gixp_prefixes.argtypes = [*_bytes, *_bytes, POINTER(c_size_t)]
 _lib.gixp_refs.argtypes = [*_bytes, c_size_t, POINTER(_Ref), c_size_t, POINTER(_Found)]
 _lib.gixp_piece.argtypes = [*_bytes, c_size_t, POINTER(_Piece)]
 _lib.gixp_error_text.argtypes = [c_uint32, c_char_p, c_size_t, POINTER(c_size_t)]
-_lib.gixp_next.argtypes = [*_bytes, POINTER(c_size_t), c_size_t, *_bytes, *_bytes, *_bytes, c_uint32, c_char_p, c_size_t,
-                           POINTER(_Step)]
-for _f in (_lib.gixp_refs, _lib.gixp_piece, _lib.gixp_error_text, _lib.gixp_next, _lib.gixp_map,
+_lib.gixp_advertised.argtypes = _lib.gixp_refs.argtypes
+_lib.gixp_next.argtypes = [*_bytes, POINTER(c_size_t), c_size_t, POINTER(_Wishes), c_char_p, c_size_t, POINTER(_Step)]
+for _f in (_lib.gixp_refs, _lib.gixp_advertised, _lib.gixp_piece, _lib.gixp_error_text, _lib.gixp_next, _lib.gixp_map,
            _lib.gixp_prefixes):
     _f.restype = c_uint32
 
@@ -109,19 +114,29 @@ def _ref(answer: bytes, r: _Ref) -> Ref:
     return Ref(_of(answer, r.name), first, bytes(r.object) if tagged else None, _of(answer, r.target) if r.kind >= 3 else None)
 
 
-def refs(answer: bytes) -> Iterator[Ref]:
-    """The refs of an `ls-refs` answer of version 2, in its order (gitprotocol-v2, "ls-refs"). Raises GixpError behind the last
-    one unless the answer is whole."""
+def _read(reader, answer: bytes) -> Iterator[Ref]:
     answer = bytes(answer)
     records, found = (_Ref * 256)(), _Found()
     code, place = _MORE, 0
     while code == _MORE:
-        code = _lib.gixp_refs(answer, len(answer), place, records, len(records), byref(found))
+        code = reader(answer, len(answer), place, records, len(records), byref(found))
         place = found.next
         for r in records[:found.count]:
             yield _ref(answer, r)
     if code != _OK:
         raise GixpError(code, _of(answer, found.words))
+
+
+def refs(answer: bytes) -> Iterator[Ref]:
+    """The refs of an `ls-refs` answer of version 2, in its order (gitprotocol-v2, "ls-refs"). Raises GixpError behind the last
+    one unless the answer is whole."""
+    return _read(_lib.gixp_refs, answer)
+
+
+def advertised(answer: bytes) -> Iterator[Ref]:
+    """The refs of what a server of version 0 or 1 says first (gitprotocol-pack, "Reference Discovery"): of each ref line one, a tag
+    with what its peeled line tells. Raises GixpError behind the last one unless the advertisement is whole."""
+    return _read(_lib.gixp_advertised, answer)
 
 
 @dataclass(frozen=True)
@@ -291,10 +306,10 @@ class Session:
             ends.append(end)
         # A want for each ref of the answers and a have for each id fit, so that mostly one call does.
         places, room, step = (c_size_t * max(len(ends), 1))(*ends), 4096 + len(data) + 3 * len(self.haves), _Step()
+        wishes = _Wishes(self.specs, len(self.specs), self.haves, len(self.haves), self.shallow, len(self.shallow), self.depth)
         while True:
             request = ctypes.create_string_buffer(room)
-            code = _lib.gixp_next(data, len(data), places, len(ends), self.specs, len(self.specs), self.haves, len(self.haves),
-                                  self.shallow, len(self.shallow), self.depth, request, room, byref(step))
+            code = _lib.gixp_next(data, len(data), places, len(ends), byref(wishes), request, room, byref(step))
             if code != _NO_ROOM:
                 break
             room = step.length

@@ -15,6 +15,8 @@ HERE = pathlib.Path(__file__).resolve().parent
 TOP = HERE.parent.parent
 sys.path[:0] = [str(HERE), str(TOP / "models")]
 
+sys.setrecursionlimit(100_000)  # of the definitions, which group the lines of an advertisement by recursion
+
 import definitions  # noqa: E402
 import gixp  # noqa: E402
 import rows  # noqa: E402
@@ -22,6 +24,13 @@ import rows  # noqa: E402
 # The number of each error of the definitions.
 CODES = {"Io": 10, "HexDecode": 11, "DataLengthLimitExceeded": 12, "DataIsEmpty": 13, "InvalidLineLength": 14, "Server": 15,
          "UnexpectedFrame": 16, "Id": 20, "MalformedV2RefLine": 21, "UnknownAttribute": 22, "InvariantViolation": 23}
+
+
+# Those of what a server says first.
+FIRST_CODES = {name: CODES[name] for name in CODES if name not in ("MalformedV2RefLine", "UnknownAttribute", "InvariantViolation")}
+FIRST_CODES.update({"MalformedV1RefLine": 21, "InvariantViolation": 24, "MalformedSymref": 25, "MissingDelimitingNullByte": 46,
+                    "UnsupportedProtocolVersion": 48})
+VERSION_TWO = 47
 
 
 def all_rows():
@@ -75,6 +84,32 @@ class Refs(unittest.TestCase):
             with self.assertRaises(gixp.GixpError) as caught:
                 list(gixp.refs(data[:end]))
             self.assertIs(caught.exception.kind, gixp.Kind.INCOMPLETE)
+
+
+class Advertisements(unittest.TestCase):
+    def test_rows(self):
+        """Every row of bytes is read as what a server says first, as the definitions read it."""
+        codes = collections.Counter()
+        for row in all_rows():
+            found, code, words = [], 0, b""
+            try:
+                found.extend(gixp.advertised(row.data))
+            except gixp.GixpError as e:
+                code, words = e.code, e.words
+            try:
+                items = definitions.items_of(row.data, 0)[0]
+                if items and items[0][0] != "stop" and definitions.trim(items[0][1]) == b"version 2":
+                    self.assertEqual(code, VERSION_TWO, row.name)
+                    codes[code] += 1
+                    continue
+                wanted = definitions.advertisement(row.data)["refs"]
+                self.assertEqual((code, [(r.name, r.id, r.peeled) for r in found]), (0, list(map(definitions.unpack, wanted))), row.name)
+                self.assertEqual([r.target for r in found], [r[2] if r[0] == "Symbolic" else None for r in wanted], row.name)
+            except definitions.Refused as e:
+                self.assertEqual(code, FIRST_CODES[e.rest[0] if e.name == "Decode" else e.name], row.name)
+                self.assertEqual(words, e.rest[0] if e.name == "Server" else b"", row.name)
+            codes[code] += 1
+        self.assertTrue(all(codes[code] for code in [0, VERSION_TWO, *FIRST_CODES.values()]), codes)
 
 
 class Pieces(unittest.TestCase):

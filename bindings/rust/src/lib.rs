@@ -15,7 +15,7 @@ mod sys;
 pub use error::{Error, Kind};
 pub use maps::{map, prefixes, Mapping, Mappings};
 pub use pieces::{pieces, Piece, Pieces};
-pub use refs::{refs, Ref, Refs};
+pub use refs::{advertised, refs, Ref, Refs};
 pub use session::{without_service, Session, Step};
 
 /// An object id, as its 20 bytes.

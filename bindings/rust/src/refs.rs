@@ -48,8 +48,12 @@ impl<'a> Ref<'a> {
 // So many records are read by one call, and stay in the processor's cache.
 const ROOM: usize = 128;
 
+// What reads them.
+type Reader = unsafe extern "C" fn(*const u8, usize, usize, *mut RefRecord, usize, *mut Found) -> u32;
+
 /// The refs of an answer, in its order. After an error there is no more.
 pub struct Refs<'a> {
+    reader: Reader,
     answer: &'a [u8],
     next: usize,
     code: u32,
@@ -62,18 +66,29 @@ pub struct Refs<'a> {
 /// The refs of an `ls-refs` answer of version 2 (gitprotocol-v2, "ls-refs"). The last item is an error unless the answer is
 /// whole; of one that isn't, it is [`Kind::Incomplete`](crate::Kind::Incomplete).
 pub fn refs(answer: &[u8]) -> Refs<'_> {
-    Refs {
-        answer,
-        next: 0,
-        code: sys::MORE,
-        words: sys::Span::default(),
-        records: [RefRecord::default(); ROOM],
-        at: 0,
-        count: 0,
-    }
+    Refs::new(sys::gixp_refs, answer)
 }
 
-impl Refs<'_> {
+/// The refs of what a server of version 0 or 1 says first (gitprotocol-pack, "Reference Discovery"): of each ref line one, a tag
+/// with what its peeled line tells. The last item is an error unless the advertisement is whole, as of [`refs`].
+pub fn advertised(answer: &[u8]) -> Refs<'_> {
+    Refs::new(sys::gixp_advertised, answer)
+}
+
+impl<'a> Refs<'a> {
+    fn new(reader: Reader, answer: &'a [u8]) -> Refs<'a> {
+        Refs {
+            reader,
+            answer,
+            next: 0,
+            code: sys::MORE,
+            words: sys::Span::default(),
+            records: [RefRecord::default(); ROOM],
+            at: 0,
+            count: 0,
+        }
+    }
+
     /// How many bytes of the answer were read: all up to its stop, once the last ref is taken.
     pub fn place(&self) -> usize {
         self.next
@@ -83,7 +98,7 @@ impl Refs<'_> {
         let mut found = Found::default();
         // SAFETY: answer and records are whole slices, of which the records are this call's alone, as is `found`.
         self.code = unsafe {
-            sys::gixp_refs(
+            (self.reader)(
                 self.answer.as_ptr(),
                 self.answer.len(),
                 self.next,

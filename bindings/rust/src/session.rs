@@ -1,5 +1,5 @@
 //! A session, one request after another.
-use crate::sys::{self, StepRecord};
+use crate::sys::{self, StepRecord, Wishes};
 use crate::{Error, Id};
 
 /// What a client does next.
@@ -89,22 +89,25 @@ impl Session {
     pub fn step(&self) -> Result<Step, Error> {
         // A want for each ref of the answers and a have for each id fit, so that mostly one call does.
         let mut request = vec![0; 4096 + self.answers.len() + 3 * self.haves.len()];
+        let wishes = Wishes {
+            specs: self.specs.as_ptr(),
+            specs_len: self.specs.len(),
+            haves: self.haves.as_ptr(),
+            haves_len: self.haves.len(),
+            boundary: self.boundary.as_ptr(),
+            boundary_len: self.boundary.len(),
+            depth: self.depth,
+        };
         loop {
             let mut step = StepRecord::default();
-            // SAFETY: all are whole slices, of which the request is this call's alone, as is `step`.
+            // SAFETY: all are whole slices, also those of the wishes, of which the request is this call's alone, as is `step`.
             let code = unsafe {
                 sys::gixp_next(
                     self.answers.as_ptr(),
                     self.answers.len(),
                     self.ends.as_ptr(),
                     self.ends.len(),
-                    self.specs.as_ptr(),
-                    self.specs.len(),
-                    self.haves.as_ptr(),
-                    self.haves.len(),
-                    self.boundary.as_ptr(),
-                    self.boundary.len(),
-                    self.depth,
+                    &wishes,
                     request.as_mut_ptr(),
                     request.len(),
                     &mut step,

@@ -40,6 +40,17 @@ pub(crate) struct PieceRecord {
 }
 
 #[repr(C)]
+pub(crate) struct Wishes {
+    pub specs: *const u8,
+    pub specs_len: usize,
+    pub haves: *const u8,
+    pub haves_len: usize,
+    pub boundary: *const u8,
+    pub boundary_len: usize,
+    pub depth: u32,
+}
+
+#[repr(C)]
 #[derive(Default)]
 pub(crate) struct StepRecord {
     pub kind: u32,
@@ -78,6 +89,14 @@ extern "C" {
         records_len: usize,
         found: *mut Found,
     ) -> u32;
+    pub(crate) fn gixp_advertised(
+        answer: *const u8,
+        answer_len: usize,
+        from: usize,
+        records: *mut RefRecord,
+        records_len: usize,
+        found: *mut Found,
+    ) -> u32;
     pub(crate) fn gixp_piece(
         answer: *const u8,
         answer_len: usize,
@@ -89,13 +108,7 @@ extern "C" {
         answers_len: usize,
         ends: *const usize,
         ends_len: usize,
-        specs: *const u8,
-        specs_len: usize,
-        haves: *const u8,
-        haves_len: usize,
-        boundary: *const u8,
-        boundary_len: usize,
-        depth: u32,
+        wishes: *const Wishes,
         request: *mut u8,
         request_len: usize,
         step: *mut StepRecord,

@@ -1,5 +1,5 @@
 //! What the library says of answers, without a network.
-use gixp::{pieces, refs, Error, Id, Kind, Piece, Ref, Session, Step};
+use gixp::{advertised, pieces, refs, Error, Id, Kind, Piece, Ref, Session, Step};
 
 fn packet(text: &[u8]) -> Vec<u8> {
     [format!("{:04x}", text.len() + 4).as_bytes(), text].concat()
@@ -81,6 +81,41 @@ fn malformed_packet_lines() {
 }
 
 #[test]
+fn advertisements() {
+    let first = [id(1).to_string().as_bytes(), b" HEAD\0symref=HEAD:refs/heads/main agent=git/2\n"].concat();
+    let lines = [line(2, "refs/heads/main"), line(3, "refs/tags/v1"), line(4, "refs/tags/v1^{}"), packet(format!("shallow {}", id(9)).as_bytes())];
+    for version in [vec![], packet(b"version 1\n")] {
+        let whole = [version, packet(&first), lines.concat(), b"0000rest".to_vec()].concat();
+        let mut all = advertised(&whole);
+        let found: Vec<_> = all.by_ref().map(Result::unwrap).collect();
+        assert_eq!(
+            found,
+            [
+                Ref::Symbolic { name: b"HEAD", target: b"refs/heads/main", tag: None, object: id(1) },
+                Ref::Direct { name: b"refs/heads/main", object: id(2) },
+                Ref::Peeled { name: b"refs/tags/v1", tag: id(3), object: id(4) },
+            ]
+        );
+        assert_eq!(all.place(), whole.len() - 4);
+        for end in 0..whole.len() - 8 {
+            let cut: Vec<_> = advertised(&whole[..end]).map_while(Result::ok).collect();
+            assert_eq!(cut, found[..cut.len()]);
+            assert_eq!(advertised(&whole[..end]).last().unwrap().unwrap_err().kind(), Kind::Incomplete);
+        }
+    }
+    let many: Vec<u8> = (0..1000).flat_map(|n| line(n as u8, &format!("refs/tags/{n}"))).collect();
+    let whole = [packet(&[id(1).to_string().as_bytes(), b" refs/a\0\n"].concat()), many, b"0000".to_vec()].concat();
+    assert_eq!(advertised(&whole).filter(|found| found.is_ok()).count(), 1001);
+    let none = [packet(&[Id::default().to_string().as_bytes(), b" capabilities^{}\0agent=git/2\n"].concat()), b"0000".to_vec()].concat();
+    assert_eq!(advertised(&none).count(), 0);
+    assert_eq!(advertised(b"0000").count(), 0);
+    for (bad, code) in [(greeting(), 47), (packet(b"version 7\n"), 48), (line(1, "HEAD"), 46), (packet(b"ERR no\n"), 15)] {
+        let error = advertised(&bad).next().unwrap().unwrap_err();
+        assert_eq!((error.code(), error.words()), (code, if code == 15 { b"no".as_slice() } else { b"" }), "{error}");
+    }
+}
+
+#[test]
 fn bands() {
     let answer = [packet(b"\x01PACK"), packet(b"\x02half\n"), packet(b"\x01"), packet(b"\x03bad"), b"0000rest".to_vec()].concat();
     let mut all = pieces(&answer, 0);
@@ -152,7 +187,9 @@ fn mappings() {
     let all = gixp::map(names, ["refs/heads/main:refs/x", "refs/heads/other:refs/x"]).unwrap();
     assert_eq!((all.mappings.len(), all.conflicts), (0, vec![b"refs/x".to_vec()]));
     let all = gixp::map(names, ["refs/heads/main:x"]).unwrap();
-    assert_eq!((all.mappings.len(), all.removed.len()), (1, 0));
+    assert_eq!((all.mappings[0].local.as_deref(), all.removed.len()), (Some(b"refs/heads/x".as_slice()), 0));
+    let all = gixp::map(names, ["refs/heads/*:x/*"]).unwrap();
+    assert_eq!((all.mappings.len(), all.removed), (0, vec![b"x/main".to_vec(), b"x/other".to_vec()]));
     assert_eq!(gixp::map(names, ["a:b:c"]).unwrap_err().kind(), Kind::BadSpec);
     let many: Vec<_> = (0..1000).map(|n| format!("refs/heads/{n}")).collect();
     assert_eq!(gixp::map(&many, ["refs/heads/*:refs/a/much/longer/name/of/a/place/*"]).unwrap().mappings.len(), 1000);

@@ -1,6 +1,12 @@
 -- The number of each outcome, as the header has it.
 use Rattle.std.specs.Prelude.{ℕ}
 use Rattle.gixp_packetline.specs.declared.packet.PacketError.TheVariants.{HexDecode, DataLengthLimitExceeded, DataIsEmpty, InvalidLineLength}
+use Rattle.gixp_records.specs.declared.advertised.AdvertisedEnd.{AdvertisedEnd}
+use Rattle.gixp_records.specs.declared.advertised.AdvertisedEnd.TheVariants.{Full as FullAdvertised, Stop as StopAdvertised, Refused as RefusedAdvertised}
+use Rattle.gixp_records.specs.declared.advertised.refused.AdvertisedLineRefused.{AdvertisedLineRefused}
+use Rattle.gixp_records.specs.declared.advertised.refused.AdvertisedLineRefused.TheVariants.{Id as BadId, Malformed as BadLine, Peeled, Symref}
+use Rattle.gixp_records.specs.declared.advertised.refused.AdvertisedRefused.{AdvertisedRefused}
+use Rattle.gixp_records.specs.declared.advertised.refused.AdvertisedRefused.TheVariants.{Packet as NoPacket, Line as NoLine, NoCapabilities, VersionTwo, UnknownVersion, Memory}
 use Rattle.gixp_records.specs.declared.line.LineRefused.{LineRefused}
 use Rattle.gixp_records.specs.declared.line.LineRefused.TheVariants.{Id, Malformed as MalformedLine, UnknownAttribute, Unborn}
 use Rattle.gixp_records.specs.declared.packets.PacketRefused.{PacketRefused}
@@ -35,3 +41,23 @@ abbrev pub end_code : RefsEnd → ℕ
 end_code Stop = 0
 end_code Full = 1
 end_code (Refused e) = refs_code e
+
+abbrev pub advertised_line_code : AdvertisedLineRefused → ℕ
+advertised_line_code BadId = 20
+advertised_line_code BadLine = 21
+advertised_line_code Peeled = 24
+advertised_line_code Symref = 25
+
+abbrev pub advertised_code : AdvertisedRefused → ℕ
+advertised_code (NoPacket e) = packet_code e
+advertised_code (NoLine e) = advertised_line_code e
+advertised_code NoCapabilities = 46
+advertised_code VersionTwo = 47
+advertised_code UnknownVersion = 48
+advertised_code Memory = 4
+
+-- how a call that reads refs of an advertisement ended
+abbrev pub advertised_end_code : AdvertisedEnd → ℕ
+advertised_end_code StopAdvertised = 0
+advertised_end_code FullAdvertised = 1
+advertised_end_code (RefusedAdvertised e) = advertised_code e

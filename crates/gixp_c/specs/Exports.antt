@@ -1,5 +1,9 @@
 -- What the exports say, over the contracts of what they call.
 use Rattle.std.specs.Prelude.{◌≡◌, ◌⊎◌, ◌≤◌, ◌<◌, ℕ, List, [], length, Ok, Err}
+use Rattle.gixp_records.specs.declared.advertised.AdvertisedEnd.{AdvertisedEnd}
+use Rattle.gixp_records.specs.declared.advertised.AdvertisedEnd.TheVariants.{Refused as RefusedAdvertised}
+use Rattle.gixp_records.specs.declared.advertised.AdvertisedFound.{AdvertisedFound}
+use Rattle.gixp_records.specs.declared.advertised.refused.AdvertisedRefused.TheVariants.{Packet as NoPacket}
 use Rattle.gixp_records.specs.declared.span.Span.{Span}
 use Rattle.gixp_records.specs.declared.bands.BandPiece.{BandPiece}
 use Rattle.gixp_records.specs.declared.bands.BandPiece.TheVariants.{Content, Progress, Error, Stop as StopPiece}
@@ -12,9 +16,10 @@ use Rattle.gixp_records.specs.declared.refs.RefsEnd.TheVariants.{Refused}
 use Rattle.gixp_records.specs.declared.refs.RefsFound.{RefsFound}
 use Rattle.gixp_records.specs.Bands.{IsNextPiece}
 use Rattle.gixp_records.specs.Refs.{ReadsRecords}
+use Rattle.gixp_records.specs.AdvertisedRecords.{ReadsAdvertised}
 use Rattle.gixp_c.specs.declared.refs.FoundRecord.{FoundRecord}
 use Rattle.gixp_c.specs.declared.bands.PieceRecord.{PieceRecord}
-use Rattle.gixp_c.specs.Codes.{packet_code, end_code}
+use Rattle.gixp_c.specs.Codes.{packet_code, end_code, advertised_end_code}
 
 -- where there is no text
 abbrev pub no_span : Span
@@ -33,6 +38,22 @@ pub data ExportsRefs (answer : List ℕ) (from : ℕ) (old : List RefRecord) (wa
   read : (found : RefsFound) → from ≤ length answer → ReadsRecords answer from old found new → code ≡ end_code found.end
       → now ≡ record { count = found.count; next = found.next; words = words_of found.end }
       → ExportsRefs answer from old was code new now
+
+abbrev pub advertised_words : AdvertisedEnd → Span
+advertised_words (RefusedAdvertised (NoPacket (Server words))) = words
+advertised_words _ = no_span
+
+-- the place is behind the bytes, or there is no record; or refs of an advertisement were read
+pub data ExportsAdvertised (answer : List ℕ) (from : ℕ) (old : List RefRecord) (was : FoundRecord) (code : ℕ) (new : List RefRecord)
+    (now : FoundRecord) : Type 0 where
+  advertised_misplaced : length answer < from → code ≡ 3 → new ≡ old → now ≡ was
+      → ExportsAdvertised answer from old was code new now
+  advertised_no_room : old ≡ [] → code ≡ 2 → new ≡ old → now ≡ record was { count = 1 }
+      → ExportsAdvertised answer from old was code new now
+  advertised_read : (found : AdvertisedFound) → from ≤ length answer → ReadsAdvertised answer from old found new
+      → code ≡ advertised_end_code found.end
+      → now ≡ record { count = found.count; next = found.next; words = advertised_words found.end }
+      → ExportsAdvertised answer from old was code new now
 
 abbrev pub piece_band : BandPiece → ℕ
 piece_band (StopPiece kind) = 0

@@ -1,6 +1,6 @@
 //! The number of each outcome.
 ghost use Rattle.std.specs.Prelude.{◌≡◌, ◌<◌};
-ghost use Rattle.gixp_c.specs.Codes.{packet_code, line_code, refs_code};
+ghost use Rattle.gixp_c.specs.Codes.{packet_code, line_code, refs_code, advertised_line_code, advertised_code};
 
 use gix_protocol::fetch::{self, refmap, response};
 use gix_protocol::handshake;
@@ -8,7 +8,9 @@ use gix_protocol::refspec::parse;
 use gix_protocol::transport::client;
 use gixp_engine::{EngineError, Left};
 use gixp_packetline::PacketError;
-use gixp_records::{LineRefused, PacketRefused, RefsRefused};
+use gixp_records::{
+    AdvertisedLineRefused, AdvertisedRefused, LineRefused, PacketRefused, RefsRefused,
+};
 use std::alloc::AllocError;
 use std::io::ErrorKind;
 
@@ -64,6 +66,32 @@ pub(crate) fn refs_code(e: RefsRefused) -> u32
     match e {
         RefsRefused::Packet(e) => packet_code(e),
         RefsRefused::Line(e) => line_code(e),
+    }
+}
+
+// Of a line of an advertisement.
+fn advertised_line_code(e: AdvertisedLineRefused) -> u32
+    ensures { result ≡ advertised_line_code e }
+{
+    match e {
+        AdvertisedLineRefused::Id => 20,
+        AdvertisedLineRefused::Malformed => 21,
+        AdvertisedLineRefused::Peeled => 24,
+        AdvertisedLineRefused::Symref => 25,
+    }
+}
+
+// Of an advertisement.
+pub(crate) fn advertised_code(e: AdvertisedRefused) -> u32
+    ensures { result ≡ advertised_code e }
+{
+    match e {
+        AdvertisedRefused::Packet(e) => packet_code(e),
+        AdvertisedRefused::Line(e) => advertised_line_code(e),
+        AdvertisedRefused::NoCapabilities => 46,
+        AdvertisedRefused::VersionTwo => 47,
+        AdvertisedRefused::UnknownVersion => 48,
+        AdvertisedRefused::Memory => NO_MEMORY,
     }
 }
 

@@ -2,6 +2,7 @@
 //! the caller's.
 #![tactic(auto)]
 
+mod advertised;
 mod bands;
 mod code;
 mod map;
@@ -9,8 +10,9 @@ mod next;
 mod refs;
 mod texts;
 
+pub use advertised::gixp_advertised;
 pub use bands::{PieceRecord, gixp_piece};
 pub use map::{MappedRecord, MappingRecord, gixp_map, gixp_prefixes};
-pub use next::{StepRecord, gixp_next};
+pub use next::{StepRecord, WishesRecord, gixp_next};
 pub use refs::{FoundRecord, gixp_refs};
 pub use texts::gixp_error_text;

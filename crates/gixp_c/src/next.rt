@@ -8,6 +8,20 @@ use gixp_engine::{EngineError, Step, Wishes, ids_of, next_step, specs_of};
 use std::alloc::Global;
 use std::num::NonZeroU32;
 
+/// What a client wants.
+#[repr(C)]
+#[derive(Clone, Copy)]
+pub struct WishesRecord<'a> {
+    /// The refspecs, one on a line.
+    pub specs: &'a [u8],
+    /// The ids of objects that are there, of 20 bytes each. They are offered in this order, and none is asked for.
+    pub haves: &'a [u8],
+    /// The ids of the boundary of a shallow repository, of 20 bytes each.
+    pub boundary: &'a [u8],
+    /// How many commits of each ref; 0 leaves the boundary as it is.
+    pub depth: u32,
+}
+
 /// What a client does next.
 #[repr(C)]
 #[derive(Clone, Copy)]
@@ -29,18 +43,12 @@ fn shallow_of(depth: u32) -> Shallow {
 }
 
 // What a client wants.
-fn wishes_of(
-    alloc: Global,
-    specs: &[u8],
-    haves: &[u8],
-    boundary: &[u8],
-    depth: u32,
-) -> Result<Wishes, EngineError> {
+fn wishes_of(alloc: Global, told: &WishesRecord<'_>) -> Result<Wishes, EngineError> {
     Ok(Wishes {
-        specs: specs_of(alloc, specs)?,
-        haves: ids_of(alloc, haves)?,
-        shallow: shallow_of(depth),
-        boundary: ids_of(alloc, boundary)?,
+        specs: specs_of(alloc, told.specs)?,
+        haves: ids_of(alloc, told.haves)?,
+        shallow: shallow_of(told.depth),
+        boundary: ids_of(alloc, told.boundary)?,
     })
 }
 
@@ -49,17 +57,9 @@ fn step_of(
     alloc: Global,
     answers: &[u8],
     ends: &[usize],
-    specs: &[u8],
-    haves: &[u8],
-    boundary: &[u8],
-    depth: u32,
+    wishes: &WishesRecord<'_>,
 ) -> Result<Step, EngineError> {
-    next_step(
-        alloc,
-        answers,
-        ends,
-        wishes_of(alloc, specs, haves, boundary, depth)?,
-    )
+    next_step(alloc, answers, ends, wishes_of(alloc, wishes)?)
 }
 
 // Puts the step into the buffer and the record.
@@ -128,17 +128,14 @@ pub extern "C" fn gixp_next(
     alloc: Global,
     answers: &[u8],
     ends: &[usize],
-    specs: &[u8],
-    haves: &[u8],
-    boundary: &[u8],
-    depth: u32,
+    wishes: &WishesRecord<'_>,
     request: &mut [u8],
     step: &mut StepRecord,
 ) -> u32
     ensures no_room { result ≡ 2 → (request.new ≡ request.old) × (length request.old < step.new.length) }
     ensures refused { 2 < result → step.new ≡ record step.old { length = step.new.length } }
 {
-    match step_of(alloc, answers, ends, specs, haves, boundary, depth) {
+    match step_of(alloc, answers, ends, wishes) {
         Ok(found) => tell_step(&found, request, step),
         Err(e) => tell_refusal(&e, request, step),
     }

@@ -14,12 +14,12 @@ use gix_protocol::fetch::refmap::init;
 use gix_protocol::fetch::{self, Outcome, RefMap, Shallow, ShallowMemory, Tags};
 use gix_protocol::handshake::{self, obtain_mappings};
 use gix_protocol::transport::{Discard, NeverInterrupt, ObjectId, Protocol, Service, Transport};
-use gix_protocol::{Handshake, agent};
+use gix_protocol::{Handshake, agent_feature};
 use std::alloc::{AllocError, Global};
 
 // How the client names itself.
-fn agent_feature(alloc: Global) -> Result<Feature, AllocError> {
-    Ok(("agent", Some(agent(alloc, "git/gixp")?)))
+fn engine_feature(alloc: Global) -> Result<Feature, AllocError> {
+    agent_feature(alloc, "git/gixp")
 }
 
 // A handshake without an account.
@@ -44,7 +44,7 @@ fn map_refs<T: Transport>(
     context: init::Context,
     transport: &mut T,
 ) -> Result<RefMap, init::Error> {
-    let agent = agent_feature(alloc)?;
+    let agent = engine_feature(alloc)?;
     let mut quiet = Discard;
     let table = CommandTable::git();
     obtain_mappings(
@@ -61,7 +61,7 @@ fn fetch_over<N: Negotiate, T: Transport>(
     shallow: &Shallow,
     boundary: &mut ShallowMemory,
 ) -> Result<Option<Outcome>, fetch::Error<N::AlternatesError, Left>> {
-    let agent = agent_feature(alloc)?;
+    let agent = engine_feature(alloc)?;
     let context = fetch::Context {
         handshake,
         transport,

@@ -3,3 +3,8 @@ pub mod PacketLemmas
 pub mod RecordLineLemmas
 pub mod PlaceLemmas
 pub mod RefsLemmas
+pub mod AdvertisedLineLemmas
+pub mod AdvertisedLemmas
+pub mod SymrefSpanLemmas
+pub mod OpeningLemmas
+pub mod AdvertisedReadLemmas

@@ -1,5 +1,5 @@
 -- Pieces from one place to another.
-use Rattle.std.proofs.Common.{◌≡◌, ℕ, ◌<◌, ◌≤◌, List, [], ◌∷◌, ◌++◌, length, refl, sym, ap, ◌∙◌, arith, append_assoc}
+use Rattle.std.proofs.Common.{◌≡◌, ℕ, List, [], ◌∷◌, ◌++◌, sym, ap, ◌∙◌, arith, append_assoc}
 use Rattle.gixp_packetline.specs.Pieces.{Piece, Pieces, with_piece}
 use Rattle.gixp_records.specs.Packets.{pieces_at, IsBehind}
 use Rattle.gixp_records.specs.Place.{pieces_before, ArePiecesTo}

@@ -1,11 +1,10 @@
 -- The steps of a line, one after another.
-use Rattle.std.proofs.Common.{◌≡◌, ℕ, ◌<◌, List, [], ◌∷◌, length, refl, sym, ap, ◌∙◌, arith, Option, Some, None, Result, Ok, Err}
+use Rattle.std.proofs.Common.{◌≡◌, ℕ, List, [], ◌∷◌, length, refl, sym, ap, ◌∙◌, arith, Option, Some, None, Result, Ok, Err}
 use Rattle.std.specs.Prelude.{true, false, codes, MatchResult}
 use Rattle.std.specs.Char.{is_whitespace}
 use Rattle.bstr.specs.Trim.{trim_end_by}
 use Rattle.gixp_capabilities.specs.Cut.{cut}
 use Rattle.gixp_capabilities.specs.Capabilities.{is_text}
-use Rattle.gixp_refs.specs.Ref.{RefValue}
 use Rattle.gixp_refs.specs.RefLine.{RefsRefusal, and_then, AttributeValues, named_attribute, attribute_of, with_attribute, attributes_in, attributes_of, no_attributes, unknown_attribute, malformed_v2, first_piece, named, line_value, value_of, v2_line, never_born, invariant}
 use Rattle.gixp_records.specs.declared.line.LineRefused.{LineRefused}
 use Rattle.gixp_records.specs.declared.line.LineRefused.TheVariants.{Unborn}

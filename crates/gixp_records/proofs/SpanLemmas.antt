@@ -5,8 +5,6 @@ use Rattle.std.specs.List.{position}
 use Rattle.std.proofs.lemmas.List.Quantifiers.{position-Some}
 use Rattle.gixp_capabilities.specs.Cut.{cut, parts_at}
 use Rattle.std.proofs.lemmas.List.{length-take, length-take-le, take-take, drop-drop, drop-take, take_min}
-use Rattle.gixp_records.specs.declared.span.Span.{Span}
-use Rattle.gixp_records.specs.Span.{text_at, IsWithin}
 
 -- a text that stands in the bytes is as long as it says
 pub length-text_at : (bytes : List ℕ) (at len : ℕ) → at + len ≤ length bytes → length (take len (drop at bytes)) ≡ len
@@ -33,7 +31,7 @@ front-text_at bytes at len n =
     take-text_at bytes at len (length front) short ∙ ap (λ k. take k text) (length-take n text) ∙ take_min n text
 
 -- a text that was cut in two: what comes before the place, and what comes after it
-cut_parts : (byte : ℕ) (text a b : List ℕ) → cut byte text ≡ (a, Some b)
+pub cut_parts : (byte : ℕ) (text a b : List ℕ) → cut byte text ≡ (a, Some b)
     → (i : ℕ) × (i < length text) × (a ≡ take i text) × (b ≡ drop (i + 1) text)
 cut_parts byte text a b h = at (position (λ x. x == byte) text) refl h
   where

@@ -4,3 +4,6 @@ pub mod Bands
 pub mod RecordLine
 pub mod Refs
 pub mod Place
+pub mod V1RecordLine
+pub mod RefsOpening
+pub mod AdvertisedRecords

@@ -1,5 +1,5 @@
 -- A line of an `ls-refs` answer by where its parts stand (gitprotocol-v2, "ls-refs").
-use Rattle.std.specs.Prelude.{◌≡◌, ℕ, List, Option, IfSome, Result, Ok, Err}
+use Rattle.std.specs.Prelude.{◌≡◌, ℕ, List, IfSome, Result, Err}
 use Rattle.std.specs.Option.{option_map}
 use Rattle.gixp_refs.specs.Ref.{RefValue}
 use Rattle.gixp_refs.specs.RefLine.{RefsRefusal, bad_id, unknown_attribute, invariant, AttributeValues, value_of}

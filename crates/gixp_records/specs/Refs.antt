@@ -1,5 +1,5 @@
 -- The refs of an `ls-refs` answer as records (gitprotocol-v2, "ls-refs").
-use Rattle.std.specs.Prelude.{◌≡◌, ℕ, ◌==◌, ◌≤◌, if◌then◌else◌, All, List, [], ◌∷◌, ◌++◌, length, take, drop, map, Some, None, Result, Ok, Err}
+use Rattle.std.specs.Prelude.{◌≡◌, ℕ, ◌==◌, ◌≤◌, if◌then◌else◌, All, List, [], ◌∷◌, length, take, drop, map, Some, None, Result, Ok, Err}
 use Rattle.gixp_packetline.specs.declared.protocol.MessageKind.{MessageKind}
 use Rattle.gixp_packetline.specs.declared.protocol.Protocol.TheVariants.{V2}
 use Rattle.gixp_packetline.specs.Lines.{Lines, lines_of, no_lines, before, stop, refusal}

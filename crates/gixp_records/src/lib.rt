@@ -1,6 +1,7 @@
 //! Refs and packs as records of numbers: where each text stands in the bytes that a server sent, of which none is copied.
 #![tactic(auto)]
 
+mod advertised;
 mod bands;
 mod line;
 mod packets;
@@ -8,6 +9,9 @@ mod place;
 mod refs;
 mod span;
 
+pub use advertised::{
+    AdvertisedEnd, AdvertisedFound, AdvertisedLineRefused, AdvertisedRefused, read_advertised,
+};
 pub use bands::{BandPiece, next_piece};
 pub use line::LineRefused;
 pub use packets::PacketRefused;

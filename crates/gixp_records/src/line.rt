@@ -44,7 +44,7 @@ pub(crate) struct LineRef {
 
 // The id that a text is, or why it is none.
 #[inline(always)]
-fn id_in(text: &[u8]) -> Result<ObjectId, decode::Error>
+pub(crate) fn id_in(text: &[u8]) -> Result<ObjectId, decode::Error>
     ensures { MatchResult result (λ id. id_value text.now ≡ Ok id.bytes) (λ e. id_value text.now ≡ Err (bad_id e)) }
 {
     ObjectId::from_hex(text)
@@ -151,7 +151,7 @@ fn read_attributes(bytes: &[u8], rest: Option<Span>) -> Result<Said, LineRefused
 
 // Where the line stands without the white space at its end.
 #[inline(always)]
-fn trimmed(bytes: &[u8], line: Span) -> Span
+pub(crate) fn trimmed(bytes: &[u8], line: Span) -> Span
     requires { IsWithin bytes.now line }
     ensures text { text_at bytes.now result ≡ trim_end_by is_whitespace (text_at bytes.now line) }
     ensures within { IsWithin bytes.now result }

@@ -72,7 +72,7 @@ pub(crate) enum NextRef {
 }
 
 // Zeros where there is no id.
-const NO_ID: [u8; 20] = [0; 20];
+pub(crate) const NO_ID: [u8; 20] = [0; 20];
 
 // The target that is shown: `(null)` is none.
 #[inline(always)]

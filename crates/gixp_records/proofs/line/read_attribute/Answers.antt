@@ -1,4 +1,4 @@
-use Rattle.std.proofs.Common.{◌≡◌, refl, arith, Ok, length}
+use Rattle.std.proofs.Common.{refl, arith, Ok}
 use Rattle.gixp_refs.specs.RefLine.{malformed_v2}
 use Rattle.gixp_records.specs.RecordLine.{said_in}
 use Rattle.gixp_records.specs.Span.{text_at}

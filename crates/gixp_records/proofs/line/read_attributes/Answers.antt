@@ -1,4 +1,4 @@
-use Rattle.std.proofs.Common.{◌≡◌, Ok}
+use Rattle.std.proofs.Common.{Ok}
 use Rattle.std.specs.Option.{option_map}
 use Rattle.gixp_records.specs.RecordLine.{said_in}
 use Rattle.gixp_records.specs.Span.{text_at}

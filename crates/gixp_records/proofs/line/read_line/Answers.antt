@@ -1,4 +1,4 @@
-use Rattle.std.proofs.Common.{◌≡◌, refl}
+use Rattle.std.proofs.Common.{refl}
 use Rattle.gixp_refs.specs.ParseError.{object_of}
 use Rattle.gixp_refs.specs.RefLine.{malformed_v2}
 use Rattle.gixp_records.specs.RecordLine.{line_ref_value}

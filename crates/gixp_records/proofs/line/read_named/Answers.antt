@@ -1,4 +1,4 @@
-use Rattle.std.proofs.Common.{◌≡◌, refl, arith, length}
+use Rattle.std.proofs.Common.{refl, arith}
 use Rattle.std.specs.Option.{option_map}
 use Rattle.gixp_refs.specs.ParseError.{object_of}
 use Rattle.gixp_refs.specs.RefLine.{malformed_v2}

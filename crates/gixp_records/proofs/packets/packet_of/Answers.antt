@@ -1,4 +1,4 @@
-use Rattle.std.proofs.Common.{◌≡◌, length, drop, sym, ap, ◌∙◌}
+use Rattle.std.proofs.Common.{drop, sym, ap, ◌∙◌}
 use Rattle.std.specs.Io.BufRead.{strip_last}
 use Rattle.gixp_records.proofs.PacketLemmas.{placed, line_next, server_next}
 use Rattle.gixp_records.proofs.packets.packet_of.Goals as goal

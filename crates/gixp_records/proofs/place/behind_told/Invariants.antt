@@ -1,4 +1,4 @@
-use Rattle.std.proofs.Common.{◌-◌, length, ◌≤◌, ◌≡◌, List}
+use Rattle.std.proofs.Common.{◌-◌, length, List}
 use Rattle.std.specs.Prelude.{All}
 use Rattle.gixp_packetline.specs.Pieces.{Piece}
 use Rattle.gixp_records.specs.Place.{ArePiecesTo, IsTold}

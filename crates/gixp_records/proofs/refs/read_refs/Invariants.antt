@@ -1,4 +1,4 @@
-use Rattle.std.proofs.Common.{◌≡◌, length, take, drop}
+use Rattle.std.proofs.Common.{◌≡◌, take, drop}
 use Rattle.std.specs.Prelude.{All}
 use Rattle.gixp_records.specs.Refs.{refs_in, IsRecordWithin, AreLinesTo}
 use Rattle.gixp_records.proofs.refs.read_refs.Given as goal

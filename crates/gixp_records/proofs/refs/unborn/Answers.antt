@@ -1,4 +1,4 @@
-use Rattle.std.proofs.Common.{◌≡◌, sym, ap, ◌∙◌}
+use Rattle.std.proofs.Common.{sym, ap, ◌∙◌}
 use Rattle.std.specs.Prelude.{codes}
 use Rattle.gixp_capabilities.specs.Capabilities.{is_text}
 use Rattle.gixp_refs.specs.ParseError.{object_of}

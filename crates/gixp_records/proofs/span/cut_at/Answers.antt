@@ -1,4 +1,3 @@
-use Rattle.std.proofs.Common.{rules, arith}
 use Rattle.gixp_records.proofs.SpanLemmas.{cut-text_at}
 use Rattle.gixp_records.proofs.span.cut_at.Goals as goal
 

@@ -1,0 +1,133 @@
+-- The refs of a version 0 or 1 advertisement as records (gitprotocol-pack, "Reference Discovery").
+use Rattle.std.specs.Prelude.{◌≡◌, ℕ, ◌<◌, ◌≤◌, All, IfSome, List, [], ◌∷◌, length, take, drop, max, Option, None, Result, Ok, Err}
+use Rattle.std.specs.Option.{option_map}
+use Rattle.gixp_packetline.specs.declared.protocol.MessageKind.{MessageKind}
+use Rattle.gixp_packetline.specs.declared.protocol.Protocol.{Protocol}
+use Rattle.gixp_packetline.specs.Lines.{stop, Lines, no_lines, before, refusal}
+use Rattle.gixp_capabilities.specs.Capabilities.{capabilities_of_words}
+use Rattle.gixp_wire.specs.CapabilityAdvertisement.{advertisement, empty_advertisement}
+use Rattle.gixp_refs.specs.Ref.{RefValue}
+use Rattle.gixp_refs.specs.RefLine.{RefsRefusal, refusal_from}
+use Rattle.gixp_refs.specs.RefAdvertisement.{Symref, symref_table, v1_line, end_refusal, groups, in_front}
+use Rattle.gixp_records.specs.declared.advertised.AdvertisedEnd.{AdvertisedEnd}
+use Rattle.gixp_records.specs.declared.advertised.AdvertisedEnd.TheVariants.{Full, Stop, Refused}
+use Rattle.gixp_records.specs.declared.advertised.AdvertisedFound.{AdvertisedFound}
+use Rattle.gixp_records.specs.declared.advertised.line.AdvertisedLine.{AdvertisedLine}
+use Rattle.gixp_records.specs.declared.advertised.line.NamedLine.{NamedLine}
+use Rattle.gixp_records.specs.declared.advertised.groups.NextAdvertised.{NextAdvertised}
+use Rattle.gixp_records.specs.declared.advertised.groups.NextAdvertised.TheVariants.{Line, Stop as StopNext}
+use Rattle.gixp_records.specs.declared.advertised.groups.Reach.{Reach}
+use Rattle.gixp_records.specs.declared.advertised.groups.Step.{Step}
+use Rattle.gixp_records.specs.declared.advertised.groups.Step.TheVariants.{On, Record, Last, Stop as StopStep}
+use Rattle.gixp_records.specs.declared.advertised.opening.RefsOpening.{RefsOpening}
+use Rattle.gixp_records.specs.declared.advertised.refused.AdvertisedRefused.{AdvertisedRefused}
+use Rattle.gixp_records.specs.declared.advertised.refused.AdvertisedRefused.TheVariants.{Packet, Line as LineRefused, Memory}
+use Rattle.gixp_records.specs.declared.advertised.refused.AdvertisedLineRefused.{AdvertisedLineRefused}
+use Rattle.gixp_records.specs.declared.refs.RefRecord.{RefRecord}
+use Rattle.gixp_records.specs.Span.{text_at, IsWithin}
+use Rattle.gixp_records.specs.Packets.{pieces_at, refusal_in, AreWordsWithin, IsBehind}
+use Rattle.gixp_records.specs.Refs.{ref_in, refs_in, IsRecordWithin}
+use Rattle.gixp_records.specs.V1RecordLine.{IsRefusedAs, named_in, line_in, IsAdvertisedWithin}
+use Rattle.gixp_records.specs.RefsOpening.{IsOpening, IsNotOpened, advertised_lines}
+
+-- the line at a place, or the stop, or what is refused
+abbrev pub IsNextAdvertised : List ℕ → RefsOpening → ℕ → Result NextAdvertised AdvertisedRefused → Type 0
+IsNextAdvertised bytes o at (Ok (Line l next)) = (text : List ℕ)
+    × (advertised_lines bytes o at ≡ before (text ∷ []) (advertised_lines bytes o next))
+    × (v1_line text ≡ Ok (line_in bytes l)) × IsAdvertisedWithin bytes l × IsBehind bytes at next
+IsNextAdvertised bytes o at (Ok (StopNext next)) = (kind : MessageKind)
+    × (advertised_lines bytes o at ≡ no_lines (stop kind (pieces_at bytes next))) × IsBehind bytes at next
+IsNextAdvertised bytes o at (Err (Packet e)) = (advertised_lines bytes o at ≡ no_lines (refusal (refusal_in bytes e)))
+    × AreWordsWithin bytes e
+IsNextAdvertised bytes o at (Err (LineRefused e)) = (text : List ℕ) × (rest : Lines)
+    × (advertised_lines bytes o at ≡ before (text ∷ []) rest) × IsRefusedAs (v1_line text) e
+IsNextAdvertised bytes o at (Err _) = ⊥
+
+-- the refs of these lines, behind a ref line after which a peeled one may stand
+abbrev pub refs_of_lines : List Symref → Option NamedLine → List ℕ → Lines → Result (List RefValue) RefsRefusal
+refs_of_lines t last bytes l = groups l.lines (end_refusal l.ending) t (option_map (named_in bytes) last)
+
+-- the refs from a place on, or the first refusal
+abbrev pub refs_behind : List ℕ → RefsOpening → List Symref → ℕ → Result (List RefValue) RefsRefusal
+refs_behind bytes o t at = refs_of_lines t None bytes (advertised_lines bytes o at)
+
+-- how far the lines were read: the refs from its place on are those behind the ref line that is open
+pub record IsReach (bytes : List ℕ) (o : RefsOpening) (t : List Symref) (r : Reach) : Type 0 where
+  pub refs : refs_behind bytes o t r.place ≡ refs_of_lines t r.last bytes (advertised_lines bytes o r.at)
+  pub ending : (advertised_lines bytes o r.place).ending ≡ (advertised_lines bytes o r.at).ending
+  pub last : IfSome r.last (λ n. IsWithin bytes n.name)
+  pub place : o.first ≤ r.place
+  pub in_order : r.place ≤ r.at
+  pub within : r.at ≤ length bytes
+
+-- a line that comes next, and the place behind it
+pub record StandsNext (bytes : List ℕ) (o : RefsOpening) (t : List Symref) (r : Reach) (l : AdvertisedLine) (next : ℕ) : Type 0 where
+  pub reach : IsReach bytes o t r
+  pub text : List ℕ
+  pub lines : advertised_lines bytes o r.at ≡ before (text ∷ []) (advertised_lines bytes o next)
+  pub value : v1_line text ≡ Ok (line_in bytes l)
+  pub behind : IsBehind bytes r.at next
+
+-- what is refused from a place on
+abbrev pub IsRefusedBehind : List ℕ → RefsOpening → List Symref → ℕ → AdvertisedRefused → Type 0
+IsRefusedBehind bytes o t at (Packet e) = (refs_behind bytes o t at ≡ Err (refusal_from (refusal_in bytes e))) × AreWordsWithin bytes e
+IsRefusedBehind bytes o t at (LineRefused e) = IsRefusedAs (refs_behind bytes o t at) e
+IsRefusedBehind bytes o t at _ = ⊥
+
+-- the lines end with a stop, behind which this place is
+abbrev pub StopsBefore : List ℕ → RefsOpening → ℕ → ℕ → Type 0
+StopsBefore bytes o at next = (kind : MessageKind) × ((advertised_lines bytes o at).ending ≡ stop kind (pieces_at bytes next))
+    × (next ≤ length bytes)
+
+-- one more line was read: nothing came of it yet, or a ref, or it was the stop, maybe behind one last ref
+abbrev pub IsStep : List ℕ → RefsOpening → List Symref → Reach → Result Step AdvertisedRefused → Type 0
+IsStep bytes o t old (Ok (On new)) = (refs_behind bytes o t old.place ≡ refs_behind bytes o t new.place)
+    × ((advertised_lines bytes o old.place).ending ≡ (advertised_lines bytes o new.place).ending)
+    × IsReach bytes o t new × (old.at < new.at)
+IsStep bytes o t old (Ok (Record r new)) =
+    (refs_behind bytes o t old.place ≡ in_front (ref_in bytes r ∷ []) (refs_behind bytes o t new.place))
+    × ((advertised_lines bytes o old.place).ending ≡ (advertised_lines bytes o new.place).ending)
+    × IsReach bytes o t new × IsRecordWithin bytes r × (old.at < new.at)
+IsStep bytes o t old (Ok (Last r next)) = (refs_behind bytes o t old.place ≡ Ok (ref_in bytes r ∷ []))
+    × IsRecordWithin bytes r × StopsBefore bytes o old.place next
+IsStep bytes o t old (Ok (StopStep next)) = (refs_behind bytes o t old.place ≡ Ok []) × StopsBefore bytes o old.place next
+IsStep bytes o t old (Err e) = IsRefusedBehind bytes o t old.place e
+
+-- how a call that read these refs from a place on ended
+abbrev pub ReadsGroupsTo : List ℕ → RefsOpening → List Symref → ℕ → ℕ → List RefValue → AdvertisedEnd → Type 0
+ReadsGroupsTo bytes o t from next values Full =
+    (refs_behind bytes o t from ≡ in_front values (refs_behind bytes o t next)) × (next ≤ length bytes)
+ReadsGroupsTo bytes o t from next values Stop = (refs_behind bytes o t from ≡ Ok values) × StopsBefore bytes o from next
+ReadsGroupsTo bytes o t from next values (Refused e) =
+    (refs_behind bytes o t from ≡ in_front values (refs_behind bytes o t next)) × IsRefusedBehind bytes o t next e × (next ≤ length bytes)
+
+-- the refs from a place on, in the first records, and no other record changed
+pub record ReadsGroups (bytes : List ℕ) (o : RefsOpening) (t : List Symref) (from : ℕ) (old : List RefRecord) (found : AdvertisedFound)
+    (new : List RefRecord) : Type 0 where
+  pub room : found.count ≤ length new
+  pub full : found.end ≡ Full → found.count ≡ length new
+  pub rest : drop found.count new ≡ drop found.count old
+  pub within : All (IsRecordWithin bytes) (take found.count new)
+  pub ends : ReadsGroupsTo bytes o t from found.next (refs_in bytes (take found.count new)) found.end
+
+-- nothing was read
+abbrev pub ReadsNone : ℕ → AdvertisedRefused → List RefRecord → AdvertisedFound → List RefRecord → Type 0
+ReadsNone from e old found new = (found ≡ record { count = 0; next = from; end = Refused e }) × (new ≡ old)
+
+-- a call that reads refs of an advertisement from a place on, but not before its first ref line: what comes before that, and the
+-- symrefs, are read first
+pub data ReadsAdvertised (bytes : List ℕ) (from : ℕ) (old : List RefRecord) (found : AdvertisedFound) (new : List RefRecord) : Type 0
+  where
+    unopened : (e : AdvertisedRefused) → IsNotOpened bytes (advertisement (pieces_at bytes 0)) e → ReadsNone from e old found new
+        → ReadsAdvertised bytes from old found new
+    empty : (version : Protocol) (kind : MessageKind)
+        → advertisement (pieces_at bytes 0) ≡ Ok (empty_advertisement version kind (pieces_at bytes found.next))
+        → found.next ≤ length bytes → found ≡ record { count = 0; next = found.next; end = Stop } → new ≡ old
+        → ReadsAdvertised bytes from old found new
+    no_memory : ReadsNone from Memory old found new → ReadsAdvertised bytes from old found new
+    unnamed : (o : RefsOpening) → IsOpening bytes (advertisement (pieces_at bytes 0)) o → (e : AdvertisedLineRefused)
+        → IsRefusedAs (symref_table (capabilities_of_words (text_at bytes o.capabilities))) e
+        → ReadsNone from (LineRefused e) old found new → ReadsAdvertised bytes from old found new
+    read : (o : RefsOpening) → IsOpening bytes (advertisement (pieces_at bytes 0)) o → (t : List Symref)
+        → symref_table (capabilities_of_words (text_at bytes o.capabilities)) ≡ Ok t
+        → ReadsGroups bytes o t (max from o.first) old found new → ReadsAdvertised bytes from old found new

@@ -1,0 +1,93 @@
+-- What a server says up to its first ref line under versions 0 and 1 (gitprotocol-pack, "Reference Discovery" and "Extra Parameters").
+use Rattle.std.specs.Prelude.{◌≡◌, ℕ, ◌==◌, ◌≤◌, true, false, min, Bool, ⊤, List, [], ◌∷◌, length, take, map, Some, None, Vec, Result, Ok, Err}
+use Rattle.std.specs.declared.alloc.Global.{Global}
+use Rattle.gixp_packetline.specs.declared.protocol.MessageKind.{MessageKind}
+use Rattle.gixp_packetline.specs.declared.protocol.Protocol.{Protocol}
+use Rattle.gixp_packetline.specs.Pieces.{line, Pieces, with_piece}
+use Rattle.gixp_packetline.specs.Lines.{Lines, lines_of}
+use Rattle.gixp_capabilities.specs.Capabilities.{capabilities_of_words, capabilities_of_line}
+use Rattle.gixp_capabilities.specs.Client.{ClientRefusal, client_from, no_null_byte, unsupported_version}
+use Rattle.gixp_wire.specs.CapabilityAdvertisement.{Advertised, Named, one, two, another, unnamed, empty_advertisement, from_capability_lines}
+use Rattle.gixp_refs.specs.RefLine.{RefsRefusal}
+use Rattle.gixp_refs.specs.RefAdvertisement.{Symref}
+use Rattle.gixp_records.specs.declared.advertised.opening.NamedVersion.{NamedVersion}
+use Rattle.gixp_records.specs.declared.advertised.opening.NamedVersion.TheVariants.{One, Two, Another, Unnamed}
+use Rattle.gixp_records.specs.declared.advertised.opening.RefsOpening.{RefsOpening}
+use Rattle.gixp_records.specs.declared.advertised.opening.Opened.{Opened}
+use Rattle.gixp_records.specs.declared.advertised.opening.Opened.TheVariants.{Refs, Empty}
+use Rattle.gixp_records.specs.declared.advertised.refused.AdvertisedRefused.{AdvertisedRefused}
+use Rattle.gixp_records.specs.declared.advertised.refused.AdvertisedRefused.TheVariants.{Packet, Line, NoCapabilities, VersionTwo, UnknownVersion, Memory}
+use Rattle.gixp_records.specs.declared.advertised.symrefs.SymrefSpan.{SymrefSpan}
+use Rattle.gixp_records.specs.declared.span.Span.{Span}
+use Rattle.gixp_records.specs.Span.{text_at, IsWithin}
+use Rattle.gixp_records.specs.Packets.{pieces_at, refusal_in, AreWordsWithin}
+use Rattle.gixp_records.specs.V1RecordLine.{IsRefusedAs, symref_at}
+
+abbrev pub named_as : Named → NamedVersion
+named_as one = One
+named_as two = Two
+named_as (another text) = Another
+named_as unnamed = Unnamed
+
+-- the symrefs of capabilities, or the first that is refused; but for memory
+abbrev pub AnswersSymrefs : List ℕ → Result (List Symref) RefsRefusal → Result (Vec SymrefSpan Global) AdvertisedRefused → Type 0
+AnswersSymrefs bytes o (Ok found) = o ≡ Ok (map (symref_at bytes) found.items)
+AnswersSymrefs bytes o (Err Memory) = ⊤
+AnswersSymrefs bytes o (Err (Line e)) = IsRefusedAs o e
+AnswersSymrefs bytes o (Err _) = ⊥
+
+-- where the capabilities of a first ref line stand, which is cut before them
+pub record HasCapabilities (bytes text : List ℕ) (version : Protocol) (first : ℕ) (o : RefsOpening) : Type 0 where
+  pub same_version : o.version ≡ version
+  pub place : o.first ≡ first
+  pub found : capabilities_of_line text ≡ Some (capabilities_of_words (text_at bytes o.capabilities), o.cut)
+  pub within : IsWithin bytes o.capabilities
+
+-- what was said before the first ref line, and the capabilities of that, which is cut before them
+pub record IsOpening (bytes : List ℕ) (said : Result Advertised ClientRefusal) (o : RefsOpening) : Type 0 where
+  pub text : List ℕ
+  pub rest : Pieces
+  pub stands : pieces_at bytes o.first ≡ with_piece (line text) rest
+  pub answer : said ≡ Ok (record {
+    version = o.version;
+    capabilities = capabilities_of_words (text_at bytes o.capabilities);
+    has_refs = true;
+    rest = with_piece (line (take o.cut text)) rest;
+    stopped = None;
+  })
+  pub place : o.first ≤ length bytes
+  pub within : IsWithin bytes o.capabilities
+
+-- why there is no first ref line, nor a stop in its place
+abbrev pub IsNotOpened : List ℕ → Result Advertised ClientRefusal → AdvertisedRefused → Type 0
+IsNotOpened bytes said (Packet e) = (said ≡ Err (client_from (refusal_in bytes e))) × AreWordsWithin bytes e
+IsNotOpened bytes said NoCapabilities = said ≡ Err no_null_byte
+IsNotOpened bytes said UnknownVersion = (text : List ℕ) × (said ≡ Err (unsupported_version text))
+IsNotOpened bytes said VersionTwo = (p : Pieces) × (said ≡ from_capability_lines p)
+IsNotOpened bytes said _ = ⊥
+
+-- what a server said first: a first ref line, a stop in its place, or neither
+abbrev pub IsOpened : List ℕ → Result Advertised ClientRefusal → Result Opened AdvertisedRefused → Type 0
+IsOpened bytes said (Ok (Refs o)) = IsOpening bytes said o
+IsOpened bytes said (Ok (Empty next)) = (version : Protocol) × (kind : MessageKind)
+    × (said ≡ Ok (empty_advertisement version kind (pieces_at bytes next))) × (next ≤ length bytes)
+IsOpened bytes said (Err e) = IsNotOpened bytes said e
+
+-- the first line ends there
+abbrev pub with_first_cut : ℕ → List (List ℕ) → List (List ℕ)
+with_first_cut n [] = []
+with_first_cut n (text ∷ texts) = take n text ∷ texts
+
+-- the same, where the first ref line is the first of these
+abbrev pub cut_lines : Bool → ℕ → Lines → Lines
+cut_lines true n l = record { lines = with_first_cut n l.lines; ending = l.ending }
+cut_lines false n l = l
+
+-- the lines from a place on, of which the first ref line is cut before its capabilities
+abbrev pub advertised_lines : List ℕ → RefsOpening → ℕ → Lines
+advertised_lines bytes o at = cut_lines (at == o.first) o.cut (lines_of o.version (pieces_at bytes at))
+
+-- where the text of a line stands, which is cut where it is the first ref line
+abbrev pub cut_span : Bool → ℕ → Span → Span
+cut_span true n s = record { at = s.at; len = min n s.len }
+cut_span false n s = s

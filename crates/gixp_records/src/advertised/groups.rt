@@ -1,0 +1,247 @@
+//! The groups of an advertisement's lines: a ref line, and maybe its peeled line (gitprotocol-pack, "Reference Discovery").
+ghost use Rattle.std.specs.Prelude.{◌≡◌, ◌==◌, ◌≤◌, Some, Ok, All, IfOk, IfSome, MatchResult, length, map};
+ghost use Rattle.std.specs.Option.{option_map};
+ghost use Rattle.gixp_refs.specs.RefAdvertisement.{pair, single};
+ghost use Rattle.gixp_records.specs.Span.{text_at, IsWithin};
+ghost use Rattle.gixp_records.specs.Refs.{ref_in, IsRecordWithin};
+ghost use Rattle.gixp_records.specs.V1RecordLine.{IsRefusedAs, named_in, symref_at, IsSymrefWithin, IsAdvertisedWithin};
+ghost use Rattle.gixp_records.specs.declared.advertised.opening.RefsOpening.{RefsOpening};
+ghost use Rattle.gixp_records.specs.declared.advertised.refused.AdvertisedRefused.TheVariants.{Line};
+ghost use Rattle.gixp_records.specs.RefsOpening.{cut_span};
+ghost use Rattle.gixp_records.specs.AdvertisedRecords.{IsNextAdvertised, IsReach, StandsNext, IsRefusedBehind, IsStep};
+
+use crate::advertised::line::{AdvertisedLine, NamedLine, read_advertised_line, read_id};
+use crate::advertised::opening::{RefsOpening, is_stop};
+use crate::advertised::refused::{AdvertisedLineRefused, AdvertisedRefused};
+use crate::advertised::symrefs::{SymrefSpan, find_symref};
+use crate::packets::{NextPacket, PacketRefused, next_packet};
+use crate::refs::{NO_ID, RefRecord};
+use crate::span::{Span, text_at};
+
+// What comes next.
+#[derive(Clone, Copy)]
+pub(crate) enum NextAdvertised {
+    // A line, and the place behind it.
+    Line(AdvertisedLine, usize),
+    // A stop, and the place behind it.
+    Stop(usize),
+}
+
+// How far the lines were read.
+#[derive(Clone, Copy)]
+pub(crate) struct Reach {
+    // The place of the next line.
+    pub(crate) at: usize,
+    // The place of the ref line that is open, or before all lines behind the last ref.
+    pub(crate) place: usize,
+    // The ref line after which a peeled one may stand.
+    pub(crate) last: Option<NamedLine>,
+}
+
+// What one more line made.
+#[derive(Clone, Copy)]
+pub(crate) enum Step {
+    // Nothing yet.
+    On(Reach),
+    // A ref.
+    Record(RefRecord, Reach),
+    // The last ref, and the place behind the stop.
+    Last(RefRecord, usize),
+    // Nothing: it is the stop, and the place is behind it.
+    Stop(usize),
+}
+
+// The record of a ref line alone.
+#[inline(always)]
+fn single_record(bytes: &[u8], symrefs: &[SymrefSpan], named: NamedLine) -> RefRecord
+    requires symrefs { All (IsSymrefWithin bytes.now) symrefs.now }
+    requires named { IsWithin bytes.now named.name }
+    ensures value { ref_in bytes.now result ≡ single (map (symref_at bytes.now) symrefs.now) (named_in bytes.now named) }
+    ensures within { IsRecordWithin bytes.now result }
+{
+    let object = named.object.bytes;
+    let target = match find_symref(bytes, symrefs, text_at(bytes, named.name)) {
+        Some(symref) => symref.target,
+        None => None,
+    };
+    match target {
+        Some(target) => RefRecord {
+            kind: 3,
+            object,
+            tag: NO_ID,
+            name: named.name,
+            target,
+        },
+        None => RefRecord {
+            kind: 1,
+            object,
+            tag: NO_ID,
+            name: named.name,
+            target: Span::NONE,
+        },
+    }
+}
+
+// The record of a ref line and the peeled line after it.
+#[inline(always)]
+fn pair_record(
+    bytes: &[u8],
+    symrefs: &[SymrefSpan],
+    named: NamedLine,
+    left: Span,
+    base: Span,
+) -> Result<RefRecord, AdvertisedLineRefused>
+    requires symrefs { All (IsSymrefWithin bytes.now) symrefs.now }
+    requires named { IsWithin bytes.now named.name }
+    requires left { IsWithin bytes.now left }
+    requires base { IsWithin bytes.now base }
+    ensures value { MatchResult result
+        (λ r. pair (map (symref_at bytes.now) symrefs.now) (Some (named_in bytes.now named)) (text_at bytes.now left)
+        (text_at bytes.now base) ≡ Ok (ref_in bytes.now r))
+        (IsRefusedAs (pair (map (symref_at bytes.now) symrefs.now) (Some (named_in bytes.now named)) (text_at bytes.now left)
+        (text_at bytes.now base))) }
+    ensures within { IfOk result (IsRecordWithin bytes.now) }
+{
+    let name = text_at(bytes, named.name);
+    if find_symref(bytes, symrefs, name).is_some() {
+        return Err(AdvertisedLineRefused::Peeled);
+    }
+    if name != text_at(bytes, base) {
+        return Err(AdvertisedLineRefused::Peeled);
+    }
+    match read_id(text_at(bytes, left)) {
+        Ok(id) => {
+            let object = id.bytes;
+            let tag = named.object.bytes;
+            Ok(RefRecord {
+                kind: 2,
+                object,
+                tag,
+                name: named.name,
+                target: Span::NONE,
+            })
+        }
+        Err(e) => Err(e),
+    }
+}
+
+// Where the payload of a line stands: the first ref line is cut before its capabilities.
+#[inline(always)]
+fn cut_first(opening: &RefsOpening, at: usize, payload: Span) -> Span
+    ensures { result ≡ cut_span (at == opening.now.first) opening.now.cut payload }
+{
+    if at == opening.first {
+        Span {
+            at: payload.at,
+            len: opening.cut.min(payload.len),
+        }
+    } else {
+        payload
+    }
+}
+
+// The line at this place.
+#[inline(always)]
+fn next_advertised(
+    bytes: &[u8],
+    opening: &RefsOpening,
+    at: usize,
+) -> Result<NextAdvertised, AdvertisedRefused>
+    requires first { opening.now.first ≤ at }
+    requires at { at ≤ length bytes.now }
+    ensures { IsNextAdvertised bytes.now opening.now at result }
+{
+    match next_packet(bytes, at) {
+        Ok(NextPacket::Line(payload, next)) => {
+            match read_advertised_line(bytes, cut_first(opening, at, payload)) {
+                Ok(line) => Ok(NextAdvertised::Line(line, next)),
+                Err(e) => Err(AdvertisedRefused::Line(e)),
+            }
+        }
+        Ok(NextPacket::Mark(kind, next)) => {
+            if is_stop(opening.version, kind) {
+                Ok(NextAdvertised::Stop(next))
+            } else {
+                Err(AdvertisedRefused::Packet(PacketRefused::Unexpected))
+            }
+        }
+        Err(e) => Err(AdvertisedRefused::Packet(e)),
+    }
+}
+
+// One more line, which isn't the stop.
+#[inline(always)]
+fn add_line(
+    bytes: &[u8],
+    symrefs: &[SymrefSpan],
+    reach: Reach,
+    line: AdvertisedLine,
+    next: usize,
+) -> Result<Step, AdvertisedLineRefused>
+    requires symrefs { All (IsSymrefWithin bytes.now) symrefs.now }
+    requires last { IfSome reach.last (λ n. IsWithin bytes.now n.name) }
+    requires line { IsAdvertisedWithin bytes.now line }
+    ensures { (o : RefsOpening) → StandsNext bytes.now o (map (symref_at bytes.now) symrefs.now) reach line next → MatchResult result
+        (λ s. IsStep bytes.now o (map (symref_at bytes.now) symrefs.now) reach (Ok s))
+        (λ e. IsRefusedBehind bytes.now o (map (symref_at bytes.now) symrefs.now) reach.place (Line e)) }
+{
+    match line {
+        AdvertisedLine::Nothing | AdvertisedLine::Shallow(_) => Ok(Step::On(Reach {
+            at: next,
+            place: reach.place,
+            last: reach.last,
+        })),
+        AdvertisedLine::Named(named) => {
+            let behind = Reach {
+                at: next,
+                place: reach.at,
+                last: Some(named),
+            };
+            match reach.last {
+                Some(before) => Ok(Step::Record(single_record(bytes, symrefs, before), behind)),
+                None => Ok(Step::On(behind)),
+            }
+        }
+        AdvertisedLine::Peeled { left, base } => match reach.last {
+            Some(before) => match pair_record(bytes, symrefs, before, left, base) {
+                Ok(record) => Ok(Step::Record(
+                    record,
+                    Reach {
+                        at: next,
+                        place: next,
+                        last: None,
+                    },
+                )),
+                Err(e) => Err(e),
+            },
+            None => Err(AdvertisedLineRefused::Peeled),
+        },
+    }
+}
+
+// One more line, or the stop.
+#[inline(always)]
+pub(crate) fn read_step(
+    bytes: &[u8],
+    opening: &RefsOpening,
+    symrefs: &[SymrefSpan],
+    reach: Reach,
+) -> Result<Step, AdvertisedRefused>
+    requires symrefs { All (IsSymrefWithin bytes.now) symrefs.now }
+    requires reach { IsReach bytes.now opening.now (map (symref_at bytes.now) symrefs.now) reach }
+    ensures { IsStep bytes.now opening.now (map (symref_at bytes.now) symrefs.now) reach result }
+{
+    match next_advertised(bytes, opening, reach.at) {
+        Ok(NextAdvertised::Line(line, next)) => {
+            match add_line(bytes, symrefs, reach, line, next) {
+                Ok(made) => Ok(made),
+                Err(e) => Err(AdvertisedRefused::Line(e)),
+            }
+        }
+        Ok(NextAdvertised::Stop(next)) => match reach.last {
+            Some(before) => Ok(Step::Last(single_record(bytes, symrefs, before), next)),
+            None => Ok(Step::Stop(next)),
+        },
+        Err(e) => Err(e),
+    }
+}

@@ -1,0 +1,32 @@
+//! Why an advertisement's refs aren't read.
+use crate::packets::PacketRefused;
+
+/// Why no more refs of an advertisement were read.
+#[derive(Clone, Copy, Debug, PartialEq, Eq)]
+pub enum AdvertisedRefused {
+    /// No packet line comes next.
+    Packet(PacketRefused),
+    /// A line stands for no ref, or not where it is; or a capability for no symref.
+    Line(AdvertisedLineRefused),
+    /// The first ref line has no NUL, behind which the capabilities would stand.
+    NoCapabilities,
+    /// The server speaks version 2: it lists its refs where it is asked for them.
+    VersionTwo,
+    /// The server speaks a version that isn't known.
+    UnknownVersion,
+    /// An allocation failed.
+    Memory,
+}
+
+/// Why a line of an advertisement is refused.
+#[derive(Clone, Copy, Debug, PartialEq, Eq)]
+pub enum AdvertisedLineRefused {
+    /// What should be an object id is none.
+    Id,
+    /// The line lacks its name.
+    Malformed,
+    /// A peeled line, of which the ref line of its name doesn't come before it, or is that of a symref.
+    Peeled,
+    /// The value of a capability `symref` isn't a name, a colon and a target.
+    Symref,
+}
