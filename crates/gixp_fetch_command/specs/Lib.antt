@@ -1,3 +1,2 @@
 pub mod Received
-pub mod Listed
 pub mod Watched

@@ -3,7 +3,6 @@
 
 mod ends;
 pub mod failure;
-pub mod listed;
 pub mod receive;
 pub mod repository;
 pub mod session;
@@ -13,7 +12,6 @@ mod watched;
 
 use crate::ends::{Source, Target};
 use crate::failure::Failure;
-use crate::listed::{ListedCommits, Refusal};
 use crate::receive::PackReceiver;
 use crate::repository::{Repository, write_boundary};
 use crate::session::{Asked, Session, Sink, connect};
@@ -22,6 +20,7 @@ use crate::usage::{USAGE, VERSION, print_refusal};
 use gix_protocol::fetch::negotiate::{Graph, Noop, Shared};
 use gix_protocol::fetch::{Outcome, RefMap, ShallowMemory};
 use gix_protocol::transport::{Connection, ObjectId, Transport};
+use gixp_fetch_parts::listed::{ListedCommits, Refusal};
 use gixp_fetch_parts::{
     Change, Haves, OptionError, Options, Output, PackFile, PackPlace, Server, Task, Wish, changes,
     fetch_report, listing, missing_name,

@@ -10,7 +10,7 @@ use std::alloc::Global;
 use std::collections::BTreeSet;
 use std::fs;
 use std::fs::{File, OpenOptions};
-use std::io::{BufReader, ErrorKind};
+use std::io::{BufReader, BufWriter, ErrorKind};
 
 /// What is known of the repository.
 #[derive(Drop)]
@@ -136,6 +136,7 @@ impl Repository {
             questions.answers,
             e.kind(),
         ))?;
+        let asks = BufWriter::new(alloc, asks).map_err(|_| Failure::Memory)?;
         let answers = BufReader::new(alloc, answers).map_err(|_| Failure::Memory)?;
         Witness::new(alloc, asks, answers)
             .ask(&ids, &mut self.objects)
