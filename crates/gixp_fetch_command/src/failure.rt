@@ -1,4 +1,12 @@
 //! Why the program ends with an error, and the sentence that says so.
+ghost use Rattle.std.specs.Prelude.{◌≡◌, None, option_map, IfOk};
+ghost use Rattle.std.specs.declared.io.ErrorKind.TheVariants.{OutOfMemory};
+ghost use Rattle.std.specs.Io.BufRead.{strip_last};
+ghost use Rattle.bstr.specs.Owned.{bstring_bytes};
+ghost use Rattle.gixp_fetch_command.specs.Failures.{said_of, TellsStep, TellsText, TellsFile, TellsLine, is_said_by_git, speaker_of};
+ghost use Rattle.gixp_fetch_command.specs.declared.failure.Failure.TheVariants.{Memory};
+
+use crate::kinds::words_of;
 use bstr::BString;
 use gix_protocol::fetch::refs::update;
 use gix_protocol::transport::{ObjectId, ServerMessage};
@@ -78,12 +86,16 @@ pub enum Failure {
 }
 
 impl From<AllocError> for Failure {
+    ghost from_gives = { λ _ f. f ≡ Memory };
+
     fn from(_e: AllocError) -> Failure {
         Failure::Memory
     }
 }
 
 impl<T: Drop> From<AllocFailed<T>> for Failure {
+    ghost from_gives = { λ _ f. f ≡ Memory };
+
     fn from(_e: AllocFailed<T>) -> Failure {
         Failure::Memory
     }
@@ -91,7 +103,9 @@ impl<T: Drop> From<AllocFailed<T>> for Failure {
 
 impl Failure {
     /// A step was refused with this error.
-    pub fn of_step<E: Display + ServerMessage>(alloc: Global, step: Step, error: &E) -> Failure {
+    pub fn of_step<E: Display + ServerMessage>(alloc: Global, step: Step, error: &E) -> Failure
+        ensures { TellsStep step (E.message error.now) result }
+    {
         match told(alloc, error) {
             Ok((why, said)) => Failure::Step { step, why, said },
             Err(_) => Failure::Memory,
@@ -99,7 +113,9 @@ impl Failure {
     }
 
     /// A step was refused, as the text says.
-    pub fn of_text(alloc: Global, step: Step, text: &str) -> Failure {
+    pub fn of_text(alloc: Global, step: Step, text: &str) -> Failure
+        ensures { TellsText step text.now result }
+    {
         match String::from_str(alloc, text) {
             Ok(why) => Failure::Step {
                 step,
@@ -110,8 +126,11 @@ impl Failure {
         }
     }
 
-    /// A file was refused.
-    pub fn of_file(alloc: Global, path: &str, kind: ErrorKind) -> Failure {
+    /// A file was refused, or an allocation failed.
+    pub fn of_file(alloc: Global, path: &str, kind: ErrorKind) -> Failure
+        ensures file { TellsFile path.now kind result }
+        ensures memory { kind ≡ OutOfMemory → result ≡ Memory }
+    {
         if kind == ErrorKind::OutOfMemory {
             return Failure::Memory;
         }
@@ -122,7 +141,9 @@ impl Failure {
     }
 
     /// A line of a text was refused.
-    pub fn of_line(alloc: Global, path: &str, line: usize) -> Failure {
+    pub fn of_line(alloc: Global, path: &str, line: usize) -> Failure
+        ensures { TellsLine path.now line result }
+    {
         match String::from_str(alloc, path) {
             Ok(path) => Failure::Line { path, line },
             Err(_) => Failure::Memory,
@@ -141,16 +162,23 @@ impl Failure {
     }
 }
 
-// Words without the line end behind them.
-pub fn front_of(words: &[u8]) -> &[u8] {
-    words.strip_suffix(b"\n".as_slice()).unwrap_or(words)
+/// Words without the line end behind them.
+pub fn front_of(words: &[u8]) -> &[u8]
+    ensures { result.now ≡ strip_last 10 words.now }
+{
+    match words {
+        [front @ .., b'\n'] => front,
+        _ => words,
+    }
 }
 
 // The text of an error, and what the server said as it is shown.
 fn told<E: Display + ServerMessage>(
     alloc: Global,
     error: &E,
-) -> Result<(String, Option<BString>), AllocError> {
+) -> Result<(String, Option<BString>), AllocError>
+    ensures { IfOk result (λ told. option_map bstring_bytes told.1 ≡ said_of (E.message error.now)) }
+{
     let why = format!(in alloc; "{error}")?;
     let said = match error.server_message() {
         Some(words) => Some(screened(alloc, front_of(words.as_bytes()), false)?),
@@ -161,7 +189,9 @@ fn told<E: Display + ServerMessage>(
 
 impl Failure {
     /// Whether git says it of a server too, in these words.
-    pub fn is_said_by_git(&self) -> bool {
+    pub fn is_said_by_git(&self) -> bool
+        ensures { result ≡ is_said_by_git self.now }
+    {
         match self {
             Failure::Step { said: Some(_), .. }
             | Failure::NoContact
@@ -173,7 +203,9 @@ impl Failure {
     }
 
     /// Who says it: what git says too is said as git does.
-    pub fn speaker(&self) -> &'static str {
+    pub fn speaker(&self) -> &'static str
+        ensures { result.now ≡ speaker_of self.now }
+    {
         if self.is_said_by_git() {
             "fatal"
         } else {
@@ -199,11 +231,13 @@ impl Display for Failure {
             Failure::HungUp => write!(f, "the remote end hung up unexpectedly"),
             Failure::ServerFailed => write!(f, "the server reported an error"),
             Failure::UnknownUnshallow { id } => write!(f, "no shallow found: unshallow {id}"),
-            Failure::File { path, kind } => write!(f, "{path}: {kind:?}"),
+            Failure::File { path, kind } => write!(f, "{path}: {}", words_of(*kind)),
             Failure::Line { path, line } => write!(f, "{path}: line {line} isn't readable"),
             Failure::PackRefused => write!(f, "git refused the pack"),
             Failure::Missing { name } => write!(f, "couldn't find remote ref {name}"),
-            Failure::Io(kind) => write!(f, "standard input or output: {kind:?}"),
+            Failure::Io(kind) => {
+                write!(f, "standard input or output: {}", words_of(*kind))
+            },
             Failure::Memory => write!(f, "out of memory"),
         }
     }

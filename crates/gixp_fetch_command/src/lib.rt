@@ -1,8 +1,12 @@
 //! The program `gixp_fetch_pack`: it fetches from a server that speaks over two files or the standard streams.
+ghost use Rattle.std.specs.Prelude.{◌≡◌};
+ghost use Rattle.gixp_fetch_command.specs.Failures.{TellsRefused, unless_failed};
+
 #![tactic(auto)]
 
 mod ends;
 pub mod failure;
+mod kinds;
 mod quiet;
 pub mod receive;
 pub mod repository;
@@ -121,7 +125,9 @@ fn list(rt: &HostRuntime, options: &Options<'_>, keeps_open: bool) -> Result<(),
 }
 
 // What is told of a fetch that failed, where it may be for the text of the commits.
-fn failure_of(alloc: Global, path: &str, refusal: Option<Refusal>, failure: Failure) -> Failure {
+fn failure_of(alloc: Global, path: &str, refusal: Option<Refusal>, failure: Failure) -> Failure
+    ensures { TellsRefused path.now refusal failure result }
+{
     match refusal {
         Some(Refusal::Read(kind)) => Failure::of_file(alloc, path, kind),
         Some(Refusal::Line(line)) => Failure::of_line(alloc, path, line),
@@ -224,12 +230,17 @@ fn take_pack<T: Transport>(
 pub fn unless_failed(
     came: Result<Option<Outcome>, Failure>,
     has_failed: bool,
-) -> Result<Option<Outcome>, Failure> {
-    let outcome = came?;
-    if has_failed {
-        Err(Failure::ServerFailed)
-    } else {
-        Ok(outcome)
+) -> Result<Option<Outcome>, Failure>
+    ensures { result ≡ unless_failed came has_failed }
+{
+    match came {
+        Ok(outcome) => {
+            if has_failed {
+                return Err(Failure::ServerFailed);
+            }
+            Ok(outcome)
+        }
+        Err(e) => Err(e),
     }
 }
 
@@ -254,6 +265,9 @@ fn fetch(rt: &HostRuntime, options: &Options<'_>, wish: &Wish<'_>) -> Result<(),
     let mut shown = shown_of(rt, &options.output, &has_failed);
     let mut session = Session::open(alloc, transport, options.server.agent, &mut shown)?;
     let map = session.map(wish, &mut shown)?;
+    if options.filter.is_some() && !session.can_filter()? {
+        let _ = eprintln!(rt; "warning: filtering not recognized by server, ignoring");
+    }
     if let Some(questions) = options.files.questions {
         repository.ask(rt, questions, &map)?;
     }
@@ -265,7 +279,7 @@ fn fetch(rt: &HostRuntime, options: &Options<'_>, wish: &Wish<'_>) -> Result<(),
     let asked = Asked {
         map: &map,
         wish,
-        filter: None,
+        filter: options.filter,
         wants_progress: options.output.shows_progress,
     };
     let pack = take_pack(

@@ -1,9 +1,13 @@
 //! A session with a server: the handshake, the refs or a ref map, and the fetch.
-ghost use Rattle.std.specs.Prelude.{◌≤◌};
+ghost use Rattle.std.specs.Prelude.{◌≡◌, ◌≤◌, None, Ok, Err, IfOk, IfErr, IfSome, IfNone, IsOk, MatchOption};
+ghost use Rattle.std.specs.Option.{option_map};
+ghost use Rattle.bstr.specs.Owned.{bstring_bytes};
+ghost use Rattle.gixp_fetch_parts.specs.Unshallowed.{unknown_unshallow};
+ghost use Rattle.gixp_fetch_command.specs.declared.failure.Failure.TheVariants.{UnknownUnshallow};
 
 use crate::failure::{Failure, Step};
 use crate::quiet::Quiet;
-use crate::receive::PackReceiver;
+use crate::receive::{PackReceiver, ReceiveError};
 use crate::repository::Repository;
 use crate::sentence::{is_gone, is_handshake_cut, is_listing_cut, of_handshake, of_listing};
 use crate::watched::Watched;
@@ -59,7 +63,10 @@ pub struct Asked<'a> {
 }
 
 // What the server is told first, where it is to be told a path.
-fn opening_of(alloc: Global, server: &Server<'_>) -> Result<Option<Opening>, AllocError> {
+fn opening_of(alloc: Global, server: &Server<'_>) -> Result<Option<Opening>, AllocError>
+    ensures path { IfOk result (λ opening. option_map (λ o. bstring_bytes o.path) opening ≡ option_map (λ w. w.now) server.now.path) }
+    ensures host { IfOk result (λ opening. IfSome opening (λ o. option_map bstring_bytes o.host ≡ option_map (λ w. w.now) server.now.host)) }
+{
     let Some(path) = server.path else {
         return Ok(None);
     };
@@ -122,7 +129,9 @@ fn named(alloc: Global, name: &str) -> Result<Feature, AllocError> {
 }
 
 // Alternates that can be opened.
-fn opened(alternates: &mut [StoredRefs]) -> Result<&mut [StoredRefs], NoAlternates> {
+fn opened(alternates: &mut [StoredRefs]) -> Result<&mut [StoredRefs], NoAlternates>
+    ensures { IsOk result }
+{
     Ok(alternates)
 }
 
@@ -169,13 +178,18 @@ where
         context,
         options,
     );
-    result.map_err(|e| {
-        if has_hung_up(&e) {
-            Failure::HungUp
-        } else {
-            Failure::of_step(alloc, Step::Fetch, &e)
-        }
-    })
+    result.map_err(|e| fetch_failure(alloc, &e))
+}
+
+// Why a fetch failed: what the consumer of the pack says, where it is the one that failed.
+fn fetch_failure<A>(alloc: Global, error: &fetch::Error<A, ReceiveError>) -> Failure {
+    if has_hung_up(error) {
+        return Failure::HungUp;
+    }
+    match error {
+        fetch::Error::ConsumePack(e) => Failure::of_step(alloc, Step::Fetch, e),
+        _ => Failure::of_step(alloc, Step::Fetch, error),
+    }
 }
 
 // What came of a fetch, unless the server takes an id out of the boundary that isn't in it: in an answer before the last, or
@@ -184,15 +198,27 @@ fn known_alone(
     came: Result<Option<Outcome>, Failure>,
     unknown: Option<ObjectId>,
     boundary: &BTreeSet<ObjectId>,
-) -> Result<Option<Outcome>, Failure> {
-    let outcome = came?;
-    let last = match &outcome {
-        Some(outcome) => unknown_unshallow(outcome.last_response.shallow_updates(), boundary),
-        None => None,
+) -> Result<Option<Outcome>, Failure>
+    ensures refused { IfErr came (λ e. result ≡ Err e) }
+    ensures before { IfOk came (λ outcome. IfSome unknown (λ id. result ≡ Err (UnknownUnshallow id))) }
+    ensures nothing { IfOk came (λ outcome. IfNone unknown (IfNone outcome (result ≡ Ok None))) }
+    ensures last { IfOk came (λ outcome. IfNone unknown (IfSome outcome (λ o. MatchOption
+        (unknown_unshallow boundary.now o.last_response.shallow_updates) (result ≡ Ok outcome)
+        (λ id. result ≡ Err (UnknownUnshallow id))))) }
+{
+    let outcome = match came {
+        Ok(outcome) => outcome,
+        Err(e) => return Err(e),
     };
-    match unknown.or(last) {
+    if let Some(id) = unknown {
+        return Err(Failure::UnknownUnshallow { id });
+    }
+    let Some(outcome) = outcome else {
+        return Ok(None);
+    };
+    match unknown_unshallow(outcome.last_response.shallow_updates(), boundary) {
         Some(id) => Err(Failure::UnknownUnshallow { id }),
-        None => Ok(outcome),
+        None => Ok(Some(outcome)),
     }
 }
 
@@ -267,7 +293,9 @@ impl<'a, T: Transport> Session<'a, T> {
     }
 
     /// The version that the server speaks.
-    pub fn version(&self) -> Protocol {
+    pub fn version(&self) -> Protocol
+        ensures { result ≡ self.now.shaken.server_protocol_version }
+    {
         self.shaken.server_protocol_version
     }
 
