@@ -235,9 +235,7 @@ impl Display for Failure {
             Failure::Line { path, line } => write!(f, "{path}: line {line} isn't readable"),
             Failure::PackRefused => write!(f, "git refused the pack"),
             Failure::Missing { name } => write!(f, "couldn't find remote ref {name}"),
-            Failure::Io(kind) => {
-                write!(f, "standard input or output: {}", words_of(*kind))
-            },
+            Failure::Io(kind) => { write!(f, "standard input or output: {}", words_of(*kind)) },
             Failure::Memory => write!(f, "out of memory"),
         }
     }

@@ -3,7 +3,6 @@ ghost use Rattle.std.specs.Prelude.{◌≡◌};
 ghost use Rattle.gixp_fetch_command.specs.Failures.{TellsRefused, unless_failed};
 
 #![tactic(auto)]
-
 mod ends;
 pub mod failure;
 mod kinds;

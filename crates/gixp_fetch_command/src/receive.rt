@@ -10,10 +10,9 @@ use gix_protocol::transport::{ExtendedBufRead, Interrupt, Progress, ServerMessag
 use gixp_fetch_parts::{PackPlace, StreamError, copy_pack};
 use gixp_pack::PackSummary;
 use std::alloc::Global;
-use std::fmt;
 use std::fmt::Display;
-use std::io;
 use std::io::ErrorKind;
+use std::{fmt, io};
 
 /// Why a pack isn't received. Nothing of it is left.
 #[derive(Debug, Drop)]

@@ -14,21 +14,20 @@ use crate::watched::Watched;
 use bstr::BString;
 use gix_protocol::client::{Filtered, MOST_HAVES, Windowed};
 use gix_protocol::command::{CommandTable, Feature};
-use gix_protocol::fetch::Arguments;
 use gix_protocol::fetch::negotiate::{
     Graph, Negotiate, NegotiateContext, Negotiation, Negotiator, NoAlternates, Shared, StoredRefs,
 };
 use gix_protocol::fetch::refmap::init;
-use gix_protocol::fetch::{self, Context, Options, Outcome, RefMap, ShallowMemory};
+use gix_protocol::fetch::{self, Arguments, Context, Options, Outcome, RefMap, ShallowMemory};
 use gix_protocol::handshake::{Error as HandshakeError, Ref, handshake, obtain};
-use gix_protocol::ls_refs;
 use gix_protocol::refspec::parse::{Operation, parse};
 use gix_protocol::transport::{
     Connection, NestedProgress, NeverInterrupt, ObjectId, Opening, Progress, Protocol, Service,
-    Transport,
+    Transport, client,
 };
-use gix_protocol::transport::client;
-use gix_protocol::{Command, Handshake, LsRefsCommand, agent, indicate_end_of_interaction};
+use gix_protocol::{
+    Command, Handshake, LsRefsCommand, agent, indicate_end_of_interaction, ls_refs,
+};
 use gixp_fetch_parts::{PackPlace, Server, Wish, unknown_unshallow};
 use std::alloc::{AllocError, Global};
 use std::collections::BTreeSet;
@@ -64,8 +63,10 @@ pub struct Asked<'a> {
 
 // What the server is told first, where it is to be told a path.
 fn opening_of(alloc: Global, server: &Server<'_>) -> Result<Option<Opening>, AllocError>
-    ensures path { IfOk result (λ opening. option_map (λ o. bstring_bytes o.path) opening ≡ option_map (λ w. w.now) server.now.path) }
-    ensures host { IfOk result (λ opening. IfSome opening (λ o. option_map bstring_bytes o.host ≡ option_map (λ w. w.now) server.now.host)) }
+    ensures path { IfOk result (λ opening. option_map (λ o. bstring_bytes o.path) opening
+        ≡ option_map (λ w. w.now) server.now.path) }
+    ensures host { IfOk result (λ opening. IfSome opening (λ o. option_map bstring_bytes o.host
+        ≡ option_map (λ w. w.now) server.now.host)) }
 {
     let Some(path) = server.path else {
         return Ok(None);
@@ -330,8 +331,7 @@ impl<'a, T: Transport> Session<'a, T> {
     // Whether the server is to be told that no progress is wanted: one of version 2 always knows the word.
     fn is_quiet(&self, asked: Asked<'_>) -> bool {
         !asked.wants_progress
-            && (self.version() == Protocol::V2
-                || self.shaken.capabilities.contains(b"no-progress"))
+            && (self.version() == Protocol::V2 || self.shaken.capabilities.contains(b"no-progress"))
     }
 
     /// What the refspecs map of the refs of the server.

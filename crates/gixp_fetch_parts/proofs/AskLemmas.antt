@@ -97,8 +97,13 @@ none_answered ids objects = record { done = []; left = ids; lines = []; whole = 
 
 -- ---- lines that are no answers
 
-number_more : (a b c : ℕ) → line_number (line_number a b) c ≡ line_number a (b + c)
-number_more a b c = omega arith
+pub number_more : (a b c : ℕ) → line_number (line_number a b) c ≡ line_number a (b + c)
+number_more a zero c = let none : c ≡ 0 + c = omega arith in ap (line_number a) none
+number_more a (suc b) zero = let none : suc b ≡ suc b + 0 = omega arith in ap (line_number a) none
+number_more a (suc b) (suc c) =
+    let more : suc b + suc c ≡ suc (b + suc c) = omega arith in
+    let same : min (min (a + suc b) (2 ^ 64 - 1) + suc c) (2 ^ 64 - 1) ≡ min (a + suc (b + suc c)) (2 ^ 64 - 1) = omega arith in
+    same ∙ ap (line_number a) (sym more)
 
 none_of : {A : Type 0} (o : Option A) → is_some o ≡ false → o ≡ None
 none_of None h = refl
@@ -186,10 +191,10 @@ pub record AskedSoFar (ids left : List ObjectId) (old now : Objects) (asked aske
   pub told : AnswersIds done old now heard heard'
   pub count : lines' ≡ line_number lines (length done)
 
-pub asked_none : (ids : List ObjectId) (objects : Objects) (asked heard : Option (List ℕ)) (lines : ℕ) → lines ≤ 2 ^ 64 - 1
+pub asked_none : (ids : List ObjectId) (objects : Objects) (asked heard : Option (List ℕ)) (lines : ℕ)
     → AskedSoFar ids ids objects objects asked asked heard heard lines lines
-asked_none ids objects asked heard lines fits =
-    record { done = []; whole = refl; asks = Appends-nil asked; told = answered_none objects heard; count = omega (arith, fits) }
+asked_none ids objects asked heard lines =
+    record { done = []; whole = refl; asks = Appends-nil asked; told = answered_none objects heard; count = refl }
 
 pub asked_more : (ids left few later : List ObjectId) (old now new : Objects) (asked asked' asked'' heard heard' heard'' : Option (List ℕ))
     (lines lines' lines'' : ℕ) → AskedSoFar ids left old now asked asked' heard heard' lines lines' → left ≡ few ++ later

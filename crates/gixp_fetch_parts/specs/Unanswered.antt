@@ -1,5 +1,5 @@
 -- Questions that have no answers.
-use Rattle.std.specs.Prelude.{◌≡◌, ◌+◌, ◌-◌, ◌^◌, ℕ, ⊤, min, List, ◌∷◌, ◌++◌, length, flat_map, Option, Some, None}
+use Rattle.std.specs.Prelude.{◌≡◌, ◌+◌, ◌-◌, ◌^◌, ℕ, zero, suc, ⊤, min, List, ◌∷◌, ◌++◌, length, flat_map, Option, Some, None}
 use Rattle.std.specs.Io.KnownBytes.{Consumes}
 use Rattle.gixp_hash.specs.declared.object_id.ObjectId.{ObjectId}
 use Rattle.gixp_graph.specs.Object.{Objects}
@@ -10,7 +10,8 @@ use Rattle.gixp_fetch_parts.specs.declared.ask.AskError.TheVariants.{Ask, Answer
 
 -- how many lines were read once some more were; the count stops at the greatest number of 64 bits
 abbrev pub line_number : ℕ → ℕ → ℕ
-line_number lines more = min (lines + more) (2 ^ 64 - 1)
+line_number lines zero = lines
+line_number lines (suc more) = min (lines + suc more) (2 ^ 64 - 1)
 
 -- questions weren't put
 abbrev pub PutFails : AskError → Type 0

@@ -184,12 +184,14 @@ impl<W: Write + Drop, R: BufRead> Witness<W, R> {
         ensures fails { IfErr result (λ e. HearFails self.old.lines (id.now ∷ []) objects.old objects.new
             (R.remaining self.old.answers) (R.remaining self.new.answers) e) }
     {
-        self.read_line()?;
-        if objects.add_answer(self.alloc, id, &self.line)? {
-            Ok(())
-        } else {
-            Err(AskError::Line(self.lines))
+        match self.read_line() {
+            Ok(()) => {}
+            Err(e) => return Err(e),
         }
+        if objects.add_answer(self.alloc, id, &self.line)? {
+            return Ok(());
+        }
+        Err(AskError::Line(self.lines))
     }
 
     // Reads the answers to some questions.
@@ -203,7 +205,10 @@ impl<W: Write + Drop, R: BufRead> Witness<W, R> {
             (R.remaining self.old.answers) (R.remaining self.new.answers) e) }
     {
         'ids: for id in ids {
-            self.hear(id, objects)?;
+            match self.hear(id, objects) {
+                Ok(()) => {}
+                Err(e) => return Err(e),
+            }
         }
         Ok(())
     }
@@ -220,8 +225,14 @@ impl<W: Write + Drop, R: BufRead> Witness<W, R> {
         ensures fails { IfErr result (λ e. AskFails self.old.lines ids.now objects.old objects.new
             (R.remaining self.old.answers) (R.remaining self.new.answers) e) }
     {
-        self.put(ids)?;
-        self.hear_all(ids, objects)
+        match self.put(ids) {
+            Ok(()) => {}
+            Err(e) => return Err(e),
+        }
+        match self.hear_all(ids, objects) {
+            Ok(()) => Ok(()),
+            Err(e) => Err(e),
+        }
     }
 
     /// Asks which of these objects are here, and adds those that are. One that is here already stays as it is.
@@ -244,7 +255,10 @@ impl<W: Write + Drop, R: BufRead> Witness<W, R> {
         let mut rest = ids;
         'few: while !rest.is_empty() {
             let (few, later) = rest.split_at(rest.len().min(MOST_QUESTIONS));
-            self.ask_few(few, objects)?;
+            match self.ask_few(few, objects) {
+                Ok(()) => {}
+                Err(e) => return Err(e),
+            }
             rest = later;
         }
         Ok(())

@@ -1,5 +1,5 @@
 //! How much of the history a command line asks for.
-ghost use Rattle.std.specs.Prelude.{◌≡◌, ◌||◌, ℕ, true, false, codes, map, MatchOption, IfOk, IfErr, IfSome, IfNone, OnSome};
+ghost use Rattle.std.specs.Prelude.{◌≡◌, ◌||◌, ℕ, List, None, Some, true, false, codes, map, MatchOption, IfOk, IfErr, IfSome, IfNone, OnSome};
 ghost use Rattle.gixp_refspec.specs.PartialName.{name_bytes};
 ghost use Rattle.gixp_negotiate.specs.Shallow.{no_change, at_remote, deepens, shallow_value};
 ghost use Rattle.gixp_fetch_parts.specs.LineOf.{line_value};

@@ -1,11 +1,10 @@
 //! What is known of the commits of a text, as far as it was read: which of them the server has, and which are awaited.
-ghost use Rattle.std.specs.Prelude.{◌≡◌, ◌⊎◌, ◌||◌, [], true, not, is_some, All, Contains, IfOk, OnOk, OnErr};
+ghost use Rattle.std.specs.Prelude.{◌≡◌, ◌⊎◌, [], true, All, IfOk, OnOk};
 ghost use Rattle.std.specs.FinMap as finite;
-ghost use Rattle.std.specs.Ordering.{eq_by_cmp};
 ghost use Rattle.std.specs.BTreeSet.{contains};
 ghost use Rattle.gixp_hash.specs.declared.object_id.ObjectId.{ObjectId};
 ghost use Rattle.gixp_hash.specs.ObjectId.{id_cmp};
-ghost use Rattle.gixp_fetch_parts.specs.Known.{parents_of, LeadsTo, GrowsBySome, SharesEach, SharesCommit, KeepsAwaited, IsSettled, is_awaited, AwaitsNone};
+ghost use Rattle.gixp_fetch_parts.specs.Known.{parents_of, is_awaited, KeepsIds, HasIdsOf, IsKnown, AreKnown, AwaitsNone};
 
 use gixp_graph::Find;
 use gixp_hash::ObjectId;
@@ -25,6 +24,39 @@ pub(crate) struct KnownCommits {
     pub awaited: Option<BTreeSet<ObjectId>>,
 }
 
+// Adds an id.
+fn put(set: &mut BTreeSet<ObjectId>, id: &ObjectId) -> Result<bool, AllocError>
+    ensures keeps { KeepsIds set.old set.new }
+    ensures has { OnOk result (contains id_cmp set.new id.now ≡ true) }
+{
+    match set.insert(*id) {
+        Ok(is_new) => Ok(is_new),
+        Err(_) => Err(AllocError),
+    }
+}
+
+// Adds a commit, unless it is read, or the server has it.
+fn add_one(
+    awaited: &mut BTreeSet<ObjectId>,
+    id: &ObjectId,
+    common: &BTreeSet<ObjectId>,
+    read: &StoredObjects,
+) -> Result<(), AllocError>
+    ensures keeps { KeepsIds awaited.old awaited.new }
+    ensures has { OnOk result (IsKnown read.now common.now awaited.new id.now) }
+{
+    if common.contains(id) {
+        return Ok(());
+    }
+    if read.has_object(id) {
+        return Ok(());
+    }
+    match put(awaited, id) {
+        Ok(_) => Ok(()),
+        Err(_) => Err(AllocError),
+    }
+}
+
 // Adds the commits that aren't read, and that nothing says the server has.
 fn add_awaited(
     awaited: &mut BTreeSet<ObjectId>,
@@ -32,12 +64,12 @@ fn add_awaited(
     common: &BTreeSet<ObjectId>,
     read: &StoredObjects,
 ) -> Result<(), AllocError>
-    ensures keeps { (id : ObjectId) → contains id_cmp awaited.old id ≡ true → contains id_cmp awaited.new id ≡ true }
-    ensures has { OnOk result (All (λ id. (contains id_cmp awaited.new id ≡ true) ⊎ IsSettled read.now common.now id) commits.now) }
+    ensures { OnOk result (All (IsKnown read.now common.now awaited.new) commits.now) }
 {
-    for id in commits {
-        if !common.contains(id) && !read.has_object(id) {
-            awaited.insert(*id)?;
+    'commits: for id in commits {
+        match add_one(awaited, id, common, read) {
+            Ok(()) => {}
+            Err(_) => return Err(AllocError),
         }
     }
     Ok(())
@@ -79,7 +111,8 @@ impl KnownCommits {
     pub fn forget(&mut self, id: &ObjectId)
         ensures read { self.new.read ≡ self.old.read }
         ensures common { self.new.common ≡ self.old.common }
-        ensures others { KeepsAwaited (λ other. id.now ≡ other) self.old.awaited self.new.awaited }
+        ensures others { (other : ObjectId) → is_awaited self.old.awaited other ≡ true
+            → (is_awaited self.new.awaited other ≡ true) ⊎ (id.now ≡ other) }
     {
         if let Some(awaited) = &mut self.awaited {
             awaited.remove(id);
@@ -94,16 +127,16 @@ impl KnownCommits {
     pub fn await_parents(&mut self, alloc: Global, id: &ObjectId) -> Result<(), AllocError>
         ensures read { self.new.read ≡ self.old.read }
         ensures common { self.new.common ≡ self.old.common }
-        ensures keeps { (other : ObjectId) → is_awaited self.old.awaited other ≡ true → is_awaited self.new.awaited other ≡ true }
-        ensures known { is_some self.new.awaited ≡ is_some self.old.awaited }
-        ensures has { OnOk result (is_some self.old.awaited ≡ true → All (λ parent. (is_awaited self.new.awaited parent ≡ true)
-            ⊎ IsSettled self.new.read self.new.common parent) (parents_of self.old.read id.now)) }
+        ensures known { OnOk result (AreKnown self.old.read self.old.common self.new.awaited (parents_of self.old.read id.now)) }
     {
         let parents = self.parents(alloc, id)?;
-        if let Some(awaited) = &mut self.awaited {
-            add_awaited(awaited, &parents, &self.common, &self.read)?;
+        let Some(awaited) = &mut self.awaited else {
+            return Ok(());
+        };
+        match add_awaited(awaited, &parents, &self.common, &self.read) {
+            Ok(()) => Ok(()),
+            Err(_) => Err(AllocError),
         }
-        Ok(())
     }
 
     /// Whether no commit can be offered any more, as far as the tips tell.
@@ -117,42 +150,74 @@ impl KnownCommits {
         }
     }
 
-    // The server has this commit. Returns whether that is new.
-    fn note(&mut self, id: &ObjectId) -> Result<bool, AllocError>
+    // The server has this commit. If that is new, it waits.
+    fn note(&mut self, id: &ObjectId, waiting: &mut Vec<ObjectId>) -> Result<(), AllocError>
         ensures read { self.new.read ≡ self.old.read }
-        ensures noted { OnOk result ((other : ObjectId) → contains id_cmp self.new.common other
-            ≡ (eq_by_cmp id_cmp id.now other || contains id_cmp self.old.common other)) }
-        ensures is_new { IfOk result (λ is_new. contains id_cmp self.old.common id.now ≡ not is_new) }
-        ensures failed { OnErr result ((other : ObjectId) → contains id_cmp self.new.common other ≡ contains id_cmp self.old.common other) }
-        ensures awaited { KeepsAwaited (λ other. contains id_cmp self.new.common other ≡ true) self.old.awaited self.new.awaited }
+        ensures keeps { KeepsIds self.old.common self.new.common }
+        ensures has { OnOk result (contains id_cmp self.new.common id.now ≡ true) }
     {
-        let is_new = match self.common.insert(*id) {
-            Ok(is_new) => is_new,
+        match put(&mut self.common, id) {
+            Ok(true) => {}
+            Ok(false) => return Ok(()),
             Err(_) => return Err(AllocError),
-        };
-        if is_new {
-            self.forget(id);
         }
-        Ok(is_new)
+        self.forget(id);
+        match waiting.push(*id) {
+            Ok(()) => Ok(()),
+            Err(_) => Err(AllocError),
+        }
     }
 
     // The server has these commits. Those that weren't common wait.
-    fn note_each(
-        &mut self,
-        ids: &[ObjectId],
-        waiting: &mut Vec<ObjectId>,
-    ) -> Result<(), AllocError>
+    fn note_each(&mut self, ids: &[ObjectId], waiting: &mut Vec<ObjectId>) -> Result<(), AllocError>
         ensures read { self.new.read ≡ self.old.read }
-        ensures shared { OnOk result (SharesEach ids.now self.old.common waiting.old.items self.new.common waiting.new.items) }
-        ensures grows { GrowsBySome (Contains ids.now) self.old.common self.new.common }
-        ensures awaited { KeepsAwaited (λ id. contains id_cmp self.new.common id ≡ true) self.old.awaited self.new.awaited }
+        ensures keeps { KeepsIds self.old.common self.new.common }
+        ensures has { OnOk result (HasIdsOf self.new.common ids.now) }
     {
-        for id in ids {
-            if self.note(id)? {
-                waiting.push(*id)?;
+        'ids: for id in ids {
+            match self.note(id, waiting) {
+                Ok(()) => {}
+                Err(_) => return Err(AllocError),
             }
         }
         Ok(())
+    }
+
+    // The server has the parents of a commit. Those that weren't common wait for the same.
+    fn share_parents(
+        &mut self,
+        alloc: Global,
+        id: &ObjectId,
+        waiting: &mut Vec<ObjectId>,
+    ) -> Result<(), AllocError>
+        ensures read { self.new.read ≡ self.old.read }
+        ensures keeps { KeepsIds self.old.common self.new.common }
+        ensures has { OnOk result (HasIdsOf self.new.common (parents_of self.old.read id.now)) }
+    {
+        let parents = self.parents(alloc, id)?;
+        self.note_each(&parents, waiting)
+    }
+
+    // The server has the parents of the commits that wait, and theirs.
+    fn share_waiting(
+        &mut self,
+        alloc: Global,
+        waiting: &mut Vec<ObjectId>,
+    ) -> Result<(), AllocError>
+        ensures read { self.new.read ≡ self.old.read }
+        ensures keeps { KeepsIds self.old.common self.new.common }
+    {
+        'waiting: for _ in 0..u64::MAX {
+            let Some(next) = waiting.pop() else {
+                return Ok(());
+            };
+            match self.share_parents(alloc, &next, waiting) {
+                Ok(()) => {}
+                Err(_) => return Err(AllocError),
+            }
+        }
+        // So many ids have no room.
+        Err(AllocError)
     }
 
     /// The server has a commit, and so all that it leads to: what is read already, and the first that isn't.
@@ -162,20 +227,17 @@ impl KnownCommits {
     /// An allocation failure; some of it may be common then.
     pub fn share(&mut self, alloc: Global, id: ObjectId) -> Result<(), AllocError>
         ensures read { self.new.read ≡ self.old.read }
-        ensures shared { OnOk result (SharesCommit self.old.read id self.old.common self.new.common) }
-        ensures grows { GrowsBySome (LeadsTo self.old.read id) self.old.common self.new.common }
-        ensures awaited { KeepsAwaited (λ other. contains id_cmp self.new.common other ≡ true) self.old.awaited self.new.awaited }
+        ensures keeps { KeepsIds self.old.common self.new.common }
+        ensures has { OnOk result (HasIdsOf self.new.common (parents_of self.old.read id)) }
     {
         let mut waiting = Vec::new(alloc);
-        waiting.push(id)?;
-        for _ in 0..u64::MAX {
-            let Some(next) = waiting.pop() else {
-                return Ok(());
-            };
-            let parents = self.parents(alloc, &next)?;
-            self.note_each(&parents, &mut waiting)?;
+        match self.share_parents(alloc, &id, &mut waiting) {
+            Ok(()) => {}
+            Err(_) => return Err(AllocError),
         }
-        // So many ids have no room.
-        Err(AllocError)
+        match self.share_waiting(alloc, &mut waiting) {
+            Ok(()) => Ok(()),
+            Err(_) => Err(AllocError),
+        }
     }
 }

@@ -1,5 +1,5 @@
 //! A negotiator that offers the commits of a text, of which it reads no more than it is asked for.
-ghost use Rattle.std.specs.Prelude.{◌≡◌, ◌-◌, ◌^◌, ◌≤◌, ◌++◌, ℕ, List, [], Some, None, true, false, map, IfOk, IfErr, IfSome, IfNone, OnOk, OnSome};
+ghost use Rattle.std.specs.Prelude.{◌≡◌, ◌-◌, ◌^◌, ◌≤◌, ◌<◌, ◌++◌, ℕ, List, [], Some, None, true, false, map, IfOk, IfErr, IfSome, IfNone, OnOk, OnSome};
 ghost use Rattle.std.specs.BTreeSet.{contains};
 ghost use Rattle.std.specs.FinMap as finite;
 ghost use Rattle.std.specs.Io.KnownBytes.{Consumes, IsAtEnd};
@@ -8,8 +8,8 @@ ghost use Rattle.gixp_hash.specs.declared.object_id.ObjectId.{ObjectId};
 ghost use Rattle.gixp_hash.specs.ObjectId.{id_cmp};
 ghost use Rattle.gixp_memory.specs.Text.{line_words, text_lines, after_lines};
 ghost use Rattle.gixp_memory.specs.Repository.{commit_line};
-ghost use Rattle.gixp_fetch_parts.specs.Known.{LeadsTo, GrowsBySome, SharesCommit};
-ghost use Rattle.gixp_fetch_parts.specs.Listed.{id_in, told_as, IsNoCommit, ReadsLine, IsUncommon, AwaitsParents, OffersLine, OfferFails, KeepsText, EndsOffers};
+ghost use Rattle.gixp_fetch_parts.specs.Known.{parents_of, KeepsIds, HasIdsOf, AreKnown};
+ghost use Rattle.gixp_fetch_parts.specs.Listed.{id_in, told_as, IsNoCommit, ReadsLine, IsUncommon, OffersLine, OfferFails, KeepsText};
 
 use crate::known::KnownCommits;
 use bstr::BStr;
@@ -109,7 +109,7 @@ impl<R: BufRead> CommitText<R> {
     // Adds the commit of the line. Returns its id, none where there is no commit.
     fn add_line(&mut self) -> Result<Option<ObjectId>, AllocError>
         ensures named { IfOk result (λ id. IfSome id (λ id. id_in self.new.line.items ≡ Some id)) }
-        ensures added { IfOk result (λ id. IfSome id (λ id. after_lines commit_line self.old.known.read (text_lines self.new.line.items)
+        ensures added { IfOk result (λ id. OnSome id (after_lines commit_line self.old.known.read (text_lines self.new.line.items)
             ≡ Some self.new.known.read)) }
         ensures none { IfOk result (λ id. IfNone id (IsNoCommit self.new.line.items)) }
         ensures text { self.new.text ≡ self.old.text }
@@ -147,7 +147,8 @@ impl<R: BufRead> CommitText<R> {
     // The next commit, none at the end of the text.
     fn read_commit(&mut self) -> Result<Option<ObjectId>, NegotiatorError>
         ensures named { IfOk result (λ id. IfSome id (λ id. id_in self.new.line.items ≡ Some id)) }
-        ensures read { IfOk result (λ id. OnSome id (ReadsLine (R.remaining self.old.text) self.new.line.items (R.remaining self.new.text))) }
+        ensures read { IfOk result (λ id. OnSome id
+            (ReadsLine (R.remaining self.old.text) self.new.line.items (R.remaining self.new.text))) }
         ensures end { IfOk result (λ id. IfNone id (IsAtEnd (R.remaining self.old.text))) }
         ensures left { self.new.left ≡ self.old.left }
         ensures common { self.new.known.common ≡ self.old.known.common }
@@ -171,9 +172,10 @@ impl<R: BufRead> CommitText<R> {
     // Offers a commit whose line was read last, unless the server is known to have it. Returns whether it is offered.
     fn offer(&mut self, id: &ObjectId) -> Result<bool, AllocError>
         ensures uncommon { IfOk result (λ is_offered. is_offered ≡ true → IsUncommon self.new.known.common id.now) }
-        ensures awaits { IfOk result (λ is_offered. is_offered ≡ true → AwaitsParents id.now self.new.known) }
+        ensures awaits { IfOk result (λ is_offered. is_offered ≡ true → AreKnown self.new.known.read self.new.known.common
+            self.new.known.awaited (parents_of self.new.known.read id.now)) }
         ensures common { IfOk result (λ is_offered. is_offered ≡ false → contains id_cmp self.old.known.common id.now ≡ true) }
-        ensures grows { GrowsBySome (LeadsTo self.old.known.read id.now) self.old.known.common self.new.known.common }
+        ensures keeps { KeepsIds self.old.known.common self.new.known.common }
         ensures read { self.new.known.read ≡ self.old.known.read }
         ensures text { self.new.text ≡ self.old.text }
         ensures line { self.new.line ≡ self.old.line }
@@ -183,30 +185,31 @@ impl<R: BufRead> CommitText<R> {
     {
         self.known.forget(id);
         if self.known.is_common(id) {
-            self.known.share(self.alloc, *id)?;
-            return Ok(false);
+            return match self.known.share(self.alloc, *id) {
+                Ok(()) => Ok(false),
+                Err(_) => Err(AllocError),
+            };
         }
-        self.known.await_parents(self.alloc, id)?;
-        Ok(true)
+        match self.known.await_parents(self.alloc, id) {
+            Ok(()) => Ok(true),
+            Err(_) => Err(AllocError),
+        }
     }
 
     // The server has a commit.
     fn share(&mut self, id: ObjectId) -> Result<(), AllocError>
         ensures kept { KeepsText self.old self.new }
-        ensures shared { OnOk result (SharesCommit self.old.known.read id self.old.known.common self.new.known.common) }
-        ensures grows { GrowsBySome (LeadsTo self.old.known.read id) self.old.known.common self.new.known.common }
+        ensures has { OnOk result (HasIdsOf self.new.known.common (parents_of self.old.known.read id)) }
+        ensures keeps { KeepsIds self.old.known.common self.new.known.common }
     {
         self.known.share(self.alloc, id)
     }
 
     // The next commit that isn't known to be common.
     fn next(&mut self) -> Result<Option<ObjectId>, NegotiatorError>
-        ensures offered { IfOk result (λ have. IfSome have (λ id. OffersLine (R.remaining self.old.text) self.old.left
-            self.new.line.items (R.remaining self.new.text) self.new.left id self.new.known)) }
-        ensures none { IfOk result (λ have. IfNone have (EndsOffers (R.remaining self.new.text)
-            self.new.known.awaited self.new.left)) }
+        ensures offered { IfOk result (λ have. IfSome have (λ id. OffersLine self.new.line.items id self.new.known)) }
+        ensures lowers { IfOk result (λ have. OnSome have (self.new.left < self.old.left)) }
         ensures left { self.new.left ≤ self.old.left }
-        ensures common { (id : ObjectId) → contains id_cmp self.old.known.common id ≡ true → contains id_cmp self.new.known.common id ≡ true }
         ensures refusal { OnOk result (self.new.refusal ≡ self.old.refusal) }
         ensures fails { IfErr result (λ e. OfferFails self.new.line.items self.new.lines self.old.refusal e self.new.refusal) }
     {
@@ -216,11 +219,11 @@ impl<R: BufRead> CommitText<R> {
             }
             self.left -= 1;
             match self.read_commit() {
-                Ok(Some(id)) => {
-                    if self.offer(&id)? {
-                        return Ok(Some(id));
-                    }
-                }
+                Ok(Some(id)) => match self.offer(&id) {
+                    Ok(true) => return Ok(Some(id)),
+                    Ok(false) => {}
+                    Err(_) => return Err(NegotiatorError::Memory),
+                },
                 Ok(None) => return Ok(None),
                 Err(e) => return Err(e),
             }
@@ -278,20 +281,20 @@ impl<R: BufRead> Negotiator for ListedCommits<R> {
     ghost use Rattle.std.proofs.Common.{arith};
     ghost use Rattle.gixp_graph.specs.declared.negotiator.NegotiatorError.TheVariants.{Memory};
     ghost use Rattle.gixp_fetch_parts.specs.Listed.{OffersNext, KeepsText, OfferFails};
-    ghost use Rattle.gixp_fetch_parts.specs.Known.{LeadsTo, GrowsBySome, SharesCommit};
+    ghost use Rattle.gixp_fetch_parts.specs.Known.{parents_of, KeepsIds, HasIdsOf, AreKnown};
 
     ghost calls = { record {
       count = λ n g. n.commits.left;
       failures = λ n. n.failures;
       knows = λ n g id m h. (m ≡ n) × (h ≡ g);
       adds = λ n g id m h. (m ≡ n) × (h ≡ g);
-      learns = λ n g id m h. KeepsText n.commits m.commits × (h ≡ g)
-          × SharesCommit n.commits.known.read id n.commits.known.common m.commits.known.common;
-      offers = λ n g have m h. OffersNext R.remaining n.commits have m.commits × (h ≡ g);
+      learns = λ n g id m h. KeepsText n.commits m.commits × (h ≡ g) × KeepsIds n.commits.known.common m.commits.known.common
+          × HasIdsOf m.commits.known.common (parents_of n.commits.known.read id);
+      offers = λ n g have m h. OffersNext n.commits have m.commits × (h ≡ g);
       knowing_fails = λ n g id e m h. ⊥;
       adding_fails = λ n g id e m h. ⊥;
       learning_fails = λ n g id e m h. (e ≡ Memory) × KeepsText n.commits m.commits × (h ≡ g)
-          × GrowsBySome (LeadsTo n.commits.known.read id) n.commits.known.common m.commits.known.common;
+          × KeepsIds n.commits.known.common m.commits.known.common;
       offering_fails = λ n g e m h. OfferFails m.commits.line.items m.commits.lines n.commits.refusal e m.commits.refusal × (h ≡ g);
     } };
 
@@ -342,7 +345,7 @@ impl<R: BufRead> Negotiator for ListedCommits<R> {
 
     ghost offer_lowers = { λ n g id m h r. r.0.1 };
 
-    ghost none_keeps = { λ n g m h r. r.0.1 };
+    ghost none_keeps = { λ n g m h r. r.0 };
 
     ghost learning_keeps = { λ n g id m h r. Prim.omega (arith, r.0.left) };
 }

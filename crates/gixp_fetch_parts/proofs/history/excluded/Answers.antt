@@ -5,6 +5,7 @@ use Rattle.gixp_refspec.specs.PartialName.{name_bytes}
 use Rattle.gixp_fetch_parts.specs.Words.{values_in}
 use Rattle.gixp_fetch_parts.specs.LineOf.{setting_value}
 use Rattle.gixp_refspec.specs.Name.{is_partial_name}
+use Rattle.gixp_fetch_parts.specs.declared.line.Setting.{Setting}
 use Rattle.gixp_fetch_parts.specs.Refusals.{HasBadValue}
 use Rattle.gixp_fetch_parts.proofs.LineLemmas.{values_more}
 use Rattle.gixp_fetch_parts.proofs.OptionLemmas.{setting_at}
@@ -29,7 +30,7 @@ loop-setting-preserved c =
 
 pub returns-in-Err-clause-err : goal.returns-in-Err-clause-err
 returns-in-Err-clause-err c =
-    let d = record { name = record { ref_ptr = (0, 0); now = [] }; value = record { ref_ptr = (0, 0); now = [] } } in
+    let d : Setting = record { name = record { ref_ptr = (0, 0); now = [] }; value = record { ref_ptr = (0, 0); now = [] } } in
     let named : (get_or c.deref-setting-items.result.now c.loop-setting.setting-index d).name.now ≡ codes "--exclude" = search rules in
     let bad : is_partial_name (get_or c.deref-setting-items.result.now c.loop-setting.setting-index d).value.now ≡ false =
     sym (ap is_partial_name (c.in_ok-from_slice.ensures ∙ c.as_bytes.ensures.value)) ∙ c.in-Err.ensures.0 in

@@ -7,11 +7,11 @@ use Rattle.gixp_fetch_parts.proofs.ask.Witness.hear.Goals as goal
 pub returns-then-branch-clause-told : goal.returns-then-branch-clause-told
 returns-then-branch-clause-told g c =
     answered_one c.args.id.now c.deref.result.now c.args.objects.now c.add_answer.new.self _ _
-    (rw c.deref.ensures.value c.in_ok-read_line.ensures.read) (c.in_ok-add_answer.ensures.read c.if-branch.true)
+    (rw c.deref.ensures.value c.in-Ok.ensures.read) (c.in_ok-add_answer.ensures.read c.if-branch.true)
     (sym c.in_ok-add_answer.ensures.answer ∙ c.if-branch.true)
 
-pub returns-else-clause-fails : goal.returns-else-clause-fails
-returns-else-clause-fails g c =
+pub returns-clause-fails : goal.returns-clause-fails
+returns-clause-fails g c =
     first_unanswered c.args.self.now.lines _ c.args.id.now c.deref.result.now c.args.objects.now c.add_answer.new.self _ _
-    (rw c.deref.ensures.value c.in_ok-read_line.ensures.read) (sym c.in_ok-add_answer.ensures.answer ∙ c.if-branch.false)
+    (rw c.deref.ensures.value c.in-Ok.ensures.read) (sym c.in_ok-add_answer.ensures.answer ∙ c.if-branch.false)
     (c.in_ok-add_answer.ensures.unread c.if-branch.false) c.read_line.ensures.lines
