@@ -1,8 +1,7 @@
 //! The program `gixp_fetch_pack`: it fetches from a server that speaks over two files or the standard streams.
+#![tactic(auto)]
 ghost use Rattle.std.specs.Prelude.{◌≡◌};
 ghost use Rattle.gixp_fetch_command.specs.Failures.{TellsRefused, unless_failed};
-
-#![tactic(auto)]
 mod ends;
 pub mod failure;
 mod kinds;

@@ -151,7 +151,7 @@ impl Repository {
 
 // Why a question has no answer.
 fn unanswered(alloc: Global, questions: Questions<'_>, e: AskError) -> Failure
-    ensures { TellsUnanswered questions.ask.now questions.answers.now e result }
+    ensures { TellsUnanswered questions.entry.ask.now questions.entry.answers.now e result }
 {
     match e {
         AskError::Ask(kind) => Failure::of_file(alloc, questions.ask, kind),
