@@ -1,6 +1,6 @@
 //! The program `gixp_fetch_pack`: it fetches from a server that speaks over two files or the standard streams.
 #![tactic(auto)]
-ghost use Rattle.std.specs.Prelude.{◌≡◌};
+ghost use Rattle.std.specs.Prelude.{◌≡◌, IfOk, option_map, string_bytes};
 ghost use Rattle.gixp_fetch_command.specs.Failures.{TellsRefused, unless_failed};
 mod ends;
 pub mod failure;
@@ -18,7 +18,7 @@ use crate::ends::{Source, Target};
 use crate::failure::Failure;
 use crate::receive::PackReceiver;
 use crate::repository::{Repository, write_boundary};
-use crate::session::{Asked, Session, Sink, connect};
+use crate::session::{Asked, How, Session, Sink, connect};
 use crate::shown::Shown;
 use crate::usage::{USAGE, VERSION, print_refusal};
 use gix_protocol::fetch::negotiate::{Graph, Noop, Shared};
@@ -30,7 +30,7 @@ use gixp_fetch_parts::{
     fetch_report, listing, missing_name,
 };
 use gixp_pack::PackSummary;
-use std::alloc::Global;
+use std::alloc::{AllocError, Global};
 use std::cell::Cell;
 use std::fs::{File, OpenOptions};
 use std::io::{BufReader, BufWriter, Input, Printer, StdinLock, Write};
@@ -254,6 +254,21 @@ fn settle(
     write_boundary(rt, path, old, boundary)
 }
 
+// How the server is asked.
+fn how_of(alloc: Global, options: &Options<'_>) -> Result<How, AllocError>
+    ensures filter { IfOk result (λ how. option_map string_bytes how.filter ≡ option_map (λ w. w.now) options.now.filter) }
+    ensures progress { IfOk result (λ how. how.wants_progress ≡ options.now.output.shows_progress) }
+{
+    let filter = match options.filter {
+        Some(spec) => Some(String::from_str(alloc, spec)?),
+        None => None,
+    };
+    Ok(How {
+        filter,
+        wants_progress: options.output.shows_progress,
+    })
+}
+
 // Fetches.
 fn fetch(rt: &HostRuntime, options: &Options<'_>, wish: &Wish<'_>) -> Result<(), Failure> {
     let alloc = rt.alloc();
@@ -274,11 +289,11 @@ fn fetch(rt: &HostRuntime, options: &Options<'_>, wish: &Wish<'_>) -> Result<(),
         return Err(Failure::Missing { name });
     }
     let changes = changes_in(alloc, &map, &repository, options, wish)?;
+    let how = how_of(alloc, options)?;
     let asked = Asked {
         map: &map,
         wish,
-        filter: options.filter,
-        wants_progress: options.output.shows_progress,
+        how: &how,
     };
     let pack = take_pack(
         rt,
