@@ -1,4 +1,12 @@
 //! Why the program ends with an error, and the sentence that says so.
+ghost use Rattle.std.specs.Prelude.{◌≡◌, None, option_map, IfOk};
+ghost use Rattle.std.specs.declared.io.ErrorKind.TheVariants.{OutOfMemory};
+ghost use Rattle.std.specs.Io.BufRead.{strip_last};
+ghost use Rattle.bstr.specs.Owned.{bstring_bytes};
+ghost use Rattle.gixp_fetch_command.specs.Failures.{said_of, TellsStep, TellsText, TellsFile, TellsLine, is_said_by_git, speaker_of};
+ghost use Rattle.gixp_fetch_command.specs.declared.failure.Failure.TheVariants.{Memory};
+
+use crate::kinds::words_of;
 use bstr::BString;
 use gix_protocol::fetch::refs::update;
 use gix_protocol::transport::{ObjectId, ServerMessage};
@@ -30,6 +38,12 @@ impl Display for Step {
     }
 }
 
+// What git says of a server that it couldn't speak with.
+const NO_CONTACT: &str = "Could not read from remote repository.
+
+Please make sure you have the correct access rights
+and the repository exists.";
+
 /// What was refused.
 #[derive(Debug, Drop)]
 pub enum Failure {
@@ -39,6 +53,8 @@ pub enum Failure {
         why: String,
         said: Option<BString>,
     },
+    /// The server ended the connection before it had said what it can do.
+    NoContact,
     /// The server ended the connection within a step.
     HungUp,
     /// The server reported an error beside the pack, which was shown.
@@ -70,12 +86,16 @@ pub enum Failure {
 }
 
 impl From<AllocError> for Failure {
+    ghost from_gives = { λ _ f. f ≡ Memory };
+
     fn from(_e: AllocError) -> Failure {
         Failure::Memory
     }
 }
 
 impl<T: Drop> From<AllocFailed<T>> for Failure {
+    ghost from_gives = { λ _ f. f ≡ Memory };
+
     fn from(_e: AllocFailed<T>) -> Failure {
         Failure::Memory
     }
@@ -83,7 +103,9 @@ impl<T: Drop> From<AllocFailed<T>> for Failure {
 
 impl Failure {
     /// A step was refused with this error.
-    pub fn of_step<E: Display + ServerMessage>(alloc: Global, step: Step, error: &E) -> Failure {
+    pub fn of_step<E: Display + ServerMessage>(alloc: Global, step: Step, error: &E) -> Failure
+        ensures { TellsStep step (E.message error.now) result }
+    {
         match told(alloc, error) {
             Ok((why, said)) => Failure::Step { step, why, said },
             Err(_) => Failure::Memory,
@@ -91,7 +113,9 @@ impl Failure {
     }
 
     /// A step was refused, as the text says.
-    pub fn of_text(alloc: Global, step: Step, text: &str) -> Failure {
+    pub fn of_text(alloc: Global, step: Step, text: &str) -> Failure
+        ensures { TellsText step text.now result }
+    {
         match String::from_str(alloc, text) {
             Ok(why) => Failure::Step {
                 step,
@@ -102,8 +126,11 @@ impl Failure {
         }
     }
 
-    /// A file was refused.
-    pub fn of_file(alloc: Global, path: &str, kind: ErrorKind) -> Failure {
+    /// A file was refused, or an allocation failed.
+    pub fn of_file(alloc: Global, path: &str, kind: ErrorKind) -> Failure
+        ensures file { TellsFile path.now kind result }
+        ensures memory { kind ≡ OutOfMemory → result ≡ Memory }
+    {
         if kind == ErrorKind::OutOfMemory {
             return Failure::Memory;
         }
@@ -114,7 +141,9 @@ impl Failure {
     }
 
     /// A line of a text was refused.
-    pub fn of_line(alloc: Global, path: &str, line: usize) -> Failure {
+    pub fn of_line(alloc: Global, path: &str, line: usize) -> Failure
+        ensures { TellsLine path.now line result }
+    {
         match String::from_str(alloc, path) {
             Ok(path) => Failure::Line { path, line },
             Err(_) => Failure::Memory,
@@ -133,16 +162,23 @@ impl Failure {
     }
 }
 
-// Words without the line end behind them.
-pub fn front_of(words: &[u8]) -> &[u8] {
-    words.strip_suffix(b"\n".as_slice()).unwrap_or(words)
+/// Words without the line end behind them.
+pub fn front_of(words: &[u8]) -> &[u8]
+    ensures { result.now ≡ strip_last 10 words.now }
+{
+    match words {
+        [front @ .., b'\n'] => front,
+        _ => words,
+    }
 }
 
 // The text of an error, and what the server said as it is shown.
 fn told<E: Display + ServerMessage>(
     alloc: Global,
     error: &E,
-) -> Result<(String, Option<BString>), AllocError> {
+) -> Result<(String, Option<BString>), AllocError>
+    ensures { IfOk result (λ told. option_map bstring_bytes told.1 ≡ said_of (E.message error.now)) }
+{
     let why = format!(in alloc; "{error}")?;
     let said = match error.server_message() {
         Some(words) => Some(screened(alloc, front_of(words.as_bytes()), false)?),
@@ -152,14 +188,28 @@ fn told<E: Display + ServerMessage>(
 }
 
 impl Failure {
-    /// Who says it: what git says of a server too is said as git does.
-    pub fn speaker(&self) -> &'static str {
+    /// Whether git says it of a server too, in these words.
+    pub fn is_said_by_git(&self) -> bool
+        ensures { result ≡ is_said_by_git self.now }
+    {
         match self {
             Failure::Step { said: Some(_), .. }
+            | Failure::NoContact
             | Failure::HungUp
             | Failure::PackRefused
-            | Failure::UnknownUnshallow { .. } => "fatal",
-            _ => "gixp_fetch_pack",
+            | Failure::UnknownUnshallow { .. } => true,
+            _ => false,
+        }
+    }
+
+    /// Who says it: what git says too is said as git does.
+    pub fn speaker(&self) -> &'static str
+        ensures { result.now ≡ speaker_of self.now }
+    {
+        if self.is_said_by_git() {
+            "fatal"
+        } else {
+            "gixp_fetch_pack"
         }
     }
 }
@@ -177,14 +227,15 @@ impl Display for Failure {
                 why: _,
                 said: Some(said),
             } => write!(f, "remote error: {said}"),
+            Failure::NoContact => f.write_str(NO_CONTACT),
             Failure::HungUp => write!(f, "the remote end hung up unexpectedly"),
             Failure::ServerFailed => write!(f, "the server reported an error"),
             Failure::UnknownUnshallow { id } => write!(f, "no shallow found: unshallow {id}"),
-            Failure::File { path, kind } => write!(f, "{path}: {kind:?}"),
+            Failure::File { path, kind } => write!(f, "{path}: {}", words_of(*kind)),
             Failure::Line { path, line } => write!(f, "{path}: line {line} isn't readable"),
             Failure::PackRefused => write!(f, "git refused the pack"),
             Failure::Missing { name } => write!(f, "couldn't find remote ref {name}"),
-            Failure::Io(kind) => write!(f, "standard input or output: {kind:?}"),
+            Failure::Io(kind) => { write!(f, "standard input or output: {}", words_of(*kind)) },
             Failure::Memory => write!(f, "out of memory"),
         }
     }

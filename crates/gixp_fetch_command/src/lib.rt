@@ -1,11 +1,16 @@
 //! The program `gixp_fetch_pack`: it fetches from a server that speaks over two files or the standard streams.
 #![tactic(auto)]
 
+ghost use Rattle.std.specs.Prelude.{◌≡◌, IfOk, option_map, string_bytes};
+ghost use Rattle.gixp_fetch_command.specs.Failures.{TellsRefused, unless_failed};
+
 mod ends;
 pub mod failure;
-pub mod listed;
+mod kinds;
+mod quiet;
 pub mod receive;
 pub mod repository;
+mod sentence;
 pub mod session;
 pub mod shown;
 mod usage;
@@ -13,21 +18,21 @@ mod watched;
 
 use crate::ends::{Source, Target};
 use crate::failure::Failure;
-use crate::listed::{ListedCommits, Refusal};
 use crate::receive::PackReceiver;
 use crate::repository::{Repository, write_boundary};
-use crate::session::{Asked, Session, Sink, connect};
+use crate::session::{Asked, How, Session, Sink, connect};
 use crate::shown::Shown;
 use crate::usage::{USAGE, VERSION, print_refusal};
 use gix_protocol::fetch::negotiate::{Graph, Noop, Shared};
 use gix_protocol::fetch::{Outcome, RefMap, ShallowMemory};
-use gix_protocol::transport::{Connection, ObjectId, Transport};
+use gix_protocol::transport::{Connection, NestedProgress, ObjectId, Transport};
+use gixp_fetch_parts::listed::{ListedCommits, Refusal};
 use gixp_fetch_parts::{
     Change, Haves, OptionError, Options, Output, PackFile, PackPlace, Server, Task, Wish, changes,
     fetch_report, listing, missing_name,
 };
 use gixp_pack::PackSummary;
-use std::alloc::Global;
+use std::alloc::{AllocError, Global};
 use std::cell::Cell;
 use std::fs::{File, OpenOptions};
 use std::io::{BufReader, BufWriter, Input, Printer, StdinLock, Write};
@@ -120,7 +125,9 @@ fn list(rt: &HostRuntime, options: &Options<'_>, keeps_open: bool) -> Result<(),
 }
 
 // What is told of a fetch that failed, where it may be for the text of the commits.
-fn failure_of(alloc: Global, path: &str, refusal: Option<Refusal>, failure: Failure) -> Failure {
+fn failure_of(alloc: Global, path: &str, refusal: Option<Refusal>, failure: Failure) -> Failure
+    ensures { TellsRefused path.now refusal failure result }
+{
     match refusal {
         Some(Refusal::Read(kind)) => Failure::of_file(alloc, path, kind),
         Some(Refusal::Line(line)) => Failure::of_line(alloc, path, line),
@@ -129,15 +136,18 @@ fn failure_of(alloc: Global, path: &str, refusal: Option<Refusal>, failure: Fail
 }
 
 // Fetches what is mapped into a sink, and offers the commits of a text in its order.
-fn offer_in_order<T: Transport, P: PackPlace>(
+fn offer_in_order<T: Transport, P: PackPlace, S: NestedProgress>(
     rt: &HostRuntime,
     session: &mut Session<'_, T>,
     repository: &mut Repository,
     asked: Asked<'_>,
     path: &str,
     sink: &mut Sink<P>,
-    shown: &mut Shown<'_>,
-) -> Result<Option<Outcome>, Failure> {
+    shown: &mut S,
+) -> Result<Option<Outcome>, Failure>
+where
+    S::SubProgress: Drop,
+{
     let alloc = rt.alloc();
     let file = File::open(rt, path).map_err(|e| Failure::of_file(alloc, path, e.kind()))?;
     let text = BufReader::new(alloc, file).map_err(|_| Failure::Memory)?;
@@ -149,15 +159,18 @@ fn offer_in_order<T: Transport, P: PackPlace>(
 }
 
 /// Fetches what is mapped into a sink, by the negotiator that was chosen.
-pub fn negotiate<T: Transport, P: PackPlace>(
+pub fn negotiate<T: Transport, P: PackPlace, S: NestedProgress>(
     rt: &HostRuntime,
     session: &mut Session<'_, T>,
     repository: &mut Repository,
     asked: Asked<'_>,
     commits: Option<&str>,
     sink: &mut Sink<P>,
-    shown: &mut Shown<'_>,
-) -> Result<Option<Outcome>, Failure> {
+    shown: &mut S,
+) -> Result<Option<Outcome>, Failure>
+where
+    S::SubProgress: Drop,
+{
     match (asked.wish.haves, commits) {
         (Haves::By(algorithm), _) => {
             let mut negotiator = algorithm.negotiator(rt.alloc());
@@ -217,12 +230,17 @@ fn take_pack<T: Transport>(
 pub fn unless_failed(
     came: Result<Option<Outcome>, Failure>,
     has_failed: bool,
-) -> Result<Option<Outcome>, Failure> {
-    let outcome = came?;
-    if has_failed {
-        Err(Failure::ServerFailed)
-    } else {
-        Ok(outcome)
+) -> Result<Option<Outcome>, Failure>
+    ensures { result ≡ unless_failed came has_failed }
+{
+    match came {
+        Ok(outcome) => {
+            if has_failed {
+                return Err(Failure::ServerFailed);
+            }
+            Ok(outcome)
+        }
+        Err(e) => Err(e),
     }
 }
 
@@ -238,6 +256,21 @@ fn settle(
     write_boundary(rt, path, old, boundary)
 }
 
+// How the server is asked.
+fn how_of(alloc: Global, options: &Options<'_>) -> Result<How, AllocError>
+    ensures filter { IfOk result (λ how. option_map string_bytes how.filter ≡ option_map (λ w. w.now) options.now.filter) }
+    ensures progress { IfOk result (λ how. how.wants_progress ≡ options.now.output.shows_progress) }
+{
+    let filter = match options.filter {
+        Some(spec) => Some(String::from_str(alloc, spec)?),
+        None => None,
+    };
+    Ok(How {
+        filter,
+        wants_progress: options.output.shows_progress,
+    })
+}
+
 // Fetches.
 fn fetch(rt: &HostRuntime, options: &Options<'_>, wish: &Wish<'_>) -> Result<(), Failure> {
     let alloc = rt.alloc();
@@ -247,6 +280,9 @@ fn fetch(rt: &HostRuntime, options: &Options<'_>, wish: &Wish<'_>) -> Result<(),
     let mut shown = shown_of(rt, &options.output, &has_failed);
     let mut session = Session::open(alloc, transport, options.server.agent, &mut shown)?;
     let map = session.map(wish, &mut shown)?;
+    if options.filter.is_some() && !session.can_filter()? {
+        let _ = eprintln!(rt; "warning: filtering not recognized by server, ignoring");
+    }
     if let Some(questions) = options.files.questions {
         repository.ask(rt, questions, &map)?;
     }
@@ -255,7 +291,12 @@ fn fetch(rt: &HostRuntime, options: &Options<'_>, wish: &Wish<'_>) -> Result<(),
         return Err(Failure::Missing { name });
     }
     let changes = changes_in(alloc, &map, &repository, options, wish)?;
-    let asked = Asked { map: &map, wish };
+    let how = how_of(alloc, options)?;
+    let asked = Asked {
+        map: &map,
+        wish,
+        how: &how,
+    };
     let pack = take_pack(
         rt,
         &mut session,

@@ -3,25 +3,44 @@ ghost use Rattle.std.specs.Prelude.{◌≡◌, None, IfOk, OnErr};
 ghost use Rattle.gix_protocol.specs.Sidebands.{side};
 ghost use Rattle.gixp_fetch_command.specs.Received.{ReceivesPack, receives_owes, KeepsHeld, DropsHeld};
 
+use crate::kinds::words_of;
 use bstr::BStr;
 use gix_protocol::fetch::{ConsumePack, WithSidebands};
 use gix_protocol::transport::{ExtendedBufRead, Interrupt, Progress, ServerMessage};
 use gixp_fetch_parts::{PackPlace, StreamError, copy_pack};
 use gixp_pack::PackSummary;
 use std::alloc::Global;
-use std::io;
+use std::fmt::Display;
 use std::io::ErrorKind;
-use thiserror::Error;
+use std::{fmt, io};
 
 /// Why a pack isn't received. Nothing of it is left.
-#[derive(Debug, Drop, Error)]
+#[derive(Debug, Drop)]
 pub enum ReceiveError {
     /// It can't be begun, with this kind.
-    #[error("the pack's file can't be made: {0:?}")]
     Begin(ErrorKind),
     /// It didn't come whole.
-    #[error("{0}")]
     Stream(StreamError),
+}
+
+impl Display for ReceiveError {
+    fn fmt<W: fmt::Write>(&self, f: &mut fmt::Formatter<W>) -> fmt::Result {
+        match self {
+            ReceiveError::Begin(kind) => {
+                write!(f, "the pack's file can't be made: {}", words_of(*kind))
+            }
+            ReceiveError::Stream(StreamError::Read(kind)) => {
+                write!(f, "the pack can't be read: {}", words_of(*kind))
+            }
+            ReceiveError::Stream(StreamError::Write(kind)) => {
+                write!(f, "the pack can't be written: {}", words_of(*kind))
+            }
+            ReceiveError::Stream(StreamError::Pack(e)) => {
+                write!(f, "what came is no whole pack: {e}")
+            }
+            ReceiveError::Stream(StreamError::Memory) => f.write_str("out of memory"),
+        }
+    }
 }
 
 /// It keeps kinds alone, and so no message.

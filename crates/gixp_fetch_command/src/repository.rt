@@ -1,4 +1,7 @@
 //! The repository that fetches, by the texts of the command line.
+ghost use Rattle.std.specs.Prelude.{◌≡◌, [], unwrap_or, option_map};
+ghost use Rattle.gixp_fetch_command.specs.Failures.{TellsTextError, TellsUnanswered};
+
 use crate::failure::Failure;
 use gix_protocol::fetch::negotiate::{
     Find, ObjectKind, RefStore, StoredObjects, StoredRefs, TextError,
@@ -10,7 +13,7 @@ use std::alloc::Global;
 use std::collections::BTreeSet;
 use std::fs;
 use std::fs::{File, OpenOptions};
-use std::io::{BufReader, ErrorKind};
+use std::io::{BufReader, BufWriter, ErrorKind};
 
 /// What is known of the repository.
 #[derive(Drop)]
@@ -47,7 +50,9 @@ fn boundary_in(rt: &HostRuntime, path: Option<&str>) -> Result<Vec<ObjectId>, Fa
 }
 
 // What was refused in a text.
-fn refused(alloc: Global, path: Option<&str>, e: TextError) -> Failure {
+fn refused(alloc: Global, path: Option<&str>, e: TextError) -> Failure
+    ensures { TellsTextError (unwrap_or (option_map (λ w. w.now) path.entry) []) e result }
+{
     match e {
         TextError::Line(line) => Failure::of_line(alloc, path.unwrap_or(""), line),
         TextError::Memory => Failure::Memory,
@@ -136,6 +141,7 @@ impl Repository {
             questions.answers,
             e.kind(),
         ))?;
+        let asks = BufWriter::new(alloc, asks).map_err(|_| Failure::Memory)?;
         let answers = BufReader::new(alloc, answers).map_err(|_| Failure::Memory)?;
         Witness::new(alloc, asks, answers)
             .ask(&ids, &mut self.objects)
@@ -144,7 +150,9 @@ impl Repository {
 }
 
 // Why a question has no answer.
-fn unanswered(alloc: Global, questions: Questions<'_>, e: AskError) -> Failure {
+fn unanswered(alloc: Global, questions: Questions<'_>, e: AskError) -> Failure
+    ensures { TellsUnanswered questions.entry.ask.now questions.entry.answers.now e result }
+{
     match e {
         AskError::Ask(kind) => Failure::of_file(alloc, questions.ask, kind),
         AskError::Answer(kind) => Failure::of_file(alloc, questions.answers, kind),

@@ -1,25 +1,33 @@
 //! A session with a server: the handshake, the refs or a ref map, and the fetch.
-ghost use Rattle.std.specs.Prelude.{◌≤◌};
+ghost use Rattle.std.specs.Prelude.{◌≡◌, ◌≤◌, None, Ok, Err, IfOk, IfErr, IfSome, IfNone, IsOk, MatchOption};
+ghost use Rattle.std.specs.Option.{option_map};
+ghost use Rattle.bstr.specs.Owned.{bstring_bytes};
+ghost use Rattle.gixp_fetch_parts.specs.Unshallowed.{unknown_unshallow};
+ghost use Rattle.gixp_fetch_command.specs.declared.failure.Failure.TheVariants.{UnknownUnshallow};
 
 use crate::failure::{Failure, Step};
-use crate::receive::PackReceiver;
+use crate::quiet::Quiet;
+use crate::receive::{PackReceiver, ReceiveError};
 use crate::repository::Repository;
+use crate::sentence::{is_gone, is_handshake_cut, is_listing_cut, of_handshake, of_listing};
 use crate::watched::Watched;
 use bstr::BString;
-use gix_protocol::client::{MOST_HAVES, Windowed};
+use gix_protocol::client::{Filtered, MOST_HAVES, Windowed};
 use gix_protocol::command::{CommandTable, Feature};
 use gix_protocol::fetch::negotiate::{
     Graph, Negotiate, NegotiateContext, Negotiation, Negotiator, NoAlternates, Shared, StoredRefs,
 };
 use gix_protocol::fetch::refmap::init;
-use gix_protocol::fetch::{self, Context, Options, Outcome, RefMap, ShallowMemory};
-use gix_protocol::handshake::{Ref, handshake, obtain};
+use gix_protocol::fetch::{self, Arguments, Context, Options, Outcome, RefMap, ShallowMemory};
+use gix_protocol::handshake::{Error as HandshakeError, Ref, handshake, obtain};
 use gix_protocol::refspec::parse::{Operation, parse};
 use gix_protocol::transport::{
     Connection, NestedProgress, NeverInterrupt, ObjectId, Opening, Progress, Protocol, Service,
-    Transport,
+    Transport, client,
 };
-use gix_protocol::{Handshake, LsRefsCommand, agent, indicate_end_of_interaction};
+use gix_protocol::{
+    Command, Handshake, LsRefsCommand, agent, indicate_end_of_interaction, ls_refs,
+};
 use gixp_fetch_parts::{PackPlace, Server, Wish, unknown_unshallow};
 use std::alloc::{AllocError, Global};
 use std::collections::BTreeSet;
@@ -47,10 +55,25 @@ pub struct Sink<P: PackPlace> {
 pub struct Asked<'a> {
     pub map: &'a RefMap,
     pub wish: &'a Wish<'a>,
+    pub how: &'a How,
+}
+
+/// How a server is asked for a pack.
+#[derive(Drop)]
+pub struct How {
+    /// Which objects are left out where the server can leave out any (git-rev-list, "--filter").
+    pub filter: Option<String>,
+    /// Whether the server's progress is wanted.
+    pub wants_progress: bool,
 }
 
 // What the server is told first, where it is to be told a path.
-fn opening_of(alloc: Global, server: &Server<'_>) -> Result<Option<Opening>, AllocError> {
+fn opening_of(alloc: Global, server: &Server<'_>) -> Result<Option<Opening>, AllocError>
+    ensures path { IfOk result (λ opening. option_map (λ o. bstring_bytes o.path) opening
+        ≡ option_map (λ w. w.now) server.now.path) }
+    ensures host { IfOk result (λ opening. IfSome opening (λ o. option_map bstring_bytes o.host
+        ≡ option_map (λ w. w.now) server.now.host)) }
+{
     let Some(path) = server.path else {
         return Ok(None);
     };
@@ -113,7 +136,9 @@ fn named(alloc: Global, name: &str) -> Result<Feature, AllocError> {
 }
 
 // Alternates that can be opened.
-fn opened(alternates: &mut [StoredRefs]) -> Result<&mut [StoredRefs], NoAlternates> {
+fn opened(alternates: &mut [StoredRefs]) -> Result<&mut [StoredRefs], NoAlternates>
+    ensures { IsOk result }
+{
     Ok(alternates)
 }
 
@@ -160,13 +185,18 @@ where
         context,
         options,
     );
-    result.map_err(|e| {
-        if has_hung_up(&e) {
-            Failure::HungUp
-        } else {
-            Failure::of_step(alloc, Step::Fetch, &e)
-        }
-    })
+    result.map_err(|e| fetch_failure(alloc, &e))
+}
+
+// Why a fetch failed: what the consumer of the pack says, where it is the one that failed.
+fn fetch_failure<A>(alloc: Global, error: &fetch::Error<A, ReceiveError>) -> Failure {
+    if has_hung_up(error) {
+        return Failure::HungUp;
+    }
+    match error {
+        fetch::Error::ConsumePack(e) => Failure::of_step(alloc, Step::Fetch, e),
+        _ => Failure::of_step(alloc, Step::Fetch, error),
+    }
 }
 
 // What came of a fetch, unless the server takes an id out of the boundary that isn't in it: in an answer before the last, or
@@ -175,22 +205,35 @@ fn known_alone(
     came: Result<Option<Outcome>, Failure>,
     unknown: Option<ObjectId>,
     boundary: &BTreeSet<ObjectId>,
-) -> Result<Option<Outcome>, Failure> {
-    let outcome = came?;
-    let last = match &outcome {
-        Some(outcome) => unknown_unshallow(outcome.last_response.shallow_updates(), boundary),
-        None => None,
+) -> Result<Option<Outcome>, Failure>
+    ensures refused { IfErr came (λ e. result ≡ Err e) }
+    ensures before { IfOk came (λ outcome. IfSome unknown (λ id. result ≡ Err (UnknownUnshallow id))) }
+    ensures nothing { IfOk came (λ outcome. IfNone unknown (IfNone outcome (result ≡ Ok None))) }
+    ensures last { IfOk came (λ outcome. IfNone unknown (IfSome outcome (λ o. MatchOption
+        (unknown_unshallow boundary.now o.last_response.shallow_updates) (result ≡ Ok outcome)
+        (λ id. result ≡ Err (UnknownUnshallow id))))) }
+{
+    let outcome = match came {
+        Ok(outcome) => outcome,
+        Err(e) => return Err(e),
     };
-    match unknown.or(last) {
+    if let Some(id) = unknown {
+        return Err(Failure::UnknownUnshallow { id });
+    }
+    let Some(outcome) = outcome else {
+        return Ok(None);
+    };
+    match unknown_unshallow(outcome.last_response.shallow_updates(), boundary) {
         Some(id) => Err(Failure::UnknownUnshallow { id }),
-        None => Ok(outcome),
+        None => Ok(Some(outcome)),
     }
 }
 
-// Whether the server ended the connection within an answer.
+// Whether the server ended the connection within an answer, or before a request was sent.
 fn has_hung_up<A, E>(error: &fetch::Error<A, E>) -> bool {
     match error {
         fetch::Error::FetchResponse(answer) => is_end(answer),
+        fetch::Error::Client(client::Error::Io(kind)) => is_gone(*kind),
         _ => false,
     }
 }
@@ -198,8 +241,31 @@ fn has_hung_up<A, E>(error: &fetch::Error<A, E>) -> bool {
 // Whether an answer isn't whole.
 fn is_end(error: &fetch::response::Error) -> bool {
     match error {
-        fetch::response::Error::Io(kind) => *kind == ErrorKind::UnexpectedEof,
+        fetch::response::Error::Io(kind) => is_gone(*kind),
+        fetch::response::Error::Transport(client::Error::Io(kind)) => is_gone(*kind),
         _ => false,
+    }
+}
+
+// Why there is no session.
+fn handshake_failure(alloc: Global, error: &HandshakeError) -> Failure {
+    if is_handshake_cut(error) {
+        return Failure::NoContact;
+    }
+    match of_handshake(error) {
+        Some(why) => Failure::of_text(alloc, Step::Handshake, why),
+        None => Failure::of_step(alloc, Step::Handshake, error),
+    }
+}
+
+// Why there are no refs.
+fn listing_failure(alloc: Global, error: &ls_refs::Error) -> Failure {
+    if is_listing_cut(error) {
+        return Failure::HungUp;
+    }
+    match of_listing(error) {
+        Some(why) => Failure::of_text(alloc, Step::Listing, why),
+        None => Failure::of_step(alloc, Step::Listing, error),
     }
 }
 
@@ -229,12 +295,14 @@ impl<'a, T: Transport> Session<'a, T> {
                 shaken,
                 agent,
             }),
-            Err(e) => Err(Failure::of_step(alloc, Step::Handshake, &e)),
+            Err(e) => Err(handshake_failure(alloc, &e)),
         }
     }
 
     /// The version that the server speaks.
-    pub fn version(&self) -> Protocol {
+    pub fn version(&self) -> Protocol
+        ensures { result ≡ self.now.shaken.server_protocol_version }
+    {
         self.shaken.server_protocol_version
     }
 
@@ -254,7 +322,22 @@ impl<'a, T: Transport> Session<'a, T> {
         let command = LsRefsCommand::new(alloc, &table, None, &self.shaken.capabilities, name)?;
         command
             .invoke_blocking(alloc, &mut self.transport, shown)
-            .map_err(|e| Failure::of_step(alloc, Step::Listing, &e))
+            .map_err(|e| listing_failure(alloc, &e))
+    }
+
+    /// Whether the server can leave out objects by a filter.
+    pub fn can_filter(&self) -> Result<bool, AllocError> {
+        let table = CommandTable::git();
+        let version = self.version();
+        let offered = &self.shaken.capabilities;
+        let features = table.default_features(self.alloc, Command::Fetch, version, offered)?;
+        Ok(Arguments::new(self.alloc, &table, version, features)?.can_use_filter())
+    }
+
+    // Whether the server is to be told that no progress is wanted: one of version 2 always knows the word.
+    fn is_quiet(&self, how: &How) -> bool {
+        !how.wants_progress
+            && (self.version() == Protocol::V2 || self.shaken.capabilities.contains(b"no-progress"))
     }
 
     /// What the refspecs map of the refs of the server.
@@ -313,7 +396,9 @@ impl<'a, T: Transport> Session<'a, T> {
         let negotiation = Negotiation::new(context, asked.map, &wish.shallow, wish.tags);
         let boundary = repository.boundary.iter().copied().collect(alloc)?;
         let windowed = Windowed::new(negotiation, self.most_haves());
-        let mut watched = Watched::new(windowed, &boundary);
+        let filtered = Filtered::new(windowed, asked.how.filter.as_deref());
+        let quiet = Quiet::new(filtered, self.is_quiet(asked.how));
+        let mut watched = Watched::new(quiet, &boundary);
         let request = Request {
             agent: self.agent,
             wish,

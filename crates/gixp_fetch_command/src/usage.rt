@@ -29,6 +29,8 @@ The pack goes to PACK, and the report to standard output. A value may be joined 
   --unshallow            all of the history
   --since SECONDS        commits from this time on
   --exclude REF          no commit that REF leads to; may be repeated
+  --filter SPEC          the objects that SPEC names are left out (git-rev-list, --filter), where the server can do that; else a
+                         warning says so, and all come
   --tags all|included|none
                          which tags are fetched with the refspecs (none)
   --reject-shallow       refuse a server whose repository is shallow

@@ -3,3 +3,4 @@ mod LineLemmas
 mod OptionLemmas
 mod PackLemmas
 mod TextLemmas
+mod KnownLemmas

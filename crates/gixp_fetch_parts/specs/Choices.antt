@@ -1,5 +1,5 @@
 -- What the options of a command line ask for.
-use Rattle.std.specs.Prelude.{◌≡◌, ◌<◌, ◌&&◌, ◌||◌, ℕ, ℤ, ⊤, Bool, true, false, not, is_some, if◌then◌else◌, List, [], ◌∷◌, length, map, codes, Option, Some, None, unwrap_or, Result, Ok, Err}
+use Rattle.std.specs.Prelude.{◌≡◌, ◌<◌, ◌&&◌, ◌||◌, ℕ, ℤ, Bool, true, false, is_some, if◌then◌else◌, List, [], ◌∷◌, length, map, codes, Option, Some, None, unwrap_or, Ok}
 use Rattle.std.specs.Int.{w64}
 use Rattle.std.specs.Option.{option_map}
 use Rattle.std.specs.Str.{bytes_eq}
@@ -22,10 +22,8 @@ use Rattle.gixp_fetch_parts.specs.declared.options.Wish.{Wish}
 use Rattle.gixp_fetch_parts.specs.declared.options.Task.{Task}
 use Rattle.gixp_fetch_parts.specs.declared.options.Task.TheVariants.{Help, Version, List as ListRefs, Fetch}
 use Rattle.gixp_fetch_parts.specs.declared.options.Options.{Options}
-use Rattle.gixp_fetch_parts.specs.declared.options.OptionError.{OptionError}
-use Rattle.gixp_fetch_parts.specs.declared.options.OptionError.TheVariants.{Line as BadLine, Value as BadValue, Conflict, Needs, Operands, Memory}
 use Rattle.gixp_fetch_parts.specs.Words.{value_in, values_in}
-use Rattle.gixp_fetch_parts.specs.LineOf.{LineParts, LineFault, IsLineFault}
+use Rattle.gixp_fetch_parts.specs.LineOf.{LineParts}
 
 -- the value that an option was given last
 abbrev pub value : LineParts → List ℕ → Option (List ℕ)
@@ -74,12 +72,23 @@ IsSeconds word seconds = ParsesSigned {E = Unit {0}} w64 10 word (Ok seconds)
 abbrev pub has_cut : LineParts → Bool
 has_cut line = has line (codes "--since") || has line (codes "--exclude")
 
--- whether options are there that can't be used together: one alone asks for a depth, and a cut is one
-abbrev pub has_conflict : LineParts → Bool
-has_conflict line =
+-- whether it is said how much of the history is wanted without a cut
+abbrev pub has_extent : LineParts → Bool
+has_extent line = has line (codes "--unshallow") || has line (codes "--depth") || has line (codes "--deepen")
+
+-- whether it is said how much of the history is wanted
+abbrev pub has_history : LineParts → Bool
+has_history line = has_cut line || has_extent line
+
+-- whether that is said twice without a cut
+abbrev pub has_two_extents : LineParts → Bool
+has_two_extents line =
     (has line (codes "--depth") && has line (codes "--deepen"))
     || (has line (codes "--unshallow") && (has line (codes "--depth") || has line (codes "--deepen")))
-    || (has_cut line && (has line (codes "--unshallow") || has line (codes "--depth") || has line (codes "--deepen")))
+
+-- whether options are there that can't be used together: one alone asks for a depth, and a cut is one
+abbrev pub has_conflict : LineParts → Bool
+has_conflict line = has_two_extents line || (has_cut line && has_extent line)
 
 -- what is left of the history: no commit from before a time (`--since`), and none that one of the names leads to (`--exclude`)
 pub record CutsHistory (line : LineParts) (wanted : ShallowValue) : Type 0 where
@@ -159,33 +168,6 @@ pub record AsksServer (line : LineParts) (server : Server) : Type 0 where
 pub record AsksOptions (line : LineParts) (options : Options) : Type 0 where
   pub task : AsksTask line options.server.from.now options.server.to.now options.task
   pub server : AsksServer line options.server
+  pub filter : option_map (λ w. w.now) options.filter ≡ value line (codes "--filter")
   pub files : AsksFiles line options.files
   pub output : AsksOutput line options.output
-
--- whether the operands are of a list (two files), or of a fetch (two files, a pack, and a refspec or more)
-abbrev pub fits_usage : (lists : Bool) → List (List ℕ) → Bool
-fits_usage lists (from ∷ to ∷ []) = lists
-fits_usage lists (from ∷ to ∷ pack ∷ spec ∷ specs) = not lists
-fits_usage lists _ = false
-
--- why a command line is refused that is taken apart: what is in conflict is there, and the operands fit neither usage
-abbrev pub RefusesOptions : LineParts → OptionError → Type 0
-RefusesOptions line (BadLine e) = ⊥
-RefusesOptions line (BadValue name value) = ⊤
-RefusesOptions line (Conflict one other) = (has_conflict line ≡ true) × (has line one.now ≡ true) × (has line other.now ≡ true)
-RefusesOptions line (Needs one other) = ⊤
-RefusesOptions line Operands = fits_usage (has line (codes "--list")) line.operands ≡ false
-RefusesOptions line Memory = ⊤
-
--- the refusal of a line that isn't taken apart
-abbrev pub IsLineRefusal : LineFault → OptionError → Type 0
-IsLineRefusal fault (BadLine e) = IsLineFault fault e
-IsLineRefusal fault Memory = ⊤
-IsLineRefusal fault _ = ⊥
-
--- a call that reads a command line
-abbrev pub ReadsOptions : Result LineParts LineFault → Result Options OptionError → Type 0
-ReadsOptions (Ok line) (Ok options) = AsksOptions line options
-ReadsOptions (Ok line) (Err e) = RefusesOptions line e
-ReadsOptions (Err fault) (Ok options) = ⊥
-ReadsOptions (Err fault) (Err e) = IsLineRefusal fault e

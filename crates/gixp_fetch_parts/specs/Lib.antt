@@ -1,5 +1,6 @@
 pub mod Words
 pub mod AnswersIds
+pub mod Unanswered
 pub mod LineOf
 pub mod PackCopied
 pub mod Place
@@ -7,5 +8,8 @@ pub mod Changes
 pub mod Told
 pub mod Missing
 pub mod Choices
+pub mod Refusals
 pub mod Screened
 pub mod Unshallowed
+pub mod Known
+pub mod Listed

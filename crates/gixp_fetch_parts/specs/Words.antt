@@ -26,7 +26,8 @@ abbrev pub is_of_fetch : List ℕ → Bool
 is_of_fetch word =
     bytes_eq word (codes "--depth") || bytes_eq word (codes "--deepen") || bytes_eq word (codes "--since") || bytes_eq word
     (codes "--exclude")
-    || bytes_eq word (codes "--tags") || bytes_eq word (codes "--negotiator") || bytes_eq word (codes "--report")
+    || bytes_eq word (codes "--tags") || bytes_eq word (codes "--filter") || bytes_eq word (codes "--negotiator")
+    || bytes_eq word (codes "--report")
 
 -- whether the word after an option is its value
 abbrev pub takes_value : List ℕ → Bool

@@ -1,12 +1,14 @@
 //! Questions which objects are here, put to a program such as `git cat-file --batch-check`.
-ghost use Rattle.std.specs.Prelude.{◌≡◌, ◌∷◌, ◌++◌, ◌||◌, [], IfOk, OnOk, OnErr};
+ghost use Rattle.std.specs.Prelude.{◌≡◌, ◌∷◌, ◌++◌, ◌||◌, [], length, IfOk, IfErr, OnOk, OnErr};
 ghost use Rattle.std.specs.BTreeSet.{contains};
 ghost use Rattle.std.specs.Option.{option_copied};
 ghost use Rattle.std.specs.Io.KnownBytes.{Appends, Consumes};
+ghost use Rattle.std.specs.Io.Buffered.{writer_buffer, writer_contents};
 ghost use Rattle.gixp_fetch_parts.specs.declared.ask.AskError.TheVariants.{Memory};
 ghost use Rattle.gixp_hash.specs.declared.object_id.ObjectId.{ObjectId};
 ghost use Rattle.gixp_hash.specs.ObjectId.{id_cmp};
 ghost use Rattle.gixp_fetch_parts.specs.AnswersIds.{is_named, AddsIds, HasIds, question, questions, AnswersIds, AnswersSome};
+ghost use Rattle.gixp_fetch_parts.specs.Unanswered.{line_number, PutFails, HearFails, ListenFails, AskFails};
 
 use gixp_hash::ObjectId;
 use gixp_memory::StoredObjects;
@@ -14,7 +16,7 @@ use gixp_refmap::refmap::Mapping;
 use std::alloc::{AllocError, AllocFailed, Global};
 use std::collections::BTreeSet;
 use std::io;
-use std::io::{BufRead, ErrorKind, Write};
+use std::io::{BufRead, BufWriter, ErrorKind, Write};
 
 /// Why questions have no answers.
 #[derive(Clone, Copy, Debug, PartialEq, Eq)]
@@ -103,9 +105,10 @@ fn question_text(alloc: Global, ids: &[ObjectId]) -> Result<Vec<u8>, AllocError>
     Ok(text)
 }
 
-// Writes a text, and leaves no byte of it in the writer.
-fn write_through<W: Write>(writer: &mut W, text: &[u8]) -> io::Result<()>
-    ensures { OnOk result (Appends (W.contents writer.old) (W.contents writer.new) text.now) }
+// Writes a text, and leaves no byte of it in the buffer.
+fn write_through<W: Write + Drop>(writer: &mut BufWriter<W>, text: &[u8]) -> io::Result<()>
+    ensures written { OnOk result (Appends (writer_contents W.contents writer.old) (writer_contents W.contents writer.new) text.now) }
+    ensures flushed { OnOk result (writer_buffer writer.new ≡ []) }
 {
     writer.write_all(text)?;
     writer.flush()
@@ -113,20 +116,22 @@ fn write_through<W: Write>(writer: &mut W, text: &[u8]) -> io::Result<()>
 
 /// A program that is asked which objects are here: what it reads, and what it writes.
 #[derive(Drop)]
-pub struct Witness<W, R> {
+pub struct Witness<W: Write + Drop, R> {
     alloc: Global,
-    asks: W,
+    asks: BufWriter<W>,
     answers: R,
     // The answer that was read last.
     line: Vec<u8>,
+    // How many lines were read.
     lines: usize,
 }
 
-impl<W: Write, R: BufRead> Witness<W, R> {
-    /// Before a question.
-    pub fn new(alloc: Global, asks: W, answers: R) -> Witness<W, R>
+impl<W: Write + Drop, R: BufRead> Witness<W, R> {
+    /// Before a question. No byte of the questions waits in the buffer when an answer is read.
+    pub fn new(alloc: Global, asks: BufWriter<W>, answers: R) -> Witness<W, R>
         ensures asks { result.asks ≡ asks }
         ensures answers { result.answers ≡ answers }
+        ensures lines { result.lines ≡ 0 }
     {
         Witness {
             alloc,
@@ -139,8 +144,12 @@ impl<W: Write, R: BufRead> Witness<W, R> {
 
     // Puts the questions of these ids.
     fn put(&mut self, ids: &[ObjectId]) -> Result<(), AskError>
-        ensures asked { OnOk result (Appends (W.contents self.old.asks) (W.contents self.new.asks) (questions ids.now)) }
+        ensures asked { OnOk result (Appends (writer_contents W.contents self.old.asks)
+            (writer_contents W.contents self.new.asks) (questions ids.now)) }
+        ensures flushed { OnOk result (writer_buffer self.new.asks ≡ []) }
         ensures answers { self.new.answers ≡ self.old.answers }
+        ensures lines { self.new.lines ≡ self.old.lines }
+        ensures fails { IfErr result PutFails }
     {
         let text = question_text(self.alloc, ids)?;
         match write_through(&mut self.asks, &text) {
@@ -153,6 +162,8 @@ impl<W: Write, R: BufRead> Witness<W, R> {
     fn read_line(&mut self) -> Result<(), AskError>
         ensures read { OnOk result (Consumes (R.remaining self.old.answers) (R.remaining self.new.answers) self.new.line.items) }
         ensures asks { self.new.asks ≡ self.old.asks }
+        ensures lines { self.new.lines ≡ line_number self.old.lines 1 }
+        ensures fails { IfErr result ListenFails }
     {
         self.line.clear();
         self.lines = self.lines.saturating_add(1);
@@ -169,13 +180,18 @@ impl<W: Write, R: BufRead> Witness<W, R> {
             (R.remaining self.old.answers) (R.remaining self.new.answers)) }
         ensures kept { OnErr result (objects.new ≡ objects.old) }
         ensures asks { self.new.asks ≡ self.old.asks }
+        ensures lines { self.new.lines ≡ line_number self.old.lines 1 }
+        ensures fails { IfErr result (λ e. HearFails self.old.lines (id.now ∷ []) objects.old objects.new
+            (R.remaining self.old.answers) (R.remaining self.new.answers) e) }
     {
-        self.read_line()?;
-        if objects.add_answer(self.alloc, id, &self.line)? {
-            Ok(())
-        } else {
-            Err(AskError::Line(self.lines))
+        match self.read_line() {
+            Ok(()) => {}
+            Err(e) => return Err(e),
         }
+        if objects.add_answer(self.alloc, id, &self.line)? {
+            return Ok(());
+        }
+        Err(AskError::Line(self.lines))
     }
 
     // Reads the answers to some questions.
@@ -184,39 +200,65 @@ impl<W: Write, R: BufRead> Witness<W, R> {
             (R.remaining self.old.answers) (R.remaining self.new.answers)) }
         ensures some { AnswersSome ids.now objects.old objects.new }
         ensures asks { self.new.asks ≡ self.old.asks }
+        ensures lines { OnOk result (self.new.lines ≡ line_number self.old.lines (length ids.now)) }
+        ensures fails { IfErr result (λ e. HearFails self.old.lines ids.now objects.old objects.new
+            (R.remaining self.old.answers) (R.remaining self.new.answers) e) }
     {
         'ids: for id in ids {
-            self.hear(id, objects)?;
+            match self.hear(id, objects) {
+                Ok(()) => {}
+                Err(e) => return Err(e),
+            }
         }
         Ok(())
     }
 
     // Asks for a few ids.
     fn ask_few(&mut self, ids: &[ObjectId], objects: &mut StoredObjects) -> Result<(), AskError>
-        ensures asked { OnOk result (Appends (W.contents self.old.asks) (W.contents self.new.asks) (questions ids.now)) }
+        ensures asked { OnOk result (Appends (writer_contents W.contents self.old.asks)
+            (writer_contents W.contents self.new.asks) (questions ids.now)) }
         ensures told { OnOk result (AnswersIds ids.now objects.old objects.new
             (R.remaining self.old.answers) (R.remaining self.new.answers)) }
         ensures some { AnswersSome ids.now objects.old objects.new }
+        ensures flushed { OnOk result (writer_buffer self.new.asks ≡ []) }
+        ensures lines { OnOk result (self.new.lines ≡ line_number self.old.lines (length ids.now)) }
+        ensures fails { IfErr result (λ e. AskFails self.old.lines ids.now objects.old objects.new
+            (R.remaining self.old.answers) (R.remaining self.new.answers) e) }
     {
-        self.put(ids)?;
-        self.hear_all(ids, objects)
+        match self.put(ids) {
+            Ok(()) => {}
+            Err(e) => return Err(e),
+        }
+        match self.hear_all(ids, objects) {
+            Ok(()) => Ok(()),
+            Err(e) => Err(e),
+        }
     }
 
     /// Asks which of these objects are here, and adds those that are. One that is here already stays as it is.
     ///
     /// # Errors
     ///
-    /// Why a question can't be put, or has no answer; the objects of the answers before are added then.
+    /// Why a question can't be put, or has no answer; the objects of the answers before are added then. A line that is no answer
+    /// to its question is named by its number among all lines that were read, from 1 on.
     pub fn ask(&mut self, ids: &[ObjectId], objects: &mut StoredObjects) -> Result<(), AskError>
-        ensures asked { OnOk result (Appends (W.contents self.old.asks) (W.contents self.new.asks) (questions ids.now)) }
+        ensures asked { OnOk result (Appends (writer_contents W.contents self.old.asks)
+            (writer_contents W.contents self.new.asks) (questions ids.now)) }
         ensures told { OnOk result (AnswersIds ids.now objects.old objects.new
             (R.remaining self.old.answers) (R.remaining self.new.answers)) }
         ensures some { AnswersSome ids.now objects.old objects.new }
+        ensures flushed { OnOk result (writer_buffer self.old.asks ≡ [] → writer_buffer self.new.asks ≡ []) }
+        ensures lines { OnOk result (self.new.lines ≡ line_number self.old.lines (length ids.now)) }
+        ensures fails { IfErr result (λ e. AskFails self.old.lines ids.now objects.old objects.new
+            (R.remaining self.old.answers) (R.remaining self.new.answers) e) }
     {
         let mut rest = ids;
         'few: while !rest.is_empty() {
             let (few, later) = rest.split_at(rest.len().min(MOST_QUESTIONS));
-            self.ask_few(few, objects)?;
+            match self.ask_few(few, objects) {
+                Ok(()) => {}
+                Err(e) => return Err(e),
+            }
             rest = later;
         }
         Ok(())

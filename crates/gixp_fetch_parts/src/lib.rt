@@ -1,11 +1,14 @@
 //! Parts of a program that fetches, those that speak with no server: the words of its command line, its report and what that
-//! says of local refs, the place of a pack, and its copy.
+//! says of local refs, the place of a pack, its copy, and the commits of a text that are offered.
 #![tactic(auto)]
 
 mod ask;
 mod change;
 mod copy;
+mod history;
+mod known;
 mod line;
+pub mod listed;
 mod missing;
 mod options;
 mod place;

@@ -116,6 +116,7 @@ fn is_of_fetch(word: &str) -> bool
         || word == "--since"
         || word == "--exclude"
         || word == "--tags"
+        || word == "--filter"
         || word == "--negotiator"
         || word == "--report"
 }
@@ -175,7 +176,7 @@ impl<'a> Line<'a> {
         }
     }
 
-    /// TakesApart the words after the program's name apart.
+    /// Takes the words after the program's name apart.
     pub fn read(alloc: Global, words: &'a [String]) -> Result<Line<'a>, LineError<'a>>
         ensures { TakesApart (line_of (map string_bytes words.now)) result }
     {
@@ -194,7 +195,7 @@ impl<'a> Line<'a> {
         }
     }
 
-    // TakesApart a word, and says what the one after it is.
+    // Takes a word, and says what the one after it is.
     fn take(&mut self, next: Next<'a>, word: &'a str) -> Result<Next<'a>, LineError<'a>>
         ensures { TakesWord (taken (line_value self.old) (next_value next.entry) word.now) (line_value self.new) result }
     {

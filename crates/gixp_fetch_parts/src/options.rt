@@ -1,23 +1,20 @@
 //! What a command line asks for.
-ghost use Rattle.std.specs.Prelude.{◌≡◌, ◌||◌, ℕ, true, false, if◌then◌else◌, Some, None, codes, map, string_bytes, MatchOption, IfOk, IfErr, IfSome, OnErr};
+ghost use Rattle.std.specs.Prelude.{◌≡◌, true, if◌then◌else◌, Some, None, codes, map, string_bytes, IfOk, IfErr, IfSome, IfNone};
 ghost use Rattle.std.specs.Option.{option_map};
 ghost use Rattle.bstr.specs.Owned.{bstring_bytes};
-ghost use Rattle.gixp_refspec.specs.PartialName.{name_bytes};
-ghost use Rattle.gixp_shallow.specs.Shallow.{no_change, at_remote, deepens, shallow_value};
 ghost use Rattle.gixp_fetch_parts.specs.LineOf.{line_of, line_value, LineParts};
 ghost use Rattle.gixp_fetch_parts.specs.declared.options.OptionError.TheVariants.{Memory};
-ghost use Rattle.gixp_fetch_parts.specs.Choices.{version_of, tags_of, has, values, has_conflict, IsHaves, IsNumber, IsSeconds};
-ghost use Rattle.gixp_fetch_parts.specs.Choices.{CutsHistory, AsksHistory, AsksQuestions, AsksFiles, AsksOutput, AsksFetch, AsksWork, AsksTask, AsksOptions, RefusesOptions, ReadsOptions};
+ghost use Rattle.gixp_fetch_parts.specs.Choices.{version_of, tags_of, value, has, IsHaves};
+ghost use Rattle.gixp_fetch_parts.specs.Choices.{AsksQuestions, AsksFiles, AsksOutput, AsksFetch, AsksWork, AsksTask, AsksOptions};
+ghost use Rattle.gixp_fetch_parts.specs.Refusals.{IsNoHaves, RefusesOptions, ReadsOptions};
 
+use crate::history::kept_shallow_of;
 use crate::line::{Line, LineError};
 use bstr::BString;
 use gixp_negotiators::Algorithm;
 use gixp_packetline::Protocol;
 use gixp_refmap::fetch::Tags;
-use gixp_refspec::PartialName;
-use gixp_shallow::Shallow;
 use std::alloc::{AllocError, AllocFailed, Global};
-use std::num::NonZeroU32;
 
 /// The server, and how it is spoken to.
 #[derive(Clone, Copy)]
@@ -114,6 +111,8 @@ pub enum Task<'a> {
 pub struct Options<'a> {
     pub task: Task<'a>,
     pub server: Server<'a>,
+    /// Which objects a fetch leaves out (git-rev-list, `--filter`), where the server can do that.
+    pub filter: Option<&'a str>,
     pub files: Files<'a>,
     pub output: Output<'a>,
 }
@@ -151,12 +150,9 @@ impl<T: Drop> From<AllocFailed<T>> for OptionError<'_> {
     }
 }
 
-fn version_of(word: Option<&str>) -> Option<Protocol>
-    ensures { result ≡ version_of (option_map (λ w. w.now) word.entry) }
+fn version_of(word: &str) -> Option<Protocol>
+    ensures { result ≡ version_of (Some word.now) }
 {
-    let Some(word) = word else {
-        return Some(Protocol::V2);
-    };
     if word == "0" {
         Some(Protocol::V0)
     } else if word == "1" {
@@ -168,12 +164,26 @@ fn version_of(word: Option<&str>) -> Option<Protocol>
     }
 }
 
-fn tags_of(word: Option<&str>) -> Option<Tags>
-    ensures { result ≡ tags_of (option_map (λ w. w.now) word.entry) }
+// The version that is asked for.
+fn version_in<'a>(line: &Line<'a>) -> Result<Protocol, OptionError<'a>>
+    ensures ok { IfOk result (λ version. version_of (value (line_value line.now) (codes "--version")) ≡ Some version) }
+    ensures err { IfErr result (λ e. RefusesOptions (line_value line.now) e) }
 {
-    let Some(word) = word else {
-        return Some(Tags::None);
+    let Some(word) = line.value("--version") else {
+        return Ok(Protocol::V2);
     };
+    match version_of(word) {
+        Some(version) => Ok(version),
+        None => Err(OptionError::Value {
+            name: "--version",
+            value: word,
+        }),
+    }
+}
+
+fn tags_of(word: &str) -> Option<Tags>
+    ensures { result ≡ tags_of (Some word.now) }
+{
     if word == "all" {
         Some(Tags::All)
     } else if word == "included" {
@@ -185,12 +195,27 @@ fn tags_of(word: Option<&str>) -> Option<Tags>
     }
 }
 
-fn haves_of(word: Option<&str>) -> Option<Haves>
-    ensures { IfSome result (λ haves. IsHaves (option_map (λ w. w.now) word.entry) haves) }
+// The tags that are asked for.
+fn tags_in<'a>(line: &Line<'a>) -> Result<Tags, OptionError<'a>>
+    ensures ok { IfOk result (λ tags. tags_of (value (line_value line.now) (codes "--tags")) ≡ Some tags) }
+    ensures err { IfErr result (λ e. RefusesOptions (line_value line.now) e) }
 {
-    let Some(word) = word else {
-        return Some(Haves::By(Algorithm::Consecutive));
+    let Some(word) = line.value("--tags") else {
+        return Ok(Tags::None);
     };
+    match tags_of(word) {
+        Some(tags) => Ok(tags),
+        None => Err(OptionError::Value {
+            name: "--tags",
+            value: word,
+        }),
+    }
+}
+
+fn haves_of(word: &str) -> Option<Haves>
+    ensures some { IfSome result (λ haves. IsHaves (Some word.now) haves) }
+    ensures none { IfNone result (IsNoHaves word.now) }
+{
     if word == "list" {
         return Some(Haves::InOrder);
     }
@@ -200,148 +225,21 @@ fn haves_of(word: Option<&str>) -> Option<Haves>
     }
 }
 
-// The value of an option, or the refusal of the word that it was to be read from.
-fn valued<'a, T: Drop>(
-    line: &Line<'a>,
-    name: &'static str,
-    found: Option<T>,
-) -> Result<T, OptionError<'a>>
-    ensures found { IfOk result (λ value. found ≡ Some value) }
-    ensures refused { OnErr result (found ≡ None) }
-    ensures why { IfErr result (λ e. RefusesOptions (line_value line.now) e) }
+// Who is to choose the haves.
+fn haves_in<'a>(line: &Line<'a>) -> Result<Haves, OptionError<'a>>
+    ensures ok { IfOk result (λ haves. IsHaves (value (line_value line.now) (codes "--negotiator")) haves) }
+    ensures err { IfErr result (λ e. RefusesOptions (line_value line.now) e) }
 {
-    match found {
-        Some(found) => Ok(found),
+    let Some(word) = line.value("--negotiator") else {
+        return Ok(Haves::By(Algorithm::Consecutive));
+    };
+    match haves_of(word) {
+        Some(haves) => Ok(haves),
         None => Err(OptionError::Value {
-            name,
-            value: line.value(name).unwrap_or(""),
+            name: "--negotiator",
+            value: word,
         }),
     }
-}
-
-fn depth_of(word: &str) -> Option<Shallow>
-    ensures { IfSome result (λ s. (n : ℕ) × IsNumber word.now n × (shallow_value s ≡ at_remote n)) }
-{
-    match word.parse::<u32>() {
-        Ok(number) => match NonZeroU32::new(number) {
-            Some(depth) => Some(Shallow::DepthAtRemote(depth)),
-            None => None,
-        },
-        Err(_) => None,
-    }
-}
-
-fn deepening_of(word: &str) -> Option<Shallow>
-    ensures { IfSome result (λ s. (n : ℕ) × IsNumber word.now n × (shallow_value s ≡ deepens n)) }
-{
-    match word.parse::<u32>() {
-        Ok(number) => Some(Shallow::Deepen(number)),
-        Err(_) => None,
-    }
-}
-
-fn seconds_of(word: &str) -> Option<i64>
-    ensures { IfSome result (λ seconds. IsSeconds word.now seconds) }
-{
-    match word.parse::<i64>() {
-        Ok(seconds) => Some(seconds),
-        Err(_) => None,
-    }
-}
-
-// The names after `--exclude`.
-fn excluded<'a>(alloc: Global, line: &Line<'a>) -> Result<Vec<PartialName>, OptionError<'a>>
-    ensures ok { IfOk result (λ names. map name_bytes names.items ≡ values (line_value line.now) (codes "--exclude")) }
-    ensures err { IfErr result (λ e. RefusesOptions (line_value line.now) e) }
-{
-    let mut names = Vec::new(alloc);
-    for setting in &line.settings {
-        if setting.name == "--exclude" {
-            match PartialName::new(BString::from_slice(alloc, setting.value.as_bytes())?) {
-                Ok(name) => names.push(name)?,
-                Err(_) => {
-                    return Err(OptionError::Value {
-                        name: "--exclude",
-                        value: setting.value,
-                    });
-                }
-            }
-        }
-    }
-    Ok(names)
-}
-
-// What a time and names leave of the history.
-fn cut<'a>(alloc: Global, line: &Line<'a>) -> Result<Shallow, OptionError<'a>>
-    ensures ok { IfOk result (λ s. CutsHistory (line_value line.now) (shallow_value s)) }
-    ensures err { IfErr result (λ e. RefusesOptions (line_value line.now) e) }
-{
-    let since_cutoff = match line.value("--since") {
-        Some(word) => Some(valued(line, "--since", seconds_of(word))?),
-        None => None,
-    };
-    if line.has("--exclude") {
-        return Ok(Shallow::Exclude {
-            remote_refs: excluded(alloc, line)?,
-            since_cutoff,
-        });
-    }
-    match since_cutoff {
-        Some(cutoff) => Ok(Shallow::Since { cutoff }),
-        None => Ok(Shallow::NoChange),
-    }
-}
-
-// The one of two options that is there, where one is.
-fn one_of(line: &Line<'_>, one: &'static str, other: &'static str) -> &'static str
-    ensures { (has (line_value line.now) one.now || has (line_value line.now) other.now) ≡ true
-        → has (line_value line.now) result.now ≡ true }
-{
-    if line.has(one) { one } else { other }
-}
-
-// Two options that are there and can't be used together, of those that say how much history is wanted.
-fn conflict(line: &Line<'_>) -> Option<(&'static str, &'static str)>
-    ensures none { MatchOption result (has_conflict (line_value line.now) ≡ false) (λ pair. has_conflict (line_value line.now) ≡ true) }
-    ensures one { IfSome result (λ pair. has (line_value line.now) pair.0.now ≡ true) }
-    ensures other { IfSome result (λ pair. has (line_value line.now) pair.1.now ≡ true) }
-{
-    let cut = line.has("--since") || line.has("--exclude");
-    let counted = line.has("--depth") || line.has("--deepen");
-    if line.has("--depth") && line.has("--deepen") {
-        Some(("--depth", "--deepen"))
-    } else if line.has("--unshallow") && counted {
-        Some(("--unshallow", one_of(line, "--depth", "--deepen")))
-    } else if cut && line.has("--unshallow") {
-        Some((one_of(line, "--since", "--exclude"), "--unshallow"))
-    } else if cut && counted {
-        Some((
-            one_of(line, "--since", "--exclude"),
-            one_of(line, "--depth", "--deepen"),
-        ))
-    } else {
-        None
-    }
-}
-
-// How much history is asked for.
-fn shallow_of<'a>(alloc: Global, line: &Line<'a>) -> Result<Shallow, OptionError<'a>>
-    ensures ok { IfOk result (λ s. AsksHistory (line_value line.now) (shallow_value s)) }
-    ensures err { IfErr result (λ e. RefusesOptions (line_value line.now) e) }
-{
-    if let Some((one, other)) = conflict(line) {
-        return Err(OptionError::Conflict(one, other));
-    }
-    if line.has("--unshallow") {
-        return Ok(Shallow::undo());
-    }
-    if let Some(word) = line.value("--depth") {
-        return valued(line, "--depth", depth_of(word));
-    }
-    if let Some(word) = line.value("--deepen") {
-        return valued(line, "--deepen", deepening_of(word));
-    }
-    cut(alloc, line)
 }
 
 fn texts_of(alloc: Global, words: &[&str]) -> Result<Vec<BString>, AllocError>
@@ -352,23 +250,6 @@ fn texts_of(alloc: Global, words: &[&str]) -> Result<Vec<BString>, AllocError>
         texts.push(BString::from_slice(alloc, word.as_bytes())?)?;
     }
     Ok(texts)
-}
-
-// The same, where the boundary can be kept or stays as it is.
-fn kept_shallow_of<'a>(alloc: Global, line: &Line<'a>) -> Result<Shallow, OptionError<'a>>
-    ensures ok { IfOk result (λ s. AsksHistory (line_value line.now) (shallow_value s)) }
-    ensures kept { IfOk result (λ s. has (line_value line.now) (codes "--shallow") ≡ false → shallow_value s ≡ no_change) }
-    ensures err { IfErr result (λ e. RefusesOptions (line_value line.now) e) }
-{
-    match shallow_of(alloc, line)? {
-        Shallow::NoChange => Ok(Shallow::NoChange),
-        shallow => {
-            if line.has("--shallow") {
-                return Ok(shallow);
-            }
-            Err(OptionError::Needs("a depth", "--shallow"))
-        }
-    }
 }
 
 // Whether a shallow server is refused: where that is asked for, or no boundary can be kept.
@@ -392,8 +273,8 @@ fn wish_of<'a>(
     ensures err { IfErr result (λ e. RefusesOptions (line_value line.now) e) }
 {
     let shallow = kept_shallow_of(alloc, line)?;
-    let tags = valued(line, "--tags", tags_of(line.value("--tags")))?;
-    let haves = valued(line, "--negotiator", haves_of(line.value("--negotiator")))?;
+    let tags = tags_in(line)?;
+    let haves = haves_in(line)?;
     Ok(Wish {
         pack,
         shallow,
@@ -476,7 +357,7 @@ impl<'a> Options<'a> {
         ensures err { IfErr result (λ e. RefusesOptions (line_value line.now) e) }
     {
         let (task, from, to) = task_of(alloc, line)?;
-        let version = valued(line, "--version", version_of(line.value("--version")))?;
+        let version = version_in(line)?;
         let server = Server {
             from,
             to,
@@ -488,6 +369,7 @@ impl<'a> Options<'a> {
         Ok(Options {
             task,
             server,
+            filter: line.value("--filter"),
             files: files_of(line)?,
             output: output_of(line),
         })

@@ -3,7 +3,7 @@ use Rattle.gixp_shallow.specs.Shallow.{shallow_value}
 use Rattle.gixp_fetch_parts.specs.LineOf.{line_value}
 use Rattle.gixp_fetch_parts.specs.Choices.{has}
 use Rattle.gixp_fetch_parts.proofs.OptionLemmas.{by_all, cut_ok}
-use Rattle.gixp_fetch_parts.proofs.options.shallow_of.Goals as goal
+use Rattle.gixp_fetch_parts.proofs.history.shallow_of.Goals as goal
 
 pub returns-then-has-clause-ok : goal.returns-then-has-clause-ok
 returns-then-has-clause-ok c =

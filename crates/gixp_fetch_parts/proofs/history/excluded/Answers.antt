@@ -1,12 +1,16 @@
-use Rattle.std.proofs.Common.{◌≡◌, ◌∙◌, [], codes, map, take, append-nil, arith}
+use Rattle.std.proofs.Common.{◌≡◌, ◌∙◌, [], false, codes, map, take, get_or, append-nil, refl, ap, sym, arith, rules}
 use Rattle.std.proofs.lemmas.List.{map-append}
 use Rattle.std.proofs.lemmas.Grind.{common_steps}
 use Rattle.gixp_refspec.specs.PartialName.{name_bytes}
 use Rattle.gixp_fetch_parts.specs.Words.{values_in}
 use Rattle.gixp_fetch_parts.specs.LineOf.{setting_value}
+use Rattle.gixp_refspec.specs.Name.{is_partial_name}
+use Rattle.gixp_fetch_parts.specs.declared.line.Setting.{Setting}
+use Rattle.gixp_fetch_parts.specs.Refusals.{HasBadValue}
 use Rattle.gixp_fetch_parts.proofs.LineLemmas.{values_more}
-use Rattle.gixp_fetch_parts.proofs.options.excluded.Goals as goal
-use Rattle.gixp_fetch_parts.proofs.options.excluded.Goals.{then-eq+in_ok-from_slice+in-Ok+in_ok-push-in-Ok, else-eq}
+use Rattle.gixp_fetch_parts.proofs.OptionLemmas.{setting_at}
+use Rattle.gixp_fetch_parts.proofs.history.excluded.Goals as goal
+use Rattle.gixp_fetch_parts.proofs.history.excluded.Goals.{then-eq+in_ok-from_slice+in-Ok+in_ok-push-in-Ok, else-eq}
 
 pub loop-setting-preserved : goal.loop-setting-preserved
 loop-setting-preserved c =
@@ -23,3 +27,13 @@ loop-setting-preserved c =
           (first_of (cc (kept, same), rw (kept, same), grind (arith, common_steps, kept, same)))
       | else-eq w ↦ rw (w.names-is, ← w.if-eq.ensures, append-nil) kept
     ])
+
+pub returns-in-Err-clause-err : goal.returns-in-Err-clause-err
+returns-in-Err-clause-err c =
+    let d : Setting = record { name = record { ref_ptr = (0, 0); now = [] }; value = record { ref_ptr = (0, 0); now = [] } } in
+    let named : (get_or c.deref-setting-items.result.now c.loop-setting.setting-index d).name.now ≡ codes "--exclude" = search rules in
+    let bad : is_partial_name (get_or c.deref-setting-items.result.now c.loop-setting.setting-index d).value.now ≡ false =
+    sym (ap is_partial_name (c.in_ok-from_slice.ensures ∙ c.as_bytes.ensures.value)) ∙ c.in-Err.ensures.0 in
+    HasBadValue.bad_name refl c.loop-setting.setting-index
+    (rw (← c.deref-setting-items.ensures.value) (setting_at c.deref-setting-items.result.now c.loop-setting.setting-index d
+    (codes "--exclude") c.loop-setting-test.true named)) bad

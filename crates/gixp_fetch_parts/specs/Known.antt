@@ -1,0 +1,38 @@
+-- What is known of commits that are read one after the other: which of them the server has, and which are awaited.
+use Rattle.std.specs.Prelude.{◌≡◌, ◌⊎◌, Bool, true, false, List, [], Option, Some, None, option_map, unwrap_or, All}
+use Rattle.std.specs.BTreeSet.{BTreeSet, contains}
+use Rattle.std.specs.FinMap as finite
+use Rattle.gixp_hash.specs.declared.object_id.ObjectId.{ObjectId}
+use Rattle.gixp_hash.specs.ObjectId.{id_cmp}
+use Rattle.gixp_graph.specs.Object.{Objects, Commit, commit_at}
+
+-- the parents of a commit, none where it isn't read
+abbrev pub parents_of : Objects → ObjectId → List ObjectId
+parents_of read id = unwrap_or (option_map (λ (c : Commit). c.parents) (commit_at read id)) []
+
+-- no id leaves a set
+abbrev pub KeepsIds : BTreeSet ObjectId → BTreeSet ObjectId → Type 0
+KeepsIds old new = (id : ObjectId) → contains id_cmp old id ≡ true → contains id_cmp new id ≡ true
+
+abbrev pub HasIdsOf : BTreeSet ObjectId → List ObjectId → Type 0
+HasIdsOf set ids = All (λ id. contains id_cmp set id ≡ true) ids
+
+-- whether a commit is awaited, where the tips of the history are known
+abbrev pub is_awaited : Option (BTreeSet ObjectId) → ObjectId → Bool
+is_awaited None id = false
+is_awaited (Some awaited) id = contains id_cmp awaited id
+
+-- no commit is awaited, though it is known which are
+abbrev pub AwaitsNone : Option (BTreeSet ObjectId) → Type 0
+AwaitsNone None = ⊥
+AwaitsNone (Some awaited) = awaited.keys ≡ []
+
+-- a commit is awaited, or is read, or the server has it
+abbrev pub IsKnown : Objects → BTreeSet ObjectId → BTreeSet ObjectId → ObjectId → Type 0
+IsKnown read common awaited id = (contains id_cmp awaited id ≡ true)
+    ⊎ ((contains id_cmp common id ≡ true) ⊎ (finite.contains_key read id ≡ true))
+
+-- so are all of these, where it is known which are awaited
+abbrev pub AreKnown : Objects → BTreeSet ObjectId → Option (BTreeSet ObjectId) → List ObjectId → Type 0
+AreKnown read common None ids = Unit {0}
+AreKnown read common (Some awaited) ids = All (IsKnown read common awaited) ids
