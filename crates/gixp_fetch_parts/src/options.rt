@@ -14,6 +14,7 @@ use bstr::BString;
 use gixp_negotiators::Algorithm;
 use gixp_packetline::Protocol;
 use gixp_refmap::fetch::Tags;
+use gixp_shallow::Shallow;
 use std::alloc::{AllocError, AllocFailed, Global};
 
 /// The server, and how it is spoken to.
