@@ -13,6 +13,8 @@ fn name_of(transport: Transport) -> &'static [u8] {
         Transport::File => b"file",
         Transport::Ssh => b"ssh",
         Transport::Git => b"git",
+        Transport::Http => b"http",
+        Transport::Https => b"https",
     }
 }
 
