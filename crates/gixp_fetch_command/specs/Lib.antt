@@ -1,3 +1,4 @@
 pub mod Received
 pub mod Listed
 pub mod Watched
+pub mod Quiet

@@ -30,6 +30,12 @@ impl Display for Step {
     }
 }
 
+// What git says of a server that it couldn't speak with.
+const NO_CONTACT: &str = "Could not read from remote repository.
+
+Please make sure you have the correct access rights
+and the repository exists.";
+
 /// What was refused.
 #[derive(Debug, Drop)]
 pub enum Failure {
@@ -39,6 +45,8 @@ pub enum Failure {
         why: String,
         said: Option<BString>,
     },
+    /// The server ended the connection before it had said what it can do.
+    NoContact,
     /// The server ended the connection within a step.
     HungUp,
     /// The server reported an error beside the pack, which was shown.
@@ -152,14 +160,24 @@ fn told<E: Display + ServerMessage>(
 }
 
 impl Failure {
-    /// Who says it: what git says of a server too is said as git does.
-    pub fn speaker(&self) -> &'static str {
+    /// Whether git says it of a server too, in these words.
+    pub fn is_said_by_git(&self) -> bool {
         match self {
             Failure::Step { said: Some(_), .. }
+            | Failure::NoContact
             | Failure::HungUp
             | Failure::PackRefused
-            | Failure::UnknownUnshallow { .. } => "fatal",
-            _ => "gixp_fetch_pack",
+            | Failure::UnknownUnshallow { .. } => true,
+            _ => false,
+        }
+    }
+
+    /// Who says it: what git says too is said as git does.
+    pub fn speaker(&self) -> &'static str {
+        if self.is_said_by_git() {
+            "fatal"
+        } else {
+            "gixp_fetch_pack"
         }
     }
 }
@@ -177,6 +195,7 @@ impl Display for Failure {
                 why: _,
                 said: Some(said),
             } => write!(f, "remote error: {said}"),
+            Failure::NoContact => f.write_str(NO_CONTACT),
             Failure::HungUp => write!(f, "the remote end hung up unexpectedly"),
             Failure::ServerFailed => write!(f, "the server reported an error"),
             Failure::UnknownUnshallow { id } => write!(f, "no shallow found: unshallow {id}"),

@@ -4,8 +4,10 @@
 mod ends;
 pub mod failure;
 pub mod listed;
+mod quiet;
 pub mod receive;
 pub mod repository;
+mod sentence;
 pub mod session;
 pub mod shown;
 mod usage;
@@ -21,7 +23,7 @@ use crate::shown::Shown;
 use crate::usage::{USAGE, VERSION, print_refusal};
 use gix_protocol::fetch::negotiate::{Graph, Noop, Shared};
 use gix_protocol::fetch::{Outcome, RefMap, ShallowMemory};
-use gix_protocol::transport::{Connection, ObjectId, Transport};
+use gix_protocol::transport::{Connection, NestedProgress, ObjectId, Transport};
 use gixp_fetch_parts::{
     Change, Haves, OptionError, Options, Output, PackFile, PackPlace, Server, Task, Wish, changes,
     fetch_report, listing, missing_name,
@@ -129,15 +131,18 @@ fn failure_of(alloc: Global, path: &str, refusal: Option<Refusal>, failure: Fail
 }
 
 // Fetches what is mapped into a sink, and offers the commits of a text in its order.
-fn offer_in_order<T: Transport, P: PackPlace>(
+fn offer_in_order<T: Transport, P: PackPlace, S: NestedProgress>(
     rt: &HostRuntime,
     session: &mut Session<'_, T>,
     repository: &mut Repository,
     asked: Asked<'_>,
     path: &str,
     sink: &mut Sink<P>,
-    shown: &mut Shown<'_>,
-) -> Result<Option<Outcome>, Failure> {
+    shown: &mut S,
+) -> Result<Option<Outcome>, Failure>
+where
+    S::SubProgress: Drop,
+{
     let alloc = rt.alloc();
     let file = File::open(rt, path).map_err(|e| Failure::of_file(alloc, path, e.kind()))?;
     let text = BufReader::new(alloc, file).map_err(|_| Failure::Memory)?;
@@ -149,15 +154,18 @@ fn offer_in_order<T: Transport, P: PackPlace>(
 }
 
 /// Fetches what is mapped into a sink, by the negotiator that was chosen.
-pub fn negotiate<T: Transport, P: PackPlace>(
+pub fn negotiate<T: Transport, P: PackPlace, S: NestedProgress>(
     rt: &HostRuntime,
     session: &mut Session<'_, T>,
     repository: &mut Repository,
     asked: Asked<'_>,
     commits: Option<&str>,
     sink: &mut Sink<P>,
-    shown: &mut Shown<'_>,
-) -> Result<Option<Outcome>, Failure> {
+    shown: &mut S,
+) -> Result<Option<Outcome>, Failure>
+where
+    S::SubProgress: Drop,
+{
     match (asked.wish.haves, commits) {
         (Haves::By(algorithm), _) => {
             let mut negotiator = algorithm.negotiator(rt.alloc());
@@ -255,7 +263,12 @@ fn fetch(rt: &HostRuntime, options: &Options<'_>, wish: &Wish<'_>) -> Result<(),
         return Err(Failure::Missing { name });
     }
     let changes = changes_in(alloc, &map, &repository, options, wish)?;
-    let asked = Asked { map: &map, wish };
+    let asked = Asked {
+        map: &map,
+        wish,
+        filter: None,
+        wants_progress: options.output.shows_progress,
+    };
     let pack = take_pack(
         rt,
         &mut session,

@@ -2,24 +2,29 @@
 ghost use Rattle.std.specs.Prelude.{◌≤◌};
 
 use crate::failure::{Failure, Step};
+use crate::quiet::Quiet;
 use crate::receive::PackReceiver;
 use crate::repository::Repository;
+use crate::sentence::{is_gone, is_handshake_cut, is_listing_cut, of_handshake, of_listing};
 use crate::watched::Watched;
 use bstr::BString;
-use gix_protocol::client::{MOST_HAVES, Windowed};
+use gix_protocol::client::{Filtered, MOST_HAVES, Windowed};
 use gix_protocol::command::{CommandTable, Feature};
+use gix_protocol::fetch::Arguments;
 use gix_protocol::fetch::negotiate::{
     Graph, Negotiate, NegotiateContext, Negotiation, Negotiator, NoAlternates, Shared, StoredRefs,
 };
 use gix_protocol::fetch::refmap::init;
 use gix_protocol::fetch::{self, Context, Options, Outcome, RefMap, ShallowMemory};
-use gix_protocol::handshake::{Ref, handshake, obtain};
+use gix_protocol::handshake::{Error as HandshakeError, Ref, handshake, obtain};
+use gix_protocol::ls_refs;
 use gix_protocol::refspec::parse::{Operation, parse};
 use gix_protocol::transport::{
     Connection, NestedProgress, NeverInterrupt, ObjectId, Opening, Progress, Protocol, Service,
     Transport,
 };
-use gix_protocol::{Handshake, LsRefsCommand, agent, indicate_end_of_interaction};
+use gix_protocol::transport::client;
+use gix_protocol::{Command, Handshake, LsRefsCommand, agent, indicate_end_of_interaction};
 use gixp_fetch_parts::{PackPlace, Server, Wish, unknown_unshallow};
 use std::alloc::{AllocError, Global};
 use std::collections::BTreeSet;
@@ -47,6 +52,10 @@ pub struct Sink<P: PackPlace> {
 pub struct Asked<'a> {
     pub map: &'a RefMap,
     pub wish: &'a Wish<'a>,
+    /// Which objects are left out where the server can leave out any (git-rev-list, "--filter").
+    pub filter: Option<&'a str>,
+    /// Whether the server's progress is wanted.
+    pub wants_progress: bool,
 }
 
 // What the server is told first, where it is to be told a path.
@@ -187,10 +196,11 @@ fn known_alone(
     }
 }
 
-// Whether the server ended the connection within an answer.
+// Whether the server ended the connection within an answer, or before a request was sent.
 fn has_hung_up<A, E>(error: &fetch::Error<A, E>) -> bool {
     match error {
         fetch::Error::FetchResponse(answer) => is_end(answer),
+        fetch::Error::Client(client::Error::Io(kind)) => is_gone(*kind),
         _ => false,
     }
 }
@@ -198,8 +208,31 @@ fn has_hung_up<A, E>(error: &fetch::Error<A, E>) -> bool {
 // Whether an answer isn't whole.
 fn is_end(error: &fetch::response::Error) -> bool {
     match error {
-        fetch::response::Error::Io(kind) => *kind == ErrorKind::UnexpectedEof,
+        fetch::response::Error::Io(kind) => is_gone(*kind),
+        fetch::response::Error::Transport(client::Error::Io(kind)) => is_gone(*kind),
         _ => false,
+    }
+}
+
+// Why there is no session.
+fn handshake_failure(alloc: Global, error: &HandshakeError) -> Failure {
+    if is_handshake_cut(error) {
+        return Failure::NoContact;
+    }
+    match of_handshake(error) {
+        Some(why) => Failure::of_text(alloc, Step::Handshake, why),
+        None => Failure::of_step(alloc, Step::Handshake, error),
+    }
+}
+
+// Why there are no refs.
+fn listing_failure(alloc: Global, error: &ls_refs::Error) -> Failure {
+    if is_listing_cut(error) {
+        return Failure::HungUp;
+    }
+    match of_listing(error) {
+        Some(why) => Failure::of_text(alloc, Step::Listing, why),
+        None => Failure::of_step(alloc, Step::Listing, error),
     }
 }
 
@@ -229,7 +262,7 @@ impl<'a, T: Transport> Session<'a, T> {
                 shaken,
                 agent,
             }),
-            Err(e) => Err(Failure::of_step(alloc, Step::Handshake, &e)),
+            Err(e) => Err(handshake_failure(alloc, &e)),
         }
     }
 
@@ -254,7 +287,23 @@ impl<'a, T: Transport> Session<'a, T> {
         let command = LsRefsCommand::new(alloc, &table, None, &self.shaken.capabilities, name)?;
         command
             .invoke_blocking(alloc, &mut self.transport, shown)
-            .map_err(|e| Failure::of_step(alloc, Step::Listing, &e))
+            .map_err(|e| listing_failure(alloc, &e))
+    }
+
+    /// Whether the server can leave out objects by a filter.
+    pub fn can_filter(&self) -> Result<bool, AllocError> {
+        let table = CommandTable::git();
+        let version = self.version();
+        let offered = &self.shaken.capabilities;
+        let features = table.default_features(self.alloc, Command::Fetch, version, offered)?;
+        Ok(Arguments::new(self.alloc, &table, version, features)?.can_use_filter())
+    }
+
+    // Whether the server is to be told that no progress is wanted: one of version 2 always knows the word.
+    fn is_quiet(&self, asked: Asked<'_>) -> bool {
+        !asked.wants_progress
+            && (self.version() == Protocol::V2
+                || self.shaken.capabilities.contains(b"no-progress"))
     }
 
     /// What the refspecs map of the refs of the server.
@@ -313,7 +362,9 @@ impl<'a, T: Transport> Session<'a, T> {
         let negotiation = Negotiation::new(context, asked.map, &wish.shallow, wish.tags);
         let boundary = repository.boundary.iter().copied().collect(alloc)?;
         let windowed = Windowed::new(negotiation, self.most_haves());
-        let mut watched = Watched::new(windowed, &boundary);
+        let filtered = Filtered::new(windowed, asked.filter);
+        let quiet = Quiet::new(filtered, self.is_quiet(asked));
+        let mut watched = Watched::new(quiet, &boundary);
         let request = Request {
             agent: self.agent,
             wish,

@@ -1,0 +1,113 @@
+//! What an error of a connection is called, in place of the name of its kind.
+use gix_protocol::handshake;
+use gix_protocol::handshake::refs::parse;
+use gix_protocol::ls_refs;
+use gix_protocol::transport::client;
+use gix_protocol::transport::read;
+use std::io::ErrorKind;
+
+/// Whether a read or a write that failed with this kind found nobody at the other end.
+pub fn is_gone(kind: ErrorKind) -> bool {
+    matches!(
+        kind,
+        ErrorKind::UnexpectedEof | ErrorKind::BrokenPipe | ErrorKind::ConnectionReset
+    )
+}
+
+// Whether a call of the transport found nobody at the other end.
+fn is_client_gone(e: &client::Error) -> bool {
+    match e {
+        client::Error::Io(kind) => is_gone(*kind),
+        _ => false,
+    }
+}
+
+// Whether the lines of refs end before they are whole.
+fn is_list_cut(e: &parse::Error) -> bool {
+    match e {
+        parse::Error::Io(kind) => is_gone(*kind),
+        _ => false,
+    }
+}
+
+/// Whether the server left within the handshake.
+pub fn is_handshake_cut(e: &handshake::Error) -> bool {
+    match e {
+        handshake::Error::Transport(e) => is_client_gone(e),
+        handshake::Error::ParseRefs(e) => is_list_cut(e),
+        _ => false,
+    }
+}
+
+/// Whether the server left within its list of refs.
+pub fn is_listing_cut(e: &ls_refs::Error) -> bool {
+    match e {
+        ls_refs::Error::Io(kind) => is_gone(*kind),
+        ls_refs::Error::Transport(e) => is_client_gone(e),
+        ls_refs::Error::Parse(e) => is_list_cut(e),
+        _ => false,
+    }
+}
+
+// What is wrong with what was read.
+fn of_read(e: &read::Error) -> Option<&'static str> {
+    match e {
+        read::Error::Io(_) => Some("the connection can't be read"),
+        read::Error::Decode(_) => Some("protocol error: the server sent what is no packet line"),
+        read::Error::UnexpectedFrame => {
+            Some("protocol error: the server sent a packet that has no place there")
+        }
+        read::Error::NotUtf8 => Some("protocol error: the server sent a line that is no UTF-8"),
+        read::Error::BadBand(_) => Some("protocol error: bad band"),
+        read::Error::Interrupted => Some("it was interrupted"),
+        read::Error::Server { message: _ } | read::Error::Memory => None,
+    }
+}
+
+// What is wrong with a call of the transport.
+fn of_client(e: &client::Error) -> Option<&'static str> {
+    match e {
+        client::Error::Io(_) => Some("the connection broke"),
+        client::Error::Read(e) => of_read(e),
+        client::Error::LineTooLong => Some("a line is too long for a packet"),
+        client::Error::AuthenticationUnsupported => Some("this connection takes no account"),
+        client::Error::UnsupportedProtocolVersion(_) => {
+            Some("the server speaks a version of the protocol that isn't known")
+        }
+        client::Error::MissingDelimitingNullByte => {
+            Some("protocol error: the server says no capabilities")
+        }
+        client::Error::Memory => None,
+    }
+}
+
+// What is wrong with the lines of refs, where their error has no sentence of its own.
+fn of_refs(e: &parse::Error) -> Option<&'static str> {
+    match e {
+        parse::Error::Io(_) => Some("the connection can't be read"),
+        parse::Error::DecodePacketline(_) => {
+            Some("protocol error: the server sent what is no packet line")
+        }
+        parse::Error::Reader(e) => of_read(e),
+        _ => None,
+    }
+}
+
+/// What is wrong in a handshake, where its error has no sentence of its own.
+pub fn of_handshake(e: &handshake::Error) -> Option<&'static str> {
+    match e {
+        handshake::Error::Transport(e) => of_client(e),
+        handshake::Error::ParseRefs(e) => of_refs(e),
+        _ => None,
+    }
+}
+
+/// What is wrong in a list of refs, where its error has no sentence of its own.
+pub fn of_listing(e: &ls_refs::Error) -> Option<&'static str> {
+    match e {
+        ls_refs::Error::Io(_) => Some("the connection can't be read"),
+        ls_refs::Error::Transport(e) => of_client(e),
+        ls_refs::Error::Parse(e) => of_refs(e),
+        _ => None,
+    }
+}
