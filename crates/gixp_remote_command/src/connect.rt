@@ -2,29 +2,34 @@
 use crate::setup::{is_from_user, joined, variable, version_word};
 use crate::shell::{NOTHING, Shell, owned};
 use crate::trouble::Trouble;
+use crate::web::{connect_stateless, is_web, web_words};
+use crate::wire::{Says, Shown, Wire};
 use bstr::{BString, ByteSlice};
-use gix_protocol::transport::{Connection, Opening, Protocol};
+use gix_protocol::client::Heard;
+use gix_protocol::transport::{Connection, Discard, Opening, Protocol};
 use gixp_fetch_command::session::Session;
-use gixp_fetch_command::shown::Shown;
 use gixp_remote_parts::{
     LOCAL_VARIABLES, Program, Request, Settings, Start, Task, Variant, is_allowed, proxy_for,
     quoted, ssh_words, variant_of,
 };
 use gixp_url::{Address, Transport};
+use gixp_stateless::Answers;
 use std::alloc::Global;
+use std::cell::Cell;
 use std::fs::{File, OpenOptions};
-use std::io::BufWriter;
-
-/// The transport over the two pipes of a server.
-pub(crate) type Wire = Connection<File, BufWriter<File>>;
+use std::io::{BufReader, BufWriter};
 
 /// What a server is reached by.
 #[derive(Clone, Copy)]
 pub(crate) struct Reach<'a> {
     pub(crate) rt: &'a HostRuntime,
+    /// The name that git has for the server.
+    pub(crate) name: &'a [u8],
     pub(crate) address: &'a Address,
     pub(crate) settings: &'a Settings,
     pub(crate) version: Protocol,
+    /// Whether the server reported an error beside its answers.
+    pub(crate) has_failed: &'a Cell<bool>,
 }
 
 // The name that the user's policies have for a transport.
@@ -33,6 +38,8 @@ fn policy_name(transport: Transport) -> &'static [u8] {
         Transport::File => b"file",
         Transport::Ssh => b"ssh",
         Transport::Git => b"git",
+        Transport::Http => b"http",
+        Transport::Https => b"https",
     }
 }
 
@@ -218,6 +225,15 @@ fn start_socket(reach: Reach<'_>, shell: &mut Shell) -> Result<(), Trouble> {
     }
 }
 
+// Starts git's own program for a web server. It belongs to the repository that fetches, and has its variables.
+fn start_web(reach: Reach<'_>, shell: &mut Shell) -> Result<(), Trouble> {
+    if reach.version != Protocol::V2 {
+        return Err(Trouble::Fatal("over HTTP only version 2 of the protocol is spoken here"));
+    }
+    let words = web_words(reach)?;
+    start_with(reach, shell, Program::Git, &[], &words)
+}
+
 // Starts a server.
 fn start(
     reach: Reach<'_>,
@@ -226,12 +242,23 @@ fn start(
     words: &[BString],
 ) -> Result<(), Trouble> {
     let variables = server_variables(reach.rt.alloc(), reach.version)?;
+    start_with(reach, shell, program, &variables, words)
+}
+
+// Starts a server with these variables.
+fn start_with(
+    reach: Reach<'_>,
+    shell: &mut Shell,
+    program: Program,
+    variables: &[BString],
+    words: &[BString],
+) -> Result<(), Trouble> {
     let status = shell.ask(&Request::Start(Start {
         task: Task::Server,
         program,
         input: "hears",
         output: "says",
-        variables: &variables,
+        variables,
         words,
     }))?;
     if status == 0 {
@@ -261,37 +288,66 @@ fn opening_of(reach: Reach<'_>) -> Result<Option<Opening>, Trouble> {
     }))
 }
 
+// What a server says, over the pipe from it.
+fn says_of(
+    reach: Reach<'_>,
+    from: File,
+    to: &mut BufWriter<File>,
+    is_quiet: bool,
+) -> Result<Says, Trouble> {
+    if !is_web(reach.address.transport) {
+        return Ok(Says::Stream(from));
+    }
+    let alloc = reach.rt.alloc();
+    let mut from = BufReader::new(alloc, from)?;
+    connect_stateless(alloc, &mut from, to, is_quiet)?;
+    Ok(Says::Answers(Answers::new(from)))
+}
+
 // The transport over the two pipes. What the server hears is opened first.
-fn open_wire(reach: Reach<'_>) -> Result<Wire, Trouble> {
+fn open_wire<'a>(reach: Reach<'a>, is_quiet: bool) -> Result<Wire<'a>, Trouble> {
     let alloc = reach.rt.alloc();
     let to = OpenOptions::new().write(true).open(reach.rt, "hears")?;
     let from = File::open(reach.rt, "says")?;
-    let to = BufWriter::new(alloc, to)?;
+    let mut to = BufWriter::new(alloc, to)?;
+    let says = says_of(reach, from, &mut to, is_quiet)?;
     let url = reach.address.path.clone()?;
-    Ok(Connection::new(
+    let connection = Connection::new(
         alloc,
-        from,
+        says,
         to,
         url,
         reach.version,
         Vec::new(alloc),
         opening_of(reach)?,
-    )?)
+    )?;
+    Ok(Heard::new(
+        alloc,
+        connection,
+        Shown::new(reach.rt, reach.has_failed)?,
+    ))
+}
+
+// Starts the server.
+fn start_server(reach: Reach<'_>, shell: &mut Shell) -> Result<(), Trouble> {
+    match reach.address.transport {
+        Transport::File => start_here(reach, shell),
+        Transport::Ssh => start_ssh(reach, shell),
+        Transport::Git => start_socket(reach, shell),
+        Transport::Http | Transport::Https => start_web(reach, shell),
+    }
 }
 
 /// Starts the server, and shakes hands with it. One that was started before is ended.
-pub(crate) fn connect(
-    reach: Reach<'_>,
+pub(crate) fn connect<'a>(
+    reach: Reach<'a>,
     shell: &mut Shell,
-    shown: &mut Shown<'_>,
-) -> Result<Session<'static, Wire>, Trouble> {
+    is_quiet: bool,
+) -> Result<Session<'static, Wire<'a>>, Trouble> {
     check_policy(reach)?;
     shell.end(Task::Server)?;
-    match reach.address.transport {
-        Transport::File => start_here(reach, shell)?,
-        Transport::Ssh => start_ssh(reach, shell)?,
-        Transport::Git => start_socket(reach, shell)?,
-    }
-    let wire = open_wire(reach)?;
-    Ok(Session::open(reach.rt.alloc(), wire, "gixp", shown)?)
+    start_server(reach, shell)?;
+    reach.has_failed.set(false);
+    let wire = open_wire(reach, is_quiet)?;
+    Ok(Session::open(reach.rt.alloc(), wire, "gixp", &mut Discard)?)
 }

@@ -144,6 +144,15 @@ pub(crate) struct Kept {
     pub(crate) is_closed: bool,
 }
 
+/// What comes of a fetch.
+#[derive(Drop)]
+pub(crate) struct Came {
+    /// The pack, if one came.
+    pub(crate) kept: Option<Kept>,
+    /// The boundary as the server makes it.
+    pub(crate) boundary: Vec<ObjectId>,
+}
+
 // What `git index-pack` says: `keep`, a tab and the name of the pack, or `pack` where its lock isn't its own.
 fn hash_of(line: &[u8]) -> Option<ObjectId> {
     let line = line.strip_suffix(b"\n").unwrap_or(line);
@@ -284,6 +293,11 @@ fn file_of(alloc: Global, folder: &str, hash: &ObjectId, end: &str) -> Result<St
     }
 }
 
+// Whether every pack has a file of this kind.
+fn is_always_there(end: &str) -> bool {
+    end == ".pack" || end == ".idx"
+}
+
 /// Puts a pack beside the others, its lock first and its index last. Returns the path of its lock; none where the same pack is
 /// there already.
 pub(crate) fn place(
@@ -303,10 +317,11 @@ pub(crate) fn place(
     let lock = file_of(alloc, to, hash, ".keep")?;
     let own_lock = file_of(alloc, from, hash, ".keep")?;
     let status = shell.ask(&Request::Place(own_lock.as_bytes(), lock.as_bytes()))?;
-    for end in [".pack", ".rev", ".idx"] {
+    // a pack whose missing objects are promised is none before it says so
+    for end in [".promisor", ".pack", ".rev", ".idx"] {
         let one = file_of(alloc, from, hash, end)?;
         let other = file_of(alloc, to, hash, end)?;
-        if end != ".rev" || fs::metadata(rt, one.as_str()).is_ok() {
+        if is_always_there(end) || fs::metadata(rt, one.as_str()).is_ok() {
             fs::rename(rt, one.as_str(), other.as_str())?;
         }
     }

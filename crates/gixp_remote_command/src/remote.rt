@@ -1,12 +1,14 @@
 //! The conversation with git.
 use crate::connect::{Reach, connect};
-use crate::fetching::{Open, Order, fetch, shown_of};
+use crate::fetching::{Open, fetch};
 use crate::listing::refs_told;
-use crate::setup::{settings_text, url_of, version_of};
+use crate::order::Order;
+use crate::setup::{Given, given, settings_text, version_of};
 use crate::shell::{NOTHING, Shell};
 use crate::trouble::Trouble;
+use crate::web::is_web;
 use bstr::{BString, ByteSlice};
-use gix_protocol::transport::ObjectId;
+use gix_protocol::transport::{Discard, ObjectId};
 use gixp_remote_parts::{Choices, Command, Program, Request, Settings, Start, Task, read_command};
 use gixp_url::Address;
 use std::cell::Cell;
@@ -15,7 +17,7 @@ use std::io::{BufRead, BufReader, Input, Write};
 use std::{io, mem};
 
 // What the helper can do.
-const CAPABILITIES: &[u8] = b"fetch\noption\nobject-format\n\n";
+const CAPABILITIES: &[u8] = b"fetch\noption\ncheck-connectivity\nobject-format\n\n";
 
 // The helper between two commands.
 #[derive(Drop)]
@@ -23,7 +25,7 @@ struct Helper<'a> {
     reach: Reach<'a>,
     shell: Shell,
     choices: Choices,
-    open: Open,
+    open: Open<'a>,
     // What the batch asks for, each id once.
     wanted: BTreeSet<ObjectId>,
     // How many batches were fetched.
@@ -57,10 +59,8 @@ impl Helper<'_> {
     // Lists the refs.
     fn list(&mut self) -> Result<(), Trouble> {
         self.watch()?;
-        let has_failed = Cell::new(false);
-        let mut shown = shown_of(self.reach.rt, self.choices.tells_progress(), &has_failed);
-        let mut session = connect(self.reach, &mut self.shell, &mut shown)?;
-        let refs = session.refs(&mut shown)?;
+        let mut session = connect(self.reach, &mut self.shell, self.choices.is_quiet)?;
+        let refs = session.refs(&mut Discard)?;
         self.open = Some(session);
         let told = refs_told(self.reach.rt.alloc(), &refs, self.choices.tells_format)?;
         for name in &told.funny {
@@ -154,8 +154,11 @@ impl Helper<'_> {
         Ok(())
     }
 
-    // Tells a server that waits that there is nothing more.
+    // Tells a server that waits that there is nothing more. To a web server that would be one more request.
     fn close(&mut self) {
+        if is_web(self.reach.address.transport) {
+            return;
+        }
         if let Some(session) = &mut self.open {
             session.end(false);
         }
@@ -166,30 +169,31 @@ impl Helper<'_> {
 #[derive(Drop)]
 struct Begun {
     rt: HostRuntime,
+    given: Given,
     address: Address,
     settings: Settings,
-    // The name of the helper's folder.
-    folder: String,
 }
 
 // Speaks with git.
 fn serve(begun: &Begun, shell: Shell) -> Result<(), Trouble> {
     let alloc = begun.rt.alloc();
-    let version = version_of(&begun.rt, &begun.settings);
+    let has_failed = Cell::new(false);
     let mut lines = BufReader::new(alloc, begun.rt.reader())?;
     let mut helper = Helper {
         reach: Reach {
             rt: &begun.rt,
+            name: &begun.given.name,
             address: &begun.address,
             settings: &begun.settings,
-            version,
+            version: version_of(&begun.rt, &begun.settings),
+            has_failed: &has_failed,
         },
         shell,
         choices: Choices::new(alloc),
         open: None,
         wanted: BTreeSet::new(alloc),
         batches: 0,
-        folder: Vec::from_slice(alloc, begun.folder.as_bytes())?,
+        folder: Vec::from_slice(alloc, begun.given.folder.as_bytes())?,
     };
     let done = helper.obey_all(&mut lines);
     helper.close();
@@ -199,16 +203,16 @@ fn serve(begun: &Begun, shell: Shell) -> Result<(), Trouble> {
 /// Speaks with git until it has nothing more to ask.
 pub(crate) fn converse(rt: &HostRuntime) -> Result<(), Trouble> {
     let alloc = rt.alloc();
-    let (url, folder) = url_of(rt)?;
+    let given = given(rt)?;
     let mut shell = Shell::open(rt)?;
-    let address = Address::read(alloc, url.as_bytes())?;
+    let address = Address::read(alloc, &given.url)?;
     let text = settings_text(rt, &mut shell)?;
     let settings = Settings::read(alloc, &text)?;
     let begun = Begun {
         rt: rt.clone()?,
+        given,
         address,
         settings,
-        folder,
     };
     serve(&begun, shell)
 }

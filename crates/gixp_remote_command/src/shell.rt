@@ -31,6 +31,9 @@ pub(crate) struct Told {
 
 // The number of a line.
 fn number_of(line: &[u8]) -> Option<u32> {
+    if line.is_empty() {
+        return None;
+    }
     let mut number = 0u32;
     for digit in line {
         if !digit.is_ascii_digit() {
