@@ -8,21 +8,10 @@ use crate::trouble::Trouble;
 use bstr::BString;
 use gix_protocol::fetch::shallow_text;
 use gix_protocol::transport::ObjectId;
-use gixp_remote_parts::{Boundary, Choices, Request, Taking, added, boundary_after};
+use gixp_remote_parts::{Boundary, Request, Taking, added, boundary_after, taking_of};
 use std::alloc::Global;
 use std::collections::BTreeSet;
 use std::fs;
-
-// What is taken of the server's boundary.
-fn taking_of(choices: &Choices) -> Taking {
-    if choices.has_depth() {
-        Taking::Asked
-    } else if choices.is_cloning || choices.updates_shallow {
-        Taking::Came
-    } else {
-        Taking::Nothing
-    }
-}
 
 /// What becomes of the boundary, before the pack is put beside the others.
 pub(crate) fn boundary_of(

@@ -2,19 +2,18 @@
 use crate::setup::{is_from_user, joined, variable, version_word};
 use crate::shell::{NOTHING, Shell, owned};
 use crate::trouble::Trouble;
-use crate::web::{connect_stateless, is_web, web_words};
+use crate::web::connect_stateless;
 use crate::wire::{Says, Shown, Wire};
 use bstr::{BString, ByteSlice};
 use gix_protocol::client::Heard;
 use gix_protocol::transport::{Connection, Discard, Opening, Protocol};
 use gixp_fetch_command::session::Session;
 use gixp_remote_parts::{
-    LOCAL_VARIABLES, Program, Request, Settings, Start, Task, Variant, is_allowed, proxy_for,
-    quoted, ssh_words, variant_of,
+    Program, Request, Settings, Start, Task, Variant, here_words, is_allowed, proxy_for, quoted,
+    server_variables, ssh_words, variant_of, web_words,
 };
 use gixp_url::{Address, Transport};
 use gixp_stateless::Answers;
-use std::alloc::Global;
 use std::cell::Cell;
 use std::fs::{File, OpenOptions};
 use std::io::{BufReader, BufWriter};
@@ -32,21 +31,10 @@ pub(crate) struct Reach<'a> {
     pub(crate) has_failed: &'a Cell<bool>,
 }
 
-// The name that the user's policies have for a transport.
-fn policy_name(transport: Transport) -> &'static [u8] {
-    match transport {
-        Transport::File => b"file",
-        Transport::Ssh => b"ssh",
-        Transport::Git => b"git",
-        Transport::Http => b"http",
-        Transport::Https => b"https",
-    }
-}
-
 // Refuses a transport that the user doesn't allow.
 fn check_policy(reach: Reach<'_>) -> Result<(), Trouble> {
     let alloc = reach.rt.alloc();
-    let name = policy_name(reach.address.transport);
+    let name = reach.address.transport.name().as_bytes();
     let list = variable(reach.rt, "GIT_ALLOW_PROTOCOL");
     let list = match &list {
         Some(list) => Some(list.as_bytes()),
@@ -57,19 +45,6 @@ fn check_policy(reach: Reach<'_>) -> Result<(), Trouble> {
         Some(false) => Err(Trouble::of_word(alloc, "this transport is not allowed:", name)),
         None => Err(Trouble::of_word(alloc, "unknown value for the policy of the protocol", name)),
     }
-}
-
-// The variables of a server: none of the repository's that fetches, and the version.
-fn server_variables(alloc: Global, version: Protocol) -> Result<Vec<BString>, Trouble> {
-    let mut variables = Vec::new(alloc);
-    for name in LOCAL_VARIABLES {
-        variables.push(BString::from_slice(alloc, name.as_bytes())?)?;
-    }
-    match version_word(version) {
-        Some(word) => variables.push(joined(alloc, &[b"GIT_PROTOCOL=", word])?)?,
-        None => variables.push(BString::from_slice(alloc, b"GIT_PROTOCOL")?)?,
-    }
-    Ok(variables)
 }
 
 // The user's command for ssh, and whether a shell reads it.
@@ -193,10 +168,7 @@ fn start_ssh(reach: Reach<'_>, shell: &mut Shell) -> Result<(), Trouble> {
 
 // Starts a server that this machine runs.
 fn start_here(reach: Reach<'_>, shell: &mut Shell) -> Result<(), Trouble> {
-    let words = owned(
-        reach.rt.alloc(),
-        &[b"upload-pack", reach.address.path.as_bytes()],
-    )?;
+    let words = here_words(reach.rt.alloc(), reach.address.path.as_bytes())?;
     start(reach, shell, Program::Git, &words)
 }
 
@@ -230,7 +202,9 @@ fn start_web(reach: Reach<'_>, shell: &mut Shell) -> Result<(), Trouble> {
     if reach.version != Protocol::V2 {
         return Err(Trouble::Fatal("over HTTP only version 2 of the protocol is spoken here"));
     }
-    let words = web_words(reach)?;
+    let scheme = reach.address.transport.name().as_bytes();
+    let url = reach.address.path.as_bytes();
+    let words = web_words(reach.rt.alloc(), scheme, reach.name, url)?;
     start_with(reach, shell, Program::Git, &[], &words)
 }
 
@@ -241,7 +215,7 @@ fn start(
     program: Program,
     words: &[BString],
 ) -> Result<(), Trouble> {
-    let variables = server_variables(reach.rt.alloc(), reach.version)?;
+    let variables = server_variables(reach.rt.alloc(), version_word(reach.version))?;
     start_with(reach, shell, program, &variables, words)
 }
 
@@ -295,7 +269,7 @@ fn says_of(
     to: &mut BufWriter<File>,
     is_quiet: bool,
 ) -> Result<Says, Trouble> {
-    if !is_web(reach.address.transport) {
+    if !reach.address.transport.is_web() {
         return Ok(Says::Stream(from));
     }
     let alloc = reach.rt.alloc();

@@ -9,8 +9,8 @@ use crate::pack::{Came, IndexedPack, PackPlan, PackState, place};
 use crate::setup::haves_of;
 use crate::shell::Shell;
 use crate::trouble::Trouble;
-use crate::web::is_web;
 use crate::wire::Wire;
+use bstr::BString;
 use gix_protocol::fetch::ShallowMemory;
 use gix_protocol::transport::{Discard, ObjectId, Protocol};
 use gixp_fetch_command::failure::Failure;
@@ -19,7 +19,7 @@ use gixp_fetch_command::repository::Repository;
 use gixp_fetch_command::session::{Asked, Session, Sink};
 use gixp_fetch_command::{negotiate, unless_failed};
 use gixp_fetch_parts::{PackPlace, Wish};
-use gixp_remote_parts::{Boundary, Choices, Task};
+use gixp_remote_parts::{Boundary, Task};
 use std::alloc::Global;
 use std::io::ErrorKind;
 
@@ -130,7 +130,7 @@ fn fetch_by(
 fn was_left(reach: Reach<'_>, came: &Result<Came, Trouble>, shell: &Shell) -> bool {
     match came {
         Err(Trouble::Fetch(Failure::HungUp)) => {
-            shell.pack == PackState::Unbegun && !is_web(reach.address.transport)
+            shell.pack == PackState::Unbegun && !reach.address.transport.is_web()
         }
         _ => false,
     }
@@ -173,24 +173,9 @@ fn settle<'a>(
 #[derive(Drop)]
 pub(crate) struct Fetched {
     /// The lock of the pack.
-    pub(crate) lock: Option<String>,
+    pub(crate) lock: Option<BString>,
     /// Whether all that the pack leads to is in it.
     pub(crate) is_closed: bool,
-}
-
-// The flags of `git index-pack`.
-fn flags_of<'a>(alloc: Global, choices: &Choices) -> Result<Vec<&'a [u8]>, Trouble> {
-    let mut flags: Vec<&'a [u8]> = Vec::new(alloc);
-    if choices.asks_closed() {
-        flags.push(b"--check-self-contained-and-connected")?;
-    }
-    if choices.is_from_promisor {
-        flags.push(b"--promisor")?;
-    }
-    if choices.tells_progress() {
-        flags.push(b"-v")?;
-    }
-    Ok(flags)
 }
 
 // Puts the pack and the boundary where git finds them.
@@ -243,8 +228,7 @@ pub(crate) fn fetch<'a>(
     let wish = wish_of(alloc, order.choices, shallow, haves);
     let mut repository = known(order, shell, &old, haves)?;
     let checks = checks_of(order, shell)?;
-    let flags = flags_of(alloc, order.choices)?;
-    let pack = PackPlan::new(rt, &places, folder, &checks, &flags)?;
+    let pack = PackPlan::new(rt, &places, folder, order.choices, &checks)?;
     let plan = Plan {
         order,
         wish: &wish,

@@ -6,10 +6,11 @@ use crate::order::Order;
 use crate::setup::{Given, given, settings_text, version_of};
 use crate::shell::{NOTHING, Shell};
 use crate::trouble::Trouble;
-use crate::web::is_web;
 use bstr::{BString, ByteSlice};
 use gix_protocol::transport::{Discard, ObjectId};
-use gixp_remote_parts::{Choices, Command, Program, Request, Settings, Start, Task, read_command};
+use gixp_remote_parts::{
+    Choices, Command, Program, Request, Settings, Start, Task, batch_told, read_command,
+};
 use gixp_url::Address;
 use std::cell::Cell;
 use std::collections::BTreeSet;
@@ -110,14 +111,11 @@ impl Helper<'_> {
         };
         let fetched = fetch(order, &mut self.shell, &mut self.open, &folder)?;
         self.shell.end(Task::Watch)?;
-        if let Some(lock) = &fetched.lock {
-            let line = format!(in alloc; "lock {lock}\n")?;
-            self.say(line.as_bytes())?;
-        }
-        if fetched.is_closed {
-            self.say(b"connectivity-ok\n")?;
-        }
-        self.say(b"\n")
+        let lock = match &fetched.lock {
+            Some(lock) => Some(lock.as_bytes()),
+            None => None,
+        };
+        self.say(&batch_told(alloc, lock, fetched.is_closed)?)
     }
 
     // Does what a line asks for. Returns whether the conversation goes on.
@@ -156,7 +154,7 @@ impl Helper<'_> {
 
     // Tells a server that waits that there is nothing more. To a web server that would be one more request.
     fn close(&mut self) {
-        if is_web(self.reach.address.transport) {
+        if self.reach.address.transport.is_web() {
             return;
         }
         if let Some(session) = &mut self.open {

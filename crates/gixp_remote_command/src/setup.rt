@@ -104,9 +104,5 @@ pub(crate) fn is_from_user(rt: &HostRuntime) -> bool {
 
 /// A text of its own.
 pub(crate) fn joined(alloc: Global, parts: &[&[u8]]) -> Result<BString, Trouble> {
-    let mut text = Vec::new(alloc);
-    for part in parts {
-        text.extend_from_slice(*part)?;
-    }
-    Ok(BString::from(text))
+    Ok(BString::from(gixp_remote_parts::joined(alloc, parts)?))
 }

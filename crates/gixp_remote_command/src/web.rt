@@ -1,36 +1,8 @@
 //! A web server, by git's own program for it (gitremote-helpers, "stateless-connect"): that has TLS, proxies, cookies, redirects and
 //! accounts, and carries requests and answers of version 2.
-use crate::connect::Reach;
-use crate::shell::owned;
 use crate::trouble::Trouble;
-use bstr::BString;
-use gixp_url::Transport;
 use std::alloc::Global;
 use std::io::{BufRead, Write};
-
-/// Whether a server is one of these.
-pub(crate) fn is_web(transport: Transport) -> bool {
-    match transport {
-        Transport::Http | Transport::Https => true,
-        Transport::File | Transport::Ssh | Transport::Git => false,
-    }
-}
-
-/// The words of git for the program that carries requests: the name that git has for the server, and the URL.
-pub(crate) fn web_words(reach: Reach<'_>) -> Result<Vec<BString>, Trouble> {
-    let program: &[u8] = if reach.address.transport == Transport::Http {
-        b"remote-http"
-    } else {
-        b"remote-https"
-    };
-    let url = reach.address.path.as_bytes();
-    // a server without a name has its URL for one
-    let name = reach.name.strip_prefix(b"gixp::".as_slice()).unwrap_or(reach.name);
-    owned(
-        reach.rt.alloc(),
-        &[b"-c", b"protocol.version=2", program, name, url],
-    )
-}
 
 // A line that the program answers. Where it ended instead, it told why.
 fn reply<R: BufRead>(alloc: Global, from: &mut R) -> Result<Vec<u8>, Trouble> {

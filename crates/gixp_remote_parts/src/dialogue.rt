@@ -171,8 +171,8 @@ fn number_in(digits: &[u8]) -> Option<u32>
     Some(number)
 }
 
-// The number that a text writes, where it fits.
-fn number_of(digits: &[u8]) -> Option<u32>
+/// The number that a text writes in digits, where it fits. An empty text writes none.
+pub fn number_of(digits: &[u8]) -> Option<u32>
     ensures { result ≡ number_of digits.now }
 {
     if digits.is_empty() {

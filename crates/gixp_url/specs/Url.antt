@@ -37,6 +37,19 @@ transport_of scheme =
     else if bytes_eq scheme (codes "https") then Some Https
     else None
 
+-- the name that git has for a transport
+abbrev pub transport_name : Transport → List ℕ
+transport_name File = codes "file"
+transport_name Ssh = codes "ssh"
+transport_name Git = codes "git"
+transport_name Http = codes "http"
+transport_name Https = codes "https"
+
+abbrev pub is_web : Transport → Bool
+is_web Http = true
+is_web Https = true
+is_web _ = false
+
 -- `://` stands somewhere
 abbrev pub has_separator : List ℕ → Bool
 has_separator [] = false

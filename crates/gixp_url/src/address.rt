@@ -3,7 +3,7 @@ ghost use Rattle.std.specs.Prelude.{◌≡◌, ◌<◌, ◌≤◌, length, IfOk,
 ghost use Rattle.std.specs.List.{list_all};
 ghost use Rattle.gixp_url.specs.Decoded.{decoded};
 ghost use Rattle.gixp_url.specs.Host.{host_value};
-ghost use Rattle.gixp_url.specs.Url.{is_scheme_byte, transport_of, has_separator, is_local, map_form, form_without_scheme, form_by_transport, form_behind, form_of, separator_from, path_at, home_path, path_there, fault_of, host_by, GivesAddress, server, remote, local, web, form_value, server_by, reading};
+ghost use Rattle.gixp_url.specs.Url.{is_scheme_byte, transport_of, transport_name, is_web, has_separator, is_local, map_form, form_without_scheme, form_by_transport, form_behind, form_of, separator_from, path_at, home_path, path_there, fault_of, host_by, GivesAddress, server, remote, local, web, form_value, server_by, reading};
 ghost use Rattle.gixp_url.specs.declared.address.UrlError.TheVariants.{Memory};
 
 use crate::decode::decoded;
@@ -26,6 +26,31 @@ pub enum Transport {
     Http,
     /// It is a web server over TLS.
     Https,
+}
+
+impl Transport {
+    /// The name that git has for it (git-config, "protocol.<name>.allow").
+    pub fn name(self) -> &'static str
+        ensures { result.now ≡ transport_name self }
+    {
+        match self {
+            Transport::File => "file",
+            Transport::Ssh => "ssh",
+            Transport::Git => "git",
+            Transport::Http => "http",
+            Transport::Https => "https",
+        }
+    }
+
+    /// Whether it is a web server.
+    pub fn is_web(self) -> bool
+        ensures { result ≡ is_web self }
+    {
+        match self {
+            Transport::Http | Transport::Https => true,
+            Transport::File | Transport::Ssh | Transport::Git => false,
+        }
+    }
 }
 
 /// A server, and the repository there.
