@@ -1,9 +1,7 @@
 //! What an error of a connection is called, in place of the name of its kind.
-use gix_protocol::handshake;
 use gix_protocol::handshake::refs::parse;
-use gix_protocol::ls_refs;
-use gix_protocol::transport::client;
-use gix_protocol::transport::read;
+use gix_protocol::transport::{client, read};
+use gix_protocol::{handshake, ls_refs};
 use std::io::ErrorKind;
 
 /// Whether a read or a write that failed with this kind found nobody at the other end.

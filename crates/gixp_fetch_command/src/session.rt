@@ -10,21 +10,20 @@ use crate::watched::Watched;
 use bstr::BString;
 use gix_protocol::client::{Filtered, MOST_HAVES, Windowed};
 use gix_protocol::command::{CommandTable, Feature};
-use gix_protocol::fetch::Arguments;
 use gix_protocol::fetch::negotiate::{
     Graph, Negotiate, NegotiateContext, Negotiation, Negotiator, NoAlternates, Shared, StoredRefs,
 };
 use gix_protocol::fetch::refmap::init;
-use gix_protocol::fetch::{self, Context, Options, Outcome, RefMap, ShallowMemory};
+use gix_protocol::fetch::{self, Arguments, Context, Options, Outcome, RefMap, ShallowMemory};
 use gix_protocol::handshake::{Error as HandshakeError, Ref, handshake, obtain};
-use gix_protocol::ls_refs;
 use gix_protocol::refspec::parse::{Operation, parse};
 use gix_protocol::transport::{
     Connection, NestedProgress, NeverInterrupt, ObjectId, Opening, Progress, Protocol, Service,
-    Transport,
+    Transport, client,
 };
-use gix_protocol::transport::client;
-use gix_protocol::{Command, Handshake, LsRefsCommand, agent, indicate_end_of_interaction};
+use gix_protocol::{
+    Command, Handshake, LsRefsCommand, agent, indicate_end_of_interaction, ls_refs,
+};
 use gixp_fetch_parts::{PackPlace, Server, Wish, unknown_unshallow};
 use std::alloc::{AllocError, Global};
 use std::collections::BTreeSet;
@@ -302,8 +301,7 @@ impl<'a, T: Transport> Session<'a, T> {
     // Whether the server is to be told that no progress is wanted: one of version 2 always knows the word.
     fn is_quiet(&self, asked: Asked<'_>) -> bool {
         !asked.wants_progress
-            && (self.version() == Protocol::V2
-                || self.shaken.capabilities.contains(b"no-progress"))
+            && (self.version() == Protocol::V2 || self.shaken.capabilities.contains(b"no-progress"))
     }
 
     /// What the refspecs map of the refs of the server.

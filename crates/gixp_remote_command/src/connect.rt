@@ -12,8 +12,8 @@ use gixp_remote_parts::{
     Program, Request, Settings, Start, Task, Variant, here_words, is_allowed, proxy_for, quoted,
     server_variables, ssh_words, variant_of, web_words,
 };
-use gixp_url::{Address, Transport};
 use gixp_stateless::Answers;
+use gixp_url::{Address, Transport};
 use std::cell::Cell;
 use std::fs::{File, OpenOptions};
 use std::io::{BufReader, BufWriter};
@@ -295,11 +295,7 @@ fn open_wire<'a>(reach: Reach<'a>, is_quiet: bool) -> Result<Wire<'a>, Trouble> 
         Vec::new(alloc),
         opening_of(reach)?,
     )?;
-    Ok(Heard::new(
-        alloc,
-        connection,
-        Shown::new(reach.rt, reach.has_failed)?,
-    ))
+    Ok(Heard::new(alloc, connection, Shown::new(reach.rt, reach.has_failed)?))
 }
 
 // Starts the server.

@@ -65,8 +65,12 @@ impl PackPlan {
             Some(more) => Some(more.as_bytes()),
             None => None,
         };
-        let variables =
-            object_variables(alloc, folder.as_bytes(), places.objects.as_bytes(), more)?;
+        let variables = object_variables(
+            alloc,
+            folder.as_bytes(),
+            places.objects.as_bytes(),
+            more,
+        )?;
         Ok(PackPlan {
             folder,
             words,

@@ -5,8 +5,8 @@ use gix_protocol::transport::Connection;
 use gixp_stateless::Answers;
 use std::cell::Cell;
 use std::fs::File;
-use std::io::{BufReader, BufWriter, Read, Write};
 use std::io;
+use std::io::{BufReader, BufWriter, Read, Write};
 
 /// The transport over the two pipes of a server, whose words are shown as they come.
 pub(crate) type Wire<'a> = Heard<Connection<Says, BufWriter<File>>, Shown<'a>>;

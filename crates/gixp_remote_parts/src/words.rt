@@ -113,11 +113,7 @@ pub fn here_words(alloc: Global, path: &[u8]) -> Result<Vec<BString>, AllocError
 }
 
 // The flags that git's options choose.
-fn add_flags(
-    alloc: Global,
-    words: &mut Vec<BString>,
-    choices: &Choices,
-) -> Result<(), AllocError>
+fn add_flags(alloc: Global, words: &mut Vec<BString>, choices: &Choices) -> Result<(), AllocError>
     ensures { OnOk result (map bstring_bytes words.new.items ≡ map bstring_bytes words.old.items ++ flags_of (chosen choices.now)) }
 {
     add_if(
@@ -232,10 +228,7 @@ fn version_variable(alloc: Global, version: Option<&[u8]>) -> Result<Vec<u8>, Al
 /// # Errors
 ///
 /// An allocation failure alone.
-pub fn server_variables(
-    alloc: Global,
-    version: Option<&[u8]>,
-) -> Result<Vec<BString>, AllocError>
+pub fn server_variables(alloc: Global, version: Option<&[u8]>) -> Result<Vec<BString>, AllocError>
     ensures { IfOk result (λ variables. map bstring_bytes variables.items
         ≡ server_variables (option_map (λ v. v.now) version.entry)) }
 {
