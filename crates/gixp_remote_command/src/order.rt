@@ -1,4 +1,8 @@
 //! What one fetch is for, and what is asked of the server and offered to it.
+ghost use Rattle.std.specs.Prelude.{◌≡◌, IfOk, map};
+ghost use Rattle.gix_protocol.specs.Values.{mapping_value};
+ghost use Rattle.gixp_remote_command.specs.Wanted.{wanted};
+
 use crate::connect::Reach;
 use crate::local::{new_repository, repository};
 use crate::setup::variable;
@@ -24,7 +28,9 @@ pub(crate) struct Order<'a, 'b> {
 }
 
 /// The map of the ids alone.
-pub(crate) fn map_of(alloc: Global, ids: &[ObjectId]) -> Result<RefMap, Trouble> {
+pub(crate) fn map_of(alloc: Global, ids: &[ObjectId]) -> Result<RefMap, Trouble>
+    ensures wanted { IfOk result (λ m. map mapping_value m.mappings.items ≡ map wanted ids.now) }
+{
     let mut mappings = Vec::new(alloc);
     for id in ids {
         mappings.push(Mapping {

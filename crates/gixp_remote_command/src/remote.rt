@@ -18,7 +18,7 @@ use std::io::{BufRead, BufReader, Input, Write};
 use std::{io, mem};
 
 // What the helper can do.
-const CAPABILITIES: &[u8] = b"fetch\noption\ncheck-connectivity\nobject-format\n\n";
+const CAPABILITIES: &[u8] = b"fetch\noption\nobject-format\n\n";
 
 // The helper between two commands.
 #[derive(Drop)]

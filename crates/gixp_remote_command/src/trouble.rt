@@ -84,7 +84,7 @@ impl Display for Trouble {
         match self {
             Trouble::Fetch(e) => write!(f, "{e}"),
             Trouble::Url(e) => write!(f, "the URL: {e}"),
-            Trouble::Io(kind) => write!(f, "a pipe of the helper: {kind:?}"),
+            Trouble::Io(kind) => write!(f, "a pipe of the helper broke: {kind}"),
             Trouble::Command(line) => write!(f, "unknown command: {line}"),
             Trouble::Other(why) | Trouble::Fatal(why) => f.write_str(why),
             Trouble::Told => Ok(()),
