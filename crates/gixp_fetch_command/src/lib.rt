@@ -18,7 +18,7 @@ use crate::failure::Failure;
 use crate::listed::{ListedCommits, Refusal};
 use crate::receive::PackReceiver;
 use crate::repository::{Repository, write_boundary};
-use crate::session::{Asked, Session, Sink, connect};
+use crate::session::{Asked, How, Session, Sink, connect};
 use crate::shown::Shown;
 use crate::usage::{USAGE, VERSION, print_refusal};
 use gix_protocol::fetch::negotiate::{Graph, Noop, Shared};
@@ -263,11 +263,14 @@ fn fetch(rt: &HostRuntime, options: &Options<'_>, wish: &Wish<'_>) -> Result<(),
         return Err(Failure::Missing { name });
     }
     let changes = changes_in(alloc, &map, &repository, options, wish)?;
+    let how = How {
+        filter: None,
+        wants_progress: options.output.shows_progress,
+    };
     let asked = Asked {
         map: &map,
         wish,
-        filter: None,
-        wants_progress: options.output.shows_progress,
+        how: &how,
     };
     let pack = take_pack(
         rt,

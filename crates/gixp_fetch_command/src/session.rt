@@ -51,8 +51,14 @@ pub struct Sink<P: PackPlace> {
 pub struct Asked<'a> {
     pub map: &'a RefMap,
     pub wish: &'a Wish<'a>,
+    pub how: &'a How,
+}
+
+/// How a server is asked for a pack.
+#[derive(Drop)]
+pub struct How {
     /// Which objects are left out where the server can leave out any (git-rev-list, "--filter").
-    pub filter: Option<&'a str>,
+    pub filter: Option<String>,
     /// Whether the server's progress is wanted.
     pub wants_progress: bool,
 }
@@ -299,8 +305,8 @@ impl<'a, T: Transport> Session<'a, T> {
     }
 
     // Whether the server is to be told that no progress is wanted: one of version 2 always knows the word.
-    fn is_quiet(&self, asked: Asked<'_>) -> bool {
-        !asked.wants_progress
+    fn is_quiet(&self, how: &How) -> bool {
+        !how.wants_progress
             && (self.version() == Protocol::V2 || self.shaken.capabilities.contains(b"no-progress"))
     }
 
@@ -360,8 +366,8 @@ impl<'a, T: Transport> Session<'a, T> {
         let negotiation = Negotiation::new(context, asked.map, &wish.shallow, wish.tags);
         let boundary = repository.boundary.iter().copied().collect(alloc)?;
         let windowed = Windowed::new(negotiation, self.most_haves());
-        let filtered = Filtered::new(windowed, asked.filter);
-        let quiet = Quiet::new(filtered, self.is_quiet(asked));
+        let filtered = Filtered::new(windowed, asked.how.filter.as_deref());
+        let quiet = Quiet::new(filtered, self.is_quiet(asked.how));
         let mut watched = Watched::new(quiet, &boundary);
         let request = Request {
             agent: self.agent,
