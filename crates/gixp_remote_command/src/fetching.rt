@@ -4,7 +4,7 @@ use crate::checks::checks_of;
 use crate::connect::{Reach, connect};
 use crate::history::shallow_of;
 use crate::local::Places;
-use crate::order::{Order, filter_of, known, list_commits, map_of, wish_of};
+use crate::order::{Order, how_of, known, list_commits, map_of, wish_of};
 use crate::pack::{Came, IndexedPack, PackPlan, PackState, place};
 use crate::setup::haves_of;
 use crate::shell::Shell;
@@ -16,7 +16,7 @@ use gix_protocol::transport::{Discard, ObjectId, Protocol};
 use gixp_fetch_command::failure::Failure;
 use gixp_fetch_command::receive::PackReceiver;
 use gixp_fetch_command::repository::Repository;
-use gixp_fetch_command::session::{Asked, Session, Sink};
+use gixp_fetch_command::session::{Asked, How, Session, Sink};
 use gixp_fetch_command::{negotiate, unless_failed};
 use gixp_fetch_parts::{PackPlace, Wish};
 use gixp_remote_parts::{Boundary, Task};
@@ -28,11 +28,11 @@ pub(crate) type Open<'a> = Option<Session<'static, Wire<'a>>>;
 
 // How one fetch goes on, once git has told where the repository is.
 #[derive(Clone, Copy)]
-struct Plan<'a, 'b> {
+struct Plan<'a, 'b, 'c, 'd> {
     order: Order<'a, 'b>,
-    wish: &'b Wish<'b>,
-    filter: Option<&'b str>,
-    pack: &'b PackPlan,
+    wish: &'c Wish<'d>,
+    how: &'c How,
+    pack: &'c PackPlan,
     // Whether commits of other repositories are offered too, whose objects are borrowed.
     has_alternates: bool,
 }
@@ -90,9 +90,9 @@ fn keep_pack<P: PackPlace>(alloc: Global, sink: &mut Sink<P>) -> Result<Vec<Obje
 fn warn_of_filter(
     reach: Reach<'_>,
     session: &Session<'static, Wire<'_>>,
-    filter: Option<&str>,
+    how: &How,
 ) -> Result<(), Trouble> {
-    if filter.is_some() && !session.can_filter()? {
+    if how.filter.is_some() && !session.can_filter()? {
         let _ = eprintln!(reach.rt; "warning: filtering not recognized by server, ignoring");
     }
     Ok(())
@@ -100,7 +100,7 @@ fn warn_of_filter(
 
 // A fetch over one session, and what became of the pack.
 fn fetch_by(
-    plan: Plan<'_, '_>,
+    plan: Plan<'_, '_, '_, '_>,
     shell: &mut Shell,
     session: &mut Session<'static, Wire<'_>>,
     repository: &mut Repository,
@@ -108,13 +108,12 @@ fn fetch_by(
     let order = plan.order;
     let rt = order.reach.rt;
     list_commits(order, shell, plan.wish.haves, plan.has_alternates)?;
-    warn_of_filter(order.reach, session, plan.filter)?;
+    warn_of_filter(order.reach, session, plan.how)?;
     let map = map_of(rt.alloc(), order.ids)?;
     let asked = Asked {
         map: &map,
-        wish: plan.wish,
-        filter: plan.filter,
-        wants_progress: order.choices.tells_progress(),
+        wish: &*plan.wish,
+        how: &*plan.how,
     };
     let pack = plan.pack.copy(rt.alloc())?;
     let place = IndexedPack::new(rt.clone()?, shell, pack);
@@ -138,7 +137,7 @@ fn was_left(reach: Reach<'_>, came: &Result<Came, Trouble>, shell: &Shell) -> bo
 
 // Fetches over the session that is there, or over a new one, also where the one that is there was left by the server.
 fn fetch_once_more<'a>(
-    plan: Plan<'a, '_>,
+    plan: Plan<'a, '_, '_, '_>,
     shell: &mut Shell,
     open: &mut Open<'a>,
     repository: &mut Repository,
@@ -180,7 +179,7 @@ pub(crate) struct Fetched {
 
 // Puts the pack and the boundary where git finds them.
 fn finish(
-    plan: Plan<'_, '_>,
+    plan: Plan<'_, '_, '_, '_>,
     shell: &mut Shell,
     places: &Places,
     old: &[ObjectId],
@@ -229,10 +228,11 @@ pub(crate) fn fetch<'a>(
     let mut repository = known(order, shell, &old, haves)?;
     let checks = checks_of(order, shell)?;
     let pack = PackPlan::new(rt, &places, folder, order.choices, &checks)?;
+    let how = how_of(alloc, order.choices)?;
     let plan = Plan {
         order,
         wish: &wish,
-        filter: filter_of(alloc, order.choices)?,
+        how: &how,
         pack: &pack,
         has_alternates: places.has_alternates(rt),
     };

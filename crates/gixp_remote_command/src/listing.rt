@@ -17,12 +17,7 @@ fn is_plain(name: &[u8]) -> bool
 }
 
 // A line of an id and a name.
-fn append_id(
-    text: &mut Vec<u8>,
-    id: &ObjectId,
-    name: &[u8],
-    mark: &[u8],
-) -> Result<(), AllocError>
+fn append_id(text: &mut Vec<u8>, id: &ObjectId, name: &[u8], mark: &[u8]) -> Result<(), AllocError>
     ensures { OnOk result (text.new.items ≡ text.old.items ++ id_line id.now.bytes name.now mark.now) }
 {
     text.extend_from_slice(&id.to_hex())?;

@@ -14,6 +14,7 @@ use gix_protocol::fetch::refmap::{Mapping, Source, SpecIndex};
 use gix_protocol::fetch::{RefMap, Shallow, Tags};
 use gix_protocol::transport::{Kind, ObjectId};
 use gixp_fetch_command::repository::Repository;
+use gixp_fetch_command::session::How;
 use gixp_fetch_parts::{Haves, Wish};
 use gixp_remote_parts::{Choices, Program, Request, Start, Task};
 use std::alloc::Global;
@@ -71,15 +72,23 @@ pub(crate) fn wish_of(
     }
 }
 
-/// The filter that git asks for.
-pub(crate) fn filter_of(alloc: Global, choices: &Choices) -> Result<Option<&str>, Trouble> {
+// The filter that git asks for.
+fn filter_of(alloc: Global, choices: &Choices) -> Result<Option<String>, Trouble> {
     let Some(filter) = &choices.filter else {
         return Ok(None);
     };
     match filter.as_bytes().to_str() {
-        Ok(filter) => Ok(Some(filter)),
+        Ok(filter) => Ok(Some(String::from_str(alloc, filter)?)),
         Err(_) => Err(Trouble::of_word(alloc, "this filter is no UTF-8:", filter.as_bytes())),
     }
+}
+
+/// How the server is asked for it.
+pub(crate) fn how_of(alloc: Global, choices: &Choices) -> Result<How, Trouble> {
+    Ok(How {
+        filter: filter_of(alloc, choices)?,
+        wants_progress: choices.tells_progress(),
+    })
 }
 
 // Lets git list the commits, which are read as they are offered.

@@ -170,12 +170,13 @@ struct Begun {
     given: Given,
     address: Address,
     settings: Settings,
+    // Whether the server reported an error beside its answers.
+    has_failed: Cell<bool>,
 }
 
 // Speaks with git.
 fn serve(begun: &Begun, shell: Shell) -> Result<(), Trouble> {
     let alloc = begun.rt.alloc();
-    let has_failed = Cell::new(false);
     let mut lines = BufReader::new(alloc, begun.rt.reader())?;
     let mut helper = Helper {
         reach: Reach {
@@ -184,7 +185,7 @@ fn serve(begun: &Begun, shell: Shell) -> Result<(), Trouble> {
             address: &begun.address,
             settings: &begun.settings,
             version: version_of(&begun.rt, &begun.settings),
-            has_failed: &has_failed,
+            has_failed: &begun.has_failed,
         },
         shell,
         choices: Choices::new(alloc),
@@ -211,6 +212,7 @@ pub(crate) fn converse(rt: &HostRuntime) -> Result<(), Trouble> {
         given,
         address,
         settings,
+        has_failed: Cell::new(false),
     };
     serve(&begun, shell)
 }
