@@ -10,7 +10,8 @@ and from git's own documents, never from what the program printed. A row's lines
 
     row NAME            begins a row
     part NAME           begins a part of rows, which `use NAME` puts in
-    url URL             the program's word, `/srv/x` where none is told
+    url URL             the server's, `/srv/x` where none is told
+    name NAME           the name that git has for the server, `origin` where none is told
     set NAME=VALUE      a variable of its environment
     setting NAME=VALUE  one that `git config --list` tells; `setting NAME` has no value
     bare                the row has the question for the settings itself; else it is answered before the first line
@@ -25,6 +26,7 @@ and from git's own documents, never from what the program printed. A row's lines
     says LINE           a packet line of the server that is started next; 0000, 0001 and 0002 are themselves, `pack` an empty pack
     says! TEXT          bytes of its
     heard LINE          a packet line that it was told: all of them, in order, where one is named
+    heard! TEXT         bytes that it was told before these
     file NAME TEXT      what a file holds from then on
     holds NAME TEXT     what a file holds then; `holds NAME` of one that isn't there
     status NUMBER       how the program ends, where it isn't 0
@@ -53,6 +55,8 @@ GIT_SHALLOW_FILE GIT_COMMON_DIR""".split()
 FOLDER = "gixp.row"
 WAIT = 60
 ESCAPE = re.compile(rb"\\(x[0-9a-fA-F]{2}|.)")
+# one in a request, whose words have their own escapes
+BYTE = re.compile(rb"(?<!\\)\\x([0-9a-fA-F]{2})")
 NAMED = {b"n": b"\n", b"t": b"\t", b"0": b"\0", b"\\": b"\\"}
 SPECIAL = {b"0000", b"0001", b"0002"}
 
@@ -108,7 +112,7 @@ class Row:
     def __init__(self, room, program, lines):
         self.room, self.program, self.lines = room, program, lines
         self.replies, self.requests, self.errors, self.heard = b"", b"", [], []
-        self.says, self.status, self.waits, self.begun = b"", 0, False, None
+        self.says, self.first_heard, self.status, self.waits, self.begun = b"", b"", 0, False, None
         for name in ("hears", "says", "told", "pack", "kept", "commits"):
             (room / name).write_bytes(b"")
         for name in ("requests", "answers"):
@@ -123,12 +127,14 @@ class Row:
 
     def begin(self):
         """Starts the program as the lines before any action have it."""
-        told = {"url": [b"/srv/x"], "set": [], "setting": []}
+        told = {"url": [b"/srv/x"], "name": [b"origin"], "set": [], "setting": []}
         for _, word, rest in self.lines:
             told.setdefault(word, []).append(self.text(rest))
         variables = {"PATH": os.environ["PATH"], **dict(one.decode("latin1").split("=", 1) for one in told["set"])}
+        for name in ("url", "name"):
+            (self.room / name).write_bytes(told[name][-1])
         self.begun = subprocess.Popen(
-            [self.program, told["url"][-1], FOLDER], cwd=self.room, env=variables, stdin=subprocess.PIPE, stdout=subprocess.PIPE,
+            [self.program, FOLDER], cwd=self.room, env=variables, stdin=subprocess.PIPE, stdout=subprocess.PIPE,
             stderr=(self.room / "errors").open("wb"))
         if "bare" not in told:
             settings = [one.replace(b"=", b"\n", 1) + b"\0" for one in told["setting"]]
@@ -183,7 +189,8 @@ class Row:
             if one == b"=@local":
                 lines += [b"=" + name.encode() for name in LOCAL]
             else:
-                lines.append((b"" if one.startswith(b"=") else b" ") + one.replace(b"@room", str(self.room).encode()))
+                word = BYTE.sub(lambda m: bytes([int(m[1], 16)]), one).replace(b"@room", str(self.room).encode())
+                lines.append((b"" if one.startswith(b"=") else b" ") + word)
         return b"\n".join(lines) + b"\n.\n"
 
     def answer(self, given):
@@ -225,11 +232,13 @@ class Row:
             self.look(*rest.split(b" ", 1))
         elif word == "heard":
             self.heard.append(self.text(rest))
+        elif word == "heard!":
+            self.first_heard += self.text(rest)
         elif word == "error":
             self.errors.append(self.text(rest))
         elif word == "status":
             self.status = int(rest)
-        elif word not in ("url", "set", "setting", "bare"):
+        elif word not in ("url", "name", "set", "setting", "bare"):
             raise Wrong(f"no such word: {word}")
 
     def write(self, name, text=b""):
@@ -261,8 +270,10 @@ class Row:
             raise Wrong(f"status {status}: {errors}")
         if len(errors) != len(self.errors) or not all(part in line for part, line in zip(self.errors, errors)):
             raise Wrong(f"standard error has {errors}, wanted {self.errors}")
-        heard = packets_of((self.room / "hears").read_bytes())
-        if self.heard and heard != self.heard:
+        told = (self.room / "hears").read_bytes()
+        if not told.startswith(self.first_heard):
+            raise Wrong(f"the server heard {told}")
+        if self.heard and (heard := packets_of(told.removeprefix(self.first_heard))) != self.heard:
             raise Wrong(f"the server heard {heard}")
 
     def close(self):

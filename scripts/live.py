@@ -10,7 +10,7 @@ nested tags, symbolic and hidden refs, shallow ones. Each action is done twice, 
 must leave the same refs and the same boundary, and a repository that `git fsck --strict` finds whole. So must servers whose
 answers are bodies of their own, as of HTTP. Connections are counted, and haves that a list of commits offers. Then come servers
 that die, that send errors or nonsense, and one that freezes: an error, and nothing left behind. Each process of a fetch gets
-signals at moments of it. git daemon and sshd are tried where there is a loopback, and sshd where it is installed.
+signals at moments of it. git daemon, sshd and web servers are tried where there is a loopback, and sshd where it is installed.
 No process may stay behind an action, and one that takes a minute is ended, and failed.
 
 Prints a line for each that failed, and `N passed, M failed`. Ends with 1 where one failed. git is needed.
@@ -26,6 +26,8 @@ from live_cases import try_bodies, try_clones, try_fetches, try_harm, try_haves,
 from live_ends import try_ends
 from live_harness import CRATE, REMOTE, Tester
 from live_program import try_program
+from live_servers import has_loopback
+from live_web import try_web
 
 
 def options():
@@ -52,6 +54,8 @@ def main():
         began = time.time()
         for some in (try_ends, try_clones, try_fetches, try_haves, try_bodies, try_harm, try_ways, try_liars, try_program):
             some(t)
+        if has_loopback():
+            try_web(t)
         t.finish(given.again)
         print(f"{t.passed} passed, {t.failed} failed", flush=True)
         print(f"{time.time() - began:.0f} s", file=sys.stderr)

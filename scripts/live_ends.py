@@ -10,6 +10,8 @@ from live_harness import end_session, leaves_nothing, make, running
 from live_servers import GREETING, daemon_of, has_loopback, here_ssh, shell_ssh
 
 MOMENTS = 20
+# passes bytes on, a few each half second
+TRICKLE = "import os, time\nwhile said := os.read(0, 700): os.write(1, said); time.sleep(0.5)"
 # seconds in which git is to end behind a signal, on a machine that has other work
 AT_ONCE = 5
 SIGNALS = signal.SIGTERM, signal.SIGINT, signal.SIGHUP
@@ -26,6 +28,11 @@ def frozen(name, t):
         status, out, err = t.run("git", "clone", "-q", "gixp::ssh://nowhere/x", t.folder("us"), more=more)
         is_in_time = status != 0 and time.time() - begun < 10
         t.check(f"{name} after {len(said)} bytes", is_in_time and leaves_nothing(t), f"{status} {err}")
+    # one that says a little each half second is waited for
+    server = make(t, "server", 30)
+    more = {**shell_ssh(t, f'unset GIT_DIR\ngit upload-pack "{server}" | python3 -c "{TRICKLE}"'), "GIXP_TIMEOUT": "2"}
+    status, out, err = t.run("git", "clone", "-q", "gixp::ssh://nowhere/x", t.folder("us"), more=more)
+    t.check(f"{name}: slow", status == 0 and leaves_nothing(t), f"{status} {err}")
     status, out, err = t.run("git", "clone", "-q", "gixp::/nowhere/at/all", t.folder("us"))
     t.check(f"{name}: no repository", status != 0 and leaves_nothing(t), err)
 

@@ -4,7 +4,8 @@
 Usage: urls.py
 
 Writes stdin, a URL a line, and stdout: by `git fetch-pack --diag-url` the protocol, the host, the port (NONE) and the path with
-tabs between them, or `refused` where git reads none or `git ls-remote` refuses to go there.
+tabs between them, or `refused` where git reads none or `git ls-remote` refuses to go there. Of a web server git reads nothing
+but the scheme, and hands the URL to a program: the path is what that is given.
 """
 import subprocess
 import tempfile
@@ -24,7 +25,8 @@ URLS = [
     "ssh://host/~", "ssh://host/~u/a", "ssh://host/a/~u", "ssh://host/a:b", "ssh://host/a%20b%7e", "ssh://ho%73t/a",
     "git://host", "git://host/", "git://host/~u", "git://host:1/a", "git+ssh://host/a", "ssh+git://host/a", "foo://host/a",
     "FILE:///a", "http://host/a", "://a", "a://b", "/a://b", "host:a://b", "+ssh://host/a", "s_sh://host/a", "host:-a",
-    "--upload-pack=x:a",
+    "--upload-pack=x:a", "https://host/a", "https://u:p@host:1/a%20b", "http://", "HTTP://host/a", "http:a", "http:/a",
+    "https://-host/a", "httpx://host/a",
 ]
 
 
@@ -35,7 +37,22 @@ def is_blocked(url, room):
     return "blocked" in asked.stderr
 
 
+def web_reading(url, room):
+    """What git starts for a web server, or nothing."""
+    told = Path(room) / "told"
+    told.write_text("")
+    for scheme in ("http", "https"):
+        program = Path(room) / f"git-remote-{scheme}"
+        program.write_text(f'#!/bin/sh\nprintf "{scheme}\\t\\tNONE\\t%s" "$2" > "{told}"\n')
+        program.chmod(0o755)
+    variables = {"PATH": "/usr/bin:/bin", "GIT_EXEC_PATH": room, "GIT_SSH_COMMAND": "false", "GIT_SSH_VARIANT": "ssh"}
+    subprocess.run(["git", "ls-remote", "--", url], cwd=room, capture_output=True, env=variables, check=False)
+    return told.read_text()
+
+
 def reading(url, room):
+    if url.lower().startswith("http") and (found := web_reading(url, room)):
+        return found
     ran = subprocess.run(["git", "fetch-pack", "--diag-url", url], cwd=room, capture_output=True, text=True)
     said = dict(line.removeprefix("Diag: ").split("=", 1) for line in ran.stdout.splitlines() if line.startswith("Diag: "))
     if "protocol" not in said:

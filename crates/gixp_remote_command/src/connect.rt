@@ -2,44 +2,39 @@
 use crate::setup::{is_from_user, joined, variable, version_word};
 use crate::shell::{NOTHING, Shell, owned};
 use crate::trouble::Trouble;
+use crate::web::connect_stateless;
+use crate::wire::{Says, Shown, Wire};
 use bstr::{BString, ByteSlice};
-use gix_protocol::transport::{Connection, Opening, Protocol};
+use gix_protocol::client::Heard;
+use gix_protocol::transport::{Connection, Discard, Opening, Protocol};
 use gixp_fetch_command::session::Session;
-use gixp_fetch_command::shown::Shown;
 use gixp_remote_parts::{
-    LOCAL_VARIABLES, Program, Request, Settings, Start, Task, Variant, is_allowed, proxy_for,
-    quoted, ssh_words, variant_of,
+    Program, Request, Settings, Start, Task, Variant, here_words, is_allowed, proxy_for, quoted,
+    server_variables, ssh_words, variant_of, web_words,
 };
+use gixp_stateless::Answers;
 use gixp_url::{Address, Transport};
-use std::alloc::Global;
+use std::cell::Cell;
 use std::fs::{File, OpenOptions};
-use std::io::BufWriter;
-
-/// The transport over the two pipes of a server.
-pub(crate) type Wire = Connection<File, BufWriter<File>>;
+use std::io::{BufReader, BufWriter};
 
 /// What a server is reached by.
 #[derive(Clone, Copy)]
 pub(crate) struct Reach<'a> {
     pub(crate) rt: &'a HostRuntime,
+    /// The name that git has for the server.
+    pub(crate) name: &'a [u8],
     pub(crate) address: &'a Address,
     pub(crate) settings: &'a Settings,
     pub(crate) version: Protocol,
-}
-
-// The name that the user's policies have for a transport.
-fn policy_name(transport: Transport) -> &'static [u8] {
-    match transport {
-        Transport::File => b"file",
-        Transport::Ssh => b"ssh",
-        Transport::Git => b"git",
-    }
+    /// Whether the server reported an error beside its answers.
+    pub(crate) has_failed: &'a Cell<bool>,
 }
 
 // Refuses a transport that the user doesn't allow.
 fn check_policy(reach: Reach<'_>) -> Result<(), Trouble> {
     let alloc = reach.rt.alloc();
-    let name = policy_name(reach.address.transport);
+    let name = reach.address.transport.name().as_bytes();
     let list = variable(reach.rt, "GIT_ALLOW_PROTOCOL");
     let list = match &list {
         Some(list) => Some(list.as_bytes()),
@@ -50,19 +45,6 @@ fn check_policy(reach: Reach<'_>) -> Result<(), Trouble> {
         Some(false) => Err(Trouble::of_word(alloc, "this transport is not allowed:", name)),
         None => Err(Trouble::of_word(alloc, "unknown value for the policy of the protocol", name)),
     }
-}
-
-// The variables of a server: none of the repository's that fetches, and the version.
-fn server_variables(alloc: Global, version: Protocol) -> Result<Vec<BString>, Trouble> {
-    let mut variables = Vec::new(alloc);
-    for name in LOCAL_VARIABLES {
-        variables.push(BString::from_slice(alloc, name.as_bytes())?)?;
-    }
-    match version_word(version) {
-        Some(word) => variables.push(joined(alloc, &[b"GIT_PROTOCOL=", word])?)?,
-        None => variables.push(BString::from_slice(alloc, b"GIT_PROTOCOL")?)?,
-    }
-    Ok(variables)
 }
 
 // The user's command for ssh, and whether a shell reads it.
@@ -186,10 +168,7 @@ fn start_ssh(reach: Reach<'_>, shell: &mut Shell) -> Result<(), Trouble> {
 
 // Starts a server that this machine runs.
 fn start_here(reach: Reach<'_>, shell: &mut Shell) -> Result<(), Trouble> {
-    let words = owned(
-        reach.rt.alloc(),
-        &[b"upload-pack", reach.address.path.as_bytes()],
-    )?;
+    let words = here_words(reach.rt.alloc(), reach.address.path.as_bytes())?;
     start(reach, shell, Program::Git, &words)
 }
 
@@ -218,6 +197,17 @@ fn start_socket(reach: Reach<'_>, shell: &mut Shell) -> Result<(), Trouble> {
     }
 }
 
+// Starts git's own program for a web server. It belongs to the repository that fetches, and has its variables.
+fn start_web(reach: Reach<'_>, shell: &mut Shell) -> Result<(), Trouble> {
+    if reach.version != Protocol::V2 {
+        return Err(Trouble::Fatal("over HTTP only version 2 of the protocol is spoken here"));
+    }
+    let scheme = reach.address.transport.name().as_bytes();
+    let url = reach.address.path.as_bytes();
+    let words = web_words(reach.rt.alloc(), scheme, reach.name, url)?;
+    start_with(reach, shell, Program::Git, &[], &words)
+}
+
 // Starts a server.
 fn start(
     reach: Reach<'_>,
@@ -225,13 +215,24 @@ fn start(
     program: Program,
     words: &[BString],
 ) -> Result<(), Trouble> {
-    let variables = server_variables(reach.rt.alloc(), reach.version)?;
+    let variables = server_variables(reach.rt.alloc(), version_word(reach.version))?;
+    start_with(reach, shell, program, &variables, words)
+}
+
+// Starts a server with these variables.
+fn start_with(
+    reach: Reach<'_>,
+    shell: &mut Shell,
+    program: Program,
+    variables: &[BString],
+    words: &[BString],
+) -> Result<(), Trouble> {
     let status = shell.ask(&Request::Start(Start {
         task: Task::Server,
         program,
         input: "hears",
         output: "says",
-        variables: &variables,
+        variables,
         words,
     }))?;
     if status == 0 {
@@ -261,37 +262,62 @@ fn opening_of(reach: Reach<'_>) -> Result<Option<Opening>, Trouble> {
     }))
 }
 
+// What a server says, over the pipe from it.
+fn says_of(
+    reach: Reach<'_>,
+    from: File,
+    to: &mut BufWriter<File>,
+    is_quiet: bool,
+) -> Result<Says, Trouble> {
+    if !reach.address.transport.is_web() {
+        return Ok(Says::Stream(from));
+    }
+    let alloc = reach.rt.alloc();
+    let mut from = BufReader::new(alloc, from)?;
+    connect_stateless(alloc, &mut from, to, is_quiet)?;
+    Ok(Says::Answers(Answers::new(from)))
+}
+
 // The transport over the two pipes. What the server hears is opened first.
-fn open_wire(reach: Reach<'_>) -> Result<Wire, Trouble> {
+fn open_wire<'a>(reach: Reach<'a>, is_quiet: bool) -> Result<Wire<'a>, Trouble> {
     let alloc = reach.rt.alloc();
     let to = OpenOptions::new().write(true).open(reach.rt, "hears")?;
     let from = File::open(reach.rt, "says")?;
-    let to = BufWriter::new(alloc, to)?;
+    let mut to = BufWriter::new(alloc, to)?;
+    let says = says_of(reach, from, &mut to, is_quiet)?;
     let url = reach.address.path.clone()?;
-    Ok(Connection::new(
+    let connection = Connection::new(
         alloc,
-        from,
+        says,
         to,
         url,
         reach.version,
         Vec::new(alloc),
         opening_of(reach)?,
-    )?)
+    )?;
+    Ok(Heard::new(alloc, connection, Shown::new(reach.rt, reach.has_failed)?))
+}
+
+// Starts the server.
+fn start_server(reach: Reach<'_>, shell: &mut Shell) -> Result<(), Trouble> {
+    match reach.address.transport {
+        Transport::File => start_here(reach, shell),
+        Transport::Ssh => start_ssh(reach, shell),
+        Transport::Git => start_socket(reach, shell),
+        Transport::Http | Transport::Https => start_web(reach, shell),
+    }
 }
 
 /// Starts the server, and shakes hands with it. One that was started before is ended.
-pub(crate) fn connect(
-    reach: Reach<'_>,
+pub(crate) fn connect<'a>(
+    reach: Reach<'a>,
     shell: &mut Shell,
-    shown: &mut Shown<'_>,
-) -> Result<Session<'static, Wire>, Trouble> {
+    is_quiet: bool,
+) -> Result<Session<'static, Wire<'a>>, Trouble> {
     check_policy(reach)?;
     shell.end(Task::Server)?;
-    match reach.address.transport {
-        Transport::File => start_here(reach, shell)?,
-        Transport::Ssh => start_ssh(reach, shell)?,
-        Transport::Git => start_socket(reach, shell)?,
-    }
-    let wire = open_wire(reach)?;
-    Ok(Session::open(reach.rt.alloc(), wire, "gixp", shown)?)
+    start_server(reach, shell)?;
+    reach.has_failed.set(false);
+    let wire = open_wire(reach, is_quiet)?;
+    Ok(Session::open(reach.rt.alloc(), wire, "gixp", &mut Discard)?)
 }

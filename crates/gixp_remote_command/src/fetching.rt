@@ -1,272 +1,66 @@
 //! One fetch of objects by their ids.
-use crate::connect::{Reach, Wire, connect};
+use crate::boundary::{boundary_of, change_boundary, lock_boundary};
+use crate::checks::checks_of;
+use crate::connect::{Reach, connect};
 use crate::history::shallow_of;
-use crate::local::{Places, new_repository, repository};
-use crate::pack::{IndexedPack, Kept, PackPlan, PackState, place};
-use crate::setup::{haves_of, joined, variable};
-use crate::shell::{NOTHING, Shell, owned};
+use crate::local::Places;
+use crate::order::{Order, how_of, known, list_commits, map_of, wish_of};
+use crate::pack::{Came, IndexedPack, PackPlan, PackState, place};
+use crate::setup::haves_of;
+use crate::shell::Shell;
 use crate::trouble::Trouble;
-use bstr::{BString, ByteSlice};
-use gix_protocol::fetch::refmap::{Mapping, Source, SpecIndex};
-use gix_protocol::fetch::{RefMap, Shallow, ShallowMemory, Tags, shallow_text};
-use gix_protocol::transport::{Kind, ObjectId, Protocol};
+use crate::wire::Wire;
+use bstr::BString;
+use gix_protocol::fetch::ShallowMemory;
+use gix_protocol::transport::{Discard, ObjectId, Protocol};
 use gixp_fetch_command::failure::Failure;
 use gixp_fetch_command::receive::PackReceiver;
 use gixp_fetch_command::repository::Repository;
-use gixp_fetch_command::session::{Asked, Session, Sink};
-use gixp_fetch_command::shown::Shown;
+use gixp_fetch_command::session::{Asked, How, Session, Sink};
 use gixp_fetch_command::{negotiate, unless_failed};
-use gixp_fetch_parts::{Haves, PackPlace, Wish};
-use gixp_remote_parts::{
-    Boundary, Choices, Program, Request, Start, Taking, Task, added, boundary_after, is_true,
-};
+use gixp_fetch_parts::{PackPlace, Wish};
+use gixp_remote_parts::{Boundary, Task};
 use std::alloc::Global;
-use std::cell::Cell;
-use std::collections::BTreeSet;
-use std::fs;
 use std::io::ErrorKind;
 
 /// A session that may be there.
-pub(crate) type Open = Option<Session<'static, Wire>>;
+pub(crate) type Open<'a> = Option<Session<'static, Wire<'a>>>;
 
-/// What a fetch is for.
+// How one fetch goes on, once git has told where the repository is.
 #[derive(Clone, Copy)]
-pub(crate) struct Order<'a> {
-    pub(crate) reach: Reach<'a>,
-    pub(crate) choices: &'a Choices,
-    /// The objects that git asks for.
-    pub(crate) ids: &'a [ObjectId],
-}
-
-// The map of the ids alone.
-fn map_of(alloc: Global, ids: &[ObjectId]) -> Result<RefMap, Trouble> {
-    let mut mappings = Vec::new(alloc);
-    for id in ids {
-        mappings.push(Mapping {
-            remote: Source::ObjectId(*id),
-            local: None,
-            spec_index: SpecIndex::ExplicitInRemote(0),
-        })?;
-    }
-    Ok(RefMap {
-        mappings,
-        refspecs: Vec::new(alloc),
-        extra_refspecs: Vec::new(alloc),
-        fixes: Vec::new(alloc),
-        remote_refs: Vec::new(alloc),
-        object_hash: Kind::Sha1,
-    })
-}
-
-// What is asked for.
-fn wish_of(alloc: Global, order: Order<'_>, shallow: Shallow, haves: Haves) -> Wish<'static> {
-    let tags = if order.choices.follows_tags {
-        Tags::Included
-    } else {
-        Tags::None
-    };
-    Wish {
-        pack: "",
-        shallow,
-        tags,
-        rejects_shallow: order.choices.rejects_shallow,
-        haves,
-        specs: Vec::new(alloc),
-    }
-}
-
-// Lets git list the commits, which are read as they are offered.
-fn start_listing(order: Order<'_>, shell: &mut Shell, has_alternates: bool) -> Result<(), Trouble> {
-    let alloc = order.reach.rt.alloc();
-    let mut words = owned(
-        alloc,
-        &[b"rev-list", b"--all", b"--timestamp", b"--parents"],
-    )?;
-    if has_alternates {
-        words.push(BString::from_slice(alloc, b"--alternate-refs")?)?;
-    }
-    if let Some(most) = variable(order.reach.rt, "GIXP_COMMITS") {
-        words.push(BString::from_slice(alloc, b"-n")?)?;
-        words.push(BString::from_slice(alloc, most.as_bytes())?)?;
-    }
-    shell.ask(&Request::Start(Start {
-        task: Task::Listing,
-        program: Program::Git,
-        input: NOTHING,
-        output: "commits",
-        variables: &[],
-        words: &words,
-    }))?;
-    Ok(())
-}
-
-// What is known of the repository that fetches.
-fn known(
-    order: Order<'_>,
-    shell: &mut Shell,
-    boundary: &[ObjectId],
-    haves: Haves,
-) -> Result<Repository, Trouble> {
-    let alloc = order.reach.rt.alloc();
-    let boundary = Vec::from_slice(alloc, boundary)?;
-    if order.choices.is_cloning || order.choices.is_refetch {
-        return Ok(new_repository(alloc, boundary));
-    }
-    let mut found = repository(order.reach.rt, shell, boundary)?;
-    if haves != Haves::InOrder {
-        let told = shell.git(
-            order.reach.rt,
-            &[b"rev-list", b"--all", b"--timestamp", b"--parents"],
-        )?;
-        if found.objects.read_commits(alloc, &told.text).is_err() {
-            return Err(Trouble::Other("the repository can't be read"));
-        }
-    }
-    Ok(found)
-}
-
-// The words for what git checks of the objects that come, as `git fetch-pack` has them.
-fn checks_of(order: Order<'_>, shell: &mut Shell) -> Result<Vec<BString>, Trouble> {
-    let alloc = order.reach.rt.alloc();
-    let settings = order.reach.settings;
-    let chosen = match settings.last(b"fetch.fsckobjects") {
-        Some(found) => Some(found),
-        None => settings.last(b"transfer.fsckobjects"),
-    };
-    let Some(chosen) = chosen else {
-        return Ok(Vec::new(alloc));
-    };
-    match is_true(chosen) {
-        Some(false) => return Ok(Vec::new(alloc)),
-        Some(true) => {}
-        None => return Err(Trouble::of_word(alloc, "bad boolean value of", chosen.name.as_bytes())),
-    }
-    let mut list = Vec::new(alloc);
-    for entry in settings.entries() {
-        if let Some(name) = entry.name.as_bytes().strip_prefix(b"fetch.fsck.") {
-            add_check(order, shell, &mut list, name, entry.text())?;
-        }
-    }
-    let mut words = Vec::new(alloc);
-    words.push(joined(alloc, &[b"--strict", &list])?)?;
-    Ok(words)
-}
-
-// One of the messages whose severity the user chose. git tells whether it knows it: with a word that isn't there it tells its
-// usage, but not where it doesn't know the message.
-fn add_check(
-    order: Order<'_>,
-    shell: &mut Shell,
-    list: &mut Vec<u8>,
-    name: &[u8],
-    value: &[u8],
-) -> Result<(), Trouble> {
-    let rt = order.reach.rt;
-    let alloc = rt.alloc();
-    let mark: &[u8] = if list.is_empty() { b"=" } else { b"," };
-    if name == b"skiplist".as_slice() {
-        let told = shell.git(
-            rt,
-            &[b"config", b"--type=path", b"--get", b"fetch.fsck.skiplist"],
-        )?;
-        list.extend_from_slice(mark)?;
-        list.extend_from_slice(b"skiplist=")?;
-        list.extend_from_slice(told.text.as_slice().trim_end())?;
-        return Ok(());
-    }
-    let strict = joined(alloc, &[b"--strict=", name, b"=ignore"])?;
-    let words = owned(
-        alloc,
-        &[b"index-pack", strict.as_bytes(), b"--no-such-word"],
-    )?;
-    let told = shell.tell(rt, Task::Probe, Program::Git, NOTHING, &[], &words)?;
-    if told.status != 129 {
-        let name = BString::from_slice(alloc, name)?;
-        let _ = eprintln!(rt; "warning: Skipping unknown msg id '{name}'");
-        return Ok(());
-    }
-    list.extend_from_slice(mark)?;
-    list.extend_from_slice(name)?;
-    list.extend_from_slice(b"=")?;
-    list.extend_from_slice(value)?;
-    Ok(())
-}
-
-// Those of the ids whose objects are here, or the commits among them, as git sees them with these variables.
-fn here(
-    order: Order<'_>,
-    shell: &mut Shell,
-    variables: &[BString],
-    ids: &[ObjectId],
-    commits_alone: bool,
-) -> Result<BTreeSet<ObjectId>, Trouble> {
-    let rt = order.reach.rt;
-    let alloc = rt.alloc();
-    let text = shallow_text(alloc, ids)?;
-    fs::write(rt, "ids", text.as_slice())?;
-    let words = owned(
-        alloc,
-        &[b"cat-file", b"--batch-check=%(objecttype) %(objectname)"],
-    )?;
-    let told = shell.tell(rt, Task::Question, Program::Git, "ids", variables, &words)?;
-    let mut found = BTreeSet::new(alloc);
-    for line in told.text.as_slice().lines() {
-        if let Some((kind, id)) = line.split_once_str(b" ") {
-            if kind == b"commit".as_slice() || !commits_alone {
-                if let Ok(id) = ObjectId::from_hex(id) {
-                    found.insert(id)?;
-                }
-            }
-        }
-    }
-    Ok(found)
-}
-
-/// What comes of a fetch.
-#[derive(Drop)]
-struct Came {
-    kept: Option<Kept>,
-    boundary: Vec<ObjectId>,
-}
-
-/// What shows the server's progress.
-pub(crate) fn shown_of<'a>(
-    rt: &'a HostRuntime,
-    shows_progress: bool,
-    has_failed: &'a Cell<bool>,
-) -> Shown<'a> {
-    Shown {
-        rt,
-        shows_progress,
-        has_failed,
-    }
+struct Plan<'a, 'b, 'c, 'd> {
+    order: Order<'a, 'b>,
+    wish: &'c Wish<'d>,
+    how: &'c How,
+    pack: &'c PackPlan,
+    // Whether commits of other repositories are offered too, whose objects are borrowed.
+    has_alternates: bool,
 }
 
 // Fetches over a session, and gives the new boundary.
 fn fetch_over<P: PackPlace + Drop>(
-    rt: &HostRuntime,
-    session: &mut Session<'static, Wire>,
+    reach: Reach<'_>,
+    session: &mut Session<'static, Wire<'_>>,
     asked: Asked<'_>,
     repository: &mut Repository,
     place: P,
-    shown: &mut Shown<'_>,
 ) -> Result<Vec<ObjectId>, Failure> {
-    let alloc = rt.alloc();
+    let alloc = reach.rt.alloc();
     let boundary = Vec::from_slice(alloc, &repository.boundary)?;
     let mut sink = Sink {
         boundary: ShallowMemory::new(boundary),
         pack: PackReceiver::new(alloc, place),
     };
     let came = negotiate(
-        rt,
+        reach.rt,
         session,
         repository,
         asked,
         Some("commits"),
         &mut sink,
-        shown,
+        &mut Discard,
     );
-    match unless_failed(came, shown.has_failed.get()) {
+    match unless_failed(came, reach.has_failed.get()) {
         Ok(_) => keep_pack(alloc, &mut sink),
         Err(e) => {
             sink.pack.give_up();
@@ -292,35 +86,38 @@ fn keep_pack<P: PackPlace>(alloc: Global, sink: &mut Sink<P>) -> Result<Vec<Obje
     Ok(Vec::from_slice(alloc, sink.boundary.ids())?)
 }
 
+// Tells the user that a filter is left out where the server has none, as git does.
+fn warn_of_filter(
+    reach: Reach<'_>,
+    session: &Session<'static, Wire<'_>>,
+    how: &How,
+) -> Result<(), Trouble> {
+    if how.filter.is_some() && !session.can_filter()? {
+        let _ = eprintln!(reach.rt; "warning: filtering not recognized by server, ignoring");
+    }
+    Ok(())
+}
+
 // A fetch over one session, and what became of the pack.
 fn fetch_by(
-    order: Order<'_>,
+    plan: Plan<'_, '_, '_, '_>,
     shell: &mut Shell,
-    session: &mut Session<'static, Wire>,
-    wish: &Wish<'_>,
+    session: &mut Session<'static, Wire<'_>>,
     repository: &mut Repository,
-    plan: &PackPlan,
-    has_alternates: bool,
 ) -> Result<Came, Trouble> {
-    let alloc = order.reach.rt.alloc();
-    list_commits(order, shell, wish, has_alternates)?;
-    let map = map_of(alloc, order.ids)?;
+    let order = plan.order;
+    let rt = order.reach.rt;
+    list_commits(order, shell, plan.wish.haves, plan.has_alternates)?;
+    warn_of_filter(order.reach, session, plan.how)?;
+    let map = map_of(rt.alloc(), order.ids)?;
     let asked = Asked {
         map: &map,
-        wish: &*wish,
+        wish: &*plan.wish,
+        how: &*plan.how,
     };
-    let plan = plan.copy(alloc)?;
-    let has_failed = Cell::new(false);
-    let mut shown = shown_of(order.reach.rt, order.choices.tells_progress(), &has_failed);
-    let place = IndexedPack::new(order.reach.rt.clone()?, shell, plan);
-    let boundary = fetch_over(
-        order.reach.rt,
-        session,
-        asked,
-        repository,
-        place,
-        &mut shown,
-    )?;
+    let pack = plan.pack.copy(rt.alloc())?;
+    let place = IndexedPack::new(rt.clone()?, shell, pack);
+    let boundary = fetch_over(order.reach, session, asked, repository, place)?;
     let kept = match shell.pack {
         PackState::Kept(kept) => Some(kept),
         PackState::Begun | PackState::Unbegun => None,
@@ -328,55 +125,39 @@ fn fetch_by(
     Ok(Came { kept, boundary })
 }
 
-// Whether a fetch failed since the server had left, before a pack came.
-fn was_left(came: &Result<Came, Trouble>, shell: &Shell) -> bool {
+// Whether a fetch failed since the server had left, before a pack came. A web server is asked anew by each request.
+fn was_left(reach: Reach<'_>, came: &Result<Came, Trouble>, shell: &Shell) -> bool {
     match came {
-        Err(Trouble::Fetch(Failure::HungUp)) => shell.pack == PackState::Unbegun,
+        Err(Trouble::Fetch(Failure::HungUp)) => {
+            shell.pack == PackState::Unbegun && !reach.address.transport.is_web()
+        }
         _ => false,
     }
 }
 
 // Fetches over the session that is there, or over a new one, also where the one that is there was left by the server.
-fn fetch_once_more(
-    order: Order<'_>,
+fn fetch_once_more<'a>(
+    plan: Plan<'a, '_, '_, '_>,
     shell: &mut Shell,
-    open: &mut Open,
-    wish: &Wish<'_>,
+    open: &mut Open<'a>,
     repository: &mut Repository,
-    plan: &PackPlan,
-    has_alternates: bool,
 ) -> Result<Came, Trouble> {
+    let reach = plan.order.reach;
     if let Some(mut session) = open.take() {
-        let came = fetch_by(
-            order,
-            shell,
-            &mut session,
-            wish,
-            repository,
-            plan,
-            has_alternates,
-        );
-        if !was_left(&came, shell) {
+        let came = fetch_by(plan, shell, &mut session, repository);
+        if !was_left(reach, &came, shell) {
             return settle(session, open, came?);
         }
     }
-    let mut session = open_session(order, shell)?;
-    let came = fetch_by(
-        order,
-        shell,
-        &mut session,
-        wish,
-        repository,
-        plan,
-        has_alternates,
-    )?;
+    let mut session = connect(reach, shell, plan.order.choices.is_quiet)?;
+    let came = fetch_by(plan, shell, &mut session, repository)?;
     settle(session, open, came)
 }
 
 // Keeps a session of version 2, and ends any other.
-fn settle(
-    mut session: Session<'static, Wire>,
-    open: &mut Open,
+fn settle<'a>(
+    mut session: Session<'static, Wire<'a>>,
+    open: &mut Open<'a>,
     came: Came,
 ) -> Result<Came, Trouble> {
     if session.version() == Protocol::V2 {
@@ -387,155 +168,26 @@ fn settle(
     Ok(came)
 }
 
-// Begins a list of the commits anew.
-fn list_commits(
-    order: Order<'_>,
-    shell: &mut Shell,
-    wish: &Wish<'_>,
-    has_alternates: bool,
-) -> Result<(), Trouble> {
-    shell.end(Task::Listing)?;
-    if wish.haves == Haves::InOrder {
-        start_listing(order, shell, has_alternates)?;
-    }
-    Ok(())
-}
-
-// Connects with the server.
-fn open_session(order: Order<'_>, shell: &mut Shell) -> Result<Session<'static, Wire>, Trouble> {
-    let has_failed = Cell::new(false);
-    let mut shown = shown_of(order.reach.rt, false, &has_failed);
-    connect(order.reach, shell, &mut shown)
-}
-
-// What is taken of the server's boundary.
-fn taking_of(choices: &Choices) -> Taking {
-    if choices.has_depth() {
-        Taking::Asked
-    } else if choices.is_cloning || choices.updates_shallow {
-        Taking::Came
-    } else {
-        Taking::Nothing
-    }
-}
-
-// What becomes of the boundary, before the pack is put beside the others.
-fn boundary_of(
-    order: Order<'_>,
-    shell: &mut Shell,
-    plan: &PackPlan,
-    old: &[ObjectId],
-    came: &Came,
-) -> Result<Boundary, Trouble> {
-    let alloc = order.reach.rt.alloc();
-    let known: BTreeSet<ObjectId> = old.iter().copied().collect(alloc)?;
-    let ids = added(alloc, &known, &came.boundary)?;
-    let taking = taking_of(order.choices);
-    let mut before = BTreeSet::new(alloc);
-    let mut commits = BTreeSet::new(alloc);
-    if !ids.is_empty() && taking != Taking::Nothing {
-        before = here(order, shell, &[], &ids, false)?;
-        let variables: &[BString] = if came.kept.is_some() {
-            &plan.variables
-        } else {
-            &[]
-        };
-        commits = here(order, shell, variables, &ids, true)?;
-    }
-    Ok(boundary_after(alloc, taking, &known, &came.boundary, &before, &commits)?)
-}
-
-// Takes the lock of the boundary, which is git's own.
-fn lock_boundary(alloc: Global, shell: &mut Shell, lock: &[u8]) -> Result<(), Trouble> {
-    if shell.ask(&Request::Hold(lock))? == 0 {
-        Ok(())
-    } else {
-        Err(Trouble::of_word(
-            alloc,
-            "Unable to create (it exists, or can't be written)",
-            lock,
-        ))
-    }
-}
-
-// Puts a new boundary in the place of the old one, whose lock is held.
-fn write_boundary(
-    order: Order<'_>,
-    shell: &mut Shell,
-    places: &Places,
-    lock: &[u8],
-    ids: &[ObjectId],
-) -> Result<(), Trouble> {
-    let rt = order.reach.rt;
-    let text = shallow_text(rt.alloc(), ids)?;
-    if text.is_empty() {
-        let _ = fs::remove_file(rt, places.shallow.as_str());
-        shell.ask(&Request::Free(lock))?;
-        return Ok(());
-    }
-    fs::write(rt, "boundary", text.as_slice())?;
-    if shell.ask(&Request::Replace(lock, places.shallow.as_bytes()))? == 0 {
-        Ok(())
-    } else {
-        Err(Trouble::Other("the shallow boundary can't be written"))
-    }
-}
-
-// Changes the boundary, where it isn't the same.
-fn change_boundary(
-    order: Order<'_>,
-    shell: &mut Shell,
-    places: &Places,
-    lock: &[u8],
-    ids: &[ObjectId],
-    is_same: bool,
-) -> Result<(), Trouble> {
-    let has_lock = order.choices.has_depth();
-    if is_same {
-        if has_lock {
-            shell.ask(&Request::Free(lock))?;
-        }
-        return Ok(());
-    }
-    if !has_lock {
-        lock_boundary(order.reach.rt.alloc(), shell, lock)?;
-    }
-    write_boundary(order, shell, places, lock, ids)
-}
-
 /// What git is told of a fetch.
 #[derive(Drop)]
 pub(crate) struct Fetched {
     /// The lock of the pack.
-    pub(crate) lock: Option<String>,
+    pub(crate) lock: Option<BString>,
     /// Whether all that the pack leads to is in it.
     pub(crate) is_closed: bool,
 }
 
-// The flags of `git index-pack`.
-fn flags_of<'a>(alloc: Global, choices: &Choices) -> Result<Vec<&'a [u8]>, Trouble> {
-    let mut flags: Vec<&'a [u8]> = Vec::new(alloc);
-    if choices.checks && !choices.has_depth() {
-        flags.push(b"--check-self-contained-and-connected")?;
-    }
-    if choices.tells_progress() {
-        flags.push(b"-v")?;
-    }
-    Ok(flags)
-}
-
 // Puts the pack and the boundary where git finds them.
 fn finish(
-    order: Order<'_>,
+    plan: Plan<'_, '_, '_, '_>,
     shell: &mut Shell,
     places: &Places,
-    plan: &PackPlan,
-    lock: &[u8],
     old: &[ObjectId],
     came: &Came,
 ) -> Result<Fetched, Trouble> {
+    let order = plan.order;
     let rt = order.reach.rt;
-    let boundary = boundary_of(order, shell, plan, old, came)?;
+    let boundary = boundary_of(order, shell, plan.pack, old, came)?;
     if let Boundary::Refused(id) = &boundary {
         let digits = id.to_hex();
         return Err(Trouble::of_word(
@@ -544,64 +196,47 @@ fn finish(
             &digits,
         ));
     }
-    let pack_lock = match &came.kept {
-        Some(kept) => place(rt, shell, places, plan, &kept.hash)?,
+    let lock = match &came.kept {
+        Some(kept) => place(rt, shell, places, plan.pack, &kept.hash)?,
         None => None,
     };
-    match &boundary {
-        Boundary::Becomes(ids) => {
-            let is_same = ids.as_slice() == old;
-            change_boundary(order, shell, places, lock, ids, is_same)?;
-        }
-        Boundary::Grows(more) => {
-            let mut ids = Vec::from_slice(rt.alloc(), old)?;
-            ids.extend_from_slice(more)?;
-            change_boundary(order, shell, places, lock, &ids, more.is_empty())?;
-        }
-        Boundary::Stays | Boundary::Refused(_) => {}
-    }
+    change_boundary(order, shell, places, old, &boundary)?;
     let is_closed = match &came.kept {
-        Some(kept) => kept.is_closed && order.choices.checks && !order.choices.has_depth(),
+        Some(kept) => kept.is_closed && order.choices.asks_closed(),
         None => false,
     };
-    Ok(Fetched {
-        lock: pack_lock,
-        is_closed,
-    })
+    Ok(Fetched { lock, is_closed })
 }
 
-/// Fetches the objects of these ids.
-pub(crate) fn fetch(
-    order: Order<'_>,
+/// Fetches the objects of these ids. The pack is indexed in a folder of this name.
+pub(crate) fn fetch<'a>(
+    order: Order<'a, '_>,
     shell: &mut Shell,
-    open: &mut Open,
+    open: &mut Open<'a>,
     folder: &[u8],
 ) -> Result<Fetched, Trouble> {
     let rt = order.reach.rt;
     let alloc = rt.alloc();
     let places = Places::ask(rt, shell)?;
     let old = places.boundary(rt)?;
-    let lock = joined(alloc, &[places.shallow.as_bytes(), b".lock"])?;
     if order.choices.has_depth() {
-        lock_boundary(alloc, shell, lock.as_bytes())?;
+        lock_boundary(alloc, shell, &places)?;
     }
     let haves = haves_of(rt, order.reach.settings);
     let shallow = shallow_of(rt, shell, order.choices)?;
-    let wish = wish_of(alloc, order, shallow, haves);
+    let wish = wish_of(alloc, order.choices, shallow, haves);
     let mut repository = known(order, shell, &old, haves)?;
     let checks = checks_of(order, shell)?;
-    let flags = flags_of(alloc, order.choices)?;
-    let plan = PackPlan::new(rt, &places, folder, &checks, &flags)?;
-    let has_alternates = places.has_alternates(rt);
-    let came = fetch_once_more(
+    let pack = PackPlan::new(rt, &places, folder, order.choices, &checks)?;
+    let how = how_of(alloc, order.choices)?;
+    let plan = Plan {
         order,
-        shell,
-        open,
-        &wish,
-        &mut repository,
-        &plan,
-        has_alternates,
-    )?;
+        wish: &wish,
+        how: &how,
+        pack: &pack,
+        has_alternates: places.has_alternates(rt),
+    };
+    let came = fetch_once_more(plan, shell, open, &mut repository)?;
     shell.end(Task::Listing)?;
-    finish(order, shell, &places, &plan, lock.as_bytes(), &old, &came)
+    finish(plan, shell, &places, &old, &came)
 }

@@ -1,21 +1,25 @@
 //! The refs of a server, as git reads them from a remote helper.
+ghost use Rattle.std.specs.Prelude.{◌≡◌, ◌++◌, OnOk};
+ghost use Rattle.std.specs.Option.{option_map};
+ghost use Rattle.bstr.specs.Owned.{bstring_bytes};
+ghost use Rattle.gixp_remote_command.specs.RefLines.{is_plain, id_line, symbolic_line, object_lines};
+
 use bstr::BString;
 use gix_protocol::handshake::Ref;
 use gix_protocol::transport::ObjectId;
 use std::alloc::{AllocError, Global};
 
 // Whether a name fits the lines of git's: git leaves out others too, as names that no ref may have (git-check-ref-format).
-fn is_plain(name: &[u8]) -> bool {
+fn is_plain(name: &[u8]) -> bool
+    ensures { result ≡ is_plain name.now }
+{
     !name.is_empty() && name.iter().all(|byte| *byte > b' ' && *byte != 127)
 }
 
 // A line of an id and a name.
-fn append_id(
-    text: &mut Vec<u8>,
-    id: &ObjectId,
-    name: &[u8],
-    mark: &[u8],
-) -> Result<(), AllocError> {
+fn append_id(text: &mut Vec<u8>, id: &ObjectId, name: &[u8], mark: &[u8]) -> Result<(), AllocError>
+    ensures { OnOk result (text.new.items ≡ text.old.items ++ id_line id.now.bytes name.now mark.now) }
+{
     text.extend_from_slice(&id.to_hex())?;
     text.extend_from_slice(b" ")?;
     text.extend_from_slice(name)?;
@@ -24,7 +28,9 @@ fn append_id(
 }
 
 // A line of a symbolic ref.
-fn append_symbolic(text: &mut Vec<u8>, target: &[u8], name: &[u8]) -> Result<(), AllocError> {
+fn append_symbolic(text: &mut Vec<u8>, target: &[u8], name: &[u8]) -> Result<(), AllocError>
+    ensures { OnOk result (text.new.items ≡ text.old.items ++ symbolic_line target.now name.now) }
+{
     text.extend_from_slice(b"@")?;
     text.extend_from_slice(target)?;
     text.extend_from_slice(b" ")?;
@@ -45,6 +51,24 @@ fn holders(alloc: Global, refs: &[Ref]) -> Result<Vec<BString>, AllocError> {
     }
     names.sort()?;
     Ok(names)
+}
+
+// The lines of an object, and of a tag that leads to it.
+fn append_object(
+    text: &mut Vec<u8>,
+    name: &[u8],
+    tag: &Option<ObjectId>,
+    object: &ObjectId,
+) -> Result<(), AllocError>
+    ensures { OnOk result (text.new.items ≡ text.old.items ++ object_lines name.now (option_map (λ t. t.bytes) tag.now) object.now.bytes) }
+{
+    match tag {
+        Some(tag) => {
+            append_id(text, tag, name, b"")?;
+            append_id(text, object, name, b"^{}")
+        }
+        None => append_id(text, object, name, b""),
+    }
 }
 
 // The lines of a ref. A symbolic ref is told by its target where that holds an object itself, else by what it leads to.
@@ -84,13 +108,7 @@ fn append_link(
     if holders.binary_search(target).is_ok() {
         return append_symbolic(text, target.as_bytes(), name.as_bytes());
     }
-    match tag {
-        Some(tag) => {
-            append_id(text, tag, name.as_bytes(), b"")?;
-            append_id(text, object, name.as_bytes(), b"^{}")
-        }
-        None => append_id(text, object, name.as_bytes(), b""),
-    }
+    append_object(text, name.as_bytes(), tag, object)
 }
 
 /// What git is told of the refs.

@@ -15,6 +15,8 @@ use std::io::ErrorKind;
 pub(crate) struct Places {
     /// The shallow boundary.
     pub(crate) shallow: String,
+    /// git's lock of it.
+    pub(crate) shallow_lock: String,
     /// The objects.
     pub(crate) objects: String,
 }
@@ -47,7 +49,12 @@ impl Places {
         let mut lines = told.text.as_slice().lines();
         let shallow = path_of(rt.alloc(), lines.next())?;
         let objects = path_of(rt.alloc(), lines.next())?;
-        Ok(Places { shallow, objects })
+        let shallow_lock = format!(in rt.alloc(); "{shallow}.lock")?;
+        Ok(Places {
+            shallow,
+            shallow_lock,
+            objects,
+        })
     }
 
     /// The boundary that is there.

@@ -2,13 +2,15 @@
 ghost use Rattle.std.specs.Prelude.{⊤};
 
 use crate::local::Places;
-use crate::setup::{joined, variable};
-use crate::shell::{Shell, owned};
+use crate::setup::variable;
+use crate::shell::Shell;
 use crate::trouble::Trouble;
 use bstr::{BString, ByteSlice};
 use gix_protocol::transport::ObjectId;
 use gixp_fetch_parts::PackPlace;
-use gixp_remote_parts::{Program, Request, Start, Task};
+use gixp_remote_parts::{
+    Choices, Program, Request, Start, Task, index_words, object_variables, pack_file, told_pack,
+};
 use std::alloc::Global;
 use std::fs::{File, OpenOptions};
 use std::io::{ErrorKind, Read, Write};
@@ -23,43 +25,6 @@ pub(crate) struct PackPlan {
     pub(crate) words: Vec<BString>,
     /// The variables that make git look into that folder.
     pub(crate) variables: Vec<BString>,
-}
-
-// A path as the list of alternates has it, in quotes.
-fn in_quotes(alloc: Global, path: &[u8]) -> Result<Vec<u8>, Trouble> {
-    let mut text = Vec::from_slice(alloc, b"\"")?;
-    for byte in path {
-        if *byte == b'"' || *byte == b'\\' {
-            text.push(b'\\')?;
-        }
-        text.push(*byte)?;
-    }
-    text.push(b'"')?;
-    Ok(text)
-}
-
-/// The variables that make git look into a folder for objects first.
-fn variables_of(rt: &HostRuntime, folder: &str, objects: &str) -> Result<Vec<BString>, Trouble> {
-    let alloc = rt.alloc();
-    let others = in_quotes(alloc, objects.as_bytes())?;
-    let more = variable(rt, "GIT_ALTERNATE_OBJECT_DIRECTORIES");
-    let first = joined(alloc, &[b"GIT_OBJECT_DIRECTORY=", folder.as_bytes()])?;
-    let second = match &more {
-        Some(more) => joined(
-            alloc,
-            &[
-                b"GIT_ALTERNATE_OBJECT_DIRECTORIES=",
-                &others,
-                b":",
-                more.as_bytes(),
-            ],
-        )?,
-        None => joined(alloc, &[b"GIT_ALTERNATE_OBJECT_DIRECTORIES=", &others])?,
-    };
-    let mut variables = Vec::new(alloc);
-    variables.push(first)?;
-    variables.push(second)?;
-    Ok(variables)
 }
 
 // Words once more.
@@ -86,26 +51,26 @@ impl PackPlan {
         rt: &HostRuntime,
         places: &Places,
         name: &[u8],
+        choices: &Choices,
         checks: &[BString],
-        flags: &[&[u8]],
     ) -> Result<PackPlan, Trouble> {
         let alloc = rt.alloc();
         let Ok(room) = name.to_str() else {
             return Err(Trouble::Other("the helper's folder is no UTF-8"));
         };
         let folder = format!(in alloc; "{}/tmp_objdir-{room}", places.objects)?;
-        let keep = joined(alloc, &[b"--keep=fetched by gixp in ", name])?;
-        let mut words = owned(
+        let words = index_words(alloc, name, choices, checks)?;
+        let more = variable(rt, "GIT_ALTERNATE_OBJECT_DIRECTORIES");
+        let more = match &more {
+            Some(more) => Some(more.as_bytes()),
+            None => None,
+        };
+        let variables = object_variables(
             alloc,
-            &[b"index-pack", b"--stdin", b"--fix-thin", keep.as_bytes()],
+            folder.as_bytes(),
+            places.objects.as_bytes(),
+            more,
         )?;
-        for flag in flags {
-            words.push(BString::from_slice(alloc, *flag)?)?;
-        }
-        for check in checks {
-            words.push(check.clone()?)?;
-        }
-        let variables = variables_of(rt, folder.as_str(), places.objects.as_str())?;
         Ok(PackPlan {
             folder,
             words,
@@ -144,14 +109,13 @@ pub(crate) struct Kept {
     pub(crate) is_closed: bool,
 }
 
-// What `git index-pack` says: `keep`, a tab and the name of the pack, or `pack` where its lock isn't its own.
-fn hash_of(line: &[u8]) -> Option<ObjectId> {
-    let line = line.strip_suffix(b"\n").unwrap_or(line);
-    let (_, hash) = line.split_once_str(b"\t")?;
-    match ObjectId::from_hex(hash) {
-        Ok(hash) => Some(hash),
-        Err(_) => None,
-    }
+/// What comes of a fetch.
+#[derive(Drop)]
+pub(crate) struct Came {
+    /// The pack, if one came.
+    pub(crate) kept: Option<Kept>,
+    /// The boundary as the server makes it.
+    pub(crate) boundary: Vec<ObjectId>,
 }
 
 // The kind of a trouble, for a call that reports kinds alone.
@@ -232,7 +196,7 @@ impl<'a> IndexedPack<'a> {
         }
         let status = self.shell.ask(&Request::Status(Task::Pack))?;
         // 1: the pack is whole, but leads to what isn't in it
-        match hash_of(&text) {
+        match told_pack(&text) {
             Some(hash) if status < 2 => Ok(Kept {
                 hash,
                 is_closed: status == 0,
@@ -275,13 +239,26 @@ impl PackPlace for IndexedPack<'_> {
     }
 }
 
-// The path of a file of a pack.
-fn file_of(alloc: Global, folder: &str, hash: &ObjectId, end: &str) -> Result<String, Trouble> {
-    let digits = hash.to_hex();
-    match digits.as_slice().to_str() {
-        Ok(digits) => Ok(format!(in alloc; "{folder}/pack/pack-{digits}{end}")?),
-        Err(_) => Err(Trouble::Memory),
+// A path as files are opened by.
+fn path_of(path: &[u8]) -> Result<&str, Trouble> {
+    match path.to_str() {
+        Ok(path) => Ok(path),
+        Err(_) => Err(Trouble::Other("a path of the objects is no UTF-8")),
     }
+}
+
+// Whether every pack has a file of this kind.
+fn is_always_there(end: &[u8]) -> bool {
+    end == b".pack".as_slice() || end == b".idx".as_slice()
+}
+
+// Gives a file of a pack its place beside the others, if there is one.
+fn move_file(rt: &HostRuntime, from: &[u8], to: &[u8], end: &[u8]) -> Result<(), Trouble> {
+    let one = path_of(from)?;
+    if is_always_there(end) || fs::metadata(rt, one).is_ok() {
+        fs::rename(rt, one, path_of(to)?)?;
+    }
+    Ok(())
 }
 
 /// Puts a pack beside the others, its lock first and its index last. Returns the path of its lock; none where the same pack is
@@ -292,26 +269,25 @@ pub(crate) fn place(
     places: &Places,
     plan: &PackPlan,
     hash: &ObjectId,
-) -> Result<Option<String>, Trouble> {
+) -> Result<Option<BString>, Trouble> {
     let alloc = rt.alloc();
-    let from = plan.folder.as_str();
-    let to = places.objects.as_str();
-    let index = file_of(alloc, to, hash, ".idx")?;
-    if fs::metadata(rt, index.as_str()).is_ok() {
+    let from = plan.folder.as_bytes();
+    let to = places.objects.as_bytes();
+    let index = pack_file(alloc, to, hash, b".idx")?;
+    if fs::metadata(rt, path_of(&index)?).is_ok() {
         return Ok(None);
     }
-    let lock = file_of(alloc, to, hash, ".keep")?;
-    let own_lock = file_of(alloc, from, hash, ".keep")?;
-    let status = shell.ask(&Request::Place(own_lock.as_bytes(), lock.as_bytes()))?;
-    for end in [".pack", ".rev", ".idx"] {
-        let one = file_of(alloc, from, hash, end)?;
-        let other = file_of(alloc, to, hash, end)?;
-        if end != ".rev" || fs::metadata(rt, one.as_str()).is_ok() {
-            fs::rename(rt, one.as_str(), other.as_str())?;
-        }
+    let lock = pack_file(alloc, to, hash, b".keep")?;
+    let own_lock = pack_file(alloc, from, hash, b".keep")?;
+    let status = shell.ask(&Request::Place(&own_lock, &lock))?;
+    // a pack whose missing objects are promised is none before it says so
+    for end in [b".promisor".as_slice(), b".pack", b".rev", b".idx"] {
+        let one = pack_file(alloc, from, hash, end)?;
+        let other = pack_file(alloc, to, hash, end)?;
+        move_file(rt, &one, &other, end)?;
     }
     if status == 0 {
-        Ok(Some(lock))
+        Ok(Some(BString::from(lock)))
     } else {
         Ok(None)
     }

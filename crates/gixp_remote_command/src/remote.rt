@@ -1,13 +1,16 @@
 //! The conversation with git.
 use crate::connect::{Reach, connect};
-use crate::fetching::{Open, Order, fetch, shown_of};
+use crate::fetching::{Open, fetch};
 use crate::listing::refs_told;
-use crate::setup::{settings_text, url_of, version_of};
+use crate::order::Order;
+use crate::setup::{Given, given, settings_text, version_of};
 use crate::shell::{NOTHING, Shell};
 use crate::trouble::Trouble;
 use bstr::{BString, ByteSlice};
-use gix_protocol::transport::ObjectId;
-use gixp_remote_parts::{Choices, Command, Program, Request, Settings, Start, Task, read_command};
+use gix_protocol::transport::{Discard, ObjectId};
+use gixp_remote_parts::{
+    Choices, Command, Program, Request, Settings, Start, Task, batch_told, read_command,
+};
 use gixp_url::Address;
 use std::cell::Cell;
 use std::collections::BTreeSet;
@@ -23,7 +26,7 @@ struct Helper<'a> {
     reach: Reach<'a>,
     shell: Shell,
     choices: Choices,
-    open: Open,
+    open: Open<'a>,
     // What the batch asks for, each id once.
     wanted: BTreeSet<ObjectId>,
     // How many batches were fetched.
@@ -57,10 +60,8 @@ impl Helper<'_> {
     // Lists the refs.
     fn list(&mut self) -> Result<(), Trouble> {
         self.watch()?;
-        let has_failed = Cell::new(false);
-        let mut shown = shown_of(self.reach.rt, self.choices.tells_progress(), &has_failed);
-        let mut session = connect(self.reach, &mut self.shell, &mut shown)?;
-        let refs = session.refs(&mut shown)?;
+        let mut session = connect(self.reach, &mut self.shell, self.choices.is_quiet)?;
+        let refs = session.refs(&mut Discard)?;
         self.open = Some(session);
         let told = refs_told(self.reach.rt.alloc(), &refs, self.choices.tells_format)?;
         for name in &told.funny {
@@ -110,14 +111,11 @@ impl Helper<'_> {
         };
         let fetched = fetch(order, &mut self.shell, &mut self.open, &folder)?;
         self.shell.end(Task::Watch)?;
-        if let Some(lock) = &fetched.lock {
-            let line = format!(in alloc; "lock {lock}\n")?;
-            self.say(line.as_bytes())?;
-        }
-        if fetched.is_closed {
-            self.say(b"connectivity-ok\n")?;
-        }
-        self.say(b"\n")
+        let lock = match &fetched.lock {
+            Some(lock) => Some(lock.as_bytes()),
+            None => None,
+        };
+        self.say(&batch_told(alloc, lock, fetched.is_closed)?)
     }
 
     // Does what a line asks for. Returns whether the conversation goes on.
@@ -154,8 +152,11 @@ impl Helper<'_> {
         Ok(())
     }
 
-    // Tells a server that waits that there is nothing more.
+    // Tells a server that waits that there is nothing more. To a web server that would be one more request.
     fn close(&mut self) {
+        if self.reach.address.transport.is_web() {
+            return;
+        }
         if let Some(session) = &mut self.open {
             session.end(false);
         }
@@ -166,30 +167,32 @@ impl Helper<'_> {
 #[derive(Drop)]
 struct Begun {
     rt: HostRuntime,
+    given: Given,
     address: Address,
     settings: Settings,
-    // The name of the helper's folder.
-    folder: String,
+    // Whether the server reported an error beside its answers.
+    has_failed: Cell<bool>,
 }
 
 // Speaks with git.
 fn serve(begun: &Begun, shell: Shell) -> Result<(), Trouble> {
     let alloc = begun.rt.alloc();
-    let version = version_of(&begun.rt, &begun.settings);
     let mut lines = BufReader::new(alloc, begun.rt.reader())?;
     let mut helper = Helper {
         reach: Reach {
             rt: &begun.rt,
+            name: &begun.given.name,
             address: &begun.address,
             settings: &begun.settings,
-            version,
+            version: version_of(&begun.rt, &begun.settings),
+            has_failed: &begun.has_failed,
         },
         shell,
         choices: Choices::new(alloc),
         open: None,
         wanted: BTreeSet::new(alloc),
         batches: 0,
-        folder: Vec::from_slice(alloc, begun.folder.as_bytes())?,
+        folder: Vec::from_slice(alloc, begun.given.folder.as_bytes())?,
     };
     let done = helper.obey_all(&mut lines);
     helper.close();
@@ -199,16 +202,17 @@ fn serve(begun: &Begun, shell: Shell) -> Result<(), Trouble> {
 /// Speaks with git until it has nothing more to ask.
 pub(crate) fn converse(rt: &HostRuntime) -> Result<(), Trouble> {
     let alloc = rt.alloc();
-    let (url, folder) = url_of(rt)?;
+    let given = given(rt)?;
     let mut shell = Shell::open(rt)?;
-    let address = Address::read(alloc, url.as_bytes())?;
+    let address = Address::read(alloc, &given.url)?;
     let text = settings_text(rt, &mut shell)?;
     let settings = Settings::read(alloc, &text)?;
     let begun = Begun {
         rt: rt.clone()?,
+        given,
         address,
         settings,
-        folder,
+        has_failed: Cell::new(false),
     };
     serve(&begun, shell)
 }

@@ -6,7 +6,7 @@ use gix_protocol::transport::Protocol;
 use gixp_fetch_parts::Haves;
 use gixp_remote_parts::Settings;
 use std::alloc::Global;
-use std::env;
+use std::{env, fs};
 
 /// A variable of the environment, none where it isn't set.
 pub(crate) fn variable(rt: &HostRuntime, name: &str) -> Option<String> {
@@ -16,13 +16,27 @@ pub(crate) fn variable(rt: &HostRuntime, name: &str) -> Option<String> {
     }
 }
 
-/// The words behind the program's name: the URL, and the name of the helper's folder.
-pub(crate) fn url_of(rt: &HostRuntime) -> Result<(String, String), Trouble> {
-    let mut words = env::args(rt)?.skip(1);
-    match (words.next(), words.next()) {
-        (Some(url), Some(folder)) => Ok((url, folder)),
-        _ => Err(Trouble::Other("there is no URL")),
-    }
+/// What the shell says before anything is asked: the words that git started it with, and the name of its folder.
+#[derive(Drop)]
+pub(crate) struct Given {
+    /// The name that git has for the server.
+    pub(crate) name: Vec<u8>,
+    /// The URL. It comes in a file, since others see a program's words.
+    pub(crate) url: Vec<u8>,
+    /// The name of the helper's folder.
+    pub(crate) folder: String,
+}
+
+/// What the shell says before anything is asked.
+pub(crate) fn given(rt: &HostRuntime) -> Result<Given, Trouble> {
+    let Some(folder) = env::args(rt)?.skip(1).next() else {
+        return Err(Trouble::Other("there is no folder"));
+    };
+    Ok(Given {
+        name: fs::read(rt, "name")?,
+        url: fs::read(rt, "url")?,
+        folder,
+    })
 }
 
 /// The text of the user's settings.
@@ -90,9 +104,5 @@ pub(crate) fn is_from_user(rt: &HostRuntime) -> bool {
 
 /// A text of its own.
 pub(crate) fn joined(alloc: Global, parts: &[&[u8]]) -> Result<BString, Trouble> {
-    let mut text = Vec::new(alloc);
-    for part in parts {
-        text.extend_from_slice(*part)?;
-    }
-    Ok(BString::from(text))
+    Ok(BString::from(gixp_remote_parts::joined(alloc, parts)?))
 }

@@ -2,11 +2,11 @@
 use crate::pack::PackState;
 use crate::trouble::Trouble;
 use bstr::BString;
-use gixp_remote_parts::{Program, Request, Start, Task, request_text};
+use gixp_remote_parts::{Program, Request, Start, Task, ask};
 use std::alloc::Global;
 use std::fs;
 use std::fs::{File, OpenOptions};
-use std::io::{BufRead, BufReader, ErrorKind, Write};
+use std::io::BufReader;
 
 /// What a program reads where it is to read nothing.
 pub(crate) const NOTHING: &str = "/dev/null";
@@ -17,7 +17,6 @@ pub(crate) struct Shell {
     alloc: Global,
     requests: File,
     answers: BufReader<File>,
-    line: Vec<u8>,
     /// What became of the pack that git was given last.
     pub(crate) pack: PackState,
 }
@@ -27,20 +26,6 @@ pub(crate) struct Shell {
 pub(crate) struct Told {
     pub(crate) status: u32,
     pub(crate) text: Vec<u8>,
-}
-
-// The number of a line.
-fn number_of(line: &[u8]) -> Option<u32> {
-    let mut number = 0u32;
-    for digit in line {
-        if !digit.is_ascii_digit() {
-            return None;
-        }
-        number = number
-            .checked_mul(10)?
-            .checked_add(u32::from(*digit - b'0'))?;
-    }
-    Some(number)
 }
 
 impl Shell {
@@ -53,19 +38,13 @@ impl Shell {
             alloc,
             requests,
             answers,
-            line: Vec::new(alloc),
             pack: PackState::Unbegun,
         })
     }
 
     /// Makes a request, and waits for its answer.
     pub(crate) fn ask(&mut self, request: &Request<'_>) -> Result<u32, Trouble> {
-        let text = request_text(self.alloc, request)?;
-        self.requests.write_all(&text)?;
-        self.line.clear();
-        self.answers.read_until(b'\n', &mut self.line)?;
-        let line = self.line.strip_suffix(b"\n").unwrap_or(b"x");
-        number_of(line).ok_or(Trouble::Io(ErrorKind::UnexpectedEof))
+        Ok(ask(self.alloc, &mut self.answers, &mut self.requests, request)?)
     }
 
     /// Ends a program, if it runs.

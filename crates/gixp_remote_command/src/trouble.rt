@@ -20,6 +20,10 @@ pub(crate) enum Trouble {
     Command(BString),
     /// Something else, as the sentence says.
     Other(&'static str),
+    /// The same, as git would say it.
+    Fatal(&'static str),
+    /// A program that was started told why.
+    Told,
     /// Something else, about a word.
     Word(&'static str, BString),
     /// An allocation failed.
@@ -68,9 +72,8 @@ impl Trouble {
     /// Who says it.
     pub(crate) fn speaker(&self) -> &'static str {
         match self {
-            Trouble::Fetch(e) => e.speaker(),
-            Trouble::Word(_, _) => "fatal",
-            Trouble::Url(_) => "fatal",
+            Trouble::Fetch(e) if e.is_said_by_git() => "fatal",
+            Trouble::Word(_, _) | Trouble::Url(_) | Trouble::Fatal(_) => "fatal",
             _ => "git-remote-gixp",
         }
     }
@@ -81,9 +84,10 @@ impl Display for Trouble {
         match self {
             Trouble::Fetch(e) => write!(f, "{e}"),
             Trouble::Url(e) => write!(f, "the URL: {e}"),
-            Trouble::Io(kind) => write!(f, "a pipe of the helper: {kind:?}"),
+            Trouble::Io(kind) => write!(f, "a pipe of the helper broke: {kind}"),
             Trouble::Command(line) => write!(f, "unknown command: {line}"),
-            Trouble::Other(why) => write!(f, "{why}"),
+            Trouble::Other(why) | Trouble::Fatal(why) => f.write_str(why),
+            Trouble::Told => Ok(()),
             Trouble::Word(why, word) => write!(f, "{why} '{word}'"),
             Trouble::Memory => write!(f, "out of memory"),
         }

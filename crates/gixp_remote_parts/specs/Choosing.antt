@@ -1,5 +1,5 @@
 -- What git's options choose (gitremote-helpers, "OPTIONS").
-use Rattle.std.specs.Prelude.{ℕ, ◌==◌, ◌||◌, Bool, true, false, not, if◌then◌else◌, List, [], ◌∷◌, ◌++◌, length, map, codes, is_some, Option, Some, None}
+use Rattle.std.specs.Prelude.{ℕ, ◌==◌, ◌||◌, ◌&&◌, Bool, true, false, not, if◌then◌else◌, List, [], ◌∷◌, ◌++◌, length, map, codes, is_some, Option, Some, None}
 use Rattle.std.specs.Option.{option_map}
 use Rattle.std.specs.Str.{bytes_eq}
 use Rattle.bstr.specs.Owned.{bstring_bytes}
@@ -25,6 +25,8 @@ pub record Chosen : Type 0 where
   pub rejects_shallow : Bool
   pub tells_format : Bool
   pub is_refetch : Bool
+  pub filter : Option (List ℕ)
+  pub is_from_promisor : Bool
 
 abbrev pub chosen : Choices → Chosen
 chosen c = record {
@@ -41,6 +43,8 @@ chosen c = record {
   rejects_shallow = c.rejects_shallow;
   tells_format = c.tells_format;
   is_refetch = c.is_refetch;
+  filter = option_map bstring_bytes c.filter;
+  is_from_promisor = c.is_from_promisor;
 }
 
 -- before an option
@@ -59,6 +63,8 @@ nothing_chosen = record {
   rejects_shallow = false;
   tells_format = false;
   is_refetch = false;
+  filter = None;
+  is_from_promisor = false;
 }
 
 -- a value that is true or false, and what is told of it
@@ -82,12 +88,13 @@ abbrev pub with_depth : Chosen → Option Depth → Chosen × Reply
 with_depth c None = (c, Error)
 with_depth c (Some depth) = (record c { depth = depth }, OkReply)
 
--- an option of the history
+-- an option of what is left out, of the history or of the objects
 abbrev pub with_history : Chosen → List ℕ → List ℕ → Option (Chosen × Reply)
 with_history c name value =
     if bytes_eq name (codes "depth") then Some (with_depth c (depth_of value))
     else if bytes_eq name (codes "deepen-since") then Some (record c { since = Some value }, OkReply)
     else if bytes_eq name (codes "deepen-not") then Some (record c { excluded = c.excluded ++ value ∷ [] }, OkReply)
+    else if bytes_eq name (codes "filter") then Some (record c { filter = Some value }, OkReply)
     else None
 
 -- the hash function: it is to be told, or is the one that there is
@@ -102,6 +109,7 @@ abbrev pub with_other : Chosen → List ℕ → List ℕ → Chosen × Reply
 with_other c name value =
     if bytes_eq name (codes "verbosity") then (record c { is_quiet = bytes_eq value (codes "0") }, OkReply)
     else if bytes_eq name (codes "rejectshallow") then (record c { rejects_shallow = true }, OkReply)
+    else if bytes_eq name (codes "from-promisor") then (record c { is_from_promisor = true }, OkReply)
     else if bytes_eq name (codes "object-format") then with_format c value
     else (c, Unsupported)
 
@@ -123,3 +131,7 @@ limits _ = true
 -- whether a depth of some kind is wanted
 abbrev pub has_depth : Chosen → Bool
 has_depth c = limits c.depth || is_some c.since || not (length c.excluded == 0)
+
+-- whether all that comes is to lead to nothing but what came: what is cut off or promised is missing by intent
+abbrev pub asks_closed : Chosen → Bool
+asks_closed c = c.checks && not (has_depth c) && not c.is_from_promisor

@@ -7,3 +7,7 @@ pub mod Ssh
 pub mod Choosing
 pub mod Quoting
 pub mod Taken
+pub mod Programs
+pub mod Indexed
+pub mod Told
+pub mod Answered

@@ -1,13 +1,18 @@
 -- What becomes of the shallow boundary of the repository that fetches.
-use Rattle.std.specs.Prelude.{ℕ, ◌&&◌, not, List, filter, slice_get, Option, Some, None}
+use Rattle.std.specs.Prelude.{ℕ, ◌&&◌, ◌||◌, not, if◌then◌else◌, List, filter, slice_get, Option, Some, None}
 use Rattle.std.specs.List.{position}
 use Rattle.std.specs.BTreeSet.{BTreeSet, contains}
 use Rattle.gixp_hash.specs.declared.object_id.ObjectId.{ObjectId}
 use Rattle.gixp_hash.specs.ObjectId.{id_cmp}
+use Rattle.gixp_remote_parts.specs.Choosing.{Chosen, has_depth}
 use Rattle.gixp_remote_parts.specs.declared.boundary.Taking.{Taking}
 use Rattle.gixp_remote_parts.specs.declared.boundary.Taking.TheVariants.{Asked, Came, Nothing}
 use Rattle.gixp_remote_parts.specs.declared.boundary.Boundary.{Boundary}
 use Rattle.gixp_remote_parts.specs.declared.boundary.Boundary.TheVariants.{Stays, Becomes, Grows, Refused}
+
+-- what git's options ask for: a depth, else a clone or `--update-shallow`
+abbrev pub taking_of : Chosen → Taking
+taking_of c = if has_depth c then Asked else if c.is_cloning || c.updates_shallow then Came else Nothing
 
 -- what becomes of it: it stays, becomes these ids, these come to it, or the server names one that is no commit here
 pub data AfterFetch : Type 0 where

@@ -1,8 +1,10 @@
 //! What becomes of the shallow boundary of the repository that fetches (gitrepository-layout, "shallow"; git-fetch, `--depth`,
 //! `--update-shallow`).
 ghost use Rattle.std.specs.Prelude.{◌≡◌, ◌++◌, IfOk};
-ghost use Rattle.gixp_remote_parts.specs.Taken.{added, came, boundary_after, boundary_value, first_stranger, stranger_at};
+ghost use Rattle.gixp_remote_parts.specs.Taken.{added, came, boundary_after, boundary_value, first_stranger, stranger_at, taking_of};
+ghost use Rattle.gixp_remote_parts.specs.Choosing.{chosen};
 
+use crate::dialogue::Choices;
 use gixp_hash::ObjectId;
 use std::alloc::{AllocError, Global};
 use std::collections::BTreeSet;
@@ -16,6 +18,19 @@ pub enum Taking {
     Came,
     /// Neither: it stays.
     Nothing,
+}
+
+/// What git's options ask for: a depth, else a clone or `--update-shallow`.
+pub fn taking_of(choices: &Choices) -> Taking
+    ensures { result ≡ taking_of (chosen choices.now) }
+{
+    if choices.has_depth() {
+        Taking::Asked
+    } else if choices.is_cloning || choices.updates_shallow {
+        Taking::Came
+    } else {
+        Taking::Nothing
+    }
 }
 
 /// What becomes of the boundary.

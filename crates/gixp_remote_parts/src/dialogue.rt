@@ -1,7 +1,7 @@
 //! What git asks of a remote helper, and what it is told (gitremote-helpers).
 ghost use Rattle.std.specs.Prelude.{◌≡◌, ◌&&◌, not, IfOk, IfNone, OnErr, Some, None};
 ghost use Rattle.std.specs.Option.{option_map};
-ghost use Rattle.gixp_remote_parts.specs.Choosing.{chosen, nothing_chosen, with_switch, with_history, with_format, with_other, with_option, limits, has_depth};
+ghost use Rattle.gixp_remote_parts.specs.Choosing.{chosen, nothing_chosen, with_switch, with_history, with_format, with_other, with_option, limits, has_depth, asks_closed};
 ghost use Rattle.gixp_remote_parts.specs.Dialogue.{cut_blank, command_value, command_of, switch_of, depth_of, put, reply_text, with_digit, number_behind, number_of};
 
 use crate::text::place_of;
@@ -121,6 +121,10 @@ pub struct Choices {
     pub tells_format: bool,
     /// All is wanted again.
     pub is_refetch: bool,
+    /// Which objects are left out, in git's words (git-rev-list, "--filter").
+    pub filter: Option<BString>,
+    /// What comes may lead to objects that the server has promised (gitrepository-layout, "objects/pack"; partial-clone).
+    pub is_from_promisor: bool,
 }
 
 // A value that is true or false.
@@ -167,8 +171,8 @@ fn number_in(digits: &[u8]) -> Option<u32>
     Some(number)
 }
 
-// The number that a text writes, where it fits.
-fn number_of(digits: &[u8]) -> Option<u32>
+/// The number that a text writes in digits, where it fits. An empty text writes none.
+pub fn number_of(digits: &[u8]) -> Option<u32>
     ensures { result ≡ number_of digits.now }
 {
     if digits.is_empty() {
@@ -232,6 +236,8 @@ impl Choices {
             rejects_shallow: false,
             tells_format: false,
             is_refetch: false,
+            filter: None,
+            is_from_promisor: false,
         }
     }
 
@@ -247,6 +253,14 @@ impl Choices {
         ensures { result ≡ has_depth (chosen self.now) }
     {
         limits(self.depth) || self.since.is_some() || !self.excluded.is_empty()
+    }
+
+    /// Whether it is to be found out that all that comes leads to nothing but what came. What is cut off or promised is
+    /// missing by intent.
+    pub fn asks_closed(&self) -> bool
+        ensures { result ≡ asks_closed (chosen self.now) }
+    {
+        self.checks && !self.has_depth() && !self.is_from_promisor
     }
 
     // Keeps an option that is true or false, where it is one.
@@ -273,7 +287,7 @@ impl Choices {
         }
     }
 
-    // Keeps an option of the history, where it is one.
+    // Keeps an option of what is left out, of the history or of the objects, where it is one.
     fn take_history(
         &mut self,
         alloc: Global,
@@ -299,6 +313,9 @@ impl Choices {
         } else if name == b"deepen-not".as_slice() {
             self.excluded.push(BString::from_slice(alloc, value)?)?;
             Ok(Some(Reply::Ok))
+        } else if name == b"filter".as_slice() {
+            self.filter = Some(BString::from_slice(alloc, value)?);
+            Ok(Some(Reply::Ok))
         } else {
             Ok(None)
         }
@@ -313,6 +330,9 @@ impl Choices {
             Reply::Ok
         } else if name == b"rejectshallow".as_slice() {
             self.rejects_shallow = true;
+            Reply::Ok
+        } else if name == b"from-promisor".as_slice() {
+            self.is_from_promisor = true;
             Reply::Ok
         } else if name == b"object-format".as_slice() {
             self.take_format(value)

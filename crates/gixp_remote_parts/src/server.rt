@@ -4,8 +4,8 @@ ghost use Rattle.gixp_remote_parts.specs.Quoting.{quoted_byte, quoted};
 
 use std::alloc::{AllocError, Global};
 
-/// The variables that belong to the repository that fetches, which a server must not see (git-rev-parse, `--local-env-vars`).
-pub const LOCAL_VARIABLES: &[&str] = &[
+// The variables that belong to the repository that fetches, which a server must not see (git-rev-parse, `--local-env-vars`).
+pub(crate) const LOCAL_VARIABLES: &[&str] = &[
     "GIT_ALTERNATE_OBJECT_DIRECTORIES",
     "GIT_CONFIG",
     "GIT_CONFIG_PARAMETERS",

@@ -8,11 +8,11 @@ use Rattle.gixp_url.specs.Text.{cut, starts_with_byte, is_option}
 use Rattle.gixp_url.specs.Decoded.{decoded}
 use Rattle.gixp_url.specs.Host.{HostPort, host_and_port, search_from}
 use Rattle.gixp_url.specs.declared.address.Transport.{Transport}
-use Rattle.gixp_url.specs.declared.address.Transport.TheVariants.{File, Ssh, Git}
+use Rattle.gixp_url.specs.declared.address.Transport.TheVariants.{File, Ssh, Git, Http, Https}
 use Rattle.gixp_url.specs.declared.address.UrlError.{UrlError}
 use Rattle.gixp_url.specs.declared.address.UrlError.TheVariants.{Scheme, NoPath, Path, Host, Newline, Memory}
 use Rattle.gixp_url.specs.declared.address.Form.{Form}
-use Rattle.gixp_url.specs.declared.address.Form.TheVariants.{Path as PathForm, HostPath as HostPathForm, Url as UrlForm}
+use Rattle.gixp_url.specs.declared.address.Form.TheVariants.{Path as PathForm, HostPath as HostPathForm, Url as UrlForm, Web as WebForm}
 use Rattle.gixp_url.specs.declared.address.Address.{Address}
 
 -- a server, and the repository there
@@ -33,23 +33,40 @@ transport_of scheme =
     if bytes_eq scheme (codes "file") then Some File
     else if bytes_eq scheme (codes "git") then Some Git
     else if bytes_eq scheme (codes "ssh") || bytes_eq scheme (codes "git+ssh") || bytes_eq scheme (codes "ssh+git") then Some Ssh
+    else if bytes_eq scheme (codes "http") then Some Http
+    else if bytes_eq scheme (codes "https") then Some Https
     else None
+
+-- the name that git has for a transport
+abbrev pub transport_name : Transport → List ℕ
+transport_name File = codes "file"
+transport_name Ssh = codes "ssh"
+transport_name Git = codes "git"
+transport_name Http = codes "http"
+transport_name Https = codes "https"
+
+abbrev pub is_web : Transport → Bool
+is_web Http = true
+is_web Https = true
+is_web _ = false
 
 -- `://` stands somewhere
 abbrev pub has_separator : List ℕ → Bool
 has_separator [] = false
 has_separator (b ∷ bytes) = starts_with nat_eq (b ∷ bytes) (codes "://") || has_separator bytes
 
--- what a text is: a path of this machine, a host with a path there, or what stands behind a scheme
+-- what a text is: a path of this machine, a host with a path there, what stands behind a scheme, or the whole URL of a web server
 pub data FormOf : Type 0 where
   path_form : List ℕ → FormOf
   host_form : List ℕ → FormOf
   url_form : Transport → List ℕ → FormOf
+  web_form : Transport → List ℕ → FormOf
 
 abbrev pub form_value : Form → FormOf
 form_value (PathForm text) = path_form text.now
 form_value (HostPathForm text) = host_form text.now
 form_value (UrlForm transport text) = url_form transport text.now
+form_value (WebForm transport text) = web_form transport text.now
 
 abbrev pub map_form : Result Form UrlError → Result FormOf UrlError
 map_form (Ok form) = Ok (form_value form)
@@ -67,14 +84,20 @@ abbrev pub form_without_scheme : List ℕ → Result FormOf UrlError
 form_without_scheme text =
     if has_separator text then Err Scheme else if is_local text then Ok (path_form text) else Ok (host_form text)
 
-abbrev pub scheme_form : Option Transport → List ℕ → Result FormOf UrlError
-scheme_form None rest = Err Scheme
-scheme_form (Some transport) rest = Ok (url_form transport rest)
+-- what a URL is, by what its scheme names: that of a web server is read by git's own program
+abbrev pub form_by_transport : Transport → List ℕ → List ℕ → FormOf
+form_by_transport Http text rest = web_form Http text
+form_by_transport Https text rest = web_form Https text
+form_by_transport transport text rest = url_form transport rest
+
+abbrev pub scheme_form : Option Transport → List ℕ → List ℕ → Result FormOf UrlError
+scheme_form None text rest = Err Scheme
+scheme_form (Some transport) text rest = Ok (form_by_transport transport text rest)
 
 -- what stands behind a scheme and its colon: two slashes, or the second colon of a remote helper's name
 abbrev pub form_behind : List ℕ → List ℕ → List ℕ → Result FormOf UrlError
 form_behind text scheme behind =
-    if starts_with nat_eq behind (codes "//") then scheme_form (transport_of scheme) (drop 2 behind)
+    if starts_with nat_eq behind (codes "//") then scheme_form (transport_of scheme) text (drop 2 behind)
     else if starts_with_byte 58 behind then Err Scheme
     else form_without_scheme text
 
@@ -103,9 +126,9 @@ home_path (first ∷ second ∷ rest) = if second == 126 then second ∷ rest el
 home_path path = path
 
 abbrev pub path_by : Transport → List ℕ → List ℕ
-path_by File path = path
 path_by Ssh path = home_path path
 path_by Git path = home_path path
+path_by _ path = path
 
 -- the path there: a slash belongs to it, and a colon doesn't
 abbrev pub path_there : Transport → List ℕ → ℕ → ℕ → List ℕ
@@ -128,9 +151,9 @@ fault_of transport authority host path =
     else None
 
 abbrev pub host_by : Transport → List ℕ → HostPort
-host_by File authority = record { host = authority; port = None }
 host_by Ssh authority = host_and_port authority
 host_by Git authority = host_and_port authority
+host_by _ authority = record { host = authority; port = None }
 
 abbrev pub unless_fault : Option UrlError → Server → Result Server UrlError
 unless_fault (Some fault) s = Err fault
@@ -154,10 +177,15 @@ abbrev pub local : List ℕ → Result Server UrlError
 local [] = Err NoPath
 local (b ∷ bytes) = server File [] (b ∷ bytes)
 
+-- a web server, by its whole URL
+abbrev pub web : Transport → List ℕ → Result Server UrlError
+web transport url = Ok (record { transport = transport; authority = []; host = []; port = None; path = url })
+
 abbrev pub server_by : FormOf → Result Server UrlError
 server_by (path_form path) = local path
 server_by (host_form text) = remote Ssh text 58
 server_by (url_form transport rest) = remote transport (decoded 0 rest) 47
+server_by (web_form transport url) = web transport url
 
 abbrev pub server_of : Result FormOf UrlError → Result Server UrlError
 server_of (Ok form) = server_by form

@@ -3,7 +3,7 @@ ghost use Rattle.std.specs.Prelude.{◌≡◌, ◌<◌, ◌≤◌, length, IfOk,
 ghost use Rattle.std.specs.List.{list_all};
 ghost use Rattle.gixp_url.specs.Decoded.{decoded};
 ghost use Rattle.gixp_url.specs.Host.{host_value};
-ghost use Rattle.gixp_url.specs.Url.{is_scheme_byte, transport_of, has_separator, is_local, map_form, form_without_scheme, form_behind, form_of, separator_from, path_at, home_path, path_there, fault_of, host_by, GivesAddress, server, remote, local, form_value, server_by, reading};
+ghost use Rattle.gixp_url.specs.Url.{is_scheme_byte, transport_of, transport_name, is_web, has_separator, is_local, map_form, form_without_scheme, form_by_transport, form_behind, form_of, separator_from, path_at, home_path, path_there, fault_of, host_by, GivesAddress, server, remote, local, web, form_value, server_by, reading};
 ghost use Rattle.gixp_url.specs.declared.address.UrlError.TheVariants.{Memory};
 
 use crate::decode::decoded;
@@ -22,6 +22,35 @@ pub enum Transport {
     Ssh,
     /// It listens, as `git daemon` does.
     Git,
+    /// It is a web server.
+    Http,
+    /// It is a web server over TLS.
+    Https,
+}
+
+impl Transport {
+    /// The name that git has for it (git-config, "protocol.<name>.allow").
+    pub fn name(self) -> &'static str
+        ensures { result.now ≡ transport_name self }
+    {
+        match self {
+            Transport::File => "file",
+            Transport::Ssh => "ssh",
+            Transport::Git => "git",
+            Transport::Http => "http",
+            Transport::Https => "https",
+        }
+    }
+
+    /// Whether it is a web server.
+    pub fn is_web(self) -> bool
+        ensures { result ≡ is_web self }
+    {
+        match self {
+            Transport::Http | Transport::Https => true,
+            Transport::File | Transport::Ssh | Transport::Git => false,
+        }
+    }
 }
 
 /// A server, and the repository there.
@@ -29,20 +58,21 @@ pub enum Transport {
 pub struct Address {
     /// How it is reached.
     pub transport: Transport,
-    /// What stands before the path: the user, the host in its brackets and the port. It is empty for a path of this machine.
+    /// What stands before the path: the user, the host in its brackets and the port. It is empty for a path of this machine, and
+    /// for a web server, whose URL git's own program reads.
     pub authority: BString,
     /// The user and the host, without brackets.
     pub host: BString,
     /// The port, of digits, where one is told.
     pub port: Option<BString>,
-    /// The path there.
+    /// The path there; of a web server the whole URL, as it was written.
     pub path: BString,
 }
 
 /// Why a URL isn't read.
 #[derive(Clone, Copy, Debug, PartialEq, Eq, Error)]
 pub enum UrlError {
-    /// Its scheme is none of `file`, `ssh`, `git`, `git+ssh` and `ssh+git`, or names a remote helper.
+    /// Its scheme is none of `file`, `ssh`, `git`, `git+ssh`, `ssh+git`, `http` and `https`, or names a remote helper.
     #[error("its protocol is not supported")]
     Scheme,
     /// It has no path.
@@ -79,6 +109,8 @@ enum Form<'a> {
     HostPath(&'a [u8]),
     // What stands behind a scheme.
     Url(Transport, &'a [u8]),
+    // The whole URL of a web server.
+    Web(Transport, &'a [u8]),
 }
 
 // Whether a byte may stand in a scheme.
@@ -108,8 +140,22 @@ fn transport_of(scheme: &[u8]) -> Option<Transport>
         || scheme == b"ssh+git".as_slice()
     {
         Some(Transport::Ssh)
+    } else if scheme == b"http".as_slice() {
+        Some(Transport::Http)
+    } else if scheme == b"https".as_slice() {
+        Some(Transport::Https)
     } else {
         None
+    }
+}
+
+// What a URL is, by what its scheme names.
+fn form_by_transport<'a>(transport: Transport, text: &'a [u8], rest: &'a [u8]) -> Form<'a>
+    ensures { form_value result ≡ form_by_transport transport text.now rest.now }
+{
+    match transport {
+        Transport::File | Transport::Ssh | Transport::Git => Form::Url(transport, rest),
+        Transport::Http | Transport::Https => Form::Web(transport, text),
     }
 }
 
@@ -156,7 +202,7 @@ fn form_behind<'a>(text: &'a [u8], scheme: &'a [u8], behind: &'a [u8]) -> Result
 {
     if let Some(rest) = behind.strip_prefix(b"//") {
         match transport_of(scheme) {
-            Some(transport) => Ok(Form::Url(transport, rest)),
+            Some(transport) => Ok(form_by_transport(transport, text, rest)),
             None => Err(UrlError::Scheme),
         }
     } else if starts_with_byte(behind, b':') {
@@ -223,7 +269,7 @@ fn path_there(transport: Transport, text: &[u8], at: usize, separator: u8) -> &[
         &text[at..]
     };
     match transport {
-        Transport::File => path,
+        Transport::File | Transport::Http | Transport::Https => path,
         Transport::Ssh | Transport::Git => home_path(path),
     }
 }
@@ -249,7 +295,7 @@ fn host_of(alloc: Global, transport: Transport, authority: &[u8]) -> Result<Host
     ensures { IfOk result (λ host. host_value host ≡ host_by transport authority.now) }
 {
     match transport {
-        Transport::File => alone(alloc, authority),
+        Transport::File | Transport::Http | Transport::Https => alone(alloc, authority),
         Transport::Ssh | Transport::Git => host_and_port(alloc, authority),
     }
 }
@@ -314,6 +360,19 @@ fn remote_url(alloc: Global, transport: Transport, rest: &[u8]) -> Result<Addres
     remote(alloc, transport, &text, b'/')
 }
 
+// A web server, by its whole URL.
+fn web(alloc: Global, transport: Transport, url: &[u8]) -> Result<Address, UrlError>
+    ensures { GivesAddress (web transport url.now) result }
+{
+    Ok(Address {
+        transport,
+        authority: BString::from(Vec::new(alloc)),
+        host: BString::from(Vec::new(alloc)),
+        port: None,
+        path: BString::from_slice(alloc, url)?,
+    })
+}
+
 // The server that a text names, by its form.
 fn read_form(alloc: Global, form: Form<'_>) -> Result<Address, UrlError>
     ensures { GivesAddress (server_by (form_value form.entry)) result }
@@ -322,6 +381,7 @@ fn read_form(alloc: Global, form: Form<'_>) -> Result<Address, UrlError>
         Form::Path(path) => local(alloc, path),
         Form::HostPath(text) => remote(alloc, Transport::Ssh, text, b':'),
         Form::Url(transport, rest) => remote_url(alloc, transport, rest),
+        Form::Web(transport, url) => web(alloc, transport, url),
     }
 }
 

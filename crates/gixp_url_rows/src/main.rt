@@ -7,15 +7,6 @@ use std::alloc::AllocError;
 use std::io;
 use std::io::{BufRead, BufReader, BufWriter, Input, Write};
 
-// The name of a transport.
-fn name_of(transport: Transport) -> &'static [u8] {
-    match transport {
-        Transport::File => b"file",
-        Transport::Ssh => b"ssh",
-        Transport::Git => b"git",
-    }
-}
-
 // A part of a line, and a tab.
 fn append_part(text: &mut Vec<u8>, part: &[u8]) -> Result<(), AllocError> {
     text.extend_from_slice(part)?;
@@ -34,7 +25,7 @@ fn append_address(text: &mut Vec<u8>, address: &Address) -> Result<(), AllocErro
         Some(port) if is_ssh => port.as_bytes(),
         _ => b"NONE",
     };
-    append_part(text, name_of(address.transport))?;
+    append_part(text, address.transport.name().as_bytes())?;
     append_part(text, host.as_bytes())?;
     append_part(text, port)?;
     text.extend_from_slice(address.path.as_bytes())

@@ -1,0 +1,21 @@
+-- What git is told of the refs of a server, a line for each (gitremote-helpers, "list").
+use Rattle.std.specs.Prelude.{ℕ, ◌==◌, ◌&&◌, not, nat_lt, Bool, List, ◌∷◌, [], ◌++◌, length, codes, Option, Some, None}
+use Rattle.std.specs.List.{list_all}
+use Rattle.gix_protocol.specs.Hex.{encode_lower}
+
+-- a name fits such a line: it has no blank, and no control character (127 is one too)
+abbrev pub is_plain : List ℕ → Bool
+is_plain name = not (length name == 0) && list_all (λ b. nat_lt 32 b && not (b == 127)) name
+
+-- an id in hexadecimal digits, a name, and a mark behind it
+abbrev pub id_line : List ℕ → List ℕ → List ℕ → List ℕ
+id_line id name mark = encode_lower id ++ (codes " " ++ (name ++ (mark ++ codes "\n")))
+
+-- a symbolic ref by the name that it stands for
+abbrev pub symbolic_line : List ℕ → List ℕ → List ℕ
+symbolic_line target name = codes "@" ++ (target ++ (codes " " ++ (name ++ codes "\n")))
+
+-- an object by its id; a tag by its own, and then what it leads to
+abbrev pub object_lines : List ℕ → Option (List ℕ) → List ℕ → List ℕ
+object_lines name None object = id_line object name []
+object_lines name (Some tag) object = id_line tag name [] ++ id_line object name (codes "^{}")

@@ -1,0 +1,10 @@
+-- What a server is asked for.
+use Rattle.std.specs.Prelude.{List, [], map, if◌then◌else◌, Option, None}
+use Rattle.gix_protocol.specs.ObjectIdType.{ObjectId}
+use Rattle.gix_protocol.specs.SpecIndexType.{SpecIndex}
+use Rattle.gix_protocol.specs.SpecIndexType.TheVariants.{ExplicitInRemote}
+use Rattle.gix_protocol.specs.Values.{MappingValue, an_object}
+
+-- an object by its id alone
+abbrev pub wanted : ObjectId → MappingValue
+wanted id = record { remote = an_object id; local = None; spec_index = ExplicitInRemote 0 }

@@ -1,0 +1,76 @@
+//! The connection with a server: two pipes, over which it says packet lines, or answers that each have an end of their own.
+use bstr::BStr;
+use gix_protocol::client::{Heard, Listener, RemoteLines};
+use gix_protocol::transport::Connection;
+use gixp_stateless::Answers;
+use std::cell::Cell;
+use std::fs::File;
+use std::io;
+use std::io::{BufReader, BufWriter, Read, Write};
+
+/// The transport over the two pipes of a server, whose words are shown as they come.
+pub(crate) type Wire<'a> = Heard<Connection<Says, BufWriter<File>>, Shown<'a>>;
+
+/// What a server says.
+#[derive(Drop)]
+pub(crate) enum Says {
+    /// A stream of packet lines.
+    Stream(File),
+    /// Answers to single requests, as of a web server.
+    Answers(Answers<BufReader<File>>),
+}
+
+impl Read for Says {
+    fn read(&mut self, buf: &mut [u8]) -> io::Result<usize> {
+        match self {
+            Says::Stream(file) => file.read(buf),
+            Says::Answers(answers) => answers.read(buf),
+        }
+    }
+}
+
+/// Standard error, as a writer.
+#[derive(Drop)]
+pub(crate) struct StandardError<'a> {
+    rt: &'a HostRuntime,
+}
+
+impl Write for StandardError<'_> {
+    fn write(&mut self, buf: &[u8]) -> io::Result<usize> {
+        let text = BStr::new(buf);
+        eprint!(self.rt; "{text}")?;
+        Ok(buf.len())
+    }
+
+    fn flush(&mut self) -> io::Result<()> {
+        Ok(())
+    }
+}
+
+/// Shows what a server says beside its answers as git does, and notes whether it reported an error.
+#[derive(Drop)]
+pub(crate) struct Shown<'a> {
+    lines: RemoteLines<BufWriter<StandardError<'a>>>,
+    has_failed: &'a Cell<bool>,
+}
+
+impl<'a> Shown<'a> {
+    /// Nothing is said yet.
+    pub(crate) fn new(rt: &'a HostRuntime, has_failed: &'a Cell<bool>) -> io::Result<Shown<'a>> {
+        let alloc = rt.alloc();
+        let writer = BufWriter::new(alloc, StandardError { rt })?;
+        Ok(Shown {
+            lines: RemoteLines::new(alloc, writer),
+            has_failed,
+        })
+    }
+}
+
+impl Listener for Shown<'_> {
+    fn hear(&mut self, is_error: bool, text: &[u8]) {
+        self.lines.hear(is_error, text);
+        if is_error {
+            self.has_failed.set(true);
+        }
+    }
+}
