@@ -83,7 +83,8 @@ fn malformed_packet_lines() {
 #[test]
 fn advertisements() {
     let first = [id(1).to_string().as_bytes(), b" HEAD\0symref=HEAD:refs/heads/main agent=git/2\n"].concat();
-    let lines = [line(2, "refs/heads/main"), line(3, "refs/tags/v1"), line(4, "refs/tags/v1^{}"), packet(format!("shallow {}", id(9)).as_bytes())];
+    let shallow = packet(format!("shallow {}", id(9)).as_bytes());
+    let lines = [line(2, "refs/heads/main"), line(3, "refs/tags/v1"), line(4, "refs/tags/v1^{}"), shallow];
     for version in [vec![], packet(b"version 1\n")] {
         let whole = [version, packet(&first), lines.concat(), b"0000rest".to_vec()].concat();
         let mut all = advertised(&whole);

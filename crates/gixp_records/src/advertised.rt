@@ -68,33 +68,24 @@ fn read_groups(
             }
             Ok(Step::Last(record, next)) => {
                 records[count] = record;
-                return AdvertisedFound {
-                    count: count + 1,
-                    next,
-                    end: AdvertisedEnd::Stop,
-                };
+                let count = count + 1;
+                let end = AdvertisedEnd::Stop;
+                return AdvertisedFound { count, next, end };
             }
             Ok(Step::Stop(next)) => {
-                return AdvertisedFound {
-                    count,
-                    next,
-                    end: AdvertisedEnd::Stop,
-                };
+                let end = AdvertisedEnd::Stop;
+                return AdvertisedFound { count, next, end };
             }
             Err(e) => {
-                return AdvertisedFound {
-                    count,
-                    next: reach.place,
-                    end: AdvertisedEnd::Refused(e),
-                };
+                let next = reach.place;
+                let end = AdvertisedEnd::Refused(e);
+                return AdvertisedFound { count, next, end };
             }
         }
     }
-    AdvertisedFound {
-        count,
-        next: reach.place,
-        end: AdvertisedEnd::Full,
-    }
+    let next = reach.place;
+    let end = AdvertisedEnd::Full;
+    AdvertisedFound { count, next, end }
 }
 
 /// Reads refs of an advertisement of version 0 or 1 from this place on, as many as there is room for (gitprotocol-pack,
