@@ -3,7 +3,7 @@ use crate::connect::{Reach, connect};
 use crate::fetching::{Open, fetch};
 use crate::listing::refs_told;
 use crate::order::Order;
-use crate::setup::{Given, given, settings_text, version_of};
+use crate::setup::{Given, read_given, settings_text, version_of};
 use crate::shell::{NOTHING, Shell};
 use crate::trouble::Trouble;
 use bstr::{BString, ByteSlice};
@@ -202,7 +202,7 @@ fn serve(begun: &Begun, shell: Shell) -> Result<(), Trouble> {
 /// Speaks with git until it has nothing more to ask.
 pub(crate) fn converse(rt: &HostRuntime) -> Result<(), Trouble> {
     let alloc = rt.alloc();
-    let given = given(rt)?;
+    let given = read_given(rt)?;
     let mut shell = Shell::open(rt)?;
     let address = Address::read(alloc, &given.url)?;
     let text = settings_text(rt, &mut shell)?;

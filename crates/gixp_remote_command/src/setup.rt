@@ -28,7 +28,7 @@ pub(crate) struct Given {
 }
 
 /// What the shell says before anything is asked.
-pub(crate) fn given(rt: &HostRuntime) -> Result<Given, Trouble> {
+pub(crate) fn read_given(rt: &HostRuntime) -> Result<Given, Trouble> {
     let Some(folder) = env::args(rt)?.skip(1).next() else {
         return Err(Trouble::Other("there is no folder"));
     };

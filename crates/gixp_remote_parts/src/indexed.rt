@@ -4,7 +4,6 @@ ghost use Rattle.std.specs.Option.{option_map};
 ghost use Rattle.gixp_remote_parts.specs.Indexed.{id_value, id_at, id_behind, told_pack, pack_file};
 
 use crate::text::place_of;
-use crate::words::joined;
 use gixp_hash::ObjectId;
 use std::alloc::{AllocError, Global};
 
@@ -51,6 +50,9 @@ pub fn pack_file(
 ) -> Result<Vec<u8>, AllocError>
     ensures { IfOk result (λ path. path.items ≡ pack_file objects.now pack.now end.now) }
 {
-    let digits = pack.to_hex();
-    joined(alloc, &[objects, b"/pack/pack-", &digits, end])
+    let mut path = Vec::from_slice(alloc, objects)?;
+    path.extend_from_slice(b"/pack/pack-")?;
+    path.extend_from_slice(&pack.to_hex())?;
+    path.extend_from_slice(end)?;
+    Ok(path)
 }
