@@ -26,10 +26,10 @@ TellsStep step message Memory = ⊤
 TellsStep step message _ = ⊥
 
 -- a step failed, as a text says; or an allocation did
-abbrev pub TellsText : Step → List ℕ → Failure → Type 0
-TellsText step text (StepFails s why said) = (s ≡ step) × (string_bytes why ≡ text) × (said ≡ None)
-TellsText step text Memory = ⊤
-TellsText step text _ = ⊥
+abbrev pub TellsStepText : Step → List ℕ → Failure → Type 0
+TellsStepText step text (StepFails s why said) = (s ≡ step) × (string_bytes why ≡ text) × (said ≡ None)
+TellsStepText step text Memory = ⊤
+TellsStepText step text _ = ⊥
 
 -- a file failed; what is out of memory isn't the file's
 abbrev pub TellsFile : List ℕ → ErrorKind → Failure → Type 0

@@ -3,7 +3,7 @@ ghost use Rattle.std.specs.Prelude.{◌≡◌, None, option_map, IfOk};
 ghost use Rattle.std.specs.declared.io.ErrorKind.TheVariants.{OutOfMemory};
 ghost use Rattle.std.specs.Io.BufRead.{strip_last};
 ghost use Rattle.bstr.specs.Owned.{bstring_bytes};
-ghost use Rattle.gixp_fetch_command.specs.Failures.{said_of, TellsStep, TellsText, TellsFile, TellsLine, is_said_by_git, speaker_of};
+ghost use Rattle.gixp_fetch_command.specs.Failures.{said_of, TellsStep, TellsStepText, TellsFile, TellsLine, is_said_by_git, speaker_of};
 ghost use Rattle.gixp_fetch_command.specs.declared.failure.Failure.TheVariants.{Memory};
 
 use crate::kinds::words_of;
@@ -114,7 +114,7 @@ impl Failure {
 
     /// A step was refused, as the text says.
     pub fn of_text(alloc: Global, step: Step, text: &str) -> Failure
-        ensures { TellsText step text.now result }
+        ensures { TellsStepText step text.now result }
     {
         match String::from_str(alloc, text) {
             Ok(why) => Failure::Step {

@@ -9,7 +9,7 @@ use Rattle.gixp_hash.specs.declared.object_id.ObjectId.{ObjectId}
 use Rattle.gixp_hash.specs.ObjectId.{id_cmp}
 use Rattle.gixp_graph.specs.Object.{Objects}
 use Rattle.gixp_graph.specs.GraphLaws.{same_from}
-use Rattle.gixp_fetch_parts.specs.Known.{KeepsIds, HasIdsOf, IsKnown, is_awaited}
+use Rattle.gixp_fetch_parts.specs.Known.{KeepsIds, HasIdsOf, IsAwaitedOrKnown, is_awaited}
 
 pub keep_cond : (b x : Bool) → x ≡ true → cond b true x ≡ true
 keep_cond true x h = refl
@@ -25,16 +25,16 @@ pub has_more : (a b : BTreeSet ObjectId) (ids : List ObjectId) (k : ℕ) (d : Ob
     → HasIdsOf a (take k ids) → contains id_cmp b (get_or ids k d) ≡ true → HasIdsOf b (take (k + 1) ids)
 has_more a b ids k d lt keeps h e = All-more (λ id. contains id_cmp b id ≡ true) ids k d lt (has_kept a b (take k ids) keeps h) e
 
-known_kept : (read : Objects) (common a b : BTreeSet ObjectId) (id : ObjectId) → KeepsIds a b → IsKnown read common a id
-    → IsKnown read common b id
+known_kept : (read : Objects) (common a b : BTreeSet ObjectId) (id : ObjectId) → KeepsIds a b → IsAwaitedOrKnown read common a id
+    → IsAwaitedOrKnown read common b id
 known_kept read common a b id k h = ⊎_elim (λ e. inl (k id e)) (λ e. inr e) h
 
 pub known_more : (read : Objects) (common a b : BTreeSet ObjectId) (ids : List ObjectId) (k : ℕ) (d : ObjectId) → k < length ids
-    → KeepsIds a b → All (IsKnown read common a) (take k ids) → IsKnown read common b (get_or ids k d)
-    → All (IsKnown read common b) (take (k + 1) ids)
+    → KeepsIds a b → All (IsAwaitedOrKnown read common a) (take k ids) → IsAwaitedOrKnown read common b (get_or ids k d)
+    → All (IsAwaitedOrKnown read common b) (take (k + 1) ids)
 known_more read common a b ids k d lt keeps h e =
-    All-more (IsKnown read common b) ids k d lt
-    (All-weaker (IsKnown read common a) (IsKnown read common b) (λ id. known_kept read common a b id keeps) (take k ids) h) e
+    All-more (IsAwaitedOrKnown read common b) ids k d lt
+    (All-weaker (IsAwaitedOrKnown read common a) (IsAwaitedOrKnown read common b) (λ id. known_kept read common a b id keeps) (take k ids) h) e
 
 pub removed : (key q : ObjectId) (old new : Bool) → new ≡ cond (eq_by_cmp id_cmp key q) false old → old ≡ true
     → (new ≡ true) ⊎ (key ≡ q)

@@ -28,11 +28,11 @@ AwaitsNone None = ⊥
 AwaitsNone (Some awaited) = awaited.keys ≡ []
 
 -- a commit is awaited, or is read, or the server has it
-abbrev pub IsKnown : Objects → BTreeSet ObjectId → BTreeSet ObjectId → ObjectId → Type 0
-IsKnown read common awaited id = (contains id_cmp awaited id ≡ true)
+abbrev pub IsAwaitedOrKnown : Objects → BTreeSet ObjectId → BTreeSet ObjectId → ObjectId → Type 0
+IsAwaitedOrKnown read common awaited id = (contains id_cmp awaited id ≡ true)
     ⊎ ((contains id_cmp common id ≡ true) ⊎ (finite.contains_key read id ≡ true))
 
 -- so are all of these, where it is known which are awaited
-abbrev pub AreKnown : Objects → BTreeSet ObjectId → Option (BTreeSet ObjectId) → List ObjectId → Type 0
-AreKnown read common None ids = Unit {0}
-AreKnown read common (Some awaited) ids = All (IsKnown read common awaited) ids
+abbrev pub AreAwaitedOrKnown : Objects → BTreeSet ObjectId → Option (BTreeSet ObjectId) → List ObjectId → Type 0
+AreAwaitedOrKnown read common None ids = Unit {0}
+AreAwaitedOrKnown read common (Some awaited) ids = All (IsAwaitedOrKnown read common awaited) ids

@@ -15,7 +15,7 @@ use Rattle.gixp_fetch_parts.specs.declared.listed.Refusal.{Refusal}
 use Rattle.gixp_fetch_parts.specs.declared.listed.Refusal.TheVariants.{Read, Line}
 use Rattle.gixp_fetch_parts.specs.declared.listed.CommitText.{CommitText}
 use Rattle.gixp_fetch_parts.specs.declared.known.KnownCommits.{KnownCommits}
-use Rattle.gixp_fetch_parts.specs.Known.{parents_of, AreKnown}
+use Rattle.gixp_fetch_parts.specs.Known.{parents_of, AreAwaitedOrKnown}
 
 -- the id of a line of `git rev-list --timestamp --parents`: its second word
 abbrev pub id_in : List ℕ → Option ObjectId
@@ -26,8 +26,8 @@ abbrev pub IsNoCommit : List ℕ → Type 0
 IsNoCommit line = (id_in line ≡ None) ⊎ ((old new : Objects) × (n : ℕ) × FillsByText commit_line old line new (Err (text.Line n)))
 
 -- a line was read, whose end isn't part of it
-abbrev pub ReadsLine : Option (List ℕ) → List ℕ → Option (List ℕ) → Type 0
-ReadsLine before line after = (end : List ℕ) × Consumes before after (line ++ end)
+abbrev pub ReadsTextLine : Option (List ℕ) → List ℕ → Option (List ℕ) → Type 0
+ReadsTextLine before line after = (end : List ℕ) × Consumes before after (line ++ end)
 
 -- it isn't known that the server has this commit
 abbrev pub IsUncommon : BTreeSet ObjectId → ObjectId → Type 0
@@ -45,18 +45,18 @@ IsToldAs line lines e (Some (Read kind)) = e ≡ told_as (Read kind)
 IsToldAs line lines e (Some (Line number)) = (e ≡ told_as (Line number)) × (number ≡ lines) × IsNoCommit line
 
 -- a call that offers nothing: an allocation failed, or the text isn't read on
-abbrev pub OfferFails : (line : List ℕ) (lines : ℕ) → Option Refusal → NegotiatorError → Option Refusal → Type 0
-OfferFails line lines old e new = ((e ≡ NoMemory) × (new ≡ old)) ⊎ IsToldAs line lines e new
+abbrev pub ListedOfferFails : (line : List ℕ) (lines : ℕ) → Option Refusal → NegotiatorError → Option Refusal → Type 0
+ListedOfferFails line lines old e new = ((e ≡ NoMemory) × (new ≡ old)) ⊎ IsToldAs line lines e new
 
 -- a commit is offered: that of the line that was read last, of which it isn't known that the server has it. Its parents are awaited
 -- from then on, unless they are read, or the server has them
 pub record OffersLine (line : List ℕ) (id : ObjectId) (known : KnownCommits) : Type 0 where
   pub named : id_in line ≡ Some id
   pub uncommon : IsUncommon known.common id
-  pub awaits : AreKnown known.read known.common known.awaited (parents_of known.read id)
+  pub awaits : AreAwaitedOrKnown known.read known.common known.awaited (parents_of known.read id)
 
 -- the text and how far it was read stay, and so do the commits that were read
-pub record KeepsText {R : Type 0} (old new : CommitText R) : Type 0 where
+pub record KeepsCommitText {R : Type 0} (old new : CommitText R) : Type 0 where
   pub text : new.text ≡ old.text
   pub line : new.line ≡ old.line
   pub lines : new.lines ≡ old.lines

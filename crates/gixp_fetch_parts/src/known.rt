@@ -4,7 +4,7 @@ ghost use Rattle.std.specs.FinMap as finite;
 ghost use Rattle.std.specs.BTreeSet.{contains};
 ghost use Rattle.gixp_hash.specs.declared.object_id.ObjectId.{ObjectId};
 ghost use Rattle.gixp_hash.specs.ObjectId.{id_cmp};
-ghost use Rattle.gixp_fetch_parts.specs.Known.{parents_of, is_awaited, KeepsIds, HasIdsOf, IsKnown, AreKnown, AwaitsNone};
+ghost use Rattle.gixp_fetch_parts.specs.Known.{parents_of, is_awaited, KeepsIds, HasIdsOf, IsAwaitedOrKnown, AreAwaitedOrKnown, AwaitsNone};
 
 use gixp_graph::Find;
 use gixp_hash::ObjectId;
@@ -43,7 +43,7 @@ fn add_one(
     read: &StoredObjects,
 ) -> Result<(), AllocError>
     ensures keeps { KeepsIds awaited.old awaited.new }
-    ensures has { OnOk result (IsKnown read.now common.now awaited.new id.now) }
+    ensures has { OnOk result (IsAwaitedOrKnown read.now common.now awaited.new id.now) }
 {
     if common.contains(id) {
         return Ok(());
@@ -64,7 +64,7 @@ fn add_awaited(
     common: &BTreeSet<ObjectId>,
     read: &StoredObjects,
 ) -> Result<(), AllocError>
-    ensures { OnOk result (All (IsKnown read.now common.now awaited.new) commits.now) }
+    ensures { OnOk result (All (IsAwaitedOrKnown read.now common.now awaited.new) commits.now) }
 {
     'commits: for id in commits {
         match add_one(awaited, id, common, read) {
@@ -127,7 +127,7 @@ impl KnownCommits {
     pub fn await_parents(&mut self, alloc: Global, id: &ObjectId) -> Result<(), AllocError>
         ensures read { self.new.read ≡ self.old.read }
         ensures common { self.new.common ≡ self.old.common }
-        ensures known { OnOk result (AreKnown self.old.read self.old.common self.new.awaited (parents_of self.old.read id.now)) }
+        ensures known { OnOk result (AreAwaitedOrKnown self.old.read self.old.common self.new.awaited (parents_of self.old.read id.now)) }
     {
         let parents = self.parents(alloc, id)?;
         let Some(awaited) = &mut self.awaited else {

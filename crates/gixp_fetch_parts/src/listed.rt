@@ -8,8 +8,8 @@ ghost use Rattle.gixp_hash.specs.declared.object_id.ObjectId.{ObjectId};
 ghost use Rattle.gixp_hash.specs.ObjectId.{id_cmp};
 ghost use Rattle.gixp_memory.specs.Text.{line_words, text_lines, after_lines};
 ghost use Rattle.gixp_memory.specs.Repository.{commit_line};
-ghost use Rattle.gixp_fetch_parts.specs.Known.{parents_of, KeepsIds, HasIdsOf, AreKnown};
-ghost use Rattle.gixp_fetch_parts.specs.Listed.{id_in, told_as, IsNoCommit, ReadsLine, IsUncommon, OffersLine, OfferFails, KeepsText};
+ghost use Rattle.gixp_fetch_parts.specs.Known.{parents_of, KeepsIds, HasIdsOf, AreAwaitedOrKnown};
+ghost use Rattle.gixp_fetch_parts.specs.Listed.{id_in, told_as, IsNoCommit, ReadsTextLine, IsUncommon, OffersLine, ListedOfferFails, KeepsCommitText};
 
 use crate::known::KnownCommits;
 use bstr::BStr;
@@ -94,7 +94,7 @@ impl<R: BufRead> CommitText<R> {
     // Reads a line, without its end. Returns whether there is one.
     fn read_line(&mut self) -> io::Result<bool>
         ensures read { IfOk result (λ is_there. is_there ≡ true
-            → ReadsLine (R.remaining self.old.text) self.new.line.items (R.remaining self.new.text)) }
+            → ReadsTextLine (R.remaining self.old.text) self.new.line.items (R.remaining self.new.text)) }
         ensures end { IfOk result (λ is_there. is_there ≡ false → IsAtEnd (R.remaining self.old.text)) }
         ensures left { self.new.left ≡ self.old.left }
         ensures known { self.new.known ≡ self.old.known }
@@ -148,13 +148,13 @@ impl<R: BufRead> CommitText<R> {
     fn read_commit(&mut self) -> Result<Option<ObjectId>, NegotiatorError>
         ensures named { IfOk result (λ id. IfSome id (λ id. id_in self.new.line.items ≡ Some id)) }
         ensures read { IfOk result (λ id. OnSome id
-            (ReadsLine (R.remaining self.old.text) self.new.line.items (R.remaining self.new.text))) }
+            (ReadsTextLine (R.remaining self.old.text) self.new.line.items (R.remaining self.new.text))) }
         ensures end { IfOk result (λ id. IfNone id (IsAtEnd (R.remaining self.old.text))) }
         ensures left { self.new.left ≡ self.old.left }
         ensures common { self.new.known.common ≡ self.old.known.common }
         ensures awaited { self.new.known.awaited ≡ self.old.known.awaited }
         ensures refusal { OnOk result (self.new.refusal ≡ self.old.refusal) }
-        ensures fails { IfErr result (λ e. OfferFails self.new.line.items self.new.lines self.old.refusal e self.new.refusal) }
+        ensures fails { IfErr result (λ e. ListedOfferFails self.new.line.items self.new.lines self.old.refusal e self.new.refusal) }
     {
         match self.read_line() {
             Ok(true) => {}
@@ -172,7 +172,7 @@ impl<R: BufRead> CommitText<R> {
     // Offers a commit whose line was read last, unless the server is known to have it. Returns whether it is offered.
     fn offer(&mut self, id: &ObjectId) -> Result<bool, AllocError>
         ensures uncommon { IfOk result (λ is_offered. is_offered ≡ true → IsUncommon self.new.known.common id.now) }
-        ensures awaits { IfOk result (λ is_offered. is_offered ≡ true → AreKnown self.new.known.read self.new.known.common
+        ensures awaits { IfOk result (λ is_offered. is_offered ≡ true → AreAwaitedOrKnown self.new.known.read self.new.known.common
             self.new.known.awaited (parents_of self.new.known.read id.now)) }
         ensures common { IfOk result (λ is_offered. is_offered ≡ false → contains id_cmp self.old.known.common id.now ≡ true) }
         ensures keeps { KeepsIds self.old.known.common self.new.known.common }
@@ -198,7 +198,7 @@ impl<R: BufRead> CommitText<R> {
 
     // The server has a commit.
     fn share(&mut self, id: ObjectId) -> Result<(), AllocError>
-        ensures kept { KeepsText self.old self.new }
+        ensures kept { KeepsCommitText self.old self.new }
         ensures has { OnOk result (HasIdsOf self.new.known.common (parents_of self.old.known.read id)) }
         ensures keeps { KeepsIds self.old.known.common self.new.known.common }
     {
@@ -211,7 +211,7 @@ impl<R: BufRead> CommitText<R> {
         ensures lowers { IfOk result (λ have. OnSome have (self.new.left < self.old.left)) }
         ensures left { self.new.left ≤ self.old.left }
         ensures refusal { OnOk result (self.new.refusal ≡ self.old.refusal) }
-        ensures fails { IfErr result (λ e. OfferFails self.new.line.items self.new.lines self.old.refusal e self.new.refusal) }
+        ensures fails { IfErr result (λ e. ListedOfferFails self.new.line.items self.new.lines self.old.refusal e self.new.refusal) }
     {
         'lines: while self.left > 0 {
             if self.known.is_over() {
@@ -280,22 +280,22 @@ impl<R: BufRead> Negotiator for ListedCommits<R> {
     ghost use Rattle.std.specs.Prelude.{◌≡◌, ⊤};
     ghost use Rattle.std.proofs.Common.{arith};
     ghost use Rattle.gixp_graph.specs.declared.negotiator.NegotiatorError.TheVariants.{Memory};
-    ghost use Rattle.gixp_fetch_parts.specs.Listed.{OffersNext, KeepsText, OfferFails};
-    ghost use Rattle.gixp_fetch_parts.specs.Known.{parents_of, KeepsIds, HasIdsOf, AreKnown};
+    ghost use Rattle.gixp_fetch_parts.specs.Listed.{OffersNext, KeepsCommitText, ListedOfferFails};
+    ghost use Rattle.gixp_fetch_parts.specs.Known.{parents_of, KeepsIds, HasIdsOf, AreAwaitedOrKnown};
 
     ghost calls = { record {
       count = λ n g. n.commits.left;
       failures = λ n. n.failures;
       knows = λ n g id m h. (m ≡ n) × (h ≡ g);
       adds = λ n g id m h. (m ≡ n) × (h ≡ g);
-      learns = λ n g id m h. KeepsText n.commits m.commits × (h ≡ g) × KeepsIds n.commits.known.common m.commits.known.common
+      learns = λ n g id m h. KeepsCommitText n.commits m.commits × (h ≡ g) × KeepsIds n.commits.known.common m.commits.known.common
           × HasIdsOf m.commits.known.common (parents_of n.commits.known.read id);
       offers = λ n g have m h. OffersNext n.commits have m.commits × (h ≡ g);
       knowing_fails = λ n g id e m h. ⊥;
       adding_fails = λ n g id e m h. ⊥;
-      learning_fails = λ n g id e m h. (e ≡ Memory) × KeepsText n.commits m.commits × (h ≡ g)
+      learning_fails = λ n g id e m h. (e ≡ Memory) × KeepsCommitText n.commits m.commits × (h ≡ g)
           × KeepsIds n.commits.known.common m.commits.known.common;
-      offering_fails = λ n g e m h. OfferFails m.commits.line.items m.commits.lines n.commits.refusal e m.commits.refusal × (h ≡ g);
+      offering_fails = λ n g e m h. ListedOfferFails m.commits.line.items m.commits.lines n.commits.refusal e m.commits.refusal × (h ≡ g);
     } };
 
     // Such a commit is offered, and the server says so: what it leads to is common then.
