@@ -1,7 +1,7 @@
 //! `gixp_remote URL FOLDER`, which `git-remote-gixp` starts in its folder: a remote helper of git.
 #![tactic(auto)]
 
-use gixp_remote_command::run;
+use gixp_remote_session::run;
 use std::process::ExitCode;
 
 fn main(rt: HostRuntime) -> ExitCode {

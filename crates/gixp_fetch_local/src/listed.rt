@@ -1,0 +1,351 @@
+//! A negotiator that offers the commits of a text, of which it reads no more than it is asked for.
+ghost use Rattle.std.specs.Prelude.{◌≡◌, ◌-◌, ◌^◌, ◌≤◌, ◌<◌, ◌++◌, ℕ, List, [], Some, None, true, false, map, IfOk, IfErr, IfSome, IfNone, OnOk, OnSome};
+ghost use Rattle.std.specs.BTreeSet.{contains};
+ghost use Rattle.std.specs.FinMap as finite;
+ghost use Rattle.std.specs.Io.KnownBytes.{Consumes, IsAtEnd};
+ghost use Rattle.bstr.specs.BStr.{bstr_bytes};
+ghost use Rattle.gixp_hash.specs.declared.object_id.ObjectId.{ObjectId};
+ghost use Rattle.gixp_hash.specs.ObjectId.{id_cmp};
+ghost use Rattle.gixp_memory.specs.Text.{line_words, text_lines, after_lines};
+ghost use Rattle.gixp_memory.specs.Repository.{commit_line};
+ghost use Rattle.gixp_fetch_local.specs.Known.{parents_of, KeepsIds, HasIdsOf, AreAwaitedOrKnown};
+ghost use Rattle.gixp_fetch_local.specs.Listed.{id_in, told_as, IsNoCommit, ReadsTextLine, IsUncommon, OffersLine, ListedOfferFails, KeepsCommitText};
+
+use crate::known::KnownCommits;
+use bstr::BStr;
+use gixp_graph::{Graph, Negotiator, NegotiatorError, ObjectError, Objects};
+use gixp_hash::ObjectId;
+use gixp_memory::TextError;
+use std::alloc::{AllocError, Global};
+use std::collections::BTreeSet;
+use std::io;
+use std::io::{BufRead, ErrorKind};
+
+/// Why a text isn't read on.
+#[derive(Clone, Copy, Debug, PartialEq, Eq)]
+pub enum Refusal {
+    /// It can't be read, with this kind.
+    Read(ErrorKind),
+    /// The line of this number, from 1 on, is no commit.
+    Line(usize),
+}
+
+// The commits of a text, as far as it was read.
+#[derive(Drop)]
+struct CommitText<R> {
+    alloc: Global,
+    text: R,
+    // The line that was read last, without its end.
+    line: Vec<u8>,
+    lines: usize,
+    // How many lines may be read still: more than a text has.
+    left: u64,
+    known: KnownCommits,
+    refusal: Option<Refusal>,
+}
+
+// The words of a line.
+fn line_words(alloc: Global, line: &[u8]) -> Result<Vec<BStr<'_>>, AllocError>
+    ensures { IfOk result (λ found. map bstr_bytes found.items ≡ line_words line.now) }
+{
+    line.split(|byte| *byte == b' ')
+        .map(BStr::new)
+        .collect(alloc)
+}
+
+// The commit of a line `TIME ID PARENT..`.
+fn commit_id(alloc: Global, line: &[u8]) -> Result<Option<ObjectId>, AllocError>
+    ensures { IfOk result (λ id. id ≡ id_in line.now) }
+{
+    let words = line_words(alloc, line)?;
+    let Some(word) = words.get(1) else {
+        return Ok(None);
+    };
+    match ObjectId::from_hex(word.as_bytes()) {
+        Ok(id) => Ok(Some(id)),
+        Err(_) => Ok(None),
+    }
+}
+
+// Takes the end of a line away.
+fn cut_end(line: &mut Vec<u8>)
+    ensures { (end : List ℕ) × (line.old.items ≡ line.new.items ++ end) }
+{
+    if line.last() == Some(&b'\n') {
+        line.pop();
+    }
+}
+
+impl<R: BufRead> CommitText<R> {
+    // Reads a line with its end, which is empty at the end of the text.
+    fn read_whole_line(&mut self) -> io::Result<bool>
+        ensures read { OnOk result (Consumes (R.remaining self.old.text) (R.remaining self.new.text) self.new.line.items) }
+        ensures end { IfOk result (λ is_there. is_there ≡ false → IsAtEnd (R.remaining self.old.text)) }
+        ensures lines { self.new.lines ≡ self.old.lines }
+        ensures left { self.new.left ≡ self.old.left }
+        ensures known { self.new.known ≡ self.old.known }
+        ensures refusal { self.new.refusal ≡ self.old.refusal }
+    {
+        self.line.clear();
+        let count = self.text.read_until(b'\n', &mut self.line)?;
+        Ok(count != 0)
+    }
+
+    // Reads a line, without its end. Returns whether there is one.
+    fn read_line(&mut self) -> io::Result<bool>
+        ensures read { IfOk result (λ is_there. is_there ≡ true
+            → ReadsTextLine (R.remaining self.old.text) self.new.line.items (R.remaining self.new.text)) }
+        ensures end { IfOk result (λ is_there. is_there ≡ false → IsAtEnd (R.remaining self.old.text)) }
+        ensures left { self.new.left ≡ self.old.left }
+        ensures known { self.new.known ≡ self.old.known }
+        ensures refusal { self.new.refusal ≡ self.old.refusal }
+    {
+        let is_there = self.read_whole_line()?;
+        cut_end(&mut self.line);
+        self.lines = self.lines.saturating_add(1);
+        Ok(is_there)
+    }
+
+    // Adds the commit of the line. Returns its id, none where there is no commit.
+    fn add_line(&mut self) -> Result<Option<ObjectId>, AllocError>
+        ensures named { IfOk result (λ id. IfSome id (λ id. id_in self.new.line.items ≡ Some id)) }
+        ensures added { IfOk result (λ id. OnSome id (after_lines commit_line self.old.known.read (text_lines self.new.line.items)
+            ≡ Some self.new.known.read)) }
+        ensures none { IfOk result (λ id. IfNone id (IsNoCommit self.new.line.items)) }
+        ensures text { self.new.text ≡ self.old.text }
+        ensures line { self.new.line ≡ self.old.line }
+        ensures lines { self.new.lines ≡ self.old.lines }
+        ensures left { self.new.left ≡ self.old.left }
+        ensures common { self.new.known.common ≡ self.old.known.common }
+        ensures awaited { self.new.known.awaited ≡ self.old.known.awaited }
+        ensures refusal { self.new.refusal ≡ self.old.refusal }
+    {
+        match self.known.read.read_commits(self.alloc, &self.line) {
+            Ok(()) => commit_id(self.alloc, &self.line),
+            Err(TextError::Line(_)) => Ok(None),
+            Err(TextError::Memory) => Err(AllocError),
+        }
+    }
+
+    // The text isn't read on.
+    fn refuse(&mut self, refusal: Refusal) -> NegotiatorError
+        ensures refusal { self.new.refusal ≡ Some refusal }
+        ensures told { result ≡ told_as refusal }
+        ensures text { self.new.text ≡ self.old.text }
+        ensures line { self.new.line ≡ self.old.line }
+        ensures lines { self.new.lines ≡ self.old.lines }
+        ensures left { self.new.left ≡ self.old.left }
+        ensures known { self.new.known ≡ self.old.known }
+    {
+        self.refusal = Some(refusal);
+        match refusal {
+            Refusal::Read(kind) => NegotiatorError::Lookup(ObjectError::Io(kind)),
+            Refusal::Line(_) => NegotiatorError::Lookup(ObjectError::Corrupt),
+        }
+    }
+
+    // The next commit, none at the end of the text.
+    fn read_commit(&mut self) -> Result<Option<ObjectId>, NegotiatorError>
+        ensures named { IfOk result (λ id. IfSome id (λ id. id_in self.new.line.items ≡ Some id)) }
+        ensures read { IfOk result (λ id. OnSome id
+            (ReadsTextLine (R.remaining self.old.text) self.new.line.items (R.remaining self.new.text))) }
+        ensures end { IfOk result (λ id. IfNone id (IsAtEnd (R.remaining self.old.text))) }
+        ensures left { self.new.left ≡ self.old.left }
+        ensures common { self.new.known.common ≡ self.old.known.common }
+        ensures awaited { self.new.known.awaited ≡ self.old.known.awaited }
+        ensures refusal { OnOk result (self.new.refusal ≡ self.old.refusal) }
+        ensures fails { IfErr result (λ e. ListedOfferFails self.new.line.items self.new.lines self.old.refusal e self.new.refusal) }
+    {
+        match self.read_line() {
+            Ok(true) => {}
+            Ok(false) => return Ok(None),
+            Err(e) if e.kind() == ErrorKind::OutOfMemory => return Err(NegotiatorError::Memory),
+            Err(e) => return Err(self.refuse(Refusal::Read(e.kind()))),
+        }
+        match self.add_line() {
+            Ok(Some(id)) => Ok(Some(id)),
+            Ok(None) => Err(self.refuse(Refusal::Line(self.lines))),
+            Err(_) => Err(NegotiatorError::Memory),
+        }
+    }
+
+    // Offers a commit whose line was read last, unless the server is known to have it. Returns whether it is offered.
+    fn offer(&mut self, id: &ObjectId) -> Result<bool, AllocError>
+        ensures uncommon { IfOk result (λ is_offered. is_offered ≡ true → IsUncommon self.new.known.common id.now) }
+        ensures awaits { IfOk result (λ is_offered. is_offered ≡ true → AreAwaitedOrKnown self.new.known.read self.new.known.common
+            self.new.known.awaited (parents_of self.new.known.read id.now)) }
+        ensures common { IfOk result (λ is_offered. is_offered ≡ false → contains id_cmp self.old.known.common id.now ≡ true) }
+        ensures keeps { KeepsIds self.old.known.common self.new.known.common }
+        ensures read { self.new.known.read ≡ self.old.known.read }
+        ensures text { self.new.text ≡ self.old.text }
+        ensures line { self.new.line ≡ self.old.line }
+        ensures lines { self.new.lines ≡ self.old.lines }
+        ensures left { self.new.left ≡ self.old.left }
+        ensures refusal { self.new.refusal ≡ self.old.refusal }
+    {
+        self.known.forget(id);
+        if self.known.is_common(id) {
+            return match self.known.share(self.alloc, *id) {
+                Ok(()) => Ok(false),
+                Err(_) => Err(AllocError),
+            };
+        }
+        match self.known.await_parents(self.alloc, id) {
+            Ok(()) => Ok(true),
+            Err(_) => Err(AllocError),
+        }
+    }
+
+    // The server has a commit.
+    fn share(&mut self, id: ObjectId) -> Result<(), AllocError>
+        ensures kept { KeepsCommitText self.old self.new }
+        ensures has { OnOk result (HasIdsOf self.new.known.common (parents_of self.old.known.read id)) }
+        ensures keeps { KeepsIds self.old.known.common self.new.known.common }
+    {
+        self.known.share(self.alloc, id)
+    }
+
+    // The next commit that isn't known to be common.
+    fn next(&mut self) -> Result<Option<ObjectId>, NegotiatorError>
+        ensures offered { IfOk result (λ have. IfSome have (λ id. OffersLine self.new.line.items id self.new.known)) }
+        ensures lowers { IfOk result (λ have. OnSome have (self.new.left < self.old.left)) }
+        ensures left { self.new.left ≤ self.old.left }
+        ensures refusal { OnOk result (self.new.refusal ≡ self.old.refusal) }
+        ensures fails { IfErr result (λ e. ListedOfferFails self.new.line.items self.new.lines self.old.refusal e self.new.refusal) }
+    {
+        'lines: while self.left > 0 {
+            if self.known.is_over() {
+                return Ok(None);
+            }
+            self.left -= 1;
+            match self.read_commit() {
+                Ok(Some(id)) => match self.offer(&id) {
+                    Ok(true) => return Ok(Some(id)),
+                    Ok(false) => {}
+                    Err(_) => return Err(NegotiatorError::Memory),
+                },
+                Ok(None) => return Ok(None),
+                Err(e) => return Err(e),
+            }
+        }
+        Ok(None)
+    }
+}
+
+/// Offers the commits of a text as `git rev-list --timestamp --parents` writes it, in its order, without those that a commit
+/// leads to of which the server said that it has it. A line is read only where a have is asked for. The end of the text is the
+/// last; where the tips are known of which it lists all that they lead to, no line is read once the server is known to have
+/// whatever comes.
+#[derive(Drop)]
+pub struct ListedCommits<R> {
+    commits: CommitText<R>,
+    failures: u64,
+}
+
+impl<R: BufRead> ListedCommits<R> {
+    /// Before a line is read, with the tips of the history that is listed, where they are known.
+    pub fn new(alloc: Global, text: R, tips: Option<BTreeSet<ObjectId>>) -> ListedCommits<R>
+        ensures text { result.commits.text ≡ text }
+        ensures read { result.commits.known.read ≡ finite.empty }
+        ensures awaited { result.commits.known.awaited ≡ tips }
+        ensures common { result.commits.known.common.keys ≡ [] }
+        ensures lines { result.commits.lines ≡ 0 }
+        ensures refusal { result.commits.refusal ≡ None }
+        ensures left { result.commits.left ≡ 2 ^ 64 - 1 }
+        ensures failures { result.failures ≡ 0 }
+    {
+        ListedCommits {
+            commits: CommitText {
+                alloc,
+                text,
+                line: Vec::new(alloc),
+                lines: 0,
+                left: u64::MAX,
+                known: KnownCommits::new(alloc, tips),
+                refusal: None,
+            },
+            failures: 0,
+        }
+    }
+
+    /// Why the text isn't read on, where it can't be.
+    pub fn refusal(&self) -> Option<Refusal>
+        ensures { result ≡ self.now.commits.refusal }
+    {
+        self.commits.refusal
+    }
+}
+
+impl<R: BufRead> Negotiator for ListedCommits<R> {
+    ghost use Rattle.std.specs.Prelude.{◌≡◌, ⊤};
+    ghost use Rattle.std.proofs.Common.{arith};
+    ghost use Rattle.gixp_graph.specs.declared.negotiator.NegotiatorError.TheVariants.{Memory};
+    ghost use Rattle.gixp_fetch_local.specs.Listed.{OffersNext, KeepsCommitText, ListedOfferFails};
+    ghost use Rattle.gixp_fetch_local.specs.Known.{parents_of, KeepsIds, HasIdsOf, AreAwaitedOrKnown};
+
+    ghost calls = { record {
+      count = λ n g. n.commits.left;
+      failures = λ n. n.failures;
+      knows = λ n g id m h. (m ≡ n) × (h ≡ g);
+      adds = λ n g id m h. (m ≡ n) × (h ≡ g);
+      learns = λ n g id m h. KeepsCommitText n.commits m.commits × (h ≡ g) × KeepsIds n.commits.known.common m.commits.known.common
+          × HasIdsOf m.commits.known.common (parents_of n.commits.known.read id);
+      offers = λ n g have m h. OffersNext n.commits have m.commits × (h ≡ g);
+      knowing_fails = λ n g id e m h. ⊥;
+      adding_fails = λ n g id e m h. ⊥;
+      learning_fails = λ n g id e m h. (e ≡ Memory) × KeepsCommitText n.commits m.commits × (h ≡ g)
+          × KeepsIds n.commits.known.common m.commits.known.common;
+      offering_fails = λ n g e m h. ListedOfferFails m.commits.line.items m.commits.lines n.commits.refusal e m.commits.refusal × (h ≡ g);
+    } };
+
+    // Such a commit is offered, and the server says so: what it leads to is common then.
+    fn known_common<O: Objects>(
+        &mut self,
+        _id: ObjectId,
+        _graph: &mut Graph<O>,
+    ) -> Result<(), NegotiatorError> {
+        Ok(())
+    }
+
+    fn add_tip<O: Objects>(
+        &mut self,
+        _id: ObjectId,
+        _graph: &mut Graph<O>,
+    ) -> Result<(), NegotiatorError> {
+        Ok(())
+    }
+
+    fn in_common_with_remote<O: Objects>(
+        &mut self,
+        id: ObjectId,
+        _graph: &mut Graph<O>,
+    ) -> Result<(), NegotiatorError> {
+        match self.commits.share(id) {
+            Ok(()) => Ok(()),
+            Err(_) => {
+                self.failures = self.failures.saturating_add(1);
+                Err(NegotiatorError::Memory)
+            }
+        }
+    }
+
+    fn next_have<O: Objects>(
+        &mut self,
+        _graph: &mut Graph<O>,
+    ) -> Option<Result<ObjectId, NegotiatorError>> {
+        match self.commits.next() {
+            Ok(Some(id)) => Some(Ok(id)),
+            Ok(None) => None,
+            Err(e) => {
+                self.failures = self.failures.saturating_add(1);
+                Some(Err(e))
+            }
+        }
+    }
+
+    ghost offer_lowers = { λ n g id m h r. r.0.1 };
+
+    ghost none_keeps = { λ n g m h r. r.0 };
+
+    ghost learning_keeps = { λ n g id m h r. Prim.omega (arith, r.0.left) };
+}

@@ -1,8 +1,0 @@
--- The commits so far.
-use Rattle.std.proofs.Common.{take}
-use Rattle.std.specs.Prelude.{All}
-use Rattle.gixp_fetch_parts.specs.Known.{IsAwaitedOrKnown}
-use Rattle.gixp_fetch_parts.proofs.known.add_awaited.Given as goal
-
-abbrev pub invariant-commits : goal.invariant-commits
-invariant-commits l = All (IsAwaitedOrKnown l.read l.common l.awaited) (take l.id-index l.commits)

@@ -1,0 +1,48 @@
+//! What git is told of a batch that was fetched (gitremote-helpers, "fetch").
+ghost use Rattle.std.specs.Prelude.{◌≡◌, ◌++◌, IfOk, OnOk};
+ghost use Rattle.std.specs.Option.{option_map};
+ghost use Rattle.gixp_remote_rules.specs.Told.{lock_lines, closed_lines, batch_told};
+
+use std::alloc::{AllocError, Global};
+
+// The line of a lock, where there is one.
+fn append_lock(text: &mut Vec<u8>, lock: Option<&[u8]>) -> Result<(), AllocError>
+    ensures { OnOk result (text.new.items ≡ text.old.items ++ lock_lines (option_map (λ l. l.now) lock.entry)) }
+{
+    if let Some(lock) = lock {
+        text.extend_from_slice(b"lock ")?;
+        text.extend_from_slice(lock)?;
+        text.extend_from_slice(b"\n")?;
+    }
+    Ok(())
+}
+
+// The line that spares git its own look at what came.
+fn append_closed(text: &mut Vec<u8>, is_closed: bool) -> Result<(), AllocError>
+    ensures { OnOk result (text.new.items ≡ text.old.items ++ closed_lines is_closed) }
+{
+    if is_closed {
+        text.extend_from_slice(b"connectivity-ok\n")?;
+    }
+    Ok(())
+}
+
+/// The lines behind a batch: the lock of the pack, where one is kept, and that all is there that what came leads to, where that
+/// was found out.
+///
+/// # Errors
+///
+/// An allocation failure alone.
+pub fn batch_told(
+    alloc: Global,
+    lock: Option<&[u8]>,
+    is_closed: bool,
+) -> Result<Vec<u8>, AllocError>
+    ensures { IfOk result (λ text. text.items ≡ batch_told (option_map (λ l. l.now) lock.entry) is_closed) }
+{
+    let mut text = Vec::new(alloc);
+    append_lock(&mut text, lock)?;
+    append_closed(&mut text, is_closed)?;
+    text.extend_from_slice(b"\n")?;
+    Ok(text)
+}

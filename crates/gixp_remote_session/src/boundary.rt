@@ -1,0 +1,119 @@
+//! What becomes of the shallow boundary, under git's own lock (gitrepository-layout, "shallow").
+use crate::checks::here;
+use crate::local::Places;
+use crate::order::Order;
+use crate::pack::{Came, PackPlan};
+use crate::shell::Shell;
+use crate::trouble::Trouble;
+use bstr::BString;
+use gix_protocol::fetch::shallow_text;
+use gix_protocol::transport::ObjectId;
+use gixp_remote_rules::{Boundary, Request, Taking, added, boundary_after, taking_of};
+use std::alloc::Global;
+use std::collections::BTreeSet;
+use std::fs;
+
+/// What becomes of the boundary, before the pack is put beside the others.
+pub(crate) fn boundary_of(
+    order: Order<'_, '_>,
+    shell: &mut Shell,
+    plan: &PackPlan,
+    old: &[ObjectId],
+    came: &Came,
+) -> Result<Boundary, Trouble> {
+    let alloc = order.reach.rt.alloc();
+    let known: BTreeSet<ObjectId> = old.iter().copied().collect(alloc)?;
+    let ids = added(alloc, &known, &came.boundary)?;
+    let taking = taking_of(order.choices);
+    let mut before = BTreeSet::new(alloc);
+    let mut commits = BTreeSet::new(alloc);
+    if !ids.is_empty() && taking != Taking::Nothing {
+        before = here(order, shell, &[], &ids, false)?;
+        let variables: &[BString] = if came.kept.is_some() {
+            &plan.variables
+        } else {
+            &[]
+        };
+        commits = here(order, shell, variables, &ids, true)?;
+    }
+    Ok(boundary_after(alloc, taking, &known, &came.boundary, &before, &commits)?)
+}
+
+/// Takes the lock of the boundary, which is git's own.
+pub(crate) fn lock_boundary(
+    alloc: Global,
+    shell: &mut Shell,
+    places: &Places,
+) -> Result<(), Trouble> {
+    let lock = places.shallow_lock.as_bytes();
+    if shell.ask(&Request::Hold(lock))? == 0 {
+        Ok(())
+    } else {
+        Err(Trouble::of_word(
+            alloc,
+            "Unable to create (it exists, or can't be written)",
+            lock,
+        ))
+    }
+}
+
+// Puts a new boundary in the place of the old one, whose lock is held.
+fn write_boundary(
+    rt: &HostRuntime,
+    shell: &mut Shell,
+    places: &Places,
+    ids: &[ObjectId],
+) -> Result<(), Trouble> {
+    let lock = places.shallow_lock.as_bytes();
+    let text = shallow_text(rt.alloc(), ids)?;
+    if text.is_empty() {
+        let _ = fs::remove_file(rt, places.shallow.as_str());
+        shell.ask(&Request::Free(lock))?;
+        return Ok(());
+    }
+    fs::write(rt, "boundary", text.as_slice())?;
+    if shell.ask(&Request::Replace(lock, places.shallow.as_bytes()))? == 0 {
+        Ok(())
+    } else {
+        Err(Trouble::Other("the shallow boundary can't be written"))
+    }
+}
+
+// The new boundary, where it isn't the old one.
+fn changed(
+    alloc: Global,
+    boundary: &Boundary,
+    old: &[ObjectId],
+) -> Result<Option<Vec<ObjectId>>, Trouble> {
+    match boundary {
+        Boundary::Becomes(ids) if ids.as_slice() != old => Ok(Some(Vec::from_slice(alloc, ids)?)),
+        Boundary::Grows(more) if !more.is_empty() => {
+            let mut ids = Vec::from_slice(alloc, old)?;
+            ids.extend_from_slice(more)?;
+            Ok(Some(ids))
+        }
+        _ => Ok(None),
+    }
+}
+
+/// Writes the boundary, where it isn't the same. Its lock is held from the beginning on where a depth was asked for.
+pub(crate) fn change_boundary(
+    order: Order<'_, '_>,
+    shell: &mut Shell,
+    places: &Places,
+    old: &[ObjectId],
+    boundary: &Boundary,
+) -> Result<(), Trouble> {
+    let rt = order.reach.rt;
+    let has_lock = order.choices.has_depth();
+    let Some(ids) = changed(rt.alloc(), boundary, old)? else {
+        if has_lock {
+            shell.ask(&Request::Free(places.shallow_lock.as_bytes()))?;
+        }
+        return Ok(());
+    };
+    if !has_lock {
+        lock_boundary(rt.alloc(), shell, places)?;
+    }
+    write_boundary(rt, shell, places, &ids)
+}

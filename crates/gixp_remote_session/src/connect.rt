@@ -1,0 +1,323 @@
+//! The words that reach a server, and the session with it.
+use crate::setup::{is_from_user, joined, variable, version_word};
+use crate::shell::{NOTHING, Shell, owned};
+use crate::trouble::Trouble;
+use crate::web::connect_stateless;
+use crate::wire::{Says, Shown, Wire};
+use bstr::{BString, ByteSlice};
+use gix_protocol::client::Heard;
+use gix_protocol::transport::{Connection, Discard, Opening, Protocol};
+use gixp_fetch_session::session::Session;
+use gixp_remote_rules::{
+    Program, Request, Settings, Start, Task, Variant, here_words, is_allowed, proxy_for, quoted,
+    server_variables, ssh_words, variant_of, web_words,
+};
+use gixp_stateless::Answers;
+use gixp_url::{Address, Transport};
+use std::cell::Cell;
+use std::fs::{File, OpenOptions};
+use std::io::{BufReader, BufWriter};
+
+/// What a server is reached by.
+#[derive(Clone, Copy)]
+pub(crate) struct Reach<'a> {
+    pub(crate) rt: &'a HostRuntime,
+    /// The name that git has for the server.
+    pub(crate) name: &'a [u8],
+    pub(crate) address: &'a Address,
+    pub(crate) settings: &'a Settings,
+    pub(crate) version: Protocol,
+    /// Whether the server reported an error beside its answers.
+    pub(crate) has_failed: &'a Cell<bool>,
+}
+
+// Refuses a transport that the user doesn't allow.
+fn check_policy(reach: Reach<'_>) -> Result<(), Trouble> {
+    let alloc = reach.rt.alloc();
+    let name = reach.address.transport.name().as_bytes();
+    let list = variable(reach.rt, "GIT_ALLOW_PROTOCOL");
+    let list = match &list {
+        Some(list) => Some(list.as_bytes()),
+        None => None,
+    };
+    match is_allowed(alloc, name, reach.settings, list, is_from_user(reach.rt))? {
+        Some(true) => Ok(()),
+        Some(false) => Err(Trouble::of_word(alloc, "this transport is not allowed:", name)),
+        None => Err(Trouble::of_word(alloc, "unknown value for the policy of the protocol", name)),
+    }
+}
+
+// The user's command for ssh, and whether a shell reads it.
+fn ssh_program(reach: Reach<'_>) -> Result<(Vec<u8>, Program), Trouble> {
+    let alloc = reach.rt.alloc();
+    if let Some(text) = variable(reach.rt, "GIT_SSH_COMMAND") {
+        return Ok((Vec::from_slice(alloc, text.as_bytes())?, Program::Shell));
+    }
+    if let Some(text) = reach.settings.value(b"core.sshcommand") {
+        return Ok((Vec::from_slice(alloc, text)?, Program::Shell));
+    }
+    match variable(reach.rt, "GIT_SSH") {
+        Some(text) => Ok((Vec::from_slice(alloc, text.as_bytes())?, Program::Command)),
+        None => Ok((Vec::from_slice(alloc, b"ssh")?, Program::Command)),
+    }
+}
+
+// The first word of a text for a shell, without quotes around it.
+fn first_word(text: &[u8]) -> &[u8] {
+    let text = text.trim_start();
+    match text.split_first() {
+        Some((quote, rest)) => {
+            if *quote == b'\'' || *quote == b'"' {
+                before(rest, *quote)
+            } else {
+                before(text, b' ')
+            }
+        }
+        None => text,
+    }
+}
+
+// What stands before a byte.
+fn before(text: &[u8], byte: u8) -> &[u8] {
+    match text.iter().position(|b| *b == byte) {
+        Some(at) => &text[..at],
+        None => text,
+    }
+}
+
+// The kind of ssh.
+fn ssh_variant(
+    reach: Reach<'_>,
+    shell: &mut Shell,
+    command: &[u8],
+    program: Program,
+) -> Result<Variant, Trouble> {
+    let named = variable(reach.rt, "GIT_SSH_VARIANT");
+    let chosen = match &named {
+        Some(word) => Some(word.as_bytes()),
+        None => reach.settings.value(b"ssh.variant"),
+    };
+    let name = match program {
+        Program::Shell => first_word(command),
+        _ => command,
+    };
+    match variant_of(chosen, name) {
+        Variant::Auto => probe(reach, shell, command, program),
+        variant => Ok(variant),
+    }
+}
+
+// Asks a program whether it is OpenSSH.
+fn probe(
+    reach: Reach<'_>,
+    shell: &mut Shell,
+    command: &[u8],
+    program: Program,
+) -> Result<Variant, Trouble> {
+    let alloc = reach.rt.alloc();
+    let mut words = owned(alloc, &[command, b"-G"])?;
+    add_ssh_words(reach, Variant::Ssh, &mut words)?;
+    let told = shell.tell(reach.rt, Task::Probe, program, NOTHING, &[], &words)?;
+    if told.status == 0 {
+        Ok(Variant::Ssh)
+    } else {
+        Ok(Variant::Simple)
+    }
+}
+
+// The options of ssh, and the host.
+fn add_ssh_words(
+    reach: Reach<'_>,
+    variant: Variant,
+    words: &mut Vec<BString>,
+) -> Result<(), Trouble> {
+    let alloc = reach.rt.alloc();
+    let port = match &reach.address.port {
+        Some(port) => Some(port.as_bytes()),
+        None => None,
+    };
+    let sends_version = version_word(reach.version).is_some();
+    match ssh_words(
+        alloc,
+        variant,
+        sends_version,
+        port,
+        reach.address.host.as_bytes(),
+    )? {
+        Some(more) => {
+            for word in more {
+                words.push(word)?;
+            }
+            Ok(())
+        }
+        None => Err(Trouble::Other("ssh variant 'simple' does not support setting port")),
+    }
+}
+
+// Starts a server by ssh.
+fn start_ssh(reach: Reach<'_>, shell: &mut Shell) -> Result<(), Trouble> {
+    let alloc = reach.rt.alloc();
+    let (command, program) = ssh_program(reach)?;
+    let variant = ssh_variant(reach, shell, &command, program)?;
+    let mut words = owned(alloc, &[&command])?;
+    add_ssh_words(reach, variant, &mut words)?;
+    let path = quoted(alloc, reach.address.path.as_bytes())?;
+    words.push(joined(alloc, &[b"git-upload-pack ", &path])?)?;
+    start(reach, shell, program, &words)
+}
+
+// Starts a server that this machine runs.
+fn start_here(reach: Reach<'_>, shell: &mut Shell) -> Result<(), Trouble> {
+    let words = here_words(reach.rt.alloc(), reach.address.path.as_bytes())?;
+    start(reach, shell, Program::Git, &words)
+}
+
+// Connects with a server that listens.
+fn start_socket(reach: Reach<'_>, shell: &mut Shell) -> Result<(), Trouble> {
+    let alloc = reach.rt.alloc();
+    let port: &[u8] = match &reach.address.port {
+        Some(port) => port.as_bytes(),
+        None => b"9418",
+    };
+    let host = reach.address.host.as_bytes();
+    let chosen = variable(reach.rt, "GIT_PROXY_COMMAND");
+    let chosen = match &chosen {
+        Some(command) => Some(command.as_bytes()),
+        None => None,
+    };
+    match proxy_for(reach.settings, chosen, reach.address.authority.as_bytes()) {
+        Some(command) => {
+            let words = owned(alloc, &[command, host, port])?;
+            start(reach, shell, Program::Command, &words)
+        }
+        None => {
+            let words = owned(alloc, &[host, port])?;
+            start(reach, shell, Program::Socket, &words)
+        }
+    }
+}
+
+// Starts git's own program for a web server. It belongs to the repository that fetches, and has its variables.
+fn start_web(reach: Reach<'_>, shell: &mut Shell) -> Result<(), Trouble> {
+    if reach.version != Protocol::V2 {
+        return Err(Trouble::Fatal("over HTTP only version 2 of the protocol is spoken here"));
+    }
+    let scheme = reach.address.transport.name().as_bytes();
+    let url = reach.address.path.as_bytes();
+    let words = web_words(reach.rt.alloc(), scheme, reach.name, url)?;
+    start_with(reach, shell, Program::Git, &[], &words)
+}
+
+// Starts a server.
+fn start(
+    reach: Reach<'_>,
+    shell: &mut Shell,
+    program: Program,
+    words: &[BString],
+) -> Result<(), Trouble> {
+    let variables = server_variables(reach.rt.alloc(), version_word(reach.version))?;
+    start_with(reach, shell, program, &variables, words)
+}
+
+// Starts a server with these variables.
+fn start_with(
+    reach: Reach<'_>,
+    shell: &mut Shell,
+    program: Program,
+    variables: &[BString],
+    words: &[BString],
+) -> Result<(), Trouble> {
+    let status = shell.ask(&Request::Start(Start {
+        task: Task::Server,
+        program,
+        input: "hears",
+        output: "says",
+        variables,
+        words,
+    }))?;
+    if status == 0 {
+        Ok(())
+    } else {
+        Err(Trouble::of_word(
+            reach.rt.alloc(),
+            "unable to connect to",
+            reach.address.authority.as_bytes(),
+        ))
+    }
+}
+
+// What a server that listens is told first.
+fn opening_of(reach: Reach<'_>) -> Result<Option<Opening>, Trouble> {
+    let alloc = reach.rt.alloc();
+    if reach.address.transport != Transport::Git {
+        return Ok(None);
+    }
+    let host = match variable(reach.rt, "GIT_OVERRIDE_VIRTUAL_HOST") {
+        Some(host) => BString::from_slice(alloc, host.as_bytes())?,
+        None => reach.address.authority.clone()?,
+    };
+    Ok(Some(Opening {
+        path: reach.address.path.clone()?,
+        host: Some(host),
+    }))
+}
+
+// What a server says, over the pipe from it.
+fn says_of(
+    reach: Reach<'_>,
+    from: File,
+    to: &mut BufWriter<File>,
+    is_quiet: bool,
+) -> Result<Says, Trouble> {
+    if !reach.address.transport.is_web() {
+        return Ok(Says::Stream(from));
+    }
+    let alloc = reach.rt.alloc();
+    let mut from = BufReader::new(alloc, from)?;
+    connect_stateless(alloc, &mut from, to, is_quiet)?;
+    Ok(Says::Answers(Answers::new(from)))
+}
+
+// The transport over the two pipes. What the server hears is opened first.
+fn open_wire<'a>(reach: Reach<'a>, is_quiet: bool) -> Result<Wire<'a>, Trouble> {
+    let alloc = reach.rt.alloc();
+    let to = OpenOptions::new().write(true).open(reach.rt, "hears")?;
+    let from = File::open(reach.rt, "says")?;
+    let mut to = BufWriter::new(alloc, to)?;
+    let says = says_of(reach, from, &mut to, is_quiet)?;
+    let url = reach.address.path.clone()?;
+    let connection = Connection::new(
+        alloc,
+        says,
+        to,
+        url,
+        reach.version,
+        Vec::new(alloc),
+        opening_of(reach)?,
+    )?;
+    Ok(Heard::new(alloc, connection, Shown::new(reach.rt, reach.has_failed)?))
+}
+
+// Starts the server.
+fn start_server(reach: Reach<'_>, shell: &mut Shell) -> Result<(), Trouble> {
+    match reach.address.transport {
+        Transport::File => start_here(reach, shell),
+        Transport::Ssh => start_ssh(reach, shell),
+        Transport::Git => start_socket(reach, shell),
+        Transport::Http | Transport::Https => start_web(reach, shell),
+    }
+}
+
+/// Starts the server, and shakes hands with it. One that was started before is ended.
+pub(crate) fn connect<'a>(
+    reach: Reach<'a>,
+    shell: &mut Shell,
+    is_quiet: bool,
+) -> Result<Session<'static, Wire<'a>>, Trouble> {
+    check_policy(reach)?;
+    shell.end(Task::Server)?;
+    start_server(reach, shell)?;
+    reach.has_failed.set(false);
+    let wire = open_wire(reach, is_quiet)?;
+    Ok(Session::open(reach.rt.alloc(), wire, "gixp", &mut Discard)?)
+}

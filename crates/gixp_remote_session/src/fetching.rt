@@ -1,0 +1,242 @@
+//! One fetch of objects by their ids.
+use crate::boundary::{boundary_of, change_boundary, lock_boundary};
+use crate::checks::checks_of;
+use crate::connect::{Reach, connect};
+use crate::history::shallow_of;
+use crate::local::Places;
+use crate::order::{Order, how_of, known, list_commits, map_of, wish_of};
+use crate::pack::{Came, IndexedPack, PackPlan, PackState, place};
+use crate::setup::haves_of;
+use crate::shell::Shell;
+use crate::trouble::Trouble;
+use crate::wire::Wire;
+use bstr::BString;
+use gix_protocol::fetch::ShallowMemory;
+use gix_protocol::transport::{Discard, ObjectId, Protocol};
+use gixp_fetch_local::{PackPlace, Wish};
+use gixp_fetch_session::failure::Failure;
+use gixp_fetch_session::receive::PackReceiver;
+use gixp_fetch_session::repository::Repository;
+use gixp_fetch_session::session::{Asked, How, Session, Sink};
+use gixp_fetch_session::{negotiate, unless_failed};
+use gixp_remote_rules::{Boundary, Task};
+use std::alloc::Global;
+use std::io::ErrorKind;
+
+/// A session that may be there.
+pub(crate) type Open<'a> = Option<Session<'static, Wire<'a>>>;
+
+// How one fetch goes on, once git has told where the repository is.
+#[derive(Clone, Copy)]
+struct Plan<'a, 'b, 'c, 'd> {
+    order: Order<'a, 'b>,
+    wish: &'c Wish<'d>,
+    how: &'c How,
+    pack: &'c PackPlan,
+    // Whether commits of other repositories are offered too, whose objects are borrowed.
+    has_alternates: bool,
+}
+
+// Fetches over a session, and gives the new boundary.
+fn fetch_over<P: PackPlace + Drop>(
+    reach: Reach<'_>,
+    session: &mut Session<'static, Wire<'_>>,
+    asked: Asked<'_>,
+    repository: &mut Repository,
+    place: P,
+) -> Result<Vec<ObjectId>, Failure> {
+    let alloc = reach.rt.alloc();
+    let boundary = Vec::from_slice(alloc, &repository.boundary)?;
+    let mut sink = Sink {
+        boundary: ShallowMemory::new(boundary),
+        pack: PackReceiver::new(alloc, place),
+    };
+    let came = negotiate(
+        reach.rt,
+        session,
+        repository,
+        asked,
+        Some("commits"),
+        &mut sink,
+        &mut Discard,
+    );
+    match unless_failed(came, reach.has_failed.get()) {
+        Ok(_) => keep_pack(alloc, &mut sink),
+        Err(e) => {
+            sink.pack.give_up();
+            Err(e)
+        }
+    }
+}
+
+// Why the pack isn't kept: git says so itself.
+fn refused(kind: ErrorKind) -> Failure {
+    match kind {
+        ErrorKind::OutOfMemory => Failure::Memory,
+        _ => Failure::PackRefused,
+    }
+}
+
+// Waits until the pack is indexed that came, and gives the new boundary.
+fn keep_pack<P: PackPlace>(alloc: Global, sink: &mut Sink<P>) -> Result<Vec<ObjectId>, Failure> {
+    match sink.pack.keep() {
+        Ok(_) => {}
+        Err(e) => return Err(refused(e.kind())),
+    }
+    Ok(Vec::from_slice(alloc, sink.boundary.ids())?)
+}
+
+// Tells the user that a filter is left out where the server has none, as git does.
+fn warn_of_filter(
+    reach: Reach<'_>,
+    session: &Session<'static, Wire<'_>>,
+    how: &How,
+) -> Result<(), Trouble> {
+    if how.filter.is_some() && !session.can_filter()? {
+        let _ = eprintln!(reach.rt; "warning: filtering not recognized by server, ignoring");
+    }
+    Ok(())
+}
+
+// A fetch over one session, and what became of the pack.
+fn fetch_by(
+    plan: Plan<'_, '_, '_, '_>,
+    shell: &mut Shell,
+    session: &mut Session<'static, Wire<'_>>,
+    repository: &mut Repository,
+) -> Result<Came, Trouble> {
+    let order = plan.order;
+    let rt = order.reach.rt;
+    list_commits(order, shell, plan.wish.haves, plan.has_alternates)?;
+    warn_of_filter(order.reach, session, plan.how)?;
+    let map = map_of(rt.alloc(), order.ids)?;
+    let asked = Asked {
+        map: &map,
+        wish: &*plan.wish,
+        how: &*plan.how,
+    };
+    let pack = plan.pack.copy(rt.alloc())?;
+    let place = IndexedPack::new(rt.clone()?, shell, pack);
+    let boundary = fetch_over(order.reach, session, asked, repository, place)?;
+    let kept = match shell.pack {
+        PackState::Kept(kept) => Some(kept),
+        PackState::Begun | PackState::Unbegun => None,
+    };
+    Ok(Came { kept, boundary })
+}
+
+// Whether a fetch failed since the server had left, before a pack came. A web server is asked anew by each request.
+fn was_left(reach: Reach<'_>, came: &Result<Came, Trouble>, shell: &Shell) -> bool {
+    match came {
+        Err(Trouble::Fetch(Failure::HungUp)) => {
+            shell.pack == PackState::Unbegun && !reach.address.transport.is_web()
+        }
+        _ => false,
+    }
+}
+
+// Fetches over the session that is there, or over a new one, also where the one that is there was left by the server.
+fn fetch_once_more<'a>(
+    plan: Plan<'a, '_, '_, '_>,
+    shell: &mut Shell,
+    open: &mut Open<'a>,
+    repository: &mut Repository,
+) -> Result<Came, Trouble> {
+    let reach = plan.order.reach;
+    if let Some(mut session) = open.take() {
+        let came = fetch_by(plan, shell, &mut session, repository);
+        if !was_left(reach, &came, shell) {
+            return settle(session, open, came?);
+        }
+    }
+    let mut session = connect(reach, shell, plan.order.choices.is_quiet)?;
+    let came = fetch_by(plan, shell, &mut session, repository)?;
+    settle(session, open, came)
+}
+
+// Keeps a session of version 2, and ends any other.
+fn settle<'a>(
+    mut session: Session<'static, Wire<'a>>,
+    open: &mut Open<'a>,
+    came: Came,
+) -> Result<Came, Trouble> {
+    if session.version() == Protocol::V2 {
+        *open = Some(session);
+    } else {
+        session.end(came.kept.is_some());
+    }
+    Ok(came)
+}
+
+/// What git is told of a fetch.
+#[derive(Drop)]
+pub(crate) struct Fetched {
+    /// The lock of the pack.
+    pub(crate) lock: Option<BString>,
+    /// Whether all that the pack leads to is in it.
+    pub(crate) is_closed: bool,
+}
+
+// Puts the pack and the boundary where git finds them.
+fn finish(
+    plan: Plan<'_, '_, '_, '_>,
+    shell: &mut Shell,
+    places: &Places,
+    old: &[ObjectId],
+    came: &Came,
+) -> Result<Fetched, Trouble> {
+    let order = plan.order;
+    let rt = order.reach.rt;
+    let boundary = boundary_of(order, shell, plan.pack, old, came)?;
+    if let Boundary::Refused(id) = &boundary {
+        let digits = id.to_hex();
+        return Err(Trouble::of_word(
+            rt.alloc(),
+            "the server's boundary names, which is no commit here,",
+            &digits,
+        ));
+    }
+    let lock = match &came.kept {
+        Some(kept) => place(rt, shell, places, plan.pack, &kept.hash)?,
+        None => None,
+    };
+    change_boundary(order, shell, places, old, &boundary)?;
+    let is_closed = match &came.kept {
+        Some(kept) => kept.is_closed && order.choices.asks_closed(),
+        None => false,
+    };
+    Ok(Fetched { lock, is_closed })
+}
+
+/// Fetches the objects of these ids. The pack is indexed in a folder of this name.
+pub(crate) fn fetch<'a>(
+    order: Order<'a, '_>,
+    shell: &mut Shell,
+    open: &mut Open<'a>,
+    folder: &[u8],
+) -> Result<Fetched, Trouble> {
+    let rt = order.reach.rt;
+    let alloc = rt.alloc();
+    let places = Places::ask(rt, shell)?;
+    let old = places.boundary(rt)?;
+    if order.choices.has_depth() {
+        lock_boundary(alloc, shell, &places)?;
+    }
+    let haves = haves_of(rt, order.reach.settings);
+    let shallow = shallow_of(rt, shell, order.choices)?;
+    let wish = wish_of(alloc, order.choices, shallow, haves);
+    let mut repository = known(order, shell, &old, haves)?;
+    let checks = checks_of(order, shell)?;
+    let pack = PackPlan::new(rt, &places, folder, order.choices, &checks)?;
+    let how = how_of(alloc, order.choices)?;
+    let plan = Plan {
+        order,
+        wish: &wish,
+        how: &how,
+        pack: &pack,
+        has_alternates: places.has_alternates(rt),
+    };
+    let came = fetch_once_more(plan, shell, open, &mut repository)?;
+    shell.end(Task::Listing)?;
+    finish(plan, shell, &places, &old, &came)
+}

@@ -1,0 +1,144 @@
+//! The refs of a server, as git reads them from a remote helper.
+ghost use Rattle.std.specs.Prelude.{◌≡◌, ◌++◌, OnOk};
+ghost use Rattle.std.specs.Option.{option_map};
+ghost use Rattle.bstr.specs.Owned.{bstring_bytes};
+ghost use Rattle.gixp_remote_session.specs.RefLines.{is_plain, id_line, symbolic_line, object_lines};
+
+use bstr::BString;
+use gix_protocol::handshake::Ref;
+use gix_protocol::transport::ObjectId;
+use std::alloc::{AllocError, Global};
+
+// Whether a name fits the lines of git's: git leaves out others too, as names that no ref may have (git-check-ref-format).
+fn is_plain(name: &[u8]) -> bool
+    ensures { result ≡ is_plain name.now }
+{
+    !name.is_empty() && name.iter().all(|byte| *byte > b' ' && *byte != 127)
+}
+
+// A line of an id and a name.
+fn append_id(text: &mut Vec<u8>, id: &ObjectId, name: &[u8], mark: &[u8]) -> Result<(), AllocError>
+    ensures { OnOk result (text.new.items ≡ text.old.items ++ id_line id.now.bytes name.now mark.now) }
+{
+    text.extend_from_slice(&id.to_hex())?;
+    text.extend_from_slice(b" ")?;
+    text.extend_from_slice(name)?;
+    text.extend_from_slice(mark)?;
+    text.extend_from_slice(b"\n")
+}
+
+// A line of a symbolic ref.
+fn append_symbolic(text: &mut Vec<u8>, target: &[u8], name: &[u8]) -> Result<(), AllocError>
+    ensures { OnOk result (text.new.items ≡ text.old.items ++ symbolic_line target.now name.now) }
+{
+    text.extend_from_slice(b"@")?;
+    text.extend_from_slice(target)?;
+    text.extend_from_slice(b" ")?;
+    text.extend_from_slice(name)?;
+    text.extend_from_slice(b"\n")
+}
+
+// The names of the refs that hold an object themselves, in order.
+fn holders(alloc: Global, refs: &[Ref]) -> Result<Vec<BString>, AllocError> {
+    let mut names = Vec::new(alloc);
+    for found in refs {
+        match found {
+            Ref::Peeled { full_ref_name, .. } | Ref::Direct { full_ref_name, .. } => {
+                names.push(full_ref_name.clone()?)?;
+            }
+            Ref::Symbolic { .. } | Ref::Unborn { .. } => {}
+        }
+    }
+    names.sort()?;
+    Ok(names)
+}
+
+// The lines of an object, and of a tag that leads to it.
+fn append_object(
+    text: &mut Vec<u8>,
+    name: &[u8],
+    tag: &Option<ObjectId>,
+    object: &ObjectId,
+) -> Result<(), AllocError>
+    ensures { OnOk result (text.new.items ≡ text.old.items ++ object_lines name.now (option_map (λ t. t.bytes) tag.now) object.now.bytes) }
+{
+    match tag {
+        Some(tag) => {
+            append_id(text, tag, name, b"")?;
+            append_id(text, object, name, b"^{}")
+        }
+        None => append_id(text, object, name, b""),
+    }
+}
+
+// The lines of a ref. A symbolic ref is told by its target where that holds an object itself, else by what it leads to.
+fn append_ref(text: &mut Vec<u8>, found: &Ref, holders: &[BString]) -> Result<(), AllocError> {
+    match found {
+        Ref::Direct {
+            full_ref_name,
+            object,
+        } => append_id(text, object, full_ref_name.as_bytes(), b""),
+        Ref::Peeled {
+            full_ref_name,
+            tag,
+            object,
+        } => {
+            append_id(text, tag, full_ref_name.as_bytes(), b"")?;
+            append_id(text, object, full_ref_name.as_bytes(), b"^{}")
+        }
+        Ref::Symbolic {
+            full_ref_name,
+            target,
+            tag,
+            object,
+        } => append_link(text, full_ref_name, target, tag, object, holders),
+        Ref::Unborn { .. } => Ok(()),
+    }
+}
+
+// The lines of a symbolic ref.
+fn append_link(
+    text: &mut Vec<u8>,
+    name: &BString,
+    target: &BString,
+    tag: &Option<ObjectId>,
+    object: &ObjectId,
+    holders: &[BString],
+) -> Result<(), AllocError> {
+    if holders.binary_search(target).is_ok() {
+        return append_symbolic(text, target.as_bytes(), name.as_bytes());
+    }
+    append_object(text, name.as_bytes(), tag, object)
+}
+
+/// What git is told of the refs.
+#[derive(Drop)]
+pub(crate) struct RefsTold {
+    /// The lines.
+    pub(crate) text: Vec<u8>,
+    /// The names that were left out.
+    pub(crate) funny: Vec<BString>,
+}
+
+/// The lines of the refs, with the hash function where git asks for it, and the empty line behind them.
+pub(crate) fn refs_told(
+    alloc: Global,
+    refs: &[Ref],
+    tells_format: bool,
+) -> Result<RefsTold, AllocError> {
+    let holders = holders(alloc, refs)?;
+    let mut text = Vec::new(alloc);
+    let mut funny = Vec::new(alloc);
+    if tells_format {
+        text.extend_from_slice(b":object-format sha1\n")?;
+    }
+    for found in refs {
+        if is_plain(found.name().as_bytes()) {
+            append_ref(&mut text, found, &holders)?;
+        } else {
+            funny.push(BString::from_slice(alloc, found.name().as_bytes())?)?;
+        }
+    }
+    text.extend_from_slice(b"\n")?;
+    Ok(RefsTold { text, funny })
+}

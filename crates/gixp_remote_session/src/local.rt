@@ -1,0 +1,143 @@
+//! The repository that fetches, as git tells of it.
+use crate::shell::Shell;
+use crate::trouble::Trouble;
+use bstr::ByteSlice;
+use gix_protocol::fetch::negotiate::{ObjectKind, StoredObjects, StoredRefs, TextError};
+use gix_protocol::fetch::shallow_ids;
+use gix_protocol::transport::ObjectId;
+use gixp_fetch_session::repository::{Repository, tips_of};
+use std::alloc::Global;
+use std::fs;
+use std::io::ErrorKind;
+
+/// Where git keeps what belongs to the repository, which a linked work tree may share with others.
+#[derive(Drop)]
+pub(crate) struct Places {
+    /// The shallow boundary.
+    pub(crate) shallow: String,
+    /// git's lock of it.
+    pub(crate) shallow_lock: String,
+    /// The objects.
+    pub(crate) objects: String,
+}
+
+// A path of a line.
+fn path_of(alloc: Global, line: Option<&[u8]>) -> Result<String, Trouble> {
+    match line {
+        Some(line) => match line.to_str() {
+            Ok(text) => Ok(String::from_str(alloc, text)?),
+            Err(_) => Err(Trouble::of_word(alloc, "this path is no UTF-8:", line)),
+        },
+        None => Err(Trouble::Other("the repository has no paths")),
+    }
+}
+
+impl Places {
+    /// Asks git for them.
+    pub(crate) fn ask(rt: &HostRuntime, shell: &mut Shell) -> Result<Places, Trouble> {
+        let told = shell.git(
+            rt,
+            &[
+                b"rev-parse",
+                b"--path-format=absolute",
+                b"--git-path",
+                b"shallow",
+                b"--git-path",
+                b"objects",
+            ],
+        )?;
+        let mut lines = told.text.as_slice().lines();
+        let shallow = path_of(rt.alloc(), lines.next())?;
+        let objects = path_of(rt.alloc(), lines.next())?;
+        let shallow_lock = format!(in rt.alloc(); "{shallow}.lock")?;
+        Ok(Places {
+            shallow,
+            shallow_lock,
+            objects,
+        })
+    }
+
+    /// The boundary that is there.
+    pub(crate) fn boundary(&self, rt: &HostRuntime) -> Result<Vec<ObjectId>, Trouble> {
+        let alloc = rt.alloc();
+        let text = match fs::read(rt, self.shallow.as_str()) {
+            Ok(text) => text,
+            Err(e) => match e.kind() {
+                ErrorKind::NotFound => Vec::new(alloc),
+                kind => return Err(Trouble::Io(kind)),
+            },
+        };
+        match shallow_ids(alloc, &text) {
+            Ok(ids) => Ok(ids),
+            Err(_) => Err(Trouble::Other("the shallow boundary can't be read")),
+        }
+    }
+
+    /// Whether there is a file of alternates.
+    pub(crate) fn has_alternates(&self, rt: &HostRuntime) -> bool {
+        match format!(in rt.alloc(); "{}/info/alternates", self.objects) {
+            Ok(path) => fs::metadata(rt, path.as_str()).is_ok(),
+            Err(_) => false,
+        }
+    }
+}
+
+// What was refused in a text of git's.
+fn unread(_e: TextError) -> Trouble {
+    Trouble::Other("the repository can't be read")
+}
+
+// The objects that refs hold, by the lines of `git show-ref -d`: behind a tag comes the object that it leads to.
+fn objects_of(alloc: Global, text: &[u8]) -> Result<StoredObjects, Trouble> {
+    let mut objects = StoredObjects::new(alloc);
+    let mut behind_tag = false;
+    for line in text.rsplit(|b| *b == b'\n') {
+        let Some((id, name)) = line.split_once_str(b" ") else {
+            continue;
+        };
+        let Ok(id) = ObjectId::from_hex(id) else {
+            return Err(Trouble::Other("the repository can't be read"));
+        };
+        let kind = if behind_tag {
+            ObjectKind::Tag
+        } else {
+            ObjectKind::Commit
+        };
+        objects.add(id, kind)?;
+        behind_tag = name.ends_with(b"^{}");
+    }
+    Ok(objects)
+}
+
+/// A repository that nothing is known of.
+pub(crate) fn new_repository(alloc: Global, boundary: Vec<ObjectId>) -> Repository {
+    Repository {
+        objects: StoredObjects::new(alloc),
+        refs: StoredRefs::new(alloc),
+        tips: None,
+        boundary,
+    }
+}
+
+/// What the refs of the repository hold and lead to.
+pub(crate) fn repository(
+    rt: &HostRuntime,
+    shell: &mut Shell,
+    boundary: Vec<ObjectId>,
+) -> Result<Repository, Trouble> {
+    let alloc = rt.alloc();
+    let told = shell.git(rt, &[b"show-ref", b"--head", b"-d"])?;
+    if told.status > 1 {
+        return Err(Trouble::Other("the repository can't be read"));
+    }
+    let mut refs = StoredRefs::new(alloc);
+    refs.read_refs(alloc, &told.text).map_err(unread)?;
+    let objects = objects_of(alloc, &told.text)?;
+    let tips = Some(tips_of(alloc, &mut refs, &objects)?);
+    Ok(Repository {
+        objects,
+        refs,
+        tips,
+        boundary,
+    })
+}

@@ -1,0 +1,294 @@
+//! Where the pack goes: git indexes it in a folder for objects of its own, and it is put beside the others once it is wanted.
+ghost use Rattle.std.specs.Prelude.{⊤};
+
+use crate::local::Places;
+use crate::setup::variable;
+use crate::shell::Shell;
+use crate::trouble::Trouble;
+use bstr::{BString, ByteSlice};
+use gix_protocol::transport::ObjectId;
+use gixp_fetch_local::PackPlace;
+use gixp_remote_rules::{
+    Choices, Program, Request, Start, Task, index_words, object_variables, pack_file, told_pack,
+};
+use std::alloc::Global;
+use std::fs::{File, OpenOptions};
+use std::io::{ErrorKind, Read, Write};
+use std::{fs, io};
+
+/// What git is told of the pack, and where it is put.
+#[derive(Drop)]
+pub(crate) struct PackPlan {
+    /// The folder in which it is indexed.
+    pub(crate) folder: String,
+    /// The words of `git index-pack`.
+    pub(crate) words: Vec<BString>,
+    /// The variables that make git look into that folder.
+    pub(crate) variables: Vec<BString>,
+}
+
+// Words once more.
+fn copied(alloc: Global, words: &[BString]) -> Result<Vec<BString>, Trouble> {
+    let mut all = Vec::new(alloc);
+    for word in words {
+        all.push(word.clone()?)?;
+    }
+    Ok(all)
+}
+
+impl PackPlan {
+    /// The same once more.
+    pub(crate) fn copy(&self, alloc: Global) -> Result<PackPlan, Trouble> {
+        Ok(PackPlan {
+            folder: self.folder.clone()?,
+            words: copied(alloc, &self.words)?,
+            variables: copied(alloc, &self.variables)?,
+        })
+    }
+
+    /// A pack for the folder of this name. `checks` are the words for what is checked of its objects.
+    pub(crate) fn new(
+        rt: &HostRuntime,
+        places: &Places,
+        name: &[u8],
+        choices: &Choices,
+        checks: &[BString],
+    ) -> Result<PackPlan, Trouble> {
+        let alloc = rt.alloc();
+        let Ok(room) = name.to_str() else {
+            return Err(Trouble::Other("the helper's folder is no UTF-8"));
+        };
+        let folder = format!(in alloc; "{}/tmp_objdir-{room}", places.objects)?;
+        let words = index_words(alloc, name, choices, checks)?;
+        let more = variable(rt, "GIT_ALTERNATE_OBJECT_DIRECTORIES");
+        let more = match &more {
+            Some(more) => Some(more.as_bytes()),
+            None => None,
+        };
+        let variables = object_variables(
+            alloc,
+            folder.as_bytes(),
+            places.objects.as_bytes(),
+            more,
+        )?;
+        Ok(PackPlan {
+            folder,
+            words,
+            variables,
+        })
+    }
+}
+
+/// A pack that git indexes as it comes.
+#[derive(Drop)]
+pub(crate) struct IndexedPack<'a> {
+    rt: HostRuntime,
+    shell: &'a mut Shell,
+    plan: PackPlan,
+    /// What git says of the pack, once it is begun.
+    told: Option<File>,
+}
+
+/// What became of a pack.
+#[derive(Clone, Copy, Debug, PartialEq, Eq)]
+pub(crate) enum PackState {
+    /// None came.
+    Unbegun,
+    /// It isn't indexed.
+    Begun,
+    /// It is.
+    Kept(Kept),
+}
+
+/// A pack that is indexed.
+#[derive(Clone, Copy, Debug, PartialEq, Eq)]
+pub(crate) struct Kept {
+    /// Its name.
+    pub(crate) hash: ObjectId,
+    /// Whether all that it leads to is in it.
+    pub(crate) is_closed: bool,
+}
+
+/// What comes of a fetch.
+#[derive(Drop)]
+pub(crate) struct Came {
+    /// The pack, if one came.
+    pub(crate) kept: Option<Kept>,
+    /// The boundary as the server makes it.
+    pub(crate) boundary: Vec<ObjectId>,
+}
+
+// The kind of a trouble, for a call that reports kinds alone.
+fn kind_of(e: &Trouble) -> ErrorKind {
+    match e {
+        Trouble::Io(kind) => *kind,
+        Trouble::Memory => ErrorKind::OutOfMemory,
+        _ => ErrorKind::Other,
+    }
+}
+
+/// What the pack is written into: the pipe to git. Where it can't be opened, each write says why, since a pack is begun in any
+/// case.
+#[derive(Drop)]
+pub(crate) enum PackWriter {
+    /// The pipe.
+    Open(File),
+    /// It can't be opened, with this kind.
+    Failed(ErrorKind),
+}
+
+impl Write for PackWriter {
+    fn write(&mut self, buf: &[u8]) -> io::Result<usize> {
+        match self {
+            PackWriter::Open(file) => file.write(buf),
+            PackWriter::Failed(kind) => Err(io::Error::from(*kind)),
+        }
+    }
+
+    fn flush(&mut self) -> io::Result<()> {
+        match self {
+            PackWriter::Open(file) => file.flush(),
+            PackWriter::Failed(kind) => Err(io::Error::from(*kind)),
+        }
+    }
+}
+
+impl<'a> IndexedPack<'a> {
+    /// Before a pack comes.
+    pub(crate) fn new(rt: HostRuntime, shell: &'a mut Shell, plan: PackPlan) -> IndexedPack<'a> {
+        shell.pack = PackState::Unbegun;
+        IndexedPack {
+            rt,
+            shell,
+            plan,
+            told: None,
+        }
+    }
+
+    // Starts git, and opens the two pipes.
+    fn start(&mut self) -> Result<File, Trouble> {
+        if self
+            .shell
+            .ask(&Request::Folder(self.plan.folder.as_bytes()))?
+            != 0
+        {
+            return Err(Trouble::Io(ErrorKind::PermissionDenied));
+        }
+        self.shell.ask(&Request::Start(Start {
+            task: Task::Pack,
+            program: Program::Git,
+            input: "pack",
+            output: "kept",
+            variables: &self.plan.variables,
+            words: &self.plan.words,
+        }))?;
+        let writer = OpenOptions::new().write(true).open(&self.rt, "pack")?;
+        self.told = Some(File::open(&self.rt, "kept")?);
+        self.shell.pack = PackState::Begun;
+        Ok(writer)
+    }
+
+    // Waits until it is indexed.
+    fn finish(&mut self) -> Result<Kept, Trouble> {
+        let mut text = Vec::new(self.rt.alloc());
+        if let Some(mut told) = self.told.take() {
+            told.read_to_end(&mut text)?;
+        }
+        let status = self.shell.ask(&Request::Status(Task::Pack))?;
+        // 1: the pack is whole, but leads to what isn't in it
+        match told_pack(&text) {
+            Some(hash) if status < 2 => Ok(Kept {
+                hash,
+                is_closed: status == 0,
+            }),
+            _ => Err(Trouble::Other("git refused the pack")),
+        }
+    }
+}
+
+impl PackPlace for IndexedPack<'_> {
+    type Writer = PackWriter;
+
+    ghost begins = { λ p w q. ⊤ };
+
+    ghost keeps = { λ p w q. ⊤ };
+
+    ghost gives_up = { λ p w q. ⊤ };
+
+    fn begin(&mut self) -> io::Result<PackWriter> {
+        match self.start() {
+            Ok(file) => Ok(PackWriter::Open(file)),
+            Err(e) => Ok(PackWriter::Failed(kind_of(&e))),
+        }
+    }
+
+    fn keep(&mut self, writer: PackWriter) -> io::Result<()> {
+        drop(writer);
+        match self.finish() {
+            Ok(kept) => {
+                self.shell.pack = PackState::Kept(kept);
+                Ok(())
+            }
+            Err(e) => Err(io::Error::from(kind_of(&e))),
+        }
+    }
+
+    fn give_up(&mut self, _writer: PackWriter) {
+        let _ = self.shell.end(Task::Pack);
+        self.told = None;
+    }
+}
+
+// A path as files are opened by.
+fn path_of(path: &[u8]) -> Result<&str, Trouble> {
+    match path.to_str() {
+        Ok(path) => Ok(path),
+        Err(_) => Err(Trouble::Other("a path of the objects is no UTF-8")),
+    }
+}
+
+// Whether every pack has a file of this kind.
+fn is_always_there(end: &[u8]) -> bool {
+    end == b".pack".as_slice() || end == b".idx".as_slice()
+}
+
+// Gives a file of a pack its place beside the others, if there is one.
+fn move_file(rt: &HostRuntime, from: &[u8], to: &[u8], end: &[u8]) -> Result<(), Trouble> {
+    let one = path_of(from)?;
+    if is_always_there(end) || fs::metadata(rt, one).is_ok() {
+        fs::rename(rt, one, path_of(to)?)?;
+    }
+    Ok(())
+}
+
+/// Puts a pack beside the others, its lock first and its index last. Returns the path of its lock; none where the same pack is
+/// there already.
+pub(crate) fn place(
+    rt: &HostRuntime,
+    shell: &mut Shell,
+    places: &Places,
+    plan: &PackPlan,
+    hash: &ObjectId,
+) -> Result<Option<BString>, Trouble> {
+    let alloc = rt.alloc();
+    let from = plan.folder.as_bytes();
+    let to = places.objects.as_bytes();
+    let index = pack_file(alloc, to, hash, b".idx")?;
+    if fs::metadata(rt, path_of(&index)?).is_ok() {
+        return Ok(None);
+    }
+    let lock = pack_file(alloc, to, hash, b".keep")?;
+    let own_lock = pack_file(alloc, from, hash, b".keep")?;
+    let status = shell.ask(&Request::Place(&own_lock, &lock))?;
+    // a pack whose missing objects are promised is none before it says so
+    for end in [b".promisor".as_slice(), b".pack", b".rev", b".idx"] {
+        let one = pack_file(alloc, from, hash, end)?;
+        let other = pack_file(alloc, to, hash, end)?;
+        move_file(rt, &one, &other, end)?;
+    }
+    if status == 0 {
+        Ok(Some(BString::from(lock)))
+    } else {
+        Ok(None)
+    }
+}

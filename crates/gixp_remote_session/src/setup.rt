@@ -1,0 +1,108 @@
+//! What the helper is told when it begins: the URL, variables and settings.
+use crate::shell::Shell;
+use crate::trouble::Trouble;
+use bstr::BString;
+use gix_protocol::transport::Protocol;
+use gixp_fetch_local::Haves;
+use gixp_remote_rules::Settings;
+use std::alloc::Global;
+use std::{env, fs};
+
+/// A variable of the environment, none where it isn't set.
+pub(crate) fn variable(rt: &HostRuntime, name: &str) -> Option<String> {
+    match env::var(rt, name) {
+        Ok(value) => Some(value),
+        Err(_) => None,
+    }
+}
+
+/// What the shell says before anything is asked: the words that git started it with, and the name of its folder.
+#[derive(Drop)]
+pub(crate) struct Given {
+    /// The name that git has for the server.
+    pub(crate) name: Vec<u8>,
+    /// The URL. It comes in a file, since others see a program's words.
+    pub(crate) url: Vec<u8>,
+    /// The name of the helper's folder.
+    pub(crate) folder: String,
+}
+
+/// What the shell says before anything is asked.
+pub(crate) fn read_given(rt: &HostRuntime) -> Result<Given, Trouble> {
+    let Some(folder) = env::args(rt)?.skip(1).next() else {
+        return Err(Trouble::Other("there is no folder"));
+    };
+    Ok(Given {
+        name: fs::read(rt, "name")?,
+        url: fs::read(rt, "url")?,
+        folder,
+    })
+}
+
+/// The text of the user's settings.
+pub(crate) fn settings_text(rt: &HostRuntime, shell: &mut Shell) -> Result<Vec<u8>, Trouble> {
+    let told = shell.git(rt, &[b"config", b"--list", b"--null"])?;
+    if told.status == 0 {
+        Ok(told.text)
+    } else {
+        Err(Trouble::Other("git can't read its settings"))
+    }
+}
+
+/// The version of the protocol that is asked for.
+pub(crate) fn version_of(rt: &HostRuntime, settings: &Settings) -> Protocol {
+    if let Some(word) = variable(rt, "GIXP_VERSION") {
+        return protocol_of(word.as_bytes());
+    }
+    match settings.value(b"protocol.version") {
+        Some(word) => protocol_of(word),
+        None => Protocol::V2,
+    }
+}
+
+// The version that a word names.
+fn protocol_of(word: &[u8]) -> Protocol {
+    match word {
+        b"0" => Protocol::V0,
+        b"1" => Protocol::V1,
+        _ => Protocol::V2,
+    }
+}
+
+/// The text of a version where it isn't 0.
+pub(crate) fn version_word(version: Protocol) -> Option<&'static [u8]> {
+    match version {
+        Protocol::V0 => None,
+        Protocol::V1 => Some(b"version=1"),
+        Protocol::V2 => Some(b"version=2"),
+    }
+}
+
+/// Who chooses the haves.
+pub(crate) fn haves_of(rt: &HostRuntime, settings: &Settings) -> Haves {
+    use gix_protocol::fetch::negotiate::Algorithm;
+    if let Some(word) = variable(rt, "GIXP_NEGOTIATOR") {
+        return match Algorithm::from_name(word.as_str()) {
+            Some(algorithm) => Haves::By(algorithm),
+            None => Haves::InOrder,
+        };
+    }
+    match settings.value(b"fetch.negotiationalgorithm") {
+        Some(b"noop") => Haves::By(Algorithm::Noop),
+        Some(b"skipping") => Haves::By(Algorithm::Skipping),
+        _ => Haves::InOrder,
+    }
+}
+
+/// Whether the user named the server: a transport that another program chose is told so.
+pub(crate) fn is_from_user(rt: &HostRuntime) -> bool {
+    match variable(rt, "GIT_PROTOCOL_FROM_USER") {
+        Some(word) => !matches!(word.as_bytes(), b"" | b"0" | b"false" | b"no" | b"off"),
+        None => true,
+    }
+}
+
+/// A text of its own.
+pub(crate) fn joined(alloc: Global, parts: &[&[u8]]) -> Result<BString, Trouble> {
+    Ok(BString::from(gixp_remote_rules::joined(alloc, parts)?))
+}

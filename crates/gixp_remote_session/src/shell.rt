@@ -1,0 +1,94 @@
+//! The shell beside the program: it starts and ends programs, and answers each request with a number.
+use crate::pack::PackState;
+use crate::trouble::Trouble;
+use bstr::BString;
+use gixp_remote_rules::{Program, Request, Start, Task, ask};
+use std::alloc::Global;
+use std::fs;
+use std::fs::{File, OpenOptions};
+use std::io::BufReader;
+
+/// What a program reads where it is to read nothing.
+pub(crate) const NOTHING: &str = "/dev/null";
+
+/// The shell, by the two pipes to it.
+#[derive(Drop)]
+pub(crate) struct Shell {
+    alloc: Global,
+    requests: File,
+    answers: BufReader<File>,
+    /// What became of the pack that git was given last.
+    pub(crate) pack: PackState,
+}
+
+/// What a program said, and its status.
+#[derive(Drop)]
+pub(crate) struct Told {
+    pub(crate) status: u32,
+    pub(crate) text: Vec<u8>,
+}
+
+impl Shell {
+    /// Opens the pipes to the shell.
+    pub(crate) fn open(rt: &HostRuntime) -> Result<Shell, Trouble> {
+        let alloc = rt.alloc();
+        let requests = OpenOptions::new().write(true).open(rt, "requests")?;
+        let answers = BufReader::new(alloc, File::open(rt, "answers")?)?;
+        Ok(Shell {
+            alloc,
+            requests,
+            answers,
+            pack: PackState::Unbegun,
+        })
+    }
+
+    /// Makes a request, and waits for its answer.
+    pub(crate) fn ask(&mut self, request: &Request<'_>) -> Result<u32, Trouble> {
+        Ok(ask(self.alloc, &mut self.answers, &mut self.requests, request)?)
+    }
+
+    /// Ends a program, if it runs.
+    pub(crate) fn end(&mut self, task: Task) -> Result<(), Trouble> {
+        self.ask(&Request::End(task))?;
+        Ok(())
+    }
+
+    /// Runs a program, and waits for what it says and its status.
+    pub(crate) fn tell(
+        &mut self,
+        rt: &HostRuntime,
+        task: Task,
+        program: Program,
+        input: &str,
+        variables: &[BString],
+        words: &[BString],
+    ) -> Result<Told, Trouble> {
+        let start = Start {
+            task,
+            program,
+            input,
+            output: "told",
+            variables,
+            words,
+        };
+        self.ask(&Request::Start(start))?;
+        let text = fs::read(rt, "told")?;
+        let status = self.ask(&Request::Status(task))?;
+        Ok(Told { status, text })
+    }
+
+    /// Runs git, and waits for what it says and its status.
+    pub(crate) fn git(&mut self, rt: &HostRuntime, words: &[&[u8]]) -> Result<Told, Trouble> {
+        let words = owned(self.alloc, words)?;
+        self.tell(rt, Task::Question, Program::Git, NOTHING, &[], &words)
+    }
+}
+
+/// Words of their own.
+pub(crate) fn owned(alloc: Global, words: &[&[u8]]) -> Result<Vec<BString>, Trouble> {
+    let mut all = Vec::new(alloc);
+    for word in words {
+        all.push(BString::from_slice(alloc, *word)?)?;
+    }
+    Ok(all)
+}

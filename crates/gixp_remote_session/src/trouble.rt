@@ -1,0 +1,95 @@
+//! Why the helper ends, and the sentence that says so.
+use bstr::BString;
+use gixp_fetch_session::failure::Failure;
+use gixp_url::UrlError;
+use std::alloc::{AllocError, AllocFailed, Global};
+use std::fmt::Display;
+use std::io::ErrorKind;
+use std::{fmt, io};
+
+/// What was refused.
+#[derive(Debug, Drop)]
+pub(crate) enum Trouble {
+    /// A step of the session, or a file.
+    Fetch(Failure),
+    /// The URL.
+    Url(UrlError),
+    /// The shell beside the program, a pipe of it, or git's end of the conversation.
+    Io(ErrorKind),
+    /// A line of git's is none of its commands.
+    Command(BString),
+    /// Something else, as the sentence says.
+    Other(&'static str),
+    /// The same, as git would say it.
+    Fatal(&'static str),
+    /// A program that was started told why.
+    Told,
+    /// Something else, about a word.
+    Word(&'static str, BString),
+    /// An allocation failed.
+    Memory,
+}
+
+impl From<AllocError> for Trouble {
+    fn from(_e: AllocError) -> Trouble {
+        Trouble::Memory
+    }
+}
+
+impl<T: Drop> From<AllocFailed<T>> for Trouble {
+    fn from(_e: AllocFailed<T>) -> Trouble {
+        Trouble::Memory
+    }
+}
+
+impl From<Failure> for Trouble {
+    fn from(e: Failure) -> Trouble {
+        Trouble::Fetch(e)
+    }
+}
+
+impl From<UrlError> for Trouble {
+    fn from(e: UrlError) -> Trouble {
+        Trouble::Url(e)
+    }
+}
+
+impl From<io::Error> for Trouble {
+    fn from(e: io::Error) -> Trouble {
+        Trouble::Io(e.kind())
+    }
+}
+
+impl Trouble {
+    /// Something about a word.
+    pub(crate) fn of_word(alloc: Global, why: &'static str, word: &[u8]) -> Trouble {
+        match BString::from_slice(alloc, word) {
+            Ok(word) => Trouble::Word(why, word),
+            Err(_) => Trouble::Memory,
+        }
+    }
+
+    /// Who says it.
+    pub(crate) fn speaker(&self) -> &'static str {
+        match self {
+            Trouble::Fetch(e) if e.is_said_by_git() => "fatal",
+            Trouble::Word(_, _) | Trouble::Url(_) | Trouble::Fatal(_) => "fatal",
+            _ => "git-remote-gixp",
+        }
+    }
+}
+
+impl Display for Trouble {
+    fn fmt<W: fmt::Write>(&self, f: &mut fmt::Formatter<W>) -> fmt::Result {
+        match self {
+            Trouble::Fetch(e) => write!(f, "{e}"),
+            Trouble::Url(e) => write!(f, "the URL: {e}"),
+            Trouble::Io(kind) => write!(f, "a pipe of the helper broke: {kind}"),
+            Trouble::Command(line) => write!(f, "unknown command: {line}"),
+            Trouble::Other(why) | Trouble::Fatal(why) => f.write_str(why),
+            Trouble::Told => Ok(()),
+            Trouble::Word(why, word) => write!(f, "{why} '{word}'"),
+            Trouble::Memory => write!(f, "out of memory"),
+        }
+    }
+}
