@@ -2,7 +2,7 @@
 use Rattle.std.proofs.Common.{◌≡◌, ℕ, List, ◌++◌, ap, ◌∙◌, append_assoc}
 use Rattle.std.specs.Prelude.{codes}
 use Rattle.gixp_hash.specs.Hex.{encode_lower}
-use Rattle.gixp_remote_parts.proofs.indexed.pack_file.Goals as goal
+use Rattle.gixp_remote_rules.proofs.indexed.pack_file.Goals as goal
 
 -- four texts, each behind what came before
 appended : (o p h e a b d : List ℕ) → a ≡ o ++ p → b ≡ a ++ h → d ≡ b ++ e → d ≡ o ++ (p ++ (h ++ e))
