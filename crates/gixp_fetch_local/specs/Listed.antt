@@ -8,7 +8,8 @@ use Rattle.gixp_graph.specs.Object.{Objects}
 use Rattle.gixp_graph.specs.declared.negotiator.NegotiatorError.{NegotiatorError}
 use Rattle.gixp_graph.specs.declared.negotiator.NegotiatorError.TheVariants.{Lookup, Memory as NoMemory}
 use Rattle.gixp_graph.specs.declared.objects.ObjectError.TheVariants.{Corrupt, Io}
-use Rattle.gixp_memory.specs.Text.{line_words, FillsByText}
+use Rattle.gixp_memory.specs.Text.{FillsByText}
+use Rattle.gixp_text.specs.Lines.{line_words}
 use Rattle.gixp_memory.specs.Repository.{named_id, commit_line}
 use Rattle.gixp_memory.specs.declared.texts.TextError.TheVariants as text
 use Rattle.gixp_fetch_local.specs.declared.listed.Refusal.{Refusal}

@@ -1,21 +1,21 @@
 //! A negotiator that offers the commits of a text, of which it reads no more than it is asked for.
-ghost use Rattle.std.specs.Prelude.{◌≡◌, ◌-◌, ◌^◌, ◌≤◌, ◌<◌, ◌++◌, ℕ, List, [], Some, None, true, false, map, IfOk, IfErr, IfSome, IfNone, OnOk, OnSome};
+ghost use Rattle.std.specs.Prelude.{◌≡◌, ◌-◌, ◌^◌, ◌≤◌, ◌<◌, ◌++◌, ℕ, List, [], Some, None, true, false, IfOk, IfErr, IfSome, IfNone, OnOk, OnSome};
 ghost use Rattle.std.specs.BTreeSet.{contains};
 ghost use Rattle.std.specs.FinMap as finite;
 ghost use Rattle.std.specs.Io.KnownBytes.{Consumes, IsAtEnd};
-ghost use Rattle.bstr.specs.BStr.{bstr_bytes};
 ghost use Rattle.gixp_hash.specs.declared.object_id.ObjectId.{ObjectId};
 ghost use Rattle.gixp_hash.specs.ObjectId.{id_cmp};
-ghost use Rattle.gixp_memory.specs.Text.{line_words, text_lines, after_lines};
+ghost use Rattle.gixp_memory.specs.Text.{after_lines};
+ghost use Rattle.gixp_text.specs.Lines.{line_words, text_lines};
 ghost use Rattle.gixp_memory.specs.Repository.{commit_line};
 ghost use Rattle.gixp_fetch_local.specs.Known.{parents_of, KeepsIds, HasIdsOf, AreAwaitedOrKnown};
 ghost use Rattle.gixp_fetch_local.specs.Listed.{id_in, told_as, IsNoCommit, ReadsTextLine, IsUncommon, OffersLine, ListedOfferFails, KeepsCommitText};
 
 use crate::known::KnownCommits;
-use bstr::BStr;
 use gixp_graph::{Graph, Negotiator, NegotiatorError, ObjectError, Objects};
 use gixp_hash::ObjectId;
 use gixp_memory::TextError;
+use gixp_text::line_words;
 use std::alloc::{AllocError, Global};
 use std::collections::BTreeSet;
 use std::io;
@@ -42,15 +42,6 @@ struct CommitText<R> {
     left: u64,
     known: KnownCommits,
     refusal: Option<Refusal>,
-}
-
-// The words of a line.
-fn line_words(alloc: Global, line: &[u8]) -> Result<Vec<BStr<'_>>, AllocError>
-    ensures { IfOk result (λ found. map bstr_bytes found.items ≡ line_words line.now) }
-{
-    line.split(|byte| *byte == b' ')
-        .map(BStr::new)
-        .collect(alloc)
 }
 
 // The commit of a line `TIME ID PARENT..`.
@@ -277,7 +268,7 @@ impl<R: BufRead> ListedCommits<R> {
 }
 
 impl<R: BufRead> Negotiator for ListedCommits<R> {
-    ghost use Rattle.std.specs.Prelude.{◌≡◌, ⊤};
+    ghost use Rattle.std.specs.Prelude.{◌≡◌};
     ghost use Rattle.std.proofs.Common.{arith};
     ghost use Rattle.gixp_graph.specs.declared.negotiator.NegotiatorError.TheVariants.{Memory};
     ghost use Rattle.gixp_fetch_local.specs.Listed.{OffersNext, KeepsCommitText, ListedOfferFails};
