@@ -7,7 +7,7 @@ use crate::step::Wishes;
 use gix_protocol::command::{CommandTable, Feature};
 use gix_protocol::credentials::{self, Action};
 use gix_protocol::fetch::negotiate::{
-    Graph, HaveList, Negotiate, NegotiateContext, Negotiation, NoObjects, NoRefs, Shared,
+    Graph, HaveList, Negotiate, NegotiateContext, Negotiation, NoObjects, NoRefs, Objects, Shared,
     StoredObjects,
 };
 use gix_protocol::fetch::refmap::init;
@@ -94,30 +94,35 @@ fn objects_of(alloc: Global, haves: &[ObjectId]) -> Result<StoredObjects, AllocE
     Ok(objects)
 }
 
-// The fetch of what is mapped and isn't there. All that the context borrows is a local here.
-fn fetch_mapped<T: Transport>(
-    alloc: Global,
-    map: &RefMap,
+// What the caller has: ids of objects, and the boundary.
+#[derive(Drop)]
+struct Here {
     haves: Vec<ObjectId>,
-    shallow: &Shallow,
     boundary: Vec<ObjectId>,
+}
+
+// The fetch of what is mapped and isn't there. All that the context borrows but the objects is a local here.
+fn fetch_mapped<O: Objects, T: Transport>(
+    alloc: Global,
+    objects: &O,
+    map: &RefMap,
+    here: Here,
+    shallow: &Shallow,
     handshake: &mut Handshake,
     transport: &mut T,
 ) -> Result<Option<Outcome>, fetch::Error<AllocError, Left>> {
-    let objects = objects_of(alloc, &haves)?;
-    let objects = Shared::new(&objects);
     let mut graph = Graph::new(alloc, NoObjects);
-    let mut negotiator = HaveList::new(haves);
+    let mut negotiator = HaveList::new(here.haves);
     let mut refs = NoRefs;
     let context = NegotiateContext {
-        objects: &objects,
+        objects,
         refs: &mut refs,
         alternates: Ok(&mut []),
         negotiator: &mut negotiator,
         graph: &mut graph,
     };
     let mut negotiation = Negotiation::new(context, map, shallow, Tags::None);
-    let mut boundary = ShallowMemory::new(boundary);
+    let mut boundary = ShallowMemory::new(here.boundary);
     fetch_over(
         alloc,
         &mut negotiation,
@@ -151,12 +156,14 @@ pub(crate) fn run<T: Transport>(
     if map.is_empty() {
         return Ok(None);
     }
+    let objects = objects_of(alloc, &haves)?;
+    let here = Here { haves, boundary };
     match fetch_mapped(
         alloc,
+        &Shared::new(&objects),
         &map,
-        haves,
+        here,
         &shallow,
-        boundary,
         &mut handshake,
         transport,
     ) {
