@@ -3,9 +3,13 @@ use Rattle.std.specs.Prelude.{ℕ, ◌==◌, ◌&&◌, not, nat_lt, Bool, List, 
 use Rattle.std.specs.List.{list_all}
 use Rattle.gix_protocol.specs.Hex.{encode_lower}
 
--- a name fits such a line: it has no blank, and no control character (127 is one too)
+-- a byte is neither a blank nor a control character (127 is one too)
+abbrev pub is_plain_byte : ℕ → Bool
+is_plain_byte b = nat_lt 32 b && not (b == 127)
+
+-- a name fits such a line: it is no empty one, and its bytes are such
 abbrev pub is_plain : List ℕ → Bool
-is_plain name = not (length name == 0) && list_all (λ b. nat_lt 32 b && not (b == 127)) name
+is_plain name = not (length name == 0) && list_all is_plain_byte name
 
 -- an id in hexadecimal digits, a name, and a mark behind it
 abbrev pub id_line : List ℕ → List ℕ → List ℕ → List ℕ

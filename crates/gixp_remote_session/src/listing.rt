@@ -1,19 +1,34 @@
 //! The refs of a server, as git reads them from a remote helper.
 ghost use Rattle.std.specs.Prelude.{◌≡◌, ◌++◌, OnOk};
+ghost use Rattle.std.specs.List.{list_all};
 ghost use Rattle.std.specs.Option.{option_map};
 ghost use Rattle.bstr.specs.Owned.{bstring_bytes};
-ghost use Rattle.gixp_remote_session.specs.RefLines.{is_plain, id_line, symbolic_line, object_lines};
+ghost use Rattle.gixp_remote_session.specs.RefLines.{is_plain, is_plain_byte, id_line, symbolic_line, object_lines};
 
 use bstr::BString;
 use gix_protocol::handshake::Ref;
 use gix_protocol::transport::ObjectId;
 use std::alloc::{AllocError, Global};
 
+// Whether a byte is neither a blank nor a control character.
+fn is_plain_byte(byte: u8) -> bool
+    ensures { result ≡ is_plain_byte byte }
+{
+    byte > b' ' && byte != 127
+}
+
+// Whether all bytes are such.
+fn are_plain(name: &[u8]) -> bool
+    ensures { result ≡ list_all is_plain_byte name.now }
+{
+    name.iter().all(|byte| is_plain_byte(*byte))
+}
+
 // Whether a name fits the lines of git's: git leaves out others too, as names that no ref may have (git-check-ref-format).
 fn is_plain(name: &[u8]) -> bool
     ensures { result ≡ is_plain name.now }
 {
-    !name.is_empty() && name.iter().all(|byte| *byte > b' ' && *byte != 127)
+    !name.is_empty() && are_plain(name)
 }
 
 // A line of an id and a name.
