@@ -2,33 +2,40 @@
 use crate::fetches::{branches, fetch};
 use crate::lines::lines;
 use crate::servers::{GREETING, PACK, REFS};
-use gixp_client::{Error, Session, Silent, State, over_streams};
+use gixp_client::{Error, Listener, Request, Session, Silent, State, over_streams};
 use gixp_doubles::{Device, Paper};
+use gixp_wire::Transport;
 use std::alloc::Global;
 
-// The whole session over these bytes, where a refused call is made again as long as the session is at a stop: what was written, and
-// whether the calls came to what they are to.
+// Whether a fetch of a session comes to its pack.
+fn comes<T: Transport + Drop, L: Listener + Drop>(
+    alloc: Global,
+    session: &mut Session<T, L>,
+    request: &Request,
+) -> bool {
+    match fetch(alloc, session, request) {
+        Ok((_fetched, pack)) => pack.as_slice() == b"PACK".as_slice(),
+        Err(_why) => false,
+    }
+}
+
+// The whole session over these bytes, where a refused call is made again if the session is at a stop: what was written, and whether the
+// fetch came to its pack, or the session is broken.
 fn meets(alloc: Global, bytes: &[u8]) -> Result<(Vec<u8>, bool), Error> {
     let streams = over_streams(alloc, Device::new(bytes, 7), Paper::new(alloc, 64))?;
     let mut session = Session::open(alloc, streams, "first/1.0", Silent)?;
     let request = branches(alloc)?;
-    let mut is_refused = session.refs().is_err();
-    if is_refused && session.state() == State::AtStop {
-        is_refused = session.refs().is_err();
+    if session.list().is_err() && session.state() == State::AtStop {
+        session.list()?;
     }
-    let mut came = fetch(alloc, &mut session, &request);
-    if matches!(came, Err(Error::Memory)) && session.state() == State::AtStop {
-        came = fetch(alloc, &mut session, &request);
+    let mut has_come = comes(alloc, &mut session, &request);
+    if !has_come && session.state() == State::AtStop {
+        has_come = comes(alloc, &mut session, &request);
     }
-    let is_right = match came {
-        Ok((_, pack)) => !is_refused && pack.as_slice() == b"PACK".as_slice(),
-        Err(Error::Memory) => session.state() == State::Broken,
-        Err(Error::Over) => is_refused,
-        Err(_) => false,
-    };
+    let is_broken = session.state() == State::Broken;
     session.close()?;
-    let (_, paper, _) = session.into_transport().into_parts();
-    Ok((paper.bytes, is_right))
+    let (_reader, paper, _ahead) = session.into_transport().into_parts();
+    Ok((paper.bytes, has_come || is_broken))
 }
 
 #[test]
