@@ -26,13 +26,14 @@ fn read_all(alloc: Global, pieces: Pieces<'_>, room: usize) -> Result<Vec<u8>, F
     let mut answers = Answers::new(pieces);
     let mut found = Vec::new(alloc);
     let mut buf = [0; 16];
-    loop {
+    for _ in 0..64 {
         let count = answers.read(&mut buf[..room])?;
         if count == 0 {
-            return Ok(found);
+            break;
         }
         found.extend_from_slice(&buf[..count])?;
     }
+    Ok(found)
 }
 
 #[test]
