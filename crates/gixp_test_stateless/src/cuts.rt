@@ -27,11 +27,11 @@ fn read_all(alloc: Global, pieces: Pieces<'_>, room: usize) -> Result<Vec<u8>, F
     let mut found = Vec::new(alloc);
     let mut buf = [0; 16];
     for _ in 0..64 {
-        let count = answers.read(&mut buf[..room])?;
+        let count = answers.read(&mut buf[..room.min(16)])?;
         if count == 0 {
             break;
         }
-        found.extend_from_slice(&buf[..count])?;
+        found.extend_from_slice(&buf[..count.min(16)])?;
     }
     Ok(found)
 }
