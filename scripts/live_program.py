@@ -271,7 +271,9 @@ def dies(name, t):
     for place in sorted({whole * n // 20 for n in range(20)} | {whole - 1, whole - 4, whole - 21}):
         status, out, err, room = fetch_pack(t, saying(t, conversation[:place]))
         left = left_in(room)
-        t.check(f"{name} at {place} of {whole}", status == 1 and len(err.splitlines()) == 1 and not left, f"{status} {err} {left}")
+        # where nothing came git says more than a line of it, and so does the program
+        is_said = len(err.splitlines()) == 1 if place else err.startswith("fatal: Could not read from remote repository.")
+        t.check(f"{name} at {place} of {whole}", status == 1 and is_said and not left, f"{status} {err} {left}")
 
 
 def pack_places(conversation):
