@@ -42,16 +42,22 @@ def packet(text):
     return b"%04x%s" % (len(text) + 4, text)
 
 
+def read_all(call, data):
+    """What a call yields of some bytes, and the number and words of the error after it: 0 and none where there is none."""
+    found = []
+    try:
+        found.extend(call(data))
+    except gixp.GixpError as e:
+        return found, e.code, e.words
+    return found, 0, b""
+
+
 class Refs(unittest.TestCase):
     def test_rows(self):
         """Every row of bytes is read as an `ls-refs` answer, as the definitions read it."""
         codes = collections.Counter()
         for row in all_rows():
-            found, code, words = [], 0, b""
-            try:
-                found.extend(gixp.refs(row.data))
-            except gixp.GixpError as e:
-                code, words = e.code, e.words
+            found, code, words = read_all(gixp.refs, row.data)
             try:
                 wanted = definitions.v2_ref_list(row.data)
                 self.assertEqual((code, [(r.name, r.id, r.peeled) for r in found]), (0, list(map(definitions.unpack, wanted))), row.name)
@@ -91,11 +97,7 @@ class Advertisements(unittest.TestCase):
         """Every row of bytes is read as what a server says first, as the definitions read it."""
         codes = collections.Counter()
         for row in all_rows():
-            found, code, words = [], 0, b""
-            try:
-                found.extend(gixp.advertised(row.data))
-            except gixp.GixpError as e:
-                code, words = e.code, e.words
+            found, code, words = read_all(gixp.advertised, row.data)
             try:
                 items = definitions.items_of(row.data, 0)[0]
                 if items and items[0][0] != "stop" and definitions.trim(items[0][1]) == b"version 2":
