@@ -3,7 +3,7 @@ use Rattle.std.proofs.Common.{◌≡◌, ℕ, Bool, true, false, List, sym, ◌�
 use Rattle.gixp_hash.specs.declared.object_id.ObjectId.{ObjectId}
 use Rattle.gixp_shallow.specs.declared.store.file.ShallowFile.{ShallowFile}
 use Rattle.gixp_shallow.specs.declared.store.ShallowError.{ShallowError}
-use Rattle.gixp_shallow.specs.declared.store.ShallowError.TheVariants.{Locked, Memory}
+use Rattle.gixp_shallow.specs.declared.store.ShallowError.TheVariants.{Locked}
 use Rattle.gixp_shallow.specs.ShallowText.{IdTextFails}
 use Rattle.gixp_shallow.specs.Store.{to_lock, to_read, to_write, IsStoreRefusal}
 use Rattle.gixp_shallow.specs.ShallowFile.{IsKept, HoldsLock, RefusesInFile, RefusesAlone, is_left, is_left_of}
