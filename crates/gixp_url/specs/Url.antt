@@ -163,7 +163,13 @@ unless_fault None s = Ok s
 abbrev pub server : Transport → List ℕ → List ℕ → Result Server UrlError
 server transport authority path =
     unless_fault (fault_of transport authority (host_by transport authority).host path)
-    (record { transport = transport; authority = authority; host = (host_by transport authority).host; port = (host_by transport authority).port; path = path })
+    (record {
+      transport = transport;
+      authority = authority;
+      host = (host_by transport authority).host;
+      port = (host_by transport authority).port;
+      path = path;
+    })
 
 abbrev pub remote_at : Transport → List ℕ → ℕ → Option ℕ → Result Server UrlError
 remote_at transport text separator None = Err NoPath
@@ -196,7 +202,13 @@ abbrev pub reading : List ℕ → Result Server UrlError
 reading url = server_of (form_of url)
 
 abbrev pub address_value : Address → Server
-address_value a = record { transport = a.transport; authority = bstring_bytes a.authority; host = bstring_bytes a.host; port = option_map bstring_bytes a.port; path = bstring_bytes a.path }
+address_value a = record {
+  transport = a.transport;
+  authority = bstring_bytes a.authority;
+  host = bstring_bytes a.host;
+  port = option_map bstring_bytes a.port;
+  path = bstring_bytes a.path;
+}
 
 -- a call that gives this server or fault, or fails to allocate
 abbrev pub GivesAddress : Result Server UrlError → Result Address UrlError → Type 0
