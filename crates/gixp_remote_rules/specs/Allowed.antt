@@ -1,11 +1,11 @@
 -- Which transports the user allows (git-config, "protocol.allow"; git, "GIT_ALLOW_PROTOCOL").
-use Rattle.std.specs.Prelude.{ℕ, ◌==◌, ◌||◌, Bool, true, false, if◌then◌else◌, List, ◌++◌, codes, Option, Some, None}
+use Rattle.std.specs.Prelude.{ℕ, ◌==◌, ◌||◌, Bool, true, false, if◌then◌else◌, List, ◌++◌, codes, Option, Some, None, unwrap_or}
 use Rattle.std.specs.List.{list_any, slice_split}
 use Rattle.std.specs.Option.{option_map}
 use Rattle.std.specs.Str.{bytes_eq}
 use Rattle.gixp_remote_rules.specs.declared.policy.Policy.{Policy}
 use Rattle.gixp_remote_rules.specs.declared.policy.Policy.TheVariants.{Always, Never, User}
-use Rattle.gixp_remote_rules.specs.Config.{SettingOf, value_of}
+use Rattle.gixp_remote_rules.specs.Config.{SettingOf, value_of, text_is_true}
 use Rattle.gixp_remote_rules.specs.Words.{is_word}
 
 -- the policy that a word names
@@ -47,6 +47,11 @@ abbrev pub allows : Bool → Policy → Bool
 allows is_from_user Always = true
 allows is_from_user Never = false
 allows is_from_user User = is_from_user
+
+-- whether the user named the server (git, "GIT_PROTOCOL_FROM_USER"): unless the variable is false
+abbrev pub is_from_user : Option (List ℕ) → Bool
+is_from_user None = true
+is_from_user (Some word) = unwrap_or (text_is_true word) true
 
 -- whether a list with colons (58) between its words has one
 abbrev pub lists : List ℕ → List ℕ → Bool

@@ -11,3 +11,8 @@ pub mod Programs
 pub mod Indexed
 pub mod Told
 pub mod Answered
+pub mod Proxy
+pub mod Batch
+pub mod Asked
+pub mod Bounds
+pub mod Conversation

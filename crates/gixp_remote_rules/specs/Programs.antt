@@ -1,5 +1,5 @@
 -- The words and variables that programs of git's are started with.
-use Rattle.std.specs.Prelude.{ℕ, ◌==◌, ◌||◌, ◌&&◌, not, nat_eq, Bool, if◌then◌else◌, List, [], ◌∷◌, ◌++◌, drop, flat_map, map, codes, Option, Some, None}
+use Rattle.std.specs.Prelude.{ℕ, ◌==◌, ◌||◌, ◌&&◌, not, nat_eq, Bool, if◌then◌else◌, List, [], ◌∷◌, ◌++◌, drop, flat_map, map, codes, is_some, Option, Some, None}
 use Rattle.std.specs.List.{starts_with}
 use Rattle.gixp_remote_rules.specs.Choosing.{Chosen, asks_closed}
 
@@ -18,16 +18,33 @@ here_words path = codes "upload-pack" ∷ path ∷ []
 abbrev pub flag : Bool → List ℕ → List (List ℕ)
 flag is_there word = if is_there then word ∷ [] else []
 
+-- whether git that indexes a pack is to find out that what came leads to nothing else: not where the server named a boundary
+-- that isn't taken
+abbrev pub checks_closed : Bool → Chosen → Bool
+checks_closed is_bounded c = asks_closed c && (not is_bounded || (c.is_cloning || c.updates_shallow))
+
 -- the flags of git that indexes a pack
-abbrev pub flags_of : Chosen → List (List ℕ)
-flags_of c =
-    flag (asks_closed c) (codes "--check-self-contained-and-connected")
+abbrev pub flags_of : Bool → Chosen → List (List ℕ)
+flags_of is_bounded c =
+    flag (checks_closed is_bounded c) (codes "--check-self-contained-and-connected")
     ++ (flag c.is_from_promisor (codes "--promisor") ++ flag (c.shows_progress && not c.is_quiet) (codes "-v"))
 
--- git that indexes a pack, whose lock names a folder
-abbrev pub index_words : List ℕ → Chosen → List (List ℕ) → List (List ℕ)
-index_words folder c checks =
-    codes "index-pack" ∷ codes "--stdin" ∷ codes "--fix-thin" ∷ (codes "--keep=fetched by gixp in " ++ folder) ∷ (flags_of c ++ checks)
+-- a boundary in another file than the repository's
+abbrev pub shallow_words : Option (List ℕ) → List (List ℕ)
+shallow_words None = []
+shallow_words (Some path) = codes "--shallow-file" ∷ path ∷ []
+
+abbrev pub pack_words : List ℕ → List (List ℕ)
+pack_words folder = codes "index-pack" ∷ codes "--stdin" ∷ codes "--fix-thin" ∷ (codes "--keep=fetched by gixp in " ++ folder) ∷ []
+
+-- git that indexes a pack, whose lock names a folder. Where the server named a boundary, that is in a file.
+abbrev pub index_words : List ℕ → Option (List ℕ) → Chosen → List (List ℕ) → List (List ℕ)
+index_words folder shallow c checks =
+    shallow_words shallow ++ (pack_words folder ++ (flags_of (is_some shallow) c ++ checks))
+
+-- what is checked of the objects themselves (git-index-pack, "--strict", "--fsck-objects"): of those that are promised no links
+abbrev pub object_check : Chosen → List ℕ → List ℕ
+object_check c list = if c.is_from_promisor then codes "--fsck-objects" else codes "--strict" ++ list
 
 -- a byte of a path in quotes: a quote (34) and a backslash (92) stand behind a backslash
 abbrev pub escaped_in_quotes : ℕ → List ℕ

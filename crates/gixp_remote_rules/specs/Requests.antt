@@ -47,7 +47,9 @@ abbrev pub named_two : List ℕ → List ℕ → ℕ → List ℕ
 named_two one other end = named one 32 ++ named other end
 
 abbrev pub start_line : Start → List ℕ
-start_line s = named_two (codes "start") (task_name s.task) 32 ++ (named (program_name s.program) 32 ++ named_two s.input.now s.output.now 10)
+start_line s =
+    named_two (codes "start") (task_name s.task) 32
+    ++ (named (program_name s.program) 32 ++ named_two s.input.now s.output.now 10)
 
 -- a program that is to be started: its names, then its variables behind an equals sign, then its words behind a blank
 abbrev pub started : Start → List ℕ

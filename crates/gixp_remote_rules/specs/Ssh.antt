@@ -1,10 +1,12 @@
 -- The words that ssh is started with, by the kind of its program (git-config, "ssh.variant"; git, "GIT_SSH_VARIANT").
-use Rattle.std.specs.Prelude.{ℕ, ◌==◌, ◌||◌, Bool, true, if◌then◌else◌, List, [], ◌∷◌, ◌++◌, codes, Option, Some, None}
+use Rattle.std.specs.Prelude.{ℕ, ◌==◌, ◌||◌, Bool, true, if◌then◌else◌, List, [], ◌∷◌, ◌++◌, take, codes, Option, Some, None}
+use Rattle.std.specs.List.{position}
 use Rattle.std.specs.Option.{option_map}
 use Rattle.std.specs.Str.{bytes_eq}
 use Rattle.gixp_remote_rules.specs.declared.ssh.Variant.{Variant}
 use Rattle.gixp_remote_rules.specs.declared.ssh.Variant.TheVariants.{Auto, Simple, Ssh, Plink, TortoisePlink}
 use Rattle.gixp_remote_rules.specs.Words.{is_word}
+use Rattle.gixp_remote_rules.specs.Quoting.{quoted}
 
 -- the kind that the user's word names: OpenSSH, unless it is one of the others
 abbrev pub named_variant : List ℕ → Variant
@@ -34,6 +36,28 @@ variant_named name =
 
 abbrev pub by_program : List ℕ → Variant
 by_program program = variant_named (base_of program)
+
+-- a text behind its blanks (32) and tabs (9)
+abbrev pub behind_blanks : List ℕ → List ℕ
+behind_blanks [] = []
+behind_blanks (b ∷ rest) = if b == 32 || b == 9 then behind_blanks rest else b ∷ rest
+
+abbrev pub until_place : List ℕ → Option ℕ → List ℕ
+until_place text None = text
+until_place text (Some at) = take at text
+
+-- what stands before a byte
+abbrev pub before : List ℕ → ℕ → List ℕ
+before text byte = until_place text (position (λ b. b == byte) text)
+
+-- up to the next quote (39 or 34) of its kind, or to the next blank
+abbrev pub word_at : List ℕ → List ℕ
+word_at [] = []
+word_at (b ∷ rest) = if b == 39 || b == 34 then before rest b else before (b ∷ rest) 32
+
+-- the first word of a text for a shell, without quotes around it
+abbrev pub first_word : List ℕ → List ℕ
+first_word text = word_at (behind_blanks text)
 
 -- the kind that was named, unless that is to be found out by the program
 abbrev pub unless_auto : Variant → List ℕ → Variant
@@ -66,3 +90,16 @@ port_words variant (Some port) = option_map (λ name. name ∷ port ∷ []) (por
 abbrev pub ssh_words : Variant → Bool → Option (List ℕ) → List ℕ → Option (List (List ℕ))
 ssh_words variant sends_version port host =
     option_map (λ words. (first_words variant sends_version ++ words) ++ host ∷ []) (port_words variant port)
+
+-- the server's own command, for the shell there
+abbrev pub server_command : List ℕ → List ℕ
+server_command path = codes "git-upload-pack " ++ quoted path
+
+-- all words that a server is started with, behind the user's command for ssh
+abbrev pub server_words : List ℕ → Variant → Bool → Option (List ℕ) → List ℕ → List ℕ → Option (List (List ℕ))
+server_words command variant sends_version port host path =
+    option_map (λ words. (command ∷ words) ++ server_command path ∷ []) (ssh_words variant sends_version port host)
+
+-- the words by which a program is asked whether it is OpenSSH
+abbrev pub probe_words : List ℕ → Bool → Option (List ℕ) → List ℕ → Option (List (List ℕ))
+probe_words command sends_version port host = option_map (λ words. command ∷ codes "-G" ∷ words) (ssh_words Ssh sends_version port host)

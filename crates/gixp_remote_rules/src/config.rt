@@ -154,7 +154,7 @@ fn number_is_true(value: &[u8]) -> Option<bool>
 }
 
 // Whether a value is true or false.
-fn text_is_true(value: &[u8]) -> Option<bool>
+pub(crate) fn text_is_true(value: &[u8]) -> Option<bool>
     ensures { result ≡ text_is_true value.now }
 {
     if is_word(value, b"true") || is_word(value, b"yes") || is_word(value, b"on") {

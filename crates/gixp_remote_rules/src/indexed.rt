@@ -1,7 +1,7 @@
 //! What git tells of a pack that it indexed, and the files of one.
 ghost use Rattle.std.specs.Prelude.{◌≡◌, IfOk};
 ghost use Rattle.std.specs.Option.{option_map};
-ghost use Rattle.gixp_remote_rules.specs.Indexed.{id_value, id_at, id_behind, told_pack, pack_file};
+ghost use Rattle.gixp_remote_rules.specs.Indexed.{id_value, id_at, id_behind, told_pack, kept_pack, pack_file};
 
 use crate::text::place_of;
 use gixp_hash::ObjectId;
@@ -35,6 +35,14 @@ pub fn told_pack(line: &[u8]) -> Option<ObjectId>
         Some(at) => id_behind(&line[at + 1..]),
         None => None,
     }
+}
+
+/// The pack that is kept, by what `git index-pack` tells and its status: 1 is of a pack that is whole, but leads to what isn't in
+/// it, where that was asked.
+pub fn kept_pack(text: &[u8], status: u32) -> Option<ObjectId>
+    ensures { option_map id_value result ≡ kept_pack text.now status }
+{
+    if status < 2 { told_pack(text) } else { None }
 }
 
 /// The path of a file of a pack in a folder for objects: its name has the pack's id in hexadecimal digits.

@@ -2,13 +2,17 @@
 //! the program, the user's settings, and what becomes of the shallow boundary.
 #![tactic(auto)]
 
+mod batch;
 mod boundary;
+mod bounds;
 mod config;
+mod conversation;
 mod dialogue;
 mod exchange;
 mod indexed;
 mod policy;
 mod proxy;
+mod question;
 mod request;
 mod server;
 mod ssh;
@@ -16,15 +20,22 @@ mod text;
 mod told;
 mod words;
 
+pub use batch::Batch;
 pub use boundary::{Boundary, Taking, added, boundary_after, taking_of};
+pub use bounds::bound_said;
 pub use config::{Setting, Settings, is_true};
+pub use conversation::{Conversation, Step};
 pub use dialogue::{Choices, Command, Depth, Reply, number_of, read_command};
 pub use exchange::ask;
-pub use indexed::{pack_file, told_pack};
-pub use policy::{Policy, is_allowed};
+pub use indexed::{kept_pack, pack_file, told_pack};
+pub use policy::{Policy, is_allowed, is_from_user};
 pub use proxy::proxy_for;
+pub use question::{Question, listing_words, question_words};
 pub use request::{Program, Request, Start, Task, request_text};
 pub use server::quoted;
-pub use ssh::{Variant, ssh_words, variant_of};
-pub use told::batch_told;
-pub use words::{here_words, index_words, joined, object_variables, server_variables, web_words};
+pub use ssh::{Variant, first_word, probe_words, server_words, ssh_words, variant_of};
+pub use told::{batch_told, capabilities, tells_closed};
+pub use words::{
+    checks_closed, here_words, index_words, joined, object_check, object_variables,
+    server_variables, web_words,
+};

@@ -5,9 +5,9 @@ ghost use Rattle.std.specs.Option.{option_map};
 ghost use Rattle.std.specs.Str.{bytes_eq};
 ghost use Rattle.bstr.specs.BStr.{bstr_bytes};
 ghost use Rattle.gixp_remote_rules.specs.Config.{settings_in, value_of};
-ghost use Rattle.gixp_remote_rules.specs.Allowed.{policy_of, policy_without, allow_name, policy_for_all, policy_in, allows, lists, is_allowed};
+ghost use Rattle.gixp_remote_rules.specs.Allowed.{policy_of, policy_without, allow_name, policy_for_all, policy_in, allows, is_from_user, lists, is_allowed};
 
-use crate::config::Settings;
+use crate::config::{Settings, text_is_true};
 use crate::text::is_word;
 use bstr::BStr;
 use std::alloc::{AllocError, Global};
@@ -125,6 +125,19 @@ fn allows(policy: Policy, is_from_user: bool) -> bool
         Policy::Always => true,
         Policy::Never => false,
         Policy::User => is_from_user,
+    }
+}
+
+/// Whether the user named the server, by `GIT_PROTOCOL_FROM_USER`: unless that is false.
+pub fn is_from_user(variable: Option<&[u8]>) -> bool
+    ensures { result ≡ is_from_user (option_map (λ v. v.now) variable.entry) }
+{
+    match variable {
+        Some(word) => match text_is_true(word) {
+            Some(is_true) => is_true,
+            None => true,
+        },
+        None => true,
     }
 }
 

@@ -1,9 +1,27 @@
 //! What git is told of a batch that was fetched (gitremote-helpers, "fetch").
 ghost use Rattle.std.specs.Prelude.{◌≡◌, ◌++◌, IfOk, OnOk};
 ghost use Rattle.std.specs.Option.{option_map};
-ghost use Rattle.gixp_remote_rules.specs.Told.{lock_lines, closed_lines, batch_told};
+ghost use Rattle.gixp_remote_rules.specs.Choosing.{chosen};
+ghost use Rattle.gixp_remote_rules.specs.Told.{capabilities, tells_closed, lock_lines, closed_lines, batch_told};
 
+use crate::dialogue::Choices;
+use crate::words::checks_closed;
 use std::alloc::{AllocError, Global};
+
+/// What the helper can do.
+pub fn capabilities() -> &'static [u8]
+    ensures { result.now ≡ capabilities }
+{
+    b"fetch\noption\ncheck-connectivity\nobject-format\n\n"
+}
+
+/// Whether git need not look itself whether all is there that what came leads to: git that indexed the pack was asked, and ended
+/// with 0, and no id of the boundary that the server named was here before, since such an id doesn't come to the repository's.
+pub fn tells_closed(choices: &Choices, is_bounded: bool, was_here: bool, status: u32) -> bool
+    ensures { result ≡ tells_closed (chosen choices.now) is_bounded was_here status }
+{
+    checks_closed(choices, is_bounded) && !was_here && status == 0
+}
 
 // The line of a lock, where there is one.
 fn append_lock(text: &mut Vec<u8>, lock: Option<&[u8]>) -> Result<(), AllocError>

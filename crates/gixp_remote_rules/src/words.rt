@@ -3,7 +3,7 @@ ghost use Rattle.std.specs.Prelude.{◌≡◌, ◌∷◌, [], ◌++◌, IfOk, On
 ghost use Rattle.std.specs.Option.{option_map};
 ghost use Rattle.bstr.specs.Owned.{bstring_bytes};
 ghost use Rattle.gixp_remote_rules.specs.Choosing.{chosen};
-ghost use Rattle.gixp_remote_rules.specs.Programs.{plain_name, web_words, here_words, flag, flags_of, index_words, escaped_in_quotes, in_quotes, behind_colon, object_variables, version_variable, server_variables};
+ghost use Rattle.gixp_remote_rules.specs.Programs.{plain_name, web_words, here_words, flag, checks_closed, flags_of, shallow_words, pack_words, index_words, object_check, escaped_in_quotes, in_quotes, behind_colon, object_variables, version_variable, server_variables};
 
 use crate::dialogue::Choices;
 use crate::server::LOCAL_VARIABLES;
@@ -22,7 +22,7 @@ pub fn joined(alloc: Global, parts: &[&[u8]]) -> Result<Vec<u8>, AllocError>
 }
 
 // A word more.
-fn add(alloc: Global, words: &mut Vec<BString>, word: &[u8]) -> Result<(), AllocError>
+pub(crate) fn add(alloc: Global, words: &mut Vec<BString>, word: &[u8]) -> Result<(), AllocError>
     ensures { OnOk result (map bstring_bytes words.new.items ≡ map bstring_bytes words.old.items ++ word.now ∷ []) }
 {
     words.push(BString::from_slice(alloc, word)?)?;
@@ -30,7 +30,7 @@ fn add(alloc: Global, words: &mut Vec<BString>, word: &[u8]) -> Result<(), Alloc
 }
 
 // A word more, where it is to be there.
-fn add_if(
+pub(crate) fn add_if(
     alloc: Global,
     words: &mut Vec<BString>,
     is_there: bool,
@@ -45,7 +45,11 @@ fn add_if(
 }
 
 // Words more.
-fn add_all(alloc: Global, words: &mut Vec<BString>, more: &[BString]) -> Result<(), AllocError>
+pub(crate) fn add_all(
+    alloc: Global,
+    words: &mut Vec<BString>,
+    more: &[BString],
+) -> Result<(), AllocError>
     ensures { OnOk result (map bstring_bytes words.new.items ≡ map bstring_bytes words.old.items ++ map bstring_bytes more.now) }
 {
     for word in more {
@@ -55,7 +59,11 @@ fn add_all(alloc: Global, words: &mut Vec<BString>, more: &[BString]) -> Result<
 }
 
 // Names more.
-fn add_names(alloc: Global, words: &mut Vec<BString>, names: &[&str]) -> Result<(), AllocError>
+pub(crate) fn add_names(
+    alloc: Global,
+    words: &mut Vec<BString>,
+    names: &[&str],
+) -> Result<(), AllocError>
     ensures { OnOk result (map bstring_bytes words.new.items ≡ map bstring_bytes words.old.items ++ map (λ n. n.now) names.now) }
 {
     for name in names {
@@ -112,33 +120,49 @@ pub fn here_words(alloc: Global, path: &[u8]) -> Result<Vec<BString>, AllocError
     Ok(words)
 }
 
+/// Whether git that indexes a pack is to find out that what came leads to nothing else: not where the server named a boundary that
+/// isn't taken.
+pub fn checks_closed(choices: &Choices, is_bounded: bool) -> bool
+    ensures { result ≡ checks_closed is_bounded (chosen choices.now) }
+{
+    choices.asks_closed() && (!is_bounded || choices.is_cloning || choices.updates_shallow)
+}
+
 // The flags that git's options choose.
-fn add_flags(alloc: Global, words: &mut Vec<BString>, choices: &Choices) -> Result<(), AllocError>
-    ensures { OnOk result (map bstring_bytes words.new.items ≡ map bstring_bytes words.old.items ++ flags_of (chosen choices.now)) }
+fn add_flags(
+    alloc: Global,
+    words: &mut Vec<BString>,
+    choices: &Choices,
+    is_bounded: bool,
+) -> Result<(), AllocError>
+    ensures { OnOk result (map bstring_bytes words.new.items
+        ≡ map bstring_bytes words.old.items ++ flags_of is_bounded (chosen choices.now)) }
 {
     add_if(
         alloc,
         words,
-        choices.asks_closed(),
+        checks_closed(choices, is_bounded),
         b"--check-self-contained-and-connected",
     )?;
     add_if(alloc, words, choices.is_from_promisor, b"--promisor")?;
     add_if(alloc, words, choices.tells_progress(), b"-v")
 }
 
-/// The words of git that indexes a pack, whose lock names this folder. `checks` are those for what is checked of its objects.
-///
-/// # Errors
-///
-/// An allocation failure alone.
-pub fn index_words(
-    alloc: Global,
-    folder: &[u8],
-    choices: &Choices,
-    checks: &[BString],
-) -> Result<Vec<BString>, AllocError>
-    ensures { IfOk result (λ words. map bstring_bytes words.items
-        ≡ index_words folder.now (chosen choices.now) (map bstring_bytes checks.now)) }
+// The words for a boundary in another file than the repository's.
+fn shallow_words(alloc: Global, shallow: Option<&[u8]>) -> Result<Vec<BString>, AllocError>
+    ensures { IfOk result (λ words. map bstring_bytes words.items ≡ shallow_words (option_map (λ s. s.now) shallow.entry)) }
+{
+    let mut words = Vec::new(alloc);
+    if let Some(path) = shallow {
+        add(alloc, &mut words, b"--shallow-file")?;
+        add(alloc, &mut words, path)?;
+    }
+    Ok(words)
+}
+
+// The words that stand in any case.
+fn pack_words(alloc: Global, folder: &[u8]) -> Result<Vec<BString>, AllocError>
+    ensures { IfOk result (λ words. map bstring_bytes words.items ≡ pack_words folder.now) }
 {
     let lock = joined(alloc, &[b"--keep=fetched by gixp in ", folder])?;
     let mut words = Vec::new(alloc);
@@ -146,9 +170,47 @@ pub fn index_words(
     add(alloc, &mut words, b"--stdin")?;
     add(alloc, &mut words, b"--fix-thin")?;
     add(alloc, &mut words, &lock)?;
-    add_flags(alloc, &mut words, choices)?;
+    Ok(words)
+}
+
+/// The words of git that indexes a pack, whose lock names this folder. Where the server named a boundary, `shallow` is the file
+/// that has it; `checks` are those for what is checked of its objects.
+///
+/// # Errors
+///
+/// An allocation failure alone.
+pub fn index_words(
+    alloc: Global,
+    folder: &[u8],
+    shallow: Option<&[u8]>,
+    choices: &Choices,
+    checks: &[BString],
+) -> Result<Vec<BString>, AllocError>
+    ensures { IfOk result (λ words. map bstring_bytes words.items
+        ≡ index_words folder.now (option_map (λ s. s.now) shallow.entry) (chosen choices.now) (map bstring_bytes checks.now)) }
+{
+    let pack = pack_words(alloc, folder)?;
+    let mut words = shallow_words(alloc, shallow)?;
+    add_all(alloc, &mut words, &pack)?;
+    add_flags(alloc, &mut words, choices, shallow.is_some())?;
     add_all(alloc, &mut words, checks)?;
     Ok(words)
+}
+
+/// The word for what is checked of the objects that come: of those that are promised no links. `list` has the messages whose
+/// severity the user chose.
+///
+/// # Errors
+///
+/// An allocation failure alone.
+pub fn object_check(alloc: Global, choices: &Choices, list: &[u8]) -> Result<Vec<u8>, AllocError>
+    ensures { IfOk result (λ word. word.items ≡ object_check (chosen choices.now) list.now) }
+{
+    if choices.is_from_promisor {
+        Vec::from_slice(alloc, b"--fsck-objects")
+    } else {
+        joined(alloc, &[b"--strict", list])
+    }
 }
 
 // A byte of a path in quotes: a quote and a backslash stand behind a backslash.

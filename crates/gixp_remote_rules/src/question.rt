@@ -1,0 +1,135 @@
+//! What git is asked, by the words of its programs.
+ghost use Rattle.std.specs.Prelude.{◌≡◌, ◌++◌, IfOk, OnOk, map};
+ghost use Rattle.std.specs.Option.{option_map};
+ghost use Rattle.bstr.specs.Owned.{bstring_bytes};
+ghost use Rattle.gixp_remote_rules.specs.Asked.{commit_words, time_words, check_words, question_words, most_words, listing_words};
+
+use crate::words::{add, add_if, add_names, joined};
+use bstr::BString;
+use std::alloc::{AllocError, Global};
+
+/// What git is asked of the repository, of the user's settings and of itself.
+#[derive(Clone, Copy)]
+pub enum Question<'a> {
+    /// The settings.
+    Settings,
+    /// Where the shallow boundary and the objects are.
+    Places,
+    /// What the refs hold and lead to.
+    Refs,
+    /// The commits that refs lead to.
+    Commits,
+    /// Where the list of the objects is that aren't checked.
+    SkipList,
+    /// A time, in seconds.
+    Time(&'a [u8]),
+    /// Whether it knows a message about objects: with a word that isn't there it tells its usage then.
+    Check(&'a [u8]),
+    /// The kinds of objects, by their ids.
+    Kinds,
+}
+
+// Some words.
+fn fixed(alloc: Global, names: &[&str]) -> Result<Vec<BString>, AllocError>
+    ensures { IfOk result (λ words. map bstring_bytes words.items ≡ map (λ n. n.now) names.now) }
+{
+    let mut words = Vec::new(alloc);
+    add_names(alloc, &mut words, names)?;
+    Ok(words)
+}
+
+// The words for the commits that refs lead to.
+fn commit_words(alloc: Global) -> Result<Vec<BString>, AllocError>
+    ensures { IfOk result (λ words. map bstring_bytes words.items ≡ commit_words) }
+{
+    fixed(alloc, &["rev-list", "--all", "--timestamp", "--parents"])
+}
+
+// The words for a time.
+fn time_words(alloc: Global, since: &[u8]) -> Result<Vec<BString>, AllocError>
+    ensures { IfOk result (λ words. map bstring_bytes words.items ≡ time_words since.now) }
+{
+    let time = joined(alloc, &[b"--since=", since])?;
+    let mut words = fixed(alloc, &["rev-parse"])?;
+    add(alloc, &mut words, &time)?;
+    Ok(words)
+}
+
+// The words for a message about objects.
+fn check_words(alloc: Global, name: &[u8]) -> Result<Vec<BString>, AllocError>
+    ensures { IfOk result (λ words. map bstring_bytes words.items ≡ check_words name.now) }
+{
+    let strict = joined(alloc, &[b"--strict=", name, b"=ignore"])?;
+    let mut words = fixed(alloc, &["index-pack"])?;
+    add(alloc, &mut words, &strict)?;
+    add(alloc, &mut words, b"--no-such-word")?;
+    Ok(words)
+}
+
+/// The words of a question.
+///
+/// # Errors
+///
+/// An allocation failure alone.
+pub fn question_words(alloc: Global, question: Question<'_>) -> Result<Vec<BString>, AllocError>
+    ensures { IfOk result (λ words. map bstring_bytes words.items ≡ question_words question.entry) }
+{
+    match question {
+        Question::Settings => fixed(alloc, &["config", "--list", "--null"]),
+        Question::Places => fixed(
+            alloc,
+            &[
+                "rev-parse",
+                "--path-format=absolute",
+                "--git-path",
+                "shallow",
+                "--git-path",
+                "objects",
+            ],
+        ),
+        Question::Refs => fixed(alloc, &["show-ref", "--head", "-d"]),
+        Question::Commits => commit_words(alloc),
+        Question::SkipList => fixed(
+            alloc,
+            &["config", "--type=path", "--get", "fetch.fsck.skiplist"],
+        ),
+        Question::Time(since) => time_words(alloc, since),
+        Question::Check(name) => check_words(alloc, name),
+        Question::Kinds => fixed(
+            alloc,
+            &["cat-file", "--batch-check=%(objecttype) %(objectname)"],
+        ),
+    }
+}
+
+// How many commits are listed at most.
+fn add_most(alloc: Global, words: &mut Vec<BString>, most: Option<&[u8]>) -> Result<(), AllocError>
+    ensures { OnOk result (map bstring_bytes words.new.items
+        ≡ map bstring_bytes words.old.items ++ most_words (option_map (λ m. m.now) most.entry)) }
+{
+    if let Some(most) = most {
+        add(alloc, words, b"-n")?;
+        add(alloc, words, most)?;
+    }
+    Ok(())
+}
+
+/// The words of git that lists the commits which are offered: with those of repositories whose objects are borrowed, and no more
+/// than so many.
+///
+/// # Errors
+///
+/// An allocation failure alone.
+pub fn listing_words(
+    alloc: Global,
+    has_alternates: bool,
+    most: Option<&[u8]>,
+) -> Result<Vec<BString>, AllocError>
+    ensures { IfOk result (λ words. map bstring_bytes words.items
+        ≡ listing_words has_alternates (option_map (λ m. m.now) most.entry)) }
+{
+    let mut words = commit_words(alloc)?;
+    add_if(alloc, &mut words, has_alternates, b"--alternate-refs")?;
+    add_most(alloc, &mut words, most)?;
+    Ok(words)
+}
