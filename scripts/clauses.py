@@ -13,7 +13,7 @@ from pathlib import Path
 
 TOP = Path(__file__).resolve().parent.parent
 CRATES = TOP / "crates"
-PROGRAMS = "gixp_plan", "gixp_fetch_pack"
+PROGRAMS = "gixp_plan", "gixp_fetch_pack", "gixp_remote"
 FUNCTION = re.compile(r"( *)(?:pub(?:\([\w ]+\))? |final |const )*fn (\w+)")
 END = re.compile(r"^(?! *ensures\b).*\{$|\{\}$|;$")
 TRAIT_IMPL = re.compile(r"(?ms)^impl\b[^{;]*?\bfor\b.*?^\}")

@@ -13,14 +13,15 @@ use std::alloc::Global;
 use std::collections::BTreeSet;
 use std::fs;
 
-/// What becomes of the boundary, before the pack is put beside the others.
+/// What becomes of the boundary, before the pack is put beside the others, and whether an id that would come to it was here before
+/// the fetch.
 pub(crate) fn boundary_of(
     order: Order<'_, '_>,
     shell: &mut Shell,
     plan: &PackPlan,
     old: &[ObjectId],
     came: &Came,
-) -> Result<Boundary, Trouble> {
+) -> Result<(Boundary, bool), Trouble> {
     let alloc = order.reach.rt.alloc();
     let known: BTreeSet<ObjectId> = old.iter().copied().collect(alloc)?;
     let ids = added(alloc, &known, &came.boundary)?;
@@ -36,7 +37,8 @@ pub(crate) fn boundary_of(
         };
         commits = here(order, shell, variables, &ids, true)?;
     }
-    Ok(boundary_after(alloc, taking, &known, &came.boundary, &before, &commits)?)
+    let boundary = boundary_after(alloc, taking, &known, &came.boundary, &before, &commits)?;
+    Ok((boundary, !before.is_empty()))
 }
 
 /// Takes the lock of the boundary, which is git's own.

@@ -1,12 +1,11 @@
 //! What git checks of the objects that come (git-config, "fetch.fsckObjects", "fetch.fsck.<msg-id>"), and which are here.
 use crate::order::Order;
-use crate::setup::joined;
-use crate::shell::{NOTHING, Shell, owned};
+use crate::shell::{NOTHING, Shell};
 use crate::trouble::Trouble;
 use bstr::{BString, ByteSlice};
 use gix_protocol::fetch::shallow_text;
 use gix_protocol::transport::ObjectId;
-use gixp_remote_rules::{Program, Task, is_true};
+use gixp_remote_rules::{Program, Question, Task, is_true, object_check, question_words};
 use std::collections::BTreeSet;
 use std::fs;
 
@@ -33,7 +32,7 @@ pub(crate) fn checks_of(order: Order<'_, '_>, shell: &mut Shell) -> Result<Vec<B
         }
     }
     let mut words = Vec::new(alloc);
-    words.push(joined(alloc, &[b"--strict", &list])?)?;
+    words.push(BString::from(object_check(alloc, order.choices, &list)?))?;
     Ok(words)
 }
 
@@ -50,20 +49,13 @@ fn add_check(
     let alloc = rt.alloc();
     let mark: &[u8] = if list.is_empty() { b"=" } else { b"," };
     if name == b"skiplist".as_slice() {
-        let told = shell.git(
-            rt,
-            &[b"config", b"--type=path", b"--get", b"fetch.fsck.skiplist"],
-        )?;
+        let told = shell.git(rt, Question::SkipList)?;
         list.extend_from_slice(mark)?;
         list.extend_from_slice(b"skiplist=")?;
         list.extend_from_slice(told.text.as_slice().trim_end())?;
         return Ok(());
     }
-    let strict = joined(alloc, &[b"--strict=", name, b"=ignore"])?;
-    let words = owned(
-        alloc,
-        &[b"index-pack", strict.as_bytes(), b"--no-such-word"],
-    )?;
+    let words = question_words(alloc, Question::Check(name))?;
     let told = shell.tell(rt, Task::Probe, Program::Git, NOTHING, &[], &words)?;
     if told.status != 129 {
         let name = BString::from_slice(alloc, name)?;
@@ -89,10 +81,7 @@ pub(crate) fn here(
     let alloc = rt.alloc();
     let text = shallow_text(alloc, ids)?;
     fs::write(rt, "ids", text.as_slice())?;
-    let words = owned(
-        alloc,
-        &[b"cat-file", b"--batch-check=%(objecttype) %(objectname)"],
-    )?;
+    let words = question_words(alloc, Question::Kinds)?;
     let told = shell.tell(rt, Task::Question, Program::Git, "ids", variables, &words)?;
     let mut found = BTreeSet::new(alloc);
     for line in told.text.as_slice().lines() {

@@ -1,20 +1,21 @@
 //! The words that reach a server, and the session with it.
-use crate::setup::{is_from_user, joined, variable, version_word};
+use crate::bounded::{Bounded, Bounds, forget};
+use crate::setup::{variable, version_word};
 use crate::shell::{NOTHING, Shell, owned};
 use crate::trouble::Trouble;
 use crate::web::connect_stateless;
 use crate::wire::{Says, Shown, Wire};
-use bstr::{BString, ByteSlice};
+use bstr::BString;
 use gix_protocol::client::Heard;
 use gix_protocol::transport::{Connection, Discard, Opening, Protocol};
 use gixp_fetch_session::session::Session;
 use gixp_remote_rules::{
-    Program, Request, Settings, Start, Task, Variant, here_words, is_allowed, proxy_for, quoted,
-    server_variables, ssh_words, variant_of, web_words,
+    Program, Request, Settings, Start, Task, Variant, first_word, here_words, is_allowed,
+    is_from_user, probe_words, proxy_for, server_variables, server_words, variant_of, web_words,
 };
 use gixp_stateless::Answers;
 use gixp_url::{Address, Transport};
-use std::cell::Cell;
+use std::cell::{Cell, RefCell};
 use std::fs::{File, OpenOptions};
 use std::io::{BufReader, BufWriter};
 
@@ -29,6 +30,8 @@ pub(crate) struct Reach<'a> {
     pub(crate) version: Protocol,
     /// Whether the server reported an error beside its answers.
     pub(crate) has_failed: &'a Cell<bool>,
+    /// What the server said of the shallow boundary.
+    pub(crate) bounds: &'a RefCell<Bounds>,
 }
 
 // Refuses a transport that the user doesn't allow.
@@ -40,7 +43,12 @@ fn check_policy(reach: Reach<'_>) -> Result<(), Trouble> {
         Some(list) => Some(list.as_bytes()),
         None => None,
     };
-    match is_allowed(alloc, name, reach.settings, list, is_from_user(reach.rt))? {
+    let named = variable(reach.rt, "GIT_PROTOCOL_FROM_USER");
+    let named = match &named {
+        Some(word) => Some(word.as_bytes()),
+        None => None,
+    };
+    match is_allowed(alloc, name, reach.settings, list, is_from_user(named))? {
         Some(true) => Ok(()),
         Some(false) => Err(Trouble::of_word(alloc, "this transport is not allowed:", name)),
         None => Err(Trouble::of_word(alloc, "unknown value for the policy of the protocol", name)),
@@ -59,29 +67,6 @@ fn ssh_program(reach: Reach<'_>) -> Result<(Vec<u8>, Program), Trouble> {
     match variable(reach.rt, "GIT_SSH") {
         Some(text) => Ok((Vec::from_slice(alloc, text.as_bytes())?, Program::Command)),
         None => Ok((Vec::from_slice(alloc, b"ssh")?, Program::Command)),
-    }
-}
-
-// The first word of a text for a shell, without quotes around it.
-fn first_word(text: &[u8]) -> &[u8] {
-    let text = text.trim_start();
-    match text.split_first() {
-        Some((quote, rest)) => {
-            if *quote == b'\'' || *quote == b'"' {
-                before(rest, *quote)
-            } else {
-                before(text, b' ')
-            }
-        }
-        None => text,
-    }
-}
-
-// What stands before a byte.
-fn before(text: &[u8], byte: u8) -> &[u8] {
-    match text.iter().position(|b| *b == byte) {
-        Some(at) => &text[..at],
-        None => text,
     }
 }
 
@@ -114,9 +99,16 @@ fn probe(
     command: &[u8],
     program: Program,
 ) -> Result<Variant, Trouble> {
-    let alloc = reach.rt.alloc();
-    let mut words = owned(alloc, &[command, b"-G"])?;
-    add_ssh_words(reach, Variant::Ssh, &mut words)?;
+    let host = reach.address.host.as_bytes();
+    let sends_version = version_word(reach.version).is_some();
+    let words = probe_words(
+        reach.rt.alloc(),
+        command,
+        sends_version,
+        port_of(reach),
+        host,
+    )?;
+    let words = taken(words)?;
     let told = shell.tell(reach.rt, Task::Probe, program, NOTHING, &[], &words)?;
     if told.status == 0 {
         Ok(Variant::Ssh)
@@ -125,31 +117,18 @@ fn probe(
     }
 }
 
-// The options of ssh, and the host.
-fn add_ssh_words(
-    reach: Reach<'_>,
-    variant: Variant,
-    words: &mut Vec<BString>,
-) -> Result<(), Trouble> {
-    let alloc = reach.rt.alloc();
-    let port = match &reach.address.port {
+// The port that the URL names.
+fn port_of(reach: Reach<'_>) -> Option<&[u8]> {
+    match &reach.address.port {
         Some(port) => Some(port.as_bytes()),
         None => None,
-    };
-    let sends_version = version_word(reach.version).is_some();
-    match ssh_words(
-        alloc,
-        variant,
-        sends_version,
-        port,
-        reach.address.host.as_bytes(),
-    )? {
-        Some(more) => {
-            for word in more {
-                words.push(word)?;
-            }
-            Ok(())
-        }
+    }
+}
+
+// The words of ssh, unless it takes no port and there is one.
+fn taken(words: Option<Vec<BString>>) -> Result<Vec<BString>, Trouble> {
+    match words {
+        Some(words) => Ok(words),
         None => Err(Trouble::Other("ssh variant 'simple' does not support setting port")),
     }
 }
@@ -159,11 +138,16 @@ fn start_ssh(reach: Reach<'_>, shell: &mut Shell) -> Result<(), Trouble> {
     let alloc = reach.rt.alloc();
     let (command, program) = ssh_program(reach)?;
     let variant = ssh_variant(reach, shell, &command, program)?;
-    let mut words = owned(alloc, &[&command])?;
-    add_ssh_words(reach, variant, &mut words)?;
-    let path = quoted(alloc, reach.address.path.as_bytes())?;
-    words.push(joined(alloc, &[b"git-upload-pack ", &path])?)?;
-    start(reach, shell, program, &words)
+    let words = server_words(
+        alloc,
+        &command,
+        variant,
+        version_word(reach.version).is_some(),
+        port_of(reach),
+        reach.address.host.as_bytes(),
+        reach.address.path.as_bytes(),
+    )?;
+    start(reach, shell, program, &taken(words)?)
 }
 
 // Starts a server that this machine runs.
@@ -175,10 +159,7 @@ fn start_here(reach: Reach<'_>, shell: &mut Shell) -> Result<(), Trouble> {
 // Connects with a server that listens.
 fn start_socket(reach: Reach<'_>, shell: &mut Shell) -> Result<(), Trouble> {
     let alloc = reach.rt.alloc();
-    let port: &[u8] = match &reach.address.port {
-        Some(port) => port.as_bytes(),
-        None => b"9418",
-    };
+    let port = port_of(reach).unwrap_or(b"9418");
     let host = reach.address.host.as_bytes();
     let chosen = variable(reach.rt, "GIT_PROXY_COMMAND");
     let chosen = match &chosen {
@@ -295,6 +276,7 @@ fn open_wire<'a>(reach: Reach<'a>, is_quiet: bool) -> Result<Wire<'a>, Trouble> 
         Vec::new(alloc),
         opening_of(reach)?,
     )?;
+    let connection = Bounded::new(connection, reach.bounds);
     Ok(Heard::new(alloc, connection, Shown::new(reach.rt, reach.has_failed)?))
 }
 
@@ -318,6 +300,7 @@ pub(crate) fn connect<'a>(
     shell.end(Task::Server)?;
     start_server(reach, shell)?;
     reach.has_failed.set(false);
+    forget(reach.bounds);
     let wire = open_wire(reach, is_quiet)?;
     Ok(Session::open(reach.rt.alloc(), wire, "gixp", &mut Discard)?)
 }

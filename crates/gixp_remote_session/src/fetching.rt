@@ -1,5 +1,6 @@
 //! One fetch of objects by their ids.
 use crate::boundary::{boundary_of, change_boundary, lock_boundary};
+use crate::bounded::forget;
 use crate::checks::checks_of;
 use crate::connect::{Reach, connect};
 use crate::history::shallow_of;
@@ -19,7 +20,7 @@ use gixp_fetch_session::receive::PackReceiver;
 use gixp_fetch_session::repository::Repository;
 use gixp_fetch_session::session::{Asked, How, Session, Sink};
 use gixp_fetch_session::{negotiate, unless_failed};
-use gixp_remote_rules::{Boundary, Task};
+use gixp_remote_rules::{Boundary, Task, tells_closed};
 use std::alloc::Global;
 use std::io::ErrorKind;
 
@@ -116,7 +117,10 @@ fn fetch_by(
         how: &*plan.how,
     };
     let pack = plan.pack.copy(rt.alloc())?;
-    let place = IndexedPack::new(rt.clone()?, shell, pack);
+    if session.version() == Protocol::V2 {
+        forget(order.reach.bounds);
+    }
+    let place = IndexedPack::new(rt.clone()?, shell, pack, order.reach.bounds);
     let boundary = fetch_over(order.reach, session, asked, repository, place)?;
     let kept = match shell.pack {
         PackState::Kept(kept) => Some(kept),
@@ -187,7 +191,7 @@ fn finish(
 ) -> Result<Fetched, Trouble> {
     let order = plan.order;
     let rt = order.reach.rt;
-    let boundary = boundary_of(order, shell, plan.pack, old, came)?;
+    let (boundary, was_here) = boundary_of(order, shell, plan.pack, old, came)?;
     if let Boundary::Refused(id) = &boundary {
         let digits = id.to_hex();
         return Err(Trouble::of_word(
@@ -202,7 +206,7 @@ fn finish(
     };
     change_boundary(order, shell, places, old, &boundary)?;
     let is_closed = match &came.kept {
-        Some(kept) => kept.is_closed && order.choices.asks_closed(),
+        Some(kept) => tells_closed(order.choices, kept.is_bounded, was_here, kept.status),
         None => false,
     };
     Ok(Fetched { lock, is_closed })
@@ -227,7 +231,7 @@ pub(crate) fn fetch<'a>(
     let wish = wish_of(alloc, order.choices, shallow, haves);
     let mut repository = known(order, shell, &old, haves)?;
     let checks = checks_of(order, shell)?;
-    let pack = PackPlan::new(rt, &places, folder, order.choices, &checks)?;
+    let pack = PackPlan::new(rt, &places, folder, order.choices, &checks, &old)?;
     let how = how_of(alloc, order.choices)?;
     let plan = Plan {
         order,

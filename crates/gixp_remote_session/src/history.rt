@@ -1,19 +1,17 @@
 //! How much of the history is wanted.
-use crate::setup::joined;
 use crate::shell::Shell;
 use crate::trouble::Trouble;
 use bstr::{BString, ByteSlice};
 use gix_protocol::fetch::Shallow;
 use gix_protocol::refspec::PartialName;
-use gixp_remote_rules::{Choices, Depth};
+use gixp_remote_rules::{Choices, Depth, Question};
 use std::alloc::Global;
 use std::num::NonZeroU32;
 
 // A time as git reads it, in seconds.
 fn seconds_of(rt: &HostRuntime, shell: &mut Shell, since: &[u8]) -> Result<i64, Trouble> {
     let alloc = rt.alloc();
-    let word = joined(alloc, &[b"--since=", since])?;
-    let told = shell.git(rt, &[b"rev-parse", word.as_bytes()])?;
+    let told = shell.git(rt, Question::Time(since))?;
     let line = told.text.as_slice().trim();
     let Some(digits) = line.strip_prefix(b"--max-age=") else {
         return Err(Trouble::of_word(alloc, "this is no time:", since));

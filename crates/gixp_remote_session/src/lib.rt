@@ -2,6 +2,7 @@
 #![tactic(auto)]
 
 mod boundary;
+mod bounded;
 mod checks;
 mod connect;
 mod fetching;

@@ -3,7 +3,7 @@ ghost use Rattle.std.specs.Prelude.{◌≡◌, ◌++◌, OnOk};
 ghost use Rattle.std.specs.List.{list_all};
 ghost use Rattle.std.specs.Option.{option_map};
 ghost use Rattle.bstr.specs.Owned.{bstring_bytes};
-ghost use Rattle.gixp_remote_session.specs.RefLines.{is_plain, is_plain_byte, id_line, symbolic_line, object_lines};
+ghost use Rattle.gixp_remote_session.specs.RefLines.{is_plain, is_plain_byte, id_line, symbolic_line, object_lines, ref_lines};
 
 use bstr::BString;
 use gix_protocol::handshake::Ref;
@@ -87,43 +87,41 @@ fn append_object(
 }
 
 // The lines of a ref. A symbolic ref is told by its target where that holds an object itself, else by what it leads to.
-fn append_ref(text: &mut Vec<u8>, found: &Ref, holders: &[BString]) -> Result<(), AllocError> {
+fn append_ref(text: &mut Vec<u8>, found: &Ref, by_target: bool) -> Result<(), AllocError>
+    ensures { OnOk result (text.new.items ≡ text.old.items ++ ref_lines by_target found.now) }
+{
     match found {
         Ref::Direct {
             full_ref_name,
             object,
-        } => append_id(text, object, full_ref_name.as_bytes(), b""),
+        } => append_object(text, full_ref_name.as_bytes(), &None, object),
         Ref::Peeled {
             full_ref_name,
             tag,
             object,
-        } => {
-            append_id(text, tag, full_ref_name.as_bytes(), b"")?;
-            append_id(text, object, full_ref_name.as_bytes(), b"^{}")
-        }
+        } => append_object(text, full_ref_name.as_bytes(), &Some(*tag), object),
         Ref::Symbolic {
             full_ref_name,
             target,
             tag,
             object,
-        } => append_link(text, full_ref_name, target, tag, object, holders),
+        } => {
+            if by_target {
+                append_symbolic(text, target.as_bytes(), full_ref_name.as_bytes())
+            } else {
+                append_object(text, full_ref_name.as_bytes(), tag, object)
+            }
+        }
         Ref::Unborn { .. } => Ok(()),
     }
 }
 
-// The lines of a symbolic ref.
-fn append_link(
-    text: &mut Vec<u8>,
-    name: &BString,
-    target: &BString,
-    tag: &Option<ObjectId>,
-    object: &ObjectId,
-    holders: &[BString],
-) -> Result<(), AllocError> {
-    if holders.binary_search(target).is_ok() {
-        return append_symbolic(text, target.as_bytes(), name.as_bytes());
+// Whether a symbolic ref's target holds an object itself.
+fn is_held(found: &Ref, holders: &[BString]) -> bool {
+    match found {
+        Ref::Symbolic { target, .. } => holders.binary_search(target).is_ok(),
+        Ref::Direct { .. } | Ref::Peeled { .. } | Ref::Unborn { .. } => false,
     }
-    append_object(text, name.as_bytes(), tag, object)
 }
 
 /// What git is told of the refs.
@@ -149,7 +147,7 @@ pub(crate) fn refs_told(
     }
     for found in refs {
         if is_plain(found.name().as_bytes()) {
-            append_ref(&mut text, found, &holders)?;
+            append_ref(&mut text, found, is_held(found, &holders))?;
         } else {
             funny.push(BString::from_slice(alloc, found.name().as_bytes())?)?;
         }

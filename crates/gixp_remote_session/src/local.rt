@@ -6,6 +6,7 @@ use gix_protocol::fetch::negotiate::{ObjectKind, StoredObjects, StoredRefs, Text
 use gix_protocol::fetch::shallow_ids;
 use gix_protocol::transport::ObjectId;
 use gixp_fetch_session::repository::{Repository, tips_of};
+use gixp_remote_rules::Question;
 use std::alloc::Global;
 use std::fs;
 use std::io::ErrorKind;
@@ -35,17 +36,7 @@ fn path_of(alloc: Global, line: Option<&[u8]>) -> Result<String, Trouble> {
 impl Places {
     /// Asks git for them.
     pub(crate) fn ask(rt: &HostRuntime, shell: &mut Shell) -> Result<Places, Trouble> {
-        let told = shell.git(
-            rt,
-            &[
-                b"rev-parse",
-                b"--path-format=absolute",
-                b"--git-path",
-                b"shallow",
-                b"--git-path",
-                b"objects",
-            ],
-        )?;
+        let told = shell.git(rt, Question::Places)?;
         let mut lines = told.text.as_slice().lines();
         let shallow = path_of(rt.alloc(), lines.next())?;
         let objects = path_of(rt.alloc(), lines.next())?;
@@ -126,7 +117,7 @@ pub(crate) fn repository(
     boundary: Vec<ObjectId>,
 ) -> Result<Repository, Trouble> {
     let alloc = rt.alloc();
-    let told = shell.git(rt, &[b"show-ref", b"--head", b"-d"])?;
+    let told = shell.git(rt, Question::Refs)?;
     if told.status > 1 {
         return Err(Trouble::Other("the repository can't be read"));
     }

@@ -1,14 +1,15 @@
 //! What one fetch is for, and what is asked of the server and offered to it.
-ghost use Rattle.std.specs.Prelude.{◌≡◌, IfOk, map};
+ghost use Rattle.std.specs.Prelude.{◌≡◌, ◌&&◌, not, IfOk, map, option_map, string_bytes};
+ghost use Rattle.bstr.specs.Owned.{bstring_bytes};
 ghost use Rattle.gix_protocol.specs.Values.{mapping_value};
 ghost use Rattle.gixp_remote_session.specs.Wanted.{wanted};
 
 use crate::connect::Reach;
 use crate::local::{new_repository, repository};
 use crate::setup::variable;
-use crate::shell::{NOTHING, Shell, owned};
+use crate::shell::{NOTHING, Shell};
 use crate::trouble::Trouble;
-use bstr::{BString, ByteSlice};
+use bstr::ByteSlice;
 use gix_protocol::fetch::negotiate::Algorithm;
 use gix_protocol::fetch::refmap::{Mapping, Source, SpecIndex};
 use gix_protocol::fetch::{RefMap, Shallow, Tags};
@@ -16,7 +17,7 @@ use gix_protocol::transport::{Kind, ObjectId};
 use gixp_fetch_local::{Haves, Wish};
 use gixp_fetch_session::repository::Repository;
 use gixp_fetch_session::session::How;
-use gixp_remote_rules::{Choices, Program, Request, Start, Task};
+use gixp_remote_rules::{Choices, Program, Question, Request, Start, Task, listing_words};
 use std::alloc::Global;
 
 /// What a fetch is for.
@@ -56,7 +57,11 @@ pub(crate) fn wish_of(
     choices: &Choices,
     shallow: Shallow,
     haves: Haves,
-) -> Wish<'static> {
+) -> Wish<'static>
+    ensures shallow { result.shallow ≡ shallow }
+    ensures rejects { result.rejects_shallow ≡ choices.now.rejects_shallow }
+    ensures haves { result.haves ≡ haves }
+{
     let tags = if choices.follows_tags {
         Tags::Included
     } else {
@@ -73,7 +78,9 @@ pub(crate) fn wish_of(
 }
 
 // The filter that git asks for.
-fn filter_of(alloc: Global, choices: &Choices) -> Result<Option<String>, Trouble> {
+fn filter_of(alloc: Global, choices: &Choices) -> Result<Option<String>, Trouble>
+    ensures { IfOk result (λ filter. option_map string_bytes filter ≡ option_map bstring_bytes choices.now.filter) }
+{
     let Some(filter) = &choices.filter else {
         return Ok(None);
     };
@@ -84,7 +91,10 @@ fn filter_of(alloc: Global, choices: &Choices) -> Result<Option<String>, Trouble
 }
 
 /// How the server is asked for it.
-pub(crate) fn how_of(alloc: Global, choices: &Choices) -> Result<How, Trouble> {
+pub(crate) fn how_of(alloc: Global, choices: &Choices) -> Result<How, Trouble>
+    ensures filter { IfOk result (λ how. option_map string_bytes how.filter ≡ option_map bstring_bytes choices.now.filter) }
+    ensures progress { IfOk result (λ how. how.wants_progress ≡ (choices.now.shows_progress && not choices.now.is_quiet)) }
+{
     Ok(How {
         filter: filter_of(alloc, choices)?,
         wants_progress: choices.tells_progress(),
@@ -98,17 +108,12 @@ fn start_listing(
     has_alternates: bool,
 ) -> Result<(), Trouble> {
     let alloc = order.reach.rt.alloc();
-    let mut words = owned(
-        alloc,
-        &[b"rev-list", b"--all", b"--timestamp", b"--parents"],
-    )?;
-    if has_alternates {
-        words.push(BString::from_slice(alloc, b"--alternate-refs")?)?;
-    }
-    if let Some(most) = variable(order.reach.rt, "GIXP_COMMITS") {
-        words.push(BString::from_slice(alloc, b"-n")?)?;
-        words.push(BString::from_slice(alloc, most.as_bytes())?)?;
-    }
+    let most = variable(order.reach.rt, "GIXP_COMMITS");
+    let most = match &most {
+        Some(most) => Some(most.as_bytes()),
+        None => None,
+    };
+    let words = listing_words(alloc, has_alternates, most)?;
     shell.ask(&Request::Start(Start {
         task: Task::Listing,
         program: Program::Git,
@@ -148,10 +153,7 @@ pub(crate) fn known(
     }
     let mut found = repository(order.reach.rt, shell, boundary)?;
     if haves != Haves::InOrder && haves != Haves::By(Algorithm::Noop) {
-        let told = shell.git(
-            order.reach.rt,
-            &[b"rev-list", b"--all", b"--timestamp", b"--parents"],
-        )?;
+        let told = shell.git(order.reach.rt, Question::Commits)?;
         if found.objects.read_commits(alloc, &told.text).is_err() {
             return Err(Trouble::Other("the repository can't be read"));
         }

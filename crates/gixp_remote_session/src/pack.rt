@@ -1,17 +1,20 @@
 //! Where the pack goes: git indexes it in a folder for objects of its own, and it is put beside the others once it is wanted.
 ghost use Rattle.std.specs.Prelude.{⊤};
 
+use crate::bounded::Bounds;
 use crate::local::Places;
 use crate::setup::variable;
 use crate::shell::Shell;
 use crate::trouble::Trouble;
 use bstr::{BString, ByteSlice};
+use gix_protocol::fetch::shallow_text;
 use gix_protocol::transport::ObjectId;
 use gixp_fetch_local::PackPlace;
 use gixp_remote_rules::{
-    Choices, Program, Request, Start, Task, index_words, object_variables, pack_file, told_pack,
+    Choices, Program, Request, Start, Task, index_words, kept_pack, object_variables, pack_file,
 };
 use std::alloc::Global;
+use std::cell::RefCell;
 use std::fs::{File, OpenOptions};
 use std::io::{ErrorKind, Read, Write};
 use std::{fs, io};
@@ -21,8 +24,14 @@ use std::{fs, io};
 pub(crate) struct PackPlan {
     /// The folder in which it is indexed.
     pub(crate) folder: String,
-    /// The words of `git index-pack`.
+    /// The words of `git index-pack`, where the server says nothing of the boundary.
     pub(crate) words: Vec<BString>,
+    /// Its words, where the server named a boundary.
+    pub(crate) bounded_words: Vec<BString>,
+    /// The file for that.
+    pub(crate) shallow: String,
+    /// The boundary before the fetch.
+    pub(crate) old: Vec<ObjectId>,
     /// The variables that make git look into that folder.
     pub(crate) variables: Vec<BString>,
 }
@@ -42,6 +51,9 @@ impl PackPlan {
         Ok(PackPlan {
             folder: self.folder.clone()?,
             words: copied(alloc, &self.words)?,
+            bounded_words: copied(alloc, &self.bounded_words)?,
+            shallow: self.shallow.clone()?,
+            old: Vec::from_slice(alloc, &self.old)?,
             variables: copied(alloc, &self.variables)?,
         })
     }
@@ -53,13 +65,16 @@ impl PackPlan {
         name: &[u8],
         choices: &Choices,
         checks: &[BString],
+        old: &[ObjectId],
     ) -> Result<PackPlan, Trouble> {
         let alloc = rt.alloc();
         let Ok(room) = name.to_str() else {
             return Err(Trouble::Other("the helper's folder is no UTF-8"));
         };
         let folder = format!(in alloc; "{}/tmp_objdir-{room}", places.objects)?;
-        let words = index_words(alloc, name, choices, checks)?;
+        let shallow = format!(in alloc; "{folder}/shallow")?;
+        let words = index_words(alloc, name, None, choices, checks)?;
+        let bounded_words = index_words(alloc, name, Some(shallow.as_bytes()), choices, checks)?;
         let more = variable(rt, "GIT_ALTERNATE_OBJECT_DIRECTORIES");
         let more = match &more {
             Some(more) => Some(more.as_bytes()),
@@ -74,6 +89,9 @@ impl PackPlan {
         Ok(PackPlan {
             folder,
             words,
+            bounded_words,
+            shallow,
+            old: Vec::from_slice(alloc, old)?,
             variables,
         })
     }
@@ -85,8 +103,11 @@ pub(crate) struct IndexedPack<'a> {
     rt: HostRuntime,
     shell: &'a mut Shell,
     plan: PackPlan,
+    bounds: &'a RefCell<Bounds>,
     /// What git says of the pack, once it is begun.
     told: Option<File>,
+    /// Whether the server named a boundary before it.
+    is_bounded: bool,
 }
 
 /// What became of a pack.
@@ -105,8 +126,10 @@ pub(crate) enum PackState {
 pub(crate) struct Kept {
     /// Its name.
     pub(crate) hash: ObjectId,
-    /// Whether all that it leads to is in it.
-    pub(crate) is_closed: bool,
+    /// Whether the server named a boundary before it.
+    pub(crate) is_bounded: bool,
+    /// The status of git that indexed it.
+    pub(crate) status: u32,
 }
 
 /// What comes of a fetch.
@@ -155,14 +178,36 @@ impl Write for PackWriter {
 
 impl<'a> IndexedPack<'a> {
     /// Before a pack comes.
-    pub(crate) fn new(rt: HostRuntime, shell: &'a mut Shell, plan: PackPlan) -> IndexedPack<'a> {
+    pub(crate) fn new(
+        rt: HostRuntime,
+        shell: &'a mut Shell,
+        plan: PackPlan,
+        bounds: &'a RefCell<Bounds>,
+    ) -> IndexedPack<'a> {
         shell.pack = PackState::Unbegun;
         IndexedPack {
             rt,
             shell,
             plan,
+            bounds,
             told: None,
+            is_bounded: false,
         }
+    }
+
+    // Writes what the server makes of the boundary into its file. Returns whether it said something of it.
+    fn write_boundary(&self) -> Result<bool, Trouble> {
+        let alloc = self.rt.alloc();
+        let ids = match self.bounds.try_borrow() {
+            Ok(bounds) => bounds.over(alloc, &self.plan.old)?,
+            Err(_) => None,
+        };
+        let Some(ids) = ids else {
+            return Ok(false);
+        };
+        let text = shallow_text(alloc, &ids)?;
+        fs::write(&self.rt, self.plan.shallow.as_str(), text.as_slice())?;
+        Ok(true)
     }
 
     // Starts git, and opens the two pipes.
@@ -174,13 +219,19 @@ impl<'a> IndexedPack<'a> {
         {
             return Err(Trouble::Io(ErrorKind::PermissionDenied));
         }
+        self.is_bounded = self.write_boundary()?;
+        let words = if self.is_bounded {
+            &self.plan.bounded_words
+        } else {
+            &self.plan.words
+        };
         self.shell.ask(&Request::Start(Start {
             task: Task::Pack,
             program: Program::Git,
             input: "pack",
             output: "kept",
             variables: &self.plan.variables,
-            words: &self.plan.words,
+            words,
         }))?;
         let writer = OpenOptions::new().write(true).open(&self.rt, "pack")?;
         self.told = Some(File::open(&self.rt, "kept")?);
@@ -195,13 +246,13 @@ impl<'a> IndexedPack<'a> {
             told.read_to_end(&mut text)?;
         }
         let status = self.shell.ask(&Request::Status(Task::Pack))?;
-        // 1: the pack is whole, but leads to what isn't in it
-        match told_pack(&text) {
-            Some(hash) if status < 2 => Ok(Kept {
+        match kept_pack(&text, status) {
+            Some(hash) => Ok(Kept {
                 hash,
-                is_closed: status == 0,
+                is_bounded: self.is_bounded,
+                status,
             }),
-            _ => Err(Trouble::Other("git refused the pack")),
+            None => Err(Trouble::Other("git refused the pack")),
         }
     }
 }

@@ -1,4 +1,5 @@
 //! The conversation with git.
+use crate::bounded::Bounds;
 use crate::connect::{Reach, connect};
 use crate::fetching::{Open, fetch};
 use crate::listing::refs_told;
@@ -7,28 +8,21 @@ use crate::setup::{Given, read_given, settings_text, version_of};
 use crate::shell::{NOTHING, Shell};
 use crate::trouble::Trouble;
 use bstr::{BString, ByteSlice};
-use gix_protocol::transport::{Discard, ObjectId};
-use gixp_remote_rules::{
-    Choices, Command, Program, Request, Settings, Start, Task, batch_told, read_command,
-};
+use gix_protocol::transport::Discard;
+use gixp_remote_rules::{Conversation, Program, Request, Settings, Start, Step, Task, batch_told};
 use gixp_url::Address;
-use std::cell::Cell;
-use std::collections::BTreeSet;
+use std::cell::{Cell, RefCell};
+use std::io;
 use std::io::{BufRead, BufReader, Input, Write};
-use std::{io, mem};
-
-// What the helper can do.
-const CAPABILITIES: &[u8] = b"fetch\noption\nobject-format\n\n";
 
 // The helper between two commands.
 #[derive(Drop)]
 struct Helper<'a> {
     reach: Reach<'a>,
     shell: Shell,
-    choices: Choices,
     open: Open<'a>,
-    // What the batch asks for, each id once.
-    wanted: BTreeSet<ObjectId>,
+    // What git chose and asks for.
+    talk: Conversation,
     // How many batches were fetched.
     batches: u64,
     // The name of the helper's folder.
@@ -60,32 +54,15 @@ impl Helper<'_> {
     // Lists the refs.
     fn list(&mut self) -> Result<(), Trouble> {
         self.watch()?;
-        let mut session = connect(self.reach, &mut self.shell, self.choices.is_quiet)?;
+        let mut session = connect(self.reach, &mut self.shell, self.talk.choices.is_quiet)?;
         let refs = session.refs(&mut Discard)?;
         self.open = Some(session);
-        let told = refs_told(self.reach.rt.alloc(), &refs, self.choices.tells_format)?;
+        let told = refs_told(self.reach.rt.alloc(), &refs, self.talk.choices.tells_format)?;
         for name in &told.funny {
             let _ = eprintln!(self.reach.rt; "warning: ignoring ref with broken name {name:?}");
         }
         self.shell.end(Task::Watch)?;
         self.say(&told.text)
-    }
-
-    // Keeps an option.
-    fn choose(&mut self, name: &[u8], value: &[u8]) -> Result<(), Trouble> {
-        let reply = self.choices.take(self.reach.rt.alloc(), name, value)?;
-        self.say(reply.to_text())
-    }
-
-    // Adds an object to the batch.
-    fn want(&mut self, id: &[u8], line: &[u8]) -> Result<(), Trouble> {
-        match ObjectId::from_hex(id) {
-            Ok(id) => {
-                self.wanted.insert(id)?;
-                Ok(())
-            }
-            Err(_) => self.refuse(line),
-        }
     }
 
     // A line that is none of git's.
@@ -102,11 +79,10 @@ impl Helper<'_> {
         let number = format!(in alloc; "-{count}")?;
         let mut folder = Vec::from_slice(alloc, &self.folder)?;
         folder.extend_from_slice(number.as_bytes())?;
-        let wanted = mem::replace(&mut self.wanted, BTreeSet::new(alloc));
-        let ids: Vec<ObjectId> = wanted.into_iter().collect(alloc)?;
+        let ids = self.talk.batch.take(alloc)?;
         let order = Order {
             reach: self.reach,
-            choices: &self.choices,
+            choices: &self.talk.choices,
             ids: &ids,
         };
         let fetched = fetch(order, &mut self.shell, &mut self.open, &folder)?;
@@ -120,18 +96,12 @@ impl Helper<'_> {
 
     // Does what a line asks for. Returns whether the conversation goes on.
     fn obey(&mut self, line: &[u8]) -> Result<bool, Trouble> {
-        match read_command(line) {
-            Command::Capabilities => self.say(CAPABILITIES)?,
-            Command::List => self.list()?,
-            Command::Option(name, value) => self.choose(name, value)?,
-            Command::Fetch(id, _) => self.want(id, line)?,
-            Command::End => {
-                if self.wanted.is_empty() {
-                    return Ok(false);
-                }
-                self.fetch_batch()?;
-            }
-            Command::Unknown => self.refuse(line)?,
+        match self.talk.step(self.reach.rt.alloc(), line)? {
+            Step::Say(text) => self.say(text)?,
+            Step::List => self.list()?,
+            Step::Fetch => self.fetch_batch()?,
+            Step::Stop => return Ok(false),
+            Step::Refuse => self.refuse(line)?,
         }
         Ok(true)
     }
@@ -172,6 +142,8 @@ struct Begun {
     settings: Settings,
     // Whether the server reported an error beside its answers.
     has_failed: Cell<bool>,
+    // What the server said of the shallow boundary.
+    bounds: RefCell<Bounds>,
 }
 
 // Speaks with git.
@@ -186,11 +158,11 @@ fn serve(begun: &Begun, shell: Shell) -> Result<(), Trouble> {
             settings: &begun.settings,
             version: version_of(&begun.rt, &begun.settings),
             has_failed: &begun.has_failed,
+            bounds: &begun.bounds,
         },
         shell,
-        choices: Choices::new(alloc),
         open: None,
-        wanted: BTreeSet::new(alloc),
+        talk: Conversation::new(alloc),
         batches: 0,
         folder: Vec::from_slice(alloc, begun.given.folder.as_bytes())?,
     };
@@ -213,6 +185,7 @@ pub(crate) fn converse(rt: &HostRuntime) -> Result<(), Trouble> {
         address,
         settings,
         has_failed: Cell::new(false),
+        bounds: RefCell::new(Bounds::new(alloc)),
     };
     serve(&begun, shell)
 }

@@ -1,11 +1,13 @@
 //! What the helper is told when it begins: the URL, variables and settings.
+ghost use Rattle.std.specs.Prelude.{◌≡◌};
+ghost use Rattle.std.specs.Option.{option_map};
+ghost use Rattle.gixp_remote_session.specs.Version.{protocol_of, version_word};
+
 use crate::shell::Shell;
 use crate::trouble::Trouble;
-use bstr::BString;
 use gix_protocol::transport::Protocol;
 use gixp_fetch_local::Haves;
-use gixp_remote_rules::Settings;
-use std::alloc::Global;
+use gixp_remote_rules::{Question, Settings};
 use std::{env, fs};
 
 /// A variable of the environment, none where it isn't set.
@@ -41,7 +43,7 @@ pub(crate) fn read_given(rt: &HostRuntime) -> Result<Given, Trouble> {
 
 /// The text of the user's settings.
 pub(crate) fn settings_text(rt: &HostRuntime, shell: &mut Shell) -> Result<Vec<u8>, Trouble> {
-    let told = shell.git(rt, &[b"config", b"--list", b"--null"])?;
+    let told = shell.git(rt, Question::Settings)?;
     if told.status == 0 {
         Ok(told.text)
     } else {
@@ -61,16 +63,22 @@ pub(crate) fn version_of(rt: &HostRuntime, settings: &Settings) -> Protocol {
 }
 
 // The version that a word names.
-fn protocol_of(word: &[u8]) -> Protocol {
-    match word {
-        b"0" => Protocol::V0,
-        b"1" => Protocol::V1,
-        _ => Protocol::V2,
+fn protocol_of(word: &[u8]) -> Protocol
+    ensures { result ≡ protocol_of word.now }
+{
+    if word == b"0".as_slice() {
+        Protocol::V0
+    } else if word == b"1".as_slice() {
+        Protocol::V1
+    } else {
+        Protocol::V2
     }
 }
 
 /// The text of a version where it isn't 0.
-pub(crate) fn version_word(version: Protocol) -> Option<&'static [u8]> {
+pub(crate) fn version_word(version: Protocol) -> Option<&'static [u8]>
+    ensures { option_map (λ w. w.now) result ≡ version_word version }
+{
     match version {
         Protocol::V0 => None,
         Protocol::V1 => Some(b"version=1"),
@@ -92,17 +100,4 @@ pub(crate) fn haves_of(rt: &HostRuntime, settings: &Settings) -> Haves {
         Some(b"skipping") => Haves::By(Algorithm::Skipping),
         _ => Haves::InOrder,
     }
-}
-
-/// Whether the user named the server: a transport that another program chose is told so.
-pub(crate) fn is_from_user(rt: &HostRuntime) -> bool {
-    match variable(rt, "GIT_PROTOCOL_FROM_USER") {
-        Some(word) => !matches!(word.as_bytes(), b"" | b"0" | b"false" | b"no" | b"off"),
-        None => true,
-    }
-}
-
-/// A text of its own.
-pub(crate) fn joined(alloc: Global, parts: &[&[u8]]) -> Result<BString, Trouble> {
-    Ok(BString::from(gixp_remote_rules::joined(alloc, parts)?))
 }

@@ -1,8 +1,11 @@
 //! The shell beside the program: it starts and ends programs, and answers each request with a number.
+ghost use Rattle.std.specs.Prelude.{◌≡◌, IfOk, map};
+ghost use Rattle.bstr.specs.Owned.{bstring_bytes};
+
 use crate::pack::PackState;
 use crate::trouble::Trouble;
 use bstr::BString;
-use gixp_remote_rules::{Program, Request, Start, Task, ask};
+use gixp_remote_rules::{Program, Question, Request, Start, Task, ask, question_words};
 use std::alloc::Global;
 use std::fs;
 use std::fs::{File, OpenOptions};
@@ -77,15 +80,21 @@ impl Shell {
         Ok(Told { status, text })
     }
 
-    /// Runs git, and waits for what it says and its status.
-    pub(crate) fn git(&mut self, rt: &HostRuntime, words: &[&[u8]]) -> Result<Told, Trouble> {
-        let words = owned(self.alloc, words)?;
+    /// Asks git, and waits for what it says and its status.
+    pub(crate) fn git(
+        &mut self,
+        rt: &HostRuntime,
+        question: Question<'_>,
+    ) -> Result<Told, Trouble> {
+        let words = question_words(self.alloc, question)?;
         self.tell(rt, Task::Question, Program::Git, NOTHING, &[], &words)
     }
 }
 
 /// Words of their own.
-pub(crate) fn owned(alloc: Global, words: &[&[u8]]) -> Result<Vec<BString>, Trouble> {
+pub(crate) fn owned(alloc: Global, words: &[&[u8]]) -> Result<Vec<BString>, Trouble>
+    ensures { IfOk result (λ all. map bstring_bytes all.items ≡ map (λ w. w.now) words.now) }
+{
     let mut all = Vec::new(alloc);
     for word in words {
         all.push(BString::from_slice(alloc, *word)?)?;

@@ -1,4 +1,5 @@
 //! The connection with a server: two pipes, over which it says packet lines, or answers that each have an end of their own.
+use crate::bounded::Bounded;
 use bstr::BStr;
 use gix_protocol::client::{Heard, Listener, RemoteLines};
 use gix_protocol::transport::Connection;
@@ -8,8 +9,9 @@ use std::fs::File;
 use std::io;
 use std::io::{BufReader, BufWriter, Read, Write};
 
-/// The transport over the two pipes of a server, whose words are shown as they come.
-pub(crate) type Wire<'a> = Heard<Connection<Says, BufWriter<File>>, Shown<'a>>;
+/// The transport over the two pipes of a server, whose words are shown as they come, and of whose lines is noted what they say of
+/// the boundary.
+pub(crate) type Wire<'a> = Heard<Bounded<'a, Connection<Says, BufWriter<File>>>, Shown<'a>>;
 
 /// What a server says.
 #[derive(Drop)]

@@ -1,0 +1,15 @@
+-- The version of the protocol that is asked for (git-config, "protocol.version").
+use Rattle.std.specs.Prelude.{ℕ, if◌then◌else◌, List, codes, Option, Some, None}
+use Rattle.std.specs.Str.{bytes_eq}
+use Rattle.gix_protocol.specs.ProtocolType.{Protocol}
+use Rattle.gix_protocol.specs.ProtocolType.TheVariants.{V0, V1, V2}
+
+-- the version that a word names: 2, unless it names another
+abbrev pub protocol_of : List ℕ → Protocol
+protocol_of word = if bytes_eq word (codes "0") then V0 else if bytes_eq word (codes "1") then V1 else V2
+
+-- what a server is told of it; nothing of version 0
+abbrev pub version_word : Protocol → Option (List ℕ)
+version_word V0 = None
+version_word V1 = Some (codes "version=1")
+version_word V2 = Some (codes "version=2")

@@ -1,0 +1,177 @@
+//! A transport that notes what the server says of the shallow boundary: that comes before a pack, and git that indexes the pack
+//! is to know it then.
+ghost use Rattle.std.specs.Prelude.{◌≡◌};
+
+use crate::trouble::Trouble;
+use bstr::{BStr, ByteSlice};
+use gix_protocol::transport::client::Error;
+use gix_protocol::transport::{
+    Account, ExtendedBufRead, MessageKind, ObjectId, Protocol, Service, SetServiceResponse,
+    Transport, read,
+};
+use gixp_remote_rules::bound_said;
+use gixp_shallow::{ShallowUpdate, new_boundary};
+use std::alloc::Global;
+use std::cell::RefCell;
+
+/// What the server said of the boundary.
+#[derive(Drop)]
+pub(crate) struct Bounds {
+    updates: Vec<ShallowUpdate>,
+    // Whether one is missing, since an allocation failed.
+    is_cut: bool,
+}
+
+impl Bounds {
+    /// Nothing is said.
+    pub(crate) fn new(alloc: Global) -> Bounds {
+        Bounds {
+            updates: Vec::new(alloc),
+            is_cut: false,
+        }
+    }
+
+    // Notes what a line says. Where all lines are on bands, it is on the first.
+    fn note(&mut self, line: &[u8]) {
+        let text = line.strip_prefix(b"\x01").unwrap_or(line);
+        let update = match bound_said(text.trim_end()) {
+            Some((true, id)) => ShallowUpdate::Shallow(id),
+            Some((false, id)) => ShallowUpdate::Unshallow(id),
+            None => return,
+        };
+        if self.updates.push(update).is_err() {
+            self.is_cut = true;
+        }
+    }
+
+    /// What becomes of a boundary; none where the server says nothing of it.
+    pub(crate) fn over(
+        &self,
+        alloc: Global,
+        old: &[ObjectId],
+    ) -> Result<Option<Vec<ObjectId>>, Trouble> {
+        if self.is_cut {
+            return Err(Trouble::Memory);
+        }
+        if self.updates.is_empty() {
+            return Ok(None);
+        }
+        Ok(Some(new_boundary(alloc, old, &self.updates)?))
+    }
+}
+
+/// Forgets what was said.
+pub(crate) fn forget(bounds: &RefCell<Bounds>) {
+    if let Ok(mut bounds) = bounds.try_borrow_mut() {
+        bounds.updates.clear();
+        bounds.is_cut = false;
+    }
+}
+
+/// A transport that notes, of each line that is taken, what it says of the boundary. In every other way it is the transport
+/// inside.
+#[derive(Drop)]
+pub(crate) struct Bounded<'a, T> {
+    inner: T,
+    bounds: &'a RefCell<Bounds>,
+}
+
+impl<'a, T> Bounded<'a, T> {
+    /// The transport, of which is noted here.
+    pub(crate) fn new(inner: T, bounds: &'a RefCell<Bounds>) -> Bounded<'a, T>
+        ensures { result.inner ≡ inner }
+    {
+        Bounded { inner, bounds }
+    }
+}
+
+impl<T: ExtendedBufRead> Bounded<'_, T> {
+    // Notes the line that was taken.
+    fn note(&self) {
+        if let Ok(mut bounds) = self.bounds.try_borrow_mut() {
+            bounds.note(self.inner.line());
+        }
+    }
+}
+
+impl<T: ExtendedBufRead> ExtendedBufRead for Bounded<'_, T> {
+    ghost reading = { λ b. T.reading b.inner };
+
+    ghost is_plain = { T.is_plain };
+
+    ghost asks = { λ b stops k. T.asks b.inner stops k.inner };
+
+    fn next_line(&mut self) -> Result<bool, read::Error> {
+        match self.inner.next_line() {
+            Ok(true) => {
+                self.note();
+                Ok(true)
+            }
+            Ok(false) => Ok(false),
+            Err(e) => Err(e),
+        }
+    }
+
+    fn peek_line(&mut self) -> Result<bool, read::Error> {
+        self.inner.peek_line()
+    }
+
+    fn line(&self) -> &[u8] {
+        self.inner.line()
+    }
+
+    fn stopped_at(&self) -> Option<MessageKind> {
+        self.inner.stopped_at()
+    }
+
+    fn reset(&mut self, version: Protocol) {
+        self.inner.reset(version);
+    }
+
+    ghost stays = { λ b. T.stays b.inner };
+
+    ghost joins = { λ a b c stops g h. T.joins a.inner b.inner c.inner stops g h };
+}
+
+impl<T: Transport> Transport for Bounded<'_, T> {
+    fn connection_persists_across_multiple_requests(&self) -> bool {
+        self.inner.connection_persists_across_multiple_requests()
+    }
+
+    fn to_url(&self) -> BStr<'_> {
+        self.inner.to_url()
+    }
+
+    fn supported_protocol_versions(&self) -> &[Protocol] {
+        self.inner.supported_protocol_versions()
+    }
+
+    fn set_identity(&mut self, account: Account) -> Result<(), Error> {
+        self.inner.set_identity(account)
+    }
+
+    fn handshake(
+        &mut self,
+        alloc: Global,
+        service: Service,
+        extra_parameters: &[(String, Option<String>)],
+    ) -> Result<SetServiceResponse, Error> {
+        self.inner.handshake(alloc, service, extra_parameters)
+    }
+
+    fn begin_request(&mut self) -> Result<(), Error> {
+        self.inner.begin_request()
+    }
+
+    fn write_text(&mut self, line: &[u8]) -> Result<(), Error> {
+        self.inner.write_text(line)
+    }
+
+    fn write_message(&mut self, kind: MessageKind) -> Result<(), Error> {
+        self.inner.write_message(kind)
+    }
+
+    fn end_request(&mut self) -> Result<(), Error> {
+        self.inner.end_request()
+    }
+}
