@@ -134,7 +134,7 @@ def refs(answer: bytes) -> Iterator[Ref]:
 
 
 def advertised(answer: bytes) -> Iterator[Ref]:
-    """The refs of what a server of version 0 or 1 says first (gitprotocol-pack, "Reference Discovery"): of each ref line one, a tag
+    """The refs of a reference advertisement of version 0 or 1 (gitprotocol-pack, "Reference Discovery"): one for each ref line, a tag
     with the id of its peeled line. Raises GixpError after the last one unless the advertisement is whole."""
     return _read(_lib.gixp_advertised, answer)
 
