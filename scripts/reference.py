@@ -112,7 +112,7 @@ def cut(text):
 
 
 def block(text, start):
-    """The text between the braces that open behind a place."""
+    """The text between the braces that open after a place."""
     begin = text.index("{", start)
     depth = 0
     for i in range(begin, len(text)):
