@@ -11,6 +11,8 @@ mod promised;
 mod refs;
 mod remote_listing;
 mod stored;
+#[cfg(test)]
+mod tests;
 mod whole_fetch;
 
 pub use clauses::{marked_complete, read_answer, read_pack, read_spec};
