@@ -197,6 +197,7 @@ fn serve(begun: &Begun, shell: Shell) -> Result<(), Trouble> {
             address: &begun.address,
             settings: &begun.settings,
             version: version_of(&begun.rt, &begun.settings),
+            erases: begun.given.erases,
             has_failed: &begun.has_failed,
         },
         shell,
