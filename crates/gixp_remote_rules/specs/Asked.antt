@@ -2,7 +2,7 @@
 use Rattle.std.specs.Prelude.{ℕ, Bool, List, [], ◌∷◌, ◌++◌, codes, Option, Some, None}
 use Rattle.gixp_remote_rules.specs.Programs.{flag}
 use Rattle.gixp_remote_rules.specs.declared.question.Question.{Question}
-use Rattle.gixp_remote_rules.specs.declared.question.Question.TheVariants.{Settings, Places, Refs, Commits, SkipList, Time, Check, Kinds}
+use Rattle.gixp_remote_rules.specs.declared.question.Question.TheVariants.{Places, Refs, Commits, SkipList, Time, Check, Kinds}
 
 -- the commits that refs lead to (git-rev-list), each with its time and its parents
 abbrev pub commit_words : List (List ℕ)
@@ -16,7 +16,6 @@ check_words name = codes "index-pack" ∷ (codes "--strict=" ++ (name ++ codes "
 
 -- the words of a question (git-config; git-rev-parse; git-show-ref; git-index-pack, "--strict"; git-cat-file, "--batch-check")
 abbrev pub question_words : Question → List (List ℕ)
-question_words Settings = codes "config" ∷ codes "--list" ∷ codes "--null" ∷ []
 question_words Places =
     codes "rev-parse" ∷ codes "--path-format=absolute" ∷ codes "--git-path" ∷ codes "shallow" ∷ codes "--git-path" ∷ codes "objects" ∷ []
 question_words Refs = codes "show-ref" ∷ codes "--head" ∷ codes "-d" ∷ []

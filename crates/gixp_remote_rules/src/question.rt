@@ -8,11 +8,9 @@ use crate::words::{add, add_if, add_names, joined};
 use bstr::BString;
 use std::alloc::{AllocError, Global};
 
-/// What git is asked of the repository, of the user's settings and of itself.
+/// What git is asked of the repository and of itself.
 #[derive(Clone, Copy)]
 pub enum Question<'a> {
-    /// The settings.
-    Settings,
     /// Where the shallow boundary and the objects are.
     Places,
     /// What the refs hold and lead to.
@@ -75,7 +73,6 @@ pub fn question_words(alloc: Global, question: Question<'_>) -> Result<Vec<BStri
     ensures { IfOk result (λ words. map bstring_bytes words.items ≡ question_words question.entry) }
 {
     match question {
-        Question::Settings => fixed(alloc, &["config", "--list", "--null"]),
         Question::Places => fixed(
             alloc,
             &[
