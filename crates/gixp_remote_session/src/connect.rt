@@ -279,11 +279,8 @@ fn open_wire<'a>(reach: Reach<'a>, is_quiet: bool) -> Result<Wire<'a>, Trouble> 
         opening_of(reach)?,
     )?;
     let connection = Bounded::new(connection, reach.bounds);
-    Ok(Heard::new(
-        alloc,
-        connection,
-        Shown::new(reach.rt, reach.erases, reach.has_failed)?,
-    ))
+    let shown = Shown::new(reach.rt, reach.erases, reach.has_failed)?;
+    Ok(Heard::new(alloc, connection, shown))
 }
 
 // Starts the server.

@@ -1,5 +1,5 @@
 //! What one fetch is for, and what is asked of the server and offered to it.
-ghost use Rattle.std.specs.Prelude.{◌≡◌, ◌&&◌, not, IfOk, map, option_map, string_bytes};
+ghost use Rattle.std.specs.Prelude.{◌≡◌, ◌&&◌, ◌||◌, not, IfOk, map, option_map, string_bytes};
 ghost use Rattle.bstr.specs.Owned.{bstring_bytes};
 ghost use Rattle.gix_protocol.specs.Values.{mapping_value};
 ghost use Rattle.gixp_remote_session.specs.Wanted.{wanted};
@@ -125,13 +125,20 @@ fn start_listing(
     Ok(())
 }
 
-/// Who chooses the haves: none is offered where there is no commit yet, or where all is wanted again.
+// Whether commits are offered: a clone that borrows nothing has none, and none counts where all is wanted again.
+fn offers_commits(choices: &Choices, has_alternates: bool) -> bool
+    ensures { result ≡ (not choices.now.is_refetch && (not choices.now.is_cloning || has_alternates)) }
+{
+    !choices.is_refetch && (!choices.is_cloning || has_alternates)
+}
+
+/// Who chooses the haves, if any.
 pub(crate) fn haves_for(order: Order<'_, '_>, has_alternates: bool) -> Haves {
-    let choices = order.choices;
-    if choices.is_refetch || (choices.is_cloning && !has_alternates) {
-        return Haves::By(Algorithm::Noop);
+    if offers_commits(order.choices, has_alternates) {
+        haves_of(order.reach.rt, order.reach.settings)
+    } else {
+        Haves::By(Algorithm::Noop)
     }
-    haves_of(order.reach.rt, order.reach.settings)
 }
 
 /// Begins a list of the commits anew, where they are offered in its order.
