@@ -1,5 +1,5 @@
 -- Sets of ids that grow, and one that loses an id.
-use Rattle.std.proofs.Common.{◌≡◌, ◌⊎◌, inl, inr, ⊎_elim, ◌∙◌, ◌+◌, ◌<◌, ℕ, Bool, true, false, cond, List, take, get_or, length, Option, Some, refl, ap, subst}
+use Rattle.std.proofs.Common.{◌≡◌, ◌⊎◌, inl, inr, ⊎_elim, ◌∙◌, ◌+◌, ◌<◌, ℕ, Bool, true, false, cond, List, take, get_or, length, Option, Some, refl, ap, subst, sym}
 use Rattle.std.specs.Prelude.{All}
 use Rattle.std.specs.BTreeSet.{BTreeSet, contains}
 use Rattle.std.specs.FinMap as finite
@@ -47,3 +47,10 @@ removed key q old new e h = at (eq_by_cmp id_cmp key q) refl
 pub there_in : (o : Option (BTreeSet ObjectId)) (a : BTreeSet ObjectId) (q : ObjectId) → o ≡ Some a → is_awaited o q ≡ true
     → contains id_cmp a q ≡ true
 there_in o a q e h = subst (λ x. is_awaited x q ≡ true) e h
+
+pub added : (key q : ObjectId) (old new : Bool) → new ≡ cond (eq_by_cmp id_cmp key q) true old → new ≡ true → (old ≡ true) ⊎ (key ≡ q)
+added key q old new e h = at (eq_by_cmp id_cmp key q) refl
+  where
+    at : (b : Bool) → eq_by_cmp id_cmp key q ≡ b → (old ≡ true) ⊎ (key ≡ q)
+    at true s = inr (same_from key q s)
+    at false s = inl (sym (e ∙ ap (λ b. cond b true old) s) ∙ h)
