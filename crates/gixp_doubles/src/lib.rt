@@ -1,8 +1,9 @@
 //! Doubles for tests and replays: readers and writers of bytes in memory that fail at one call, a progress reporter and a
-//! negotiator that write down what they are told, and a repository whose calls are written down and made to fail.
+//! negotiator that record their calls, and a repository whose calls are recorded and made to fail.
 #![tactic(auto)]
 
 mod device;
+mod ids;
 mod objects;
 mod paper;
 mod recorder;
@@ -10,6 +11,7 @@ mod refs;
 mod told;
 
 pub use device::{Device, Pieces, next_random};
+pub use ids::{numbered_id, numbered_ids};
 pub use objects::{LentObjects, MemoryObjects};
 pub use paper::Paper;
 pub use recorder::Recorder;

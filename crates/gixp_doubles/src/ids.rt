@@ -1,0 +1,29 @@
+//! Ids of small histories.
+ghost use Rattle.std.specs.Prelude.{◌≡◌, IfOk, map};
+ghost use Rattle.gixp_doubles.specs.Ids.{numbered};
+
+use gixp_hash::ObjectId;
+use std::alloc::{AllocError, Global};
+
+/// An id for each number.
+pub fn numbered_id(number: u8) -> ObjectId
+    ensures { result ≡ numbered number }
+{
+    ObjectId {
+        bytes: [number; 20],
+    }
+}
+
+/// The ids of these numbers.
+///
+/// # Errors
+///
+/// An allocation failure.
+pub fn numbered_ids(alloc: Global, numbers: &[u8]) -> Result<Vec<ObjectId>, AllocError>
+    ensures { IfOk result (λ ids. ids.items ≡ map numbered numbers.now) }
+{
+    numbers
+        .iter()
+        .map(|number| numbered_id(*number))
+        .collect(alloc)
+}
