@@ -1,5 +1,5 @@
 -- The first line of a text, and those behind it.
-use Rattle.std.proofs.Common.{◌≡◌, ℕ, ◌-◌, ◌<◌, Bool, true, false, List, [], ◌∷◌, ◌++◌, length, take, sym, ap, refl, ◌∙◌, arith, suc}
+use Rattle.std.proofs.Common.{◌≡◌, ℕ, ◌-◌, ◌<◌, Bool, true, false, List, [], ◌∷◌, length, take, sym, ap, refl, subst, ◌∙◌, arith, suc}
 use Rattle.std.specs.Prelude.{◌≢◌, ◌==◌, ◌&&◌, if◌then◌else◌, nat_lt, slice_index, All}
 use Rattle.std.specs.Io.{StopsAt}
 use Rattle.std.specs.List.{onto_first}
@@ -85,16 +85,13 @@ stops_alike x y ys h =
       subst (λ n. All (λ z. z ≢ 10) (take n (y ∷ ys))) (sym b) (All-tail (λ z. z ≢ 10) x (take (length ys) (y ∷ ys)) all),
     )
 
+both : {A : Type 0} (b : Bool) (a : A) → (if b then a else a) ≡ a
+both true a = refl
+both false a = refl
+
 stops_through : (xs : List ℕ) → StopsAt xs 10 → (take_through 10 xs ≡ xs) × (drop_through 10 xs ≡ [])
 stops_through [] h = (refl, refl)
-stops_through (x ∷ []) h = (at (x == 10), behind (x == 10))
-  where
-    at : (b : Bool) → (if b then x ∷ [] else x ∷ []) ≡ x ∷ []
-    at true = refl
-    at false = refl
-    behind : (b : Bool) → (if b then [] else []) ≡ []
-    behind true = refl
-    behind false = refl
+stops_through (x ∷ []) h = (both (x == 10) (x ∷ []), both {A = List ℕ} (x == 10) [])
 stops_through (x ∷ y ∷ ys) h =
     let one = stops_alike x y ys h in
     let rest = stops_through (y ∷ ys) one.1 in

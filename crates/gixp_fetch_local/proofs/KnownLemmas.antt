@@ -2,7 +2,6 @@
 use Rattle.std.proofs.Common.{◌≡◌, ◌⊎◌, inl, inr, ⊎_elim, ◌∙◌, ◌+◌, ◌<◌, ℕ, Bool, true, false, cond, List, take, get_or, length, Option, Some, refl, ap, subst, sym}
 use Rattle.std.specs.Prelude.{All}
 use Rattle.std.specs.BTreeSet.{BTreeSet, contains}
-use Rattle.std.specs.FinMap as finite
 use Rattle.std.specs.Ordering.{eq_by_cmp}
 use Rattle.std.proofs.lemmas.List.Elements.{All-weaker, All-more}
 use Rattle.gixp_hash.specs.declared.object_id.ObjectId.{ObjectId}
@@ -34,7 +33,8 @@ pub known_more : (read : Objects) (common a b : BTreeSet ObjectId) (ids : List O
     → All (IsAwaitedOrKnown read common b) (take (k + 1) ids)
 known_more read common a b ids k d lt keeps h e =
     All-more (IsAwaitedOrKnown read common b) ids k d lt
-    (All-weaker (IsAwaitedOrKnown read common a) (IsAwaitedOrKnown read common b) (λ id. known_kept read common a b id keeps) (take k ids) h) e
+    (All-weaker (IsAwaitedOrKnown read common a) (IsAwaitedOrKnown read common b) (λ id. known_kept read common a b id keeps)
+    (take k ids) h) e
 
 pub removed : (key q : ObjectId) (old new : Bool) → new ≡ cond (eq_by_cmp id_cmp key q) false old → old ≡ true
     → (new ≡ true) ⊎ (key ≡ q)

@@ -1,7 +1,8 @@
 -- Lines of a text of commits, one after the other.
-use Rattle.std.proofs.Common.{◌≡◌, ◌⊎◌, inl, inr, ⊎_elim, ◌∙◌, ◌+◌, ◌-◌, ◌<◌, ◌≤◌, ℕ, ℤ, Bool, true, false, cond, zero, suc, List, [], ◌∷◌, ◌++◌, length, drop, Option, Some, None, refl, ap, subst, sym, arith, append_assoc, append-nil, true≢false}
-use Rattle.std.specs.Prelude.{All, IfSome, option_map, option_and_then, unwrap_or, is_some, slice_get}
+use Rattle.std.proofs.Common.{◌≡◌, ◌⊎◌, inl, inr, ⊎_elim, ◌∙◌, ◌+◌, ◌-◌, ◌<◌, ℕ, ℤ, Bool, true, false, cond, zero, suc, List, [], ◌∷◌, ◌++◌, length, drop, Option, Some, None, refl, ap, subst, sym, arith, append_assoc, append-nil, true≢false}
+use Rattle.std.specs.Prelude.{All, IfSome, not, option_map, option_and_then, unwrap_or, is_some, slice_get}
 use Rattle.std.specs.List.{Contains}
+use lib.Dec.{eqb}
 use Rattle.std.specs.Ordering.{eq_by_cmp}
 use Rattle.std.specs.BTreeSet.{BTreeSet, contains}
 use Rattle.std.specs.FinMap as finite
@@ -25,7 +26,6 @@ use Rattle.gixp_fetch_local.specs.declared.known.KnownCommits.{KnownCommits}
 use Rattle.gixp_fetch_local.specs.Known.{parents_of, is_awaited, KeepsIds, HasIdsOf, IsNoted, LosesNone, AreAwaitedOrKnown, AwaitsNone}
 use Rattle.gixp_fetch_local.specs.SharedCommits.{IsSharedBut, IsSharedWhole, SharesSome}
 use Rattle.gixp_fetch_local.specs.Listed.{id_in, IsNoCommit, ReadsTextLines, HasLines, IsCommonLine, ReadsCommit, IsUncommon, PassesLines, OffersCommit, OffersNothing}
-use Rattle.gixp_fetch_local.proofs.KnownLemmas.{keeps_trans}
 use Rattle.gixp_fetch_local.proofs.SpreadLemmas.{loses_none_trans}
 use Rattle.gixp_fetch_local.proofs.FirstLineLemmas.{first_line_of}
 
@@ -34,6 +34,11 @@ use Rattle.gixp_fetch_local.proofs.FirstLineLemmas.{first_line_of}
 some_first : (xs : List ℕ) → 0 < length (take_through 10 xs) → 0 < length xs
 some_first [] h = absurd (omega (arith, h))
 some_first (x ∷ xs) h = omega arith
+
+-- so many bytes were read, and not none
+pub counted : (count n m : ℕ) → not (eqb count 0) ≡ true → n ≡ m + count → 0 < n
+counted zero n m h e = absurd (true≢false (sym h))
+counted (suc k) n m h e = omega (arith, e)
 
 -- the first line is read
 pub line_read : (before after : Option (List ℕ)) (old line : List ℕ) → old ≡ [] → 0 < length line
@@ -44,7 +49,8 @@ line_read (Some xs) None old line none some is behind = absurd (none-some _ behi
 line_read (Some xs) (Some rest) old line none some is behind =
     let whole : line ≡ take_through 10 xs = is ∙ ap (λ l. l ++ take_through 10 xs) none in
     let left : rest ≡ drop_through 10 xs = cc in
-    first_line_of xs (some_first xs (subst (λ l. 0 < length l) whole some)) ∙ ap (λ l. strip_last 10 l ∷ text_lines (drop_through 10 xs)) (sym whole)
+    first_line_of xs (some_first xs (subst (λ l. 0 < length l) whole some))
+    ∙ ap (λ l. strip_last 10 l ∷ text_lines (drop_through 10 xs)) (sym whole)
     ∙ ap (λ l. strip_last 10 line ∷ text_lines l) (sym left)
 
 reads_none : (text : Option (List ℕ)) → ReadsTextLines text [] text
@@ -70,7 +76,8 @@ and_then_some : {A : Type 0} (o : Option A) (a : A) → option_and_then (λ x. S
 and_then_some None a h = absurd (none-some a h)
 and_then_some (Some x) a h = h
 
-pub after_one : (old new : Objects) (lines : List (List ℕ)) (line : List ℕ) → lines ≡ line ∷ [] → after_lines commit_line old lines ≡ Some new
+pub after_one : (old new : Objects) (lines : List (List ℕ)) (line : List ℕ) → lines ≡ line ∷ []
+    → after_lines commit_line old lines ≡ Some new
     → commit_line old line ≡ Some new
 after_one old new lines line is h = and_then_some (commit_line old line) new (subst (λ l. after_lines commit_line old l ≡ Some new) is h)
 
@@ -93,16 +100,18 @@ unread_one new lines line n is some h = at n some (subst (λ l. BeginsUnread com
         let less : suc (suc m) - 1 ≡ suc m = omega arith in
         absurd (nothing_unread new m (subst (λ j. BeginsUnread commit_line new (drop j (line ∷ []))) less k))
 
+abbrev entry : ℤ → ObjectId → List ObjectId → ObjectId × Commit
+entry t i ps = (i, record { time = t; parents = ps })
+
 -- a line without an id is no commit
 no_id : (words : List (List ℕ)) → option_and_then named_id (slice_get words 1) ≡ None → commit_of_words words ≡ None
 no_id [] h = refl
 no_id (time ∷ []) h = refl
 no_id (time ∷ word ∷ parents) h = at (seconds time)
   where
-    at : (t : Option ℤ) → option_and_then (λ t. option_and_then (λ i. option_map (λ ps. (i, record { time = t; parents = ps }))
-        (named_ids parents)) (named_id word)) t ≡ None
+    at : (t : Option ℤ) → option_and_then (λ t. option_and_then (λ i. option_map (entry t i) (named_ids parents)) (named_id word)) t ≡ None
     at None = refl
-    at (Some t) = ap (λ o. option_and_then (λ i. option_map (λ ps. (i, record { time = t; parents = ps })) (named_ids parents)) o) h
+    at (Some t) = ap (λ o. option_and_then (λ i. option_map (entry t i) (named_ids parents)) o) h
 
 pub line_without_id : (line : List ℕ) (id : Option ObjectId) → id ≡ id_in (strip_last 10 line) → id ≡ None → IsNoCommit line
 line_without_id line id is none = no_id (line_words (strip_last 10 line)) (sym is ∙ none)
@@ -117,7 +126,7 @@ added_by old new (time ∷ word ∷ parents) id h k = at (seconds time) (named_i
   where
     at : (t : Option ℤ) (ps : Option (List ObjectId)) (w : Option ObjectId) → w ≡ Some id
         → option_map (λ (e : ObjectId × Commit). with_commit old e.0 e.1)
-        (option_and_then (λ t. option_and_then (λ i. option_map (λ ps. (i, record { time = t; parents = ps })) ps) w) t) ≡ Some new
+        (option_and_then (λ t. option_and_then (λ i. option_map (entry t i) ps) w) t) ≡ Some new
         → (c : Commit) × (new ≡ with_commit old id c)
     at None ps w e g = absurd (none-some new g)
     at (Some t) ps None e g = absurd (none-some id e)
@@ -132,7 +141,7 @@ commit_added : (old new : Objects) (line : List ℕ) (id : ObjectId) → commit_
 commit_added old new line id h k = added_by old new (line_words line) id h k
 
 module _ (old : Objects) (id : ObjectId) (c : Commit) where
-  held : Object
+  abbrev held : Object
   held = record { kind = Some kind.Commit; commit = Some c }
 
   got : (q : ObjectId) → finite.get (with_commit old id c) q ≡ cond (eq_by_cmp id_cmp q id) (Some held) (finite.get old q)
@@ -188,11 +197,12 @@ commit_shared before after old new id h c s =
 -- a commit that isn't common wants no sharing
 pub shared_uncommon : (read : Objects) (common : BTreeSet ObjectId) (id : ObjectId) → contains id_cmp common id ≡ false
     → IsSharedBut read common (id ∷ []) → IsSharedWhole read common
-shared_uncommon read common id no h q k = ⊎_elim (λ has. has) (λ w. absurd (is_no w)) (h q k)
+shared_uncommon read common id lacks h q k = ⊎_elim (λ has. has) (λ w. absurd (is_no w)) (h q k)
   where
     is_no : Contains (id ∷ []) q → ⊥
-    is_no w = ⊎_elim (λ none. nothing none) (λ same. let e : contains id_cmp common id ≡ true = subst (λ x. contains id_cmp common x ≡ true) (sym same) k in
-        true≢false (sym e ∙ no)) (Contains-push_cases [] id q w)
+    is_no w = ⊎_elim (λ none. nothing none) (λ same. let e : contains id_cmp common id ≡ true = subst
+        (λ x. contains id_cmp common x ≡ true) (sym same) k in
+        true≢false (sym e ∙ lacks)) (Contains-push_cases [] id q w)
       where
         nothing : Contains [] q → ⊥
         nothing n = absurd (omega arith)
@@ -203,7 +213,7 @@ pub forget_loses : (old new : KnownCommits) (id : ObjectId) → new.read ≡ old
     → finite.contains_key old.read id ≡ true → LosesNone old new
 forget_loses old new id r c others there q n =
     let read_q : (q : ObjectId) → finite.contains_key old.read q ≡ true → IsNoted new q =
-        λ q k. inr (inr (subst (λ m. finite.contains_key m q ≡ true) (sym r) k)) in
+    λ q k. inr (inr (subst (λ m. finite.contains_key m q ≡ true) (sym r) k)) in
     ⊎_elim (λ awaits. ⊎_elim (λ still. inl still) (λ same. subst (IsNoted new) same (read_q id there)) (others q awaits))
     (λ n. ⊎_elim (λ common. inr (inl (subst (λ s. contains id_cmp s q ≡ true) (sym c) common))) (λ k. read_q q k) n) n
 
@@ -289,7 +299,8 @@ module _ (before now after : Option (List ℕ)) (old known mid new : KnownCommit
     read = reads_more before now after h.lines (r.line ∷ []) h.read r.read;
     passes = record {
       added = added_all;
-      passed = All-append (IsCommonLine new.common) h.lines (r.line ∷ []) (still_common known.common new.common keeps_all h.lines h.passes.passed)
+      passed = All-append (IsCommonLine new.common) h.lines (r.line ∷ [])
+          (still_common known.common new.common keeps_all h.lines h.passes.passed)
           (All-cons (IsCommonLine new.common) r.line [] (id, r.named, there) (All-nil (IsCommonLine new.common)));
       noted = noted_all;
       whole = whole_all k;
@@ -298,14 +309,14 @@ module _ (before now after : Option (List ℕ)) (old known mid new : KnownCommit
 
   pub offered : (IsSharedBut mid.read mid.common (id ∷ []) → IsSharedWhole new.read new.common) → IsUncommon new.common id
       → AreAwaitedOrKnown new.read new.common new.awaited (parents_of new.read id) → OffersCommit before old id after new
-  offered k no awaits = record {
+  offered k lacks awaits = record {
     earlier = h.lines;
     line = r.line;
     read = reads_more before now after h.lines (r.line ∷ []) h.read r.read;
     added = added_all;
     passed = still_common known.common new.common keeps_all h.lines h.passes.passed;
     named = r.named;
-    uncommon = no;
+    uncommon = lacks;
     awaits = awaits;
     noted = noted_all;
     whole = whole_all k;
@@ -315,7 +326,12 @@ module _ (before now after : Option (List ℕ)) (old known mid new : KnownCommit
 pub nothing_at_end : (before now : Option (List ℕ)) (old known new : KnownCommits) (left : ℕ) → PassedSoFar before old now known
     → IsAtEnd now → new ≡ known → OffersNothing before old left new
 nothing_at_end before now old known new left h e is =
-    record { lines = h.lines; passes = subst (PassesLines old h.lines) (sym is) h.passes; over = inl (reads_all before now h.lines h.read e) }
+    record {
+      lines = h.lines;
+      passes = subst (PassesLines old h.lines) (sym is) h.passes;
+      over = inl
+          (reads_all before now h.lines h.read e);
+    }
 
 -- nothing is awaited
 pub nothing_awaited : (before now : Option (List ℕ)) (old known : KnownCommits) (left : ℕ) → PassedSoFar before old now known

@@ -1,18 +1,17 @@
 -- How what the server has spreads from a commit to all that this leads to.
-use Rattle.std.proofs.Common.{◌≡◌, ◌⊎◌, inl, inr, ⊎_elim, ◌∙◌, ◌+◌, ◌<◌, ℕ, true, List, [], ◌∷◌, ◌++◌, take, drop, get_or, length, Option, Some, None, refl, subst, sym, arith, take-append-drop}
+use Rattle.std.proofs.Common.{◌≡◌, inl, inr, ⊎_elim, ◌∙◌, ◌+◌, ◌<◌, ℕ, true, List, [], ◌∷◌, ◌++◌, take, drop, get_or, length, Option, Some, None, refl, subst, sym, arith, take-append-drop}
 use Rattle.std.proofs.lemmas.List.{take_more}
 use Rattle.std.specs.Prelude.{All, option_map, unwrap_or, IsSome}
 use Rattle.std.specs.List.{Contains}
 use Rattle.std.specs.BTreeSet.{BTreeSet, contains}
-use Rattle.std.specs.FinMap as finite
 use Rattle.std.proofs.lemmas.List.Elements.{All-weaker, All-contains, All-nil, All-cons, All-append, All-contains_itself, Contains-push, Contains-push_cases, Contains-append_left, Contains-append_right}
 use Rattle.gixp_hash.specs.declared.object_id.ObjectId.{ObjectId}
 use Rattle.gixp_hash.specs.ObjectId.{id_cmp}
 use Rattle.gixp_graph.specs.Object.{Objects, Commit, commit_at}
 use Rattle.gixp_updates.specs.Ancestors.{IsAncestor, IsReachedFrom}
 use Rattle.gixp_fetch_local.specs.declared.known.KnownCommits.{KnownCommits}
-use Rattle.gixp_fetch_local.specs.Known.{parents_of, KeepsIds, HasIdsOf, IsNoted, LosesNone}
-use Rattle.gixp_fetch_local.specs.SharedCommits.{IsSharedBut, IsSharedWhole, AddsReached, AddsId, Shares, SharesSome, NotesSome, Notes, Spreads}
+use Rattle.gixp_fetch_local.specs.Known.{parents_of, KeepsIds, HasIdsOf, LosesNone}
+use Rattle.gixp_fetch_local.specs.SharedCommits.{IsSharedBut, IsSharedWhole, AddsReached, AddsId, Shares, SharesSome, NotesSome, Notes, SpreadsOn}
 use Rattle.gixp_fetch_local.proofs.KnownLemmas.{has_kept, keeps_trans}
 
 -- ---- what a commit leads to
@@ -26,7 +25,7 @@ reached_read read id w IsReachedFrom.itself there = IsAncestor.itself there
 reached_read read id w (IsReachedFrom.parent a is k) there = IsAncestor.parent a is k there
 
 some_of : {A : Type 0} (o : Option A) (a : A) → o ≡ Some a → IsSome o
-some_of o a e = subst IsSome (sym e) tt
+some_of o a e = subst IsSome (sym e) refl
 
 pub reached_parent : (read : Objects) (id w p : ObjectId) → IsReachedFrom (commit_at read) id w → Contains (parents_of read w) p
     → IsReachedFrom (commit_at read) id p
@@ -47,10 +46,16 @@ pub notes_none : (a : KnownCommits) → NotesSome a [] a
 notes_none a = record { read = refl; keeps = λ _ e. e; adds = λ _ e. inl e; noted = λ _ e. e }
 
 pub notes_none_yet : (a : KnownCommits) (waiting : List ObjectId) → Notes a waiting [] a waiting
-notes_none_yet a waiting = record { has = All-nil (λ id. contains id_cmp a.common id ≡ true); waits = λ _ e. inl e; stays = λ _ k. k; comes = λ _ k. inl k }
+notes_none_yet a waiting = record {
+  has = All-nil (λ id. contains id_cmp a.common id ≡ true);
+  waits = λ _ e. inl e;
+  stays = λ _ k. k;
+  comes = λ _ k. inl k;
+}
 
 -- some are, and then one more
-pub notes_more_some : (a b c : KnownCommits) (ids more : List ObjectId) → NotesSome a ids b → NotesSome b more c → NotesSome a (ids ++ more) c
+pub notes_more_some : (a b c : KnownCommits) (ids more : List ObjectId) → NotesSome a ids b → NotesSome b more c
+    → NotesSome a (ids ++ more) c
 notes_more_some a b c ids more h k = record {
   read = k.read ∙ h.read;
   keeps = keeps_trans _ _ _ h.keeps k.keeps;
@@ -63,7 +68,8 @@ pub notes_more : (a b c : KnownCommits) (waiting mid later ids more : List Objec
     → Notes b mid more c later → Notes a waiting (ids ++ more) c later
 notes_more a b c waiting mid later ids more s h k = record {
   has = All-append (λ id. contains id_cmp c.common id ≡ true) ids more (has_kept b.common c.common ids s.keeps h.has) k.has;
-  waits = λ q e. ⊎_elim (λ old. ⊎_elim (λ first. inl first) (λ waits. inr (k.stays q waits)) (h.waits q old)) (λ waits. inr waits) (k.waits q e);
+  waits = λ q e. ⊎_elim (λ old. ⊎_elim (λ first. inl first) (λ waits. inr (k.stays q waits)) (h.waits q old)) (λ waits. inr waits)
+      (k.waits q e);
   stays = λ q e. k.stays q (h.stays q e);
   comes = λ q e. ⊎_elim (λ before. ⊎_elim (λ first. inl first) (λ in_ids. inr (Contains-append_left ids more q in_ids)) (h.comes q before))
       (λ in_more. inr (Contains-append_right ids more q in_more)) (k.comes q e);
@@ -123,11 +129,11 @@ noted_part a b c ids k d lt s n =
 
 -- ---- what waits
 
-pub spreads_none : (read : Objects) (common : BTreeSet ObjectId) (waiting : List ObjectId) → Spreads read common waiting common waiting
+pub spreads_none : (read : Objects) (common : BTreeSet ObjectId) (waiting : List ObjectId) → SpreadsOn read common waiting common waiting
 spreads_none read common waiting = record { adds = λ _ _ q e. inl e; reached = λ _ h. h; whole = λ h. h }
 
-pub spreads_trans : (read : Objects) (a b c : BTreeSet ObjectId) (first mid later : List ObjectId) → Spreads read a first b mid
-    → Spreads read b mid c later → Spreads read a first c later
+pub spreads_trans : (read : Objects) (a b c : BTreeSet ObjectId) (first mid later : List ObjectId) → SpreadsOn read a first b mid
+    → SpreadsOn read b mid c later → SpreadsOn read a first c later
 spreads_trans read a b c first mid later h k = record {
   adds = λ id r q e. ⊎_elim (λ old. h.adds id r q old) (λ new. inr new) (k.adds id (h.reached id r) q e);
   reached = λ id r. k.reached id (h.reached id r);
@@ -155,11 +161,12 @@ adds_parents read old new id next rest n r = λ q e. ⊎_elim (λ was. inl was)
 -- the last that waits is shared: its parents are common, and wait in its place
 pub spreads_one : (read : Objects) (old new : KnownCommits) (next : ObjectId) (rest later : List ObjectId)
     → NotesSome old (parents_of read next) new → Notes old rest (parents_of read next) new later
-    → Spreads read old.common (rest ++ next ∷ []) new.common later
+    → SpreadsOn read old.common (rest ++ next ∷ []) new.common later
 spreads_one read old new next rest later n h = record {
   adds = λ id r. adds_parents read old new id next rest n r;
   reached = λ id r. All-weaker (Contains later) (IsReachedFrom (commit_at read) id)
-      (λ p k. ⊎_elim (λ before. All-contains (IsReachedFrom (commit_at read) id) (rest ++ next ∷ []) p r (Contains-append_left rest (next ∷ []) p before))
+      (λ p k. ⊎_elim (λ before. All-contains (IsReachedFrom (commit_at read) id) (rest ++ next ∷ []) p r
+      (Contains-append_left rest (next ∷ []) p before))
       (λ is. reached_parent read id next p (last_reached read id next rest r) is) (h.comes p k)) later (All-contains_itself later);
   whole = λ w q e. ⊎_elim
       (λ old_common. ⊎_elim (λ has. inl (has_kept old.common new.common (parents_of read q) n.keeps has))
@@ -171,21 +178,22 @@ spreads_one read old new next rest later n h = record {
 -- where nothing waits any longer, all is common
 pub shared_whole : (read : Objects) (common : BTreeSet ObjectId) (waiting : List ObjectId) → waiting ≡ [] → IsSharedBut read common waiting
     → IsSharedWhole read common
-shared_whole read common waiting e h = λ id k. ⊎_elim (λ has. has) (λ waits. empty_has_none id (subst (λ l. Contains l id) e waits)) (h id k)
+shared_whole read common waiting e h = λ id k. ⊎_elim (λ has. has) (λ waits. empty_has_none id (subst (λ l. Contains l id) e waits))
+    (h id k)
 
 -- one more of those that wait is shared
 pub shared_more : (read : Objects) (start : BTreeSet ObjectId) (first : List ObjectId) (old new : KnownCommits)
-    (now rest later : List ObjectId) (next : ObjectId) → old.read ≡ read → Spreads read start first old.common now
+    (now rest later : List ObjectId) (next : ObjectId) → old.read ≡ read → SpreadsOn read start first old.common now
     → now ≡ rest ++ next ∷ [] → NotesSome old (parents_of old.read next) new → Notes old rest (parents_of old.read next) new later
-    → Spreads read start first new.common later
+    → SpreadsOn read start first new.common later
 shared_more read start first old new now rest later next same h is n m =
     spreads_trans read start old.common new.common first now later h
-    (subst (λ l. Spreads read old.common l new.common later) (sym is)
+    (subst (λ l. SpreadsOn read old.common l new.common later) (sym is)
     (spreads_one read old new next rest later (subst (λ r. NotesSome old (parents_of r next) new) same n)
     (subst (λ r. Notes old rest (parents_of r next) new later) same m)))
 
 pub shared_part : (read : Objects) (start : BTreeSet ObjectId) (first : List ObjectId) (old new : KnownCommits)
-    (now rest : List ObjectId) (next : ObjectId) → old.read ≡ read → Spreads read start first old.common now → now ≡ rest ++ next ∷ []
+    (now rest : List ObjectId) (next : ObjectId) → old.read ≡ read → SpreadsOn read start first old.common now → now ≡ rest ++ next ∷ []
     → NotesSome old (parents_of old.read next) new → (id : ObjectId) → All (IsReachedFrom (commit_at read) id) first
     → AddsReached read id start new.common
 shared_part read start first old new now rest next same h is n id r = λ q e. ⊎_elim (λ was. h.adds id r q was) (λ reached. inr reached)
@@ -212,10 +220,10 @@ pub shares_some : (old mid new : KnownCommits) (id : ObjectId) (none later : Lis
     → ((i : ObjectId) → All (IsReachedFrom (commit_at mid.read) i) later → AddsReached mid.read i mid.common new.common)
     → SharesSome old id new
 shares_some old mid new id none later is n m same keeps noted adds =
-    let first : Spreads old.read old.common (id ∷ []) mid.common later =
-        spreads_one old.read old mid id [] later n (subst (λ l. Notes old l (parents_of old.read id) mid later) is m) in
+    let first : SpreadsOn old.read old.common (id ∷ []) mid.common later =
+    spreads_one old.read old mid id [] later n (subst (λ l. Notes old l (parents_of old.read id) mid later) is m) in
     let reached : All (IsReachedFrom (commit_at mid.read) id) later =
-        subst (λ r. All (IsReachedFrom (commit_at r) id) later) (sym n.read) (first.reached id (itself_reached old.read id)) in
+    subst (λ r. All (IsReachedFrom (commit_at r) id) later) (sym n.read) (first.reached id (itself_reached old.read id)) in
     record {
       read = same ∙ n.read;
       keeps = keeps_trans _ _ _ n.keeps keeps;
@@ -228,8 +236,8 @@ pub shares_all : (old mid new : KnownCommits) (id : ObjectId) (none later : List
     → NotesSome old (parents_of old.read id) mid → Notes old none (parents_of old.read id) mid later
     → KeepsIds mid.common new.common → (IsSharedBut mid.read mid.common later → IsSharedWhole new.read new.common) → Shares old id new
 shares_all old mid new id none later is n m keeps whole =
-    let first : Spreads old.read old.common (id ∷ []) mid.common later =
-        spreads_one old.read old mid id [] later n (subst (λ l. Notes old l (parents_of old.read id) mid later) is m) in
+    let first : SpreadsOn old.read old.common (id ∷ []) mid.common later =
+    spreads_one old.read old mid id [] later n (subst (λ l. Notes old l (parents_of old.read id) mid later) is m) in
     record {
       parents = has_kept mid.common new.common (parents_of old.read id) keeps m.has;
       whole = λ w. whole (subst (λ r. IsSharedBut r mid.common later) (sym n.read) (first.whole w));

@@ -42,7 +42,8 @@ abbrev pub IsCommonLine : BTreeSet ObjectId → List ℕ → Type 0
 IsCommonLine common line = (id : ObjectId) × (id_in line ≡ Some id) × (contains id_cmp common id ≡ true)
 
 -- the next commit of a text is read, and added
-pub record ReadsCommit (before : Option (List ℕ)) (old : KnownCommits) (id : ObjectId) (after : Option (List ℕ)) (new : KnownCommits) : Type 0 where
+pub record ReadsCommit (before : Option (List ℕ)) (old : KnownCommits) (id : ObjectId) (after : Option (List ℕ))
+    (new : KnownCommits) : Type 0 where
   pub line : List ℕ
   pub read : ReadsTextLines before (line ∷ []) after
   pub added : commit_line old.read line ≡ Some new.read
@@ -64,7 +65,8 @@ pub record PassesLines (old : KnownCommits) (lines : List (List ℕ)) (new : Kno
 
 -- a commit is offered: that of the first line of the text of which it isn't known that the server has it. Its parents are awaited
 -- from then on, unless they are read, or the server has them
-pub record OffersCommit (before : Option (List ℕ)) (old : KnownCommits) (id : ObjectId) (after : Option (List ℕ)) (new : KnownCommits) : Type 0 where
+pub record OffersCommit (before : Option (List ℕ)) (old : KnownCommits) (id : ObjectId) (after : Option (List ℕ))
+    (new : KnownCommits) : Type 0 where
   pub earlier : List (List ℕ)
   pub line : List ℕ
   pub read : ReadsTextLines before (earlier ++ line ∷ []) after

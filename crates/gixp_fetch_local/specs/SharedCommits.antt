@@ -57,7 +57,8 @@ pub record Notes (old : KnownCommits) (waiting ids : List ObjectId) (new : Known
 
 -- what waits spreads: nothing becomes common but what it leads to, and no parents of what is common are left but those of what
 -- waits later
-pub record Spreads (read : Objects) (old : BTreeSet ObjectId) (waiting : List ObjectId) (new : BTreeSet ObjectId) (later : List ObjectId) : Type 0 where
+pub record SpreadsOn (read : Objects) (old : BTreeSet ObjectId) (waiting : List ObjectId) (new : BTreeSet ObjectId)
+    (later : List ObjectId) : Type 0 where
   pub adds : (id : ObjectId) → All (IsReachedFrom (commit_at read) id) waiting → AddsReached read id old new
   pub reached : (id : ObjectId) → All (IsReachedFrom (commit_at read) id) waiting → All (IsReachedFrom (commit_at read) id) later
   pub whole : IsSharedBut read old waiting → IsSharedBut read new later

@@ -83,7 +83,8 @@ impl<R: BufRead> CommitText<R> {
         ensures named { text_lines self.old.line.items ≡ strip_last 10 self.old.line.items ∷ []
             → IfOk result (λ id. IfSome id (λ id. id_in (strip_last 10 self.old.line.items) ≡ Some id)) }
         ensures added { text_lines self.old.line.items ≡ strip_last 10 self.old.line.items ∷ []
-            → IfOk result (λ id. OnSome id (commit_line self.old.known.read (strip_last 10 self.old.line.items) ≡ Some self.new.known.read)) }
+            → IfOk result (λ id. OnSome id (commit_line self.old.known.read (strip_last 10 self.old.line.items)
+            ≡ Some self.new.known.read)) }
         ensures none { text_lines self.old.line.items ≡ strip_last 10 self.old.line.items ∷ []
             → IfOk result (λ id. IfNone id (IsNoCommit self.old.line.items)) }
         ensures text { self.new.text ≡ self.old.text }
@@ -319,7 +320,7 @@ impl<R: BufRead> Negotiator for ListedCommits<R> {
 
     ghost offer_lowers = { λ n g id m h r. r.0.1 };
 
-    ghost none_keeps = { λ n g m h r. r.0 };
+    ghost none_keeps = { λ n g m h r. r.0.1 };
 
     ghost learning_keeps = { λ n g id m h r. Prim.omega (arith, r.0.left) };
 }

@@ -1,7 +1,7 @@
 -- What waited spread to what waits now.
 use Rattle.std.proofs.Common.{◌≡◌}
 use Rattle.gixp_fetch_local.specs.Known.{KeepsIds, LosesNone}
-use Rattle.gixp_fetch_local.specs.SharedCommits.{Spreads}
+use Rattle.gixp_fetch_local.specs.SharedCommits.{SpreadsOn}
 use Rattle.gixp_fetch_local.proofs.known.KnownCommits.share_waiting.Given as goal
 
 abbrev pub invariant-waiting : goal.invariant-waiting
@@ -9,5 +9,5 @@ invariant-waiting l = record {
   read : l.self.read ≡ l.fn.self.read;
   keeps : KeepsIds l.fn.self.common l.self.common;
   noted : LosesNone l.fn.self l.self;
-  spreads : Spreads l.fn.self.read l.fn.self.common l.fn.waiting.items l.self.common l.waiting.items;
+  spreads : SpreadsOn l.fn.self.read l.fn.self.common l.fn.waiting.items l.self.common l.waiting.items;
 }
