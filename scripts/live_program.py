@@ -114,6 +114,41 @@ def command_lines(name, t):
         t.check(f"{name}: {' '.join(given)}", status == wanted and told, f"{status} {err}")
 
 
+def objects_in(t, room, repository):
+    """The objects of a pack, in a repository that has nothing else."""
+    t.git("init", "-q", "--bare", repository)
+    t.git("index-pack", "--stdin", "--promisor", given=(room / "pack").read_bytes(), at=repository)
+    return objects_of(t, repository)
+
+
+def objects_of(t, repository):
+    return sorted(t.git("cat-file", "--batch-all-objects", "--batch-check", at=repository).splitlines())
+
+
+def filters(name, t):
+    """What a filter leaves out, beside `git fetch-pack`; a server that has no filters."""
+    server = make(t, "server", 30)
+    specs = ["refs/heads/main:refs/x/main"]
+    whole = objects_of(t, server)
+    t.git("config", "uploadpack.allowFilter", "true", at=server)
+    for spec in ("blob:none", "blob:limit=1k", "tree:0", "tree:1", "object:type=commit", "combine:blob:none+tree:2"):
+        client = t.folder("client")
+        t.git("init", "-q", "--bare", client)
+        t.git("fetch-pack", "-q", f"--filter={spec}", f"file://{server}", "refs/heads/main", at=client)
+        status, out, err, room = fetch_pack(t, f'git upload-pack "{server}"', "--filter", spec, specs=specs)
+        wanted, found = objects_of(t, client), objects_in(t, room, t.folder("packed")) if status == 0 else []
+        t.check(f"{name}: {spec}", found == wanted, f"{status} {err} {len(found)} objects, git has {len(wanted)}")
+    status, out, err, room = fetch_pack(t, f'git upload-pack "{server}"', "--filter=nonsense", specs=specs)
+    # upload-pack ends, and says why on its own standard error
+    is_told = err == "fatal: the remote end hung up unexpectedly\n"
+    t.check(f"{name}: one that the server doesn't know", status == 1 and is_told and not left_in(room), f"{status} {err}")
+    t.git("config", "uploadpack.allowFilter", "false", at=server)
+    status, out, err, room = fetch_pack(t, f'git upload-pack "{server}"', "--filter=blob:none", specs=specs)
+    is_told = "warning: filtering not recognized by server, ignoring\n" in err
+    found = objects_in(t, room, t.folder("packed")) if status == 0 else []
+    t.check(f"{name}: a server without filters", is_told and found == whole, f"{status} {err} {len(found)}, {len(whole)}")
+
+
 def unreadable_texts(name, t):
     """Texts of the repository that aren't readable, by the number of their line."""
     server, room = make(t, "server", 3), t.folder("texts")
@@ -330,7 +365,7 @@ def refuses(name, t):
 def try_program(t):
     for name, action in (
         ("list: commits one by one", lists_lazily), ("list: ends where both sides have a commit", ends_at_common),
-        ("asks for objects", asks),
+        ("asks for objects", asks), ("filters", filters),
         ("words", command_lines), ("texts", unreadable_texts), ("reports", reports),
         ("a boundary that can't be written", unwritten_boundary), ("what becomes of refs", modes), ("errors", refuses),
         ("a server that dies", dies), ("a pack with a byte changed", spoiled_pack),

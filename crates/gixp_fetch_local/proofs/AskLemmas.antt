@@ -1,6 +1,7 @@
 -- Questions about objects, and their answers, one after the other.
-use Rattle.std.proofs.Common.{◌≡◌, ℕ, Bool, true, false, ◌+◌, ◌-◌, ◌^◌, ◌≤◌, ◌<◌, zero, suc, min, take, drop, get_or, List, [], ◌∷◌, ◌++◌, length, Option, Some, None, IfSome, is_some, option_and_then, true≢false, refl, sym, ap, ◌∙◌, append_assoc, append-nil, subst, length-append, arith}
-use Rattle.std.specs.Prelude.{◌||◌, flat_map, unwrap_or}
+use Rattle.std.proofs.Common.{◌≡◌, ℕ, Bool, true, false, ◌+◌, ◌-◌, ◌^◌, ◌<◌, zero, suc, min, take, drop, get_or, List, [], ◌∷◌, ◌++◌, length, Option, Some, None, IfSome, is_some, option_and_then, true≢false, refl, sym, ap, ◌∙◌, append_assoc, append-nil, subst, length-append, arith}
+use Rattle.std.specs.Prelude.{◌||◌, flat_map, unwrap_or, Result, Ok, Err, IfErr}
+use Rattle.std.specs.Result.{IsErrAnd}
 use Rattle.std.specs.List.{list_any}
 use Rattle.std.specs.BTreeSet.{BTreeSet, contains}
 use Rattle.std.specs.Io.KnownBytes.{Appends, Consumes}
@@ -18,6 +19,11 @@ use Rattle.gixp_fetch_local.specs.AnswersIds.{names_id, AddsIds, question, quest
 use Rattle.gixp_fetch_local.specs.Unanswered.{line_number, IsNoAnswer, HearFails, AskFails}
 use Rattle.gixp_fetch_local.specs.declared.ask.AskError.{AskError}
 use Rattle.gixp_fetch_local.specs.declared.ask.AskError.TheVariants.{Ask, Answer, Line, Memory}
+
+-- an error is passed on as it is
+pub passed_on : {A E : Type 0} (r : Result A E) (e : E) (Q : E → Type 0) → IsErrAnd r (λ x. x ≡ e) → Q e → IfErr r Q
+passed_on (Ok a) e Q h k = tt
+passed_on (Err x) e Q h k = subst Q (sym h) k
 
 or_none : (a : Bool) → (a || false) ≡ a
 or_none true = refl
@@ -58,7 +64,12 @@ pub answered_one : (id : ObjectId) (line : List ℕ) (old new : Objects) (before
     → IfSome (answer_to id line) (λ kind. new ≡ with_answer old id kind) → is_some (answer_to id line) ≡ true
     → AnswersIds (id ∷ []) old new before after
 answered_one id line old new before after read h k =
-    record { lines = line ∷ []; read = subst (Consumes before after) (sym (append-nil line)) read; told = told_one old new id (answer_to id line) h k }
+    record {
+      lines = line ∷ [];
+      read = subst (Consumes before after) (sym (append-nil line)) read;
+      told = told_one old new id
+          (answer_to id line) h k;
+    }
 
 pub answered_none : (objects : Objects) (heard : Option (List ℕ)) → AnswersIds [] objects objects heard heard
 answered_none objects heard = record { lines = []; read = Consumes-nil heard; told = refl }
@@ -152,7 +163,8 @@ later_unanswered lines lines' number ids done rest more old mid new a b c first 
     at_end x y z h = omega (arith, h)
 
 -- the answers so far, and then a call that fails
-pub hear_fails_more : (lines lines' : ℕ) (ids done rest more : List ObjectId) (old mid new : Objects) (a b c : Option (List ℕ)) (e : AskError)
+pub hear_fails_more : (lines lines' : ℕ) (ids done rest more : List ObjectId) (old mid new : Objects) (a b c : Option (List ℕ))
+    (e : AskError)
     → AnswersIds done old mid a b → lines' ≡ line_number lines (length done) → HearFails lines' rest mid new b c e
     → ids ≡ done ++ (rest ++ more) → HearFails lines ids old new a c e
 hear_fails_more lines lines' ids done rest more old mid new a b c (Line number) first count next whole =
@@ -174,7 +186,8 @@ split_at_one (suc k) [] d h = absurd (omega (arith, h))
 split_at_one (suc k) (id ∷ ids) d h = ap (λ l. id ∷ l) (split_at_one k ids d (omega (arith, h)))
 
 -- the answers to the first ids, and then a call for the next that fails
-pub hear_fails_at : (lines lines' k : ℕ) (ids : List ObjectId) (d : ObjectId) (old mid new : Objects) (a b c : Option (List ℕ)) (e : AskError)
+pub hear_fails_at : (lines lines' k : ℕ) (ids : List ObjectId) (d : ObjectId) (old mid new : Objects) (a b c : Option (List ℕ))
+    (e : AskError)
     → k < length ids → AnswersIds (take k ids) old mid a b → lines' ≡ line_number lines k
     → HearFails lines' (get_or ids k d ∷ []) mid new b c e → HearFails lines ids old new a c e
 hear_fails_at lines lines' k ids d old mid new a b c e h first count next =
@@ -184,7 +197,8 @@ hear_fails_at lines lines' k ids d old mid new a b c e h first count next =
 -- ---- questions and their answers
 
 -- some of the ids were asked for and answered, and the rest is left
-pub record AskedSoFar (ids left : List ObjectId) (old now : Objects) (asked asked' heard heard' : Option (List ℕ)) (lines lines' : ℕ) : Type 0 where
+pub record AskedSoFar (ids left : List ObjectId) (old now : Objects) (asked asked' heard heard' : Option (List ℕ))
+    (lines lines' : ℕ) : Type 0 where
   pub done : List ObjectId
   pub whole : ids ≡ done ++ left
   pub asks : Appends asked asked' (questions done)
@@ -210,7 +224,8 @@ asked_more ids left few later old now new asked asked' asked'' heard heard' hear
           ∙ ap (line_number lines) (sym (length-append h.done few));
     }
 
-pub some_more : (ids left few later : List ObjectId) (old now new : Objects) (asked asked' heard heard' : Option (List ℕ)) (lines lines' : ℕ)
+pub some_more : (ids left few later : List ObjectId) (old now new : Objects) (asked asked' heard heard' : Option (List ℕ))
+    (lines lines' : ℕ)
     → AskedSoFar ids left old now asked asked' heard heard' lines lines' → left ≡ few ++ later → AnswersSome few now new
     → AnswersSome ids old new
 some_more ids left few later old now new asked asked' heard heard' lines lines' h e s =

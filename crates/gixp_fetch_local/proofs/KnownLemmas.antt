@@ -1,8 +1,7 @@
 -- Sets of ids that grow, and one that loses an id.
-use Rattle.std.proofs.Common.{◌≡◌, ◌⊎◌, inl, inr, ⊎_elim, ◌∙◌, ◌+◌, ◌<◌, ℕ, Bool, true, false, cond, List, take, get_or, length, Option, Some, refl, ap, subst}
+use Rattle.std.proofs.Common.{◌≡◌, ◌⊎◌, inl, inr, ⊎_elim, ◌∙◌, ◌+◌, ◌<◌, ℕ, Bool, true, false, cond, List, take, get_or, length, Option, Some, refl, ap, subst, sym}
 use Rattle.std.specs.Prelude.{All}
 use Rattle.std.specs.BTreeSet.{BTreeSet, contains}
-use Rattle.std.specs.FinMap as finite
 use Rattle.std.specs.Ordering.{eq_by_cmp}
 use Rattle.std.proofs.lemmas.List.Elements.{All-weaker, All-more}
 use Rattle.gixp_hash.specs.declared.object_id.ObjectId.{ObjectId}
@@ -34,7 +33,8 @@ pub known_more : (read : Objects) (common a b : BTreeSet ObjectId) (ids : List O
     → All (IsAwaitedOrKnown read common b) (take (k + 1) ids)
 known_more read common a b ids k d lt keeps h e =
     All-more (IsAwaitedOrKnown read common b) ids k d lt
-    (All-weaker (IsAwaitedOrKnown read common a) (IsAwaitedOrKnown read common b) (λ id. known_kept read common a b id keeps) (take k ids) h) e
+    (All-weaker (IsAwaitedOrKnown read common a) (IsAwaitedOrKnown read common b) (λ id. known_kept read common a b id keeps)
+    (take k ids) h) e
 
 pub removed : (key q : ObjectId) (old new : Bool) → new ≡ cond (eq_by_cmp id_cmp key q) false old → old ≡ true
     → (new ≡ true) ⊎ (key ≡ q)
@@ -47,3 +47,10 @@ removed key q old new e h = at (eq_by_cmp id_cmp key q) refl
 pub there_in : (o : Option (BTreeSet ObjectId)) (a : BTreeSet ObjectId) (q : ObjectId) → o ≡ Some a → is_awaited o q ≡ true
     → contains id_cmp a q ≡ true
 there_in o a q e h = subst (λ x. is_awaited x q ≡ true) e h
+
+pub added : (key q : ObjectId) (old new : Bool) → new ≡ cond (eq_by_cmp id_cmp key q) true old → new ≡ true → (old ≡ true) ⊎ (key ≡ q)
+added key q old new e h = at (eq_by_cmp id_cmp key q) refl
+  where
+    at : (b : Bool) → eq_by_cmp id_cmp key q ≡ b → (old ≡ true) ⊎ (key ≡ q)
+    at true s = inr (same_from key q s)
+    at false s = inl (sym (e ∙ ap (λ b. cond b true old) s) ∙ h)

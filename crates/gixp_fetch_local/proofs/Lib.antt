@@ -2,5 +2,7 @@ mod AskLemmas
 mod LineLemmas
 mod OptionLemmas
 mod PackLemmas
-mod TextLemmas
 mod KnownLemmas
+mod FirstLineLemmas
+mod SpreadLemmas
+mod ListedLemmas

@@ -53,6 +53,10 @@ conflicts_by_cut two true false h k = absurd (cc)
 pub no_conflict : (two c x : Bool) → two ≡ false → (c && x) ≡ false → (two || (c && x)) ≡ false
 no_conflict two c x h k = rw (h, k) refl
 
+pub ruleset two_extents = (not_both, two_of_all, two_of_none, two_of_counted)
+
+pub ruleset conflicts = (conflicts_by_two, conflicts_by_cut, no_conflict)
+
 -- a line of which these options aren't there
 pub by_cut : (line : LineParts) (wanted : ShallowValue) → has_conflict line ≡ false → has line (codes "--depth") ≡ false
     → has line (codes "--deepen") ≡ false → has line (codes "--unshallow") ≡ false → CutsHistory line wanted → AsksHistory line wanted

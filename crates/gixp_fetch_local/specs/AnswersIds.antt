@@ -7,7 +7,6 @@ use Rattle.std.specs.BTreeSet.{BTreeSet, contains}
 use Rattle.gixp_hash.specs.Hex.{encode_lower}
 use Rattle.gixp_hash.specs.declared.object_id.ObjectId.{ObjectId}
 use Rattle.gixp_hash.specs.ObjectId.{id_cmp}
-use Rattle.gixp_graph.specs.declared.objects.ObjectKind.{ObjectKind}
 use Rattle.gixp_graph.specs.Object.{Objects}
 use Rattle.gixp_memory.specs.Repository.{answer_to, with_answer}
 use Rattle.gixp_refmap.specs.declared.refmap.mapping.Mapping.{Mapping}
@@ -40,7 +39,8 @@ questions ids = flat_map question ids
 -- objects with what the answers to these ids tell, one line each, in the order of the ids
 abbrev pub with_answers : Objects → List ObjectId → List (List ℕ) → Option Objects
 with_answers objects [] [] = Some objects
-with_answers objects (id ∷ ids) (line ∷ lines) = option_and_then (λ kind. with_answers (with_answer objects id kind) ids lines) (answer_to id line)
+with_answers objects (id ∷ ids) (line ∷ lines) = option_and_then (λ kind. with_answers (with_answer objects id kind) ids lines)
+    (answer_to id line)
 with_answers objects _ _ = None
 
 -- the answers to these ids were read, and what they tell was added

@@ -5,6 +5,7 @@ use Rattle.std.specs.FinMap as finite
 use Rattle.gixp_hash.specs.declared.object_id.ObjectId.{ObjectId}
 use Rattle.gixp_hash.specs.ObjectId.{id_cmp}
 use Rattle.gixp_graph.specs.Object.{Objects, Commit, commit_at}
+use Rattle.gixp_fetch_local.specs.declared.known.KnownCommits.{KnownCommits}
 
 -- the parents of a commit, none where it isn't read
 abbrev pub parents_of : Objects → ObjectId → List ObjectId
@@ -36,3 +37,12 @@ IsAwaitedOrKnown read common awaited id = (contains id_cmp awaited id ≡ true)
 abbrev pub AreAwaitedOrKnown : Objects → BTreeSet ObjectId → Option (BTreeSet ObjectId) → List ObjectId → Type 0
 AreAwaitedOrKnown read common None ids = Unit {0}
 AreAwaitedOrKnown read common (Some awaited) ids = All (IsAwaitedOrKnown read common awaited) ids
+
+-- a commit is awaited, or the server has it, or it is read
+abbrev pub IsNoted : KnownCommits → ObjectId → Type 0
+IsNoted known id = (is_awaited known.awaited id ≡ true)
+    ⊎ ((contains id_cmp known.common id ≡ true) ⊎ (finite.contains_key known.read id ≡ true))
+
+-- whatever was one of these still is: so where nothing is awaited any longer, each tip is read, or the server has it
+abbrev pub LosesNone : KnownCommits → KnownCommits → Type 0
+LosesNone old new = (id : ObjectId) → IsNoted old id → IsNoted new id

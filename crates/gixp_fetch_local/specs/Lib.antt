@@ -12,4 +12,5 @@ pub mod Refusals
 pub mod Screened
 pub mod Unshallowed
 pub mod Known
+pub mod SharedCommits
 pub mod Listed

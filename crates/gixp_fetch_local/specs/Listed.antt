@@ -1,38 +1,97 @@
 -- A negotiator that offers the commits of a text, in its order.
-use Rattle.std.specs.Prelude.{◌≡◌, ◌<◌, ◌≤◌, ◌⊎◌, ℕ, List, [], ◌∷◌, ◌++◌, Option, Some, None, true, false, slice_get, option_and_then, Ok, Err}
+use Rattle.std.specs.Prelude.{◌≡◌, ◌<◌, ◌≤◌, ◌⊎◌, ℕ, List, [], ◌∷◌, ◌++◌, Option, Some, None, true, false, All, IfSome, slice_get, option_and_then}
 use Rattle.std.specs.BTreeSet.{BTreeSet, contains}
-use Rattle.std.specs.Io.KnownBytes.{Consumes}
+use Rattle.std.specs.Io.BufRead.{strip_last}
 use Rattle.gixp_hash.specs.declared.object_id.ObjectId.{ObjectId}
 use Rattle.gixp_hash.specs.ObjectId.{id_cmp}
-use Rattle.gixp_graph.specs.Object.{Objects}
 use Rattle.gixp_graph.specs.declared.negotiator.NegotiatorError.{NegotiatorError}
 use Rattle.gixp_graph.specs.declared.negotiator.NegotiatorError.TheVariants.{Lookup, Memory as NoMemory}
 use Rattle.gixp_graph.specs.declared.objects.ObjectError.TheVariants.{Corrupt, Io}
-use Rattle.gixp_memory.specs.Text.{FillsByText}
-use Rattle.gixp_text.specs.Lines.{line_words}
-use Rattle.gixp_memory.specs.Repository.{named_id, commit_line}
-use Rattle.gixp_memory.specs.declared.texts.TextError.TheVariants as text
+use Rattle.gixp_text.specs.Lines.{text_lines, line_words}
+use Rattle.gixp_memory.specs.Text.{after_lines}
+use Rattle.gixp_memory.specs.Repository.{named_id, commit_of_words, commit_line}
 use Rattle.gixp_fetch_local.specs.declared.listed.Refusal.{Refusal}
 use Rattle.gixp_fetch_local.specs.declared.listed.Refusal.TheVariants.{Read, Line}
 use Rattle.gixp_fetch_local.specs.declared.listed.CommitText.{CommitText}
 use Rattle.gixp_fetch_local.specs.declared.known.KnownCommits.{KnownCommits}
-use Rattle.gixp_fetch_local.specs.Known.{parents_of, AreAwaitedOrKnown}
+use Rattle.gixp_fetch_local.specs.Known.{parents_of, AreAwaitedOrKnown, AwaitsNone, LosesNone}
+use Rattle.gixp_fetch_local.specs.SharedCommits.{IsSharedWhole}
+
+-- ---- lines
 
 -- the id of a line of `git rev-list --timestamp --parents`: its second word
 abbrev pub id_in : List ℕ → Option ObjectId
 id_in line = option_and_then named_id (slice_get (line_words line) 1)
 
--- a line is no commit
+-- a line, with its end or without, is no commit
 abbrev pub IsNoCommit : List ℕ → Type 0
-IsNoCommit line = (id_in line ≡ None) ⊎ ((old new : Objects) × (n : ℕ) × FillsByText commit_line old line new (Err (text.Line n)))
+IsNoCommit line = commit_of_words (line_words (strip_last 10 line)) ≡ None
 
--- a line was read, whose end isn't part of it
-abbrev pub ReadsTextLine : Option (List ℕ) → List ℕ → Option (List ℕ) → Type 0
-ReadsTextLine before line after = (end : List ℕ) × Consumes before after (line ++ end)
+-- the first lines of a text were read, and the others are left
+abbrev pub ReadsTextLines : (before : Option (List ℕ)) → List (List ℕ) → (after : Option (List ℕ)) → Type 0
+ReadsTextLines None lines after = Unit {0}
+ReadsTextLines (Some text) lines None = ⊥
+ReadsTextLines (Some text) lines (Some rest) = text_lines text ≡ lines ++ text_lines rest
+
+-- a text has these lines, and no more
+abbrev pub HasLines : Option (List ℕ) → List (List ℕ) → Type 0
+HasLines text lines = IfSome text (λ bytes. text_lines bytes ≡ lines)
+
+-- a line is that of a commit that the server has
+abbrev pub IsCommonLine : BTreeSet ObjectId → List ℕ → Type 0
+IsCommonLine common line = (id : ObjectId) × (id_in line ≡ Some id) × (contains id_cmp common id ≡ true)
+
+-- the next commit of a text is read, and added
+pub record ReadsCommit (before : Option (List ℕ)) (old : KnownCommits) (id : ObjectId) (after : Option (List ℕ))
+    (new : KnownCommits) : Type 0 where
+  pub line : List ℕ
+  pub read : ReadsTextLines before (line ∷ []) after
+  pub added : commit_line old.read line ≡ Some new.read
+  pub named : id_in line ≡ Some id
+
+-- ---- what is offered
 
 -- it isn't known that the server has this commit
 abbrev pub IsUncommon : BTreeSet ObjectId → ObjectId → Type 0
 IsUncommon common id = contains id_cmp common id ≡ false
+
+-- lines were passed over: what they add was added, and the server has the commits that they name. Nothing that was awaited is
+-- forgotten, and with each commit the server still has all that it leads to
+pub record PassesLines (old : KnownCommits) (lines : List (List ℕ)) (new : KnownCommits) : Type 0 where
+  pub added : after_lines commit_line old.read lines ≡ Some new.read
+  pub passed : All (IsCommonLine new.common) lines
+  pub noted : LosesNone old new
+  pub whole : IsSharedWhole old.read old.common → IsSharedWhole new.read new.common
+
+-- a commit is offered: that of the first line of the text of which it isn't known that the server has it. Its parents are awaited
+-- from then on, unless they are read, or the server has them
+pub record OffersCommit (before : Option (List ℕ)) (old : KnownCommits) (id : ObjectId) (after : Option (List ℕ))
+    (new : KnownCommits) : Type 0 where
+  pub earlier : List (List ℕ)
+  pub line : List ℕ
+  pub read : ReadsTextLines before (earlier ++ line ∷ []) after
+  pub added : after_lines commit_line old.read (earlier ++ line ∷ []) ≡ Some new.read
+  pub passed : All (IsCommonLine new.common) earlier
+  pub named : id_in line ≡ Some id
+  pub uncommon : IsUncommon new.common id
+  pub awaits : AreAwaitedOrKnown new.read new.common new.awaited (parents_of new.read id)
+  pub noted : LosesNone old new
+  pub whole : IsSharedWhole old.read old.common → IsSharedWhole new.read new.common
+
+-- nothing is offered: the text has no line but those that were passed over, or nothing is awaited any longer. (Or more lines were
+-- read than are counted.)
+pub record OffersNothing (before : Option (List ℕ)) (old : KnownCommits) (left : ℕ) (new : KnownCommits) : Type 0 where
+  pub lines : List (List ℕ)
+  pub passes : PassesLines old lines new
+  pub over : HasLines before lines ⊎ (AwaitsNone new.awaited ⊎ (left ≡ 0))
+
+-- what a call for an offer does where it doesn't fail
+abbrev pub OffersNext : {R : Type 0} → (R → Option (List ℕ)) → CommitText R → Option ObjectId → CommitText R → Type 0
+OffersNext remaining old (Some id) new =
+    OffersCommit (remaining old.text) old.known id (remaining new.text) new.known × (new.left < old.left)
+OffersNext remaining old None new = OffersNothing (remaining old.text) old.known new.left new.known × (new.left ≤ old.left)
+
+-- ---- refusals
 
 -- as what a refusal is told: an error of the text by its kind, a line that is no commit as an object that can't be read
 abbrev pub told_as : Refusal → NegotiatorError
@@ -49,23 +108,10 @@ IsToldAs line lines e (Some (Line number)) = (e ≡ told_as (Line number)) × (n
 abbrev pub ListedOfferFails : (line : List ℕ) (lines : ℕ) → Option Refusal → NegotiatorError → Option Refusal → Type 0
 ListedOfferFails line lines old e new = ((e ≡ NoMemory) × (new ≡ old)) ⊎ IsToldAs line lines e new
 
--- a commit is offered: that of the line that was read last, of which it isn't known that the server has it. Its parents are awaited
--- from then on, unless they are read, or the server has them
-pub record OffersLine (line : List ℕ) (id : ObjectId) (known : KnownCommits) : Type 0 where
-  pub named : id_in line ≡ Some id
-  pub uncommon : IsUncommon known.common id
-  pub awaits : AreAwaitedOrKnown known.read known.common known.awaited (parents_of known.read id)
-
--- the text and how far it was read stay, and so do the commits that were read
+-- the text and how far it was read stay
 pub record KeepsCommitText {R : Type 0} (old new : CommitText R) : Type 0 where
   pub text : new.text ≡ old.text
   pub line : new.line ≡ old.line
   pub lines : new.lines ≡ old.lines
   pub left : new.left ≡ old.left
-  pub read : new.known.read ≡ old.known.read
   pub refusal : new.refusal ≡ old.refusal
-
--- what a call for an offer does where it doesn't fail
-abbrev pub OffersNext : {R : Type 0} → CommitText R → Option ObjectId → CommitText R → Type 0
-OffersNext old (Some id) new = OffersLine new.line.items id new.known × (new.left < old.left)
-OffersNext old None new = new.left ≤ old.left

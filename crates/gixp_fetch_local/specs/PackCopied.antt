@@ -44,7 +44,8 @@ pub record ShownAfter (old : Option (List ℕ)) (start end : Side) : Type 0 wher
   pub copied : CopiedNext old start read mid now
   pub shows : ShowsContent now end
 
--- all content was written, and is a whole pack; or it is none, for this reason; or the reader refused, a write failed or an allocation after some
+-- all content was written, and is a whole pack; or it is none, for this reason; or the reader refused, a write failed or an
+-- allocation after some
 abbrev pub ChecksPack : Option (List ℕ) → Side → Result PackSummary StreamError → Option (List ℕ) → Side → Type 0
 ChecksPack old start (Ok summary) new end = (read : List ℕ) × CopiedAll old start read new end × (pack_of read ≡ Ok summary)
 ChecksPack old start (Err (Pack e)) new end = (read : List ℕ) × CopiedAll old start read new end × (pack_of read ≡ Err e)

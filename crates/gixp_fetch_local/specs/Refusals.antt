@@ -1,5 +1,5 @@
 -- Why a command line is refused.
-use Rattle.std.specs.Prelude.{◌≡◌, ◌⊎◌, ◌&&◌, ◌||◌, ℕ, ℤ, ⊤, Bool, true, false, not, List, [], ◌∷◌, codes, Option, Some, None, Result, Ok, Err, slice_get}
+use Rattle.std.specs.Prelude.{◌≡◌, ◌&&◌, ◌||◌, ℕ, ℤ, ⊤, Bool, true, false, not, List, [], ◌∷◌, codes, Some, None, Result, Ok, Err, slice_get}
 use Rattle.std.specs.Str.{bytes_eq}
 use Rattle.gixp_refspec.specs.Name.{is_partial_name}
 use Rattle.gixp_fetch_local.specs.declared.options.Haves.{Haves}

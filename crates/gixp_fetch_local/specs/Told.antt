@@ -18,13 +18,11 @@ use Rattle.gixp_refmap.specs.Mapping.{source_id, source_name}
 use Rattle.gixp_refs.specs.declared.handshake.Ref.{Ref}
 use Rattle.gixp_refs.specs.Ref.{RefValue, peeled, direct, symbolic, unborn, ref_value}
 use Rattle.gixp_pack.specs.declared.check.PackSummary.{PackSummary}
+use Rattle.gixp_text.specs.Pieces.{joined}
+use Rattle.gixp_listing.specs.MappingNames.{name_shown}
 use Rattle.gixp_fetch_local.specs.declared.change.Change.{Change}
 use Rattle.gixp_fetch_local.specs.declared.change.Change.TheVariants.{New, FastForward, Forced, Same, Refused}
 use Rattle.gixp_fetch_local.specs.Changes.{change_in}
-
--- texts one after the other
-abbrev pub together : List (List ℕ) → List ℕ
-together texts = flat_map (λ (text : List ℕ). text) texts
 
 -- a mapping is that of a refspec, or of a tag that may follow
 abbrev pub word_told : SpecIndex → List ℕ
@@ -34,11 +32,6 @@ word_told (Implicit index) = codes "tag "
 abbrev pub id_told : Option ObjectId → List ℕ
 id_told (Some id) = encode_lower id.bytes
 id_told None = codes "unborn"
-
--- a name, or a dash where there is none
-abbrev pub name_told : Option (List ℕ) → List ℕ
-name_told (Some name) = name
-name_told None = codes "-"
 
 -- what becomes of a local ref, where it is known
 abbrev pub change_told : Option Change → List ℕ
@@ -52,8 +45,8 @@ change_told None = []
 -- a mapping: what becomes of its local ref, what is taken, its name, and the local name
 abbrev pub mapping_told : Option Change → Mapping → List ℕ
 mapping_told change m =
-    change_told change ++ together (word_told m.spec_index ∷ id_told (source_id m.remote) ∷ codes " " ∷ name_told (source_name m.remote)
-    ∷ codes " " ∷ name_told (option_map bstring_bytes m.local) ∷ codes "\n" ∷ [])
+    change_told change ++ joined (word_told m.spec_index ∷ id_told (source_id m.remote) ∷ codes " " ∷ name_shown (source_name m.remote)
+    ∷ codes " " ∷ name_shown (option_map bstring_bytes m.local) ∷ codes "\n" ∷ [])
 
 -- the mappings, with the changes at their places
 abbrev pub numbered_told : List (Option Change) → ℕ × Mapping → List ℕ
@@ -63,7 +56,7 @@ abbrev pub mappings_told : List (Option Change) → List Mapping → List ℕ
 mappings_told changes ms = flat_map (numbered_told changes) (enumerate_from 0 ms)
 
 abbrev pub removed_told : Removed → List ℕ
-removed_told r = together (codes "fix " ∷ name_told r.name ∷ codes " " ∷ r.spec ∷ codes "\n" ∷ [])
+removed_told r = joined (codes "fix " ∷ name_shown r.name ∷ codes " " ∷ r.spec ∷ codes "\n" ∷ [])
 
 -- a mapping that was taken out: its local name, and its refspec
 abbrev pub fix_told : Fix → List ℕ
@@ -71,7 +64,7 @@ fix_told f = removed_told (removed_of f)
 
 -- what `HEAD` leads to
 abbrev pub head_told : (name target : List ℕ) → List ℕ
-head_told name target = if bytes_eq name (codes "HEAD") then together (codes "default " ∷ target ∷ codes "\n" ∷ []) else []
+head_told name target = if bytes_eq name (codes "HEAD") then joined (codes "default " ∷ target ∷ codes "\n" ∷ []) else []
 
 abbrev pub default_told : RefValue → List ℕ
 default_told (peeled name tag object) = []
@@ -82,7 +75,7 @@ default_told (unborn name target) = head_told name target
 -- the pack: how many bytes and objects, where one came
 abbrev pub end_told : Option PackSummary → List ℕ
 end_told None = codes "nothing\n"
-end_told (Some s) = together (codes "pack " ∷ decimal s.bytes ∷ codes " " ∷ decimal s.objects ∷ codes "\n" ∷ [])
+end_told (Some s) = joined (codes "pack " ∷ decimal s.bytes ∷ codes " " ∷ decimal s.objects ∷ codes "\n" ∷ [])
 
 abbrev pub default_of_ref : Ref → List ℕ
 default_of_ref found = default_told (ref_value found)
@@ -94,15 +87,15 @@ fetch_told m changes pack = mappings_told changes m.mappings.items
 
 -- an id with a name (git-ls-remote)
 abbrev pub id_line : (id name : List ℕ) → List ℕ
-id_line id name = together (encode_lower id ∷ codes "\t" ∷ name ∷ codes "\n" ∷ [])
+id_line id name = joined (encode_lower id ∷ codes "\t" ∷ name ∷ codes "\n" ∷ [])
 
 -- the object after the tag of this name
 abbrev pub peeled_line : (id name : List ℕ) → List ℕ
-peeled_line id name = together (encode_lower id ∷ codes "\t" ∷ name ∷ codes "^{}\n" ∷ [])
+peeled_line id name = joined (encode_lower id ∷ codes "\t" ∷ name ∷ codes "^{}\n" ∷ [])
 
 -- the ref that a symbolic ref names
 abbrev pub target_line : (name target : List ℕ) → List ℕ
-target_line name target = together (codes "ref: " ∷ target ∷ codes "\t" ∷ name ∷ codes "\n" ∷ [])
+target_line name target = joined (codes "ref: " ∷ target ∷ codes "\t" ∷ name ∷ codes "\n" ∷ [])
 
 abbrev pub tagged_lines : (name : List ℕ) → Option (List ℕ) → (object : List ℕ) → List ℕ
 tagged_lines name None object = id_line object name

@@ -184,10 +184,7 @@ impl<W: Write + Drop, R: BufRead> Witness<W, R> {
         ensures fails { IfErr result (λ e. HearFails self.old.lines (id.now ∷ []) objects.old objects.new
             (R.remaining self.old.answers) (R.remaining self.new.answers) e) }
     {
-        match self.read_line() {
-            Ok(()) => {}
-            Err(e) => return Err(e),
-        }
+        self.read_line()?;
         if objects.add_answer(self.alloc, id, &self.line)? {
             return Ok(());
         }
@@ -205,10 +202,7 @@ impl<W: Write + Drop, R: BufRead> Witness<W, R> {
             (R.remaining self.old.answers) (R.remaining self.new.answers) e) }
     {
         'ids: for id in ids {
-            match self.hear(id, objects) {
-                Ok(()) => {}
-                Err(e) => return Err(e),
-            }
+            self.hear(id, objects)?;
         }
         Ok(())
     }
@@ -225,14 +219,8 @@ impl<W: Write + Drop, R: BufRead> Witness<W, R> {
         ensures fails { IfErr result (λ e. AskFails self.old.lines ids.now objects.old objects.new
             (R.remaining self.old.answers) (R.remaining self.new.answers) e) }
     {
-        match self.put(ids) {
-            Ok(()) => {}
-            Err(e) => return Err(e),
-        }
-        match self.hear_all(ids, objects) {
-            Ok(()) => Ok(()),
-            Err(e) => Err(e),
-        }
+        self.put(ids)?;
+        self.hear_all(ids, objects)
     }
 
     /// Asks which of these objects are here, and adds those that are. One that is here already stays as it is.
@@ -255,10 +243,7 @@ impl<W: Write + Drop, R: BufRead> Witness<W, R> {
         let mut rest = ids;
         'few: while !rest.is_empty() {
             let (few, later) = rest.split_at(rest.len().min(MOST_QUESTIONS));
-            match self.ask_few(few, objects) {
-                Ok(()) => {}
-                Err(e) => return Err(e),
-            }
+            self.ask_few(few, objects)?;
             rest = later;
         }
         Ok(())

@@ -153,7 +153,7 @@ fn extent_in(line: &Line<'_>) -> Option<&'static str>
 }
 
 // Two options that are there, each of which says by itself how much of the history is wanted.
-#[tactic(auto, using(crate::proofs::OptionLemmas::not_both, crate::proofs::OptionLemmas::two_of_all, crate::proofs::OptionLemmas::two_of_none, crate::proofs::OptionLemmas::two_of_counted))]
+#[tactic(auto, using(crate::proofs::OptionLemmas::two_extents))]
 fn two_extents(line: &Line<'_>) -> Option<(&'static str, &'static str)>
     ensures none { IfNone result (has_two_extents (line_value line.now) ≡ false) }
     ensures some { OnSome result (has_two_extents (line_value line.now) ≡ true) }
@@ -177,7 +177,7 @@ fn two_extents(line: &Line<'_>) -> Option<(&'static str, &'static str)>
 }
 
 // Two options that are there and can't be used together, of those that say how much history is wanted.
-#[tactic(auto, using(crate::proofs::OptionLemmas::conflicts_by_two, crate::proofs::OptionLemmas::conflicts_by_cut, crate::proofs::OptionLemmas::no_conflict))]
+#[tactic(auto, using(crate::proofs::OptionLemmas::conflicts))]
 fn conflict(line: &Line<'_>) -> Option<(&'static str, &'static str)>
     ensures none { MatchOption result (has_conflict (line_value line.now) ≡ false) (λ pair. has_conflict (line_value line.now) ≡ true) }
     ensures one { IfSome result (λ pair. has (line_value line.now) pair.0.now ≡ true) }

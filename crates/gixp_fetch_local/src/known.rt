@@ -1,10 +1,14 @@
 //! What is known of the commits of a text, as far as it was read: which of them the server has, and which are awaited.
-ghost use Rattle.std.specs.Prelude.{◌≡◌, ◌⊎◌, [], true, All, IfOk, OnOk};
+ghost use Rattle.std.specs.Prelude.{◌≡◌, ◌⊎◌, [], ◌∷◌, true, false, All, IfOk, OnOk};
 ghost use Rattle.std.specs.FinMap as finite;
 ghost use Rattle.std.specs.BTreeSet.{contains};
 ghost use Rattle.gixp_hash.specs.declared.object_id.ObjectId.{ObjectId};
 ghost use Rattle.gixp_hash.specs.ObjectId.{id_cmp};
+ghost use Rattle.gixp_graph.specs.Object.{commit_at};
+ghost use Rattle.gixp_updates.specs.Ancestors.{IsReachedFrom};
 ghost use Rattle.gixp_fetch_local.specs.Known.{parents_of, is_awaited, KeepsIds, HasIdsOf, IsAwaitedOrKnown, AreAwaitedOrKnown, AwaitsNone};
+ghost use Rattle.gixp_fetch_local.specs.Known.{LosesNone};
+ghost use Rattle.gixp_fetch_local.specs.SharedCommits.{IsSharedBut, IsSharedWhole, AddsReached, AddsId, NotesSome, Notes, Shares, SharesSome};
 
 use gixp_graph::Find;
 use gixp_hash::ObjectId;
@@ -24,10 +28,12 @@ pub(crate) struct KnownCommits {
     pub awaited: Option<BTreeSet<ObjectId>>,
 }
 
-// Adds an id.
+// Adds an id. Returns whether it is new.
 fn put(set: &mut BTreeSet<ObjectId>, id: &ObjectId) -> Result<bool, AllocError>
     ensures keeps { KeepsIds set.old set.new }
     ensures has { OnOk result (contains id_cmp set.new id.now ≡ true) }
+    ensures adds { AddsId set.old id.now set.new }
+    ensures known { IfOk result (λ is_new. is_new ≡ false → KeepsIds set.new set.old) }
 {
     match set.insert(*id) {
         Ok(is_new) => Ok(is_new),
@@ -64,7 +70,8 @@ fn add_awaited(
     common: &BTreeSet<ObjectId>,
     read: &StoredObjects,
 ) -> Result<(), AllocError>
-    ensures { OnOk result (All (IsAwaitedOrKnown read.now common.now awaited.new) commits.now) }
+    ensures keeps { KeepsIds awaited.old awaited.new }
+    ensures all { OnOk result (All (IsAwaitedOrKnown read.now common.now awaited.new) commits.now) }
 {
     'commits: for id in commits {
         match add_one(awaited, id, common, read) {
@@ -127,6 +134,7 @@ impl KnownCommits {
     pub fn await_parents(&mut self, alloc: Global, id: &ObjectId) -> Result<(), AllocError>
         ensures read { self.new.read ≡ self.old.read }
         ensures common { self.new.common ≡ self.old.common }
+        ensures keeps { (other : ObjectId) → is_awaited self.old.awaited other ≡ true → is_awaited self.new.awaited other ≡ true }
         ensures known { OnOk result (AreAwaitedOrKnown self.old.read self.old.common self.new.awaited (parents_of self.old.read id.now)) }
     {
         let parents = self.parents(alloc, id)?;
@@ -152,9 +160,8 @@ impl KnownCommits {
 
     // The server has this commit. If that is new, it waits.
     fn note(&mut self, id: &ObjectId, waiting: &mut Vec<ObjectId>) -> Result<(), AllocError>
-        ensures read { self.new.read ≡ self.old.read }
-        ensures keeps { KeepsIds self.old.common self.new.common }
-        ensures has { OnOk result (contains id_cmp self.new.common id.now ≡ true) }
+        ensures some { NotesSome self.old (id.now ∷ []) self.new }
+        ensures all { OnOk result (Notes self.old waiting.old.items (id.now ∷ []) self.new waiting.new.items) }
     {
         match put(&mut self.common, id) {
             Ok(true) => {}
@@ -170,9 +177,8 @@ impl KnownCommits {
 
     // The server has these commits. Those that weren't common wait.
     fn note_each(&mut self, ids: &[ObjectId], waiting: &mut Vec<ObjectId>) -> Result<(), AllocError>
-        ensures read { self.new.read ≡ self.old.read }
-        ensures keeps { KeepsIds self.old.common self.new.common }
-        ensures has { OnOk result (HasIdsOf self.new.common ids.now) }
+        ensures some { NotesSome self.old ids.now self.new }
+        ensures all { OnOk result (Notes self.old waiting.old.items ids.now self.new waiting.new.items) }
     {
         'ids: for id in ids {
             match self.note(id, waiting) {
@@ -190,9 +196,8 @@ impl KnownCommits {
         id: &ObjectId,
         waiting: &mut Vec<ObjectId>,
     ) -> Result<(), AllocError>
-        ensures read { self.new.read ≡ self.old.read }
-        ensures keeps { KeepsIds self.old.common self.new.common }
-        ensures has { OnOk result (HasIdsOf self.new.common (parents_of self.old.read id.now)) }
+        ensures some { NotesSome self.old (parents_of self.old.read id.now) self.new }
+        ensures all { OnOk result (Notes self.old waiting.old.items (parents_of self.old.read id.now) self.new waiting.new.items) }
     {
         let parents = self.parents(alloc, id)?;
         self.note_each(&parents, waiting)
@@ -206,6 +211,11 @@ impl KnownCommits {
     ) -> Result<(), AllocError>
         ensures read { self.new.read ≡ self.old.read }
         ensures keeps { KeepsIds self.old.common self.new.common }
+        ensures noted { LosesNone self.old self.new }
+        ensures adds { (id : ObjectId) → All (IsReachedFrom (commit_at self.old.read) id) waiting.old.items
+            → AddsReached self.old.read id self.old.common self.new.common }
+        ensures whole { OnOk result (IsSharedBut self.old.read self.old.common waiting.old.items
+            → IsSharedWhole self.new.read self.new.common) }
     {
         'waiting: for _ in 0..u64::MAX {
             let Some(next) = waiting.pop() else {
@@ -226,9 +236,8 @@ impl KnownCommits {
     ///
     /// An allocation failure; some of it may be common then.
     pub fn share(&mut self, alloc: Global, id: ObjectId) -> Result<(), AllocError>
-        ensures read { self.new.read ≡ self.old.read }
-        ensures keeps { KeepsIds self.old.common self.new.common }
-        ensures has { OnOk result (HasIdsOf self.new.common (parents_of self.old.read id)) }
+        ensures some { SharesSome self.old id self.new }
+        ensures all { OnOk result (Shares self.old id self.new) }
     {
         let mut waiting = Vec::new(alloc);
         match self.share_parents(alloc, &id, &mut waiting) {

@@ -1,21 +1,23 @@
 //! A negotiator that offers the commits of a text, of which it reads no more than it is asked for.
-ghost use Rattle.std.specs.Prelude.{◌≡◌, ◌-◌, ◌^◌, ◌≤◌, ◌<◌, ◌++◌, ℕ, List, [], Some, None, true, false, IfOk, IfErr, IfSome, IfNone, OnOk, OnSome};
+ghost use Rattle.std.specs.Prelude.{◌≡◌, ◌⊎◌, ◌-◌, ◌^◌, ◌≤◌, ◌<◌, [], ◌∷◌, Some, None, true, false, IfOk, IfErr, IfSome, IfNone, OnOk, OnSome};
 ghost use Rattle.std.specs.BTreeSet.{contains};
 ghost use Rattle.std.specs.FinMap as finite;
-ghost use Rattle.std.specs.Io.KnownBytes.{Consumes, IsAtEnd};
+ghost use Rattle.std.specs.Io.BufRead.{strip_last};
+ghost use Rattle.std.specs.Io.KnownBytes.{IsAtEnd};
 ghost use Rattle.gixp_hash.specs.declared.object_id.ObjectId.{ObjectId};
 ghost use Rattle.gixp_hash.specs.ObjectId.{id_cmp};
-ghost use Rattle.gixp_memory.specs.Text.{after_lines};
-ghost use Rattle.gixp_text.specs.Lines.{line_words, text_lines};
+ghost use Rattle.gixp_text.specs.Lines.{text_lines};
 ghost use Rattle.gixp_memory.specs.Repository.{commit_line};
-ghost use Rattle.gixp_fetch_local.specs.Known.{parents_of, KeepsIds, HasIdsOf, AreAwaitedOrKnown};
-ghost use Rattle.gixp_fetch_local.specs.Listed.{id_in, told_as, IsNoCommit, ReadsTextLine, IsUncommon, OffersLine, ListedOfferFails, KeepsCommitText};
+ghost use Rattle.gixp_fetch_local.specs.Known.{parents_of, AreAwaitedOrKnown, LosesNone};
+ghost use Rattle.gixp_fetch_local.specs.SharedCommits.{IsSharedBut, IsSharedWhole, Shares, SharesSome};
+ghost use Rattle.gixp_fetch_local.specs.Listed.{id_in, IsNoCommit, ReadsTextLines, ReadsCommit, IsUncommon, OffersNext};
+ghost use Rattle.gixp_fetch_local.specs.Listed.{told_as, ListedOfferFails, KeepsCommitText};
 
 use crate::known::KnownCommits;
 use gixp_graph::{Graph, Negotiator, NegotiatorError, ObjectError, Objects};
 use gixp_hash::ObjectId;
 use gixp_memory::TextError;
-use gixp_text::line_words;
+use gixp_text::{line_words, without_line_end};
 use std::alloc::{AllocError, Global};
 use std::collections::BTreeSet;
 use std::io;
@@ -35,7 +37,7 @@ pub enum Refusal {
 struct CommitText<R> {
     alloc: Global,
     text: R,
-    // The line that was read last, without its end.
+    // The line that was read last, with its end.
     line: Vec<u8>,
     lines: usize,
     // How many lines may be read still: more than a text has.
@@ -44,11 +46,11 @@ struct CommitText<R> {
     refusal: Option<Refusal>,
 }
 
-// The commit of a line `TIME ID PARENT..`.
+// The commit of a line `TIME ID PARENT..`, with its end or without.
 fn commit_id(alloc: Global, line: &[u8]) -> Result<Option<ObjectId>, AllocError>
-    ensures { IfOk result (λ id. id ≡ id_in line.now) }
+    ensures { IfOk result (λ id. id ≡ id_in (strip_last 10 line.now)) }
 {
-    let words = line_words(alloc, line)?;
+    let words = line_words(alloc, without_line_end(line))?;
     let Some(word) = words.get(1) else {
         return Ok(None);
     };
@@ -58,51 +60,33 @@ fn commit_id(alloc: Global, line: &[u8]) -> Result<Option<ObjectId>, AllocError>
     }
 }
 
-// Takes the end of a line away.
-fn cut_end(line: &mut Vec<u8>)
-    ensures { (end : List ℕ) × (line.old.items ≡ line.new.items ++ end) }
-{
-    if line.last() == Some(&b'\n') {
-        line.pop();
-    }
-}
-
 impl<R: BufRead> CommitText<R> {
-    // Reads a line with its end, which is empty at the end of the text.
-    fn read_whole_line(&mut self) -> io::Result<bool>
-        ensures read { OnOk result (Consumes (R.remaining self.old.text) (R.remaining self.new.text) self.new.line.items) }
+    // Reads a line with its end. Returns whether there is one.
+    fn read_line(&mut self) -> io::Result<bool>
+        ensures read { IfOk result (λ is_there. is_there ≡ true → ReadsTextLines (R.remaining self.old.text)
+            (strip_last 10 self.new.line.items ∷ []) (R.remaining self.new.text)) }
+        ensures one { IfOk result (λ is_there. is_there ≡ true
+            → text_lines self.new.line.items ≡ strip_last 10 self.new.line.items ∷ []) }
         ensures end { IfOk result (λ is_there. is_there ≡ false → IsAtEnd (R.remaining self.old.text)) }
-        ensures lines { self.new.lines ≡ self.old.lines }
         ensures left { self.new.left ≡ self.old.left }
         ensures known { self.new.known ≡ self.old.known }
         ensures refusal { self.new.refusal ≡ self.old.refusal }
     {
         self.line.clear();
+        self.lines = self.lines.saturating_add(1);
         let count = self.text.read_until(b'\n', &mut self.line)?;
         Ok(count != 0)
     }
 
-    // Reads a line, without its end. Returns whether there is one.
-    fn read_line(&mut self) -> io::Result<bool>
-        ensures read { IfOk result (λ is_there. is_there ≡ true
-            → ReadsTextLine (R.remaining self.old.text) self.new.line.items (R.remaining self.new.text)) }
-        ensures end { IfOk result (λ is_there. is_there ≡ false → IsAtEnd (R.remaining self.old.text)) }
-        ensures left { self.new.left ≡ self.old.left }
-        ensures known { self.new.known ≡ self.old.known }
-        ensures refusal { self.new.refusal ≡ self.old.refusal }
-    {
-        let is_there = self.read_whole_line()?;
-        cut_end(&mut self.line);
-        self.lines = self.lines.saturating_add(1);
-        Ok(is_there)
-    }
-
-    // Adds the commit of the line. Returns its id, none where there is no commit.
+    // Adds the commit of the line, where it is one. Returns its id.
     fn add_line(&mut self) -> Result<Option<ObjectId>, AllocError>
-        ensures named { IfOk result (λ id. IfSome id (λ id. id_in self.new.line.items ≡ Some id)) }
-        ensures added { IfOk result (λ id. OnSome id (after_lines commit_line self.old.known.read (text_lines self.new.line.items)
+        ensures named { text_lines self.old.line.items ≡ strip_last 10 self.old.line.items ∷ []
+            → IfOk result (λ id. IfSome id (λ id. id_in (strip_last 10 self.old.line.items) ≡ Some id)) }
+        ensures added { text_lines self.old.line.items ≡ strip_last 10 self.old.line.items ∷ []
+            → IfOk result (λ id. OnSome id (commit_line self.old.known.read (strip_last 10 self.old.line.items)
             ≡ Some self.new.known.read)) }
-        ensures none { IfOk result (λ id. IfNone id (IsNoCommit self.new.line.items)) }
+        ensures none { text_lines self.old.line.items ≡ strip_last 10 self.old.line.items ∷ []
+            → IfOk result (λ id. IfNone id (IsNoCommit self.old.line.items)) }
         ensures text { self.new.text ≡ self.old.text }
         ensures line { self.new.line ≡ self.old.line }
         ensures lines { self.new.lines ≡ self.old.lines }
@@ -137,10 +121,10 @@ impl<R: BufRead> CommitText<R> {
 
     // The next commit, none at the end of the text.
     fn read_commit(&mut self) -> Result<Option<ObjectId>, NegotiatorError>
-        ensures named { IfOk result (λ id. IfSome id (λ id. id_in self.new.line.items ≡ Some id)) }
-        ensures read { IfOk result (λ id. OnSome id
-            (ReadsTextLine (R.remaining self.old.text) self.new.line.items (R.remaining self.new.text))) }
+        ensures read { IfOk result (λ id. IfSome id (λ id. ReadsCommit (R.remaining self.old.text) self.old.known id
+            (R.remaining self.new.text) self.new.known)) }
         ensures end { IfOk result (λ id. IfNone id (IsAtEnd (R.remaining self.old.text))) }
+        ensures known { IfOk result (λ id. IfNone id (self.new.known ≡ self.old.known)) }
         ensures left { self.new.left ≡ self.old.left }
         ensures common { self.new.known.common ≡ self.old.known.common }
         ensures awaited { self.new.known.awaited ≡ self.old.known.awaited }
@@ -160,14 +144,15 @@ impl<R: BufRead> CommitText<R> {
         }
     }
 
-    // Offers a commit whose line was read last, unless the server is known to have it. Returns whether it is offered.
+    // Offers a commit that was read last, unless the server is known to have it. Returns whether it is offered.
     fn offer(&mut self, id: &ObjectId) -> Result<bool, AllocError>
         ensures uncommon { IfOk result (λ is_offered. is_offered ≡ true → IsUncommon self.new.known.common id.now) }
         ensures awaits { IfOk result (λ is_offered. is_offered ≡ true → AreAwaitedOrKnown self.new.known.read self.new.known.common
             self.new.known.awaited (parents_of self.new.known.read id.now)) }
-        ensures common { IfOk result (λ is_offered. is_offered ≡ false → contains id_cmp self.old.known.common id.now ≡ true) }
-        ensures keeps { KeepsIds self.old.known.common self.new.known.common }
-        ensures read { self.new.known.read ≡ self.old.known.read }
+        ensures common { IfOk result (λ is_offered. is_offered ≡ false → contains id_cmp self.new.known.common id.now ≡ true) }
+        ensures whole { OnOk result (IsSharedBut self.old.known.read self.old.known.common (id.now ∷ [])
+            → IsSharedWhole self.new.known.read self.new.known.common) }
+        ensures some { finite.contains_key self.old.known.read id.now ≡ true → SharesSome self.old.known id.now self.new.known }
         ensures text { self.new.text ≡ self.old.text }
         ensures line { self.new.line ≡ self.old.line }
         ensures lines { self.new.lines ≡ self.old.lines }
@@ -190,16 +175,15 @@ impl<R: BufRead> CommitText<R> {
     // The server has a commit.
     fn share(&mut self, id: ObjectId) -> Result<(), AllocError>
         ensures kept { KeepsCommitText self.old self.new }
-        ensures has { OnOk result (HasIdsOf self.new.known.common (parents_of self.old.known.read id)) }
-        ensures keeps { KeepsIds self.old.known.common self.new.known.common }
+        ensures all { OnOk result (Shares self.old.known id self.new.known) }
+        ensures some { SharesSome self.old.known id self.new.known }
     {
         self.known.share(self.alloc, id)
     }
 
     // The next commit that isn't known to be common.
     fn next(&mut self) -> Result<Option<ObjectId>, NegotiatorError>
-        ensures offered { IfOk result (λ have. IfSome have (λ id. OffersLine self.new.line.items id self.new.known)) }
-        ensures lowers { IfOk result (λ have. OnSome have (self.new.left < self.old.left)) }
+        ensures offers { IfOk result (λ have. OffersNext R.remaining self.old have self.new) }
         ensures left { self.new.left ≤ self.old.left }
         ensures refusal { OnOk result (self.new.refusal ≡ self.old.refusal) }
         ensures fails { IfErr result (λ e. ListedOfferFails self.new.line.items self.new.lines self.old.refusal e self.new.refusal) }
@@ -272,20 +256,20 @@ impl<R: BufRead> Negotiator for ListedCommits<R> {
     ghost use Rattle.std.proofs.Common.{arith};
     ghost use Rattle.gixp_graph.specs.declared.negotiator.NegotiatorError.TheVariants.{Memory};
     ghost use Rattle.gixp_fetch_local.specs.Listed.{OffersNext, KeepsCommitText, ListedOfferFails};
-    ghost use Rattle.gixp_fetch_local.specs.Known.{parents_of, KeepsIds, HasIdsOf, AreAwaitedOrKnown};
+    ghost use Rattle.gixp_fetch_local.specs.SharedCommits.{Shares, SharesSome};
 
     ghost calls = { record {
       count = λ n g. n.commits.left;
       failures = λ n. n.failures;
       knows = λ n g id m h. (m ≡ n) × (h ≡ g);
       adds = λ n g id m h. (m ≡ n) × (h ≡ g);
-      learns = λ n g id m h. KeepsCommitText n.commits m.commits × (h ≡ g) × KeepsIds n.commits.known.common m.commits.known.common
-          × HasIdsOf m.commits.known.common (parents_of n.commits.known.read id);
-      offers = λ n g have m h. OffersNext n.commits have m.commits × (h ≡ g);
+      learns = λ n g id m h. KeepsCommitText n.commits m.commits × (h ≡ g) × Shares n.commits.known id m.commits.known
+          × SharesSome n.commits.known id m.commits.known;
+      offers = λ n g have m h. OffersNext R.remaining n.commits have m.commits × (h ≡ g);
       knowing_fails = λ n g id e m h. ⊥;
       adding_fails = λ n g id e m h. ⊥;
       learning_fails = λ n g id e m h. (e ≡ Memory) × KeepsCommitText n.commits m.commits × (h ≡ g)
-          × KeepsIds n.commits.known.common m.commits.known.common;
+          × SharesSome n.commits.known id m.commits.known;
       offering_fails = λ n g e m h. ListedOfferFails m.commits.line.items m.commits.lines n.commits.refusal e m.commits.refusal × (h ≡ g);
     } };
 
@@ -336,7 +320,7 @@ impl<R: BufRead> Negotiator for ListedCommits<R> {
 
     ghost offer_lowers = { λ n g id m h r. r.0.1 };
 
-    ghost none_keeps = { λ n g m h r. r.0 };
+    ghost none_keeps = { λ n g m h r. r.0.1 };
 
     ghost learning_keeps = { λ n g id m h r. Prim.omega (arith, r.0.left) };
 }

@@ -1,45 +1,20 @@
 //! What is told of a fetch, and of refs, a line each.
 ghost use Rattle.std.specs.Prelude.{◌≡◌, ◌++◌, IfOk, OnOk, flat_map};
-ghost use Rattle.std.specs.Option.{option_map};
-ghost use Rattle.bstr.specs.Owned.{bstring_bytes};
-ghost use Rattle.gixp_refmap.specs.Mapping.{source_name};
 ghost use Rattle.gixp_refs.specs.ParseError.{object_of};
 ghost use Rattle.gixp_fetch_local.specs.Changes.{change_in};
-ghost use Rattle.gixp_fetch_local.specs.Told.{change_told, word_told, name_told, mapping_told, mappings_told, fix_told, head_told, default_of_ref, end_told, fetch_told};
-ghost use Rattle.gixp_fetch_local.specs.Told.{id_line, peeled_line, target_line, tagged_lines, ref_lines};
+ghost use Rattle.gixp_fetch_local.specs.Told.{change_told, word_told, mapping_told, mappings_told, fix_told, head_told, default_of_ref, end_told};
+ghost use Rattle.gixp_fetch_local.specs.Told.{fetch_told, id_line, peeled_line, target_line, tagged_lines, ref_lines};
 
 use crate::change::{Change, change_in};
-use bstr::BString;
 use gixp_hash::ObjectId;
-use gixp_listing::append;
+use gixp_listing::{local_name, remote_name};
 use gixp_matching::match_group::validate::Fix;
 use gixp_pack::PackSummary;
 use gixp_refmap::RefMap;
-use gixp_refmap::refmap::{Mapping, Source, SpecIndex};
+use gixp_refmap::refmap::{Mapping, SpecIndex};
 use gixp_refs::handshake::Ref;
+use gixp_text::append;
 use std::alloc::{AllocError, Global};
-
-// The name of what is taken, or a dash.
-#[inline(always)]
-fn remote_name(source: &Source) -> &[u8]
-    ensures { result.now ≡ name_told (source_name source.now) }
-{
-    match source.as_name() {
-        Some(name) => name.as_bytes(),
-        None => b"-",
-    }
-}
-
-// The local name, or a dash.
-#[inline(always)]
-fn local_name(local: &Option<BString>) -> &[u8]
-    ensures { result.now ≡ name_told (option_map bstring_bytes local.now) }
-{
-    match local {
-        Some(name) => name.as_bytes(),
-        None => b"-",
-    }
-}
 
 // What begins the line of a mapping: what becomes of its local ref, where that is known.
 #[inline(always)]

@@ -1,5 +1,5 @@
 use Rattle.gixp_fetch_local.specs.Told.{default_of_ref}
-use Rattle.gixp_fetch_local.proofs.TextLemmas.{left-at, each-more}
+use Rattle.gixp_text.proofs.AppendedLemmas.{left-at, each-more}
 use Rattle.gixp_fetch_local.proofs.report.append_defaults.Goals as goal
 
 pub loop-found-preserved : goal.loop-found-preserved

@@ -1,5 +1,5 @@
 use Rattle.gixp_fetch_local.specs.Told.{fix_told}
-use Rattle.gixp_fetch_local.proofs.TextLemmas.{left-at, each-more}
+use Rattle.gixp_text.proofs.AppendedLemmas.{left-at, each-more}
 use Rattle.gixp_fetch_local.proofs.report.append_fixes.Goals as goal
 
 pub loop-fix-preserved : goal.loop-fix-preserved

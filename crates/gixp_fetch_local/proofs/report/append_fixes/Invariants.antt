@@ -1,6 +1,6 @@
 use Rattle.std.proofs.Common.{flat_map, drop}
 use Rattle.gixp_fetch_local.specs.Told.{fix_told}
-use Rattle.gixp_fetch_local.proofs.TextLemmas.{Partly}
+use Rattle.gixp_text.proofs.AppendedLemmas.{Partly}
 use Rattle.gixp_fetch_local.proofs.report.append_fixes.Given as goal
 
 abbrev pub invariant-loop-fix : goal.invariant-loop-fix

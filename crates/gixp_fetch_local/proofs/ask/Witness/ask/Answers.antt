@@ -1,6 +1,6 @@
 -- A few questions more.
-use Rattle.std.proofs.Common.{◌≡◌, ◌++◌, sym, take, drop, take-append-drop}
-use Rattle.gixp_fetch_local.proofs.AskLemmas.{asked_none, asked_more, some_more, fails_more}
+use Rattle.std.proofs.Common.{sym, take-append-drop}
+use Rattle.gixp_fetch_local.proofs.AskLemmas.{asked_none, asked_more, some_more, fails_more, passed_on}
 use Rattle.gixp_fetch_local.proofs.ask.Witness.ask.Goals as goal
 
 pub few-init : goal.few-init
@@ -10,19 +10,20 @@ pub few-preserved : goal.few-preserved
 few-preserved g c = (
   asked_more c.args.ids.now c.few.rest.now c.split_at.result.0.now c.split_at.result.1.now c.args.objects.now c.few.objects
       c.ask_few.new.objects _ _ _ _ _ _ _ _ _ c.few.invariant.0
-      (rw (c.split_at.ensures.front, c.split_at.ensures.back) (sym (take-append-drop _ c.few.rest.now))) c.in-Ok.ensures.asked
-      c.in-Ok.ensures.told c.in-Ok.ensures.lines,
-  λ _. c.in-Ok.ensures.flushed,
+      (rw (c.split_at.ensures.front, c.split_at.ensures.back) (sym (take-append-drop _ c.few.rest.now))) c.in_ok-ask_few.ensures.asked
+      c.in_ok-ask_few.ensures.told c.in_ok-ask_few.ensures.lines,
+  λ _. c.in_ok-ask_few.ensures.flushed,
 )
 
-pub returns-in-Err-clause-some : goal.returns-in-Err-clause-some
-returns-in-Err-clause-some g c =
+pub returns-in_err-ask_few-clause-some : goal.returns-in_err-ask_few-clause-some
+returns-in_err-ask_few-clause-some g c =
     some_more c.args.ids.now c.few.rest.now c.split_at.result.0.now c.split_at.result.1.now c.args.objects.now c.few.objects
     c.ask_few.new.objects _ _ _ _ _ _ c.few.invariant.0
-    (rw (c.split_at.ensures.front, c.split_at.ensures.back) (sym (take-append-drop _ c.few.rest.now))) c.in-Err.ensures.some
+    (rw (c.split_at.ensures.front, c.split_at.ensures.back) (sym (take-append-drop _ c.few.rest.now))) c.in_err-ask_few.ensures.some
 
-pub returns-in-Err-clause-fails : goal.returns-in-Err-clause-fails
-returns-in-Err-clause-fails g c =
-    fails_more c.args.ids.now c.few.rest.now c.split_at.result.0.now c.split_at.result.1.now c.args.objects.now c.few.objects
+pub returns-in_err-ask_few-clause-fails : goal.returns-in_err-ask_few-clause-fails
+returns-in_err-ask_few-clause-fails g c =
+    passed_on c.from_residual.result c.in_err-ask_few.field-0.0 _ c.from_residual.ensures.1
+    (fails_more c.args.ids.now c.few.rest.now c.split_at.result.0.now c.split_at.result.1.now c.args.objects.now c.few.objects
     c.ask_few.new.objects _ _ _ _ _ _ _ _ c.few.invariant.0
-    (rw (c.split_at.ensures.front, c.split_at.ensures.back) (sym (take-append-drop _ c.few.rest.now))) c.in-Err.ensures.fails
+    (rw (c.split_at.ensures.front, c.split_at.ensures.back) (sym (take-append-drop _ c.few.rest.now))) c.in_err-ask_few.ensures.fails)

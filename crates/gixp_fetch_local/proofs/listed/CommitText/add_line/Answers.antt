@@ -1,12 +1,11 @@
--- A line that is no commit.
-use Rattle.std.proofs.Common.{inr, rules}
+-- A line that is none of a commit.
+use Rattle.std.proofs.Common.{◌∙◌, ap}
+use Rattle.gixp_text.specs.Lines.{text_lines}
+use Rattle.gixp_fetch_local.proofs.ListedLemmas.{unread_one}
 use Rattle.gixp_fetch_local.proofs.listed.CommitText.add_line.Goals as goal
 
 pub returns-in-Err-Line-clause-none : goal.returns-in-Err-Line-clause-none
-returns-in-Err-Line-clause-none g c =
-    inr (
-      c.args.self.now.known.read,
-      c.read_commits.new.self,
-      c.in-Err-Line.field-0-0,
-      rw (← c.deref.ensures.value) (rw c.in-Err-Line.field-0-is at c.in-Err-Line.ensures),
-    )
+returns-in-Err-Line-clause-none g c one =
+    let fills = rw c.in-Err-Line.field-0-is at c.in-Err-Line.ensures in
+    unread_one c.read_commits.new.self (text_lines c.deref.result.now) _ c.in-Err-Line.field-0-0 (ap text_lines c.deref.ensures.value ∙ one)
+    fills.0 fills.2

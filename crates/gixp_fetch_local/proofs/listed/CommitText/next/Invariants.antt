@@ -1,9 +1,14 @@
--- No more lines may be read than before, and no refusal is noted yet.
+-- No more lines may be read than before, no refusal is noted yet, and the lines that were read were passed over.
 use Rattle.std.proofs.Common.{◌≡◌, ◌≤◌}
+use Rattle.gixp_fetch_local.proofs.ListedLemmas.{PassedSoFar}
 use Rattle.gixp_fetch_local.proofs.listed.CommitText.next.Given as goal
 
 abbrev pub invariant-lines : goal.invariant-lines
-invariant-lines g l = (l.self.left ≤ l.fn.self.left) × (l.self.refusal ≡ l.fn.self.refusal)
+invariant-lines g l = record {
+  left : l.self.left ≤ l.fn.self.left;
+  refusal : l.self.refusal ≡ l.fn.self.refusal;
+  passed : PassedSoFar (g.R.Read.remaining l.fn.self.text) l.fn.self.known (g.R.Read.remaining l.self.text) l.self.known;
+}
 
 abbrev pub decreases-lines : goal.decreases-lines
 decreases-lines g l = l.self.left

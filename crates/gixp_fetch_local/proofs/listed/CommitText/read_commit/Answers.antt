@@ -1,5 +1,5 @@
 -- A line that is no commit is told by its number.
-use Rattle.std.proofs.Common.{◌≡◌, inr, sym, subst, rules}
+use Rattle.std.proofs.Common.{inr, sym, subst, rules}
 use Rattle.gixp_fetch_local.specs.Listed.{IsNoCommit}
 use Rattle.gixp_fetch_local.proofs.listed.CommitText.read_commit.Goals as goal
 

@@ -1,0 +1,64 @@
+-- What the server has where it has a commit: all that this leads to, as far as it is read.
+use Rattle.std.specs.Prelude.{◌≡◌, ◌⊎◌, true, List, [], ◌∷◌, All}
+use Rattle.std.specs.List.{Contains}
+use Rattle.std.specs.BTreeSet.{BTreeSet, contains}
+use Rattle.gixp_hash.specs.declared.object_id.ObjectId.{ObjectId}
+use Rattle.gixp_hash.specs.ObjectId.{id_cmp}
+use Rattle.gixp_graph.specs.Object.{Objects, commit_at}
+use Rattle.gixp_updates.specs.Ancestors.{IsReachedFrom}
+use Rattle.gixp_fetch_local.specs.declared.known.KnownCommits.{KnownCommits}
+use Rattle.gixp_fetch_local.specs.Known.{parents_of, KeepsIds, HasIdsOf, LosesNone}
+
+-- with a commit the server has its parents, but for those of some commits that wait
+abbrev pub IsSharedBut : Objects → BTreeSet ObjectId → List ObjectId → Type 0
+IsSharedBut read common waiting = (id : ObjectId) → contains id_cmp common id ≡ true
+    → HasIdsOf common (parents_of read id) ⊎ Contains waiting id
+
+-- with a commit the server has its parents, and so all that it leads to
+abbrev pub IsSharedWhole : Objects → BTreeSet ObjectId → Type 0
+IsSharedWhole read common = (id : ObjectId) → contains id_cmp common id ≡ true → HasIdsOf common (parents_of read id)
+
+-- nothing becomes common but what a commit leads to
+abbrev pub AddsReached : Objects → ObjectId → BTreeSet ObjectId → BTreeSet ObjectId → Type 0
+AddsReached read id old new = (q : ObjectId) → contains id_cmp new q ≡ true
+    → (contains id_cmp old q ≡ true) ⊎ IsReachedFrom (commit_at read) id q
+
+-- the server has a commit, and so all that it leads to
+pub record Shares (old : KnownCommits) (id : ObjectId) (new : KnownCommits) : Type 0 where
+  pub parents : HasIdsOf new.common (parents_of old.read id)
+  pub whole : IsSharedBut old.read old.common (id ∷ []) → IsSharedWhole new.read new.common
+
+-- some of that is common, and nothing else
+pub record SharesSome (old : KnownCommits) (id : ObjectId) (new : KnownCommits) : Type 0 where
+  pub read : new.read ≡ old.read
+  pub keeps : KeepsIds old.common new.common
+  pub adds : AddsReached old.read id old.common new.common
+  pub noted : LosesNone old new
+
+-- ---- how it spreads
+
+-- no id but this one came to a set
+abbrev pub AddsId : BTreeSet ObjectId → ObjectId → BTreeSet ObjectId → Type 0
+AddsId old id new = (q : ObjectId) → contains id_cmp new q ≡ true → (contains id_cmp old q ≡ true) ⊎ (id ≡ q)
+
+-- no commits became common but some of these
+pub record NotesSome (old : KnownCommits) (ids : List ObjectId) (new : KnownCommits) : Type 0 where
+  pub read : new.read ≡ old.read
+  pub keeps : KeepsIds old.common new.common
+  pub adds : (q : ObjectId) → contains id_cmp new.common q ≡ true → (contains id_cmp old.common q ≡ true) ⊎ Contains ids q
+  pub noted : LosesNone old new
+
+-- these commits are common, and those that weren't wait behind those that waited
+pub record Notes (old : KnownCommits) (waiting ids : List ObjectId) (new : KnownCommits) (later : List ObjectId) : Type 0 where
+  pub has : HasIdsOf new.common ids
+  pub waits : (q : ObjectId) → contains id_cmp new.common q ≡ true → (contains id_cmp old.common q ≡ true) ⊎ Contains later q
+  pub stays : (q : ObjectId) → Contains waiting q → Contains later q
+  pub comes : (q : ObjectId) → Contains later q → Contains waiting q ⊎ Contains ids q
+
+-- what waits spreads: nothing becomes common but what it leads to, and no parents of what is common are left but those of what
+-- waits later
+pub record SpreadsOn (read : Objects) (old : BTreeSet ObjectId) (waiting : List ObjectId) (new : BTreeSet ObjectId)
+    (later : List ObjectId) : Type 0 where
+  pub adds : (id : ObjectId) → All (IsReachedFrom (commit_at read) id) waiting → AddsReached read id old new
+  pub reached : (id : ObjectId) → All (IsReachedFrom (commit_at read) id) waiting → All (IsReachedFrom (commit_at read) id) later
+  pub whole : IsSharedBut read old waiting → IsSharedBut read new later
