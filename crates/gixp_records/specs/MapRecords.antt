@@ -1,7 +1,6 @@
 -- The mappings of refs by refspecs, as records (git-fetch, "<refspec>").
 use Rattle.std.specs.Prelude.{ℕ, ◌≡◌, ◌≢◌, ◌⊎◌, All, Bool, true, false, List, [], ◌++◌, length, map, Some, Result, Ok, Err, unwrap_or}
 use Rattle.std.specs.declared.alloc.AllocError.{AllocError}
-use Rattle.gixp_refspec.specs.declared.parse.Error.{Error as SpecError}
 use Rattle.gixp_refspec.specs.Spec.{Spec}
 use Rattle.gixp_matching.specs.Mappings.{Mapped, mappings}
 use Rattle.gixp_matching.specs.Validation.{Conflict, Removed, conflicts, fixes, kept}

@@ -3,7 +3,6 @@ use Rattle.std.specs.Prelude.{ℕ, ◌≡◌, ◌+◌, ◌-◌, ◌^◌, ◌≤�
 use Rattle.std.specs.List.{flat_map}
 use Rattle.std.specs.Option.{option_copied}
 use Rattle.std.specs.declared.alloc.AllocError.{AllocError}
-use Rattle.gixp_records.specs.declared.span.Span.{Span}
 use Rattle.gixp_records.specs.declared.told.Told.{Told}
 use Rattle.gixp_records.specs.declared.told.MappingRecord.{MappingRecord}
 use Rattle.gixp_records.specs.declared.told.MappedRecord.{MappedRecord}

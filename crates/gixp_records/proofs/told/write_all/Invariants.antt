@@ -1,4 +1,4 @@
-use Rattle.std.proofs.Common.{length, map, take}
+use Rattle.std.proofs.Common.{map}
 use Rattle.gixp_records.specs.Told.{told_value}
 use Rattle.gixp_records.proofs.ToldLemmas.{WroteSome}
 use Rattle.gixp_records.proofs.told.write_all.Given as goal
