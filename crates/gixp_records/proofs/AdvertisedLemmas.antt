@@ -105,7 +105,8 @@ front_more xs v (Err e) = refl
 -- a line that makes no ref, behind which the same ref line is open
 pub passed : (bytes : List ℕ) (o : RefsOpening) (t : List Symref) (at next : ℕ) (last : Option NamedLine) (text : List ℕ) (l : V1Line)
     → advertised_lines bytes o at ≡ before (text ∷ []) (advertised_lines bytes o next) → v1_line text ≡ Ok l
-    → group_with t (option_map (named_in bytes) last) (Ok l) (refs_after bytes o t next) ≡ refs_after bytes o t next (option_map (named_in bytes) last)
+    → group_with t (option_map (named_in bytes) last) (Ok l) (refs_after bytes o t next)
+    ≡ refs_after bytes o t next (option_map (named_in bytes) last)
     → refs_of_lines t last bytes (advertised_lines bytes o at) ≡ refs_of_lines t last bytes (advertised_lines bytes o next)
 passed bytes o t at next last text l e v g = one_more bytes o t at next last text (Ok l) e v ∙ g
 
@@ -195,5 +196,8 @@ reads_last bytes o t from place next count old now r under rest within so ending
       full = λ f. absurd cc;
       rest = behind ∙ sym (drop-drop 1 count now) ∙ ap (drop 1) rest ∙ drop-drop 1 count old;
       within = All-same (IsRecordWithin bytes) _ _ first (All-push (IsRecordWithin bytes) (take count now) r within here);
-      ends = (so ∙ ap (in_front (refs_in bytes (take count now))) last ∙ ap Ok (sym values), (behind_stop.0, ending ∙ behind_stop.1, behind_stop.2));
+      ends = (
+        so ∙ ap (in_front (refs_in bytes (take count now))) last ∙ ap Ok (sym values),
+        (behind_stop.0, ending ∙ behind_stop.1, behind_stop.2),
+      );
     }

@@ -15,7 +15,8 @@ pieces_more bytes from at next taken p so e b =
     let order = so.in_order in
     record {
       pieces = so.pieces ∙ ap (pieces_before taken) e
-          ∙ ap (λ (l : List Piece). let q : Pieces = record { list = l; end = rest.end } in q) (sym (append_assoc taken (p ∷ []) rest.list));
+          ∙ ap (λ (l : List Piece). let q : Pieces = record { list = l; end = rest.end } in q)
+          (sym (append_assoc taken (p ∷ []) rest.list));
       in_order = omega arith;
       within = inside;
     }

@@ -126,5 +126,6 @@ span_less bytes text word (Some s) h k e =
     let i = p.0 in
     let all = length-text_at bytes text.at text.len h in
     let behind = length-text_at bytes s.at s.len k in
-    let less : length (text_at bytes s) ≡ length (text_at bytes text) - (i + 1) = ap length p.3 ∙ length-drop (i + 1) (text_at bytes text) in
+    let less : length (text_at bytes s) ≡ length (text_at bytes text) - (i + 1) =
+    ap length p.3 ∙ length-drop (i + 1) (text_at bytes text) in
     omega (arith, p.1)

@@ -7,3 +7,6 @@ pub mod Place
 pub mod V1RecordLine
 pub mod RefsOpening
 pub mod AdvertisedRecords
+pub mod Told
+pub mod SpecText
+pub mod MapRecords

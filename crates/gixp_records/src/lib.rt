@@ -1,20 +1,26 @@
-//! Refs and packs as records of numbers: where each text stands in the bytes that a server sent, of which none is copied.
+//! Refs, mappings and packs as records of numbers: where each text stands in the bytes that a server sent, of which none is copied.
 #![tactic(auto)]
 
 mod advertised;
 mod bands;
 mod line;
+mod mapped_refs;
 mod packets;
 mod place;
 mod refs;
 mod span;
+mod spec_text;
+mod told;
 
 pub use advertised::{
     AdvertisedEnd, AdvertisedFound, AdvertisedLineRefused, AdvertisedRefused, read_advertised,
 };
 pub use bands::{BandPiece, next_piece};
 pub use line::LineRefused;
+pub use mapped_refs::{MapEnd, MapRefused, map_records};
 pub use packets::PacketRefused;
 pub use place::{behind_header, behind_told};
 pub use refs::{RefRecord, RefsEnd, RefsFound, RefsRefused, read_refs};
 pub use span::Span;
+pub use spec_text::{SpecsRefused, prefix_text, specs_in};
+pub use told::{MappedRecord, MappingRecord};

@@ -17,8 +17,11 @@ pub returns-in-Two : goal.returns-in-Two
 returns-in-Two c =
     let bytes = c.args.bytes.now in
     let text = text_at bytes c.args.line in
-    let shown = ap (λ t. named_as (version_named t)) (sym c.text_at.ensures) ∙ sym c.named_version.ensures ∙ c.in-Two.is in
-    (pieces_at bytes c.args.next, ap (λ n. by_version n (pieces_at bytes 0) (pieces_at bytes c.args.next)) (names_two (version_named text) shown))
+    let shown = ap (λ t. named_as (version_named t)) (sym c.text_at.ensures) ∙ sym c.named_version.ensures ∙ c.in-Two.is in (
+      pieces_at bytes c.args.next,
+      ap (λ n. by_version n (pieces_at bytes 0) (pieces_at bytes c.args.next))
+          (names_two (version_named text) shown),
+    )
 
 pub returns-in-Another : goal.returns-in-Another
 returns-in-Another c =

@@ -1,0 +1,279 @@
+//! The mappings of refs by refspecs as records (git-fetch, "<refspec>").
+ghost use Rattle.std.specs.Prelude.{◌≡◌, ◌↔◌, ◌++◌, IsTrue, IfOk, OnOk, true, false, length, map};
+ghost use Rattle.gixp_text.specs.Lines.{text_lines};
+ghost use Rattle.gixp_refspec.specs.RefSpec.{value_of};
+ghost use Rattle.gixp_matching.specs.Mappings.{mappings};
+ghost use Rattle.gixp_matching.specs.MatchGroup.{mapped_of, names};
+ghost use Rattle.gixp_matching.specs.Validate.{removed_of, conflict_of, Validates};
+ghost use Rattle.gixp_records.specs.Span.{IsWithin};
+ghost use Rattle.gixp_records.specs.Told.{told_value, buffers, TellsOrFails};
+ghost use Rattle.gixp_records.specs.MapRecords.{names_in, AreNamesWithin, told_mapping, told_removed, told_conflict, end_of, MapsRecords};
+
+use crate::refs::RefRecord;
+use crate::span::{Span, text_at};
+use crate::spec_text::{SpecsRefused, specs_in};
+use crate::told::{MappedRecord, MappingRecord, Told, tell};
+use bstr::BStr;
+use gixp_hash::ObjectId;
+use gixp_matching::match_group::validate::{Error as Conflicting, Fix, Issue};
+use gixp_matching::match_group::{Item, Mapping, MatchGroup, Outcome};
+use gixp_refspec::RefSpecRef;
+use gixp_refspec::parse::Error as SpecError;
+use std::alloc::{AllocError, Global};
+
+/// How a call that maps refs ended.
+#[derive(Clone, Copy, Debug)]
+pub enum MapEnd {
+    /// The mappings are told, and those that were taken out behind them.
+    Mapped,
+    /// Mappings conflict, and the conflicts are told.
+    Conflicts,
+    /// There is too little room for these: how much is needed is told, and nothing else is changed.
+    NoRoom,
+}
+
+/// Why nothing is mapped.
+#[derive(Clone, Copy, Debug, Drop)]
+pub enum MapRefused {
+    /// The name of a ref doesn't stand in the bytes.
+    Place,
+    /// The first line that is no refspec.
+    Spec(SpecError),
+    /// An allocation failed.
+    Memory,
+}
+
+// Whether a text stands in the bytes.
+fn is_within(bytes: &[u8], span: Span) -> bool
+    ensures { IsTrue result ↔ IsWithin bytes.now span }
+{
+    span.at <= bytes.len() && span.len <= bytes.len() - span.at
+}
+
+// Whether the names of all records do.
+fn are_names_within(bytes: &[u8], refs: &[RefRecord]) -> bool
+    ensures within { result ≡ true → AreNamesWithin bytes.now refs.now }
+    ensures beyond { result ≡ false → ¬ (AreNamesWithin bytes.now refs.now) }
+{
+    for found in refs {
+        if !is_within(bytes, found.name) {
+            return false;
+        }
+    }
+    true
+}
+
+// The refs of records. Matching looks at names alone.
+fn items_of<'a>(
+    alloc: Global,
+    bytes: &'a [u8],
+    refs: &[RefRecord],
+    none: &'a ObjectId,
+) -> Result<Vec<Item<'a>>, AllocError>
+    requires { AreNamesWithin bytes.now refs.now }
+    ensures { IfOk result (λ items. names items.items ≡ names_in bytes.now refs.now) }
+{
+    let mut items = Vec::new(alloc);
+    for found in refs {
+        let name = text_at(bytes, found.name);
+        items.push(Item {
+            full_ref_name: BStr::new(name),
+            target: none,
+            object: None,
+        })?;
+    }
+    Ok(items)
+}
+
+// What is told of a mapping.
+fn told_of<'a>(mapping: &'a Mapping, refs: usize) -> Told<'a>
+    ensures { told_value result ≡ told_mapping refs (mapped_of mapping.now) }
+{
+    Told {
+        item: mapping.item_index.unwrap_or(refs),
+        spec: mapping.spec_index,
+        local: match &mapping.rhs {
+            Some(name) => Some(name.as_bytes()),
+            None => None,
+        },
+    }
+}
+
+// What is told of a mapping that was taken out.
+fn told_of_fix<'a>(fix: &'a Fix, refs: usize, specs: usize) -> Told<'a>
+    ensures { told_value result ≡ told_removed refs specs (removed_of fix.now) }
+{
+    let Fix::MappingWithPartialDestinationRemoved { name, .. } = fix;
+    Told {
+        item: refs,
+        spec: specs,
+        local: Some(name.as_bytes()),
+    }
+}
+
+// What is told of a conflict.
+fn told_of_issue<'a>(issue: &'a Issue, specs: usize) -> Told<'a>
+    ensures { told_value result ≡ told_conflict specs (conflict_of issue.now) }
+{
+    let Issue::Conflict {
+        destination_full_ref_name,
+        sources,
+        ..
+    } = issue;
+    Told {
+        item: sources.len(),
+        spec: specs,
+        local: Some(destination_full_ref_name.as_bytes()),
+    }
+}
+
+// What is told of mappings.
+fn tell_of_mappings<'a>(
+    alloc: Global,
+    found: &'a [Mapping],
+    refs: usize,
+) -> Result<Vec<Told<'a>>, AllocError>
+    ensures { IfOk result (λ all. map told_value all.items ≡ map (told_mapping refs) (map mapped_of found.now)) }
+{
+    let mut all = Vec::new(alloc);
+    for mapping in found {
+        all.push(told_of(mapping, refs))?;
+    }
+    Ok(all)
+}
+
+// Adds what is told of those that were taken out.
+fn push_fixes<'a>(
+    all: &mut Vec<Told<'a>>,
+    fixes: &'a [Fix],
+    refs: usize,
+    specs: usize,
+) -> Result<(), AllocError>
+    ensures { OnOk result (map told_value all.new.items
+        ≡ map told_value all.old.items ++ map (told_removed refs specs) (map removed_of fixes.now)) }
+{
+    for fix in fixes {
+        all.push(told_of_fix(fix, refs, specs))?;
+    }
+    Ok(())
+}
+
+// What is told of conflicts.
+fn tell_of_issues<'a>(
+    alloc: Global,
+    issues: &'a [Issue],
+    specs: usize,
+) -> Result<Vec<Told<'a>>, AllocError>
+    ensures { IfOk result (λ all. map told_value all.items ≡ map (told_conflict specs) (map conflict_of issues.now)) }
+{
+    let mut all = Vec::new(alloc);
+    for issue in issues {
+        all.push(told_of_issue(issue, specs))?;
+    }
+    Ok(all)
+}
+
+// Tells the mappings, and those that were taken out behind them, of so many refs and refspecs.
+fn tell_mappings(
+    alloc: Global,
+    mapped: (&[Mapping], &[Fix]),
+    given: (usize, usize),
+    records: &mut [MappingRecord],
+    names: &mut [u8],
+    counts: &mut MappedRecord,
+) -> Result<bool, AllocError>
+    ensures { TellsOrFails (map (told_mapping given.0) (map mapped_of mapped.entry.0.now)
+        ++ map (told_removed given.0 given.1) (map removed_of mapped.entry.1.now)) (length mapped.entry.1.now)
+        (buffers records.old names.old counts.old) (buffers records.new names.new counts.new) result }
+{
+    let (found, fixes) = mapped;
+    let (refs, specs) = given;
+    let mut all = tell_of_mappings(alloc, found, refs)?;
+    push_fixes(&mut all, fixes, refs, specs)?;
+    Ok(tell(&all, fixes.len(), records, names, counts))
+}
+
+// Tells the conflicts.
+fn tell_conflicts(
+    alloc: Global,
+    issues: &[Issue],
+    specs: usize,
+    records: &mut [MappingRecord],
+    names: &mut [u8],
+    counts: &mut MappedRecord,
+) -> Result<bool, AllocError>
+    ensures { TellsOrFails (map (told_conflict specs) (map conflict_of issues.now)) 0
+        (buffers records.old names.old counts.old) (buffers records.new names.new counts.new) result }
+{
+    let all = tell_of_issues(alloc, issues, specs)?;
+    Ok(tell(&all, 0, records, names, counts))
+}
+
+// The mappings of the refs of records, checked.
+fn validated<'s>(
+    alloc: Global,
+    bytes: &[u8],
+    refs: &[RefRecord],
+    specs: &'s [RefSpecRef<'s>],
+) -> Result<Result<(Outcome<'s>, Vec<Fix>), Conflicting>, AllocError>
+    requires { AreNamesWithin bytes.now refs.now }
+    ensures { IfOk result (Validates (map value_of specs.now) (mappings (map value_of specs.now) (names_in bytes.now refs.now))) }
+{
+    let none = ObjectId::null();
+    let items = items_of(alloc, bytes, refs, &none)?;
+    let outcome = MatchGroup::from_fetch_specs(specs).match_lhs(alloc, &items)?;
+    outcome.validated(alloc)
+}
+
+// How telling ended, where this is its end.
+fn end_of(told: Result<bool, AllocError>, whole: MapEnd) -> Result<MapEnd, MapRefused>
+    ensures { result ≡ end_of told whole }
+{
+    match told {
+        Ok(true) => Ok(whole),
+        Ok(false) => Ok(MapEnd::NoRoom),
+        Err(_) => Err(MapRefused::Memory),
+    }
+}
+
+/// Maps refs by the refspecs of a text, which stand one on a line (git-fetch, "<refspec>"). The names of the refs stand in the
+/// bytes. The mappings go into the records, those that were taken out behind them, or the conflicts where there are any; their
+/// local names go into the buffer, one behind another.
+///
+/// # Errors
+///
+/// Those of [`MapRefused`]: nothing is changed then.
+pub fn map_records(
+    alloc: Global,
+    bytes: &[u8],
+    refs: &[RefRecord],
+    text: &[u8],
+    records: &mut [MappingRecord],
+    names: &mut [u8],
+    counts: &mut MappedRecord,
+) -> Result<MapEnd, MapRefused>
+    ensures { MapsRecords bytes.now refs.now (text_lines text.now) (buffers records.old names.old counts.old)
+        (buffers records.new names.new counts.new) result }
+{
+    let specs = match specs_in(alloc, text) {
+        Ok(specs) => specs,
+        Err(SpecsRefused::Spec(e)) => return Err(MapRefused::Spec(e)),
+        Err(SpecsRefused::Memory) => return Err(MapRefused::Memory),
+    };
+    if !are_names_within(bytes, refs) {
+        return Err(MapRefused::Place);
+    }
+    let given = (refs.len(), specs.len());
+    match validated(alloc, bytes, refs, &specs) {
+        Ok(Ok((outcome, fixes))) => {
+            let mapped = (outcome.mappings.as_slice(), fixes.as_slice());
+            let told = tell_mappings(alloc, mapped, given, records, names, counts);
+            end_of(told, MapEnd::Mapped)
+        }
+        Ok(Err(e)) => {
+            let told = tell_conflicts(alloc, &e.issues, given.1, records, names, counts);
+            end_of(told, MapEnd::Conflicts)
+        }
+        Err(_) => Err(MapRefused::Memory),
+    }
+}

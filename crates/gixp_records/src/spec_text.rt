@@ -1,0 +1,143 @@
+//! The refspecs of a text, one on a line (git-fetch, "<refspec>").
+ghost use Rattle.std.specs.Prelude.{◌≡◌, ◌++◌, IfOk, OnOk, map};
+ghost use Rattle.std.specs.List.{flat_map};
+ghost use Rattle.bstr.specs.BStr.{bstr_bytes};
+ghost use Rattle.bstr.specs.Owned.{bstring_bytes};
+ghost use Rattle.gixp_text.specs.Lines.{text_lines};
+ghost use Rattle.gixp_refspec.specs.Matching.{prefixes_of};
+ghost use Rattle.gixp_refspec.specs.RefSpec.{value_of};
+ghost use Rattle.gixp_refspec.specs.Texts.{texts};
+ghost use Rattle.gixp_records.specs.SpecText.{AddsLineSpec, ReadsSpecLines, TellsPrefixes, ended_line};
+
+use bstr::{BStr, BString};
+use gixp_refspec::RefSpecRef;
+use gixp_refspec::parse::{Error, Operation, parse};
+use gixp_text::text_lines;
+use std::alloc::{AllocError, AllocFailed, Global};
+
+/// Why a text has no refspecs.
+#[derive(Clone, Copy, Debug, Drop)]
+pub enum SpecsRefused {
+    /// Its first line that is no refspec.
+    Spec(Error),
+    /// An allocation failed.
+    Memory,
+}
+
+impl From<AllocError> for SpecsRefused {
+    ghost use Rattle.std.specs.Prelude.{◌≡◌};
+    ghost use Rattle.gixp_records.specs.declared.spec_text.SpecsRefused.TheVariants.{Memory};
+
+    ghost from_gives = { λ _ error. error ≡ Memory };
+
+    fn from(_e: AllocError) -> SpecsRefused {
+        SpecsRefused::Memory
+    }
+}
+
+impl<T: Drop> From<AllocFailed<T>> for SpecsRefused {
+    ghost use Rattle.std.specs.Prelude.{◌≡◌};
+    ghost use Rattle.gixp_records.specs.declared.spec_text.SpecsRefused.TheVariants.{Memory};
+
+    ghost from_gives = { λ _ error. error ≡ Memory };
+
+    fn from(_e: AllocFailed<T>) -> SpecsRefused {
+        SpecsRefused::Memory
+    }
+}
+
+// Adds the refspec of a line, unless the line is empty.
+fn push_spec<'a>(line: BStr<'a>, specs: &mut Vec<RefSpecRef<'a>>) -> Result<(), SpecsRefused>
+    ensures { AddsLineSpec (bstr_bytes line.entry) specs.old.items specs.new.items result }
+{
+    if line.as_bytes().is_empty() {
+        return Ok(());
+    }
+    match parse(line, Operation::Fetch) {
+        Ok(spec) => match specs.push(spec) {
+            Ok(()) => Ok(()),
+            Err(_) => Err(SpecsRefused::Memory),
+        },
+        Err(e) => Err(SpecsRefused::Spec(e)),
+    }
+}
+
+// The refspecs of lines.
+fn line_specs<'a>(alloc: Global, lines: &[BStr<'a>]) -> Result<Vec<RefSpecRef<'a>>, SpecsRefused>
+    ensures { ReadsSpecLines (map bstr_bytes lines.now) result }
+{
+    let mut specs = Vec::new(alloc);
+    for line in lines {
+        match push_spec(*line, &mut specs) {
+            Ok(()) => {}
+            Err(e) => return Err(e),
+        }
+    }
+    Ok(specs)
+}
+
+/// The refspecs of a text, one on each line; a line that is empty is none. They borrow the text.
+///
+/// # Errors
+///
+/// `Spec` for the first line that is no refspec, or `Memory`.
+pub fn specs_in<'a>(alloc: Global, text: &'a [u8]) -> Result<Vec<RefSpecRef<'a>>, SpecsRefused>
+    ensures { ReadsSpecLines (text_lines text.now) result }
+{
+    match text_lines(alloc, text) {
+        Ok(lines) => line_specs(alloc, &lines),
+        Err(_) => Err(SpecsRefused::Memory),
+    }
+}
+
+// The prefixes of refspecs.
+fn prefixes_of(alloc: Global, specs: &[RefSpecRef<'_>]) -> Result<Vec<BString>, AllocError>
+    ensures { IfOk result (λ found. texts found ≡ flat_map prefixes_of (map value_of specs.now)) }
+{
+    let mut prefixes = Vec::new(alloc);
+    for spec in specs {
+        spec.expand_prefixes(alloc, &mut prefixes)?;
+    }
+    Ok(prefixes)
+}
+
+// Adds a line and its LF.
+fn push_line(text: &mut Vec<u8>, line: &[u8]) -> Result<(), AllocError>
+    ensures { OnOk result (text.new.items ≡ text.old.items ++ ended_line line.now) }
+{
+    text.extend_from_slice(line)?;
+    text.extend_from_slice(b"\n")
+}
+
+// These lines, each with an LF behind it.
+fn text_of_lines(alloc: Global, lines: &[BString]) -> Result<Vec<u8>, AllocError>
+    ensures { IfOk result (λ text. text.items ≡ flat_map ended_line (map bstring_bytes lines.now)) }
+{
+    let mut text = Vec::new(alloc);
+    for line in lines {
+        push_line(&mut text, line.as_bytes())?;
+    }
+    Ok(text)
+}
+
+/// The prefixes that a server is asked for, for the refspecs of a text, which stand one on a line: of each refspec in turn, each
+/// with an LF behind it (gitprotocol-v2, `ref-prefix`).
+///
+/// # Errors
+///
+/// As [`specs_in`].
+pub fn prefix_text(alloc: Global, text: &[u8]) -> Result<Vec<u8>, SpecsRefused>
+    ensures { TellsPrefixes (text_lines text.now) result }
+{
+    let specs = match specs_in(alloc, text) {
+        Ok(specs) => specs,
+        Err(e) => return Err(e),
+    };
+    let Ok(prefixes) = prefixes_of(alloc, &specs) else {
+        return Err(SpecsRefused::Memory);
+    };
+    match text_of_lines(alloc, &prefixes) {
+        Ok(told) => Ok(told),
+        Err(_) => Err(SpecsRefused::Memory),
+    }
+}
