@@ -113,4 +113,5 @@ shown_of true line text = then_shown (ended line) (λ l. then_shown (after_text 
 
 -- unless something is missing, that was shown, from this line at hand, by a writer that held and holds this
 abbrev pub ShowsLines : Bool → Option (List ℕ) → Bool → Option (List ℕ) → List ℕ → ShownLines → Type 0
-ShowsLines was_cut held is_cut holds line shown = is_cut ≡ false → (was_cut ≡ false) × Appends held holds shown.written × (line ≡ shown.line)
+ShowsLines was_cut held is_cut holds line shown = is_cut ≡ false → (was_cut ≡ false) × Appends held holds shown.written
+    × (line ≡ shown.line)
