@@ -3,6 +3,7 @@
 #![tactic(auto)]
 
 mod device;
+mod ids;
 mod objects;
 mod paper;
 mod recorder;
@@ -10,6 +11,7 @@ mod refs;
 mod told;
 
 pub use device::{Device, Pieces, next_random};
+pub use ids::{numbered_id, numbered_ids};
 pub use objects::{LentObjects, MemoryObjects};
 pub use paper::Paper;
 pub use recorder::Recorder;

@@ -75,7 +75,8 @@ ends_refused_by v (mark kind ∷ ps) end e h = by_stop (is_stop v kind) refl h
     by_stop false s f = cc
 
 short_by : (old new : Reading) (e : read_error) → DrainFails old new e → StopsShort old new (refusal_of e)
-short_by old new e d = record { why = by d.refused; version = version d.refused ∙ d.passed.version; held = fails_held _ _ _ d.refused ∙ d.passed.held }
+short_by old new e d =
+    record { why = by d.refused; version = version d.refused ∙ d.passed.version; held = fails_held _ _ _ d.refused ∙ d.passed.held }
   where
     version : reader_fails d.now new (refusal_of e) → new.version ≡ d.now.version
     version (inl r) = r.version
@@ -293,7 +294,8 @@ module _ {N I S A C P X : Type 0} (parties : Parties N I A S C P X) (call : Fetc
   by_negotiation negotiate_memory own g r = by_memory g
   by_negotiation x own g r = by_this (Negotiate x) g (λ q. cc, r)
 
-  by_missing : (name : List ℕ) → IsMissing name e → ((text : List ℕ) → text ≡ description_of name → FeatureLacked parties call old new name text)
+  by_missing : (name : List ℕ) → IsMissing name e
+      → ((text : List ℕ) → text ≡ description_of name → FeatureLacked parties call old new name text)
       → Cause e
   by_missing name m l = at e refl m
     where
@@ -557,7 +559,11 @@ module _ {N I S A C P X : Type 0} (parties : Parties N I A S C P X) (call : Fetc
           by_this parties call old new progress e RejectShallowRemote h.0 (
             x.0,
             j,
-            (ids, subst (λ s. parties.store_calls.reads s ids released) x.1 (subst (λ s. parties.store_calls.reads held ids s) (sym same) reads)),
+            (
+              ids,
+              subst (λ s. parties.store_calls.reads s ids released) x.1
+                  (subst (λ s. parties.store_calls.reads held ids s) (sym same) reads),
+            ),
             k,
           )
       unheld_cause c true false false d j f l h k =
@@ -574,7 +580,8 @@ module _ {N I S A C P X : Type 0} (parties : Parties N I A S C P X) (call : Fetc
 
       untaken_cause : PackRefused parties.consumes old.consumer from e last.consumer last.reading progress → Caused
       untaken_cause u = at u.error u.gives
-          (refuses_pack parties old.consumer from last.consumer last.reading progress u.name u.asks u.p u.error u.end stopped u.fails u.back)
+          (refuses_pack parties old.consumer from last.consumer last.reading progress
+          u.name u.asks u.p u.error u.end stopped u.fails u.back)
         where
           at : (x : PackFailure X) → e ≡ of_pack x → RefusesPack parties old.consumer from x last.consumer last.reading progress → Caused
           at (Consumer x) g r = by_this parties call old new progress e (ConsumePack x) g (from, r)

@@ -131,7 +131,8 @@ told_as : {N I A : Type 0} (m : Manner N I A) (ts : List (Turn N I)) (last : Tur
 told_as m [] last more = ap (λ us. us ++ more) (sym (append-nil last.reply.shallow_updates))
 told_as m (t ∷ ts) last more = append_assoc (t.reply.shallow_updates ++ updates_of m ts) last.reply.shallow_updates more
     ∙ append_assoc t.reply.shallow_updates (updates_of m ts) (last.reply.shallow_updates ++ more)
-    ∙ ap (λ us. t.reply.shallow_updates ++ us) (sym (append_assoc (updates_of m ts) last.reply.shallow_updates more) ∙ told_as m ts last more)
+    ∙ ap (λ us. t.reply.shallow_updates ++ us)
+    (sym (append_assoc (updates_of m ts) last.reply.shallow_updates more) ∙ told_as m ts last more)
     ∙ sym (append_assoc t.reply.shallow_updates (told_in (ts ++ last ∷ [])) more)
 
 module _ {N I S A C P X : Type 0} (parties : Parties N I A S C P X) (call : FetchCall) (old new : World N I S C) (progress : P) where
@@ -189,7 +190,8 @@ module _ {I : Type 0} (says : I → Bool → I → Type 0) where
         subst (λ n. IfSome from.to_come (TakesTexts n from new)) k h.each;
   }
 
-  each_of : (banded plain : Bool) (from new : Reading) (a b : I) → AsksThrough says banded plain false from new a b → Each banded from new a b
+  each_of : (banded plain : Bool) (from new : Reading) (a b : I) → AsksThrough says banded plain false from new a b
+      → Each banded from new a b
   each_of false plain from new a b h = record {
     count = 0;
     said = λ c n g.
@@ -212,8 +214,11 @@ module _ {N I A : Type 0} (m : Manner N I A) where
   one_asks : (old : At N I) (t : Turn N I) (ts : List (Turn N I)) (last : I) → Turns m old t → Answered_each ts t.after.interrupt last
       → Answered_each (t ∷ ts) old.interrupt last
   one_asks old t ts last h r =
-      let e = each_of m.says m.banded m.plain t.sent t.after.reading h.asks.0 t.after.interrupt h.asks.2 in
-      (e.count ∷ r.0, have_more m.says m.banded t ts h.asks.0 t.after.interrupt e r.0 r.1, (h.asks.0, h.asks.1, e.said last (questions r.0) r.2))
+      let e = each_of m.says m.banded m.plain t.sent t.after.reading h.asks.0 t.after.interrupt h.asks.2 in (
+        e.count ∷ r.0,
+        have_more m.says m.banded t ts h.asks.0 t.after.interrupt e r.0 r.1,
+        (h.asks.0, h.asks.1, e.said last (questions r.0) r.2),
+      )
 
   pub rounds_ask : (start end : At N I) (ts : List (Turn N I)) → Rounds m start ts end
       → (counts : List ℕ) × HaveTexts m.banded ts counts × SaysGoOn m.says (questions counts) start.interrupt end.interrupt
@@ -226,4 +231,5 @@ module _ {N I A : Type 0} (m : Manner N I A) where
   last_asks start before [] last r h =
       subst (λ (a : At N I). Answered_each (last ∷ []) a.interrupt last.after.interrupt) r
       (one_asks before last [] last.after.interrupt h ([], tt, refl))
-  last_asks start before (t ∷ ts) last r h = one_asks start t (ts ++ last ∷ []) last.after.interrupt r.0 (last_asks t.after before ts last r.3 h)
+  last_asks start before (t ∷ ts) last r h = one_asks start t (ts ++ last ∷ []) last.after.interrupt r.0
+      (last_asks t.after before ts last r.3 h)

@@ -76,7 +76,8 @@ module _ {C P X : Type 0} (consumes : C → Side → P → Result Bool X → C �
 
   unreceived_held : {A : Type 0} (from : Reading) (e : Error A X) (d : C) (new : Reading) (q : P)
       → ReceiveFails consumes c from e d new q → new.held ≡ from.held
-  unreceived_held from e d new q (inl r) = back_held r.end new r.back ∙ pack_held (fresh_side r.name r.asks from) r.p r.error d r.end q r.fails
+  unreceived_held from e d new q (inl r) = back_held r.end new r.back
+      ∙ pack_held (fresh_side r.name r.asks from) r.p r.error d r.end q r.fails
   unreceived_held from e d new q (inr m) = ap (λ (r : Reading). r.held) m.2
 
   module _ {S : Type 0} (store_calls : StoreCalls S) (ids : List ObjectId) (updates : List ShallowUpdate) (reject : Bool) (store : S)
@@ -249,7 +250,8 @@ module _ {N I A S C P X : Type 0} (parties : Parties N I A S C P X) where
   }
 
   -- the consumer refused it, or what comes after it was refused
-  pub refuses_pack : (c : C) (from : Reading) (d : C) (new : Reading) (q : P) (name asks : GName) (p : P) (error : PackFailure X) (end : Side)
+  pub refuses_pack : (c : C) (from : Reading) (d : C) (new : Reading) (q : P) (name asks : GName) (p : P) (error : PackFailure X)
+      (end : Side)
       → from.stopped ≡ None → PackFails parties.consumes c (fresh_side name asks from) p error d end q
       → GivesBack end new → RefusesPack parties c from error d new q
   refuses_pack c from d new q name asks p (Consumer x) end s f b = (end, taken c from d name asks p (Err x) end q s f, b)
@@ -394,7 +396,8 @@ module _ {N I A S C P X : Type 0} (parties : Parties N I A S C P X) where
           let few = add_none _ _ (few_begun manner (record f.before { interrupt = f.asked }) e last.negotiate last.reading last.interrupt
           f.refused) in
           broken_by ids last.store action ready wanted rounds b bounded f.turns f.before f.run
-          (at_round f.asked f.said f.refused (record { consumer = c; store = refl; lock = l })) f.told few tt tt (none_written f.before.reading)
+          (at_round f.asked f.said f.refused (record { consumer = c; store = refl; lock = l })) f.told few tt tt
+          (none_written f.before.reading)
 
       broken_packed : (ids : List ObjectId) (read : S) (action : ActionValue) (rounds : List Round) (updates : List ShallowUpdate)
           (reply : AnswerValue) (end : At N I)

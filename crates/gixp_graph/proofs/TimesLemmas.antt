@@ -213,7 +213,8 @@ less_le a b Equal h e = cc
 less_le a b Greater h e = cc
 
 pub older : (t : ℤ) (ks : List ℤ) → All (λ k. int_cmp k t ≡ Less) ks → All (λ k. k ≤ℤ t) ks
-older t ks h = All-weaker (λ k. int_cmp k t ≡ Less) (λ k. k ≤ℤ t) (λ k e. less_le k t (int_cmp k t) (int_ranked k t (int_cmp k t) refl) e) ks h
+older t ks h = All-weaker (λ k. int_cmp k t ≡ Less) (λ k. k ≤ℤ t)
+    (λ k e. less_le k t (int_cmp k t) (int_ranked k t (int_cmp k t) refl) e) ks h
 
 -- a time that is before another doesn't tie with it
 apart : (a b : ℤ) (o p : Ordering) → MatchOrdering o (a <ℤ b) (a ≡ b) (b <ℤ a) → MatchOrdering p (b <ℤ a) (b ≡ a) (a <ℤ b) → o ≡ Less
@@ -246,7 +247,8 @@ ends_last P (x ∷ xs) p h =
 module _ (links : List Link) (linked : IsLinked links) (es : List (ℤ × Link)) (ends : AllEnd links es) (t : ℤ) (n : ℕ) where
   -- alone under its time
   pub added_alone : (rest : List (ℤ × Link)) → rest ≡ es → lookup (is_at (int_cmp t)) rest ≡ None
-      → IsPermutation (entry_at t n ∷ entries_in links es) (entries_in links (insert_entry int_cmp rest t (record { number = n; next = 0 })))
+      → IsPermutation (entry_at t n ∷ entries_in links es)
+      (entries_in links (insert_entry int_cmp rest t (record { number = n; next = 0 })))
   added_alone rest same none =
       let one : Link = record { number = n; next = 0 } in
       subst (λ l. IsPermutation (entry_at t n ∷ entries_in links l) (entries_in links (insert_entry int_cmp rest t one))) same
@@ -266,7 +268,8 @@ module _ (links : List Link) (linked : IsLinked links) (es : List (ℤ × Link))
 
     -- so do the others
     pub ends_others : AllEnd links rest
-    ends_others = subst (AllEnd links) (sym is) (All-map-remove_entry (is_at (int_cmp t)) (λ (e : ℤ × Link). e.1) (EndsWithin links) es ends)
+    ends_others = subst (AllEnd links) (sym is)
+        (All-map-remove_entry (is_at (int_cmp t)) (λ (e : ℤ × Link). e.1) (EndsWithin links) es ends)
 
     -- before the others of its time
     pub added_more : lookup (is_at (int_cmp t)) rest ≡ None → IsPermutation (entry_at t n ∷ entries_in links es)
@@ -278,7 +281,8 @@ module _ (links : List Link) (linked : IsLinked links) (es : List (ℤ × Link))
         ap (λ ns. map (entry_at t) ns ++ entries_in (links ++ l ∷ []) rest) (numbers_more links linked l n end_there)
         ∙ ap (λ ws. map (entry_at t) (n ∷ numbers_of links l) ++ ws) (entries_kept links linked l rest ends_others) in
         IsPermutation-trans _ _ _
-        (IsPermutation-cons (entry_at t n) _ _ (subst (λ r. IsPermutation (entries_in links es) (entries_of links (t, l) ++ entries_in links r))
+        (IsPermutation-cons (entry_at t n) _ _
+        (subst (λ r. IsPermutation (entries_in links es) (entries_of links (t, l) ++ entries_in links r))
         (sym is) (entries_remove links es t l there)))
         (subst (λ ws. IsPermutation ws (entries_in (links ++ l ∷ []) (insert_entry int_cmp rest t more))) same
         (entries_insert (links ++ l ∷ []) rest t more none))
@@ -318,7 +322,8 @@ module _ {A E : Type 0} (r : Result A E) (links : List Link) (linked : IsLinked 
     longer_ends m made new ok err =
         put_ends r ls rest new t m ok err
         (subst (λ k. AllEnd k rest) (sym grown) (ends_more links l rest (ends_others links linked es ends t n rest l is there)))
-        (subst (λ k. EndsWithin k m) (sym grown) (subst (EndsWithin (links ++ l ∷ [])) (sym made) (omega (arith, length-append links (l ∷ [])))))
+        (subst (λ k. EndsWithin k m) (sym grown)
+        (subst (EndsWithin (links ++ l ∷ [])) (sym made) (omega (arith, length-append links (l ∷ [])))))
 
     pub longer_ok : (m : Link) → m ≡ record { number = n; next = length links + 1 } → (new : List (ℤ × Link))
         → lookup (is_at (int_cmp t)) rest ≡ None → OnOk r (new ≡ insert_entry int_cmp rest t m)

@@ -1,2 +1,3 @@
 pub mod ErrorName
 pub mod List
+pub mod MappingNames

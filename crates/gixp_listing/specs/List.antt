@@ -13,10 +13,6 @@ use Rattle.gixp_refs.specs.declared.handshake.refs.parse.Error.{Error}
 use Rattle.gixp_listing.specs.declared.list.ListError.{ListError}
 use Rattle.gixp_listing.specs.declared.list.ListError.TheVariants.{Parse, Io}
 
--- texts one after the other
-abbrev pub joined : List (List ℕ) → List ℕ
-joined texts = flat_map (λ (text : List ℕ). text) texts
-
 -- the refs' lines were written
 abbrev pub Prints : Option (List ℕ) → Option (List ℕ) → Result (List RefValue) RefsRefusal → Type 0
 Prints old new (Ok values) = Appends old new (flat_map written_line values)

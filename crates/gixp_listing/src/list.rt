@@ -9,9 +9,9 @@ ghost use Rattle.gixp_listing.specs.ErrorName.{error_name, list_error_name};
 ghost use Rattle.gixp_listing.specs.List.{Prints, PrintsLine, PrintsNext, PrintsAhead, RefusesAhead, ListsAhead, RefusesLines, RefusesList, IsParse};
 
 use crate::print::print_ref;
-use crate::text::append;
 use gixp_packetline::{ExtendedBufRead, LineReader};
 use gixp_refs::handshake::refs::{parse, parse_v2, written_text};
+use gixp_text::append;
 use std::alloc::{AllocError, Global};
 use std::io;
 use std::io::{ErrorKind, Read, Write};

@@ -4,9 +4,9 @@ ghost use Rattle.gixp_refs.specs.WrittenLine.{written_line};
 ghost use Rattle.gixp_refs.specs.Ref.{ref_value, peeled, symbolic, unborn};
 ghost use Rattle.gixp_refs.specs.ParseError.{object_of};
 
-use crate::text::append;
 use gixp_hash::ObjectId;
 use gixp_refs::handshake::Ref;
+use gixp_text::append;
 use std::alloc::AllocError;
 
 // The line of a symbolic ref.

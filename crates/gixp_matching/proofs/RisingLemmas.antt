@@ -34,7 +34,8 @@ module _ {K : Type 0} {R : K → K → Ordering} (o : IsTotalOrder R) where
   )
 
 -- keys that rise to a last one
-pub sorted_from_rising : {K : Type 0} (R : K → K → Ordering) (keys : List K) (last : Option K) → RisesTo R keys last → IsStrictlySortedBy R keys
+pub sorted_from_rising : {K : Type 0} (R : K → K → Ordering) (keys : List K) (last : Option K) → RisesTo R keys last
+    → IsStrictlySortedBy R keys
 unfolding IsStrictlySortedBy
 sorted_from_rising R keys None h = subst (IsStrictlySortedBy R) (sym h) tt
 sorted_from_rising R keys (Some last) h = h.1

@@ -44,10 +44,7 @@ impl<T: Drop> From<AllocFailed<T>> for TextError {
 pub(crate) fn named_id(word: &[u8]) -> Option<ObjectId>
     ensures { result ≡ named_id word.now }
 {
-    match ObjectId::from_hex(word) {
-        Ok(id) => Some(id),
-        Err(_) => None,
-    }
+    ObjectId::from_hex(word).ok()
 }
 
 // The ids that all of some words are.

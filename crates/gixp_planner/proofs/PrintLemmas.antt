@@ -18,7 +18,9 @@ use Rattle.gixp_planner.specs.declared.error.PlanError.{PlanError}
 use Rattle.gixp_planner.specs.Refusal.{refusal_of, IsUnwritten, amount_told, failed_amount, written_amount, device_refusal, AnswersWrite}
 use Rattle.gixp_planner.specs.Written.{WritesPart, WritesBeginning, WritesPlan, WritesSome, HoldsRest, EndsInFlush, flushed, unwritten}
 use Rattle.gixp_planner.proofs.ListLemmas.{left-at}
-use Rattle.gixp_planner.specs.Text.{joined, frame_content, frame_shown, request_shown, requests_behind, id_shown, name_shown, mapping_shown, fix_shown}
+use Rattle.gixp_text.specs.Pieces.{joined}
+use Rattle.gixp_listing.specs.MappingNames.{name_shown}
+use Rattle.gixp_planner.specs.Text.{frame_content, frame_shown, request_shown, requests_behind, id_shown, mapping_shown, fix_shown}
 
 -- nothing of a text is written yet
 pub part-none : (a : Option (List ℕ)) (text : List ℕ) → WritesPart a a text text

@@ -18,7 +18,9 @@ use Rattle.gixp_refmap.specs.declared.refmap.mapping.Mapping.{Mapping}
 use Rattle.gixp_refmap.specs.declared.refmap.map.RefMap.{RefMap}
 use Rattle.gixp_refmap.specs.Mapping.{source_id, source_name, found_in, IsRemote, IsMapping, AnswersBy}
 use Rattle.gixp_negotiate.specs.NegotiationMapping.{is_unborn}
-use Rattle.gixp_planner.specs.Text.{joined, id_shown, name_shown, mapping_shown, removed_shown, fix_shown, map_shown}
+use Rattle.gixp_text.specs.Pieces.{joined}
+use Rattle.gixp_listing.specs.MappingNames.{name_shown}
+use Rattle.gixp_planner.specs.Text.{id_shown, mapping_shown, removed_shown, fix_shown, map_shown}
 
 -- what is seen of a mapping: the id and the name that it takes, whether what it takes isn't there yet, and the local name
 pub record Seen : Type 0 where

@@ -15,12 +15,10 @@ use Rattle.gixp_matching.specs.Validate.{removed_of}
 use Rattle.gixp_refmap.specs.declared.refmap.mapping.Mapping.{Mapping}
 use Rattle.gixp_refmap.specs.declared.refmap.map.RefMap.{RefMap}
 use Rattle.gixp_refmap.specs.Mapping.{source_id, source_name}
+use Rattle.gixp_text.specs.Pieces.{joined}
+use Rattle.gixp_listing.specs.MappingNames.{name_shown}
 use Rattle.gixp_planner.specs.declared.error.PlanError.{PlanError}
 use Rattle.gixp_planner.specs.Refusal.{PlanRefusal, refusal_of}
-
--- texts one after the other
-abbrev pub joined : List (List ℕ) → List ℕ
-joined texts = flat_map (λ (text : List ℕ). text) texts
 
 -- a payload without its ending LF, or the digits of a packet line that has none
 abbrev pub frame_content : Frame → List ℕ
@@ -46,11 +44,6 @@ requests_shown requests = requests_behind 0 requests
 abbrev pub id_shown : Option ObjectId → List ℕ
 id_shown (Some id) = encode_lower id.bytes
 id_shown None = codes "unborn"
-
--- a name, or a dash where there is none
-abbrev pub name_shown : Option (List ℕ) → List ℕ
-name_shown (Some name) = name
-name_shown None = codes "-"
 
 -- a mapping: what is taken, its name, and the local name
 abbrev pub mapping_shown : Mapping → List ℕ

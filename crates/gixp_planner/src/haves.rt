@@ -1,23 +1,10 @@
 //! The haves that a plan offers.
-ghost use Rattle.std.specs.Prelude.{◌≡◌};
-ghost use Rattle.std.specs.Option.{option_map};
-ghost use Rattle.gixp_hash.specs.ObjectId.{id_of};
 ghost use Rattle.gixp_planner.specs.Haves.{ReadsHaves};
 
 use crate::error::PlanError;
 use gix_protocol::transport::ObjectId;
 use gixp_text::text_lines;
 use std::alloc::Global;
-
-// The id that a line is, if it is one.
-fn id_in(line: &[u8]) -> Option<ObjectId>
-    ensures { option_map (λ id. id.bytes) result ≡ id_of line.now }
-{
-    match ObjectId::from_hex(line) {
-        Ok(id) => Some(id),
-        Err(_) => None,
-    }
-}
 
 /// The ids of a text, one on each line, in their order and with their repeats. Each line ends in LF, which the last one
 /// may lack.
@@ -34,13 +21,12 @@ pub fn parse_haves(alloc: Global, text: &[u8]) -> Result<Vec<ObjectId>, PlanErro
     };
     let mut ids = Vec::new(alloc);
     for line in &lines {
-        match id_in(line.as_bytes()) {
-            Some(id) => match ids.push(id) {
-                Ok(()) => {}
-                Err(_) => return Err(PlanError::memory("have")),
-            },
-            None => return Err(PlanError::new("have", "Decode")),
-        }
+        let Ok(id) = ObjectId::from_hex(line.as_bytes()) else {
+            return Err(PlanError::new("have", "Decode"));
+        };
+        let Ok(()) = ids.push(id) else {
+            return Err(PlanError::memory("have"));
+        };
     }
     Ok(ids)
 }

@@ -2,24 +2,20 @@
 ghost use Rattle.std.specs.Prelude.{◌≡◌, ◌++◌, ◌≤◌, ◌<◌, [], OnOk, drop, flat_map, length, map, vec_items};
 ghost use Rattle.std.specs.Fn.{FnOnceReturnsAtMut};
 ghost use Rattle.std.specs.Io.KnownBytes.{Keeps};
-ghost use Rattle.std.specs.Option.{option_map};
-ghost use Rattle.bstr.specs.Owned.{bstring_bytes};
 ghost use Rattle.gixp_packetline.specs.Frames.{frames_of};
 ghost use Rattle.gixp_packetline.specs.FrameText.{message_text};
 ghost use Rattle.gixp_packetline.specs.PacketLine.{frame_of};
-ghost use Rattle.gixp_refmap.specs.Mapping.{source_name};
 ghost use Rattle.gixp_planner.specs.Written.{EndsInFlush, HoldsRest, WritesPlan, WritesSome};
-ghost use Rattle.gixp_planner.specs.Text.{frame_content, frame_shown, request_shown, requests_shown, name_shown, mapping_shown, fix_shown, end_shown, ended_of};
+ghost use Rattle.gixp_planner.specs.Text.{frame_content, frame_shown, request_shown, requests_shown, mapping_shown, fix_shown, end_shown, ended_of};
 ghost use Rattle.gixp_planner.specs.Printed.{text_behind, printed_text, mapped_text};
 
 use crate::error::{PlanError, amount_of, answered};
 use crate::printed::PrintedMap;
-use bstr::BString;
-use gix_protocol::fetch::refmap::{Mapping, Source};
+use gix_protocol::fetch::refmap::Mapping;
 use gix_protocol::refspec::match_group::validate::Fix;
-use gixp_listing::append;
+use gixp_listing::{local_name, remote_name};
 use gixp_packetline::{MessageKind, PacketLine, split_packet_line};
-use gixp_text::without_line_end;
+use gixp_text::{append, without_line_end};
 use std::alloc::{AllocError, Global};
 use std::io;
 use std::io::Write;
@@ -187,28 +183,6 @@ fn write_requests<W: Write>(
         write_request(alloc, writer, pending, place + 1, request)?;
     }
     Ok(())
-}
-
-// The name of what is taken, or a dash.
-#[inline(always)]
-fn remote_name(source: &Source) -> &[u8]
-    ensures { result.now ≡ name_shown (source_name source.now) }
-{
-    match source.as_name() {
-        Some(name) => name.as_bytes(),
-        None => b"-",
-    }
-}
-
-// The local name, or a dash.
-#[inline(always)]
-fn local_name(local: &Option<BString>) -> &[u8]
-    ensures { result.now ≡ name_shown (option_map bstring_bytes local.now) }
-{
-    match local {
-        Some(name) => name.as_bytes(),
-        None => b"-",
-    }
 }
 
 /// Appends what is printed of a mapping.

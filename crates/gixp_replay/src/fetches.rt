@@ -30,7 +30,7 @@ use gixp_negotiators::HaveList;
 use gixp_progress::Discard;
 use gixp_refmap::RefMap;
 use gixp_refmap::refmap::init;
-use gixp_requests::command::Feature;
+use gixp_requests::agent_feature;
 use gixp_shallow::{ShallowError, ShallowStore};
 use gixp_wire::{Service, Transport};
 use std::alloc::{AllocError, Global};
@@ -131,10 +131,6 @@ impl ShallowStore for ScriptedStore {
     ghost counted = { λ call s e t h. h };
 }
 
-fn agent(alloc: Global) -> Result<Feature, AllocError> {
-    Ok(("agent", Some(String::from_str(alloc, "git/oxide")?)))
-}
-
 // The number of each round, and whether a commit was common.
 fn report_rounds(rounds: &[Round], report: &mut Report) {
     for round in rounds {
@@ -195,7 +191,7 @@ fn fetch_by<T: Transport, C: ConsumePack<Discard, Error = CopyError>>(
             graph: &mut graph,
         };
     let mut negotiation = Negotiation::new(context, map, &script.shallow, script.tags);
-    let name = agent(alloc)?;
+    let name = agent_feature(alloc, "oxide")?;
     Ok(fetch(
         alloc,
         &mut negotiation,
@@ -253,7 +249,7 @@ fn obtain_map<T: Transport>(
         fetch_refspecs: mem::replace(&mut script.specs, Vec::new(alloc)),
         extra_refspecs: Vec::new(alloc),
     };
-    let agent = agent(alloc)?;
+    let agent = agent_feature(alloc, "oxide")?;
     match obtain(
         alloc,
         hands,

@@ -15,9 +15,9 @@ use bstr::BString;
 use gixp_capabilities::Capabilities;
 use gixp_hash::ObjectId;
 use gixp_packetline::Protocol;
-use gixp_requests::Command;
 use gixp_requests::command::{CommandTable, Feature};
 use gixp_requests::fetch::Arguments;
+use gixp_requests::{Command, agent_feature};
 use gixp_response::fetch::Response;
 use gixp_sidebands::{NeverInterrupt, WithSidebands};
 use gixp_wire::{Body, Transport};
@@ -29,10 +29,6 @@ pub(crate) const SETTINGS: &[Setting] = &[
     ("done-at", &[], 1),
     ("reads", &[], 0),
 ];
-
-fn agent(alloc: Global) -> Result<Feature, AllocError> {
-    Ok(("agent", Some(String::from_str(alloc, "git/probe")?)))
-}
 
 // The arguments that ask for the refs below `refs/`.
 fn arguments_of_refs(alloc: Global, features: &[Feature]) -> Result<Vec<BString>, AllocError> {
@@ -48,7 +44,7 @@ fn list_refs<T: Transport>(
     transport: &mut T,
     report: &mut Report,
 ) -> Result<bool, AllocError> {
-    let features = [agent(alloc)?];
+    let features = [agent_feature(alloc, "probe")?];
     let arguments = arguments_of_refs(alloc, &features)?;
     if let Err(e) = transport.invoke(alloc, Command::LsRefs.as_str(), &features, &arguments) {
         client_error(report, &e);
@@ -159,7 +155,7 @@ fn features_of_fetch(
 ) -> Result<Vec<Feature>, AllocError> {
     let table = CommandTable::git();
     let mut features = table.default_features(alloc, Command::Fetch, version, capabilities)?;
-    features.push(agent(alloc)?)?;
+    features.push(agent_feature(alloc, "probe")?)?;
     Ok(features)
 }
 

@@ -71,7 +71,8 @@ of_line (unknown_header t) r h l = refl
 of_line no_memory r h l = refl
 
 -- nor is that of a header, or of an item
-pub header_asks : (Y : Type 0) (A : Bool → Type 0) (text : List ℕ) (e : Error) → AnswersResponse (λ (h : Header). h) (read_header text) (Err e)
+pub header_asks : (Y : Type 0) (A : Bool → Type 0) (text : List ℕ) (e : Error)
+    → AnswersResponse (λ (h : Header). h) (read_header text) (Err e)
     → A false → A (is_interrupted_answer {X = Y} (Err e))
 header_asks Y A text e h k = subst A (sym (by (is_utf8 text) (header_of (trimmed text)) h)) k
   where

@@ -18,13 +18,13 @@ kept_through a b c h k = record { path = k.path ∙ h.path; lock_path = k.lock_p
 module _ {F : Type 0} (old new : ShallowFile F) (e : ShallowError) where
   -- a failed call of the system, by the call that made it
   pub lock_refused : RefusesInFile to_read old e new → RefusesInFile to_lock old e new
-  lock_refused h = record { held = h.held; kept = h.kept; counted = h.counted; locked = λ _. tt }
+  lock_refused h = record { held = h.held; kept = h.kept; counted = h.counted; uncounted = h.uncounted; locked = λ _. tt }
 
   pub write_refused : RefusesInFile to_read old e new → RefusesInFile to_write old e new
-  write_refused h = record { held = h.held; kept = h.kept; counted = h.counted; locked = λ x. absurd (h.locked x) }
+  write_refused h = record { held = h.held; kept = h.kept; counted = h.counted; uncounted = h.uncounted; locked = λ x. absurd (h.locked x) }
 
   pub write_unlocked : old.held ≡ false → RefusesInFile to_lock old e new → RefusesInFile to_write old e new
-  write_unlocked f h = record { held = h.held; kept = h.kept; counted = h.counted; locked = λ _. f }
+  write_unlocked f h = record { held = h.held; kept = h.kept; counted = h.counted; uncounted = h.uncounted; locked = λ _. f }
 
 module _ {F : Type 0} (old a new : ShallowFile F) where
   pub alone_refused : (e : ShallowError) → RefusesInFile to_read old e a → HoldsLock false a new → RefusesAlone old e new
@@ -32,6 +32,7 @@ module _ {F : Type 0} (old a new : ShallowFile F) where
     held = t.held;
     kept = kept_through old a new h.kept t.kept;
     counted = subst (λ n. IsStoreRefusal old.failures n e) (sym t.failures) h.counted;
+    uncounted = λ x. t.failures ∙ h.uncounted x;
   }
 
   pub alone_written : (left : Bool) → HoldsLock left old a → HoldsLock false a new → HoldsLock false old new
@@ -43,6 +44,7 @@ module _ {F : Type 0} (old a new : ShallowFile F) where
     held = h.held ∙ sym f;
     kept = kept_through old a new t.kept h.kept;
     counted = subst (λ n. IsStoreRefusal n new.failures e) t.failures h.counted;
+    uncounted = λ x. h.uncounted x ∙ t.failures;
     locked = λ _. f;
   }
 

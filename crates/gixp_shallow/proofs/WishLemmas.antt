@@ -32,7 +32,11 @@ same_cutoff : (s t : Option ℤ) → Decides (option_eq int_eq s t) (s ≡ t)
 same_cutoff None None = (λ t. refl, λ h. refl)
 same_cutoff None (Some y) = apart refl (λ h. cc)
 same_cutoff (Some x) None = apart refl (λ h. cc)
-same_cutoff (Some x) (Some y) = (λ t. ap (λ z. Some z) ((Decides-int_eq x y).0 t), λ h. (Decides-int_eq x y).1 (let same : x ≡ y = cc in same))
+same_cutoff (Some x) (Some y) = (
+  λ t. ap (λ z. Some z) ((Decides-int_eq x y).0 t),
+  λ h. (Decides-int_eq x y).1
+      (let same : x ≡ y = cc in same),
+)
 
 same_exclusion : (xs ys : List PartialName) (s t : Option ℤ) (r : Bool)
     → r ≡ (pointwise (λ x y. bytes_eq (name_bytes x) (name_bytes y)) xs ys && option_eq int_eq s t)

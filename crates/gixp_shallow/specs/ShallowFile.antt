@@ -3,7 +3,7 @@ use Rattle.std.specs.Prelude.{◌≡◌, ⊤, Bool, true, false, List, [], ◌�
 use Rattle.gixp_hash.specs.declared.object_id.ObjectId.{ObjectId}
 use Rattle.gixp_shallow.specs.declared.store.file.ShallowFile.{ShallowFile}
 use Rattle.gixp_shallow.specs.declared.store.ShallowError.{ShallowError}
-use Rattle.gixp_shallow.specs.declared.store.ShallowError.TheVariants.{Locked}
+use Rattle.gixp_shallow.specs.declared.store.ShallowError.TheVariants.{Locked, Memory}
 use Rattle.gixp_shallow.specs.Store.{StoreCall, to_lock, to_read, to_write, IsStoreRefusal}
 
 -- the same file and lock file
@@ -32,11 +32,12 @@ MayBeLocked to_lock held = ⊤
 MayBeLocked to_read held = ⊥
 MayBeLocked to_write held = held ≡ false
 
--- a refused call leaves the lock as it was, had or not, and is counted unless an allocation failed
+-- a refused call leaves the lock as it was, had or not, and is counted; where an allocation failed it isn't
 pub record RefusesInFile {F : Type 0} (call : StoreCall) (old : ShallowFile F) (e : ShallowError) (new : ShallowFile F) : Type 0 where
   pub held : new.held ≡ old.held
   pub kept : IsKept old new
   pub counted : IsStoreRefusal old.failures new.failures e
+  pub uncounted : e ≡ Memory → new.failures ≡ old.failures
   pub locked : e ≡ Locked → MayBeLocked call old.held
 
 -- the same of a write that gives the lock back
@@ -44,3 +45,4 @@ pub record RefusesAlone {F : Type 0} (old : ShallowFile F) (e : ShallowError) (n
   pub held : new.held ≡ false
   pub kept : IsKept old new
   pub counted : IsStoreRefusal old.failures new.failures e
+  pub uncounted : e ≡ Memory → new.failures ≡ old.failures

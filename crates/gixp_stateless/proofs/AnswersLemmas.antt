@@ -46,9 +46,11 @@ whole held x ys h = let t : nat_lt (length held) 3 ≡ false = search (rules) in
 pub digits_part : (held xs ys : List ℕ) → length held + length xs < 4 → given Line held (xs ++ ys) ≡ given Line (held ++ xs) ys
 digits_part held [] ys h = ap (λ ds. given Line ds ys) (sym (append-nil held))
 digits_part held (x ∷ xs) ys h = missing held x (xs ++ ys) (omega arith)
-    ∙ (digits_part (held ++ x ∷ []) xs ys (omega (arith, length-append held (x ∷ []))) ∙ ap (λ ds. given Line ds ys) (append_assoc held (x ∷ []) xs))
+    ∙ (digits_part (held ++ x ∷ []) xs ys (omega (arith, length-append held (x ∷ [])))
+    ∙ ap (λ ds. given Line ds ys) (append_assoc held (x ∷ []) xs))
 
-by_size : (size : Option ℕ) (digits ys : List ℕ) → given_of size digits ++ given (next_of size) [] ys ≡ given (next_of size) (given_of size digits) ys
+by_size : (size : Option ℕ) (digits ys : List ℕ)
+    → given_of size digits ++ given (next_of size) [] ys ≡ given (next_of size) (given_of size digits) ys
 by_size None digits ys = sym (rest_front digits ys)
 by_size (Some size) digits ys = at (size == 2)
   where
@@ -58,7 +60,8 @@ by_size (Some size) digits ys = at (size == 2)
     at false = sym (payload_front (size - 4) digits ys)
 
 last_digit : (held : List ℕ) (x : ℕ) (xs ys : List ℕ) → 3 ≤ length held → length xs ≡ 0
-    → given Line held (x ∷ (xs ++ ys)) ≡ given (next_of (size_of (held ++ x ∷ xs))) (given_of (size_of (held ++ x ∷ xs)) (held ++ x ∷ xs)) ys
+    → given Line held (x ∷ (xs ++ ys)) ≡ given (next_of (size_of (held ++ x ∷ xs)))
+    (given_of (size_of (held ++ x ∷ xs)) (held ++ x ∷ xs)) ys
 last_digit held x [] ys h k = whole held x ys h ∙ by_size (size_of (held ++ x ∷ [])) (held ++ x ∷ []) ys
 last_digit held x (y ∷ xs) ys h k = absurd (omega arith)
 
@@ -161,7 +164,8 @@ range_parts ds start n end h =
 
 known_front : (next : Next) (a b ys : List ℕ) → (next ≡ Line → ⊥) → given next (a ++ b) ys ≡ a ++ given next b ys
 known_front Line a b ys h = absurd (h refl)
-known_front (Payload n) a b ys h = payload_front n (a ++ b) ys ∙ (append_assoc a b (given (Payload n) [] ys) ∙ ap (λ zs. a ++ zs) (sym (payload_front n b ys)))
+known_front (Payload n) a b ys h = payload_front n (a ++ b) ys
+    ∙ (append_assoc a b (given (Payload n) [] ys) ∙ ap (λ zs. a ++ zs) (sym (payload_front n b ys)))
 known_front Rest a b ys h = rest_front (a ++ b) ys ∙ (append_assoc a b (given Rest [] ys) ∙ ap (λ zs. a ++ zs) (sym (rest_front b ys)))
 
 pub gives_digits : (o : Option (List ℕ)) (next : Next) (held out later : List ℕ) → (next ≡ Line → ⊥) → held ≡ out ++ later

@@ -15,9 +15,11 @@ use Rattle.gixp_stateless.proofs.AnswersLemmas.{payload_front, rest_front, paylo
 -- four digits that are given, and what comes after them
 digits_of : (o : Option ℕ) (digits more : List ℕ) → length digits ≡ 4 → size_of digits ≡ o
     → without_ends (digits ++ more) ≡ given (next_of o) (given_of o digits) more
-digits_of o digits more four size = digits_whole [] digits more (omega arith) (omega arith) ∙ ap (λ k. given (next_of k) (given_of k digits) more) size
+digits_of o digits more four size = digits_whole [] digits more (omega arith) (omega arith)
+    ∙ ap (λ k. given (next_of k) (given_of k digits) more) size
 
-counted : (k : ℕ) (digits more : List ℕ) → Counts digits k → (k ≡ 2 → ⊥) → without_ends (digits ++ more) ≡ digits ++ given (Payload (k - 4)) [] more
+counted : (k : ℕ) (digits more : List ℕ) → Counts digits k → (k ≡ 2 → ⊥)
+    → without_ends (digits ++ more) ≡ digits ++ given (Payload (k - 4)) [] more
 counted k digits more c other =
     let e : nat_eq k 2 ≡ false = ne_eqb k 2 other in
     digits_of (Some k) digits more c.0 c.1 ∙ (rw e (payload_front (k - 4) digits more))

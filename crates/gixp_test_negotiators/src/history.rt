@@ -1,15 +1,8 @@
 //! Small histories in memory.
-use gixp_doubles::MemoryObjects;
+pub(crate) use gixp_doubles::numbered_id as id;
+use gixp_doubles::{MemoryObjects, numbered_ids};
 use gixp_graph::{CommitData, Graph, Negotiator, NegotiatorError, Objects};
-use gixp_hash::ObjectId;
 use std::alloc::{AllocError, Global};
-
-/// An id for each number.
-pub(crate) fn id(number: u8) -> ObjectId {
-    ObjectId {
-        bytes: [number; 20],
-    }
-}
 
 /// Adds a commit.
 pub(crate) fn add(
@@ -19,11 +12,8 @@ pub(crate) fn add(
     time: i64,
     parents: &[u8],
 ) -> Result<(), AllocError> {
-    let mut ids = Vec::new(alloc);
-    for parent in parents {
-        ids.push(id(*parent))?;
-    }
-    objects.add_commit(id(number), CommitData { time, parents: ids })
+    let parents = numbered_ids(alloc, parents)?;
+    objects.add_commit(id(number), CommitData { time, parents })
 }
 
 /// The commits 1 to `last`, each with the next one as its parent, the newest first.

@@ -1,8 +1,9 @@
 //! A small repository in memory.
 use bstr::{BStr, BString};
 use gixp_capabilities::Capabilities;
+pub(crate) use gixp_doubles::numbered_id as id;
+use gixp_doubles::numbered_ids;
 use gixp_graph::{CommitData, Graph, ObjectKind, Shared};
-use gixp_hash::ObjectId;
 use gixp_memory::{StoredObjects, StoredRefs};
 use gixp_refmap::RefMap;
 use gixp_refmap::fetch::Tags;
@@ -15,13 +16,6 @@ use gixp_updates::refs::update::{Options, update};
 use std::alloc::{AllocError, Global};
 use std::test::Fail;
 
-/// An id for each number.
-pub(crate) fn id(number: u8) -> ObjectId {
-    ObjectId {
-        bytes: [number; 20],
-    }
-}
-
 /// Adds a commit.
 pub(crate) fn add(
     alloc: Global,
@@ -30,11 +24,8 @@ pub(crate) fn add(
     time: i64,
     parents: &[u8],
 ) -> Result<(), AllocError> {
-    let mut ids = Vec::new(alloc);
-    for parent in parents {
-        ids.push(id(*parent))?;
-    }
-    objects.add_commit(id(number), CommitData { time, parents: ids })
+    let parents = numbered_ids(alloc, parents)?;
+    objects.add_commit(id(number), CommitData { time, parents })
 }
 
 /// The commits 1, 2 and 3, each the parent of the next, and 4 beside 2; the blobs 11 and 12, the tag 14.

@@ -12,14 +12,9 @@ use Rattle.gixp_graph.specs.GraphData.{GraphData}
 use Rattle.gixp_graph.specs.Asked.{AsksWhere, AsksEach}
 use Rattle.gixp_graph.specs.GraphLaws.{same_from}
 use Rattle.gixp_hash.specs.IdLaws.{ids_total}
+use Rattle.gixp_graph.proofs.AskedLemmas.{asks_weaker}
 use Rattle.gixp_updates.specs.Search.{Search, LooksUp, KeepsAsked}
 use Rattle.gixp_updates.proofs.LookLemmas.{looks_on}
-
--- of another property
-pub asks_weaker : (P Q : ObjectId → Type 0) → ((q : ObjectId) → P q → Q q) → (old new : List ObjectId) → AsksEach P old new
-    → AsksEach Q old new
-asks_weaker P Q weaker old new a =
-    record { ids = a.ids; appended = a.appended; distinct = a.distinct; each = All-weaker P Q weaker a.ids a.each }
 
 -- one more
 asks_more : (P Q : ObjectId → Type 0) → ((q : ObjectId) → P q → Q q) → (id : ObjectId) → Q id → ((q : ObjectId) → P q

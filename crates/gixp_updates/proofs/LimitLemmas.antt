@@ -74,7 +74,13 @@ module _ (read : ObjectId → Option Commit) (IsStart : ObjectId → Type 0) (li
   few_after : (most more : ℕ) → most + 1 ≤ more → (id : ObjectId) (a b c : List ObjectId) → AsksOnce id a b
       → AsksFew read IsStart limit most b c → AsksFew read IsStart limit more a c
   few_after most more l id a b c asks h = ⊎_elim
-      (λ e. record { looked = h.looked; few = omega (arith, l, h.few); mid = h.mid; asked = h.asked ∙ ap (λ x. x ++ h.looked) e; walked = h.walked })
+      (λ e. record {
+        looked = h.looked;
+        few = omega (arith, l, h.few);
+        mid = h.mid;
+        asked = h.asked ∙ ap (λ x. x ++ h.looked) e;
+        walked = h.walked;
+      })
       (λ e. record {
         looked = id ∷ h.looked;
         few = omega (arith, l, h.few);
@@ -118,7 +124,8 @@ module _ (read : ObjectId → Option Commit) (IsStart : ObjectId → Type 0) (li
 
 -- by what reads the same
 pub limit_read : {T : Type 0} (read same : ObjectId → Option Commit) → same ≡ read → (IsStart : ObjectId → Type 0) (limit : Option ℕ)
-    (most : ℕ) (r : Result T Error) (a b : List ObjectId) → KeepsLimit same IsStart limit most r a b → KeepsLimit read IsStart limit most r a b
+    (most : ℕ) (r : Result T Error) (a b : List ObjectId) → KeepsLimit same IsStart limit most r a b
+    → KeepsLimit read IsStart limit most r a b
 limit_read read same e IsStart limit most r a b h = subst (λ f. KeepsLimit f IsStart limit most r a b) e h
 
 -- ---- each mapping

@@ -48,7 +48,8 @@ is_some-where true = refl
 is_some-where false = refl
 
 -- an exact name is matched by the refs of that name
-pub exact_match : (name : Bor (List ℕ)) (refs : List Ref) → list_any (is_named name.now) refs ≡ list_any (is_match_with (the_exact name)) refs
+pub exact_match : (name : Bor (List ℕ)) (refs : List Ref)
+    → list_any (is_named name.now) refs ≡ list_any (is_match_with (the_exact name)) refs
 exact_match name [] = refl
 exact_match name (r ∷ refs) =
     let e = is_some-where (bytes_eq (unpacked_name r) name.now) ∙ turned (unpacked_name r) name.now in

@@ -15,7 +15,7 @@ use Rattle.gixp_graph.specs.GraphLaws.{same_from}
 use Rattle.gixp_updates.specs.Ancestors.{IsAncestor, IsReachedFrom, ReachesMore, IsBeyond}
 use Rattle.gixp_updates.specs.Search.{Search, SeesMore, Explores, HasAskedFor, IsSeenThrough, IsSearch}
 use Rattle.gixp_updates.proofs.LookLemmas.{same_id}
-use Rattle.gixp_updates.proofs.AskLemmas.{asks_weaker}
+use Rattle.gixp_graph.proofs.AskedLemmas.{asks_weaker}
 
 -- what is in a list of one is that one
 is_one : (id q : ObjectId) → Contains (id ∷ []) q → id ≡ q

@@ -23,8 +23,8 @@ use std::rt::Files;
 /// What a file holds no contract can say: neither that it has the text that was written, nor that the
 /// lock keeps out programs that don't ask for it, nor that either outlasts a loss of power. What is
 /// promised is said of this value alone: what each call returns, whether the lock file is held to be
-/// there, and how many calls were refused. A lock file is left behind where the program ends before
-/// `release`.
+/// there, and how many calls were refused for another reason than an allocation failure. A lock file is
+/// left behind where the program ends before `release`.
 #[derive(Drop)]
 pub struct ShallowFile<'a, F> {
     files: &'a F,
@@ -245,6 +245,7 @@ impl<'a, F: Files> ShallowStore for ShallowFile<'a, F> {
         };
         match shallow_ids(alloc, &text) {
             Ok(ids) => Ok(ids),
+            Err(ShallowError::Memory) => Err(ShallowError::Memory),
             Err(e) => {
                 self.count_failure();
                 Err(e)

@@ -16,7 +16,8 @@ use gixp_refmap::fetch::Tags;
 use gixp_refmap::refmap::init;
 use gixp_refspec::RefSpec;
 use gixp_refspec::parse::{Operation, parse};
-use gixp_requests::command::{CommandTable, Feature};
+use gixp_requests::agent_feature;
+use gixp_requests::command::CommandTable;
 use gixp_shallow::{Shallow, ShallowStore};
 use gixp_sidebands::NeverInterrupt;
 use gixp_wire::{Service, Transport};
@@ -39,11 +40,6 @@ pub(crate) const V1: [&[u8]; 3] = [
     0038ACK cccccccccccccccccccccccccccccccccccccccc common\n0008NAK\n",
     b"0031ACK cccccccccccccccccccccccccccccccccccccccc\n0007\x01PA0007\x02hi0006\x01C0000",
 ];
-
-fn agent(alloc: Global) -> Result<Feature, AllocError> {
-    let version = String::from_str(alloc, "git/oxide")?;
-    Ok(("agent", Some(version)))
-}
 
 /// These answers one after another.
 pub(crate) fn joined(alloc: Global, answers: &[&[u8]]) -> Result<Vec<u8>, AllocError> {
@@ -97,7 +93,7 @@ fn map<T: Transport, P: NestedProgress>(
     progress: &mut P,
 ) -> Result<RefMap, init::Error> {
     let specs = specs(alloc)?;
-    let agent = agent(alloc)?;
+    let agent = agent_feature(alloc, "oxide")?;
     let table = CommandTable::git();
     handshake::obtain(alloc, hands, &table, agent, specs, progress, transport)
 }
@@ -127,7 +123,7 @@ where
         shallow,
     } = repository;
     let alloc = *refs.targets.allocator();
-    let agent = agent(alloc)?;
+    let agent = agent_feature(alloc, "oxide")?;
     let mut graph = Graph::new(alloc, objects);
     let existing = NoObjects;
     let mut alternates = Vec::new(alloc);

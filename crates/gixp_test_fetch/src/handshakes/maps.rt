@@ -12,7 +12,8 @@ use gixp_refmap::ls_refs::RefPrefixes;
 use gixp_refmap::refmap::init::{Context, Error};
 use gixp_refspec::RefSpec;
 use gixp_refspec::parse::{Operation, parse};
-use gixp_requests::command::{CommandTable, Feature};
+use gixp_requests::agent_feature;
+use gixp_requests::command::CommandTable;
 use gixp_wire::Transport;
 use std::alloc::{AllocError, Global};
 use std::io::ErrorKind;
@@ -41,17 +42,13 @@ fn context(alloc: Global, line: &[u8]) -> Result<Context, Fail> {
     })
 }
 
-fn agent(alloc: Global) -> Result<Feature, AllocError> {
-    Ok(("agent", Some(String::from_str(alloc, "git/x")?)))
-}
-
 // The ref map of a server of version 2.
 fn listed<T: Transport>(
     alloc: Global,
     transport: &mut T,
     context: Context,
 ) -> Result<RefMap, Error> {
-    let agent = agent(alloc)?;
+    let agent = agent_feature(alloc, "x")?;
     let mut shaken = Handshake::empty(alloc);
     let mut progress = Told::new(alloc);
     obtain(
@@ -71,7 +68,7 @@ fn listed_mappings<T: Transport>(
     transport: &mut T,
     context: Context,
 ) -> Result<RefMap, Error> {
-    let agent = agent(alloc)?;
+    let agent = agent_feature(alloc, "x")?;
     let mut shaken = Handshake::empty(alloc);
     let mut progress = Told::new(alloc);
     obtain_mappings(

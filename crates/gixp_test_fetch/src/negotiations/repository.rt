@@ -1,8 +1,8 @@
 //! A small repository in memory.
 use bstr::BString;
 use gixp_doubles::MemoryObjects;
+pub(crate) use gixp_doubles::numbered_id as id;
 use gixp_graph::CommitData;
-use gixp_hash::ObjectId;
 use gixp_negotiate::negotiate::Error;
 use gixp_packetline::{LineReader, Protocol};
 use gixp_refmap::refmap::{Mapping, RefMap, Source, SpecIndex};
@@ -10,13 +10,6 @@ use gixp_refs::handshake::Ref;
 use gixp_response::fetch::Response;
 use std::alloc::{AllocError, Global};
 use std::test::Fail;
-
-/// An id for each number.
-pub(crate) fn id(number: u8) -> ObjectId {
-    ObjectId {
-        bytes: [number; 20],
-    }
-}
 
 /// The commits 1 to 4, each with the next one as its parent, the newest first.
 pub(crate) fn chain(alloc: Global) -> Result<MemoryObjects, AllocError> {

@@ -194,7 +194,8 @@ pub returns-clause-complete : goal.returns-clause-complete
 returns-clause-complete g c =
     let start : GraphData = graph_of (g.O.Objects.contents c.args.objects.now) c.args.commits.now.held in
     let v = c.loop-newest.invariant in
-    complete_marked start c.args.ids.now c.args.cutoff c.loop-newest.commits.held (is_visited c.loop-newest.commits.ids c.loop-newest.visited) []
+    complete_marked start c.args.ids.now c.args.cutoff c.loop-newest.commits.held
+    (is_visited c.loop-newest.commits.ids c.loop-newest.visited) []
     (subst (λ q. IsWalk start c.args.ids.now c.args.cutoff
     (walk_of c.loop-newest.commits c.loop-newest.visited q)) c.in_default-pop_newest.ensures.none v.walk)
     (λ k d l. absurd (omega arith)) v.tips

@@ -41,5 +41,6 @@ pub returns : goal.returns
 returns c refs h =
     let specs = values c.args.specs.now in
     let P : Validated → Type 0 = λ r. ValidatesAs matched specs (first_ones c.args.made.items) r in
-    maps_of_kept specs c.args.explicit refs c.args.made.items (first_ones c.args.made.items) c.in_ok-mappings.mappings c.put_in_lists.new.mappings
+    maps_of_kept specs c.args.explicit refs c.args.made.items
+    (first_ones c.args.made.items) c.in_ok-mappings.mappings c.put_in_lists.new.mappings
     c.in_ok-mappings.fixes refl (subst P c.in_ok-mappings.was c.in_ok-checked.ensures) c.put_in_lists.ensures h

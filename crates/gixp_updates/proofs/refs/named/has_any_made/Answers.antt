@@ -13,7 +13,8 @@ pub returns-then-branch : goal.returns-then-branch
 returns-then-branch c =
     let p : Bor (List ℕ) × Bor (List ℕ) → Bool = λ rule. has_text c.args.names.now (joined c.args.short.now (rule_of rule)) in
     let i = c.rules.rule-index in
-    let step = any_step p c.args.rules.now i (record { ref_ptr = (0, 0); now = [] }, record { ref_ptr = (0, 0); now = [] }) c.rules-test.true in
+    let step = any_step p c.args.rules.now i
+    (record { ref_ptr = (0, 0); now = [] }, record { ref_ptr = (0, 0); now = [] }) c.rules-test.true in
     let here : p (get_or c.args.rules.now i (record { ref_ptr = (0, 0); now = [] }, record { ref_ptr = (0, 0); now = [] })) ≡ true =
     first_of (cc (c.in_ok-has_made.ensures), grind (arith, common_steps, c.in_ok-has_made.ensures)) in
     sym (c.rules.invariant ∙ step ∙ ap (λ b. b || list_any p (drop (i + 1) c.args.rules.now)) here)
@@ -22,7 +23,8 @@ pub rules-preserved : goal.rules-preserved
 rules-preserved c =
     let p : Bor (List ℕ) × Bor (List ℕ) → Bool = λ rule. has_text c.args.names.now (joined c.args.short.now (rule_of rule)) in
     let i = c.rules.rule-index in
-    let step = any_step p c.args.rules.now i (record { ref_ptr = (0, 0); now = [] }, record { ref_ptr = (0, 0); now = [] }) c.rules-test.true in
+    let step = any_step p c.args.rules.now i
+    (record { ref_ptr = (0, 0); now = [] }, record { ref_ptr = (0, 0); now = [] }) c.rules-test.true in
     let here : p (get_or c.args.rules.now i (record { ref_ptr = (0, 0); now = [] }, record { ref_ptr = (0, 0); now = [] })) ≡ false =
     first_of (cc (c.in_ok-has_made.ensures), grind (arith, common_steps, c.in_ok-has_made.ensures)) in
     c.rules.invariant ∙ step ∙ ap (λ b. b || list_any p (drop (i + 1) c.args.rules.now)) here

@@ -41,8 +41,10 @@ loop-mapping-preserved g c =
           (pushed fits (take k items) c.loop-mapping.updates.items m c.in_ok-update_of.field-0 v.updates
           (update_moved l c.loop-mapping.graph.graph.objects v.consults.looks.objects _ _ wanted _ _ c.local_name-name.ensures
           c.in_ok-update_of.field-0 c.in_ok-update_of.ensures.update)));
-      asks = each_more (commit_at c.args.graph.now.graph.objects) items c.args.options.now.most_commits k c.in_ok-update_of.field-0 _ _ _ v.asks
-          (limit_weaker (commit_at c.args.graph.now.graph.objects) (λ q. c.wanted_of-wanted.result.id ≡ Some q) c.args.options.now.most_commits
+      asks = each_more (commit_at c.args.graph.now.graph.objects) items c.args.options.now.most_commits k
+          c.in_ok-update_of.field-0 _ _ _ v.asks
+          (limit_weaker (commit_at c.args.graph.now.graph.objects)
+          (λ q. c.wanted_of-wanted.result.id ≡ Some q) c.args.options.now.most_commits
           (IsOfMapping items) (λ q s. (m, is_within items k m is within, sym (ap (λ (w : Wanted). w.id) wanted) ∙ s)) 2
           (Ok c.in_ok-update_of.field-0) _ _
           (limit_read (commit_at c.args.graph.now.graph.objects) (commit_at c.loop-mapping.graph.graph.objects)
