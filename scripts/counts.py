@@ -6,8 +6,8 @@ Usage: counts.py [--write]
 Prints each number that is wrong, with its file and line, and each sentence that isn't there any more. Beside the sentences below, a
 number in front of `rows`, `tests`, `crates`, `edits`, `must-fail edits` or `public functions` has to be that of the whole repository,
 but for one that a sentence below has, and for a line that names a commit, whose numbers are of that. What a crate's README says in a
-line `Depends on ..; used by ..` has to be what crates.txt says. The status is 1 where there is something wrong. With `--write` it
-writes what is right into the documents.
+line `Depends on ..; used by ..` has to be what crates.txt says, and its public names and its definitions have to be there. The status
+is 1 where there is something wrong. With `--write` it writes what is right into the documents.
 """
 import re
 import subprocess
@@ -211,6 +211,27 @@ def check_neighbours(texts, wrong):
                 wrong.append((file, *found.span(1), right))
 
 
+@cache
+def names_of(crate):
+    """The names that the sources of a crate give or re-export."""
+    code = "\n".join(re.sub(r"(?m)^\s*//.*$", "", path.read_text()) for path in sources(crate))
+    used = " ".join(re.findall(r"pub use ([^;]*);", code))
+    return set(re.findall(r"\b(?:fn|struct|enum|trait|type|const|mod) (\w+)", code)).union(re.findall(r"\w+", used))
+
+
+def check_names(texts, wrong):
+    """The public names that a README has are in its crate or those below it, and the definitions in its `specs/`."""
+    for crate in crates():
+        file = f"crates/{crate}/README.md"
+        text = texts.get(file, "")
+        names = {"Read"}.union(*(names_of(it) for it in {crate} | below(crate)))
+        specs = {path.stem for path in (CRATES / crate / "specs").glob("*.antt")}
+        for begin, word, known in (("**Public:** ", r"\w*[^\W_]\b", names), ("**Definitions** in `specs/`: ", r"[A-Z]\w*", specs)):
+            for line in re.finditer(rf"(?m)^- {re.escape(begin)}(.*)$", text):
+                found = {name for code in re.findall(r"`([^`]+)`", line[1]) for name in re.findall(rf"\b{word}", code)}
+                wrong.extend((file, line.start(), 0, f"there is no {name}") for name in sorted(found - known))
+
+
 def write(texts, wrong):
     for file in texts:
         text = texts[file]
@@ -228,6 +249,7 @@ def main():
     check_wholes(texts, known, wrong)
     check_lists(texts, wrong)
     check_neighbours(texts, wrong)
+    check_names(texts, wrong)
     for file, start, end, right in sorted(wrong):
         said = f"{texts[file][start:end]}, and it is {right}" if end else right
         print(f"{file}:{line_at(texts[file], start)}: {said}")

@@ -1,3 +1,4 @@
+pub mod Ids
 pub mod Recorder
 pub mod Repository
 pub mod Told

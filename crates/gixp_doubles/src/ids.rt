@@ -1,12 +1,13 @@
 //! Ids of small histories.
-ghost use Rattle.std.specs.Prelude.{◌≡◌, IfOk, map, replicate};
+ghost use Rattle.std.specs.Prelude.{◌≡◌, IfOk, map};
+ghost use Rattle.gixp_doubles.specs.Ids.{numbered};
 
 use gixp_hash::ObjectId;
 use std::alloc::{AllocError, Global};
 
 /// An id for each number.
 pub fn numbered_id(number: u8) -> ObjectId
-    ensures { result.bytes ≡ replicate 20 number }
+    ensures { result ≡ numbered number }
 {
     ObjectId {
         bytes: [number; 20],
@@ -19,7 +20,7 @@ pub fn numbered_id(number: u8) -> ObjectId
 ///
 /// An allocation failure.
 pub fn numbered_ids(alloc: Global, numbers: &[u8]) -> Result<Vec<ObjectId>, AllocError>
-    ensures { IfOk result (λ ids. map (λ (id : ObjectId). id.bytes) ids.items ≡ map (replicate 20) numbers.now) }
+    ensures { IfOk result (λ ids. ids.items ≡ map numbered numbers.now) }
 {
     numbers
         .iter()

@@ -1,5 +1,5 @@
 //! Doubles for tests and replays: readers and writers of bytes in memory that fail at one call, a progress reporter and a
-//! negotiator that write down what they are told, and a repository whose calls are written down and made to fail.
+//! negotiator that record their calls, and a repository whose calls are recorded and made to fail.
 #![tactic(auto)]
 
 mod device;

@@ -1,4 +1,4 @@
-//! A negotiator that writes down what it is told.
+//! A negotiator that records its calls.
 ghost use Rattle.std.specs.Prelude.{◌≡◌, ◌++◌, ◌∷◌, ◌+◌, ◌-◌, ◌^◌, ◌≤◌, [], length, drop, OnOk, OnErr, IfErr};
 ghost use Rattle.gixp_hash.specs.Failures.{HasRisen};
 ghost use Rattle.gixp_graph.specs.declared.negotiator.NegotiatorError.TheVariants.{Memory};
@@ -8,17 +8,17 @@ use gixp_graph::{Graph, Negotiator, NegotiatorError, ObjectError, Objects};
 use gixp_hash::ObjectId;
 use std::alloc::Global;
 
-/// Offers a list of haves in turn, whatever it is told, and writes that down. One of its calls may fail.
+/// Offers a list of haves in turn, whatever it learns, and records its calls. One of its calls may fail.
 #[derive(Drop)]
 pub struct Recorder {
     haves: Vec<ObjectId>,
     // The place of the next one.
     next: usize,
-    /// What both sides have, as it was told before the first have.
+    /// What both sides have, as it learned before the first have.
     pub known: Vec<ObjectId>,
-    /// Where it was told to begin.
+    /// The tips that were added.
     pub tips: Vec<ObjectId>,
-    /// What the server has, as it was told since.
+    /// What the server has, as it learned since.
     pub common: Vec<ObjectId>,
     /// How many calls come before the one that fails.
     pub calls: u64,

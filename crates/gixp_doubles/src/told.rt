@@ -1,4 +1,4 @@
-//! A progress reporter that writes down what it is told.
+//! A progress reporter that records its calls.
 ghost use Rattle.std.specs.Prelude.{◌≡◌, [], false, string_bytes};
 ghost use Rattle.std.specs.Option.{option_map};
 ghost use Rattle.gixp_doubles.specs.Told.{call_of, WritesDown, AddsChild};
@@ -6,7 +6,7 @@ ghost use Rattle.gixp_doubles.specs.Told.{call_of, WritesDown, AddsChild};
 use gixp_progress::{Discard, NestedProgress, Progress};
 use std::alloc::{AllocError, Global};
 
-/// What a progress reporter is told.
+/// A call of a progress reporter.
 #[derive(Debug, Drop)]
 pub enum Call {
     /// It begins anew: so many steps of this unit.
@@ -32,7 +32,7 @@ fn line(alloc: Global, call: &Call) -> Result<String, AllocError> {
     }
 }
 
-/// Writes down each call, and the ids of its parts, which are told nothing.
+/// Records each call, and the ids of its parts, which record nothing.
 #[derive(Drop)]
 pub struct Told {
     /// The calls.
@@ -45,7 +45,7 @@ pub struct Told {
 }
 
 impl Told {
-    /// Nothing was told yet.
+    /// No call yet.
     pub fn new(alloc: Global) -> Told
         ensures calls { result.calls.items ≡ [] }
         ensures children { result.children.items ≡ [] }
@@ -134,7 +134,7 @@ impl NestedProgress for Told {
     }
 }
 
-/// A reporter that is lent: afterwards it says what it was told.
+/// A reporter that is lent: afterwards its calls can be read.
 #[derive(Drop)]
 pub struct Lent<'a> {
     /// This one.

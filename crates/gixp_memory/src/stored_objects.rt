@@ -200,7 +200,7 @@ impl StoredObjects {
         Ok(())
     }
 
-    /// Adds what the answer of `git cat-file --batch-check` to an id tells, where it tells of an object. The line, with its LF
+    /// Adds the object that an answer of `git cat-file --batch-check` to an id has, where it has one. The line, with its LF
     /// or without, is the id and after a blank its kind, which a blank and the size may follow, or `missing`. An object that is
     /// there stays as it is. Returns whether the line is an answer to this id: nothing is added where it isn't.
     ///
@@ -230,7 +230,7 @@ impl StoredObjects {
     }
 }
 
-// What an answer tells of an object.
+// What an answer says of an object.
 #[derive(Clone, Copy)]
 enum Answered {
     // It is there, and of this kind.
@@ -238,7 +238,7 @@ enum Answered {
     Missing,
 }
 
-// What the word behind the id of an answer tells.
+// What the word after the id of an answer says.
 fn answered_kind(word: &[u8]) -> Option<Answered>
     ensures { option_map kind_answered result ≡ answered_kind word.now }
 {
@@ -248,7 +248,7 @@ fn answered_kind(word: &[u8]) -> Option<Answered>
     sized_kind(word)
 }
 
-// What an answer tells whose last word is a size.
+// What an answer says whose last word is a size.
 fn sized_kind(word: &[u8]) -> Option<Answered>
     ensures { option_map kind_answered result ≡ option_map (λ kind. Some kind) (named_kind word.now) }
 {
@@ -258,7 +258,7 @@ fn sized_kind(word: &[u8]) -> Option<Answered>
     }
 }
 
-// The id of an answer, and what it tells.
+// The id of an answer, and what it says.
 fn answer_in(alloc: Global, line: &[u8]) -> Result<Option<(ObjectId, Answered)>, AllocError>
     ensures { IfOk result (λ found. option_map answer_value found ≡ answer_of_words (line_words line.now)) }
 {
@@ -276,7 +276,7 @@ fn answer_in(alloc: Global, line: &[u8]) -> Result<Option<(ObjectId, Answered)>,
     Ok(Some((id, kind)))
 }
 
-// What the answer to an id tells; none where the line is no answer to it.
+// What the answer to an id says; none where the line is no answer to it.
 fn answer_to(alloc: Global, id: &ObjectId, line: &[u8]) -> Result<Option<Answered>, AllocError>
     ensures { IfOk result (λ found. option_map kind_answered found ≡ answer_to id.now line.now) }
 {

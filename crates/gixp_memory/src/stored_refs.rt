@@ -24,7 +24,7 @@ pub(crate) struct StoredRef {
     pub peeled: ObjectId,
 }
 
-/// The refs of a repository in memory, in the order of their names: each with its id, and with that of the object,
+/// The refs of a repository in memory, in the order of their names: each with its id, and with the id of the object,
 /// which is no tag, that it leads to.
 #[derive(Drop)]
 pub struct StoredRefs {
@@ -130,7 +130,7 @@ impl StoredRefs {
     }
 
     /// Adds the refs of a text as `git show-ref -d` writes it: on each line an id, a blank and the full name of a ref;
-    /// after that of a tag a line of the id that it leads to, and of its name and `^{}`. Names aren't checked
+    /// after the line of a tag one of the id that it leads to, and of its name and `^{}`. Names aren't checked
     /// (git-check-ref-format). Where a name stands on two lines, the later one counts.
     ///
     /// # Errors

@@ -16,7 +16,7 @@ const TRAILER_LEN: usize = 20;
 
 const SIGNATURE: &[u8] = b"PACK";
 
-/// What is told of a whole pack.
+/// What a whole pack says of itself.
 #[derive(Clone, Copy, Debug, PartialEq, Eq)]
 pub struct PackSummary {
     /// Its length in bytes, header and trailer included, or 2^64 - 1 of more.
@@ -88,7 +88,7 @@ impl PackCheck {
         Ok(())
     }
 
-    /// What is told of the pack that was taken.
+    /// What the pack that was taken says of itself.
     ///
     /// # Errors
     ///

@@ -1,4 +1,4 @@
-//! Whether the bytes of a stream are those of a whole pack, as they come (gitformat-pack).
+//! Whether the bytes of a stream are a whole pack, as they come (gitformat-pack).
 #![tactic(auto)]
 
 mod check;

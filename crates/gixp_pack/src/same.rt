@@ -1,4 +1,4 @@
-//! Equality of what is told of packs.
+//! Equality of what is known of packs.
 ghost use Rattle.std.specs.Prelude.{◌≡◌, ◌↔◌, IsTrue};
 
 use crate::check::{PackError, PackSummary};

@@ -53,7 +53,7 @@ fn obey(rt: &HostRuntime) -> Result<(), Failure> {
 
 /// Does what the words of the command line say, and writes what a command prints on standard output.
 ///
-/// The status is 0, 1 where something was refused, which is named on standard error, or 2 where the words are none of the
+/// The status is 0, 1 where something failed, which is named on standard error, or 2 where the words are none of the
 /// usage, which stands there then.
 pub fn run(rt: &HostRuntime) -> ExitCode {
     let ended = obey(rt);

@@ -6,7 +6,7 @@ use std::io;
 use std::io::ErrorKind;
 use thiserror::Error as DeriveError;
 
-/// Why a plan isn't made: which step was refused, and by which variant of its own error.
+/// Why a plan isn't made: which step failed, and with which variant of its own error.
 #[derive(Clone, Copy, Debug, PartialEq, Eq, Drop, DeriveError)]
 #[error("{step} {variant}")]
 pub struct PlanError {
@@ -17,7 +17,7 @@ pub struct PlanError {
 }
 
 impl PlanError {
-    // A step that this variant of its error refused.
+    // A step that failed with this variant of its error.
     pub(crate) fn new(step: &'static str, variant: &'static str) -> PlanError
         ensures { refusal_of result ≡ refusal step.now variant.now }
     {
@@ -43,7 +43,7 @@ impl PlanError {
     }
 }
 
-// How many bytes a write took: none where it was interrupted. One of nothing is refused, and any other failure by its kind.
+// How many bytes a write took: none where it was interrupted. One that took nothing is an error, and so is any other failure, by its kind.
 pub(crate) fn amount_of(written: io::Result<usize>) -> Result<usize, PlanError>
     ensures amount { amount_told result ≡ written_amount written }
     ensures unwritten { IfErr result IsUnwritten }
@@ -58,7 +58,7 @@ pub(crate) fn amount_of(written: io::Result<usize>) -> Result<usize, PlanError>
     }
 }
 
-// What a flush answered: it is refused exactly where that failed, by its kind.
+// What a flush returned: an error exactly where it failed, by its kind.
 pub(crate) fn answered(answer: io::Result<()>) -> Result<(), PlanError>
     ensures answer { AnswersWrite answer result }
     ensures unwritten { IfErr result IsUnwritten }

@@ -16,34 +16,34 @@ use gix_protocol::fetch::{ConsumePack, ReadToEnd, ShallowMemory, ShallowStore};
 use gix_protocol::transport::{Discard, Interrupt, NeverInterrupt};
 use std::alloc::AllocError;
 
-/// How a handshake without an account ends is a function of the first body, but for memory and for reads that failed: it has
-/// the version, the capabilities and the refs that the body says, or it is refused by the name that follows from the body.
+/// How a handshake without an account ends is a function of the first body, but for failed allocations and reads: it has the
+/// version, the capabilities and the refs that the body says, or it fails with the error whose name follows from the body.
 pub fn greetings_follow_bodies()
     ensures { GreetingsFollow }
 {}
 
 /// What a client sends up to its ref map, and the lines of the mappings and of those taken out, are a function of the
 /// bodies and the refspecs: two sessions over the same have the same, whatever their objects, graphs and negotiators.
-/// Sessions whose fetch was refused too: [`plan`](crate::plan) says of each that it came to a ref map, and writes its lines.
+/// Sessions whose fetch failed too: [`plan`](crate::plan) says of each that it came to a ref map, and writes its lines.
 pub fn mappings_follow_bodies()
     ensures { MappingsFollow }
 {}
 
-/// Whether a session that was greeted comes to a ref map, by which name the map is refused if it is, and what was sent for it by
-/// then are a function of the bodies and the refspecs, but for memory and for reads that failed.
+/// Whether a session after its handshake comes to a ref map, the name of the map's error if it fails, and what was sent for it by
+/// then are a function of the bodies and the refspecs, but for failed allocations and reads.
 pub fn ref_maps_follow_bodies()
     ensures { RefMapsFollow }
 {}
 
 /// With a [`HaveList`], what a client sends and how its session ends are a function of the bodies, the refspecs, the objects
-/// and the ids, unless it is refused: two sessions over the same that weren't refused send the same requests and end alike,
+/// and the ids, unless it fails: two sessions over the same that didn't fail send the same requests and end alike,
 /// and [`plan`](crate::plan) writes the same text.
 ///
 /// The objects are those of the repository and of the graph, whatever the graph holds by then; with `NoObjects` there are
-/// none. A session whose transport counted a failure is refused, so each answer is the one that its body holds.
+/// none. A session whose transport counted a failure fails, so each answer is the one that its body holds.
 ///
-/// Where a refspec is refused, so is each plan over these refspecs, by the same name or for memory, and nothing is written;
-/// nor is anything of a plan whose handshake is refused.
+/// Where a refspec is an error, each plan over these refspecs fails with its name, or with an allocation failure, and nothing is
+/// written; nor is anything of a plan whose handshake fails.
 pub fn texts_follow_bodies<'a, O: Objects + 'a, G: Objects + 'a>()
     ensures { (bodies : List Body) (specs : List (List ℕ)) (haves : List ObjectId) (objects others : O) (graph another : GraphValue)
         → O.contents objects ≡ O.contents others → graph.graph.objects ≡ another.graph.objects
@@ -56,9 +56,9 @@ pub fn texts_follow_bodies<'a, O: Objects + 'a, G: Objects + 'a>()
         bodies specs }
 {}
 
-/// With a [`HaveList`], two sessions over the same bodies, refspecs, objects and ids go alike, refused ones too: they send the
+/// With a [`HaveList`], two sessions over the same bodies, refspecs, objects and ids go alike, failed ones too: they send the
 /// same requests, the same is printed of their ref maps, and they end at the same step, with the same end there or by the same
-/// name. So [`plan`](crate::plan) writes the same text, of a pack too whether it was taken or refused.
+/// name. So [`plan`](crate::plan) writes the same text, of a pack too whether it was taken or not.
 ///
 /// An allocation failure, a failure that the transport counted, one of the repository or its boundary, and an interrupt of a pack,
 /// of which there are none here, come from no body: sessions with such are left out, and so are those that end with `Memory`.

@@ -33,7 +33,7 @@ fn is_never_ignored(_mapping: &Mapping) -> bool
     false
 }
 
-// What is known behind these mappings.
+// What is known after these mappings.
 fn known_behind<'a>(known: &'a [bool], mappings: &[Mapping]) -> &'a [bool]
     ensures { result.now ≡ drop (length mappings.now) known.now }
 {

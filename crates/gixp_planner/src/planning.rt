@@ -19,7 +19,7 @@ use gixp_fetch::laws::sessions_are_bounded;
 use std::alloc::{AllocError, Global};
 use std::io::Write;
 
-// Why a session isn't shown, or else which of its steps was refused.
+// Why a session isn't shown, or else which of its steps failed.
 fn outcome(written: Result<(), PlanError>, ended: Result<bool, PlanError>) -> Result<(), PlanError>
     ensures { IsOutcome written ended result }
 {
@@ -62,10 +62,10 @@ fn counted(failures: u64, ended: Result<bool, PlanError>) -> Result<bool, PlanEr
 /// written after the session, and the writer is flushed. The text goes through a buffer, in pieces of 64 KiB, or a line or the
 /// lines of 512 mappings more, or in one piece where it is shorter; of each a write may take less.
 ///
-/// Of a plan that isn't refused, or whose fetch is, the requests up to the ref map, the mappings and those taken out are a
+/// Of a plan that succeeds, or whose fetch fails, the requests up to the ref map, the mappings and those taken out are a
 /// function of the bodies and the refspecs alone ([`mappings_follow_bodies`](crate::laws::mappings_follow_bodies)). With a
 /// [`HaveList`](gix_protocol::fetch::negotiate::HaveList) the whole text is one of these, the objects and the ids, whatever
-/// version the server speaks ([`texts_follow_bodies`](crate::laws::texts_follow_bodies)). Plans that are refused go alike too
+/// version the server speaks ([`texts_follow_bodies`](crate::laws::texts_follow_bodies)). Plans that fail go alike too
 /// ([`courses_follow_bodies`](crate::laws::courses_follow_bodies)).
 ///
 /// # Errors

@@ -20,7 +20,7 @@ use std::alloc::{AllocError, Global};
 use std::io;
 use std::io::Write;
 
-// A text of this length or more is written before more is put behind it.
+// A text of this length or more is written before more is appended.
 const LONG: usize = 65_536;
 
 // The digits of a packet line without a payload.
@@ -52,7 +52,7 @@ fn write_some<W: Write>(writer: &mut W, text: &[u8]) -> Result<usize, PlanError>
     amount_of(writer.write(text))
 }
 
-// What is left behind so many bytes.
+// What is left after so many bytes.
 fn behind(text: &[u8], amount: usize) -> &[u8]
     requires { amount ≤ length text.now }
     ensures { result.now ≡ drop amount text.now }
@@ -116,7 +116,7 @@ fn settle<W: Write>(writer: &mut W, pending: &mut Vec<u8>) -> Result<(), PlanErr
     Ok(())
 }
 
-// Puts the pieces behind what is pending.
+// Appends the pieces to what is pending.
 #[tactic(auto, using(crate::proofs::PrintLemmas::written_none))]
 fn put<W: Write>(writer: &mut W, pending: &mut Vec<u8>, pieces: &[&[u8]]) -> Result<(), PlanError>
     ensures text { HoldsRest (W.contents writer.old) (W.contents writer.new) pending.new.items
@@ -341,7 +341,7 @@ fn end_text(ended: &Result<bool, PlanError>) -> &'static [u8]
     }
 }
 
-// Whether a pack came, behind what is pending. No byte of it is left in the writer.
+// Whether a pack came, after what is pending. Nothing is left to be written.
 #[tactic(auto, using(crate::proofs::PrintLemmas::written_none))]
 fn write_end<W: Write>(
     writer: &mut W,

@@ -17,9 +17,9 @@ const PART: usize = 512;
 pub(crate) struct PrintedMap {
     /// The texts of the mappings that are no longer there.
     pub(crate) texts: Vec<Vec<u8>>,
-    /// The ref map, with the mappings behind these.
+    /// The ref map, with the mappings after these.
     pub(crate) map: RefMap,
-    /// The mappings behind those of the ref map; while mappings are taken, the last first.
+    /// The mappings after the ones in the ref map; while mappings are taken, the last first.
     pub(crate) later: Vec<Mapping>,
 }
 

@@ -24,7 +24,7 @@ fn read_spec(alloc: Global, text: &BString) -> Result<RefSpec, PlanError>
     }
 }
 
-// The refspecs of these texts, or the first refusal.
+// The refspecs of these texts, or the first error.
 pub(crate) fn read_specs(alloc: Global, texts: &[BString]) -> Result<Context, PlanError>
     ensures { ReadsSpecs (map bstring_bytes texts.now) result }
 {

@@ -29,7 +29,7 @@ use std::alloc::{AllocError, Global};
 pub(crate) struct Course {
     /// The ref map, where it was made, or what is printed of it.
     pub(crate) mapped: Option<PrintedMap>,
-    /// Whether a pack came, or which step was refused.
+    /// Whether a pack came, or which step failed.
     pub(crate) ended: Result<bool, PlanError>,
 }
 

@@ -7,7 +7,7 @@ use std::alloc::AllocError;
 ///
 /// # Errors
 ///
-/// An allocation failure. The text has the pieces before the one that failed then, behind what it had.
+/// An allocation failure. The text then ends with the pieces before the one that failed.
 #[inline(always)]
 pub fn append(text: &mut Vec<u8>, pieces: &[&[u8]]) -> Result<(), AllocError>
     ensures all { OnOk result (text.new.items ≡ text.old.items ++ flat_map (λ piece. piece.now) pieces.now) }

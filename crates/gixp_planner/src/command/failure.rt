@@ -13,13 +13,13 @@ use thiserror::Error as DeriveError;
 // Why the program ends early.
 #[derive(Debug, Drop, DeriveError)]
 pub(crate) enum Failure {
-    // The words aren't those of the usage, or no text.
+    // The words aren't as the usage has them, or no text.
     #[error("usage: gixp_plan refs FILE | plan DIR SPEC..")]
     Usage,
-    // What was refused, by its name.
+    // What failed, by its name.
     #[error("{0}")]
     Refused(&'static str),
-    // What a plan was refused by.
+    // Why a plan failed.
     #[error("{0}")]
     Unplanned(PlanError),
 }
@@ -35,7 +35,7 @@ impl Failure {
         }
     }
 
-    // A list of refs that is refused.
+    // A list of refs that can't be read.
     pub(crate) fn of_list(error: ListError) -> Failure
         ensures { name_of result ≡ list_refusal error }
     {

@@ -19,7 +19,7 @@ use gix_protocol::transport::{Body, Discard, Interrupt, NeverInterrupt, ObjectId
 use std::alloc::{AllocError, Global};
 use std::io::Write;
 
-// The refusal of a refspec for which an allocation failed.
+// The error of a refspec for which an allocation failed.
 fn spec_memory() -> PlanError
     ensures { IsPlanMemory (codes "spec") result }
 {
