@@ -54,9 +54,10 @@ pub record LosesText (old new : Kept) : Type 0 where
   pub stays : KeepsTexts old new
   pub cut : new.is_cut ≡ true
 
--- a text is kept or missing
+-- a text is kept or missing, and that there was an error is known all the same
 abbrev pub HearsText : Bool → List ℕ → Kept → Kept → Type 0
-HearsText is_error text old new = KeepsText is_error text old new ⊎ LosesText old new
+HearsText is_error text old new =
+    (KeepsText is_error text old new ⊎ LosesText old new) × (new.has_error ≡ (old.has_error || is_error))
 
 -- ---- what is shown
 

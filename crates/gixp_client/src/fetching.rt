@@ -83,8 +83,8 @@ where
         messages: &Kept,
         goes_on: bool,
     ) -> Result<Option<Outcome>, Error>
-        ensures reported { ((is_reported goes_on messages.now.texts.items ≡ false) × (result ≡ came) × (self.new.state ≡ self.old.state))
-            ⊎ ((is_reported goes_on messages.now.texts.items ≡ true) × IsReportIn result × (self.new.state ≡ State.Ended)) }
+        ensures reported { ((is_reported goes_on messages.now.has_error ≡ false) × (result ≡ came) × (self.new.state ≡ self.old.state))
+            ⊎ ((is_reported goes_on messages.now.has_error ≡ true) × IsReportIn result × (self.new.state ≡ State.Ended)) }
         ensures transport { self.new.transport.inner ≡ self.old.transport.inner }
         ensures others { self.new ≡ record self.old { state = self.new.state } }
     {
