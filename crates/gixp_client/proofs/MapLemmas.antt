@@ -61,7 +61,8 @@ made_of_none agent context shaken plain old new r (Ok (LsRefsCommand command han
     (subst (λ (x : Listing). FetchesList x handed plain old new r) p.0 o))
 made_of_none agent context shaken plain old new r (Err e) p o = inl (o.0, o.1 ∙ ap Err p)
 
-pub maps_refs_here : (request : Request) (agent : FeatureValue) (shaken : Handshake) (refs : Vec Ref Global) (plain : Bool) (old new : Reading)
+pub maps_refs_here : (request : Request) (agent : FeatureValue) (shaken : Handshake) (refs : Vec Ref Global) (plain : Bool)
+    (old new : Reading)
     (r : Result RefMap MapError) → shaken.refs ≡ Some refs → MapsInSession request agent shaken plain old new r
     → MapsRefsHere request shaken refs.items old new r
 maps_refs_here request agent shaken refs plain old new r e m =
@@ -85,7 +86,8 @@ lists_for_map request agent shaken plain old new r e m = record {
 pub gives_by : (agent : FeatureValue) (shaken : Handshake) (plain : Bool) (old new : Reading) (kept : Handshake) (found : Vec Ref Global)
     (refs : List Ref) (here : Option (Vec Ref Global)) → shaken.refs ≡ here
     → ((v : Vec Ref Global) → shaken.refs ≡ Some v → kept ≡ shaken)
-    → (shaken.refs ≡ None → (v : Vec Ref Global) × ListsInSession agent shaken plain old new (Ok v) × (kept ≡ record shaken { refs = Some v }))
+    → (shaken.refs ≡ None → (v : Vec Ref Global) × ListsInSession agent shaken plain old new (Ok v)
+    × (kept ≡ record shaken { refs = Some v }))
     → kept.refs ≡ Some found → refs ≡ found.items → GivesRefs agent shaken plain old here refs
 gives_by agent shaken plain old new kept found refs (Some v) e stays lists is lent =
     lent ∙ ap (λ (x : Option (Vec Ref Global)). (unwrap_or x found).items) (sym is ∙ (ap (λ (h : Handshake). h.refs) (stays v e) ∙ e))

@@ -35,9 +35,11 @@ pub one_run : {N I A C P X : Type 0} (parties : Parties N I A ShallowMemory C P 
     → OpensSession parameters parties.plain start shaken handshake
     → MapsInSession request agent handshake parties.plain shaken middle (Ok made)
     → kept ≡ record handshake { refs = kept.refs }
-    → FetchesInSession parties map_of knows (session_call kept agent request) made known boundary boundary' middle consumer told new consumer'
+    → FetchesInSession parties map_of knows (session_call kept agent request) made known boundary boundary' middle
+    consumer told new consumer'
     → IsOneRun parties map_of knows agent request start made known boundary consumer told new consumer'
-one_run parties map_of knows promises parameters agent request start shaken middle handshake kept made known boundary boundary' consumer told new
+one_run parties map_of knows promises parameters agent request start shaken middle handshake kept made known
+    boundary boundary' consumer told new
     consumer' opens maps keeps fetched =
     let f = fetched.fetches in let h = f.holds.holds in
     let run : Run parties map_of knows (session_call kept agent request) maps.context start made
@@ -83,7 +85,8 @@ pub named_run : {N I A C P X : Type 0} (parties : Parties N I A ShallowMemory C 
     → OpensSession parameters parties.plain start shaken handshake
     → MapsInSession request agent handshake parties.plain shaken middle (Ok made)
     → kept ≡ record handshake { refs = kept.refs }
-    → FetchesInSession parties map_of knows (session_call kept agent request) made known boundary boundary' middle consumer told new consumer'
+    → FetchesInSession parties map_of knows (session_call kept agent request) made known boundary boundary' middle
+    consumer told new consumer'
     → IsOneRun parties map_of knows agent request start made known boundary consumer told new consumer')
     → (parameters : List Parameter) (agent : List ℕ) (held held' : String Global) (request : Request) (start shaken middle : Reading)
     (handshake kept : Handshake) (made : RefMap) (known : Knowledge) (boundary boundary' : List ObjectId) (consumer : C)
@@ -92,7 +95,8 @@ pub named_run : {N I A C P X : Type 0} (parties : Parties N I A ShallowMemory C 
     → OpensSession parameters parties.plain start shaken handshake
     → MapsInSession request (client_feature (string_bytes held)) handshake parties.plain shaken middle (Ok made)
     → kept ≡ record handshake { refs = kept.refs }
-    → FetchesInSession parties map_of knows (session_call kept (client_feature (string_bytes held')) request) made known boundary boundary' middle
+    → FetchesInSession parties map_of knows (session_call kept (client_feature (string_bytes held')) request) made known
+    boundary boundary' middle
     consumer told new consumer'
     → IsOneRun parties map_of knows (client_feature agent) request start made known boundary consumer told new consumer'
 named_run parties map_of knows law parameters agent held held' request start shaken middle handshake kept made known boundary boundary'
@@ -100,5 +104,6 @@ named_run parties map_of knows law parameters agent held held' request start sha
     law parameters (client_feature agent) request start shaken middle handshake kept made known boundary boundary' consumer told new
     consumer' opens
     (subst (λ (x : List ℕ). MapsInSession request (client_feature x) handshake parties.plain shaken middle (Ok made)) n maps) keeps
-    (subst (λ (x : List ℕ). FetchesInSession parties map_of knows (session_call kept (client_feature x) request) made known boundary boundary' middle
+    (subst (λ (x : List ℕ). FetchesInSession parties map_of knows (session_call kept (client_feature x) request) made known
+    boundary boundary' middle
     consumer told new consumer') (ap (λ (x : String Global). string_bytes x) e ∙ n) fetched)

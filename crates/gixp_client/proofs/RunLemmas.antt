@@ -28,11 +28,13 @@ use Rattle.gixp_client.specs.declared.request.Request.{Request}
 pub as_session : {N I S A C P X : Type 0} (parties : Parties N I A S C P X) (table : TableValue) (agent name : FeatureValue)
     (shaken : Handshake) (request : Request) (old : World N I S C) (came : Result (Option Outcome) (FetchError A X))
     (new : World N I S C) (progress : P) → table ≡ git_table → agent ≡ name
-    → Fetches parties (call_of table shaken agent request.tags (shallow_value request.shallow) request.rejects_shallow) old came new progress
+    → Fetches parties (call_of table shaken agent request.tags (shallow_value request.shallow) request.rejects_shallow)
+    old came new progress
     → CarriesFetch parties (session_call shaken name request) old came new progress
 as_session parties table agent name shaken request old came new progress t a f = record {
   fetched =
-      subst (λ (x : TableValue). Fetches parties (call_of x shaken name request.tags (shallow_value request.shallow) request.rejects_shallow)
+      subst (λ (x : TableValue). Fetches parties (call_of x shaken name request.tags (shallow_value request.shallow)
+      request.rejects_shallow)
       old came new progress) t (subst (λ (x : FeatureValue). Fetches parties
       (call_of table shaken x request.tags (shallow_value request.shallow) request.rejects_shallow) old came new progress) a f);
 }
@@ -58,12 +60,15 @@ same_knowledge t u s r o p e f l m a b c d g =
 
 -- a fetch from this boundary, as it is told
 pub in_session : {N I A C P X : Type 0} (parties : Parties N I A ShallowMemory C P X) (map_of : N → RefMap) (knows : N → Knowledge)
-    (shaken : Handshake) (request : Request) (made : RefMap) (known : Knowledge) (boundary boundary' : List ObjectId) (old : Reading) (consumer : C)
+    (shaken : Handshake) (request : Request) (made : RefMap) (known : Knowledge) (boundary boundary' : List ObjectId)
+    (old : Reading) (consumer : C)
     (told told' : Result (Option Outcome) Error) (new new' : Reading) (consumer' : C) (store store' : ShallowMemory)
     (name name' : FeatureValue) → store.ids.items ≡ boundary → store'.ids.items ≡ boundary' → name ≡ name' → told ≡ told' → new ≡ new'
     → FetchesMap parties map_of knows (session_call shaken name request) made known old store consumer told new store' consumer'
-    → FetchesInSession parties map_of knows (session_call shaken name' request) made known boundary boundary' old consumer told' new' consumer'
-in_session parties map_of knows shaken request made known boundary boundary' old consumer told told' new new' consumer' store store' name name'
+    → FetchesInSession parties map_of knows (session_call shaken name' request) made known boundary boundary' old
+    consumer told' new' consumer'
+in_session parties map_of knows shaken request made known boundary boundary' old consumer told told' new new' consumer' store store'
+    name name'
     before after named tells stands f = record {
       store = store;
       store' = store';
@@ -73,6 +78,7 @@ in_session parties map_of knows shaken request made known boundary boundary' old
           subst (λ (x : Reading). FetchesMap parties map_of knows (session_call shaken name' request) made known old store consumer told' x
           store' consumer') stands (subst (λ (x : Result (Option Outcome) Error). FetchesMap parties map_of knows
           (session_call shaken name' request) made known old store consumer x new store' consumer') tells
-          (subst (λ (x : FeatureValue). FetchesMap parties map_of knows (session_call shaken x request) made known old store consumer told new
+          (subst (λ (x : FeatureValue). FetchesMap parties map_of knows (session_call shaken x request) made known old store consumer
+          told new
           store' consumer') named f));
     }

@@ -19,7 +19,8 @@ pub shows_none : (cut : Bool) (held : Option (List ℕ)) (line : List ℕ) → S
 shows_none cut held line e = (e, appends_none held, refl)
 
 -- what was shown, and then more
-pub shows_then : (cut cut' cut'' : Bool) (held held' held'' : Option (List ℕ)) (line line' : List ℕ) (s : ShownLines) (next : List ℕ → ShownLines)
+pub shows_then : (cut cut' cut'' : Bool) (held held' held'' : Option (List ℕ)) (line line' : List ℕ)
+    (s : ShownLines) (next : List ℕ → ShownLines)
     → ShowsLines cut held cut' held' line s → ShowsLines cut' held' cut'' held'' line' (next line)
     → ShowsLines cut held cut'' held'' line' (then_shown s next)
 shows_then cut cut' cut'' held held' held'' line line' s next h k e =

@@ -6,7 +6,7 @@ use Rattle.gixp_wire.specs.Greeting.{Parameter}
 use Rattle.gixp_wire.specs.declared.service.Service.TheVariants.{UploadPack}
 use Rattle.gixp_hash.specs.declared.object_id.ObjectId.{ObjectId}
 use Rattle.gixp_requests.specs.Feature.{FeatureValue}
-use Rattle.gixp_requests.specs.Command.{git_table, agent_of}
+use Rattle.gixp_requests.specs.Command.{git_table, agent_feature}
 use Rattle.gixp_refspec.specs.Spec.{Spec}
 use Rattle.gixp_refspec.specs.RefSpec.{owned_value_of}
 use Rattle.gixp_refs.specs.declared.handshake.Ref.{Ref}
@@ -43,7 +43,7 @@ named_feature agent = record { name = codes "agent"; value = Some agent }
 
 -- how a client names itself
 abbrev pub client_feature : List ℕ → FeatureValue
-client_feature agent = named_feature (agent_of agent)
+client_feature = agent_feature
 
 abbrev pub some_spec : Option Spec → List Spec
 some_spec None = []

@@ -17,7 +17,8 @@ use Rattle.gixp_client.specs.ClientCalls.{asked_specs}
 use Rattle.gixp_client.specs.declared.request.Request.{Request}
 
 -- of these refs, and nothing was sent
-pub record MapsRefsHere (request : Request) (shaken : Handshake) (refs : List Ref) (old new : Reading) (r : Result RefMap MapError) : Type 0 where
+pub record MapsRefsHere (request : Request) (shaken : Handshake) (refs : List Ref) (old new : Reading)
+    (r : Result RefMap MapError) : Type 0 where
   pub context : Context
   pub asked : context_value context ≡ asked_specs request
   pub unsent : new ≡ old

@@ -54,9 +54,10 @@ pub record LosesText (old new : Kept) : Type 0 where
   pub stays : KeepsTexts old new
   pub cut : new.is_cut ≡ true
 
--- a text is kept or missing
+-- a text is kept or missing, and that there was an error is known all the same
 abbrev pub HearsText : Bool → List ℕ → Kept → Kept → Type 0
-HearsText is_error text old new = KeepsText is_error text old new ⊎ LosesText old new
+HearsText is_error text old new =
+    (KeepsText is_error text old new ⊎ LosesText old new) × (new.has_error ≡ (old.has_error || is_error))
 
 -- ---- what is shown
 
@@ -113,4 +114,5 @@ shown_of true line text = then_shown (ended line) (λ l. then_shown (after_text 
 
 -- unless something is missing, that was shown, from this line at hand, by a writer that held and holds this
 abbrev pub ShowsLines : Bool → Option (List ℕ) → Bool → Option (List ℕ) → List ℕ → ShownLines → Type 0
-ShowsLines was_cut held is_cut holds line shown = is_cut ≡ false → (was_cut ≡ false) × Appends held holds shown.written × (line ≡ shown.line)
+ShowsLines was_cut held is_cut holds line shown = is_cut ≡ false → (was_cut ≡ false) × Appends held holds shown.written
+    × (line ≡ shown.line)

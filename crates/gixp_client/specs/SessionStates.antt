@@ -1,7 +1,6 @@
 -- Where a refused call leaves a session: at a stop, ended by the server, or broken (gitprotocol-pack, "pkt-line Format";
 -- gitprotocol-v2, "Command Request").
-use Rattle.std.specs.Prelude.{◌≡◌, ◌⊎◌, ⊤, Bool, true, false, not, ◌&&◌, if◌then◌else◌, List, Option, Some, None, is_some, Result, Ok, Err}
-use Rattle.std.specs.List.{list_any}
+use Rattle.std.specs.Prelude.{◌≡◌, ◌⊎◌, ⊤, Bool, true, false, not, ◌&&◌, if◌then◌else◌, Option, Some, None, is_some, Result, Ok, Err}
 use Rattle.gixp_packetline.specs.declared.protocol.Protocol.{Protocol}
 use Rattle.gixp_packetline.specs.declared.protocol.Protocol.TheVariants.{V0, V1, V2}
 use Rattle.gixp_capabilities.specs.declared.client.Error.{Error as ClientError}
@@ -12,7 +11,6 @@ use Rattle.gixp_fetch.specs.declared.options.Outcome.{Outcome}
 use Rattle.gixp_client.specs.ClientError.{said_in}
 use Rattle.gixp_client.specs.declared.error.Error.{Error}
 use Rattle.gixp_client.specs.declared.error.Error.TheVariants.{Refspec, UnsupportedListing, UnknownObjectFormat, Conflicts, Request, Answer, Unnegotiated, Objects, LocalRefs, MissingFeature, Reported, Memory}
-use Rattle.gixp_client.specs.declared.listen.ServerText.{ServerText}
 use Rattle.gixp_client.specs.declared.state.State.{State}
 use Rattle.gixp_client.specs.declared.state.State.TheVariants.{AtStop, Ended, Broken}
 
@@ -65,9 +63,9 @@ behind_fetch version (Err e) = behind_refusal version e
 
 -- ---- errors that the server reports beside a pack (band 3)
 
--- one of these texts is an error, and a fetch doesn't go on then
-abbrev pub is_reported : Bool → List ServerText → Bool
-is_reported goes_on texts = not goes_on && list_any (λ said. said.is_error) texts
+-- there was an error, also one whose text is missing, and a fetch doesn't go on then
+abbrev pub is_reported : Bool → Bool → Bool
+is_reported goes_on has_error = not goes_on && has_error
 
 -- what is told of it, unless an allocation failed
 abbrev pub IsReport : Error → Type 0

@@ -210,7 +210,8 @@ fn add_removal(
     old: ObjectId,
 ) -> Result<(), AllocError>
     ensures { OnOk result (change_values changes.new.items ≡ change_values changes.old.items
-        ++ removals (is_written specs.now (bstring_bytes name) && not (has_key mapped.now (bstring_bytes name))) (bstring_bytes name, old)) }
+        ++ removals (is_written specs.now (bstring_bytes name) && not (has_key mapped.now (bstring_bytes name)))
+        (bstring_bytes name, old)) }
 {
     if is_written(specs, name.as_bytes()) && !mapped.contains(name.as_bytes()) {
         changes.push(LocalChange::Removed { name, old })?;

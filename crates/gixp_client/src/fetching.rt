@@ -83,8 +83,8 @@ where
         messages: &Kept,
         goes_on: bool,
     ) -> Result<Option<Outcome>, Error>
-        ensures reported { ((is_reported goes_on messages.now.texts.items ≡ false) × (result ≡ came) × (self.new.state ≡ self.old.state))
-            ⊎ ((is_reported goes_on messages.now.texts.items ≡ true) × IsReportIn result × (self.new.state ≡ State.Ended)) }
+        ensures reported { ((is_reported goes_on messages.now.has_error ≡ false) × (result ≡ came) × (self.new.state ≡ self.old.state))
+            ⊎ ((is_reported goes_on messages.now.has_error ≡ true) × IsReportIn result × (self.new.state ≡ State.Ended)) }
         ensures transport { self.new.transport.inner ≡ self.old.transport.inner }
         ensures others { self.new ≡ record self.old { state = self.new.state } }
     {
@@ -112,12 +112,14 @@ where
     where
         C::Error: Into<Error>,
         ensures over { self.old.state ≢ State.AtStop → (result ≡ Err Error.Over) × (self.new ≡ self.old) × (pack.new ≡ pack.old) }
-        ensures fetched { IfOk result (λ f. ((map.now.mappings.items ≡ []) × (f.outcome ≡ None) × (self.new ≡ self.old) × (pack.new ≡ pack.old)
+        ensures fetched { IfOk result (λ f. ((map.now.mappings.items ≡ []) × (f.outcome ≡ None) × (self.new ≡ self.old)
+            × (pack.new ≡ pack.old)
             × IsLeftBoundary repository.entry.boundary.now [] [] f.boundary)
             ⊎ ((after : List Id) × FetchesInSession
             (parties_of ⟦<SessionNegotiation<'a, F, R, AnyNegotiator> as Negotiate>⟧.calls ⟦<ShallowMemory as ShallowStore>⟧.calls
             ⟦<NeverInterrupt as Interrupt>⟧.says C.consumes T.is_plain)
-            ⟦<SessionNegotiation<'a, F, R, AnyNegotiator> as NegotiatesMap>⟧.map_of ⟦<SessionNegotiation<'a, F, R, AnyNegotiator> as NegotiatesMap>⟧.knows
+            ⟦<SessionNegotiation<'a, F, R, AnyNegotiator> as NegotiatesMap>⟧.map_of
+            ⟦<SessionNegotiation<'a, F, R, AnyNegotiator> as NegotiatesMap>⟧.knows
             (session_call self.old.shaken (client_feature (string_bytes self.old.agent)) request.now) map.now
             (session_knowledge request.now (F.contents repository.entry.objects.now) (R.refs repository.entry.refs.now))
             repository.entry.boundary.now after (T.reading self.old.transport.inner) pack.old (Ok f.outcome)
@@ -128,7 +130,8 @@ where
             ⊎ ((told : Result (Option Outcome) Error) × (after : List Id) × FetchesInSession
             (parties_of ⟦<SessionNegotiation<'a, F, R, AnyNegotiator> as Negotiate>⟧.calls ⟦<ShallowMemory as ShallowStore>⟧.calls
             ⟦<NeverInterrupt as Interrupt>⟧.says C.consumes T.is_plain)
-            ⟦<SessionNegotiation<'a, F, R, AnyNegotiator> as NegotiatesMap>⟧.map_of ⟦<SessionNegotiation<'a, F, R, AnyNegotiator> as NegotiatesMap>⟧.knows
+            ⟦<SessionNegotiation<'a, F, R, AnyNegotiator> as NegotiatesMap>⟧.map_of
+            ⟦<SessionNegotiation<'a, F, R, AnyNegotiator> as NegotiatesMap>⟧.knows
             (session_call self.old.shaken (client_feature (string_bytes self.old.agent)) request.now) map.now
             (session_knowledge request.now (F.contents repository.entry.objects.now) (R.refs repository.entry.refs.now))
             repository.entry.boundary.now after (T.reading self.old.transport.inner) pack.old told
@@ -155,7 +158,8 @@ where
     where
         C::Error: Into<Error>,
         ensures over { self.old.state ≢ State.AtStop → (result ≡ Err Error.Over) × (self.new ≡ self.old) × (pack.new ≡ pack.old) }
-        ensures fetched { IfOk result (λ f. ((map.now.mappings.items ≡ []) × (f.outcome ≡ None) × (self.new ≡ self.old) × (pack.new ≡ pack.old)
+        ensures fetched { IfOk result (λ f. ((map.now.mappings.items ≡ []) × (f.outcome ≡ None) × (self.new ≡ self.old)
+            × (pack.new ≡ pack.old)
             × IsLeftBoundary repository.entry.boundary.now [] [] f.boundary)
             ⊎ ((after : List Id) × FetchesInSession
             (parties_of ⟦<SessionNegotiation<'a, F, R, N> as Negotiate>⟧.calls ⟦<ShallowMemory as ShallowStore>⟧.calls

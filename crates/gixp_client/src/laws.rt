@@ -48,7 +48,8 @@ pub fn sessions_are_runs<N: PaysForHaves + NegotiatesMap, I: Interrupt, P, C: Co
 /// of the prefixes of its refspecs, at each call anew, so that no list for other refspecs answers for these.
 pub fn maps_list_again()
     ensures here { (request : Request) (agent : FeatureValue) (shaken : Handshake) (refs : Vec Ref Allocator) (plain : Bool)
-        (old new : Reading) (made : Result RefMap MapError) → shaken.refs ≡ Some refs → MapsInSession request agent shaken plain old new made
+        (old new : Reading) (made : Result RefMap MapError) → shaken.refs ≡ Some refs
+        → MapsInSession request agent shaken plain old new made
         → MapsRefsHere request shaken refs.items old new made }
     ensures again { (request : Request) (agent : FeatureValue) (shaken : Handshake) (plain : Bool) (old new : Reading)
         (made : Result RefMap MapError) → shaken.refs ≡ None → MapsInSession request agent shaken plain old new made

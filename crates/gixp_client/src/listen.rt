@@ -1,5 +1,5 @@
 //! Who hears what a server says beside its answers.
-ghost use Rattle.std.specs.Prelude.{◌≡◌, ℕ, Bool, List, [], ◌∷◌, ◌++◌, Some, false, true, ⊤, OnOk, OnErr};
+ghost use Rattle.std.specs.Prelude.{◌≡◌, ◌||◌, ℕ, Bool, List, [], ◌∷◌, ◌++◌, Some, false, true, ⊤, OnOk, OnErr};
 ghost use Rattle.std.specs.List.{find};
 ghost use Rattle.std.specs.Option.{option_copied};
 ghost use Rattle.std.specs.Io.KnownBytes.{Appends};
@@ -50,6 +50,7 @@ pub struct Kept {
     texts: Vec<ServerText>,
     room: usize,
     is_cut: bool,
+    has_error: bool,
 }
 
 // A text without one NUL or line end behind it.
@@ -68,12 +69,14 @@ impl Kept {
         ensures texts { kept_texts result ≡ [] }
         ensures room { result.room ≡ MOST_KEPT }
         ensures cut { result.is_cut ≡ false }
+        ensures error { result.has_error ≡ false }
     {
         Kept {
             alloc,
             texts: Vec::new(alloc),
             room: MOST_KEPT,
             is_cut: false,
+            has_error: false,
         }
     }
 
@@ -91,11 +94,25 @@ impl Kept {
         self.is_cut
     }
 
-    /// The first error that was said.
+    /// Whether an error was said, also where its text is missing.
+    pub fn has_error(&self) -> bool
+        ensures { result ≡ self.now.has_error }
+    {
+        self.has_error
+    }
+
+    /// The first error whose text is here.
     pub fn first_error(&self) -> Option<&ServerText>
         ensures { option_copied result ≡ find (λ said. said.is_error) self.now.texts.items }
     {
         self.texts.iter().find(|said| said.is_error)
+    }
+
+    // Notes an error.
+    fn note(&mut self, is_error: bool)
+        ensures { self.new ≡ record self.old { has_error = self.old.has_error || is_error } }
+    {
+        self.has_error = self.has_error || is_error;
     }
 
     // Keeps a text, where there is room for it.
@@ -103,6 +120,7 @@ impl Kept {
         ensures kept { OnOk result (KeepsText is_error text.now self.old self.new) }
         ensures stays { OnErr result (KeepsTexts self.old self.new) }
         ensures cut { self.new.is_cut ≡ self.old.is_cut }
+        ensures error { self.new.has_error ≡ self.old.has_error }
     {
         let text = without_end(text);
         let Some(room) = self.room.checked_sub(text.len()) else {
@@ -122,6 +140,7 @@ impl Listener for Kept {
     ghost hears = { λ k is_error text n. HearsText is_error text k n };
 
     fn hear(&mut self, is_error: bool, text: &[u8]) {
+        self.note(is_error);
         if self.keep(is_error, text).is_err() {
             self.is_cut = true;
         }

@@ -5,7 +5,6 @@ ghost use Rattle.std.specs.declared.alloc.Global.{Global as Allocator};
 ghost use Rattle.gixp_wire.specs.declared.service.Service.TheVariants.{UploadPack};
 ghost use Rattle.gixp_wire.specs.Greeting.{parameters_of};
 ghost use Rattle.gixp_refs.specs.declared.handshake.Ref.{Ref as ListedRef};
-ghost use Rattle.gixp_requests.specs.Feature.{feature_value};
 ghost use Rattle.gixp_refmap.specs.declared.ls_refs.error.Error.{Error as ListError};
 ghost use Rattle.gixp_refmap.specs.declared.refmap.init.Error.{Error as MapError};
 ghost use Rattle.gixp_handshake.specs.HandshakeValues.{refs_value};
@@ -29,8 +28,8 @@ use gixp_progress::{Discard, NestedProgress};
 use gixp_refmap::refmap::copied_refs;
 use gixp_refmap::{LsRefsCommand, RefMap};
 use gixp_refs::handshake::Ref;
-use gixp_requests::agent;
-use gixp_requests::command::{CommandTable, Feature};
+use gixp_requests::agent_feature;
+use gixp_requests::command::CommandTable;
 use gixp_wire::{Service, Transport};
 use std::alloc::{AllocError, Global};
 
@@ -48,14 +47,6 @@ pub struct Session<T: Transport + Drop, L: Listener + Drop, P: NestedProgress + 
     pub(crate) agent: String,
     pub(crate) state: State,
     pub(crate) progress: P,
-}
-
-// The feature that names a client.
-fn named(alloc: Global, name: &String) -> Result<Feature, AllocError>
-    ensures { IfOk result (λ f. feature_value f ≡ client_feature (string_bytes name.now)) }
-{
-    let text = agent(alloc, name.as_str())?;
-    Ok(("agent", Some(text)))
 }
 
 // Whether refs are here.
@@ -200,7 +191,7 @@ impl<T: Transport + Drop, L: Listener + Drop, P: NestedProgress + Drop> Session<
     {
         self.expect_open()?;
         let table = CommandTable::git();
-        let name = named(self.alloc, &self.agent)?;
+        let name = agent_feature(self.alloc, self.agent.as_str())?;
         let command = LsRefsCommand::new(
             self.alloc,
             &table,
@@ -287,7 +278,8 @@ impl<T: Transport + Drop, L: Listener + Drop, P: NestedProgress + Drop> Session<
     /// `UnknownObjectFormat` where the server names objects by another hash function, `Over`, or `Memory`.
     pub fn map(&mut self, request: &Request) -> Result<RefMap, Error>
         ensures over { self.old.state ≢ State.AtStop → (result ≡ Err Error.Over) × (self.new ≡ self.old) }
-        ensures mapped { IfOk result (λ m. MapsInSession request.now (client_feature (string_bytes self.old.agent)) self.old.shaken T.is_plain
+        ensures mapped { IfOk result (λ m. MapsInSession request.now (client_feature (string_bytes self.old.agent))
+            self.old.shaken T.is_plain
             (T.reading self.old.transport.inner) (T.reading self.new.transport.inner) (Ok m)) }
         ensures refused { IfErr result (λ e. ((self.new ≡ self.old) × ((e ≡ Error.Over) ⊎ (e ≡ Error.Memory)))
             ⊎ ((x : MapError) × MapsInSession request.now (client_feature (string_bytes self.old.agent)) self.old.shaken T.is_plain
@@ -301,7 +293,7 @@ impl<T: Transport + Drop, L: Listener + Drop, P: NestedProgress + Drop> Session<
     {
         self.expect_open()?;
         let context = request.context()?;
-        let name = named(self.alloc, &self.agent)?;
+        let name = agent_feature(self.alloc, self.agent.as_str())?;
         let here = self.refs_here()?;
         let is_here = has_refs(&self.shaken.refs);
         let version = self.shaken.server_protocol_version;

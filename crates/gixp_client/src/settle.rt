@@ -1,6 +1,5 @@
 //! What stands before a fetch of a session, and what is made of it after.
 ghost use Rattle.std.specs.Prelude.{◌≡◌, ◌⊎◌, IfOk, IfErr, Ok, Err};
-ghost use Rattle.std.specs.List.{list_any};
 ghost use Rattle.gixp_fetch.specs.FetchShallow.{shallow_value, is_change};
 ghost use Rattle.gixp_client.specs.ClientError.{IsUnsent};
 ghost use Rattle.gixp_client.specs.Boundaries.{IsBoundaryAfter};
@@ -51,21 +50,14 @@ pub(crate) fn expect_filter(
     }
 }
 
-// Whether one of the texts is an error.
-fn has_error(messages: &Kept) -> bool
-    ensures { result ≡ list_any (λ said. said.is_error) messages.now.texts.items }
-{
-    messages.texts().iter().any(|said| said.is_error)
-}
-
 /// Whether the server reported an error at which a fetch doesn't go on.
 pub(crate) fn is_reported(messages: &Kept, goes_on: bool) -> bool
-    ensures { result ≡ is_reported goes_on messages.now.texts.items }
+    ensures { result ≡ is_reported goes_on messages.now.has_error }
 {
-    !goes_on && has_error(messages)
+    !goes_on && messages.has_error()
 }
 
-/// What is told of it.
+/// What is told of it: its words, where they are here.
 pub(crate) fn reported(messages: &Kept) -> Error
     ensures { IsReport result }
 {

@@ -7,6 +7,15 @@ use gixp_progress::NestedProgress;
 use gixp_wire::Transport;
 use std::alloc::Global;
 
+/// What came of a call, unless an allocation failed, at which a test ends.
+pub(crate) fn unless_memory<C>(came: Result<C, Error>) -> Result<Result<C, Error>, Error> {
+    match came {
+        Ok(value) => Ok(Ok(value)),
+        Err(Error::Memory) => Err(Error::Memory),
+        Err(e) => Ok(Err(e)),
+    }
+}
+
 /// A request for the branches.
 pub(crate) fn branches(alloc: Global) -> Result<Request, Error> {
     let mut request = Request::new(alloc);

@@ -1,5 +1,5 @@
 //! What a session says where it is refused, where it then stands, and what is written afterwards.
-use crate::fetches::{branches, fetch, fetch_into};
+use crate::fetches::{branches, fetch, fetch_into, unless_memory};
 use crate::lines::lines;
 use crate::servers::{
     DENIED, EMPTY, GREETING, OLD, OLD_PACK, OLDER, PACK, REFS, REPORTED, UNPACKED, server,
@@ -19,10 +19,11 @@ fn told(alloc: Global, answers: &[&[&[u8]]]) -> Result<(String, Option<State>), 
     let transport = server(alloc, answers)?;
     let mut session = match Session::open(alloc, transport, "first/1.0", Silent) {
         Ok(session) => session,
+        Err(Error::Memory) => return Err(Error::Memory),
         Err(e) => return Ok((format!(in alloc; "{e}")?, None)),
     };
     let request = branches(alloc)?;
-    let text = match fetch(alloc, &mut session, &request) {
+    let text = match unless_memory(fetch(alloc, &mut session, &request))? {
         Ok((fetched, pack)) => {
             let count = pack.len();
             let has_pack = fetched.has_pack();
@@ -190,10 +191,10 @@ fn refs_that_cannot_be_read_send_nothing(rt: HostRuntime) -> Result<(), Error> {
     let objects = StoredObjects::new(alloc);
     let mut refs = MemoryRefs::new(alloc);
     refs.error = Some(RefStoreError::Io(ErrorKind::PermissionDenied));
-    let came = fetch_into(alloc, &mut session, &request, &objects, &mut refs);
+    let came = unless_memory(fetch_into(alloc, &mut session, &request, &objects, &mut refs))?;
     assert!(rt; matches!(came, Err(Error::LocalRefs(_))));
     assert!(rt; session.state() == State::AtStop);
-    assert!(rt; fetch(alloc, &mut session, &request).is_ok());
+    fetch(alloc, &mut session, &request)?;
     Ok(())
 }
 
@@ -210,10 +211,10 @@ fn objects_that_cannot_be_read_leave_a_stop(rt: HostRuntime) -> Result<(), Error
     }
     let objects = Unreadable { objects };
     let mut refs = StoredRefs::new(alloc);
-    let came = fetch_into(alloc, &mut session, &request, &objects, &mut refs);
+    let came = unless_memory(fetch_into(alloc, &mut session, &request, &objects, &mut refs))?;
     assert!(rt; matches!(came, Err(Error::Objects(_))));
     assert!(rt; session.state() == State::AtStop);
-    assert!(rt; fetch(alloc, &mut session, &request).is_ok());
+    fetch(alloc, &mut session, &request)?;
     Ok(())
 }
 
@@ -224,10 +225,10 @@ fn a_filter_that_is_not_offered_sends_nothing(rt: HostRuntime) -> Result<(), Err
     let mut session = Session::open(alloc, transport, "first/1.0", Silent)?;
     let mut request = branches(alloc)?;
     request.set_filter("blob:none")?;
-    let came = fetch(alloc, &mut session, &request);
+    let came = unless_memory(fetch(alloc, &mut session, &request))?;
     assert!(rt; matches!(came, Err(Error::MissingFeature { .. })));
     request.filter = None;
-    assert!(rt; fetch(alloc, &mut session, &request).is_ok());
+    fetch(alloc, &mut session, &request)?;
     assert!(rt; session.state() == State::Ended);
     assert!(rt; matches!(session.map(&request), Err(Error::Over)));
     Ok(())

@@ -1,10 +1,10 @@
 //! Whole sessions, and what comes of them.
-use crate::fetches::{branches, fetch};
+use crate::fetches::{branches, fetch, unless_memory};
 use crate::servers::{GREETING, PACK, REFS, REPORTED, UNPACKED, server};
 use gixp_client::{Error, LocalChange, Session, Silent, State, local_changes};
 use gixp_doubles::Told;
 use gixp_handshake::credentials::{self, Action};
-use gixp_memory::StoredRefs;
+use gixp_memory::{StoredRefs, TextError};
 
 #[test]
 fn fetches_a_pack(rt: HostRuntime) -> Result<(), Error> {
@@ -15,6 +15,9 @@ fn fetches_a_pack(rt: HostRuntime) -> Result<(), Error> {
     let (fetched, pack) = fetch(alloc, &mut session, &request)?;
     assert_eq!(rt; pack.as_slice(), b"PACK".as_slice());
     assert!(rt; fetched.has_pack());
+    if fetched.messages.is_cut() {
+        return Err(Error::Memory);
+    }
     let texts = fetched.messages.texts();
     assert_eq!(rt; texts.len(), 3);
     assert_eq!(rt; texts[0].text.as_bytes(), b"Counting obj".as_slice());
@@ -29,7 +32,7 @@ fn goes_on_behind_an_answer_without_a_pack(rt: HostRuntime) -> Result<(), Error>
     let transport = server(alloc, &[GREETING, REFS, UNPACKED, REFS, PACK])?;
     let mut session = Session::open(alloc, transport, "first/1.0", Silent)?;
     let request = branches(alloc)?;
-    let refused = fetch(alloc, &mut session, &request);
+    let refused = unless_memory(fetch(alloc, &mut session, &request))?;
     assert!(rt; matches!(refused, Err(Error::Unnegotiated { rounds: 1 })));
     assert!(rt; session.state() == State::AtStop);
     let (_, pack) = fetch(alloc, &mut session, &request)?;
@@ -45,6 +48,9 @@ fn goes_on_though_the_server_reports_an_error(rt: HostRuntime) -> Result<(), Err
     let mut request = branches(alloc)?;
     request.goes_on = true;
     let (fetched, _) = fetch(alloc, &mut session, &request)?;
+    if fetched.messages.is_cut() {
+        return Err(Error::Memory);
+    }
     assert!(rt; fetched.messages.first_error().is_some());
     assert!(rt; session.state() == State::AtStop);
     Ok(())
@@ -81,7 +87,11 @@ fn tells_local_changes(rt: HostRuntime) -> Result<(), Error> {
     let mut refs = StoredRefs::new(alloc);
     let text =
         b"7257effbd41e1233eaae5744e614c5c728e3c979 refs/remotes/origin/gone\n7257effbd41e1233eaae5744e614c5c728e3c979 refs/tags/v1\n";
-    assert!(rt; refs.read_refs(alloc, text).is_ok());
+    let read = refs.read_refs(alloc, text);
+    if matches!(read, Err(TextError::Memory)) {
+        return Err(Error::Memory);
+    }
+    assert!(rt; read.is_ok());
     let changes = local_changes(alloc, &map, &refs)?;
     assert_eq!(rt; changes.len(), 2);
     assert!(rt; matches!(&changes[0], LocalChange::Made { .. }));

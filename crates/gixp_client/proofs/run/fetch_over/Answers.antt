@@ -10,6 +10,7 @@ returns-clause-fetched g c = record {
     interrupt = _;
     interrupt' = _;
     progress = _;
-    carries = as_session _ _ _ _ c.args.peer.shaken.now c.args.request.now _ _ _ _ c.git.ensures c.named.ensures c.fetch-came.ensures.fetched;
+    carries = as_session _ _ _ _ c.args.peer.shaken.now c.args.request.now _ _ _ _
+        c.git.ensures c.named.ensures c.fetch-came.ensures.fetched;
   };
 }
