@@ -70,7 +70,7 @@ fn add_ids(ids: &mut BTreeSet<ObjectId>, mapping: &Mapping) -> Result<(), AllocE
     add_id(ids, mapping.remote.peeled_id())
 }
 
-/// The ids that mappings name, their own and those of the objects behind their tags, each once.
+/// The ids that mappings name, their own and the ids of what their tags lead to, each once.
 ///
 /// # Errors
 ///

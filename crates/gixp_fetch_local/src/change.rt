@@ -1,4 +1,4 @@
-//! What becomes of each local ref, in a word, as far as the refs and the commits before a fetch tell.
+//! What becomes of each local ref, in a word, as far as the refs and the commits before a fetch say.
 ghost use Rattle.std.specs.Prelude.{◌≡◌, [], IfOk, map};
 ghost use Rattle.std.specs.List.{zip};
 ghost use Rattle.gixp_updates.specs.Modes.{is_among};

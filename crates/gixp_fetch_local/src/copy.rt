@@ -12,7 +12,7 @@ use thiserror::Error;
 /// Why a pack isn't received from its beginning to its end.
 #[derive(Debug, Drop, Error)]
 pub enum StreamError {
-    /// The server's stream was refused, with this kind.
+    /// A read of the server's stream failed, with this kind.
     #[error("the pack can't be read: {0:?}")]
     Read(ErrorKind),
     /// A write failed, with this kind.

@@ -21,10 +21,10 @@ use std::collections::BTreeSet;
 pub(crate) struct KnownCommits {
     /// The commits that were read.
     pub read: StoredObjects,
-    /// Commits that the server has too, of which it needn't be told.
+    /// Commits that the server has too, which needn't be offered.
     pub common: BTreeSet<ObjectId>,
     /// Commits that aren't read yet, and that nothing says the server has: tips, and what commits that were offered lead to. Where
-    /// the tips are known, a text of all that they lead to has nothing to offer behind the last of these.
+    /// the tips are known, a text of all that they lead to has nothing to offer after the last of these.
     pub awaited: Option<BTreeSet<ObjectId>>,
 }
 

@@ -26,9 +26,9 @@ pub struct Server<'a> {
     pub to: &'a str,
     /// The version that is asked for.
     pub version: Protocol,
-    /// The path of the repository, where the server is to be told it first.
+    /// The path of the repository, where it is to be sent to the server first.
     pub path: Option<&'a str>,
-    /// Its host, told with the path.
+    /// Its host, sent with the path.
     pub host: Option<&'a str>,
     /// The name of this client.
     pub agent: &'a str,
@@ -49,7 +49,7 @@ pub struct Files<'a> {
     pub refs: Option<&'a str>,
     pub commits: Option<&'a str>,
     pub objects: Option<&'a str>,
-    /// Who tells of other objects.
+    /// The program that is asked about other objects.
     pub questions: Option<Questions<'a>>,
     pub shallow: Option<&'a str>,
 }
@@ -63,14 +63,14 @@ pub enum Haves {
     InOrder,
 }
 
-/// What is told, and where.
+/// What is reported, and where.
 #[derive(Clone, Copy)]
 pub struct Output<'a> {
     /// The file of the report, in place of standard output.
     pub report: Option<&'a str>,
     /// Whether the server's progress is shown.
     pub shows_progress: bool,
-    /// Whether nothing but errors is told.
+    /// Whether nothing but errors is reported.
     pub is_quiet: bool,
 }
 
@@ -83,7 +83,7 @@ pub struct Wish<'a> {
     pub shallow: Shallow,
     /// Which tags come.
     pub tags: Tags,
-    /// Whether a shallow server is refused.
+    /// Whether a shallow server is rejected.
     pub rejects_shallow: bool,
     /// Who chooses the haves.
     pub haves: Haves,
@@ -118,7 +118,7 @@ pub struct Options<'a> {
     pub output: Output<'a>,
 }
 
-/// Why a command line is refused.
+/// Why a command line can't be read.
 #[derive(Debug, Drop)]
 pub enum OptionError<'a> {
     /// An option or the value of one.
@@ -253,7 +253,7 @@ fn texts_of(alloc: Global, words: &[&str]) -> Result<Vec<BString>, AllocError>
     Ok(texts)
 }
 
-// Whether a shallow server is refused: where that is asked for, or no boundary can be kept.
+// Whether a shallow server is rejected: where that is asked for, or no boundary can be kept.
 fn rejects_shallow(line: &Line<'_>) -> bool
     ensures { result ≡ (if has (line_value line.now) (codes "--shallow")
         then has (line_value line.now) (codes "--reject-shallow") else true) }

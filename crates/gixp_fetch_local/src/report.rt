@@ -1,4 +1,4 @@
-//! What is told of a fetch, and of refs, a line each.
+//! The report of a fetch, and the listing of refs, a line each.
 ghost use Rattle.std.specs.Prelude.{◌≡◌, ◌++◌, IfOk, OnOk, flat_map};
 ghost use Rattle.gixp_refs.specs.ParseError.{object_of};
 ghost use Rattle.gixp_fetch_local.specs.Changes.{change_in};
@@ -161,7 +161,7 @@ fn append_end(
     )
 }
 
-/// What is told of a fetch: its mappings, each after what becomes of its local ref where that is known, those that were taken
+/// The report of a fetch: its mappings, each after what becomes of its local ref where that is known, those that were taken
 /// out, what `HEAD` of the server leads to, and the pack.
 pub fn report(
     alloc: Global,

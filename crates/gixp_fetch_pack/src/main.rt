@@ -1,5 +1,5 @@
 //! `gixp_fetch_pack [OPTION..] FROM TO PACK SPEC..` fetches from a server that speaks over two files, as the two ends of
-//! `git upload-pack`, and `gixp_fetch_pack --list [OPTION..] FROM TO` lists its refs. `--help` tells the options.
+//! `git upload-pack`, and `gixp_fetch_pack --list [OPTION..] FROM TO` lists its refs. `--help` lists the options.
 #![tactic(auto)]
 
 use gixp_fetch_session::run;

@@ -22,9 +22,9 @@ use symrefs::{SymrefSpan, read_symrefs};
 pub enum AdvertisedEnd {
     /// There is no more room: the next call goes on.
     Full,
-    /// The stop of the advertisement came, and the place is behind it.
+    /// The stop of the advertisement came, and the place is after it.
     Stop,
-    /// What stands at the place, or behind it, is refused.
+    /// What stands at the place, or after it, can't be read.
     Refused(AdvertisedRefused),
 }
 
@@ -33,7 +33,7 @@ pub enum AdvertisedEnd {
 pub struct AdvertisedFound {
     /// How many records were written.
     pub count: usize,
-    /// The place behind the lines of these.
+    /// The place after the lines of these.
     pub next: usize,
     /// Why it read no more.
     pub end: AdvertisedEnd,
@@ -92,9 +92,9 @@ fn read_groups(
 /// "Reference Discovery"). The bytes begin with what the server says first; a place before its first ref line is as that line's.
 /// A tag has one record for its ref line and its peeled line. Shallow lines have none.
 ///
-/// Nothing but the places of symrefs, which the first ref line tells, is allocated. What is refused stands at the place that is
-/// returned or behind it, and the refs before it are in the records. `Incomplete` is refused where the advertisement goes on in
-/// bytes that aren't there yet: a ref line is read once it shows what comes after it. Records behind those that were written are
+/// Nothing but the places of symrefs, which the first ref line has, is allocated. What can't be read stands at the place that is
+/// returned or after it, and the refs before it are in the records. `Incomplete` comes where the advertisement goes on in
+/// bytes that aren't there yet: a ref line is read once it shows what comes after it. Records after those that were written are
 /// as they were.
 pub fn read_advertised(
     alloc: Global,

@@ -16,7 +16,7 @@ pub enum BandPiece {
     Progress(Span),
     /// An error of the server in the same form, after which the pack may still go on.
     Error(Span),
-    /// The stop behind the pack.
+    /// The stop after the pack.
     Stop(MessageKind),
 }
 
@@ -35,7 +35,7 @@ fn piece_of(bytes: &[u8], line: Span) -> Result<BandPiece, PacketRefused>
     }
 }
 
-/// What the packet line at this place of an answer says, which stands behind the answer's sections, and where the next one
+/// What the packet line at this place of an answer says, which stands after the answer's sections, and where the next one
 /// stands (gitprotocol-pack, "Packfile Data"). It allocates nothing.
 ///
 /// # Errors

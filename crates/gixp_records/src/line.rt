@@ -163,7 +163,7 @@ pub(crate) fn trimmed(bytes: &[u8], line: Span) -> Span
     }
 }
 
-// What the line says behind its id.
+// What the line says after its id.
 #[inline(always)]
 fn read_named(bytes: &[u8], object: Option<ObjectId>, rest: Span) -> Result<LineRef, LineRefused>
     requires { IsWithin bytes.now rest }

@@ -24,7 +24,7 @@ fn is_told(line: &[u8]) -> bool
         || line.starts_with(b"unshallow ")
 }
 
-/// Where the pack begins in an answer of version 2: behind its header `packfile`.
+/// Where the pack begins in an answer of version 2: after its header `packfile`.
 ///
 /// # Errors
 ///

@@ -45,9 +45,9 @@ pub enum RefsRefused {
 pub enum RefsEnd {
     /// There is no more room: the next call goes on.
     Full,
-    /// The stop of the answer came, and the place is behind it.
+    /// The stop of the answer came, and the place is after it.
     Stop,
-    /// What stands at the place is refused.
+    /// What stands at the place can't be read.
     Refused(RefsRefused),
 }
 
@@ -56,7 +56,7 @@ pub enum RefsEnd {
 pub struct RefsFound {
     /// How many records were written.
     pub count: usize,
-    /// The place behind what was read.
+    /// The place after what was read.
     pub next: usize,
     /// Why it read no more.
     pub end: RefsEnd,
@@ -65,9 +65,9 @@ pub struct RefsFound {
 // What comes next.
 #[derive(Clone, Copy)]
 pub(crate) enum NextRef {
-    // A ref, and the place behind it.
+    // A ref, and the place after it.
     Ref(RefRecord, usize),
-    // A stop, and the place behind it.
+    // A stop, and the place after it.
     Stop(usize),
 }
 
@@ -229,8 +229,8 @@ fn next_ref(bytes: &[u8], at: usize) -> Result<NextRef, RefsRefused>
 /// Reads refs of an `ls-refs` answer from this place on, as many as there is room for (gitprotocol-v2, "ls-refs"). It
 /// allocates nothing.
 ///
-/// What is refused stands at the place that is returned, and the refs before it are in the records. `Incomplete` is refused
-/// where the answer goes on in bytes that aren't there yet. Records behind those that were written are as they were.
+/// What can't be read stands at the place that is returned, and the refs before it are in the records. `Incomplete` comes
+/// where the answer goes on in bytes that aren't there yet. Records after those that were written are as they were.
 pub fn read_refs(bytes: &[u8], from: usize, records: &mut [RefRecord]) -> RefsFound
     requires { from ≤ length bytes.now }
     ensures { ReadsRecords bytes.now from records.old result records.new }

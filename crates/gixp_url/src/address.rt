@@ -63,7 +63,7 @@ pub struct Address {
     pub authority: BString,
     /// The user and the host, without brackets.
     pub host: BString,
-    /// The port, of digits, where one is told.
+    /// The port, of digits, where the URL has one.
     pub port: Option<BString>,
     /// The path there; of a web server the whole URL, as it was written.
     pub path: BString,
@@ -107,7 +107,7 @@ enum Form<'a> {
     Path(&'a [u8]),
     // A host, a colon and a path there.
     HostPath(&'a [u8]),
-    // What stands behind a scheme.
+    // What stands after a scheme.
     Url(Transport, &'a [u8]),
     // The whole URL of a web server.
     Web(Transport, &'a [u8]),
@@ -196,7 +196,7 @@ fn form_without_scheme(text: &[u8]) -> Result<Form<'_>, UrlError>
     }
 }
 
-// What stands behind a scheme and its colon.
+// What stands after a scheme and its colon.
 fn form_behind<'a>(text: &'a [u8], scheme: &'a [u8], behind: &'a [u8]) -> Result<Form<'a>, UrlError>
     ensures { map_form result ≡ form_behind text.now scheme.now behind.now }
 {
@@ -240,7 +240,7 @@ fn separator_from(text: &[u8], from: usize, separator: u8) -> Option<usize>
     }
 }
 
-// Where the path begins: at the first separator behind the host.
+// Where the path begins: at the first separator after the host.
 fn path_at(text: &[u8], separator: u8) -> Option<usize>
     ensures place { result ≡ path_at separator text.now }
     ensures within { IfSome result (λ at. at < length text.now) }
@@ -352,7 +352,7 @@ fn local(alloc: Global, path: &[u8]) -> Result<Address, UrlError>
     server(alloc, Transport::File, b"", path)
 }
 
-// What stands behind a scheme, with its escaped bytes as they are.
+// What stands after a scheme, with its escaped bytes as they are.
 fn remote_url(alloc: Global, transport: Transport, rest: &[u8]) -> Result<Address, UrlError>
     ensures { GivesAddress (remote transport (decoded 0 rest.now) 47) result }
 {

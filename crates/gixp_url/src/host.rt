@@ -16,7 +16,7 @@ pub(crate) struct Brackets<'a> {
     behind: &'a [u8],
 }
 
-// How many bytes stand before the bracket that may hold the host: behind the first `@` that one follows, else at the front.
+// How many bytes stand before the bracket that may hold the host: after the first `@` that one follows, else at the front.
 fn bracket_at(text: &[u8]) -> usize
     ensures value { result ≡ bracket_at text.now }
     ensures within { result ≤ length text.now }
@@ -33,7 +33,7 @@ fn bracket_at(text: &[u8]) -> usize
     0
 }
 
-// What brackets hold, and what stands before and behind them.
+// What brackets hold, and what stands before and after them.
 fn brackets_in(text: &[u8]) -> Option<Brackets<'_>>
     ensures value { option_map brackets_value result ≡ brackets text.now }
 {
@@ -50,7 +50,7 @@ fn brackets_in(text: &[u8]) -> Option<Brackets<'_>>
     })
 }
 
-// Where the search for the end of the host begins: behind its brackets, else at the front.
+// Where the search for the end of the host begins: after its brackets, else at the front.
 pub(crate) fn search_from(text: &[u8]) -> usize
     ensures value { result ≡ search_from text.now }
     ensures within { result ≤ length text.now }
@@ -87,7 +87,7 @@ fn is_port(text: &[u8]) -> bool
     !text.is_empty() && fits_port(text)
 }
 
-// A host, and the port behind its first colon.
+// A host, and the port after its first colon.
 fn with_port(text: &[u8]) -> Option<(&[u8], &[u8])>
     ensures { option_map (λ p. (p.0.now, p.1.now)) result ≡ with_port text.now }
 {
@@ -99,7 +99,7 @@ fn with_port(text: &[u8]) -> Option<(&[u8], &[u8])>
     }
 }
 
-/// A host, and its port where one is told.
+/// A host, and its port where there is one.
 #[derive(Debug, Drop, PartialEq, Eq)]
 pub(crate) struct Host {
     pub(crate) name: BString,
@@ -155,7 +155,7 @@ fn bare_name(alloc: Global, found: Brackets<'_>) -> Result<Vec<u8>, AllocError>
     Ok(name)
 }
 
-// The host in brackets: a port stands behind them, or in them.
+// The host in brackets: a port stands after them, or in them.
 fn bracketed_host(alloc: Global, found: Brackets<'_>) -> Result<Host, AllocError>
     ensures { IfOk result (λ host. host_value host
         ≡ bracketed_host (found.entry.before.now ++ found.entry.inner.now) (with_port found.entry.behind.now)) }

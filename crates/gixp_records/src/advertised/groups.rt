@@ -21,9 +21,9 @@ use crate::span::{Span, text_at};
 // What comes next.
 #[derive(Clone, Copy)]
 pub(crate) enum NextAdvertised {
-    // A line, and the place behind it.
+    // A line, and the place after it.
     Line(AdvertisedLine, usize),
-    // A stop, and the place behind it.
+    // A stop, and the place after it.
     Stop(usize),
 }
 
@@ -32,7 +32,7 @@ pub(crate) enum NextAdvertised {
 pub(crate) struct Reach {
     // The place of the next line.
     pub(crate) at: usize,
-    // The place of the ref line that is open, or before all lines behind the last ref.
+    // The place of the ref line that is open, or before all lines after the last ref.
     pub(crate) place: usize,
     // The ref line after which a peeled one may stand.
     pub(crate) last: Option<NamedLine>,
@@ -45,9 +45,9 @@ pub(crate) enum Step {
     On(Reach),
     // A ref.
     Record(RefRecord, Reach),
-    // The last ref, and the place behind the stop.
+    // The last ref, and the place after the stop.
     Last(RefRecord, usize),
-    // Nothing: it is the stop, and the place is behind it.
+    // Nothing: it is the stop, and the place is after it.
     Stop(usize),
 }
 

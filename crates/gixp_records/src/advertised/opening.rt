@@ -40,7 +40,7 @@ pub(crate) struct RefsOpening {
 pub(crate) enum Opened {
     // A first ref line.
     Refs(RefsOpening),
-    // A stop in its place, and the place behind that.
+    // A stop in its place, and the place after the stop.
     Empty(usize),
 }
 

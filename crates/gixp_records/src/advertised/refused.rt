@@ -8,7 +8,7 @@ pub enum AdvertisedRefused {
     Packet(PacketRefused),
     /// A line stands for no ref, or not where it is; or a capability for no symref.
     Line(AdvertisedLineRefused),
-    /// The first ref line has no NUL, behind which the capabilities would stand.
+    /// The first ref line has no NUL, after which the capabilities would stand.
     NoCapabilities,
     /// The server speaks version 2: it lists its refs where it is asked for them.
     VersionTwo,
@@ -18,14 +18,14 @@ pub enum AdvertisedRefused {
     Memory,
 }
 
-/// Why a line of an advertisement is refused.
+/// Why a line of an advertisement can't be read.
 #[derive(Clone, Copy, Debug, PartialEq, Eq)]
 pub enum AdvertisedLineRefused {
     /// What should be an object id is none.
     Id,
     /// The line lacks its name.
     Malformed,
-    /// A peeled line, of which the ref line of its name doesn't come before it, or is that of a symref.
+    /// A peeled line without the ref line of its name right before it, or after the ref line of a symref.
     Peeled,
     /// The value of a capability `symref` isn't a name, a colon and a target.
     Symref,

@@ -1,4 +1,4 @@
-//! The refs that name other refs, as the capabilities of a first ref line tell them (gitprotocol-capabilities, "symref").
+//! The refs that name other refs, as the capabilities of a first ref line have them (gitprotocol-capabilities, "symref").
 ghost use Rattle.std.specs.Prelude.{◌≡◌, Ok, All, IfOk, IfSome, MatchResult, map};
 ghost use Rattle.std.specs.Option.{option_map};
 ghost use Rattle.gixp_capabilities.specs.Capabilities.{capability_of, capabilities_of_words};
@@ -13,7 +13,7 @@ use crate::line::is_null;
 use crate::span::{Span, cut_at, text_at};
 use std::alloc::Global;
 
-// A ref that names another one, and the name of that, where it is told.
+// A ref that names another one, and the name of the other, where it is there.
 #[derive(Clone, Copy)]
 pub(crate) struct SymrefSpan {
     pub(crate) name: Span,
