@@ -1,5 +1,5 @@
 #!/usr/bin/env python3
-"""Lists the functions without a clause in the libraries that a program rests on, but for those that PROOFS names.
+"""Lists the functions without a clause in the libraries that a program depends on, but for those that PROOFS names.
 
 Usage: clauses.py [--all]
 

@@ -116,7 +116,7 @@ def sentences():
         peers.count("gogit"), peers.count("dulwich"), peers.count("git")]
     yield PROOFS, rf"{NUMBER} names \(`git_name`\) and {NUMBER} refspecs", [names.count("ref-name"), names.count("refspec")]
     for crate in crates():
-        if crate.startswith("gixp_test_"):
+        if crate.startswith("gixp_test_") or crate == "gixp_examples":
             parts = TEST_MODULES.get(crate, [])
             found = "".join(rf"[^|\n]*?\({NUMBER}\)" for _ in parts)
             yield PROOFS, rf"(?m)^\| `{crate}` \| {NUMBER} \|{found}", [tests(crate), *(tests(crate, part) for part in parts)]

@@ -3,7 +3,7 @@
 
 Usage: names.py [--all]
 
-A capitalised name that two files define is told with these files, and the status is then 1. Definitions of two crates that say
+A capitalised name that two files define is printed with these files, and the status is then 1. Definitions of two crates that say
 the same, but for their names, are counted, and listed with --all, which has the status 1 too where there is one.
 """
 import argparse

@@ -3,7 +3,8 @@
 
 Usage: reference.py [--write]
 
-Without `--write` it compares, and prints the first line that differs; the status is 1 then.
+Without `--write` it compares, and prints the first line that differs. It also prints which Rust of README and USING stands in no file
+of the crates, but for contracts, comments and names that aren't imported. The status is 1 where there is something wrong.
 """
 import re
 import sys
@@ -16,6 +17,7 @@ HEAD = """# Reference
 
 Every public name of `gix_protocol`, with its path and its signature. Contracts and comments stand with the function, in the file that is named. `scripts/reference.py --write` makes this page.
 """
+QUOTING = "README.md", "docs/USING.md"
 ITEM = r"pub (?:const )?(?:fn|struct|enum|trait|type|const) {name}\b"
 
 
@@ -112,7 +114,7 @@ def cut(text):
 
 
 def block(text, start):
-    """The text between the braces that open behind a place."""
+    """The text between the braces that open after a place."""
     begin = text.index("{", start)
     depth = 0
     for i in range(begin, len(text)):
@@ -202,7 +204,40 @@ def listed(path, crate, module, seen):
             yield f"`{here}` ({file})\n\n```rust\n{lines}\n```\n"
 
 
+def code_of(text):
+    """The lines of some code without comments and ending semicolons; of an import each name is a line."""
+    text = re.sub(r"(?m)^ *//.*$|\s+//.*$", "", text)
+    text = re.sub(r"(?m)^((?:ghost )?use [^;{]*)\{([^{}]*)\};", lambda it: "\n".join(it[1] + name.strip() for name in it[2].split(",")), text)
+    return [line.strip().removesuffix(";") for line in text.splitlines() if line.strip()]
+
+
+def holds(lines, item):
+    """Whether the lines of an item stand among these, in their order; imports in any."""
+    rest = iter(lines)
+    return all(line in lines if "use " in line else any(line == it for it in rest) for line in item)
+
+
+def not_quoted():
+    """The items of Rust in documents that stand in no file of the crates: the document, the line and the item's first line."""
+    files = [code_of(path.read_text()) for path in sorted(CRATES.glob("*/src/**/*.rt"))]
+    for document in QUOTING:
+        text = (TOP / document).read_text()
+        for block_found in re.finditer(r"(?ms)^```rust\n(.*?)^```$", text):
+            for item in re.split(r"\n\n(?=\S)", block_found[1]):
+                lines = code_of(item)
+                if lines and not any(holds(it, lines) for it in files):
+                    yield document, text.count("\n", 0, block_found.start(1)) + 1, lines[0]
+
+
 def main():
+    wrong = list(not_quoted())
+    for document, line, first in wrong:
+        print(f"{document}:{line}: no file of the crates has the code that begins {first!r}")
+    return compare() or bool(wrong)
+
+
+def compare():
+    """Writes the page, or compares it."""
     page = HEAD + "\n".join(listed("gix_protocol", "gix_protocol", (), {}))
     if "--write" in sys.argv[1:]:
         REFERENCE.write_text(page)

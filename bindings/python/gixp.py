@@ -81,8 +81,8 @@ _KINDS = [(range(3, 4), Kind.BAD_PLACE), (range(4, 5), Kind.NO_MEMORY), (range(1
 
 def _text(code: int) -> str:
     buffer, length = ctypes.create_string_buffer(128), c_size_t()
-    told = _lib.gixp_error_text(code, buffer, len(buffer), byref(length))
-    return buffer.raw[:length.value].decode("ascii") if told == _OK else ""
+    found = _lib.gixp_error_text(code, buffer, len(buffer), byref(length))
+    return buffer.raw[:length.value].decode("ascii") if found == _OK else ""
 
 
 class GixpError(Exception):
@@ -128,14 +128,14 @@ def _read(reader, answer: bytes) -> Iterator[Ref]:
 
 
 def refs(answer: bytes) -> Iterator[Ref]:
-    """The refs of an `ls-refs` answer of version 2, in its order (gitprotocol-v2, "ls-refs"). Raises GixpError behind the last
+    """The refs of an `ls-refs` answer of version 2, in its order (gitprotocol-v2, "ls-refs"). Raises GixpError after the last
     one unless the answer is whole."""
     return _read(_lib.gixp_refs, answer)
 
 
 def advertised(answer: bytes) -> Iterator[Ref]:
-    """The refs of what a server of version 0 or 1 says first (gitprotocol-pack, "Reference Discovery"): of each ref line one, a tag
-    with what its peeled line tells. Raises GixpError behind the last one unless the advertisement is whole."""
+    """The refs of a reference advertisement of version 0 or 1 (gitprotocol-pack, "Reference Discovery"): one for each ref line, a tag
+    with the id of its peeled line. Raises GixpError after the last one unless the advertisement is whole."""
     return _read(_lib.gixp_advertised, answer)
 
 
@@ -202,7 +202,7 @@ class Band(enum.Enum):
 
 @dataclass(frozen=True)
 class Piece:
-    """A piece of a pack, or a line that the server says meanwhile, and the place behind it."""
+    """A piece of a pack, or a message of the server between its pieces, and the place after it."""
     band: Band
     text: bytes
     next: int

@@ -81,7 +81,7 @@ impl Error {
     fn text(&self) -> String {
         let mut text = [0; 128];
         let mut len = 0;
-        // SAFETY: the buffer has the length that is told, and nothing else leads to it or to the length.
+        // SAFETY: the buffer has the length that is passed, and nothing else leads to it or to the length.
         let code = unsafe { sys::gixp_error_text(self.code, text.as_mut_ptr(), text.len(), &mut len) };
         match text.get(..len) {
             Some(text) if code == sys::OK => String::from_utf8_lossy(text).into_owned(),

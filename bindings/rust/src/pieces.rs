@@ -28,7 +28,7 @@ pub fn pieces(answer: &[u8], from: usize) -> Pieces<'_> {
 }
 
 impl Pieces<'_> {
-    /// The place behind the pieces that were taken, and behind the stop after the last.
+    /// The place after the pieces that were taken, and after the stop once the last was.
     pub fn place(&self) -> usize {
         self.next
     }

@@ -69,8 +69,8 @@ pub fn refs(answer: &[u8]) -> Refs<'_> {
     Refs::new(sys::gixp_refs, answer)
 }
 
-/// The refs of what a server of version 0 or 1 says first (gitprotocol-pack, "Reference Discovery"): of each ref line one, a tag
-/// with what its peeled line tells. The last item is an error unless the advertisement is whole, as of [`refs`].
+/// The refs of a reference advertisement of version 0 or 1 (gitprotocol-pack, "Reference Discovery"): one for each ref line, a tag
+/// with the id of its peeled line. The last item is an error unless the advertisement is whole, as of [`refs`].
 pub fn advertised(answer: &[u8]) -> Refs<'_> {
     Refs::new(sys::gixp_advertised, answer)
 }

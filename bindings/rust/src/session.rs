@@ -37,7 +37,7 @@ impl Session {
         session
     }
 
-    /// Offers an object that is there, behind those before it. It isn't asked for.
+    /// Offers an object that is there, after the ones before it. It isn't asked for.
     pub fn have(&mut self, id: Id) -> &mut Session {
         self.haves.extend_from_slice(&id.0);
         self

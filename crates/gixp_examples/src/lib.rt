@@ -10,6 +10,9 @@ mod mirror;
 mod promised;
 mod refs;
 mod remote_listing;
+mod stored;
+#[cfg(test)]
+mod tests;
 mod whole_fetch;
 
 pub use clauses::{marked_complete, read_answer, read_pack, read_spec};
@@ -21,4 +24,5 @@ pub use mirror::plan_mirror;
 pub use promised::promised_fetch;
 pub use refs::{recorded_refs, refs_of_bytes, refs_of_file};
 pub use remote_listing::{ls_remote, print_remote_refs};
+pub use stored::stored_repository;
 pub use whole_fetch::fetch_from;
