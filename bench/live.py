@@ -1,5 +1,5 @@
 #!/usr/bin/env python3
-"""Times `git clone` and `git fetch` through gixp_remote and git-remote-gixp against git's own, over pipes.
+"""Times `git clone` and `git fetch` through gixp_remote and git-remote-gixp against git's own, over pipes and over HTTP.
 
 Usage: live.py [--remote PATH] [--runs N] [--only WORD]
 
@@ -7,7 +7,12 @@ PATH is the built gixp_remote, else what `rt run` in crates/gixp_remote left in 
 git upload-pack over pipes, and so does the helper. Each is done N times in turn, and the best time of each counts; a line says both,
 their ratio, and what it is to be at most. One run more, behind GNU time where that is installed, measures the memory of the program
 alone. Actions: a clone of 2,000 commits, a fetch of the same with nothing new, a fetch of 100 commits into 200,000, a clone of
-40,000 and one of 70,000 refs, and a clone of a pack of 300 MiB; all into bare repositories.
+40,000 and one of 70,000 refs, and a clone of a pack of 300 MiB; all into bare repositories. Over HTTP, by nginx, lighttpd or a server
+of our own, whichever is here: a clone of 2,000 commits, one without file contents, a fetch with nothing new, a clone of 50,000
+refs, and one of 300 MiB.
+
+Where there is a C compiler, the first two are done in the same turns through `floor.c` too, the least that a remote helper may do:
+what git's own way of calling helpers costs, whatever one does.
 """
 import argparse
 import os
@@ -22,7 +27,9 @@ import time
 TOP = pathlib.Path(__file__).resolve().parent.parent
 REMOTE = TOP / "crates" / "gixp_remote"
 MIB = 1 << 20
-KINDS = "git", "ours"
+sys.path.insert(0, str(TOP / "scripts"))
+
+from live_httpd import web_of, web_servers  # noqa: E402
 
 
 def history(count, first, begin, parent=None):
@@ -61,6 +68,21 @@ class Bench:
         }
         for setting in ("gc.auto 0", "maintenance.auto false", "init.defaultBranch main"):
             self.git("config", "--global", *setting.split())
+        self.has_floor = bool(shutil.which("cc"))
+        if self.has_floor:
+            subprocess.run(["cc", "-O2", "-o", tools / "git-remote-floor", TOP / "bench" / "floor.c"], check=True)
+
+    # What web servers are begun by
+
+    def begin(self, *words, more=None, stderr=subprocess.DEVNULL):
+        streams = {"stdin": subprocess.DEVNULL, "stdout": subprocess.DEVNULL, "stderr": stderr}
+        environment = {**self.environment, **(more or {})}
+        return subprocess.Popen([str(word) for word in words], env=environment, cwd=self.room, start_new_session=True, **streams)
+
+    def folder(self, name):
+        return self.room / name
+
+    # Repositories, and their URLs by who fetches from them
 
     def git(self, *words, at=None, more=None):
         environment = {**self.environment, **(more or {})}
@@ -82,11 +104,17 @@ class Bench:
         self.git("repack", "-q", "-a", "-d", at=folder)
         return folder
 
-    def compare(self, name, target, prepare, words):
-        """Times git and the program in turn, and tells the best of each."""
-        best = dict.fromkeys(KINDS, float("inf"))
+    def by_path(self, server, floor=False):
+        urls = {"git": f"file://{server}", "ours": f"gixp::{server}"}
+        return {**urls, "floor": f"floor::{server}"} if floor and self.has_floor else urls
+
+    # What is compared
+
+    def compare(self, name, target, kinds, prepare, words):
+        """Times git, the program and the floor in turn, and tells the best of each."""
+        best = dict.fromkeys(kinds, float("inf"))
         for _ in range(self.runs):
-            for kind in KINDS:
+            for kind in kinds:
                 at, start = prepare(kind), time.perf_counter()
                 self.git(*words(kind), at=at)
                 best[kind] = min(best[kind], time.perf_counter() - start)
@@ -96,23 +124,22 @@ class Bench:
             self.git(*words("ours"), at=prepare("ours"), more={"GIXP_REMOTE": str(self.measured)})
             memory = f"{max(map(int, self.memory.read_text().split()))} KiB"
         git, ours = best["git"], best["ours"]
-        times = f"git {git:.3f} s, ours {ours:.3f} s, ratio {ours / git:.2f}, at most {target}"
-        print(f"{name}: {times}; memory of the program {memory}", flush=True)
+        times = f"git {git:.4f} s, ours {ours:.4f} s, ratio {ours / git:.2f}, at most {target}"
+        floor = f"; floor {best['floor']:.4f} s, ratio {best['floor'] / git:.2f}" if "floor" in best else ""
+        print(f"{name}: {times}{floor}; memory of the program {memory}", flush=True)
 
-    def clone(self, name, target, server):
+    def clone(self, name, target, urls, *more):
         """Clones of a server, each into a folder that isn't there."""
-        urls = {"git": f"file://{server}", "ours": f"gixp::{server}"}
-
         def prepare(kind):
             shutil.rmtree(self.room / "clone", ignore_errors=True)
 
-        self.compare(name, target, prepare, lambda kind: ["clone", "-q", "--bare", urls[kind], "clone"])
+        self.compare(name, target, urls, prepare, lambda kind: ["clone", "-q", "--bare", *more, urls[kind], "clone"])
         shutil.rmtree(self.room / "clone")
 
-    def fetch(self, name, target, server, change):
-        """Fetches into copies of two clones, behind a change of the server."""
+    def fetch(self, name, target, urls, server, change):
+        """Fetches into copies of clones, behind a change of the server."""
         clients = {}
-        for kind, url in (("git", f"file://{server}"), ("ours", f"gixp::{server}")):
+        for kind, url in urls.items():
             clients[kind] = self.room / f"client-{kind}"
             self.git("clone", "-q", "--bare", f"file://{server}", clients[kind])
             self.git("config", "remote.origin.url", url, at=clients[kind])
@@ -125,7 +152,7 @@ class Bench:
             subprocess.run(["cp", "-a", "-l", clients[kind], copy], check=True)
             return copy
 
-        self.compare(name, target, prepare, lambda kind: ["fetch", "-q"])
+        self.compare(name, target, urls, prepare, lambda kind: ["fetch", "-q"])
         for folder in (*clients.values(), self.room / "copy"):
             shutil.rmtree(folder)
 
@@ -133,19 +160,19 @@ class Bench:
 
     def small(self):
         server = self.repository("small", [history(2000, 1, 1_500_000_000)])
-        self.clone("a clone of 2,000 commits", 1.2, server)
+        self.clone("a clone of 2,000 commits", 1.2, self.by_path(server, floor=True))
 
     def nothing(self):
         server = self.repository("same", [history(2000, 1, 1_500_000_000)])
-        self.fetch("a fetch with nothing new", 1.2, server, lambda server: None)
+        self.fetch("a fetch with nothing new", 1.2, self.by_path(server, floor=True), server, lambda server: None)
 
     def commits(self):
         server = self.repository("long", [history(200_000, 1, 1_500_000_000)])
         more = history(100, 300_000, 1_500_000_000, "refs/heads/main^0")
-        self.fetch("a fetch of 100 commits into 200,000", 1.2, server, lambda server: self.load(server, [more]))
+        self.fetch("a fetch of 100 commits into 200,000", 1.2, self.by_path(server), server, lambda server: self.load(server, [more]))
         shutil.rmtree(server)
 
-    def refs(self, count, target):
+    def many_refs(self, count):
         server = self.repository(f"refs-{count}", [history(400, 1, 1_500_000_000)])
         told = subprocess.run(["git", "rev-list", "main"], cwd=server, env=self.environment, check=True, capture_output=True, text=True)
         ids = told.stdout.split()
@@ -153,12 +180,37 @@ class Bench:
         lines = [f"{ids[number % len(ids)]} {name}\n" for number, name in enumerate(names)]
         head, main = "# pack-refs with: peeled fully-peeled sorted \n", f"{ids[0]} refs/heads/main\n"
         (server / "packed-refs").write_text(head + "".join(lines) + main)
-        self.clone(f"a clone of {count:,} refs", target, server)
+        return server
+
+    def refs(self, count):
+        self.clone(f"a clone of {count:,} refs", 1.5, self.by_path(self.many_refs(count)))
 
     def large(self):
-        server = self.repository("large", blobs(300))
-        size = sum(path.stat().st_size for path in server.glob("objects/pack/*.pack"))
-        self.clone(f"a clone of {size // MIB} MiB", 1.05, server)
+        self.clone("a clone of 300 MiB", 1.05, self.by_path(self.repository("large", blobs(300))))
+
+    def web(self, action):
+        """An action over HTTP, by a repository of its own."""
+        with web_of(self, web_servers()[0], self.room) as front:
+            action(lambda server: {"git": f"{front}/{server.name}", "ours": f"gixp::{front}/{server.name}"})
+        shutil.rmtree(self.room / "web")
+
+    def web_small(self, urls):
+        self.clone("HTTP: a clone of 2,000 commits", 1.2, urls(self.repository("web-small", [history(2000, 1, 1_500_000_000)])))
+
+    def web_partial(self, urls):
+        server = self.repository("web-partial", [history(2000, 1, 1_500_000_000)])
+        self.git("config", "uploadpack.allowFilter", "true", at=server)
+        self.clone("HTTP: a clone of 2,000 commits without file contents", 1.2, urls(server), "--filter=blob:none")
+
+    def web_nothing(self, urls):
+        server = self.repository("web-same", [history(2000, 1, 1_500_000_000)])
+        self.fetch("HTTP: a fetch with nothing new", 1.2, urls(server), server, lambda server: None)
+
+    def web_refs(self, urls):
+        self.clone("HTTP: a clone of 50,000 refs", 1.5, urls(self.many_refs(50_000)))
+
+    def web_large(self, urls):
+        self.clone("HTTP: a clone of 300 MiB", 1.05, urls(self.repository("web-large", blobs(300))))
 
 
 def main():
@@ -174,8 +226,11 @@ def main():
         bench = Bench(pathlib.Path(room), program, given.runs)
         for name, action in (
             ("a clone of 2,000 commits", bench.small), ("a fetch with nothing new", bench.nothing),
-            ("a fetch of 100 commits into 200,000", bench.commits), ("a clone of 40,000 refs", lambda: bench.refs(40_000, 1.5)),
-            ("a clone of 70,000 refs", lambda: bench.refs(70_000, 1.5)), ("a clone of 300 MiB", bench.large),
+            ("a fetch of 100 commits into 200,000", bench.commits), ("a clone of 40,000 refs", lambda: bench.refs(40_000)),
+            ("a clone of 70,000 refs", lambda: bench.refs(70_000)), ("a clone of 300 MiB", bench.large),
+            ("HTTP: small", lambda: bench.web(bench.web_small)), ("HTTP: partial", lambda: bench.web(bench.web_partial)),
+            ("HTTP: nothing new", lambda: bench.web(bench.web_nothing)), ("HTTP: refs", lambda: bench.web(bench.web_refs)),
+            ("HTTP: 300 MiB", lambda: bench.web(bench.web_large)),
         ):
             if given.only in name:
                 action()

@@ -14,6 +14,7 @@ and from git's own documents, never from what the program printed. A row's lines
     name NAME           the name that git has for the server, `origin` where none is told
     set NAME=VALUE      a variable of its environment
     setting NAME=VALUE  one that `git config --list` tells; `setting NAME` has no value
+    terminal NAME       standard error is a terminal of this name
     bare                the row has the question for the settings itself; else it is answered before the first line
     > LINE              git says a line
     >> TEXT             git says bytes, and no line end
@@ -131,16 +132,15 @@ class Row:
         for _, word, rest in self.lines:
             told.setdefault(word, []).append(self.text(rest))
         variables = {"PATH": os.environ["PATH"], **dict(one.decode("latin1").split("=", 1) for one in told["set"])}
-        for name in ("url", "name"):
+        settings = [one.replace(b"=", b"\n", 1) + b"\0" for one in told["setting"]]
+        (self.room / "settings").write_bytes(b"".join(settings))
+        for name in {"url", "name", "terminal"} & told.keys():
             (self.room / name).write_bytes(told[name][-1])
         self.begun = subprocess.Popen(
             [self.program, FOLDER], cwd=self.room, env=variables, stdin=subprocess.PIPE, stdout=subprocess.PIPE,
             stderr=(self.room / "errors").open("wb"))
         if "bare" not in told:
-            settings = [one.replace(b"=", b"\n", 1) + b"\0" for one in told["setting"]]
-            (self.room / "told").write_bytes(b"".join(settings))
-            self.request(b"start question git /dev/null told | config | --list | --null")
-            self.request(b"status question")
+            self.request(b"status settings")
             self.answer(b"0")
 
     # What is waited for
@@ -238,7 +238,7 @@ class Row:
             self.errors.append(self.text(rest))
         elif word == "status":
             self.status = int(rest)
-        elif word not in ("url", "name", "set", "setting", "bare"):
+        elif word not in ("url", "name", "set", "setting", "terminal", "bare"):
             raise Wrong(f"no such word: {word}")
 
     def write(self, name, text=b""):

@@ -26,6 +26,7 @@ from live_cases import try_bodies, try_clones, try_fetches, try_harm, try_haves,
 from live_ends import try_ends
 from live_harness import CRATE, REMOTE, Tester
 from live_program import try_program
+from live_seen import try_seen
 from live_servers import has_loopback
 from live_web import try_web
 
@@ -52,7 +53,7 @@ def main():
         room = (given.keep or pathlib.Path(temporary) / "room").resolve()
         t = Tester(room, program, remote, given.only, given.jobs, bool(given.keep))
         began = time.time()
-        for some in (try_ends, try_clones, try_fetches, try_haves, try_bodies, try_harm, try_ways, try_liars, try_program):
+        for some in (try_ends, try_clones, try_fetches, try_haves, try_bodies, try_harm, try_ways, try_liars, try_program, try_seen):
             some(t)
         if has_loopback():
             try_web(t)

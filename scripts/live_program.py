@@ -58,6 +58,17 @@ def reports(name, t):
     t.check(f"{name}: a lock that is held", status == 1 and (room / "pack.lock").exists() and not (room / "pack").exists(), err)
 
 
+def unwritten_boundary(name, t):
+    """A boundary that can't be written: the pack isn't kept, since commits of it have parents that are nowhere."""
+    server, texts = make(t, "server", 9), t.folder("texts")
+    (texts / "shallow.new").mkdir(parents=True)
+    for version in VERSIONS:
+        command = f'GIT_PROTOCOL=version={version} git upload-pack "{server}"'
+        status, out, err, room = fetch_pack(t, command, "--version", version, "--depth=3", "--shallow", texts / "shallow")
+        is_told = status == 1 and "shallow.new" in err
+        t.check(f"{name}: version {version}", is_told and not left_in(room), f"{status} {out} {err} {left_in(room)}")
+
+
 def modes(name, t):
     """What becomes of local refs, by the texts of a repository that has all commits."""
     server = make(t, "server", 30, tags=True)
@@ -320,7 +331,8 @@ def try_program(t):
     for name, action in (
         ("list: commits one by one", lists_lazily), ("list: ends where both sides have a commit", ends_at_common),
         ("asks for objects", asks),
-        ("words", command_lines), ("texts", unreadable_texts), ("reports", reports), ("what becomes of refs", modes), ("errors", refuses),
+        ("words", command_lines), ("texts", unreadable_texts), ("reports", reports),
+        ("a boundary that can't be written", unwritten_boundary), ("what becomes of refs", modes), ("errors", refuses),
         ("a server that dies", dies), ("a pack with a byte changed", spoiled_pack),
     ):
         t.case(name, action)

@@ -1,107 +1,7 @@
-#!/usr/bin/env python3
-"""Cases of live.py over HTTP, beside git: servers on loopback, by `git http-backend`.
-
-Run as `live_web.py serve PORT FOLDER` this file is such a server, of the repositories in a folder:
-
-WEB_ACCOUNT    the account that it wants, as NAME:PASSWORD
-WEB_CUT        how many bytes of each answer it says before it closes the connection
-WEB_CUT_AT     of which requests: a word in their paths
-WEB_PLAIN      it knows no other version than 0
-WEB_TO         where it sends each request on to
-WEB_SAYS       a status and a text that it answers to everything
-"""
-import base64
-import contextlib
-import http.server
-import os
-import pathlib
-import subprocess
-import sys
-import urllib.parse
-
+"""Cases of live.py over HTTP, beside git: web servers on loopback, by `git http-backend`."""
 from live_harness import clone_both, grow, is_clean, leaves_nothing, make, same, state
-from live_servers import ended_after, free_port, wait_for_port
-
-# The server
-
-
-class Answers(http.server.BaseHTTPRequestHandler):
-    """Answers requests by `git http-backend`, or as the environment has it."""
-    protocol_version = "HTTP/1.1"
-
-    def log_message(self, *words):
-        pass
-
-    def body(self):
-        if "chunked" not in self.headers.get("Transfer-Encoding", ""):
-            return self.rfile.read(int(self.headers.get("Content-Length") or 0))
-        found = b""
-        while size := int(self.rfile.readline().split(b";")[0], 16):
-            found += self.rfile.read(size)
-            self.rfile.readline()
-        self.rfile.readline()
-        return found
-
-    def say(self, status, headers=(), body=b""):
-        self.send_response(status)
-        for name, value in headers:
-            self.send_header(name, value)
-        self.send_header("Content-Length", str(len(body)))
-        self.end_headers()
-        cut = int(os.environ.get("WEB_CUT", 0))
-        if cut and os.environ.get("WEB_CUT_AT", "") in self.path and len(body) > cut:
-            self.wfile.write(body[:cut])
-            self.close_connection = True
-        else:
-            self.wfile.write(body)
-
-    def answer(self):
-        body = self.body()
-        account = os.environ.get("WEB_ACCOUNT")
-        wanted = account and "Basic " + base64.b64encode(account.encode()).decode()
-        if wanted and self.headers.get("Authorization") != wanted:
-            return self.say(401, [("WWW-Authenticate", 'Basic realm="x"')])
-        if os.environ.get("WEB_TO"):
-            return self.say(302, [("Location", os.environ["WEB_TO"] + self.path)])
-        if os.environ.get("WEB_SAYS"):
-            status, _, text = os.environ["WEB_SAYS"].partition(" ")
-            return self.say(int(status), [("Content-Type", "text/html")], text.encode())
-        url = urllib.parse.urlsplit(self.path)
-        variables = {
-            **os.environ, "GIT_PROJECT_ROOT": sys.argv[3], "GIT_HTTP_EXPORT_ALL": "1", "PATH_INFO": urllib.parse.unquote(url.path),
-            "QUERY_STRING": url.query, "REQUEST_METHOD": self.command, "CONTENT_TYPE": self.headers.get("Content-Type", ""),
-            "CONTENT_LENGTH": str(len(body)), "REMOTE_ADDR": "127.0.0.1", "REMOTE_USER": "x",
-        }
-        if self.headers.get("Git-Protocol") and not os.environ.get("WEB_PLAIN"):
-            variables["GIT_PROTOCOL"] = self.headers["Git-Protocol"]
-        if self.headers.get("Content-Encoding"):
-            variables["HTTP_CONTENT_ENCODING"] = self.headers["Content-Encoding"]
-        ran = subprocess.run(["git", "http-backend"], input=body, stdout=subprocess.PIPE, env=variables, check=False)
-        head, _, said = ran.stdout.partition(b"\r\n\r\n")
-        headers = [line.split(": ", 1) for line in head.decode().split("\r\n") if line]
-        status = next((int(value.split()[0]) for name, value in headers if name == "Status"), 200)
-        return self.say(status, [one for one in headers if one[0] != "Status"], said)
-
-    do_GET = do_POST = answer
-
-
-def serve():
-    with http.server.ThreadingHTTPServer(("127.0.0.1", int(sys.argv[2])), Answers) as server:
-        server.daemon_threads = True
-        server.serve_forever()
-
-
-@contextlib.contextmanager
-def web_of(t, folder, **wish):
-    """A web server over what stands in a folder; gives the front of its URLs."""
-    port = free_port()
-    more = {f"WEB_{name}": str(value) for name, value in wish.items()}
-    with ended_after(t.begin(sys.executable, pathlib.Path(__file__).resolve(), "serve", port, folder, more=more)) as begun:
-        wait_for_port(port, begun)
-        yield f"http://127.0.0.1:{port}"
-
-
-# What is tried
+from live_httpd import web_of, web_servers
+from live_servers import free_port
 
 
 def urls_of(url):
@@ -116,15 +16,15 @@ def server_of(t, count=30, **more):
     return server
 
 
-def web_clones(name, t, words):
+def web_clones(name, t, web, words):
     server = server_of(t)
-    with web_of(t, server.parent) as front:
+    with web_of(t, web, server.parent) as front:
         same(t, name, *clone_both(t, server, *words, urls=urls_of(f"{front}/{server.name}")))
 
 
-def web_fetches(name, t, words, change, cloned=()):
+def web_fetches(name, t, web, words, change, cloned=()):
     server = server_of(t)
-    with web_of(t, server.parent) as front:
+    with web_of(t, web, server.parent) as front:
         by_git, by_us, first, second = clone_both(t, server, *cloned, urls=urls_of(f"{front}/{server.name}"))
         if first[0] or second[0]:
             return t.check(name, False, first[2] + second[2])
@@ -133,23 +33,23 @@ def web_fetches(name, t, words, change, cloned=()):
         return same(t, name, by_git, by_us, first, second)
 
 
-def web_lists(name, t):
+def web_lists(name, t, web):
     """Lists, also of many refs, and of a repository without any."""
-    for count, branches in ((0, 0), (3, 0), (2, 5000)):
+    for count, branches in ((0, 0), (3, 0), (2, 50_000)):
         server = make(t, "server", count)
         tip = t.git("rev-parse", "main", at=server).strip() if count else ""
         with open(server / "packed-refs", "a") as refs:
             refs.writelines(f"{tip} refs/heads/b{number:05d}\n" for number in range(branches))
-        with web_of(t, server.parent) as front:
+        with web_of(t, web, server.parent) as front:
             first, second = (t.run("git", "ls-remote", url) for url in urls_of(f"{front}/{server.name}"))
             is_same = first[0] == second[0] == 0 and sorted(first[1].splitlines()) == sorted(second[1].splitlines())
             t.check(f"{name}: {branches}", is_same, second[2])
 
 
-def web_haves(name, t):
+def web_haves(name, t, web):
     """Many commits that the server lacks: its answers go on over some requests."""
     server = server_of(t, 40)
-    with web_of(t, server.parent) as front:
+    with web_of(t, web, server.parent) as front:
         by_git, by_us, first, second = clone_both(t, server, urls=urls_of(f"{front}/{server.name}"))
         for client in (by_git, by_us):
             grow(t, client, 600, branch="main", seed=7)
@@ -166,9 +66,9 @@ def words_alike(t, name, urls, more=None, given=()):
     t.check(name, is_same, f"{first} {second}")
 
 
-def web_accounts(name, t):
+def web_accounts(name, t, web):
     server = server_of(t, 9)
-    with web_of(t, server.parent, ACCOUNT="joe:secret") as front:
+    with web_of(t, web, server.parent, ACCOUNT="joe:secret") as front:
         url, host = f"{front}/{server.name}", front.removeprefix("http://")
         words_alike(t, f"{name}: none", urls_of(url))
         words_alike(t, f"{name}: a wrong one in the URL", urls_of(f"http://joe:wrong@{host}/{server.name}"))
@@ -187,14 +87,14 @@ def web_accounts(name, t):
             t.check(f"{name}: a stored one, {password}", left[0] == left[1] and left[0][0] == (password == "secret"), left)
 
 
-def web_troubles(name, t):
+def web_troubles(name, t, web):
     """Servers that aren't there, or say no git."""
     server = server_of(t, 9)
     words_alike(t, f"{name}: nobody listens", urls_of(f"http://127.0.0.1:{free_port()}/x"))
     words_alike(t, f"{name}: no such host", urls_of("http://no.such.invalid/x"))
-    with web_of(t, server.parent) as front:
+    with web_of(t, web, server.parent) as front:
         words_alike(t, f"{name}: no such repository", urls_of(f"{front}/nothing"))
-        with web_of(t, server.parent, TO=front) as other:
+        with web_of(t, web, server.parent, TO=front) as other:
             url = f"{other}/{server.name}"
             same(t, f"{name}: a redirection", *clone_both(t, server, urls=urls_of(url)))
         for setting in ("protocol.http.allow=never", "protocol.allow=never"):
@@ -203,20 +103,30 @@ def web_troubles(name, t):
             is_told = ends[1][0] == 128 and "transport 'http' not allowed" in ends[0][2] and "not allowed: 'http'" in ends[1][2]
             t.check(f"{name}: {setting}", ends[0][0] == 128 and is_told, ends)
     for said in ("500 oh", "403 no"):
-        with web_of(t, server.parent, SAYS=said) as front:
+        with web_of(t, web, server.parent, SAYS=said) as front:
             words_alike(t, f"{name}: {said}", urls_of(f"{front}/{server.name}"))
-    for wish in ({"SAYS": "200 <html>"}, {"PLAIN": 1}):
-        with web_of(t, server.parent, **wish) as front:
-            status, out, err = t.run("git", "ls-remote", f"gixp::{front}/{server.name}")
-            t.check(f"{name}: {wish}", status == 128 and "version 2" in err and leaves_nothing(t), f"{status} {err}")
+    # a page has no refs for git, where it has no line
+    with web_of(t, web, server.parent, SAYS="200 <html>") as front:
+        same(t, f"{name}: a page", *clone_both(t, server, urls=urls_of(f"{front}/{server.name}")))
+        status, out, err = t.run("git", "ls-remote", f"gixp::{front}/{server.name}")
+        t.check(f"{name}: a page, listed", status == 0 and not out + err and leaves_nothing(t), f"{status} {out} {err}")
+    with web_of(t, web, server.parent, SAYS="200 <html>\n<body>\n") as front:
+        words_alike(t, f"{name}: a page of lines", urls_of(f"{front}/{server.name}"))
+    with web_of(t, web, server.parent, PLAIN=1) as front:
+        status, out, err = t.run("git", "ls-remote", f"gixp::{front}/{server.name}")
+        t.check(f"{name}: version 0", status == 128 and "version 2" in err and leaves_nothing(t), f"{status} {err}")
 
 
-def web_cuts(name, t):
-    """Answers that end too early: an error in words, and nothing is left."""
+def web_cuts(name, t, web):
+    """Answers that end too early: what git says of them, or an error in words, and nothing is left."""
     server = server_of(t, 300)
+    for cut in (1, 30, 60, 100, 300):
+        with web_of(t, web, server.parent, CUT_HEAD=cut) as front:
+            same(t, f"{name}: head {cut}", *clone_both(t, server, urls=urls_of(f"{front}/{server.name}")))
+            t.check(f"{name}: head {cut}, left", leaves_nothing(t))
     for at, cuts in (("info/refs", (1, 60, 150)), ("git-upload-pack", (1, 30, 100, 400, 3000, 20000))):
         for cut in cuts:
-            with web_of(t, server.parent, CUT=cut, CUT_AT=at) as front:
+            with web_of(t, web, server.parent, CUT=cut, CUT_AT=at) as front:
                 by_us = t.folder("us")
                 status, out, err = t.run("git", "clone", "-q", f"gixp::{front}/{server.name}", by_us)
                 is_told = status not in (0, -1) and err and "Io" not in err.split()
@@ -228,7 +138,7 @@ def missing(t, client):
     return t.git("rev-list", "--objects", "--all", "--missing=print", at=client).count("\n?")
 
 
-def web_partial(name, t):
+def web_partial(name, t, web):
     """Partial clones, and what is fetched later, by ids."""
     server = t.folder("server")
     t.git("init", "-q", "--bare", server)
@@ -237,7 +147,7 @@ def web_partial(name, t):
     t.git("config", "uploadpack.allowAnySHA1InWant", "true", at=server)
     for filters in ("true", "false"):
         t.git("config", "uploadpack.allowFilter", filters, at=server)
-        with web_of(t, server.parent) as front:
+        with web_of(t, web, server.parent) as front:
             for urls in ((f"{front}/{server.name}", f"gixp::{front}/{server.name}"), (f"file://{server}", f"gixp::{server}")):
                 words = ["--no-checkout", "--filter=blob:none"]
                 by_git, by_us, first, second = clone_both(t, server, *words, urls=urls)
@@ -254,25 +164,27 @@ def web_partial(name, t):
                 t.check(f"{label}, refs", same_refs, is_clean(t, by_us))
 
 
-def try_web(t):
+def grown(t, server):
+    grow(t, server, 5)
+
+
+def try_server(t, web):
     for words in ([], ["--mirror"], ["--depth", "3"], ["--shallow-since=1700000900"], ["--shallow-exclude=light"],
                   ["--single-branch", "--branch", "v1"], ["--no-tags"]):
-        t.case(f"web: clone {' '.join(words)}", web_clones, words)
-
-    def grown(t, server):
-        grow(t, server, 5)
-
+        t.case(f"web, {web}: clone {' '.join(words)}", web_clones, web, words)
     for label, words, change, cloned in (
         ("nothing new", [], lambda t, server: None, ()), ("5 commits", [], grown, ()),
         ("a rewritten branch", [], lambda t, server: grow(t, server, 5, back=6), ()),
         ("--depth", ["--depth", "7"], grown, ("--depth", "3")), ("--deepen", ["--deepen", "4"], grown, ("--depth", "3")),
         ("--unshallow", ["--unshallow"], grown, ("--depth", "3")),
     ):
-        t.case(f"web: fetch of {label}", web_fetches, words, change, cloned)
+        t.case(f"web, {web}: fetch of {label}", web_fetches, web, words, change, cloned)
     for label, action in (("lists", web_lists), ("many haves", web_haves), ("accounts", web_accounts), ("troubles", web_troubles),
                           ("cut answers", web_cuts), ("partial clones", web_partial)):
-        t.case(f"web: {label}", action)
+        t.case(f"web, {web}: {label}", action, web)
 
 
-if __name__ == "__main__" and sys.argv[1:2] == ["serve"]:
-    serve()
+def try_web(t):
+    """All cases, over each web server that is here, else over one of our own."""
+    for web in web_servers():
+        try_server(t, web)

@@ -3,12 +3,12 @@ use Rattle.std.specs.Prelude.{ℕ, ◌==◌, if◌then◌else◌, List, [], ◌�
 use Rattle.bstr.specs.declared.bstring.BString.{BString}
 use Rattle.bstr.specs.Owned.{bstring_bytes}
 use Rattle.gixp_remote_rules.specs.declared.request.Task.{Task}
-use Rattle.gixp_remote_rules.specs.declared.request.Task.TheVariants.{Server, Question, Probe, Listing, Pack, Watch}
+use Rattle.gixp_remote_rules.specs.declared.request.Task.TheVariants.{Server, Question, Probe, Listing, Pack, Watch, Settings}
 use Rattle.gixp_remote_rules.specs.declared.request.Program.{Program}
 use Rattle.gixp_remote_rules.specs.declared.request.Program.TheVariants.{Git, Command, Shell, Socket, Watch as WatchProgram}
 use Rattle.gixp_remote_rules.specs.declared.request.Start.{Start}
 use Rattle.gixp_remote_rules.specs.declared.request.Request.{Request}
-use Rattle.gixp_remote_rules.specs.declared.request.Request.TheVariants.{Start as StartRequest, Status, End, Hold, Replace, Free, Folder, Place}
+use Rattle.gixp_remote_rules.specs.declared.request.Request.TheVariants.{Start as StartRequest, Status, End, Hold, Replace, Free, Folder}
 
 -- a byte in a line: a line end is a backslash and an n, and a backslash is two
 abbrev pub shown_byte : ℕ → List ℕ
@@ -37,6 +37,7 @@ task_name Question = codes "question"
 task_name Listing = codes "listing"
 task_name Pack = codes "pack"
 task_name Watch = codes "watch"
+task_name Settings = codes "settings"
 
 -- a name, and a byte behind it
 abbrev pub named : List ℕ → ℕ → List ℕ
@@ -68,7 +69,6 @@ asked (Hold path) = asked_path (codes "hold\n") path.now
 asked (Replace from to) = asked_paths (codes "replace\n") from.now to.now
 asked (Free path) = asked_path (codes "free\n") path.now
 asked (Folder path) = asked_path (codes "folder\n") path.now
-asked (Place from to) = asked_paths (codes "place\n") from.now to.now
 
 -- a request
 abbrev pub request_lines : Request → List ℕ

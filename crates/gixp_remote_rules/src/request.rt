@@ -7,7 +7,7 @@ ghost use Rattle.gixp_remote_rules.specs.Requests.{shown_byte, marked_line, mark
 use bstr::BString;
 use std::alloc::{AllocError, Global};
 
-/// What the program has started, by the name that the shell knows it by.
+/// What was started, by the name that the shell knows it by.
 #[derive(Clone, Copy, Debug, PartialEq, Eq)]
 pub enum Task {
     /// The server.
@@ -22,6 +22,8 @@ pub enum Task {
     Pack,
     /// What looks whether git is still there.
     Watch,
+    /// The user's settings, which the shell has git tell before the program begins.
+    Settings,
 }
 
 /// What may be started.
@@ -65,16 +67,14 @@ pub enum Request<'a> {
     Status(Task),
     /// End it.
     End(Task),
-    /// Make a file that isn't there, and take it away at the end.
+    /// Make a file that isn't there, and take it away at the end unless somebody else changed it.
     Hold(&'a [u8]),
     /// Write a file of the helper's folder over one that is held, and give it another name.
     Replace(&'a [u8], &'a [u8]),
     /// Take a file away that is held.
     Free(&'a [u8]),
-    /// Make a folder for objects, and take it away at the end.
+    /// Take a folder for objects away at the end.
     Folder(&'a [u8]),
-    /// Give a file another name, where nothing has that, and take it away at the end unless somebody else changed it.
-    Place(&'a [u8], &'a [u8]),
 }
 
 // The byte that ends a line can't stand in one: it is written as a backslash and an n, and a backslash as two.
@@ -138,6 +138,7 @@ fn task_name(task: Task) -> &'static [u8]
         Task::Listing => b"listing",
         Task::Pack => b"pack",
         Task::Watch => b"watch",
+        Task::Settings => b"settings",
     }
 }
 
@@ -224,7 +225,6 @@ fn append_request(text: &mut Vec<u8>, request: &Request<'_>) -> Result<(), Alloc
         Request::Replace(from, to) => append_paths(text, b"replace\n", from, to),
         Request::Free(path) => append_path(text, b"free\n", path),
         Request::Folder(path) => append_path(text, b"folder\n", path),
-        Request::Place(from, to) => append_paths(text, b"place\n", from, to),
     }
 }
 

@@ -27,6 +27,8 @@ pub(crate) struct Reach<'a> {
     pub(crate) address: &'a Address,
     pub(crate) settings: &'a Settings,
     pub(crate) version: Protocol,
+    /// Whether standard error is a terminal in which the rest of a line can be erased.
+    pub(crate) erases: bool,
     /// Whether the server reported an error beside its answers.
     pub(crate) has_failed: &'a Cell<bool>,
 }
@@ -295,7 +297,11 @@ fn open_wire<'a>(reach: Reach<'a>, is_quiet: bool) -> Result<Wire<'a>, Trouble> 
         Vec::new(alloc),
         opening_of(reach)?,
     )?;
-    Ok(Heard::new(alloc, connection, Shown::new(reach.rt, reach.has_failed)?))
+    Ok(Heard::new(
+        alloc,
+        connection,
+        Shown::new(reach.rt, reach.erases, reach.has_failed)?,
+    ))
 }
 
 // Starts the server.

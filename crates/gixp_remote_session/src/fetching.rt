@@ -4,16 +4,15 @@ use crate::checks::checks_of;
 use crate::connect::{Reach, connect};
 use crate::history::shallow_of;
 use crate::local::Places;
-use crate::order::{Order, how_of, known, list_commits, map_of, wish_of};
+use crate::order::{Order, haves_for, how_of, known, list_commits, map_of, wish_of};
 use crate::pack::{Came, IndexedPack, PackPlan, PackState, place};
-use crate::setup::haves_of;
 use crate::shell::Shell;
 use crate::trouble::Trouble;
 use crate::wire::Wire;
 use bstr::BString;
 use gix_protocol::fetch::ShallowMemory;
 use gix_protocol::transport::{Discard, ObjectId, Protocol};
-use gixp_fetch_local::{PackPlace, Wish};
+use gixp_fetch_local::{Haves, PackPlace, Wish};
 use gixp_fetch_session::failure::Failure;
 use gixp_fetch_session::receive::PackReceiver;
 use gixp_fetch_session::repository::Repository;
@@ -107,7 +106,6 @@ fn fetch_by(
 ) -> Result<Came, Trouble> {
     let order = plan.order;
     let rt = order.reach.rt;
-    list_commits(order, shell, plan.wish.haves, plan.has_alternates)?;
     warn_of_filter(order.reach, session, plan.how)?;
     let map = map_of(rt.alloc(), order.ids)?;
     let asked = Asked {
@@ -148,6 +146,7 @@ fn fetch_once_more<'a>(
         if !was_left(reach, &came, shell) {
             return settle(session, open, came?);
         }
+        list_commits(plan.order, shell, plan.wish.haves, plan.has_alternates)?;
     }
     let mut session = connect(reach, shell, plan.order.choices.is_quiet)?;
     let came = fetch_by(plan, shell, &mut session, repository)?;
@@ -222,8 +221,11 @@ pub(crate) fn fetch<'a>(
     if order.choices.has_depth() {
         lock_boundary(alloc, shell, &places)?;
     }
-    let haves = haves_of(rt, order.reach.settings);
     let shallow = shallow_of(rt, shell, order.choices)?;
+    let has_alternates = places.has_alternates(rt);
+    let haves = haves_for(order, has_alternates);
+    // git lists them while it answers questions
+    list_commits(order, shell, haves, has_alternates)?;
     let wish = wish_of(alloc, order.choices, shallow, haves);
     let mut repository = known(order, shell, &old, haves)?;
     let checks = checks_of(order, shell)?;
@@ -234,9 +236,11 @@ pub(crate) fn fetch<'a>(
         wish: &wish,
         how: &how,
         pack: &pack,
-        has_alternates: places.has_alternates(rt),
+        has_alternates,
     };
     let came = fetch_once_more(plan, shell, open, &mut repository)?;
-    shell.end(Task::Listing)?;
+    if haves == Haves::InOrder {
+        shell.end(Task::Listing)?;
+    }
     finish(plan, shell, &places, &old, &came)
 }

@@ -5,7 +5,7 @@ ghost use Rattle.gixp_remote_session.specs.Wanted.{wanted};
 
 use crate::connect::Reach;
 use crate::local::{new_repository, repository};
-use crate::setup::variable;
+use crate::setup::{haves_of, variable};
 use crate::shell::{NOTHING, Shell, owned};
 use crate::trouble::Trouble;
 use bstr::{BString, ByteSlice};
@@ -120,6 +120,15 @@ fn start_listing(
     Ok(())
 }
 
+/// Who chooses the haves: none is offered where there is no commit yet, or where all is wanted again.
+pub(crate) fn haves_for(order: Order<'_, '_>, has_alternates: bool) -> Haves {
+    let choices = order.choices;
+    if choices.is_refetch || (choices.is_cloning && !has_alternates) {
+        return Haves::By(Algorithm::Noop);
+    }
+    haves_of(order.reach.rt, order.reach.settings)
+}
+
 /// Begins a list of the commits anew, where they are offered in its order.
 pub(crate) fn list_commits(
     order: Order<'_, '_>,
@@ -127,8 +136,8 @@ pub(crate) fn list_commits(
     haves: Haves,
     has_alternates: bool,
 ) -> Result<(), Trouble> {
-    shell.end(Task::Listing)?;
     if haves == Haves::InOrder {
+        shell.end(Task::Listing)?;
         start_listing(order, shell, has_alternates)?;
     }
     Ok(())

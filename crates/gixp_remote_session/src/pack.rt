@@ -167,13 +167,9 @@ impl<'a> IndexedPack<'a> {
 
     // Starts git, and opens the two pipes.
     fn start(&mut self) -> Result<File, Trouble> {
-        if self
-            .shell
-            .ask(&Request::Folder(self.plan.folder.as_bytes()))?
-            != 0
-        {
-            return Err(Trouble::Io(ErrorKind::PermissionDenied));
-        }
+        self.shell
+            .ask(&Request::Folder(self.plan.folder.as_bytes()))?;
+        fs::create_dir_all(&self.rt, self.plan.folder.as_str())?;
         self.shell.ask(&Request::Start(Start {
             task: Task::Pack,
             program: Program::Git,
@@ -278,8 +274,7 @@ pub(crate) fn place(
         return Ok(None);
     }
     let lock = pack_file(alloc, to, hash, b".keep")?;
-    let own_lock = pack_file(alloc, from, hash, b".keep")?;
-    let status = shell.ask(&Request::Place(&own_lock, &lock))?;
+    let status = shell.ask(&Request::Hold(&lock))?;
     // a pack whose missing objects are promised is none before it says so
     for end in [b".promisor".as_slice(), b".pack", b".rev", b".idx"] {
         let one = pack_file(alloc, from, hash, end)?;

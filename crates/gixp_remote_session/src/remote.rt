@@ -7,6 +7,7 @@ use crate::setup::{Given, read_given, settings_text, version_of};
 use crate::shell::{NOTHING, Shell};
 use crate::trouble::Trouble;
 use bstr::{BString, ByteSlice};
+use gix_protocol::handshake::Ref;
 use gix_protocol::transport::{Discard, ObjectId};
 use gixp_remote_rules::{
     Choices, Command, Program, Request, Settings, Start, Task, batch_told, read_command,
@@ -57,12 +58,23 @@ impl Helper<'_> {
         Ok(())
     }
 
+    // The refs of the server, over a session that stays. What is no server of git's, but answers, has none, as git has it.
+    fn refs(&mut self) -> Result<Vec<Ref>, Trouble> {
+        match connect(self.reach, &mut self.shell, self.choices.is_quiet) {
+            Ok(mut session) => {
+                let refs = session.refs(&mut Discard)?;
+                self.open = Some(session);
+                Ok(refs)
+            }
+            Err(Trouble::NoRefs) => Ok(Vec::new(self.reach.rt.alloc())),
+            Err(e) => Err(e),
+        }
+    }
+
     // Lists the refs.
     fn list(&mut self) -> Result<(), Trouble> {
         self.watch()?;
-        let mut session = connect(self.reach, &mut self.shell, self.choices.is_quiet)?;
-        let refs = session.refs(&mut Discard)?;
-        self.open = Some(session);
+        let refs = self.refs()?;
         let told = refs_told(self.reach.rt.alloc(), &refs, self.choices.tells_format)?;
         for name in &told.funny {
             let _ = eprintln!(self.reach.rt; "warning: ignoring ref with broken name {name:?}");
@@ -185,6 +197,7 @@ fn serve(begun: &Begun, shell: Shell) -> Result<(), Trouble> {
             address: &begun.address,
             settings: &begun.settings,
             version: version_of(&begun.rt, &begun.settings),
+            erases: begun.given.erases,
             has_failed: &begun.has_failed,
         },
         shell,

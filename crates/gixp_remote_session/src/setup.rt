@@ -4,7 +4,7 @@ use crate::trouble::Trouble;
 use bstr::BString;
 use gix_protocol::transport::Protocol;
 use gixp_fetch_local::Haves;
-use gixp_remote_rules::Settings;
+use gixp_remote_rules::{Request, Settings, Task};
 use std::alloc::Global;
 use std::{env, fs};
 
@@ -25,6 +25,16 @@ pub(crate) struct Given {
     pub(crate) url: Vec<u8>,
     /// The name of the helper's folder.
     pub(crate) folder: String,
+    /// Whether standard error is a terminal in which the rest of a line can be erased.
+    pub(crate) erases: bool,
+}
+
+// Whether there is a terminal that isn't dumb, as git has it: a file has its name.
+fn can_erase(rt: &HostRuntime) -> bool {
+    match fs::read(rt, "terminal") {
+        Ok(name) => name.as_slice() != b"dumb".as_slice(),
+        Err(_) => false,
+    }
 }
 
 /// What the shell says before anything is asked.
@@ -36,14 +46,14 @@ pub(crate) fn read_given(rt: &HostRuntime) -> Result<Given, Trouble> {
         name: fs::read(rt, "name")?,
         url: fs::read(rt, "url")?,
         folder,
+        erases: can_erase(rt),
     })
 }
 
-/// The text of the user's settings.
+/// The text of the user's settings, which git tells meanwhile.
 pub(crate) fn settings_text(rt: &HostRuntime, shell: &mut Shell) -> Result<Vec<u8>, Trouble> {
-    let told = shell.git(rt, &[b"config", b"--list", b"--null"])?;
-    if told.status == 0 {
-        Ok(told.text)
+    if shell.ask(&Request::Status(Task::Settings))? == 0 {
+        Ok(fs::read(rt, "settings")?)
     } else {
         Err(Trouble::Other("git can't read its settings"))
     }

@@ -1,4 +1,5 @@
 //! Why the helper ends, and the sentence that says so.
+use crate::web::NO_VERSION_2;
 use bstr::BString;
 use gixp_fetch_session::failure::Failure;
 use gixp_url::UrlError;
@@ -24,6 +25,8 @@ pub(crate) enum Trouble {
     Fatal(&'static str),
     /// A program that was started told why.
     Told,
+    /// A web server that speaks no version 2, and has no refs.
+    NoRefs,
     /// Something else, about a word.
     Word(&'static str, BString),
     /// An allocation failed.
@@ -73,7 +76,7 @@ impl Trouble {
     pub(crate) fn speaker(&self) -> &'static str {
         match self {
             Trouble::Fetch(e) if e.is_said_by_git() => "fatal",
-            Trouble::Word(_, _) | Trouble::Url(_) | Trouble::Fatal(_) => "fatal",
+            Trouble::Word(_, _) | Trouble::Url(_) | Trouble::Fatal(_) | Trouble::NoRefs => "fatal",
             _ => "git-remote-gixp",
         }
     }
@@ -88,6 +91,7 @@ impl Display for Trouble {
             Trouble::Command(line) => write!(f, "unknown command: {line}"),
             Trouble::Other(why) | Trouble::Fatal(why) => f.write_str(why),
             Trouble::Told => Ok(()),
+            Trouble::NoRefs => f.write_str(NO_VERSION_2),
             Trouble::Word(why, word) => write!(f, "{why} '{word}'"),
             Trouble::Memory => write!(f, "out of memory"),
         }

@@ -4,6 +4,10 @@ use crate::trouble::Trouble;
 use std::alloc::Global;
 use std::io::{BufRead, Write};
 
+/// What is said of a server of another version.
+pub(crate) const NO_VERSION_2: &str =
+    "the server doesn't speak version 2 of the protocol, and over HTTP no other is spoken here";
+
 // A line that the program answers. Where it ended instead, it told why.
 fn reply<R: BufRead>(alloc: Global, from: &mut R) -> Result<Vec<u8>, Trouble> {
     let mut line = Vec::new(alloc);
@@ -39,10 +43,12 @@ pub(crate) fn connect_stateless<R: BufRead, W: Write>(
     }
     let answer = ask(alloc, from, to, b"stateless-connect git-upload-pack\n")?;
     if answer.is_empty() {
-        Ok(())
+        return Ok(());
+    }
+    // of a server that doesn't, it lists the refs itself: an empty line ends them
+    if ask(alloc, from, to, b"list\n")?.is_empty() {
+        Err(Trouble::NoRefs)
     } else {
-        Err(Trouble::Fatal(
-            "the server doesn't speak version 2 of the protocol, and over HTTP no other is spoken here",
-        ))
+        Err(Trouble::Fatal(NO_VERSION_2))
     }
 }

@@ -1,4 +1,6 @@
 //! The connection with a server: two pipes, over which it says packet lines, or answers that each have an end of their own.
+ghost use Rattle.std.specs.Prelude.{◌≡◌, ◌++◌, ◌∷◌, [], codes, IfSome};
+
 use bstr::BStr;
 use gix_protocol::client::{Heard, Listener, RemoteLines};
 use gix_protocol::transport::Connection;
@@ -29,16 +31,39 @@ impl Read for Says {
     }
 }
 
-/// Standard error, as a writer.
+/// Standard error, as a writer of lines.
 #[derive(Drop)]
 pub(crate) struct StandardError<'a> {
     rt: &'a HostRuntime,
+    // Whether it is a terminal in which the rest of a line can be erased.
+    erases: bool,
+}
+
+// A line without the blanks that are to go over the rest of an older one, and its end.
+fn without_blanks(line: &[u8]) -> Option<(&[u8], u8)>
+    ensures { IfSome result (λ cut. line.now ≡ cut.0.now ++ (codes "        " ++ cut.1 ∷ [])) }
+{
+    let Some((end, front)) = line.split_last() else {
+        return None;
+    };
+    match front.strip_suffix(b"        ") {
+        Some(text) => Some((text, *end)),
+        None => None,
+    }
 }
 
 impl Write for StandardError<'_> {
     fn write(&mut self, buf: &[u8]) -> io::Result<usize> {
-        let text = BStr::new(buf);
-        eprint!(self.rt; "{text}")?;
+        match without_blanks(buf) {
+            Some((text, end)) if self.erases => {
+                let (text, end) = (BStr::new(text), char::from(end));
+                eprint!(self.rt; "{text}\u{1b}[K{end}")?;
+            }
+            _ => {
+                let text = BStr::new(buf);
+                eprint!(self.rt; "{text}")?;
+            }
+        }
         Ok(buf.len())
     }
 
@@ -56,9 +81,13 @@ pub(crate) struct Shown<'a> {
 
 impl<'a> Shown<'a> {
     /// Nothing is said yet.
-    pub(crate) fn new(rt: &'a HostRuntime, has_failed: &'a Cell<bool>) -> io::Result<Shown<'a>> {
+    pub(crate) fn new(
+        rt: &'a HostRuntime,
+        erases: bool,
+        has_failed: &'a Cell<bool>,
+    ) -> io::Result<Shown<'a>> {
         let alloc = rt.alloc();
-        let writer = BufWriter::new(alloc, StandardError { rt })?;
+        let writer = BufWriter::new(alloc, StandardError { rt, erases })?;
         Ok(Shown {
             lines: RemoteLines::new(alloc, writer),
             has_failed,

@@ -1,0 +1,245 @@
+#!/usr/bin/env python3
+"""The web servers of live_web.py, on loopback and over `git http-backend`: nginx with fcgiwrap, lighttpd, and one of our own.
+
+Run as `live_httpd.py serve PORT BACKEND` this file is the last, which runs the program BACKEND by CGI. What a server is told:
+
+ACCOUNT    the account that it wants, as NAME:PASSWORD
+PLAIN      it knows no other version than 0
+TO         where it sends each request on to
+SAYS       a status and a text that it answers to everything
+CUT        how many bytes of each answer's body it says before it closes the connection: one of our own does so before any other
+CUT_HEAD   the same, counted from the first byte of the head
+CUT_AT     of which requests: a word in their paths
+"""
+import base64
+import contextlib
+import http.client
+import http.server
+import os
+import shlex
+import shutil
+import subprocess
+import sys
+import time
+import urllib.parse
+from pathlib import Path
+
+from live_servers import ended_after, free_port, wait_for_port
+
+NGINX = """daemon off;
+master_process off;
+pid {room}/pid;
+error_log {room}/log;
+events {{}}
+http {{
+    access_log off;
+    client_max_body_size 0;
+    client_body_temp_path {room}/body;
+    fastcgi_temp_path {room}/fastcgi;
+    proxy_temp_path {room}/proxy;
+    scgi_temp_path {room}/scgi;
+    uwsgi_temp_path {room}/uwsgi;
+    server {{
+        listen 127.0.0.1:{port};
+        {account}
+        location / {{
+            {to}
+            fastcgi_pass unix:{room}/cgi;
+            fastcgi_buffering off;
+            fastcgi_param SCRIPT_FILENAME {room}/backend;
+            fastcgi_param PATH_INFO $uri;
+            fastcgi_param QUERY_STRING $query_string;
+            fastcgi_param REQUEST_METHOD $request_method;
+            fastcgi_param CONTENT_TYPE $content_type;
+            fastcgi_param CONTENT_LENGTH $content_length;
+            fastcgi_param REMOTE_ADDR $remote_addr;
+        }}
+    }}
+}}
+"""
+NGINX_ACCOUNT = 'auth_basic "x"; auth_basic_user_file {room}/users;'
+NGINX_TO = "return 302 {to}$request_uri;"
+LIGHTTPD = """server.document-root = "{room}"
+server.bind = "127.0.0.1"
+server.port = {port}
+server.errorlog = "{room}/log"
+server.modules = ("mod_alias", "mod_auth", "mod_authn_file", "mod_redirect", "mod_cgi")
+server.stream-response-body = 2
+alias.url = ("/" => "{room}/backend/")
+cgi.assign = ("" => "")
+{account}
+{to}
+"""
+LIGHTTPD_ACCOUNT = """auth.backend = "plain"
+auth.backend.plain.userfile = "{room}/users"
+auth.require = ("/" => ("method" => "basic", "realm" => "x", "require" => "valid-user"))"""
+LIGHTTPD_TO = 'url.redirect = ("" => "{to}${{url.path}}${{qsa}}")'
+
+
+def program(name):
+    """Where a server is, or nothing."""
+    return shutil.which(name, path=f"{os.environ['PATH']}:/usr/sbin:/usr/local/sbin")
+
+
+def web_servers():
+    """Those that are here."""
+    needed = {"nginx": ("nginx", "fcgiwrap"), "lighttpd": ("lighttpd",)}
+    return [name for name, programs in needed.items() if all(map(program, programs))] or ["ours"]
+
+
+def write_backend(room, folder, wish):
+    """The program that a server runs for each request."""
+    lines = ["#!/bin/sh", f"export GIT_PROJECT_ROOT={shlex.quote(str(folder))} GIT_HTTP_EXPORT_ALL=1"]
+    if "SAYS" in wish:
+        status, _, text = wish["SAYS"].partition(" ")
+        lines.append(f"printf 'Status: {status}\\r\\nContent-Type: text/html\\r\\n\\r\\n%s' {shlex.quote(text)}; exit")
+    if "PLAIN" in wish:
+        lines.append("unset HTTP_GIT_PROTOCOL GIT_PROTOCOL")
+    backend = room / "backend"
+    backend.write_text("\n".join([*lines, f"exec {shutil.which('git')} http-backend\n"]))
+    backend.chmod(0o755)
+    return backend
+
+
+def configured(room, port, wish, text, account, to):
+    """The file of a server's configuration."""
+    if "ACCOUNT" in wish:
+        (room / "users").write_text((NAMED[text] % tuple(wish["ACCOUNT"].split(":"))) + "\n")
+    parts = {
+        "account": account.format(room=room) if "ACCOUNT" in wish else "",
+        "to": to.format(to=wish["TO"]) if "TO" in wish else "",
+    }
+    (room / "conf").write_text(text.format(room=room, port=port, **parts))
+    return room / "conf"
+
+
+# how a file of accounts has one
+NAMED = {NGINX: "%s:{PLAIN}%s", LIGHTTPD: "%s:%s"}
+
+
+@contextlib.contextmanager
+def nginx_of(t, room, port, wish):
+    conf = configured(room, port, wish, NGINX, NGINX_ACCOUNT, NGINX_TO)
+    with ended_after(t.begin(program("fcgiwrap"), "-c", 8, "-s", f"unix:{room}/cgi")):
+        until = time.monotonic() + 10
+        while not (room / "cgi").exists() and time.monotonic() < until:
+            time.sleep(0.01)
+        with ended_after(t.begin(program("nginx"), "-e", room / "log", "-p", room, "-c", conf)) as begun:
+            wait_for_port(port, begun)
+            yield
+
+
+@contextlib.contextmanager
+def lighttpd_of(t, room, port, wish):
+    conf = configured(room, port, wish, LIGHTTPD, LIGHTTPD_ACCOUNT, LIGHTTPD_TO)
+    with ended_after(t.begin(program("lighttpd"), "-D", "-f", conf)) as begun:
+        wait_for_port(port, begun)
+        yield
+
+
+@contextlib.contextmanager
+def ours_of(t, room, port, wish):
+    more = {f"WEB_{name}": str(value) for name, value in wish.items()}
+    with ended_after(t.begin(sys.executable, Path(__file__).resolve(), "serve", port, room / "backend", more=more)) as begun:
+        wait_for_port(port, begun)
+        yield
+
+
+OF = {"nginx": nginx_of, "lighttpd": lighttpd_of, "ours": ours_of}
+
+
+@contextlib.contextmanager
+def web_of(t, name, folder, **wish):
+    """A web server of this name over what stands in a folder; gives the front of its URLs."""
+    with contextlib.ExitStack() as begun:
+        room, port = t.folder("web"), free_port()
+        room.mkdir()
+        write_backend(room, folder, wish)
+        cut = {word: wish.pop(word) for word in ("CUT", "CUT_HEAD", "CUT_AT") if word in wish}
+        begun.enter_context(OF[name](t, room, port, wish))
+        if cut:
+            behind, port = port, free_port()
+            begun.enter_context(ours_of(t, room, port, {**cut, "THROUGH": behind}))
+        yield f"http://127.0.0.1:{port}"
+
+
+# Our own
+
+
+class Answers(http.server.BaseHTTPRequestHandler):
+    """Answers requests by CGI or by another server, or as the environment has it."""
+    protocol_version = "HTTP/1.1"
+
+    def log_message(self, *words):
+        pass
+
+    def body(self):
+        if "chunked" not in self.headers.get("Transfer-Encoding", ""):
+            return self.rfile.read(int(self.headers.get("Content-Length") or 0))
+        found = b""
+        while size := int(self.rfile.readline().split(b";")[0], 16):
+            found += self.rfile.read(size)
+            self.rfile.readline()
+        self.rfile.readline()
+        return found
+
+    def say(self, status, headers=(), body=b""):
+        lines = [f"HTTP/1.1 {status} x", *(f"{name}: {value}" for name, value in headers), f"Content-Length: {len(body)}"]
+        head = "\r\n".join([*lines, "", ""]).encode()
+        said, end = head + body, len(head) + len(body)
+        if os.environ.get("WEB_CUT_AT", "") in self.path:
+            if "WEB_CUT_HEAD" in os.environ:
+                end = int(os.environ["WEB_CUT_HEAD"])
+            elif "WEB_CUT" in os.environ:
+                end = len(head) + int(os.environ["WEB_CUT"])
+        self.wfile.write(said[:end])
+        self.close_connection = self.close_connection or end < len(said)
+
+    def answer(self):
+        body = self.body()
+        account = os.environ.get("WEB_ACCOUNT")
+        wanted = account and "Basic " + base64.b64encode(account.encode()).decode()
+        if wanted and self.headers.get("Authorization") != wanted:
+            return self.say(401, [("WWW-Authenticate", 'Basic realm="x"')])
+        if os.environ.get("WEB_TO"):
+            return self.say(302, [("Location", os.environ["WEB_TO"] + self.path)])
+        return self.pass_on(body) if os.environ.get("WEB_THROUGH") else self.run(body)
+
+    def pass_on(self, body):
+        """The answer of another server."""
+        other = http.client.HTTPConnection("127.0.0.1", int(os.environ["WEB_THROUGH"]))
+        kept = {name: value for name, value in self.headers.items() if name.lower() not in ("transfer-encoding", "content-length", "expect")}
+        other.request(self.command, self.path, body or None, kept)
+        said = other.getresponse()
+        left_out = ("transfer-encoding", "content-length", "connection", "date", "server")
+        headers = [one for one in said.getheaders() if one[0].lower() not in left_out]
+        self.say(said.status, headers, said.read())
+        other.close()
+
+    def run(self, body):
+        """The answer of a program."""
+        url = urllib.parse.urlsplit(self.path)
+        variables = {
+            **os.environ, "PATH_INFO": urllib.parse.unquote(url.path), "QUERY_STRING": url.query, "REQUEST_METHOD": self.command,
+            "CONTENT_TYPE": self.headers.get("Content-Type", ""), "CONTENT_LENGTH": str(len(body)), "REMOTE_ADDR": "127.0.0.1",
+        }
+        for name in ("Git-Protocol", "Content-Encoding"):
+            if self.headers.get(name):
+                variables["HTTP_" + name.upper().replace("-", "_")] = self.headers[name]
+        ran = subprocess.run([sys.argv[3]], input=body, stdout=subprocess.PIPE, env=variables, check=False)
+        head, _, said = ran.stdout.partition(b"\r\n\r\n")
+        headers = [line.split(": ", 1) for line in head.decode().split("\r\n") if line]
+        status = next((int(value.split()[0]) for name, value in headers if name == "Status"), 200)
+        self.say(status, [one for one in headers if one[0] != "Status"], said)
+
+    do_GET = do_POST = answer
+
+
+def serve():
+    with http.server.ThreadingHTTPServer(("127.0.0.1", int(sys.argv[2])), Answers) as server:
+        server.daemon_threads = True
+        server.serve_forever()
+
+
+if __name__ == "__main__" and sys.argv[1:2] == ["serve"]:
+    serve()
