@@ -244,13 +244,22 @@ def with_those_below(name, crates):
     return list(dict.fromkeys(found))
 
 
+def link(source, target):
+    """Links a file that stays as it is, or copies it to another disk."""
+    try:
+        os.link(source, target)
+    except OSError:
+        shutil.copy2(source, target)
+
+
 def copy_with_those_below(name, crates, top):
     """Copies a crate with what it keeps, and those that it stands on with their libraries."""
     parts = with_those_below(name, crates)
     for part in parts:
         crate = TOP / "crates" / part
         is_built = part != name and (crate / "out" / "rlib" / "stamp").is_file()
-        shutil.copytree(crate, top / "crates" / part, ignore=shutil.ignore_patterns(*["incremental"] * is_built))
+        shutil.copytree(crate, top / "crates" / part, ignore=shutil.ignore_patterns(*["incremental"] * is_built),
+                        copy_function=link if is_built else shutil.copy2)
     shutil.copyfile(TOP / "HANDLES", top / "HANDLES")
     (top / "crates.txt").write_text("".join(f"{it}: {' '.join(crates[it])}\n" for it in parts))
     return top / "crates" / name
