@@ -12,8 +12,8 @@ or name. RT names another command than `rt`.
 With --fields the changes are made of the definitions: of each record that `Fetches` reaches each field that is a fact is
 replaced by what always holds; with RECORD only of these records. They are tried together, each with a type of its own: an
 error that names one of these is that field's doing, whatever the others are. Those that no error names are tried again without
-those that are refused, until the laws are proved without them or no error names one; then each is tried by itself. A field
-whose replacement leaves the laws proved bears nothing. Those of `BEARS_NOTHING` are known, each with its reason.
+those that are refused, until the laws are proved without them; where no error names one alone, by halves, down to one by itself.
+A field whose replacement leaves the laws proved bears nothing. Those of `BEARS_NOTHING` are known, each with its reason.
 
 A change of a definition that a law itself cites turns both sides, so it shows nothing unless the law says more of it.
 
@@ -198,35 +198,39 @@ def blamed(lines, left):
     return found
 
 
+def sorted_out(left, check_without):
+    """Gives each field that is left with its verdict and an error that says so."""
+    while left:
+        is_proved, lines = check_without(left)
+        errors = [it for it in lines if ": error" in it]
+        found = {it: "" for it in left} if is_proved else blamed(lines, left)
+        if not found and len(left) == 1:
+            found = {it: (errors or lines[-1:] or [""])[0] for it in left}
+        for it, error in found.items():
+            yield it, "PROVED" if is_proved else "refused" if IN_PROOFS.match(error) else "BAD CHANGE", error
+        left = {it: name for it, name in left.items() if it not in found}
+        if not found:
+            break
+    half = dict(list(left.items())[:len(left) // 2])
+    for part in (half, {it: name for it, name in left.items() if it not in half}) if left else ():
+        yield from sorted_out(part, check_without)
+
+
 def try_fields(crate, words):
-    """Tries the fields of records together. Those that no error names are tried again without the others, and each by itself where
-    an error names none of them."""
+    """Tries the fields of records together. Those that no error names are tried again without the others, and by halves where an error
+    names none of them."""
     counts, records = Counter(), list(records_of(words))
     fields = [(name, field) for name, _, lines in records for field, _ in fields_of(lines)]
-    left = {it: f"Always{at}" for at, it in enumerate(fields)}
-
-    def say(it, verdict, error=""):
-        if verdict == "PROVED" and it in BEARS_NOTHING:
-            verdict, error = "known", BEARS_NOTHING[it]
-        counts[verdict] += 1
-        print(f"{verdict:11}{it[0]}: {it[1]} {error[:120]}".rstrip(), flush=True)
 
     def check_without(some):
         without(crate, records, some)
         return check(crate, LAWS)
 
-    while left:
-        is_proved, lines = check_without(left)
-        found = {it: "" for it in left} if is_proved else blamed(lines, left)
-        for it, error in found.items():
-            say(it, "PROVED" if is_proved else "refused" if IN_PROOFS.match(error) else "BAD CHANGE", error)
-            del left[it]
-        if not found:
-            break
-    for it, name in left.items():
-        is_proved, lines = check_without({it: name})
-        error = next((it for it in lines if ": error" in it), "")
-        say(it, "PROVED" if is_proved else "refused" if IN_PROOFS.match(error) else "BAD CHANGE", error)
+    for it, verdict, error in sorted_out({it: f"Always{at}" for at, it in enumerate(fields)}, check_without):
+        if verdict == "PROVED" and it in BEARS_NOTHING:
+            verdict, error = "known", BEARS_NOTHING[it]
+        counts[verdict] += 1
+        print(f"{verdict:11}{it[0]}: {it[1]} {error[:120]}".rstrip(), flush=True)
     without(crate, records, {})
     return counts
 

@@ -1,8 +1,9 @@
 #!/usr/bin/env python3
 """Tries wrong bodies, and prints what refuses each.
 
-An edit is a file of lines `file: src/x.rt`, `old: TEXT`, `new: TEXT`, of which each old text stands once in the file. Those
-of wrong-bodies/CRATE/ are tried, with --must-fail those of crates/CRATE/must-fail/ too: all of them, or those of the crates
+An edit is a file of lines `file: src/x.rt`, `old: TEXT`, `new: TEXT`, of which each old text stands once in the file, and
+`in: MODULE::FUNCTION`, where no function stands around them: the function that says what the edit turns. Those of
+wrong-bodies/CRATE/ are tried, with --must-fail those of crates/CRATE/must-fail/ too: all of them, or those of the crates
 named. With --changed, those that turn a function which changed since the commit REV, those that are new or changed since
 then themselves, and all of the crates named. A change outside of functions, as of a type or a definition, picks none: name
 the crates.
@@ -59,8 +60,9 @@ class Edit:
     why: str = ""  # it can't be applied
 
 
-def pairs_of(text):
-    pairs, file, old = [], None, None
+def read_edit(text):
+    """The pairs of texts of an edit, and the functions that it names."""
+    pairs, named, file, old = [], set(), None, None
     for line in text.split("\n"):
         word, _, rest = line.partition(":")
         rest = rest.removeprefix(" ")
@@ -71,11 +73,13 @@ def pairs_of(text):
         elif word == "new" and file and old:
             pairs.append((file, old, rest))
             old = None
+        elif word == "in" and rest:
+            named.add(rest.strip())
         elif line:
-            raise BadEdit(f"a line is none of file, old and new, or out of place: {line}")
+            raise BadEdit(f"a line is none of file, old, new and in, or out of place: {line}")
     if not pairs:
         raise BadEdit("it has no pair of texts")
-    return pairs
+    return pairs, named
 
 
 def applied(pairs, crate):
@@ -240,13 +244,22 @@ def with_those_below(name, crates):
     return list(dict.fromkeys(found))
 
 
+def link(source, target):
+    """Links a file that stays as it is, or copies it to another disk."""
+    try:
+        os.link(source, target)
+    except OSError:
+        shutil.copy2(source, target)
+
+
 def copy_with_those_below(name, crates, top):
     """Copies a crate with what it keeps, and those that it stands on with their libraries."""
     parts = with_those_below(name, crates)
     for part in parts:
         crate = TOP / "crates" / part
         is_built = part != name and (crate / "out" / "rlib" / "stamp").is_file()
-        shutil.copytree(crate, top / "crates" / part, ignore=shutil.ignore_patterns(*["incremental"] * is_built))
+        shutil.copytree(crate, top / "crates" / part, ignore=shutil.ignore_patterns(*["incremental"] * is_built),
+                        copy_function=link if is_built else shutil.copy2)
     shutil.copyfile(TOP / "HANDLES", top / "HANDLES")
     (top / "crates.txt").write_text("".join(f"{it}: {' '.join(crates[it])}\n" for it in parts))
     return top / "crates" / name
@@ -308,8 +321,9 @@ def edits_of(name, options):
     found = []
     for path in (it for folder in folders for it in sorted(folder.glob("*.edit")) if options.only in it.stem):
         try:
-            pairs = pairs_of(path.read_text())
-            found.append(Edit(path, pairs, applied(pairs, crate)[1]))
+            pairs, named = read_edit(path.read_text())
+            around = applied(pairs, crate)[1]
+            found.append(Edit(path, pairs, around - {None} | named if named else around))
         except BadEdit as why:
             found.append(Edit(path, [], set(), str(why)))
     if name in options.crates:

@@ -7,7 +7,7 @@ import tempfile
 import unittest
 from pathlib import Path
 
-from wrong_bodies import ANY, BadEdit, applied, batches_of, can_stand_together, Edit, names_of, open_goals, pairs_of, verdict_of
+from wrong_bodies import ANY, BadEdit, applied, batches_of, can_stand_together, Edit, names_of, open_goals, read_edit, verdict_of
 
 ENSURES = "it is not proved that what the function ensures holds when it returns"
 ANSWERS = "no proof: expected answers in ./proofs/refs/named"
@@ -139,9 +139,10 @@ class Edits(unittest.TestCase):
 
     def test_pairs(self):
         pairs = [("src/id.rt", "a: b", ""), ("src/id.rt", "c", "d")]
-        self.assertEqual(pairs_of("file: src/id.rt\nold: a: b\nnew: \nold: c\nnew: d\n"), pairs)
+        self.assertEqual(read_edit("file: src/id.rt\nold: a: b\nnew: \nold: c\nnew: d\n"), (pairs, set()))
+        self.assertEqual(read_edit("file: src/id.rt\nold: a: b\nnew: \nold: c\nnew: d\nin: same::is_same_id\n"), (pairs, {"same::is_same_id"}))
         for text in ("", "file: src/id.rt\n", "old: a\nnew: b\n", "file: src/id.rt\nold: a\nwhy: b\nnew: c\n"):
-            self.assertRaises(BadEdit, pairs_of, text)
+            self.assertRaises(BadEdit, read_edit, text)
 
     def test_the_function_around_a_place(self):
         self.assertEqual(self.functions("self.bytes == [0; 20]"), {f"id::Id{ANY}::is_null"})
