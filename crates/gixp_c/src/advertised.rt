@@ -32,7 +32,7 @@ fn code_of(end: AdvertisedEnd) -> (u32, Span)
 /// "Reference Discovery"). The bytes begin with what the server says first; the first call reads from place 0.
 ///
 /// 0 where the advertisement's stop was read, and 1 where the next call is to go on at `next`. 2 where there is no record, and 3
-/// where the place is behind the bytes: nothing else is changed then. Any other number says what stands at `next` or behind it,
+/// where the place is after the bytes: nothing else is changed then. Any other number says what stands at `next` or after it,
 /// and 10 that the advertisement goes on in bytes that aren't there yet; the refs before it are in the records.
 #[unsafe(no_mangle)]
 pub extern "C" fn gixp_advertised(

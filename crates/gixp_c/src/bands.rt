@@ -9,11 +9,11 @@ use gixp_records::{BandPiece, PacketRefused, Span, next_piece};
 #[repr(C)]
 #[derive(Clone, Copy)]
 pub struct PieceRecord {
-    /// 0 at the stop behind the pack, 1 for bytes of the pack, 2 for a line of progress, 3 for an error of the server.
+    /// 0 at the stop after the pack, 1 for bytes of the pack, 2 for a line of progress, 3 for an error of the server.
     pub band: u32,
     /// Where it stands; of an answer that is an error, where the server's own words stand.
     pub text: Span,
-    /// The place behind it.
+    /// The place after it.
     pub next: usize,
 }
 
@@ -49,10 +49,10 @@ fn words_or(e: PacketRefused, other: Span) -> Span
     }
 }
 
-/// Reads the packet line at a place of an answer, behind its sections, as a piece of the pack or a message of the server
+/// Reads the packet line at a place of an answer, after its sections, as a piece of the pack or a message of the server
 /// (gitprotocol-pack, "Packfile Data").
 ///
-/// 0 where there is one, and the next one stands at `next`. 3 where the place is behind the bytes. Any other number says what
+/// 0 where there is one, and the next one stands at `next`. 3 where the place is after the bytes. Any other number says what
 /// stands there, and 10 that the answer goes on in bytes that aren't there yet. Only where the server sent an error is the
 /// record changed beside these: its text is the server's words.
 #[unsafe(no_mangle)]

@@ -18,7 +18,7 @@ use std::io::ErrorKind;
 pub(crate) const OK: u32 = 0;
 /// All went well, and the next call goes on.
 pub(crate) const MORE: u32 = 1;
-/// A buffer has too little room, and the room that is needed was told.
+/// A buffer has too little room, and the room that is needed was written.
 pub(crate) const NO_ROOM: u32 = 2;
 /// A place or a length doesn't fit the bytes.
 pub(crate) const BAD_PLACE: u32 = 3;

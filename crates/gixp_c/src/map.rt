@@ -33,7 +33,7 @@ pub struct MappingRecord {
 pub struct MappedRecord {
     /// How many mappings, or conflicts.
     pub mappings: usize,
-    /// How many mappings were taken out, since their local name is neither `HEAD` nor begins with `refs/`. They come behind the
+    /// How many mappings were taken out, since their local name is neither `HEAD` nor begins with `refs/`. They come after the
     /// others.
     pub fixes: usize,
     /// How many bytes their local names have together.
@@ -112,7 +112,7 @@ fn items_of<'a>(
     Ok(items)
 }
 
-// Puts a name behind those before it: where it stands, if there is room.
+// Appends a name to the names: where it stands, if there is room.
 fn put_name(names: &mut [u8], at: usize, name: &[u8]) -> Option<Span> {
     if at > names.len() || name.len() > names.len() - at {
         return None;
@@ -124,7 +124,7 @@ fn put_name(names: &mut [u8], at: usize, name: &[u8]) -> Option<Span> {
     })
 }
 
-// A local name that a record is to tell, and what it is of.
+// A local name that a record is to have, and what it is of.
 #[derive(Clone, Copy)]
 struct Told<'a> {
     item: usize,
@@ -132,7 +132,7 @@ struct Told<'a> {
     local: Option<&'a [u8]>,
 }
 
-// Puts one more record and its name behind those before them: how many bytes the names have then, if there is room.
+// Appends one more record and its name: how many bytes the names have then, if there is room.
 fn put_record(
     told: Told<'_>,
     place: usize,
@@ -157,7 +157,7 @@ fn put_record(
     at.checked_add(name.len())
 }
 
-// What is told of a mapping.
+// The record of a mapping.
 fn told_of<'a>(mapping: &'a Mapping, none: usize) -> Told<'a> {
     Told {
         item: mapping.item_index.unwrap_or(none),
@@ -169,7 +169,7 @@ fn told_of<'a>(mapping: &'a Mapping, none: usize) -> Told<'a> {
     }
 }
 
-// What is told of a mapping that was taken out.
+// The record of a mapping that was taken out.
 fn told_of_fix<'a>(fix: &'a Fix, none: usize, specs: usize) -> Told<'a> {
     let Fix::MappingWithPartialDestinationRemoved { name, .. } = fix;
     Told {
@@ -179,7 +179,7 @@ fn told_of_fix<'a>(fix: &'a Fix, none: usize, specs: usize) -> Told<'a> {
     }
 }
 
-// What is told of a conflict.
+// The record of a conflict.
 fn told_of_issue<'a>(issue: &'a Issue, specs: usize) -> Told<'a> {
     let Issue::Conflict {
         destination_full_ref_name,
@@ -230,7 +230,7 @@ fn tell(
     true
 }
 
-// Tells the mappings, and those that were taken out behind them.
+// Writes the records of the mappings, and after them of those that were taken out.
 fn tell_mappings(
     alloc: Global,
     found: &[Mapping],
@@ -269,7 +269,7 @@ fn tell_conflicts(
     Ok(if told { CONFLICT } else { NO_ROOM })
 }
 
-// Maps the refs of records, and tells it.
+// Maps the refs of records, and writes the records of their mappings.
 fn map_records(
     alloc: Global,
     answer: &[u8],
@@ -302,7 +302,7 @@ fn map_records(
 
 /// Maps refs by refspecs, which stand one on a line (git-fetch, "<refspec>"). The names of the refs stand in the answer.
 ///
-/// 0 where the mappings are in the records, those that were taken out behind them, and their local names in the buffer. 51 where
+/// 0 where the mappings are in the records, after them those that were taken out, and their local names in the buffer. 51 where
 /// mappings conflict: the records are then the conflicts. 2 where one of the buffers has too little room: how much is needed is
 /// told, and nothing else is changed. 3 where a name doesn't stand in the answer, 4 where an allocation failed, and any other
 /// number for a line that is no refspec: nothing is changed then.
@@ -324,7 +324,7 @@ pub extern "C" fn gixp_map(
     }
 }
 
-// The prefixes of refspecs, each with an LF behind it.
+// The prefixes of refspecs, each with an LF after it.
 fn prefix_text(alloc: Global, text: &[u8]) -> Result<Vec<u8>, MapRefused> {
     let specs = specs_in(alloc, text)?;
     let mut prefixes: Vec<BString> = Vec::new(alloc);
@@ -339,10 +339,10 @@ fn prefix_text(alloc: Global, text: &[u8]) -> Result<Vec<u8>, MapRefused> {
     Ok(all)
 }
 
-/// Writes the prefixes that a server is asked for, for refspecs which stand one on a line, each with an LF behind it, and how
+/// Writes the prefixes that a server is asked for, for refspecs which stand one on a line, each with an LF after it, and how
 /// long they are (gitprotocol-v2, `ref-prefix`).
 ///
-/// 0 where they are in the buffer. 2 where that has too little room: only the length is told. 4 where an allocation failed, and
+/// 0 where they are in the buffer. 2 where that has too little room: only the length is written. 4 where an allocation failed, and
 /// any other number for a line that is no refspec: nothing is changed then.
 #[unsafe(no_mangle)]
 pub extern "C" fn gixp_prefixes(

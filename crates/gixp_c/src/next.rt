@@ -97,7 +97,7 @@ fn tell_step(found: &Step, request: &mut [u8], step: &mut StepRecord) -> u32
     }
 }
 
-// Puts the server's own words into the buffer, if it has room for them, and tells the number.
+// Puts the server's own words into the buffer, if it has room for them, and returns the number.
 fn tell_refusal(e: &EngineError, request: &mut [u8], step: &mut StepRecord) -> u32
     ensures code { 2 < result }
     ensures step { step.new ≡ record step.old { length = step.new.length } }
@@ -115,12 +115,12 @@ fn tell_refusal(e: &EngineError, request: &mut [u8], step: &mut StepRecord) -> u
     }
 }
 
-/// Tells what a client does next, of the answers so far: of the first, which a server gives when it is asked for its service, and
-/// of those to each request that this function told (gitprotocol-v2; gitprotocol-pack, "Packfile Negotiation"). They stand one
-/// behind another and end at these places. Refspecs stand one on a line; ids are 20 bytes each. A depth of 0 leaves the boundary
+/// Writes what a client does next, from the answers so far: the first, which a server gives when it is asked for its service, and
+/// those to each request that this function wrote (gitprotocol-v2; gitprotocol-pack, "Packfile Negotiation"). They stand one after
+/// another and end at these places. Refspecs stand one on a line; ids are 20 bytes each. A depth of 0 leaves the boundary
 /// as it is.
 ///
-/// 0 where the step is told. 2 where the request has too little room: its length is told, and nothing else is changed. Any other
+/// 0 where the step is written. 2 where the request has too little room: its length is written, and nothing else is changed. Any other
 /// number says why there is none: 15 that the server sent an error, and `length` is then how long its own words are, which are in
 /// the buffer if it has room.
 #[unsafe(no_mangle)]

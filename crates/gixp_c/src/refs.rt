@@ -12,7 +12,7 @@ use gixp_records::{PacketRefused, RefRecord, RefsEnd, RefsRefused, Span, read_re
 pub struct FoundRecord {
     /// How many records were written; of a buffer with too little room, how many it needs.
     pub count: usize,
-    /// The place behind what was read.
+    /// The place after what was read.
     pub next: usize,
     /// Where the server's own words stand, if it sent an error.
     pub words: Span,
@@ -40,7 +40,7 @@ fn code_of(end: RefsEnd) -> (u32, Span)
 /// "ls-refs").
 ///
 /// 0 where the answer's stop was read, and 1 where the next call is to go on at `next`. 2 where there is no record, and 3 where
-/// the place is behind the bytes: nothing else is changed then. Any other number says what stands at `next`, and 10 that the
+/// the place is after the bytes: nothing else is changed then. Any other number says what stands at `next`, and 10 that the
 /// answer goes on in bytes that aren't there yet; the refs before it are in the records.
 #[unsafe(no_mangle)]
 pub extern "C" fn gixp_refs(

@@ -124,7 +124,7 @@ fn mapped_change<R: RefStore>(
     Ok(Some(change_of(name, old, *id)))
 }
 
-// What becomes of those of some mappings.
+// What becomes of the local refs of some mappings.
 fn mapped_changes<R: RefStore>(
     alloc: Global,
     mappings: &[Mapping],

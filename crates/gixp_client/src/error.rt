@@ -1,4 +1,4 @@
-//! Why a call of a session is refused.
+//! Why a call of a session fails.
 ghost use Rattle.std.specs.Prelude.{◌≡◌};
 ghost use Rattle.std.specs.Option.{option_map};
 ghost use Rattle.bstr.specs.BStr.{bstr_bytes};
@@ -25,9 +25,9 @@ use std::fmt;
 use std::fmt::Display;
 use std::io::ErrorKind;
 
-/// Why a call of a session is refused, in a sentence that has the server's words where there are any.
+/// Why a call of a session fails, as a sentence, with the server's words where there are any.
 ///
-/// It owns all that it tells, and names no type of the caller's.
+/// It owns its texts, and names no type of the caller's.
 #[derive(Debug, Drop)]
 pub enum Error {
     /// A text is no refspec. Nothing was sent.
@@ -37,7 +37,7 @@ pub enum Error {
         /// Why it is none.
         why: spec::Error,
     },
-    /// The handshake was refused.
+    /// The handshake failed.
     Handshake(handshake::Error),
     /// The list of refs wasn't read.
     Refs(parse::Error),
@@ -68,11 +68,11 @@ pub enum Error {
         /// What it doesn't offer.
         feature: String,
     },
-    /// The server's repository is shallow, and that was to be refused.
+    /// The server's repository is shallow, and the request rejects that.
     ShallowServer,
     /// The pack wasn't taken: what has come of it is to be thrown away.
     Pack(PackError),
-    /// What comes behind the pack wasn't read.
+    /// What comes after the pack wasn't read.
     Rest(read::Error),
     /// The server reported an error beside the pack (band 3): what has come is to be thrown away.
     Reported {

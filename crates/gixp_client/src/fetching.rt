@@ -33,7 +33,7 @@ use gixp_sidebands::{Interrupt, NeverInterrupt};
 use gixp_wire::Transport;
 use std::alloc::{AllocError, Global};
 
-// The name of a client as the server is told it.
+// The name of a client as it is sent to the server.
 fn client_name(alloc: Global, name: &String) -> Result<String, AllocError>
     ensures { IfOk result (λ text. named_feature (string_bytes text) ≡ client_feature (string_bytes name.now)) }
 {
@@ -45,7 +45,7 @@ impl<T: Transport + Drop, L: Listener + Drop, P: NestedProgress + Drop> Session<
 where
     P::SubProgress: Drop,
 {
-    // A fetch, and where the session then stands.
+    // A fetch, and the state of the session after it.
     fn carry_out<'a, F: Find, R: RefStore, N: Negotiator, C: ConsumePack<P>>(
         &mut self,
         wanted: Wanted<'a, F, R, N>,

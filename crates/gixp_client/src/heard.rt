@@ -1,4 +1,4 @@
-//! A transport whose texts are heard as they come.
+//! A transport that reports the messages of the sideband as they come.
 ghost use Rattle.std.specs.Prelude.{◌≡◌};
 ghost use Rattle.std.specs.Option.{option_map};
 ghost use Rattle.gixp_client.specs.Listening.{text_in};
@@ -12,8 +12,8 @@ use gixp_wire::{Account, Service, SetServiceResponse, Transport};
 use std::alloc::Global;
 use std::mem;
 
-/// A transport that tells a listener, and keeps, the texts of bands 2 and 3, each as its packet line is taken. In every other way
-/// it is the transport inside: no other line begins with a byte of 2 or 3.
+/// A transport that reports the messages of bands 2 and 3 to a listener, and keeps them, each as its packet line is taken. In every
+/// other way it is the transport inside: no other line begins with a byte of 2 or 3.
 #[derive(Drop)]
 pub struct Heard<T, L> {
     pub(crate) inner: T,
@@ -36,7 +36,7 @@ fn text_in(line: &[u8]) -> Option<(bool, &[u8])>
 }
 
 impl<T, L> Heard<T, L> {
-    /// The transport, whose texts this listener hears.
+    /// The transport, whose messages are reported to this listener.
     pub fn new(alloc: Global, inner: T, listener: L) -> Heard<T, L>
         ensures { result.inner ≡ inner }
     {
@@ -70,7 +70,7 @@ impl<T, L: Drop> Heard<T, L> {
 }
 
 impl<T: ExtendedBufRead, L: Listener> Heard<T, L> {
-    // Tells the text of the line that was taken, if it has one.
+    // Reports the message of the line that was taken, if it has one.
     fn tell(&mut self)
         ensures inner { self.new.inner ≡ self.old.inner }
         ensures heard { HearsLine L.hears (text_in (T.reading self.old.inner).line) self.old.listener self.old.kept

@@ -44,8 +44,8 @@ pub fn sessions_are_runs<N: PaysForHaves + NegotiatesMap, I: Interrupt, P, C: Co
     headline::<N, ShallowMemory, I, P, C>();
 }
 
-/// A ref map of a session is made of the refs that are here, where they are, and nothing is sent for it; else the server lists those
-/// of the prefixes of its refspecs, at each call anew, so that no list for other refspecs answers for these.
+/// A ref map of a session is made of the refs that are here, where they are, and nothing is sent for it; else the server lists the
+/// refs with the prefixes of its refspecs, at each call anew, so that no list for other refspecs is used for these.
 pub fn maps_list_again()
     ensures here { (request : Request) (agent : FeatureValue) (shaken : Handshake) (refs : Vec Ref Allocator) (plain : Bool)
         (old new : Reading) (made : Result RefMap MapError) → shaken.refs ≡ Some refs

@@ -1,4 +1,4 @@
-//! Who hears what a server says beside its answers.
+//! Listeners for the progress and error messages of a server.
 ghost use Rattle.std.specs.Prelude.{◌≡◌, ◌||◌, ℕ, Bool, List, [], ◌∷◌, ◌++◌, Some, false, true, ⊤, OnOk, OnErr};
 ghost use Rattle.std.specs.List.{find};
 ghost use Rattle.std.specs.Option.{option_copied};
@@ -10,7 +10,7 @@ use std::alloc::{AllocError, Global};
 use std::io;
 use std::io::Write;
 
-/// Who hears the texts of bands 2 and 3 (gitprotocol-pack, "Packfile Data").
+/// A listener for the messages of bands 2 and 3 (gitprotocol-pack, "Packfile Data").
 ///
 /// Nothing is asked of it, so that an implementation may be its method alone.
 pub trait Listener {
@@ -36,7 +36,7 @@ impl Listener for Silent {
 pub struct ServerText {
     /// Whether it is an error (band 3), or progress (band 2).
     pub is_error: bool,
-    /// The text, without one NUL or line end behind it.
+    /// The text, without one NUL or line end at its end.
     pub text: BString,
 }
 
@@ -53,7 +53,7 @@ pub struct Kept {
     has_error: bool,
 }
 
-// A text without one NUL or line end behind it.
+// A text without one NUL or line end at its end.
 fn without_end(text: &[u8]) -> &[u8]
     ensures { result.now ≡ without_end text.now }
 {
@@ -87,7 +87,7 @@ impl Kept {
         &self.texts
     }
 
-    /// Whether a text is missing, for want of room or of memory.
+    /// Whether a text is missing: the room was full, or an allocation failed.
     pub fn is_cut(&self) -> bool
         ensures { result ≡ self.now.is_cut }
     {
@@ -147,9 +147,9 @@ impl Listener for Kept {
     }
 }
 
-/// ShowsLines the texts in a writer as git does: each line begins with `remote: `, also one that was cut over several packets,
-/// and control characters in it are question marks. A carriage return ends a line too, which the next one is then shown
-/// over, so blanks come behind the text. A line is written once it is whole.
+/// Writes the messages as git does: each line begins with `remote: `, also one that was cut over several packets, and control
+/// characters in it are question marks. A carriage return ends a line too, over which the next one is then shown, so blanks follow
+/// the text. A line is written once it is whole.
 pub struct RemoteLines<W: Write + Drop> {
     writer: W,
     line: Vec<u8>,
@@ -236,7 +236,7 @@ impl<W: Write + Drop> RemoteLines<W> {
         }
     }
 
-    // ShowsLines a byte.
+    // Shows a byte.
     fn show_byte(&mut self, byte: u8)
         ensures { ShowsLines self.old.is_cut (W.contents self.old.writer) self.new.is_cut (W.contents self.new.writer)
             self.new.line.items (after_byte self.old.line.items byte) }
@@ -247,7 +247,7 @@ impl<W: Write + Drop> RemoteLines<W> {
         }
     }
 
-    // ShowsLines a text behind the line at hand.
+    // Shows a text after the line at hand.
     fn show(&mut self, text: &[u8])
         ensures { ShowsLines self.old.is_cut (W.contents self.old.writer) self.new.is_cut (W.contents self.new.writer)
             self.new.line.items (after_text self.old.line.items text.now) }
@@ -269,7 +269,7 @@ impl<W: Write + Drop> RemoteLines<W> {
         }
     }
 
-    // ShowsLines a text of an error, on lines of its own.
+    // Shows an error message, on lines of its own.
     fn show_error(&mut self, text: &[u8])
         ensures { ShowsLines self.old.is_cut (W.contents self.old.writer) self.new.is_cut (W.contents self.new.writer)
             self.new.line.items (shown_of true self.old.line.items text.now) }

@@ -11,7 +11,7 @@ use gixp_requests::fetch::Arguments;
 use gixp_response::fetch::Response;
 use std::alloc::{AllocError, Global};
 
-/// A negotiation whose requests ask for a filter where the server offers it, by a line behind the wants (gitprotocol-v2, "fetch";
+/// A negotiation whose requests ask for a filter where the server offers it, by a line after the wants (gitprotocol-v2, "fetch";
 /// gitprotocol-pack, "Packfile Negotiation").
 #[derive(Drop)]
 pub struct Filtered<'a, N> {

@@ -9,8 +9,8 @@ use gixp_wire::Connection;
 use std::alloc::{AllocError, Global};
 use std::io::{Read, Write};
 
-/// The transport over the stream from a server and the one to it, as those of `git upload-pack PATH`, here or by `ssh`. Nothing on the
-/// wire asks for a version: set `GIT_PROTOCOL=version=2` for that program. All versions are accepted.
+/// The transport over the stream from a server and the one to it, such as the pipes of `git upload-pack PATH`, here or by `ssh`.
+/// Nothing on the wire asks for a version: set `GIT_PROTOCOL=version=2` for that program. All versions are accepted.
 ///
 /// # Errors
 ///

@@ -1,4 +1,4 @@
-//! What lower errors say of a read or a write that failed, and what is told of a refused fetch.
+//! What lower errors say of a read or a write that failed, and the error of a failed fetch.
 ghost use Rattle.std.specs.Prelude.{◌≡◌};
 ghost use Rattle.gixp_client.specs.ClientError.{NamesMissing, IsToldOf, client_kind, parse_kind, answer_kind, pack_kind};
 ghost use Rattle.gixp_client.specs.ClientCalls.{IsToldCame};
@@ -14,7 +14,7 @@ use gixp_response::fetch::response;
 use std::alloc::Global;
 use std::io::ErrorKind;
 
-/// That of a call which speaks to the server.
+/// The error of a call that speaks to the server.
 pub(crate) fn client_kind(e: &client::Error) -> Option<ErrorKind>
     ensures { result ≡ client_kind e.now }
 {
@@ -25,7 +25,7 @@ pub(crate) fn client_kind(e: &client::Error) -> Option<ErrorKind>
     }
 }
 
-/// That of a reader of refs.
+/// The error of a reader of refs.
 pub(crate) fn parse_kind(e: &parse::Error) -> Option<ErrorKind>
     ensures { result ≡ parse_kind e.now }
 {
@@ -35,7 +35,7 @@ pub(crate) fn parse_kind(e: &parse::Error) -> Option<ErrorKind>
     }
 }
 
-/// That of a reader of answers.
+/// The error of a reader of answers.
 pub(crate) fn answer_kind(e: &response::Error) -> Option<ErrorKind>
     ensures { result ≡ answer_kind e.now }
 {
@@ -46,7 +46,7 @@ pub(crate) fn answer_kind(e: &response::Error) -> Option<ErrorKind>
     }
 }
 
-/// That of a consumer of the pack.
+/// The error of a consumer of the pack.
 pub(crate) fn pack_kind(e: &PackError) -> Option<ErrorKind>
     ensures { result ≡ pack_kind e.now }
 {
@@ -66,8 +66,7 @@ pub(crate) fn missing(alloc: Global, feature: &str) -> Error
     }
 }
 
-// Why a fetch was refused, with nothing of the caller's in it. A boundary in memory that nobody else has is refused for want of
-// memory alone.
+// Why a fetch failed, with nothing of the caller's in it. A boundary in memory that nobody else has fails for an allocation alone.
 fn refusal<A: Drop, E: Into<Error>>(alloc: Global, e: FetchError<A, E>) -> Error
     ensures { IsToldOf e result }
 {
@@ -89,7 +88,7 @@ fn refusal<A: Drop, E: Into<Error>>(alloc: Global, e: FetchError<A, E>) -> Error
     }
 }
 
-/// What came of a fetch, told with nothing of the caller's in it.
+/// What came of a fetch, with nothing of the caller's in it.
 pub(crate) fn told<A: Drop, E: Into<Error>>(
     alloc: Global,
     came: Result<Option<Outcome>, FetchError<A, E>>,

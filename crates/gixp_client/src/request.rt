@@ -21,20 +21,20 @@ pub struct Request {
     alloc: Global,
     /// The refspecs. Where there are none, nothing but tags is mapped.
     pub refspecs: Vec<RefSpec>,
-    /// Which tags come along: those that lead to what is fetched, unless it is set otherwise.
+    /// Which tags come along. The default is the tags that lead to what is fetched.
     pub tags: Tags,
-    /// How much of the history: what is missing, unless it is set otherwise.
+    /// How much of the history is fetched. The default is what is missing.
     pub shallow: Shallow,
-    /// Who chooses the haves.
+    /// Who chooses the haves. The default is `Consecutive`.
     pub algorithm: Algorithm,
-    /// Whether a server whose repository is shallow is refused.
+    /// Whether a server whose repository is shallow is rejected. The default is false.
     pub rejects_shallow: bool,
-    /// Whether the transport may be two pipes, so that requests of versions 0 and 1 have few haves, as they have unless it is set
-    /// otherwise.
+    /// Whether the transport may be two pipes. Then requests of versions 0 and 1 have few haves, so that no two writes wait for each
+    /// other. The default is true.
     pub is_over_pipes: bool,
-    /// Which objects are left out (git-rev-list, "--filter").
+    /// Which objects are left out (git-rev-list, "--filter"). The default is none.
     pub filter: Option<String>,
-    /// Whether a fetch goes on though the server reports an error beside the pack (band 3).
+    /// Whether a fetch goes on though the server reports an error beside the pack (band 3). The default is false.
     pub goes_on: bool,
 }
 
@@ -96,7 +96,7 @@ impl Request {
         Ok(())
     }
 
-    // The refspecs, and that of the tags.
+    // The refspecs, and the refspec of the tags.
     pub(crate) fn context(&self) -> Result<init::Context, AllocError>
         ensures { IfOk result (λ c. context_value c ≡ asked_specs self.now) }
     {

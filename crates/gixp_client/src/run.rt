@@ -65,7 +65,7 @@ pub(crate) struct Wanted<'a, F, R, N> {
     pub(crate) negotiator: &'a mut N,
 }
 
-/// With whom a fetch speaks, and who hears how far it has come.
+/// The server of a fetch, and its progress reporter.
 pub(crate) struct Peer<'s, T, P> {
     pub(crate) shaken: &'s mut Handshake,
     pub(crate) transport: &'s mut T,

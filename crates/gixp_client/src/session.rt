@@ -36,10 +36,10 @@ use std::alloc::{AllocError, Global};
 /// A session with a server: after the handshake its refs can be listed and mapped, and what is mapped fetched, under version 2 as
 /// often as need be.
 ///
-/// `state` says where a refused call leaves it. A call that is refused before anything was sent leaves it as it was, and so does one
-/// that gives up where the server waits for a request; where the server says why it refuses, it has gone; and behind a failed read or
-/// write, or what can't be read, the session is broken. Then every later call is refused (`Error::Over`) and sends nothing. When it is
-/// dropped it is closed.
+/// `state` says where a failed call leaves it. A call that fails before anything was sent leaves it as it was, and so does one that
+/// gives up where the server waits for a request. A server that sends an error message has gone. After a failed read or write, or an
+/// answer that can't be read, the session is broken. In both cases every later call returns `Error::Over` and sends nothing. A
+/// dropped session is closed.
 pub struct Session<T: Transport + Drop, L: Listener + Drop, P: NestedProgress + Drop = Discard> {
     pub(crate) alloc: Global,
     pub(crate) transport: Heard<T, L>,
@@ -60,13 +60,12 @@ fn has_refs(refs: &Option<Vec<Ref>>) -> bool
 }
 
 impl<T: Transport + Drop, L: Listener + Drop> Session<T, L, Discard> {
-    /// Shakes hands (gitprotocol-pack, "Reference Discovery"; gitprotocol-v2, "Capability Advertisement"), without an account. The
-    /// versions that are accepted are those of the transport. The server knows the client by this agent, and what it says beside its
-    /// answers goes to the listener.
+    /// Shakes hands, without an account (gitprotocol-pack, "Reference Discovery"; gitprotocol-v2, "Capability Advertisement"). The
+    /// transport says which versions are accepted. `agent` is sent as the client's name, and the server's messages go to the listener.
     ///
     /// # Errors
     ///
-    /// `Handshake` where it is refused, or `Memory`. The transport is dropped.
+    /// `Handshake` where it fails, or `Memory`. The transport is dropped.
     pub fn open(
         alloc: Global,
         transport: T,
@@ -90,9 +89,9 @@ impl<T: Transport + Drop, L: Listener + Drop> Session<T, L, Discard> {
 }
 
 impl<T: Transport + Drop, L: Listener + Drop, P: NestedProgress + Drop> Session<T, L, P> {
-    /// Shakes hands as `open` does, with these parameters beside those of the transport. Where the server wants an account,
-    /// `authenticate` is asked for one, and told afterwards to store or to erase it (gitcredentials). The progress reporter is told
-    /// of all calls of the session, as `handshake`, `obtain` and `fetch` say.
+    /// Shakes hands as `open` does, with these parameters beside the transport's own. Where the server wants an account,
+    /// `authenticate` is asked for one, and afterwards to store or to erase it (gitcredentials). All calls of the session are
+    /// reported to the progress reporter, as `handshake`, `obtain` and `fetch` say.
     ///
     /// # Errors
     ///
@@ -137,7 +136,7 @@ impl<T: Transport + Drop, L: Listener + Drop, P: NestedProgress + Drop> Session<
         })
     }
 
-    /// Where it stands.
+    /// Whether another call may come.
     pub fn state(&self) -> State
         ensures { result ≡ self.now.state }
     {
@@ -158,7 +157,7 @@ impl<T: Transport + Drop, L: Listener + Drop, P: NestedProgress + Drop> Session<
         &self.shaken.capabilities
     }
 
-    /// The progress reporter, as it was told so far.
+    /// The progress reporter, as the calls so far left it.
     pub fn progress(&self) -> &P
         ensures { result.now ≡ self.now.progress }
     {
@@ -266,11 +265,11 @@ impl<T: Transport + Drop, L: Listener + Drop, P: NestedProgress + Drop> Session<
         }
     }
 
-    /// What the refspecs of a request, and that of its tags, map of the refs of the server (git-fetch, "<refspec>").
+    /// What the refspecs of a request, and the refspec of its tags, map of the server's refs (git-fetch, "<refspec>").
     ///
-    /// It is made of the refs that are here, with no request, where all of them are: those of the handshake, or of a call of `refs`.
-    /// Else the server lists those of these refspecs' prefixes, at each call anew, and they stay in the map alone: what was listed for
-    /// other refspecs never answers for these ([`laws::maps_list_again`](crate::laws::maps_list_again)).
+    /// Where all refs are here, from the handshake or a call of `refs`, nothing is sent. Else the server lists the refs with these
+    /// refspecs' prefixes, at each call anew, and they are kept in the map alone: a list for other refspecs is never used for these
+    /// ([`laws::maps_list_again`](crate::laws::maps_list_again)).
     ///
     /// # Errors
     ///
@@ -333,7 +332,7 @@ impl<T: Transport + Drop, L: Listener + Drop, P: NestedProgress + Drop> Session<
     }
 
     /// Says that nothing more is asked for, where the server waits for a request (gitprotocol-v2, "Command Request";
-    /// gitprotocol-pack, "Packfile Negotiation"). Else nothing is sent, as behind a pack of a server of version 0 or 1, which has
+    /// gitprotocol-pack, "Packfile Negotiation"). Else nothing is sent, as after a pack of a server of version 0 or 1, which has
     /// gone, or where the session is broken.
     ///
     /// # Errors

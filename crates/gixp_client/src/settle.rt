@@ -28,7 +28,7 @@ pub(crate) fn store_of(alloc: Global, boundary: &[ObjectId]) -> Result<ShallowMe
     Ok(ShallowMemory::new(ids))
 }
 
-/// Refuses a filter where the server offers none.
+/// `MissingFeature` for a filter where the server offers none.
 pub(crate) fn expect_filter(
     alloc: Global,
     shaken: &Handshake,

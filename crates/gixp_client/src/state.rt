@@ -1,4 +1,4 @@
-//! Where a session stands.
+//! Whether a session may go on.
 ghost use Rattle.std.specs.Prelude.{◌≡◌, is_some};
 ghost use Rattle.gixp_client.specs.ClientError.{said_in};
 ghost use Rattle.gixp_client.specs.SessionStates.{behind_answers, behind_request, behind_answer, behind_unsaid, behind_refusal, behind_map, behind_fetch};
@@ -9,18 +9,18 @@ use gixp_fetch::options::Outcome;
 use gixp_packetline::Protocol;
 use gixp_response::fetch::response;
 
-/// Where a session stands.
+/// Whether another call of a session may come.
 #[derive(Clone, Copy, Debug, PartialEq, Eq, Drop)]
 pub enum State {
-    /// The server waits for a request: the transport is behind all that it said.
+    /// The server waits for a request, and all that it sent was read.
     AtStop,
-    /// The conversation is over: the server has gone, or was told that nothing more is asked for.
+    /// The conversation is over: the server has gone, or knows that nothing more is asked for.
     Ended,
-    /// A request or its answer failed, so that nobody knows what comes next. Nothing can be asked for any more.
+    /// A request or its answer failed, so that what the server sends next is unknown. Nothing can be asked for any more.
     Broken,
 }
 
-// Behind a whole answer, by what a server of version 0 or 1 is then.
+// After a whole answer, by what a server of version 0 or 1 is then.
 fn behind_answers(version: Protocol, otherwise: State) -> State
     ensures { result ≡ behind_answers version otherwise }
 {
@@ -30,7 +30,7 @@ fn behind_answers(version: Protocol, otherwise: State) -> State
     }
 }
 
-// Behind a request that wasn't sent.
+// After a request that wasn't sent.
 fn behind_request(e: &client::Error) -> State
     ensures { result ≡ behind_request e.now }
 {
@@ -40,7 +40,7 @@ fn behind_request(e: &client::Error) -> State
     }
 }
 
-// Behind an answer that wasn't read.
+// After an answer that wasn't read.
 fn behind_answer(e: &response::Error) -> State
     ensures { result ≡ behind_answer e.now }
 {
@@ -50,7 +50,7 @@ fn behind_answer(e: &response::Error) -> State
     }
 }
 
-// Behind a call that was refused otherwise than by the server's words.
+// After a call that failed, but for an error message of the server.
 fn behind_unsaid(version: Protocol, e: &Error) -> State
     ensures { result ≡ behind_unsaid version e.now }
 {
@@ -76,7 +76,7 @@ fn is_said(e: &Error) -> bool
     }
 }
 
-/// Behind a call that was refused with this error.
+/// After a call that failed with this error.
 pub(crate) fn behind_refusal(version: Protocol, e: &Error) -> State
     ensures { result ≡ behind_refusal version e.now }
 {
@@ -87,7 +87,7 @@ pub(crate) fn behind_refusal(version: Protocol, e: &Error) -> State
     }
 }
 
-/// Behind a ref map, by whether the refs were here.
+/// After a ref map, by whether the refs were here.
 pub(crate) fn behind_map(is_here: bool, version: Protocol, e: &Error) -> State
     ensures { result ≡ behind_map is_here version e.now }
 {
@@ -98,7 +98,7 @@ pub(crate) fn behind_map(is_here: bool, version: Protocol, e: &Error) -> State
     }
 }
 
-/// Behind a fetch.
+/// After a fetch.
 pub(crate) fn behind_fetch(version: Protocol, came: &Result<Option<Outcome>, Error>) -> State
     ensures { result ≡ behind_fetch version came.now }
 {

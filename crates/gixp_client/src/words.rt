@@ -19,7 +19,7 @@ fn shown_byte(byte: u8) -> u8
     if 32 <= byte && byte < 127 { byte } else { b'?' }
 }
 
-// Words without one line feed behind them.
+// Words without one line feed at their end.
 fn without_feed(words: &[u8]) -> &[u8]
     ensures { result.now ≡ without_feed words.now }
 {
@@ -59,7 +59,7 @@ impl Display for Bytes<'_> {
     }
 }
 
-/// The words of a server without one line feed behind them, so that a terminal takes none of them for a command: a control character
+/// The words of a server without one line feed at their end, so that a terminal takes none of them for a command: a control character
 /// is a question mark, and so is what isn't ASCII where they aren't UTF-8.
 #[derive(Drop)]
 pub(crate) struct Words<'a> {

@@ -6,7 +6,7 @@ use bstr::BStr;
 use gix_protocol::fetch::{ConsumePack, WithSidebands};
 use gix_protocol::transport::{ExtendedBufRead, Interrupt, Progress, ServerMessage};
 
-/// Reads nothing of a pack, and lets nothing be read behind it.
+/// Reads nothing of a pack, and lets nothing be read after it.
 #[derive(Clone, Copy, Debug)]
 pub struct LeavePack;
 

@@ -24,7 +24,7 @@ pub enum EngineError {
     /// A refspec is none.
     #[error("{0}")]
     Spec(parse::Error),
-    /// The handshake was refused.
+    /// The handshake failed.
     #[error("{0}")]
     Handshake(handshake::Error),
     /// The refs weren't listed, or their mappings don't go together.

@@ -1,4 +1,4 @@
-//! The next request of a session, of the answers so far: for one who sends and receives himself, as a client over HTTP.
+//! The next request of a session, from the answers so far, for a caller that sends and receives itself, as over HTTP.
 #![tactic(auto)]
 
 mod consumer;

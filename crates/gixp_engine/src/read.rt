@@ -8,7 +8,7 @@ use gix_protocol::refspec::parse::{Operation, parse};
 use gix_protocol::transport::{Body, ObjectId};
 use std::alloc::Global;
 
-/// The ids of twenty bytes each, one behind another.
+/// The ids of twenty bytes each, one after another.
 ///
 /// # Errors
 ///
@@ -51,7 +51,7 @@ pub fn specs_of(alloc: Global, text: &[u8]) -> Result<Context, EngineError> {
     })
 }
 
-/// The answers that end at these places, one behind another.
+/// The answers that end at these places, one after another.
 ///
 /// # Errors
 ///

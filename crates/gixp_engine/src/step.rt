@@ -60,8 +60,8 @@ fn start_of_last(bytes: &[u8], ends: &[usize]) -> usize
     }
 }
 
-/// What a client does next, of what a server answered so far: first to the handshake, then to each request that this function
-/// told (gitprotocol-v2; gitprotocol-pack, "Packfile Negotiation"). The answers stand one behind another, and end at these
+/// What a client does next, from the answers of a server so far: first to the handshake, then to each request that this function
+/// returned (gitprotocol-v2; gitprotocol-pack, "Packfile Negotiation"). The answers follow one another, and end at these
 /// places. Of the last one a beginning will do that reaches to the pack.
 ///
 /// # Errors

@@ -53,7 +53,7 @@ pub fn read_answer<R: ExtendedBufRead>(
     Response::from_line_reader(alloc, version, reader, true, false)
 }
 
-/// Reads bytes of a pack from the sideband into a buffer: those of band 1 that come next.
+/// Reads bytes of a pack from the sideband into a buffer: the next ones of band 1.
 pub fn read_pack<T: ExtendedBufRead, P: BandText + Drop, I: Interrupt>(
     pack: &mut WithSidebands<'_, T, P, I>,
     buffer: &mut [u8],

@@ -7,9 +7,9 @@ use std::alloc::{AllocError, Global};
 /// Why a fetch came to no answer.
 #[derive(Debug, Drop)]
 pub enum Error {
-    /// The transport refused the handshake or the request.
+    /// The handshake or the request failed.
     Transport(client::Error),
-    /// The answer was refused.
+    /// The answer can't be read.
     Answer(response::Error),
 }
 

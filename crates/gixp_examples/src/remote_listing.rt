@@ -29,8 +29,8 @@ pub fn ls_remote(alloc: Global, refs: &[Ref]) -> Result<Vec<u8>, AllocError> {
     Ok(text)
 }
 
-/// Writes the lines of `git ls-remote` for a server, over the streams from it and to it: those of `git upload-pack PATH` on this
-/// machine, or of the same command by `ssh`. Where the server refuses, nothing is written; where the writer fails, it may have a
+/// Writes the lines of `git ls-remote` for a server, over the streams from it and to it, such as the pipes of `git upload-pack PATH`
+/// on this machine, or of the same command by `ssh`. Where the server fails, nothing is written; where the writer fails, it may have a
 /// beginning of the lines.
 pub fn print_remote_refs<R: Read + Drop, W: Write + Drop, O: Write>(
     alloc: Global,

@@ -44,7 +44,7 @@ const NO_CONTACT: &str = "Could not read from remote repository.
 Please make sure you have the correct access rights
 and the repository exists.";
 
-/// What was refused.
+/// What failed.
 #[derive(Debug, Drop)]
 pub enum Failure {
     /// A step of the session, and the server's own words where there are any.
@@ -73,7 +73,7 @@ pub enum Failure {
         path: String,
         line: usize,
     },
-    /// git refused the pack, and said why.
+    /// git rejected the pack, and said why.
     PackRefused,
     /// A ref that is asked for isn't there.
     Missing {
@@ -102,7 +102,7 @@ impl<T: Drop> From<AllocFailed<T>> for Failure {
 }
 
 impl Failure {
-    /// A step was refused with this error.
+    /// A step failed with this error.
     pub fn of_step<E: Display + ServerMessage>(alloc: Global, step: Step, error: &E) -> Failure
         ensures { TellsStep step (E.message error.now) result }
     {
@@ -112,7 +112,7 @@ impl Failure {
         }
     }
 
-    /// A step was refused, as the text says.
+    /// A step failed, as the text says.
     pub fn of_text(alloc: Global, step: Step, text: &str) -> Failure
         ensures { TellsStepText step text.now result }
     {
@@ -126,7 +126,7 @@ impl Failure {
         }
     }
 
-    /// A file was refused, or an allocation failed.
+    /// A file can't be read or written, or an allocation failed.
     pub fn of_file(alloc: Global, path: &str, kind: ErrorKind) -> Failure
         ensures file { TellsFile path.now kind result }
         ensures memory { kind ≡ OutOfMemory → result ≡ Memory }
@@ -140,7 +140,7 @@ impl Failure {
         }
     }
 
-    /// A line of a text was refused.
+    /// A line of a text can't be read.
     pub fn of_line(alloc: Global, path: &str, line: usize) -> Failure
         ensures { TellsLine path.now line result }
     {
@@ -162,7 +162,7 @@ impl Failure {
     }
 }
 
-/// Words without the line end behind them.
+/// Words without the line end after them.
 pub fn front_of(words: &[u8]) -> &[u8]
     ensures { result.now ≡ strip_last 10 words.now }
 {

@@ -124,7 +124,7 @@ fn list(rt: &HostRuntime, options: &Options<'_>, keeps_open: bool) -> Result<(),
     tell(rt, &options.output, &listing(alloc, &refs)?)
 }
 
-// What is told of a fetch that failed, where it may be for the text of the commits.
+// The failure of a fetch, where it may be for the text of the commits.
 fn failure_of(alloc: Global, path: &str, refusal: Option<Refusal>, failure: Failure) -> Failure
     ensures { TellsRefused path.now refusal failure result }
 {
@@ -359,7 +359,7 @@ fn status(rt: &HostRuntime, done: Result<(), Failure>) -> ExitCode {
 
 /// Does what the words of the command line ask for.
 ///
-/// The status is 0, 1 where something was refused, which a sentence on standard error says, or 2 where the words are none of
+/// The status is 0, 1 where something failed, which a sentence on standard error says, or 2 where the words are none of
 /// the usage.
 pub fn run(rt: &HostRuntime) -> ExitCode {
     let words = match read_words(rt) {

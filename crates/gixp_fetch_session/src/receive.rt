@@ -59,7 +59,7 @@ impl ServerMessage for ReceiveError {
 pub struct Whole<W> {
     /// What it was written into.
     pub writer: W,
-    /// What is told of it.
+    /// What is reported of it.
     pub summary: PackSummary,
 }
 
@@ -85,7 +85,7 @@ impl<P: PackPlace> PackReceiver<P> {
         }
     }
 
-    /// Keeps the pack that was received whole, and tells of it; none where none was.
+    /// Keeps the pack that was received whole, and returns what is reported of it; none where none was.
     ///
     /// # Errors
     ///

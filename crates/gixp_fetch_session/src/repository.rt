@@ -49,7 +49,7 @@ fn boundary_in(rt: &HostRuntime, path: Option<&str>) -> Result<Vec<ObjectId>, Fa
     shallow_ids(alloc, &text).map_err(|_| Failure::of_file(alloc, path, ErrorKind::InvalidData))
 }
 
-// What was refused in a text.
+// What failed in a text.
 fn refused(alloc: Global, path: Option<&str>, e: TextError) -> Failure
     ensures { TellsTextError (unwrap_or (option_map (λ w. w.now) path.entry) []) e result }
 {
@@ -106,7 +106,7 @@ fn refs_in(rt: &HostRuntime, path: Option<&str>) -> Result<StoredRefs, Failure> 
 }
 
 impl Repository {
-    /// Reads the texts, but for that of the commits where they are to be offered in its order.
+    /// Reads the texts, but not the text of the commits where they are to be offered in its order.
     pub fn read(rt: &HostRuntime, files: &Files<'_>, haves: Haves) -> Result<Repository, Failure> {
         let objects = objects_in(rt, files, haves)?;
         let mut refs = refs_in(rt, files.refs)?;
@@ -123,7 +123,7 @@ impl Repository {
     }
 
     /// Adds those objects that a map names and that are here, as a program says that is asked. What it reads is opened first,
-    /// and closed behind the last answer.
+    /// and closed after the last answer.
     pub fn ask(
         &mut self,
         rt: &HostRuntime,

@@ -67,7 +67,7 @@ pub struct How {
     pub wants_progress: bool,
 }
 
-// What the server is told first, where it is to be told a path.
+// What is sent to the server first, where it needs a path.
 fn opening_of(alloc: Global, server: &Server<'_>) -> Result<Option<Opening>, AllocError>
     ensures path { IfOk result (λ opening. option_map (λ o. bstring_bytes o.path) opening
         ≡ option_map (λ w. w.now) server.now.path) }
@@ -107,7 +107,7 @@ pub fn connect<R: Read + Drop, W: Write + Drop>(
     )
 }
 
-// The refspecs, and that of the tags.
+// The refspecs, and the refspec of the tags.
 fn specs_of(alloc: Global, wish: &Wish<'_>) -> Result<init::Context, Failure> {
     let mut fetch_refspecs = Vec::new(alloc);
     for text in &wish.specs {
@@ -334,7 +334,7 @@ impl<'a, T: Transport> Session<'a, T> {
         Ok(Arguments::new(self.alloc, &table, version, features)?.can_use_filter())
     }
 
-    // Whether the server is to be told that no progress is wanted: one of version 2 always knows the word.
+    // Whether `no-progress` is sent: a server of version 2 always knows the word.
     fn is_quiet(&self, how: &How) -> bool {
         !how.wants_progress
             && (self.version() == Protocol::V2 || self.shaken.capabilities.contains(b"no-progress"))

@@ -1,4 +1,4 @@
-//! The usage, and what is said of a command line that is refused.
+//! The usage, and what is said of a command line that can't be read.
 use gixp_fetch_local::{LineError, OptionError};
 
 /// The version of the program.
@@ -48,7 +48,7 @@ texts tell it, new, fast-forward, forced, same or refused comes first: what beco
 The status is 0, 1 where something was refused or a ref isn't there, or 2 where the words are none of these.
 ";
 
-/// Says why a command line is refused.
+/// Says why a command line can't be read.
 pub(crate) fn print_refusal(rt: &HostRuntime, e: OptionError<'_>) {
     let _ = match e {
         OptionError::Line(LineError::Unknown(word)) => {

@@ -93,7 +93,7 @@ fn came(
 }
 
 /// What becomes of a boundary where the server would make another one of it, by which of the ids that it would add were here
-/// before the fetch, and which are commits here behind it.
+/// before the fetch, and which are commits here after it.
 ///
 /// # Errors
 ///

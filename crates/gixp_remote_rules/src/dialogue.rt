@@ -1,4 +1,4 @@
-//! What git asks of a remote helper, and what it is told (gitremote-helpers).
+//! What git asks of a remote helper, and the replies (gitremote-helpers).
 ghost use Rattle.std.specs.Prelude.{◌≡◌, ◌&&◌, not, IfOk, IfNone, OnErr, Some, None};
 ghost use Rattle.std.specs.Option.{option_map};
 ghost use Rattle.gixp_remote_rules.specs.Choosing.{chosen, nothing_chosen, with_switch, with_history, with_format, with_other, with_option, limits, has_depth, asks_closed};
@@ -25,7 +25,7 @@ pub enum Command<'a> {
     Unknown,
 }
 
-// What stands before the first blank, and behind it: nothing where there is none.
+// What stands before the first blank, and after it: nothing where there is none.
 fn cut_blank(text: &[u8]) -> (&[u8], &[u8])
     ensures { (result.0.now, result.1.now) ≡ cut_blank text.now }
 {
@@ -57,7 +57,7 @@ pub fn read_command(line: &[u8]) -> Command<'_>
     }
 }
 
-/// What git is told of an option.
+/// The reply to an option.
 #[derive(Clone, Copy, Debug, PartialEq, Eq)]
 pub enum Reply {
     /// It is kept.
@@ -95,7 +95,7 @@ pub enum Depth {
 /// What git's options choose.
 #[derive(Debug, Drop, PartialEq, Eq)]
 pub struct Choices {
-    /// Errors alone are told.
+    /// Errors alone are reported.
     pub is_quiet: bool,
     /// Progress is shown.
     pub shows_progress: bool,
@@ -115,9 +115,9 @@ pub struct Choices {
     pub checks: bool,
     /// The server's boundary is taken.
     pub updates_shallow: bool,
-    /// A server whose repository is shallow is refused.
+    /// A server whose repository is shallow is rejected.
     pub rejects_shallow: bool,
-    /// The hash function is to be told with the refs.
+    /// The hash function is to be listed with the refs.
     pub tells_format: bool,
     /// All is wanted again.
     pub is_refetch: bool,
@@ -341,7 +341,7 @@ impl Choices {
         }
     }
 
-    // The hash function: git 2.39 gives no value where it is to be told.
+    // The hash function: git 2.39 gives no value where it is to be listed.
     fn take_format(&mut self, value: &[u8]) -> Reply
         ensures { (chosen self.new, result) ≡ with_format (chosen self.old) value.now }
     {

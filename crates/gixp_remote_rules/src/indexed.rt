@@ -1,4 +1,4 @@
-//! What git tells of a pack that it indexed, and the files of one.
+//! What git reports of a pack that it indexed, and the files of one.
 ghost use Rattle.std.specs.Prelude.{◌≡◌, IfOk};
 ghost use Rattle.std.specs.Option.{option_map};
 ghost use Rattle.gixp_remote_rules.specs.Indexed.{id_value, id_at, id_behind, told_pack, kept_pack, pack_file};
@@ -27,7 +27,7 @@ fn id_behind(text: &[u8]) -> Option<ObjectId>
     }
 }
 
-/// The name of a pack by what `git index-pack` tells: `keep`, a tab and the name, or `pack` where the lock isn't its own.
+/// The name of a pack by what `git index-pack` reports: `keep`, a tab and the name, or `pack` where the lock isn't its own.
 pub fn told_pack(line: &[u8]) -> Option<ObjectId>
     ensures { option_map id_value result ≡ told_pack line.now }
 {

@@ -81,7 +81,7 @@ fn unless_none(command: Option<&[u8]>) -> Option<&[u8]>
     }
 }
 
-/// The program that connects with a host: that of `GIT_PROXY_COMMAND`, else of the first setting for it. None where it is
+/// The program that connects with a host: the one that `GIT_PROXY_COMMAND` names, else the first setting for it. None where it is
 /// connected with at once, as `none` says too.
 pub fn proxy_for<'a>(
     settings: &'a Settings,

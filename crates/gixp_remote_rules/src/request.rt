@@ -63,7 +63,7 @@ pub struct Start<'a> {
 pub enum Request<'a> {
     /// Start a program.
     Start(Start<'a>),
-    /// Wait until it ends, and tell its status.
+    /// Wait until it ends, and report its status.
     Status(Task),
     /// End it.
     End(Task),
@@ -100,7 +100,7 @@ fn append_escaped(text: &mut Vec<u8>, word: &[u8]) -> Result<(), AllocError>
     Ok(())
 }
 
-// A line for a word, behind what says how it is meant.
+// A line for a word, after the mark that says how it is meant.
 fn append_line(text: &mut Vec<u8>, mark: u8, word: &[u8]) -> Result<(), AllocError>
     ensures { OnOk result (text.new.items ≡ text.old.items ++ marked_line mark word.now) }
 {
@@ -155,7 +155,7 @@ fn program_name(program: Program) -> &'static [u8]
     }
 }
 
-// A name, and a byte behind it.
+// A name, and a byte after it.
 fn append_name(text: &mut Vec<u8>, name: &[u8], end: u8) -> Result<(), AllocError>
     ensures { OnOk result (text.new.items ≡ text.old.items ++ named name.now end) }
 {
@@ -228,7 +228,7 @@ fn append_request(text: &mut Vec<u8>, request: &Request<'_>) -> Result<(), Alloc
     }
 }
 
-/// The text of a request. It names no program but those of `Program`, and a line end in a word doesn't end its line.
+/// The text of a request. It names no program but the five of `Program`, and a line end in a word doesn't end its line.
 pub fn request_text(alloc: Global, request: &Request<'_>) -> Result<Vec<u8>, AllocError>
     ensures { IfOk result (λ text. text.items ≡ request_lines request.now) }
 {

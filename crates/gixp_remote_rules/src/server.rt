@@ -24,7 +24,7 @@ pub(crate) const LOCAL_VARIABLES: &[&str] = &[
     "GIT_COMMON_DIR",
 ];
 
-// A byte between single quotes: one that a shell would read there is written outside of them, behind a backslash.
+// A byte between single quotes: one that a shell would read there is written outside of them, after a backslash.
 fn append_quoted(text: &mut Vec<u8>, byte: u8) -> Result<(), AllocError>
     ensures { OnOk result (text.new.items ≡ text.old.items ++ quoted_byte byte) }
 {

@@ -14,7 +14,7 @@ use std::alloc::{AllocError, Global};
 /// A kind of ssh, by the options that it takes.
 #[derive(Clone, Copy, Debug, PartialEq, Eq)]
 pub enum Variant {
-    /// It isn't known: `ssh -G` tells whether it is OpenSSH.
+    /// It isn't known: `ssh -G` shows whether it is OpenSSH.
     Auto,
     /// A host and a command alone.
     Simple,
@@ -162,7 +162,7 @@ fn first_words(
     }
 }
 
-// The option that a port stands behind.
+// The option that a port follows.
 fn port_option(variant: Variant) -> Option<&'static [u8]>
     ensures { option_map (λ w. w.now) result ≡ port_option variant }
 {
@@ -173,7 +173,7 @@ fn port_option(variant: Variant) -> Option<&'static [u8]>
     }
 }
 
-/// The options behind the name of ssh, and the host. None where the kind takes no port and there is one.
+/// The options after the name of ssh, and the host. None where the kind takes no port and there is one.
 ///
 /// # Errors
 ///

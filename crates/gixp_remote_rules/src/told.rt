@@ -1,4 +1,4 @@
-//! What git is told of a batch that was fetched (gitremote-helpers, "fetch").
+//! The reply to git after a batch was fetched (gitremote-helpers, "fetch").
 ghost use Rattle.std.specs.Prelude.{◌≡◌, ◌++◌, IfOk, OnOk};
 ghost use Rattle.std.specs.Option.{option_map};
 ghost use Rattle.gixp_remote_rules.specs.Choosing.{chosen};
@@ -45,8 +45,8 @@ fn append_closed(text: &mut Vec<u8>, is_closed: bool) -> Result<(), AllocError>
     Ok(())
 }
 
-/// The lines behind a batch: the lock of the pack, where one is kept, and that all is there that what came leads to, where that
-/// was found out.
+/// The lines after a batch: the lock of the pack, where one is kept, and `connectivity-ok` where that was found out: all is there
+/// that what came leads to.
 ///
 /// # Errors
 ///

@@ -213,7 +213,7 @@ pub fn object_check(alloc: Global, choices: &Choices, list: &[u8]) -> Result<Vec
     }
 }
 
-// A byte of a path in quotes: a quote and a backslash stand behind a backslash.
+// A byte of a path in quotes: a quote and a backslash stand after a backslash.
 fn append_in_quotes(text: &mut Vec<u8>, byte: u8) -> Result<(), AllocError>
     ensures { OnOk result (text.new.items ≡ text.old.items ++ escaped_in_quotes byte) }
 {
@@ -236,7 +236,7 @@ fn in_quotes(alloc: Global, path: &[u8]) -> Result<Vec<u8>, AllocError>
     Ok(text)
 }
 
-// What is there already of a list, behind a colon.
+// What is there already of a list, after a colon.
 fn behind_colon(alloc: Global, more: Option<&[u8]>) -> Result<Vec<u8>, AllocError>
     ensures { IfOk result (λ text. text.items ≡ behind_colon (option_map (λ m. m.now) more.entry)) }
 {

@@ -229,7 +229,7 @@ fn start_with(
     }
 }
 
-// What a server that listens is told first.
+// What is sent first to a server that listens.
 fn opening_of(reach: Reach<'_>) -> Result<Option<Opening>, Trouble> {
     let alloc = reach.rt.alloc();
     if reach.address.transport != Transport::Git {

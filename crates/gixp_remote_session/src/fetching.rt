@@ -26,7 +26,7 @@ use std::io::ErrorKind;
 /// A session that may be there.
 pub(crate) type Open<'a> = Option<Session<'static, Wire<'a>>>;
 
-// How one fetch goes on, once git has told where the repository is.
+// How one fetch goes on, once it is known where the repository is.
 #[derive(Clone, Copy)]
 struct Plan<'a, 'b, 'c, 'd> {
     order: Order<'a, 'b>,
@@ -171,7 +171,7 @@ fn settle<'a>(
     Ok(came)
 }
 
-/// What git is told of a fetch.
+/// What is reported to git of a fetch.
 #[derive(Drop)]
 pub(crate) struct Fetched {
     /// The lock of the pack.

@@ -23,8 +23,8 @@ use crate::trouble::Trouble;
 use std::process::ExitCode;
 
 /// Speaks with git on standard input and output, in the folder of the shell's pipes, whose files `url` and `name` have the URL and
-/// the name that git has for the server; the word behind the program's name is the folder's name. The status is 0, or 128 where
-/// something was refused, which a sentence on standard error says.
+/// the name that git has for the server; the word after the program's name is the folder's name. The status is 0, or 128 where
+/// something failed, which a sentence on standard error says.
 pub fn run(rt: &HostRuntime) -> ExitCode {
     match converse(rt) {
         Ok(()) => ExitCode::SUCCESS,

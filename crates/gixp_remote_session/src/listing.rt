@@ -86,7 +86,7 @@ fn append_object(
     }
 }
 
-// The lines of a ref. A symbolic ref is told by its target where that holds an object itself, else by what it leads to.
+// The lines of a ref. A symbolic ref is listed by its target where that holds an object itself, else by what it leads to.
 fn append_ref(text: &mut Vec<u8>, found: &Ref, by_target: bool) -> Result<(), AllocError>
     ensures { OnOk result (text.new.items ≡ text.old.items ++ ref_lines by_target found.now) }
 {
@@ -124,7 +124,7 @@ fn is_held(found: &Ref, holders: &[BString]) -> bool {
     }
 }
 
-/// What git is told of the refs.
+/// The listing of the refs for git.
 #[derive(Drop)]
 pub(crate) struct RefsTold {
     /// The lines.
@@ -133,7 +133,7 @@ pub(crate) struct RefsTold {
     pub(crate) funny: Vec<BString>,
 }
 
-/// The lines of the refs, with the hash function where git asks for it, and the empty line behind them.
+/// The lines of the refs, with the hash function where git asks for it, and the empty line after them.
 pub(crate) fn refs_told(
     alloc: Global,
     refs: &[Ref],

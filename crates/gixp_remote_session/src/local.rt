@@ -1,4 +1,4 @@
-//! The repository that fetches, as git tells of it.
+//! The repository that fetches, as git shows it.
 use crate::shell::Shell;
 use crate::trouble::Trouble;
 use bstr::ByteSlice;
@@ -73,12 +73,12 @@ impl Places {
     }
 }
 
-// What was refused in a text of git's.
+// What can't be read in a text of git's.
 fn unread(_e: TextError) -> Trouble {
     Trouble::Other("the repository can't be read")
 }
 
-// The objects that refs hold, by the lines of `git show-ref -d`: behind a tag comes the object that it leads to.
+// The objects that refs hold, by the lines of `git show-ref -d`: after a tag comes the object that it leads to.
 fn objects_of(alloc: Global, text: &[u8]) -> Result<StoredObjects, Trouble> {
     let mut objects = StoredObjects::new(alloc);
     let mut behind_tag = false;

@@ -19,7 +19,7 @@ use std::fs::{File, OpenOptions};
 use std::io::{ErrorKind, Read, Write};
 use std::{fs, io};
 
-/// What git is told of the pack, and where it is put.
+/// What is reported to git of the pack, and where it is put.
 #[derive(Drop)]
 pub(crate) struct PackPlan {
     /// The folder in which it is indexed.

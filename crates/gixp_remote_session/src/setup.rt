@@ -1,4 +1,4 @@
-//! What the helper is told when it begins: the URL, variables and settings.
+//! What the helper begins with: the URL, variables and settings.
 ghost use Rattle.std.specs.Prelude.{◌≡◌};
 ghost use Rattle.std.specs.Option.{option_map};
 ghost use Rattle.gixp_remote_session.specs.Version.{protocol_of, version_word};

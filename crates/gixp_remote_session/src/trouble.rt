@@ -8,7 +8,7 @@ use std::fmt::Display;
 use std::io::ErrorKind;
 use std::{fmt, io};
 
-/// What was refused.
+/// What failed.
 #[derive(Debug, Drop)]
 pub(crate) enum Trouble {
     /// A step of the session, or a file.
@@ -23,7 +23,7 @@ pub(crate) enum Trouble {
     Other(&'static str),
     /// The same, as git would say it.
     Fatal(&'static str),
-    /// A program that was started told why.
+    /// A program that was started said why.
     Told,
     /// A web server that speaks no version 2, and has no refs.
     NoRefs,

@@ -8,7 +8,7 @@ use std::io::{BufRead, Write};
 pub(crate) const NO_VERSION_2: &str =
     "the server doesn't speak version 2 of the protocol, and over HTTP no other is spoken here";
 
-// A line that the program answers. Where it ended instead, it told why.
+// A line that the program answers. Where it ended instead, it said why.
 fn reply<R: BufRead>(alloc: Global, from: &mut R) -> Result<Vec<u8>, Trouble> {
     let mut line = Vec::new(alloc);
     from.read_until(b'\n', &mut line)?;
