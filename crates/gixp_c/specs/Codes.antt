@@ -1,5 +1,7 @@
 -- The number of each outcome, as the header has it.
 use Rattle.std.specs.Prelude.{ℕ}
+use Rattle.gixp_refspec.specs.declared.parse.Error.{Error as SpecError}
+use Rattle.gixp_refspec.specs.declared.parse.Error.TheVariants.{NegativeWithDestination, NegativeObjectHash, NegativePartialName, PatternUnbalanced, PatternUnsupported, InvalidName}
 use Rattle.gixp_packetline.specs.declared.packet.PacketError.TheVariants.{HexDecode, DataLengthLimitExceeded, DataIsEmpty, InvalidLineLength}
 use Rattle.gixp_records.specs.declared.advertised.AdvertisedEnd.{AdvertisedEnd}
 use Rattle.gixp_records.specs.declared.advertised.AdvertisedEnd.TheVariants.{Full as FullAdvertised, Stop as StopAdvertised, Refused as RefusedAdvertised}
@@ -7,6 +9,12 @@ use Rattle.gixp_records.specs.declared.advertised.refused.AdvertisedLineRefused.
 use Rattle.gixp_records.specs.declared.advertised.refused.AdvertisedLineRefused.TheVariants.{Id as BadId, Malformed as BadLine, Peeled, Symref}
 use Rattle.gixp_records.specs.declared.advertised.refused.AdvertisedRefused.{AdvertisedRefused}
 use Rattle.gixp_records.specs.declared.advertised.refused.AdvertisedRefused.TheVariants.{Packet as NoPacket, Line as NoLine, NoCapabilities, VersionTwo, UnknownVersion, Memory}
+use Rattle.gixp_records.specs.declared.spec_text.SpecsRefused.{SpecsRefused}
+use Rattle.gixp_records.specs.declared.spec_text.SpecsRefused.TheVariants.{Spec as NoSpecs, Memory as NoSpecMemory}
+use Rattle.gixp_records.specs.declared.mapped_refs.MapEnd.{MapEnd}
+use Rattle.gixp_records.specs.declared.mapped_refs.MapEnd.TheVariants.{Mapped, Conflicts, NoRoom}
+use Rattle.gixp_records.specs.declared.mapped_refs.MapRefused.{MapRefused}
+use Rattle.gixp_records.specs.declared.mapped_refs.MapRefused.TheVariants.{Place, Spec as NoMapSpec, Memory as NoMapMemory}
 use Rattle.gixp_records.specs.declared.line.LineRefused.{LineRefused}
 use Rattle.gixp_records.specs.declared.line.LineRefused.TheVariants.{Id, Malformed as MalformedLine, UnknownAttribute, Unborn}
 use Rattle.gixp_records.specs.declared.packets.PacketRefused.{PacketRefused}
@@ -61,3 +69,28 @@ abbrev pub advertised_end_code : AdvertisedEnd → ℕ
 advertised_end_code StopAdvertised = 0
 advertised_end_code FullAdvertised = 1
 advertised_end_code (RefusedAdvertised e) = advertised_code e
+
+abbrev pub spec_code : SpecError → ℕ
+spec_code NegativeWithDestination = 32
+spec_code NegativeObjectHash = 33
+spec_code NegativePartialName = 34
+spec_code PatternUnbalanced = 35
+spec_code PatternUnsupported = 36
+spec_code InvalidName = 37
+
+-- why a text has no refspecs
+abbrev pub specs_code : SpecsRefused → ℕ
+specs_code (NoSpecs e) = spec_code e
+specs_code NoSpecMemory = 4
+
+-- how refs were mapped
+abbrev pub map_end_code : MapEnd → ℕ
+map_end_code Mapped = 0
+map_end_code Conflicts = 51
+map_end_code NoRoom = 2
+
+-- why none were
+abbrev pub map_refused_code : MapRefused → ℕ
+map_refused_code Place = 3
+map_refused_code (NoMapSpec e) = spec_code e
+map_refused_code NoMapMemory = 4

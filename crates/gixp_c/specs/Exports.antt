@@ -1,5 +1,13 @@
 -- What the exports say, over the contracts of what they call.
-use Rattle.std.specs.Prelude.{◌≡◌, ◌⊎◌, ◌≤◌, ◌<◌, ℕ, List, [], length, Ok, Err}
+use Rattle.std.specs.Prelude.{◌≡◌, ◌⊎◌, ◌≤◌, ◌<◌, ◌++◌, ℕ, Bool, true, false, List, [], length, drop, Ok, Err}
+use Rattle.gixp_text.specs.Lines.{text_lines}
+use Rattle.gixp_refspec.specs.Spec.{Spec}
+use Rattle.gixp_records.specs.declared.mapped_refs.MapEnd.{MapEnd}
+use Rattle.gixp_records.specs.declared.mapped_refs.MapRefused.{MapRefused}
+use Rattle.gixp_records.specs.declared.spec_text.SpecsRefused.{SpecsRefused}
+use Rattle.gixp_records.specs.MapRecords.{MapsRecords}
+use Rattle.gixp_records.specs.SpecText.{specs_of_lines, prefix_lines, TellsPrefixes}
+use Rattle.gixp_records.specs.Told.{MapBuffers}
 use Rattle.gixp_records.specs.declared.advertised.AdvertisedEnd.{AdvertisedEnd}
 use Rattle.gixp_records.specs.declared.advertised.AdvertisedEnd.TheVariants.{Refused as RefusedAdvertised}
 use Rattle.gixp_records.specs.declared.advertised.AdvertisedFound.{AdvertisedFound}
@@ -19,7 +27,7 @@ use Rattle.gixp_records.specs.Refs.{ReadsRecords}
 use Rattle.gixp_records.specs.AdvertisedRecords.{ReadsAdvertised}
 use Rattle.gixp_c.specs.declared.refs.FoundRecord.{FoundRecord}
 use Rattle.gixp_c.specs.declared.bands.PieceRecord.{PieceRecord}
-use Rattle.gixp_c.specs.Codes.{packet_code, end_code, advertised_end_code}
+use Rattle.gixp_c.specs.Codes.{packet_code, end_code, advertised_end_code, map_end_code, map_refused_code, specs_code}
 
 -- where there is no text
 abbrev pub no_span : Span
@@ -83,3 +91,32 @@ pub data ExportsPiece (answer : List ℕ) (from : ℕ) (old : PieceRecord) (code
       → new ≡ record { band = piece_band piece; text = piece_text piece; next = next } → ExportsPiece answer from old code new
   refused : (e : PacketRefused) → from ≤ length answer → IsNextPiece answer from (Err e) → code ≡ packet_code e
       → new ≡ refused_piece e old → ExportsPiece answer from old code new
+
+-- the refs of records were mapped by the refspecs of a text, or there is too little room, or nothing is mapped
+pub data ExportsMap (answer : List ℕ) (refs : List RefRecord) (text : List ℕ) (old : MapBuffers) (code : ℕ)
+    (new : MapBuffers) : Type 0 where
+  maps : (end : MapEnd) → MapsRecords answer refs (text_lines text) old new (Ok end) → code ≡ map_end_code end
+      → ExportsMap answer refs text old code new
+  maps_not : (e : MapRefused) → MapsRecords answer refs (text_lines text) old new (Err e) → code ≡ map_refused_code e
+      → ExportsMap answer refs text old code new
+
+-- a text is put to the front of a buffer
+abbrev pub put : List ℕ → List ℕ → List ℕ
+put text buffer = text ++ drop (length text) buffer
+
+-- a text is put to the front of a buffer, or has too little room there, by whether it has room
+abbrev pub PutsBy : List ℕ → List ℕ → List ℕ → Bool → Type 0
+PutsBy text old new true = (length text ≤ length old) × (new ≡ put text old)
+PutsBy text old new false = (length old < length text) × (new ≡ old)
+
+-- a text is put to the front of a buffer, and how long it is is told; or it has too little room there, and only its length is told
+abbrev pub PutsText : List ℕ → List ℕ → ℕ → List ℕ → ℕ → Type 0
+PutsText text old code new now = (now ≡ length text)
+    × (((code ≡ 0) × PutsBy text old new true) ⊎ ((code ≡ 2) × PutsBy text old new false))
+
+-- the prefixes of a text's refspecs are in the buffer, or it has too little room for them, or there are none
+pub data ExportsPrefixes (text old : List ℕ) (was code : ℕ) (new : List ℕ) (now : ℕ) : Type 0 where
+  prefixes : (specs : List Spec) → specs_of_lines (text_lines text) ≡ Ok specs → PutsText (prefix_lines specs) old code new now
+      → ExportsPrefixes text old was code new now
+  no_prefixes : (e : SpecsRefused) → TellsPrefixes (text_lines text) (Err e) → code ≡ specs_code e → new ≡ old → now ≡ was
+      → ExportsPrefixes text old was code new now

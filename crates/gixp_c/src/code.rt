@@ -1,6 +1,6 @@
 //! The number of each outcome.
 ghost use Rattle.std.specs.Prelude.{◌≡◌, ◌<◌};
-ghost use Rattle.gixp_c.specs.Codes.{packet_code, line_code, refs_code, advertised_line_code, advertised_code};
+ghost use Rattle.gixp_c.specs.Codes.{packet_code, line_code, refs_code, advertised_line_code, advertised_code, spec_code};
 
 use gix_protocol::fetch::{self, refmap, response};
 use gix_protocol::handshake;
@@ -97,7 +97,8 @@ pub(crate) fn advertised_code(e: AdvertisedRefused) -> u32
 
 // Of a refspec.
 pub(crate) fn spec_code(e: &parse::Error) -> u32
-    ensures { 2 < result }
+    ensures code { result ≡ spec_code e.now }
+    ensures high { 2 < result }
 {
     match e {
         parse::Error::NegativeWithDestination => 32,

@@ -1,17 +1,18 @@
 //! The mappings of refspecs over refs, and their prefixes.
-ghost use Rattle.std.specs.Prelude.{◌≡◌, ◌<◌, length};
+ghost use Rattle.std.specs.Prelude.{◌≡◌};
+ghost use Rattle.gixp_records.specs.Told.{buffers};
+ghost use Rattle.gixp_c.specs.Exports.{ExportsMap, ExportsPrefixes};
+ghost use Rattle.gixp_c.specs.Codes.{map_end_code, map_refused_code, specs_code};
 
 use crate::code::{BAD_PLACE, CONFLICT, NO_MEMORY, NO_ROOM, OK, spec_code};
-use crate::texts::copy_text;
-use bstr::{BStr, BString};
-use gix_protocol::refspec::match_group::validate::{Fix, Issue};
-use gix_protocol::refspec::match_group::{Item, Mapping};
-use gix_protocol::refspec::parse::{Error as SpecError, Operation, parse};
-use gix_protocol::refspec::{MatchGroup, RefSpecRef};
-use gix_protocol::transport::ObjectId;
-use gixp_records::{RefRecord, Span};
-use std::alloc::{AllocError, AllocFailed, Global};
+use crate::texts::put_text;
+use gixp_records::{
+    MapEnd, MapRefused, MappedRecord, MappingRecord, RefRecord, SpecsRefused, map_records,
+    prefix_text,
+};
+use std::alloc::Global;
 
+<<<<<<< HEAD
 /// A mapping, or one that was taken out, or a conflict.
 #[repr(C)]
 #[derive(Clone, Copy)]
@@ -55,19 +56,31 @@ impl From<AllocError> for MapRefused {
 
     fn from(_e: AllocError) -> MapRefused {
         MapRefused::Memory
+=======
+// How refs were mapped.
+fn end_code(end: MapEnd) -> u32
+    ensures { result ≡ map_end_code end }
+{
+    match end {
+        MapEnd::Mapped => OK,
+        MapEnd::Conflicts => CONFLICT,
+        MapEnd::NoRoom => NO_ROOM,
+>>>>>>> 553d5784126207b156e4290b0e35121a83141b26
     }
 }
 
-impl<T: Drop> From<AllocFailed<T>> for MapRefused {
-    ghost use Rattle.gixp_c.specs.declared.map.MapRefused.TheVariants.{Memory};
-
-    ghost from_gives = { λ _ error. error ≡ Memory };
-
-    fn from(_e: AllocFailed<T>) -> MapRefused {
-        MapRefused::Memory
+// Why none were.
+fn refused_code(e: MapRefused) -> u32
+    ensures { result ≡ map_refused_code e }
+{
+    match e {
+        MapRefused::Place => BAD_PLACE,
+        MapRefused::Spec(e) => spec_code(&e),
+        MapRefused::Memory => NO_MEMORY,
     }
 }
 
+<<<<<<< HEAD
 // The refspecs of a text, one on each line.
 fn specs_in<'a>(alloc: Global, text: &'a [u8]) -> Result<Vec<RefSpecRef<'a>>, MapRefused> {
     let mut specs = Vec::new(alloc);
@@ -297,6 +310,15 @@ fn map_records(
             )
         }
         Err(e) => tell_conflicts(alloc, &e.issues, specs.len(), records, names, counts),
+=======
+// Why there are no refspecs.
+fn specs_code(e: SpecsRefused) -> u32
+    ensures { result ≡ specs_code e }
+{
+    match e {
+        SpecsRefused::Spec(e) => spec_code(&e),
+        SpecsRefused::Memory => NO_MEMORY,
+>>>>>>> 553d5784126207b156e4290b0e35121a83141b26
     }
 }
 
@@ -315,15 +337,17 @@ pub extern "C" fn gixp_map(
     mappings: &mut [MappingRecord],
     names: &mut [u8],
     counts: &mut MappedRecord,
-) -> u32 {
+) -> u32
+    ensures { ExportsMap answer.now refs.now specs.now (buffers mappings.old names.old counts.old)
+        result (buffers mappings.new names.new counts.new) }
+{
     match map_records(alloc, answer, refs, specs, mappings, names, counts) {
-        Ok(code) => code,
-        Err(MapRefused::Place) => BAD_PLACE,
-        Err(MapRefused::Spec(e)) => spec_code(&e),
-        Err(MapRefused::Memory) => NO_MEMORY,
+        Ok(end) => end_code(end),
+        Err(e) => refused_code(e),
     }
 }
 
+<<<<<<< HEAD
 // The prefixes of refspecs, each with an LF after it.
 fn prefix_text(alloc: Global, text: &[u8]) -> Result<Vec<u8>, MapRefused> {
     let specs = specs_in(alloc, text)?;
@@ -340,6 +364,9 @@ fn prefix_text(alloc: Global, text: &[u8]) -> Result<Vec<u8>, MapRefused> {
 }
 
 /// Writes the prefixes that a server is asked for, for refspecs which stand one on a line, each with an LF after it, and how
+=======
+/// Writes the prefixes that a server is asked for, for refspecs which stand one on a line, each with an LF behind it, and how
+>>>>>>> 553d5784126207b156e4290b0e35121a83141b26
 /// long they are (gitprotocol-v2, `ref-prefix`).
 ///
 /// 0 where they are in the buffer. 2 where that has too little room: only the length is written. 4 where an allocation failed, and
@@ -351,20 +378,10 @@ pub extern "C" fn gixp_prefixes(
     buffer: &mut [u8],
     len: &mut usize,
 ) -> u32
-    ensures no_room { result ≡ 2 → (buffer.new ≡ buffer.old) × (length buffer.old < len.new) }
-    ensures refused { 2 < result → (buffer.new ≡ buffer.old) × (len.new ≡ len.old) }
+    ensures { ExportsPrefixes specs.now buffer.old len.old result buffer.new len.new }
 {
     match prefix_text(alloc, specs) {
-        Ok(text) => {
-            *len = text.len();
-            if copy_text(&text, buffer) {
-                OK
-            } else {
-                NO_ROOM
-            }
-        }
-        Err(MapRefused::Place) => BAD_PLACE,
-        Err(MapRefused::Spec(e)) => spec_code(&e),
-        Err(MapRefused::Memory) => NO_MEMORY,
+        Ok(text) => put_text(text.as_slice(), buffer, len),
+        Err(e) => specs_code(e),
     }
 }

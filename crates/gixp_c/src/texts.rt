@@ -1,6 +1,7 @@
 //! The text of each number.
 ghost use Rattle.std.specs.Prelude.{◌≡◌, ◌<◌, ◌≤◌, ◌++◌, ℕ, List, ◌↔◌, IsTrue, false, length, drop};
 ghost use Rattle.std.specs.Bool.{OnTrue};
+ghost use Rattle.gixp_c.specs.Exports.{PutsBy, PutsText};
 
 use crate::code::{NO_ROOM, OK};
 
@@ -59,6 +60,7 @@ fn text_of(code: u32) -> &'static str {
 pub(crate) fn copy_text(text: &[u8], buffer: &mut [u8]) -> bool
     ensures fits { OnTrue result (buffer.new ≡ text.now ++ drop (length text.now) buffer.old) }
     ensures short { result ≡ false → buffer.new ≡ buffer.old }
+    ensures puts { PutsBy text.now buffer.old buffer.new result }
     ensures room { IsTrue result ↔ (length text.now ≤ length buffer.old) }
 {
     if text.len() > buffer.len() {
@@ -66,6 +68,14 @@ pub(crate) fn copy_text(text: &[u8], buffer: &mut [u8]) -> bool
     }
     buffer[..text.len()].copy_from_slice(text);
     true
+}
+
+// Puts a text to the front of a buffer, and tells how long it is.
+pub(crate) fn put_text(text: &[u8], buffer: &mut [u8], len: &mut usize) -> u32
+    ensures { PutsText text.now buffer.old result buffer.new len.new }
+{
+    *len = text.len();
+    if copy_text(text, buffer) { OK } else { NO_ROOM }
 }
 
 /// Writes the text of a number that an export returned to the front of a buffer, and how long it is.
