@@ -1,5 +1,5 @@
 //! A session with a server: the handshake, the refs or a ref map, and the fetch.
-ghost use Rattle.std.specs.Prelude.{◌≡◌, ◌≤◌, None, Ok, Err, IfOk, IfErr, IfSome, IfNone, IsOk, MatchOption};
+ghost use Rattle.std.specs.Prelude.{◌≡◌, ◌≤◌, ◌<◌, None, Ok, Err, IfOk, IfErr, IfSome, IfNone, IsOk, OnOk, MatchOption, is_some, true};
 ghost use Rattle.std.specs.Option.{option_map};
 ghost use Rattle.bstr.specs.Owned.{bstring_bytes};
 ghost use Rattle.gixp_fetch_local.specs.Unshallowed.{unknown_unshallow};
@@ -68,6 +68,10 @@ pub struct How {
 }
 
 // What is sent to the server first, where it needs a path.
+/// How many refspecs there may be for the server to be sent their prefixes (gitprotocol-v2, "ls-refs"). It compares each ref that one
+/// of them leads to with all of them, so from some 2,000 on that takes longer than to list 50,000 refs.
+pub const MOST_PREFIXED: usize = 2048;
+
 fn opening_of(alloc: Global, server: &Server<'_>) -> Result<Option<Opening>, AllocError>
     ensures path { IfOk result (λ opening. option_map (λ o. bstring_bytes o.path) opening
         ≡ option_map (λ w. w.now) server.now.path) }
@@ -340,10 +344,24 @@ impl<'a, T: Transport> Session<'a, T> {
             && (self.version() == Protocol::V2 || self.shaken.capabilities.contains(b"no-progress"))
     }
 
+    // Lists all refs of the server where there are so many refspecs: the map is made of refs that are here, and no prefix is sent.
+    fn list_for<P: Progress>(&mut self, count: usize, shown: &mut P) -> Result<(), Failure>
+        ensures few { count ≤ MOST_PREFIXED → (result ≡ Ok tt) × (self.new ≡ self.old) }
+        ensures many { MOST_PREFIXED < count → OnOk result (is_some self.new.shaken.refs ≡ true) }
+    {
+        if count <= MOST_PREFIXED {
+            return Ok(());
+        }
+        let refs = self.refs(shown)?;
+        self.shaken.refs = Some(refs);
+        Ok(())
+    }
+
     /// What the refspecs map of the refs of the server.
     pub fn map<P: Progress>(&mut self, wish: &Wish<'_>, shown: &mut P) -> Result<RefMap, Failure> {
         let alloc = self.alloc;
         let specs = specs_of(alloc, wish)?;
+        self.list_for(wish.specs.len(), shown)?;
         let name = self.name()?;
         let result = obtain(
             alloc,
