@@ -9,5 +9,6 @@ pub returns-in-Some-strip_suffix : goal.returns-in-Some-strip_suffix
 returns-in-Some-strip_suffix c =
     c.in-Some.ensures.cases.0
     ∙ (ap (λ l. l ++ c.in-Some.end.now ∷ [])
-    (strip_suffix_is Decides-eqb c.in-Some.front.now (codes "        ") (Some c.in-Some-strip_suffix.text) c.in-Some-strip_suffix.ensures.cases)
+    (strip_suffix_is Decides-eqb c.in-Some.front.now (codes "        ") (Some c.in-Some-strip_suffix.text)
+    c.in-Some-strip_suffix.ensures.cases)
     ∙ append_assoc c.in-Some-strip_suffix.text.now (codes "        ") (c.in-Some.end.now ∷ []))
