@@ -1,4 +1,6 @@
 //! The connection with a server: two pipes, over which it says packet lines, or answers that each have an end of their own.
+ghost use Rattle.std.specs.Prelude.{◌≡◌, ◌++◌, ◌∷◌, [], codes, IfSome};
+
 use crate::bounded::Bounded;
 use bstr::BStr;
 use gix_protocol::client::{Heard, Listener, RemoteLines};
@@ -40,7 +42,9 @@ pub(crate) struct StandardError<'a> {
 }
 
 // A line without the blanks that are to go over the rest of an older one, and its end.
-fn without_blanks(line: &[u8]) -> Option<(&[u8], u8)> {
+fn without_blanks(line: &[u8]) -> Option<(&[u8], u8)>
+    ensures { IfSome result (λ cut. line.now ≡ cut.0.now ++ (codes "        " ++ cut.1 ∷ [])) }
+{
     let Some((end, front)) = line.split_last() else {
         return None;
     };
