@@ -1,5 +1,5 @@
 //! Where the pack goes: git indexes it in a folder for objects of its own, and it is put beside the others once it is wanted.
-ghost use Rattle.std.specs.Prelude.{⊤};
+ghost use Rattle.std.specs.Prelude.{◌≡◌, ⊤, true, false};
 
 use crate::bounded::Bounds;
 use crate::local::Places;
@@ -34,6 +34,20 @@ pub(crate) struct PackPlan {
     pub(crate) old: Vec<ObjectId>,
     /// The variables that make git look into that folder.
     pub(crate) variables: Vec<BString>,
+}
+
+impl PackPlan {
+    // The words of `git index-pack`, by whether the server named a boundary.
+    fn words_by(&self, is_bounded: bool) -> &[BString]
+        ensures bounded { is_bounded ≡ true → result.now ≡ self.now.bounded_words.items }
+        ensures unbounded { is_bounded ≡ false → result.now ≡ self.now.words.items }
+    {
+        if is_bounded {
+            &self.bounded_words
+        } else {
+            &self.words
+        }
+    }
 }
 
 // Words once more.
@@ -216,11 +230,7 @@ impl<'a> IndexedPack<'a> {
             .ask(&Request::Folder(self.plan.folder.as_bytes()))?;
         fs::create_dir_all(&self.rt, self.plan.folder.as_str())?;
         self.is_bounded = self.write_boundary()?;
-        let words = if self.is_bounded {
-            &self.plan.bounded_words
-        } else {
-            &self.plan.words
-        };
+        let words = self.plan.words_by(self.is_bounded);
         self.shell.ask(&Request::Start(Start {
             task: Task::Pack,
             program: Program::Git,
