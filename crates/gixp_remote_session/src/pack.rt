@@ -113,11 +113,11 @@ impl PackPlan {
 
 /// A pack that git indexes as it comes.
 #[derive(Drop)]
-pub(crate) struct IndexedPack<'a> {
+pub(crate) struct IndexedPack<'a, 'b> {
     rt: HostRuntime,
     shell: &'a mut Shell,
     plan: PackPlan,
-    bounds: &'a RefCell<Bounds>,
+    bounds: &'b RefCell<Bounds>,
     /// What git says of the pack, once it is begun.
     told: Option<File>,
     /// Whether the server named a boundary before it.
@@ -190,14 +190,14 @@ impl Write for PackWriter {
     }
 }
 
-impl<'a> IndexedPack<'a> {
+impl<'a, 'b> IndexedPack<'a, 'b> {
     /// Before a pack comes.
     pub(crate) fn new(
         rt: HostRuntime,
         shell: &'a mut Shell,
         plan: PackPlan,
-        bounds: &'a RefCell<Bounds>,
-    ) -> IndexedPack<'a> {
+        bounds: &'b RefCell<Bounds>,
+    ) -> IndexedPack<'a, 'b> {
         shell.pack = PackState::Unbegun;
         IndexedPack {
             rt,
@@ -263,7 +263,7 @@ impl<'a> IndexedPack<'a> {
     }
 }
 
-impl PackPlace for IndexedPack<'_> {
+impl PackPlace for IndexedPack<'_, '_> {
     type Writer = PackWriter;
 
     ghost begins = { λ p w q. ⊤ };
