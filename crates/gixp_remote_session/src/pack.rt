@@ -50,6 +50,20 @@ impl PackPlan {
     }
 }
 
+// Has git started that indexes the pack.
+fn start_git(shell: &mut Shell, variables: &[BString], words: &[BString]) -> Result<(), Trouble> {
+    let start = Start {
+        task: Task::Pack,
+        program: Program::Git,
+        input: "pack",
+        output: "kept",
+        variables,
+        words,
+    };
+    shell.ask(&Request::Start(start))?;
+    Ok(())
+}
+
 // Words once more.
 fn copied(alloc: Global, words: &[BString]) -> Result<Vec<BString>, Trouble> {
     let mut all = Vec::new(alloc);
@@ -231,14 +245,7 @@ impl<'a, 'b> IndexedPack<'a, 'b> {
         fs::create_dir_all(&self.rt, self.plan.folder.as_str())?;
         self.is_bounded = self.write_boundary()?;
         let words = self.plan.words_by(self.is_bounded);
-        self.shell.ask(&Request::Start(Start {
-            task: Task::Pack,
-            program: Program::Git,
-            input: "pack",
-            output: "kept",
-            variables: &self.plan.variables,
-            words,
-        }))?;
+        start_git(self.shell, &self.plan.variables, words)?;
         let writer = OpenOptions::new().write(true).open(&self.rt, "pack")?;
         self.told = Some(File::open(&self.rt, "kept")?);
         self.shell.pack = PackState::Begun;
