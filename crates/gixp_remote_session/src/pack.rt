@@ -36,18 +36,16 @@ pub(crate) struct PackPlan {
     pub(crate) variables: Vec<BString>,
 }
 
-impl PackPlan {
-    // The words of `git index-pack`, by whether the server named a boundary.
-    fn words_by(&self, is_bounded: bool) -> &[BString]
-        ensures bounded { is_bounded ≡ true → result.now ≡ self.now.bounded_words.items }
-        ensures unbounded { is_bounded ≡ false → result.now ≡ self.now.words.items }
-    {
-        if is_bounded {
-            &self.bounded_words
-        } else {
-            &self.words
-        }
-    }
+// The words of `git index-pack`, by whether the server named a boundary.
+fn words_by<'x>(
+    words: &'x [BString],
+    bounded_words: &'x [BString],
+    is_bounded: bool,
+) -> &'x [BString]
+    ensures bounded { is_bounded ≡ true → result.now ≡ bounded_words.now }
+    ensures unbounded { is_bounded ≡ false → result.now ≡ words.now }
+{
+    if is_bounded { bounded_words } else { words }
 }
 
 // Has git started that indexes the pack.
@@ -244,7 +242,7 @@ impl<'a, 'b> IndexedPack<'a, 'b> {
             .ask(&Request::Folder(self.plan.folder.as_bytes()))?;
         fs::create_dir_all(&self.rt, self.plan.folder.as_str())?;
         self.is_bounded = self.write_boundary()?;
-        let words = self.plan.words_by(self.is_bounded);
+        let words = words_by(&self.plan.words, &self.plan.bounded_words, self.is_bounded);
         start_git(self.shell, &self.plan.variables, words)?;
         let writer = OpenOptions::new().write(true).open(&self.rt, "pack")?;
         self.told = Some(File::open(&self.rt, "kept")?);
