@@ -125,11 +125,11 @@ impl PackPlan {
 
 /// A pack that git indexes as it comes.
 #[derive(Drop)]
-pub(crate) struct IndexedPack<'a, 'b> {
+pub(crate) struct IndexedPack<'a> {
     rt: HostRuntime,
     shell: &'a mut Shell,
     plan: PackPlan,
-    bounds: &'b RefCell<Bounds>,
+    bounds: &'a RefCell<Bounds>,
     /// What git says of the pack, once it is begun.
     told: Option<File>,
     /// Whether the server named a boundary before it.
@@ -202,14 +202,14 @@ impl Write for PackWriter {
     }
 }
 
-impl<'a, 'b> IndexedPack<'a, 'b> {
+impl<'a> IndexedPack<'a> {
     /// Before a pack comes.
     pub(crate) fn new(
         rt: HostRuntime,
         shell: &'a mut Shell,
         plan: PackPlan,
-        bounds: &'b RefCell<Bounds>,
-    ) -> IndexedPack<'a, 'b> {
+        bounds: &'a RefCell<Bounds>,
+    ) -> IndexedPack<'a> {
         shell.pack = PackState::Unbegun;
         IndexedPack {
             rt,
@@ -268,7 +268,7 @@ impl<'a, 'b> IndexedPack<'a, 'b> {
     }
 }
 
-impl PackPlace for IndexedPack<'_, '_> {
+impl PackPlace for IndexedPack<'_> {
     type Writer = PackWriter;
 
     ghost begins = { λ p w q. ⊤ };
