@@ -1,4 +1,2 @@
 pub mod Received
-pub mod Watched
-pub mod Quiet
 pub mod Failures
