@@ -1,2 +1,3 @@
 pub mod Received
 pub mod Failures
+pub mod Asked

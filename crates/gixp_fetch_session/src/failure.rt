@@ -3,15 +3,13 @@ ghost use Rattle.std.specs.Prelude.{◌≡◌, None, option_map, IfOk};
 ghost use Rattle.std.specs.declared.io.ErrorKind.TheVariants.{OutOfMemory};
 ghost use Rattle.std.specs.Io.BufRead.{strip_last};
 ghost use Rattle.bstr.specs.Owned.{bstring_bytes};
-ghost use Rattle.gix_protocol.specs.ClientError.{said_in};
 ghost use Rattle.gixp_fetch_session.specs.Failures.{said_of, TellsStep, TellsStepText, TellsFile, TellsLine, is_said_by_git, speaker_of};
 ghost use Rattle.gixp_fetch_session.specs.declared.failure.Failure.TheVariants.{Memory};
 
 use crate::kinds::words_of;
 use bstr::BString;
-use gix_protocol::client::Error;
 use gix_protocol::fetch::refs::update;
-use gix_protocol::transport::ObjectId;
+use gix_protocol::transport::{ObjectId, ServerMessage};
 use gixp_fetch_local::screened;
 use std::alloc::{AllocError, AllocFailed, Global};
 use std::fmt;
@@ -105,8 +103,8 @@ impl<T: Drop> From<AllocFailed<T>> for Failure {
 
 impl Failure {
     /// A step failed with this error.
-    pub fn of_step(alloc: Global, step: Step, error: &Error) -> Failure
-        ensures { TellsStep step (said_in error.now) result }
+    pub fn of_step<E: Display + ServerMessage>(alloc: Global, step: Step, error: &E) -> Failure
+        ensures { TellsStep step (E.message error.now) result }
     {
         match told(alloc, error) {
             Ok((why, said)) => Failure::Step { step, why, said },
@@ -175,8 +173,11 @@ pub fn front_of(words: &[u8]) -> &[u8]
 }
 
 // The text of an error, and what the server said as it is shown.
-fn told(alloc: Global, error: &Error) -> Result<(String, Option<BString>), AllocError>
-    ensures { IfOk result (λ told. option_map bstring_bytes told.1 ≡ said_of (said_in error.now)) }
+fn told<E: Display + ServerMessage>(
+    alloc: Global,
+    error: &E,
+) -> Result<(String, Option<BString>), AllocError>
+    ensures { IfOk result (λ told. option_map bstring_bytes told.1 ≡ said_of (E.message error.now)) }
 {
     let why = format!(in alloc; "{error}")?;
     let said = match error.server_message() {

@@ -18,7 +18,9 @@ use crate::ends::{Source, Target};
 use crate::failure::Failure;
 use crate::receive::PackReceiver;
 use crate::repository::{Repository, write_boundary};
-use crate::session::{Asked, connect, fetch as fetch_over, map, open, refs, request_of};
+use crate::session::{
+    Asked, connect, fetch as fetch_over, map, open, refs, request_of, set_filter,
+};
 use crate::shown::Shown;
 use crate::usage::{USAGE, VERSION, print_refusal};
 use gix_protocol::client::{Fetched, Listener, Request, Session, Silent};
@@ -235,8 +237,8 @@ fn settle(
     write_boundary(rt, path, old, &boundary)
 }
 
-/// Has objects left out by a filter where the server can do that. Else the user is told that it isn't done, as git does.
-pub fn set_filter<T: Transport + Drop, L: Listener + Drop, S: NestedProgress + Drop>(
+/// Has objects left out by a filter, if there is one, where the server can do that. Else the user is told that it can't, as git does.
+pub fn ask_filter<T: Transport + Drop, L: Listener + Drop, S: NestedProgress + Drop>(
     rt: &HostRuntime,
     session: &Session<T, L, S>,
     request: &mut Request,
@@ -245,9 +247,7 @@ pub fn set_filter<T: Transport + Drop, L: Listener + Drop, S: NestedProgress + D
     let Some(filter) = filter else {
         return Ok(());
     };
-    if session.can_filter()? {
-        request.filter = Some(String::from_str(rt.alloc(), filter)?);
-    } else {
+    if !set_filter(session, request, filter)? {
         let _ = eprintln!(rt; "warning: filtering not recognized by server, ignoring");
     }
     Ok(())
@@ -263,7 +263,7 @@ fn fetch(rt: &HostRuntime, options: &Options<'_>, wish: &Wish<'_>) -> Result<(),
     let mut session = open(alloc, transport, options.server.agent, Silent, shown)?;
     let mut request = request_of(alloc, wish, options.output.shows_progress)?;
     let map = map(alloc, &mut session, &request)?;
-    set_filter(rt, &session, &mut request, options.filter)?;
+    ask_filter(rt, &session, &mut request, options.filter)?;
     if let Some(questions) = options.files.questions {
         repository.ask(rt, questions, &map)?;
     }

@@ -3,6 +3,8 @@
 ghost use Rattle.std.specs.Prelude.{◌≡◌, ◌≤◌, ◌<◌, Ok, IfOk, IfSome, OnOk, is_some, true};
 ghost use Rattle.std.specs.Option.{option_map};
 ghost use Rattle.bstr.specs.Owned.{bstring_bytes};
+ghost use Rattle.gix_protocol.specs.Filters.{offers_filter};
+ghost use Rattle.gixp_fetch_session.specs.Asked.{SetsFilterIf};
 
 use crate::failure::{Failure, Step};
 use crate::receive::PackReceiver;
@@ -93,6 +95,32 @@ pub fn request_of(alloc: Global, wish: &Wish<'_>, wants_progress: bool) -> Resul
     Ok(request)
 }
 
+/// Has objects left out by a filter where the server can do that, and returns whether it can.
+pub fn set_filter<T: Transport + Drop, L: Listener + Drop, S: NestedProgress + Drop>(
+    session: &Session<T, L, S>,
+    request: &mut Request,
+    filter: &str,
+) -> Result<bool, AllocError>
+    ensures offered { IfOk result (λ can. can ≡ offers_filter session.now.shaken) }
+    ensures set { IfOk result (λ can. SetsFilterIf can filter.now request.old request.new) }
+{
+    if !session.can_filter()? {
+        return Ok(false);
+    }
+    match request.set_filter(filter) {
+        Ok(()) => Ok(true),
+        Err(_) => Err(AllocError),
+    }
+}
+
+// What has no sentence of this program's own.
+fn other_failure(alloc: Global, step: Step, error: &Error) -> Failure {
+    match format!(in alloc; "{error}") {
+        Ok(why) => Failure::of_text(alloc, step, why.as_str()),
+        Err(_) => Failure::Memory,
+    }
+}
+
 // Why a call of the session failed within this step.
 fn failure_of(alloc: Global, step: Step, error: &Error) -> Failure {
     if is_left(error) {
@@ -101,14 +129,18 @@ fn failure_of(alloc: Global, step: Step, error: &Error) -> Failure {
             _ => Failure::HungUp,
         };
     }
+    if let Some(why) = sentence_of(error) {
+        return Failure::of_text(alloc, step, why);
+    }
     match error {
-        Error::Memory => Failure::Memory,
+        Error::Handshake(e) => Failure::of_step(alloc, step, e),
+        Error::Refs(e) => Failure::of_step(alloc, step, e),
+        Error::Request(e) => Failure::of_step(alloc, step, e),
+        Error::Answer(e) => Failure::of_step(alloc, step, e),
         Error::UnknownUnshallow { id } => Failure::UnknownUnshallow { id: *id },
         Error::Pack(PackError::Refused(why)) => Failure::of_text(alloc, step, why.as_str()),
-        _ => match sentence_of(error) {
-            Some(why) => Failure::of_text(alloc, step, why),
-            None => Failure::of_step(alloc, step, error),
-        },
+        Error::Memory => Failure::Memory,
+        _ => other_failure(alloc, step, error),
     }
 }
 

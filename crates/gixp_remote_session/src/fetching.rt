@@ -19,7 +19,7 @@ use gixp_fetch_session::failure::Failure;
 use gixp_fetch_session::receive::PackReceiver;
 use gixp_fetch_session::repository::Repository;
 use gixp_fetch_session::session::Asked;
-use gixp_fetch_session::{negotiate, set_filter, unless_failed};
+use gixp_fetch_session::{ask_filter, negotiate, unless_failed};
 use gixp_remote_rules::{Boundary, Task, tells_closed};
 use std::alloc::Global;
 use std::io::ErrorKind;
@@ -90,7 +90,7 @@ fn fetch_by(
     let order = plan.order;
     let rt = order.reach.rt;
     let mut request = request_of(rt.alloc(), order.choices, plan.shallow)?;
-    set_filter(rt, session, &mut request, plan.filter)?;
+    ask_filter(rt, session, &mut request, plan.filter)?;
     let map = map_of(rt.alloc(), order.ids)?;
     let asked = Asked {
         map: &map,
