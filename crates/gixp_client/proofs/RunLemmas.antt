@@ -87,24 +87,25 @@ in_session parties map_of knows shaken request made known boundary boundary' old
     }
 
 -- an outcome that may be refused for what its answer takes out of the boundary
-told_unless : {A X : Type 0} (o : Option Outcome) (outcome : Outcome) (taken : Option ObjectId) → Some outcome ≡ o
-    → IsToldCame {A} {X} (Ok o) (unless_taken outcome taken)
-told_unless o outcome None h = h
-told_unless o outcome (Some id) h = tt
+told_unless : (A X : Type 0) (o : Option Outcome) (outcome : Outcome) (taken : Option ObjectId) → Some outcome ≡ o
+    → IsToldCame {A = A} {X = X} (Ok o) (unless_taken outcome taken)
+told_unless A X o outcome None h = h
+told_unless A X o outcome (Some id) h = tt
 
-told_alone : {A X : Type 0} (boundary : BTreeSet ObjectId) (unknown : Option ObjectId) (came : Result (Option Outcome) (FetchError A X))
-    (told : Result (Option Outcome) Error) → IsToldCame came told → IsToldCame came (known_alone boundary told unknown)
-told_alone boundary unknown (Ok o) (Err e) h = h
-told_alone boundary unknown (Err x) (Err e) h = h
-told_alone boundary unknown (Err x) (Ok t) h = absurd h
-told_alone boundary (Some id) (Ok o) (Ok t) h = tt
-told_alone boundary None (Ok o) (Ok None) h = h
-told_alone boundary None (Ok o) (Ok (Some outcome)) h =
-    told_unless o outcome (unknown_unshallow boundary outcome.last_response.shallow_updates) h
+told_alone : (A X : Type 0) (boundary : BTreeSet ObjectId) (unknown : Option ObjectId)
+    (came : Result (Option Outcome) (FetchError A X)) (told : Result (Option Outcome) Error)
+    → IsToldCame came told → IsToldCame came (known_alone boundary told unknown)
+told_alone A X boundary unknown (Ok o) (Err e) h = h
+told_alone A X boundary unknown (Err x) (Err e) h = h
+told_alone A X boundary unknown (Err x) (Ok t) h = absurd h
+told_alone A X boundary (Some id) (Ok o) (Ok t) h = tt
+told_alone A X boundary None (Ok o) (Ok None) h = h
+told_alone A X boundary None (Ok o) (Ok (Some outcome)) h =
+    told_unless A X o outcome (unknown_unshallow boundary outcome.last_response.shallow_updates) h
 
 -- what is told of a fetch, once it is looked at what the server takes out of the boundary
-pub told_checked : {A X : Type 0} (boundary : BTreeSet ObjectId) (unknown : Option ObjectId)
+pub told_checked : (A X : Type 0) (boundary : BTreeSet ObjectId) (unknown : Option ObjectId)
     (came : Result (Option Outcome) (FetchError A X)) (told result : Result (Option Outcome) Error)
     → IsToldCame came told → result ≡ known_alone boundary told unknown → IsToldCame came result
-told_checked boundary unknown came told result h e =
-    subst (λ (r : Result (Option Outcome) Error). IsToldCame came r) (sym e) (told_alone boundary unknown came told h)
+told_checked A X boundary unknown came told result h e =
+    subst (λ (r : Result (Option Outcome) Error). IsToldCame came r) (sym e) (told_alone A X boundary unknown came told h)

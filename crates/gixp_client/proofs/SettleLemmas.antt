@@ -1,6 +1,6 @@
 -- What a session makes of a fetch: its outcome, or its refusal, unless the server reported an error beside it.
 use Rattle.std.proofs.Common.{rules, ◌≡◌, ◌⊎◌, ◌∙◌, refl, sym, subst, ap, inl, inr, Bool, true, false, List, [], ◌∷◌, Option, Some, None, Result, Ok, Err}
-use Rattle.std.specs.Prelude.{IfOk, if◌then◌else◌}
+use Rattle.std.specs.Prelude.{IfOk, ◌&&◌, if◌then◌else◌}
 use Rattle.std.specs.Option.{option_map_or}
 use Rattle.std.specs.List.{list_all}
 use Rattle.std.specs.BTreeSet.{BTreeSet, contains}
@@ -47,8 +47,8 @@ stands_of A C version came result o s t (inr h) e stands = absurd (subst IsRepor
 -- an update that takes an id out, by whether the boundary has it
 taken_known : (has : Bool) (known : Bool) (id : ObjectId) (rest : Option ObjectId) (others : Bool) → has ≡ known
     → option_map_or Some (if has then None else Some id) rest ≡ None → (rest ≡ None → others ≡ true)
-    → (if known then others else false) ≡ true
-taken_known true known id rest others h e k = subst (λ (x : Bool). (if x then others else false) ≡ true) h (k e)
+    → (known && others) ≡ true
+taken_known true known id rest others h e k = subst (λ (x : Bool). (x && others) ≡ true) h (k e)
 taken_known false known id rest others h e k = search (rules, e)
 
 -- all that updates take out is in the boundary, where its ids are those of the set

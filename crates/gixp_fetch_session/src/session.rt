@@ -177,16 +177,20 @@ pub fn refs<T: Transport + Drop, L: Listener + Drop, S: NestedProgress + Drop>(
 
 // Lists all refs of the server where there are so many refspecs: the map is made of refs that are here, and no prefix is sent.
 fn list_for<T: Transport + Drop, L: Listener + Drop, S: NestedProgress + Drop>(
+    alloc: Global,
     session: &mut Session<T, L, S>,
     count: usize,
-) -> Result<(), Error>
+) -> Result<(), Failure>
     ensures few { count ≤ MOST_PREFIXED → (result ≡ Ok tt) × (session.new ≡ session.old) }
     ensures many { MOST_PREFIXED < count → OnOk result (is_some session.new.shaken.refs ≡ true) }
 {
     if count <= MOST_PREFIXED {
         return Ok(());
     }
-    session.list()
+    match session.list() {
+        Ok(()) => Ok(()),
+        Err(e) => Err(failure_of(alloc, Step::Listing, &e)),
+    }
 }
 
 /// What the refspecs map of the refs of the server.
@@ -195,10 +199,11 @@ pub fn map<T: Transport + Drop, L: Listener + Drop, S: NestedProgress + Drop>(
     session: &mut Session<T, L, S>,
     request: &Request,
 ) -> Result<RefMap, Failure> {
-    let listed = list_for(session, request.refspecs.len());
-    listed
-        .and_then(|_| session.map(request))
-        .map_err(|e| failure_of(alloc, Step::Listing, &e))
+    list_for(alloc, session, request.refspecs.len())?;
+    match session.map(request) {
+        Ok(map) => Ok(map),
+        Err(e) => Err(failure_of(alloc, Step::Listing, &e)),
+    }
 }
 
 /// Fetches what is mapped.

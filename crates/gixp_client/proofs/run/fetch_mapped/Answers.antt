@@ -20,7 +20,7 @@ returns-clause-fetched g c =
           (ap (λ m. g.R.RefStore.refs m.context.refs.now) e ∙ ap (λ x. g.R.RefStore.refs x.refs.now) n.context);
       holds = record {
         came = f.came;
-        tells = told_checked _ _ f.came _ _ f.tells c.known_alone.ensures.checked;
+        tells = told_checked _ _ _ _ f.came _ _ f.tells c.known_alone.ensures.checked;
         holds = f.holds;
       };
     }
