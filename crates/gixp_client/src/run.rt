@@ -1,5 +1,6 @@
 //! One fetch of a session.
-ghost use Rattle.std.specs.Prelude.{◌≡◌, ◌≤◌, None, IfOk, string_bytes};
+ghost use Rattle.std.specs.Prelude.{◌≡◌, ◌≢◌, ◌≤◌, true, false, None, IfOk, string_bytes};
+ghost use Rattle.gixp_packetline.specs.declared.protocol.Protocol.TheVariants.{V2};
 ghost use Rattle.gixp_requests.specs.Feature.{feature_value};
 ghost use Rattle.gixp_fetch.specs.Fetch.{parties_of};
 ghost use Rattle.gixp_client.specs.ClientCalls.{named_feature, HoldsAndTells, FetchesMap, session_call, session_knowledge};
@@ -39,7 +40,10 @@ pub type SessionNegotiation<'a, F, R, N> = Watched<
 
 /// How many haves a request may have.
 pub(crate) fn most_haves(version: Protocol, is_over_pipes: bool) -> usize
-    ensures { 16 ≤ result }
+    ensures some { 16 ≤ result }
+    ensures whole { version ≡ V2 → result ≡ usize.MAX }
+    ensures pipes { version ≢ V2 → is_over_pipes ≡ true → result ≡ MOST_HAVES }
+    ensures sockets { is_over_pipes ≡ false → result ≡ usize.MAX }
 {
     match version {
         Protocol::V2 => usize::MAX,
