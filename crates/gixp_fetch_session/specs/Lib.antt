@@ -2,3 +2,8 @@ pub mod Received
 pub mod Watched
 pub mod Quiet
 pub mod Failures
+pub mod SystemWords
+pub mod Left
+pub mod Reasons
+pub mod Compared
+pub mod Tips

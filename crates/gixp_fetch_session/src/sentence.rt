@@ -1,11 +1,17 @@
 //! What an error of a connection is called, in place of the name of its kind.
+ghost use Rattle.std.specs.Prelude.{◌≡◌, option_map};
+ghost use Rattle.gixp_fetch_session.specs.Left.{is_gone, is_client_gone, is_list_cut, is_handshake_cut, is_listing_cut};
+ghost use Rattle.gixp_fetch_session.specs.Reasons.{read_reason, client_reason, refs_reason, handshake_reason, listing_reason};
+
 use gix_protocol::handshake::refs::parse;
 use gix_protocol::transport::{client, read};
 use gix_protocol::{handshake, ls_refs};
 use std::io::ErrorKind;
 
 /// Whether a read or a write that failed with this kind found nobody at the other end.
-pub fn is_gone(kind: ErrorKind) -> bool {
+pub fn is_gone(kind: ErrorKind) -> bool
+    ensures { result ≡ is_gone kind }
+{
     matches!(
         kind,
         ErrorKind::UnexpectedEof | ErrorKind::BrokenPipe | ErrorKind::ConnectionReset
@@ -13,7 +19,9 @@ pub fn is_gone(kind: ErrorKind) -> bool {
 }
 
 // Whether a call of the transport found nobody at the other end.
-fn is_client_gone(e: &client::Error) -> bool {
+fn is_client_gone(e: &client::Error) -> bool
+    ensures { result ≡ is_client_gone e.now }
+{
     match e {
         client::Error::Io(kind) => is_gone(*kind),
         _ => false,
@@ -21,7 +29,9 @@ fn is_client_gone(e: &client::Error) -> bool {
 }
 
 // Whether the lines of refs end before they are whole.
-fn is_list_cut(e: &parse::Error) -> bool {
+fn is_list_cut(e: &parse::Error) -> bool
+    ensures { result ≡ is_list_cut e.now }
+{
     match e {
         parse::Error::Io(kind) => is_gone(*kind),
         _ => false,
@@ -29,7 +39,9 @@ fn is_list_cut(e: &parse::Error) -> bool {
 }
 
 /// Whether the server left within the handshake.
-pub fn is_handshake_cut(e: &handshake::Error) -> bool {
+pub fn is_handshake_cut(e: &handshake::Error) -> bool
+    ensures { result ≡ is_handshake_cut e.now }
+{
     match e {
         handshake::Error::Transport(e) => is_client_gone(e),
         handshake::Error::ParseRefs(e) => is_list_cut(e),
@@ -38,7 +50,9 @@ pub fn is_handshake_cut(e: &handshake::Error) -> bool {
 }
 
 /// Whether the server left within its list of refs.
-pub fn is_listing_cut(e: &ls_refs::Error) -> bool {
+pub fn is_listing_cut(e: &ls_refs::Error) -> bool
+    ensures { result ≡ is_listing_cut e.now }
+{
     match e {
         ls_refs::Error::Io(kind) => is_gone(*kind),
         ls_refs::Error::Transport(e) => is_client_gone(e),
@@ -48,7 +62,9 @@ pub fn is_listing_cut(e: &ls_refs::Error) -> bool {
 }
 
 // What is wrong with what was read.
-fn of_read(e: &read::Error) -> Option<&'static str> {
+fn of_read(e: &read::Error) -> Option<&'static str>
+    ensures { option_map (λ w. w.now) result ≡ read_reason e.now }
+{
     match e {
         read::Error::Io(_) => Some("the connection can't be read"),
         read::Error::Decode(_) => Some("protocol error: the server sent what is no packet line"),
@@ -63,7 +79,9 @@ fn of_read(e: &read::Error) -> Option<&'static str> {
 }
 
 // What is wrong with a call of the transport.
-fn of_client(e: &client::Error) -> Option<&'static str> {
+fn of_client(e: &client::Error) -> Option<&'static str>
+    ensures { option_map (λ w. w.now) result ≡ client_reason e.now }
+{
     match e {
         client::Error::Io(_) => Some("the connection broke"),
         client::Error::Read(e) => of_read(e),
@@ -80,7 +98,9 @@ fn of_client(e: &client::Error) -> Option<&'static str> {
 }
 
 // What is wrong with the lines of refs, where their error has no sentence of its own.
-fn of_refs(e: &parse::Error) -> Option<&'static str> {
+fn of_refs(e: &parse::Error) -> Option<&'static str>
+    ensures { option_map (λ w. w.now) result ≡ refs_reason e.now }
+{
     match e {
         parse::Error::Io(_) => Some("the connection can't be read"),
         parse::Error::DecodePacketline(_) => {
@@ -92,7 +112,9 @@ fn of_refs(e: &parse::Error) -> Option<&'static str> {
 }
 
 /// What is wrong in a handshake, where its error has no sentence of its own.
-pub fn of_handshake(e: &handshake::Error) -> Option<&'static str> {
+pub fn of_handshake(e: &handshake::Error) -> Option<&'static str>
+    ensures { option_map (λ w. w.now) result ≡ handshake_reason e.now }
+{
     match e {
         handshake::Error::Transport(e) => of_client(e),
         handshake::Error::ParseRefs(e) => of_refs(e),
@@ -101,7 +123,9 @@ pub fn of_handshake(e: &handshake::Error) -> Option<&'static str> {
 }
 
 /// What is wrong in a list of refs, where its error has no sentence of its own.
-pub fn of_listing(e: &ls_refs::Error) -> Option<&'static str> {
+pub fn of_listing(e: &ls_refs::Error) -> Option<&'static str>
+    ensures { option_map (λ w. w.now) result ≡ listing_reason e.now }
+{
     match e {
         ls_refs::Error::Io(_) => Some("the connection can't be read"),
         ls_refs::Error::Transport(e) => of_client(e),
