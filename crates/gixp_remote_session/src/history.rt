@@ -3,7 +3,7 @@ ghost use Rattle.std.specs.Prelude.{◌≡◌, map, is_some, IfOk};
 ghost use Rattle.bstr.specs.Owned.{bstring_bytes};
 ghost use Rattle.gix_protocol.specs.PartialName.{name_bytes};
 ghost use Rattle.gix_protocol.specs.Shallow.{shallow_value};
-ghost use Rattle.gixp_remote_session.specs.History.{IsCut, IsWished};
+ghost use Rattle.gixp_remote_session.specs.History.{IsPart, IsWished};
 
 use crate::shell::Shell;
 use crate::trouble::Trouble;
@@ -51,7 +51,7 @@ fn names_of(alloc: Global, words: &[BString]) -> Result<Vec<PartialName>, Troubl
 
 // What a time and names leave.
 fn cut(rt: &HostRuntime, shell: &mut Shell, choices: &Choices) -> Result<Shallow, Trouble>
-    ensures { IfOk result (λ s. IsCut choices.now.excluded.items (is_some choices.now.since) (shallow_value s)) }
+    ensures { IfOk result (λ s. IsPart choices.now.excluded.items (is_some choices.now.since) (shallow_value s)) }
 {
     let since_cutoff = match &choices.since {
         Some(since) => Some(seconds_of(rt, shell, since.as_bytes())?),
