@@ -320,6 +320,8 @@ pub use Rattle.gixp_client.specs.Requests
 pub use Rattle.gixp_client.specs.Sentences
 pub use Rattle.gixp_client.specs.ServerWords
 pub use Rattle.gixp_client.specs.SessionStates
+pub use Rattle.gixp_client.specs.Tables
+pub use Rattle.gixp_client.specs.Unshallowed
 pub use Rattle.gixp_client.specs.Windows
 pub use Rattle.gixp_client.specs.declared.error.Error as SessionErrorType
 pub use Rattle.gixp_client.specs.declared.request.Request as RequestType

@@ -3,5 +3,5 @@
 pub use gixp_client::{
     Boundary, Error, Fetched, Filtered, Heard, Kept, ListedRefs, Listener, LocalChange, MOST_HAVES,
     PackError, RemoteLines, Repository, Request, ServerText, Session, SessionNegotiation, Silent,
-    State, Windowed, fetch_once, laws, local_changes, over_streams,
+    State, Watched, Windowed, fetch_once, laws, local_changes, over_streams,
 };

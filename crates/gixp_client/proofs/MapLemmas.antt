@@ -18,6 +18,7 @@ use Rattle.gixp_handshake.specs.declared.handshake.read.Handshake.{Handshake}
 use Rattle.gixp_handshake.specs.declared.handshake.ref_map.ObtainRefMap.{ObtainRefMap}
 use Rattle.gixp_handshake.specs.declared.handshake.ref_map.ObtainRefMap.TheVariants.{Existing, LsRefsCommand}
 use Rattle.gixp_handshake.specs.Obtain.{prefixes_if, MakesMap, PreparesBy, ObtainsBy, FetchesList}
+use Rattle.gixp_client.specs.Tables.{asked_table}
 use Rattle.gixp_client.specs.ClientCalls.{ListsInSession, GivesRefs, MapsInSession}
 use Rattle.gixp_client.specs.SessionStates.{behind_map}
 use Rattle.gixp_client.specs.declared.error.Error.{Error}
@@ -40,35 +41,35 @@ as_listed table agent name caps l old new refs t a e h =
     (subst (λ (x : Listing). Listed x old new refs) e h))
 
 -- by what was prepared of these refs
-pub made_of_refs : (agent : FeatureValue) (context : Context) (caps : List CapabilityValue) (refs : Vec Ref Global) (plain : Bool)
+pub made_of_refs : (table : TableValue) (agent : FeatureValue) (context : Context) (caps : List CapabilityValue) (refs : Vec Ref Global) (plain : Bool)
     (old new : Reading) (r : Result RefMap MapError) (prepared : Result ObtainRefMap MapError)
-    → PreparesBy (Some refs) git_table true agent context caps prepared → ObtainsBy prepared plain old new r
+    → PreparesBy (Some refs) table true agent context caps prepared → ObtainsBy prepared plain old new r
     → (new ≡ old) × MakesMap caps context refs.items r
-made_of_refs agent context caps refs plain old new r (Ok (Existing m)) p o =
+made_of_refs table agent context caps refs plain old new r (Ok (Existing m)) p o =
     (o.0, subst (λ (x : Result RefMap MapError). MakesMap caps context refs.items x) (sym o.1) p)
-made_of_refs agent context caps refs plain old new r (Ok (LsRefsCommand command handed)) p o = absurd p
-made_of_refs agent context caps refs plain old new r (Err e) p o =
+made_of_refs table agent context caps refs plain old new r (Ok (LsRefsCommand command handed)) p o = absurd p
+made_of_refs table agent context caps refs plain old new r (Err e) p o =
     (o.0, subst (λ (x : Result RefMap MapError). MakesMap caps context refs.items x) (sym o.1) p)
 
 -- and by that of none
-pub made_of_none : (agent : FeatureValue) (context : Context) (shaken : Handshake) (plain : Bool)
+pub made_of_none : (table : TableValue) (agent : FeatureValue) (context : Context) (shaken : Handshake) (plain : Bool)
     (old new : Reading) (r : Result RefMap MapError) (prepared : Result ObtainRefMap MapError)
-    → PreparesBy None git_table true agent context shaken.capabilities prepared → ObtainsBy prepared plain old new r
-    → ((new ≡ old) × (r ≡ Err Memory)) ⊎ FetchesList (listing_for agent shaken context) context plain old new r
-made_of_none agent context shaken plain old new r (Ok (Existing m)) p o = absurd p
-made_of_none agent context shaken plain old new r (Ok (LsRefsCommand command handed)) p o =
-    inr (subst (λ (x : Context). FetchesList (listing_for agent shaken context) x plain old new r) p.1
+    → PreparesBy None table true agent context shaken.capabilities prepared → ObtainsBy prepared plain old new r
+    → ((new ≡ old) × (r ≡ Err Memory)) ⊎ FetchesList (listing_for table agent shaken context) context plain old new r
+made_of_none table agent context shaken plain old new r (Ok (Existing m)) p o = absurd p
+made_of_none table agent context shaken plain old new r (Ok (LsRefsCommand command handed)) p o =
+    inr (subst (λ (x : Context). FetchesList (listing_for table agent shaken context) x plain old new r) p.1
     (subst (λ (x : Listing). FetchesList x handed plain old new r) p.0 o))
-made_of_none agent context shaken plain old new r (Err e) p o = inl (o.0, o.1 ∙ ap Err p)
+made_of_none table agent context shaken plain old new r (Err e) p o = inl (o.0, o.1 ∙ ap Err p)
 
 pub maps_refs_here : (request : Request) (agent : FeatureValue) (shaken : Handshake) (refs : Vec Ref Global) (plain : Bool)
     (old new : Reading)
     (r : Result RefMap MapError) → shaken.refs ≡ Some refs → MapsInSession request agent shaken plain old new r
     → MapsRefsHere request shaken refs.items old new r
 maps_refs_here request agent shaken refs plain old new r e m =
-    let made = made_of_refs agent m.context shaken.capabilities refs plain old new r m.obtains.prepared
-    (subst (λ (x : Option (Vec Ref Global)). PreparesBy x git_table true agent m.context shaken.capabilities m.obtains.prepared) e
-    m.obtains.prepares) m.obtains.obtains in
+    let made = made_of_refs (asked_table request.wants_progress) agent m.context shaken.capabilities refs plain old new r m.obtains.prepared
+    (subst (λ (x : Option (Vec Ref Global)). PreparesBy x (asked_table request.wants_progress) true agent m.context shaken.capabilities
+    m.obtains.prepared) e m.obtains.prepares) m.obtains.obtains in
     record { context = m.context; asked = m.asked; unsent = made.0; maps = made.1 }
 
 pub lists_for_map : (request : Request) (agent : FeatureValue) (shaken : Handshake) (plain : Bool) (old new : Reading)
@@ -77,9 +78,9 @@ pub lists_for_map : (request : Request) (agent : FeatureValue) (shaken : Handsha
 lists_for_map request agent shaken plain old new r e m = record {
   context = m.context;
   asked = m.asked;
-  lists = made_of_none agent m.context shaken plain old new r m.obtains.prepared
-      (subst (λ (x : Option (Vec Ref Global)). PreparesBy x git_table true agent m.context shaken.capabilities m.obtains.prepared) e
-      m.obtains.prepares) m.obtains.obtains;
+  lists = made_of_none (asked_table request.wants_progress) agent m.context shaken plain old new r m.obtains.prepared
+      (subst (λ (x : Option (Vec Ref Global)). PreparesBy x (asked_table request.wants_progress) true agent m.context shaken.capabilities
+      m.obtains.prepared) e m.obtains.prepares) m.obtains.obtains;
 }
 
 -- the refs that are lent, by whether refs were here

@@ -1,12 +1,12 @@
 -- What a session hands to the calls below.
-use Rattle.std.proofs.Common.{◌≡◌, Bool, List, Option, Result, subst, ap, ◌∙◌}
+use Rattle.std.proofs.Common.{◌≡◌, Bool, List, Option, Some, None, Result, Ok, Err, subst, sym, ap, ◌∙◌}
 use Rattle.gixp_hash.specs.declared.object_id.ObjectId.{ObjectId}
 use Rattle.gixp_shallow.specs.declared.store.memory.ShallowMemory.{ShallowMemory}
 use Rattle.gixp_client.specs.declared.error.Error.{Error}
 use Rattle.gixp_packetline.specs.Reading.{Reading}
 use Rattle.gixp_graph.specs.Object.{Objects}
 use Rattle.gixp_requests.specs.Feature.{FeatureValue}
-use Rattle.gixp_requests.specs.Command.{TableValue, git_table}
+use Rattle.gixp_requests.specs.Command.{TableValue}
 use Rattle.gixp_refmap.specs.declared.fetch.Tags.{Tags}
 use Rattle.gixp_refmap.specs.declared.refmap.init.Context.{Context}
 use Rattle.gixp_refmap.specs.declared.refmap.init.Error.{Error as MapError}
@@ -21,13 +21,16 @@ use Rattle.gixp_fetch.specs.FetchShallow.{shallow_value}
 use Rattle.gixp_fetch.specs.Fetch.{World, Parties}
 use Rattle.gixp_fetch.specs.Fetched.{Fetches, call_of}
 use Rattle.gixp_fetch.specs.Mapped.{Knowledge}
-use Rattle.gixp_client.specs.ClientCalls.{session_call, CarriesFetch, FetchesMap, FetchesInSession}
+use Rattle.std.specs.BTreeSet.{BTreeSet}
+use Rattle.gixp_client.specs.Tables.{asked_table}
+use Rattle.gixp_client.specs.Unshallowed.{unknown_unshallow, unless_taken, known_alone}
+use Rattle.gixp_client.specs.ClientCalls.{session_call, IsToldCame, CarriesFetch, FetchesMap, FetchesInSession}
 use Rattle.gixp_client.specs.declared.request.Request.{Request}
 
 -- a fetch with these parts is one with those of the session
 pub as_session : {N I S A C P X : Type 0} (parties : Parties N I A S C P X) (table : TableValue) (agent name : FeatureValue)
     (shaken : Handshake) (request : Request) (old : World N I S C) (came : Result (Option Outcome) (FetchError A X))
-    (new : World N I S C) (progress : P) → table ≡ git_table → agent ≡ name
+    (new : World N I S C) (progress : P) → table ≡ asked_table request.wants_progress → agent ≡ name
     → Fetches parties (call_of table shaken agent request.tags (shallow_value request.shallow) request.rejects_shallow)
     old came new progress
     → CarriesFetch parties (session_call shaken name request) old came new progress
@@ -40,10 +43,10 @@ as_session parties table agent name shaken request old came new progress t a f =
 }
 
 -- so is a ref map
-pub as_obtained : (table : TableValue) (agent name : FeatureValue) (context : Context) (h : Handshake) (plain : Bool) (old new : Reading)
-    (r : Result RefMap MapError) → table ≡ git_table → agent ≡ name
-    → Obtains table agent context h plain old new r → Obtains git_table name context h plain old new r
-as_obtained table agent name context h plain old new r t a o =
+pub as_obtained : (table table' : TableValue) (agent name : FeatureValue) (context : Context) (h : Handshake) (plain : Bool)
+    (old new : Reading) (r : Result RefMap MapError) → table ≡ table' → agent ≡ name
+    → Obtains table agent context h plain old new r → Obtains table' name context h plain old new r
+as_obtained table table' agent name context h plain old new r t a o =
     subst (λ (x : TableValue). Obtains x name context h plain old new r) t
     (subst (λ (x : FeatureValue). Obtains table x context h plain old new r) a o)
 
@@ -82,3 +85,27 @@ in_session parties map_of knows shaken request made known boundary boundary' old
           told new
           store' consumer') named f));
     }
+
+-- an outcome that may be refused for what its answer takes out of the boundary
+told_unless : (A X : Type 0) (o : Option Outcome) (outcome : Outcome) (taken : Option ObjectId) → Some outcome ≡ o
+    → IsToldCame {A = A} {X = X} (Ok o) (unless_taken outcome taken)
+told_unless A X o outcome None h = h
+told_unless A X o outcome (Some id) h = tt
+
+told_alone : (A X : Type 0) (boundary : BTreeSet ObjectId) (unknown : Option ObjectId)
+    (came : Result (Option Outcome) (FetchError A X)) (told : Result (Option Outcome) Error)
+    → IsToldCame came told → IsToldCame came (known_alone boundary told unknown)
+told_alone A X boundary unknown (Ok o) (Err e) h = h
+told_alone A X boundary unknown (Err x) (Err e) h = h
+told_alone A X boundary unknown (Err x) (Ok t) h = absurd h
+told_alone A X boundary (Some id) (Ok o) (Ok t) h = tt
+told_alone A X boundary None (Ok o) (Ok None) h = h
+told_alone A X boundary None (Ok o) (Ok (Some outcome)) h =
+    told_unless A X o outcome (unknown_unshallow boundary outcome.last_response.shallow_updates) h
+
+-- what is told of a fetch, once it is looked at what the server takes out of the boundary
+pub told_checked : (A X : Type 0) (boundary : BTreeSet ObjectId) (unknown : Option ObjectId)
+    (came : Result (Option Outcome) (FetchError A X)) (told result : Result (Option Outcome) Error)
+    → IsToldCame came told → result ≡ known_alone boundary told unknown → IsToldCame came result
+told_checked A X boundary unknown came told result h e =
+    subst (λ (r : Result (Option Outcome) Error). IsToldCame came r) (sym e) (told_alone A X boundary unknown came told h)

@@ -1,5 +1,15 @@
 -- What a session makes of a fetch: its outcome, or its refusal, unless the server reported an error beside it.
-use Rattle.std.proofs.Common.{◌≡◌, ◌⊎◌, ◌∙◌, sym, subst, ap, inl, inr, Option, Result, Ok, Err}
+use Rattle.std.proofs.Common.{rules, ◌≡◌, ◌⊎◌, ◌∙◌, refl, sym, subst, ap, inl, inr, Bool, true, false, List, [], ◌∷◌, Option, Some, None, Result, Ok, Err}
+use Rattle.std.specs.Prelude.{IfOk, ◌&&◌, if◌then◌else◌}
+use Rattle.std.specs.Option.{option_map_or}
+use Rattle.std.specs.List.{list_all}
+use Rattle.std.specs.BTreeSet.{BTreeSet, contains}
+use Rattle.gixp_hash.specs.ObjectId.{id_cmp}
+use Rattle.gixp_hash.specs.declared.object_id.ObjectId.{ObjectId}
+use Rattle.gixp_shallow.specs.declared.update.ShallowUpdate.{ShallowUpdate}
+use Rattle.gixp_shallow.specs.declared.update.ShallowUpdate.TheVariants.{Shallow, Unshallow}
+use Rattle.gixp_client.specs.Boundaries.{has_id}
+use Rattle.gixp_client.specs.Unshallowed.{unknown_unshallow, TakesKnown, is_known, KnowsAll}
 use Rattle.gixp_packetline.specs.declared.protocol.Protocol.{Protocol}
 use Rattle.gixp_fetch.specs.declared.options.Outcome.{Outcome}
 use Rattle.gixp_client.specs.declared.error.Error.{Error}
@@ -33,3 +43,32 @@ pub stands_of : (A C : Type 0) (version : Protocol) (came result : Result (Optio
     → s ≡ behind_fetch version came → t ≡ behind_fetch version (Ok o)
 stands_of A C version came result o s t (inl h) e stands = h.2 ∙ stands ∙ ap (behind_fetch version) (sym h.1 ∙ e)
 stands_of A C version came result o s t (inr h) e stands = absurd (subst IsReportIn e h.1)
+
+-- an update that takes an id out, by whether the boundary has it
+taken_known : (has : Bool) (known : Bool) (id : ObjectId) (rest : Option ObjectId) (others : Bool) → has ≡ known
+    → option_map_or Some (if has then None else Some id) rest ≡ None → (rest ≡ None → others ≡ true)
+    → (known && others) ≡ true
+taken_known true known id rest others h e k = subst (λ (x : Bool). (x && others) ≡ true) h (k e)
+taken_known false known id rest others h e k = search (rules, e)
+
+-- all that updates take out is in the boundary, where its ids are those of the set
+pub all_known : (boundary : BTreeSet ObjectId) (ids : List ObjectId) → ((id : ObjectId) → contains id_cmp boundary id ≡ has_id ids id)
+    → (updates : List ShallowUpdate) → unknown_unshallow boundary updates ≡ None → list_all (is_known ids) updates ≡ true
+all_known boundary ids same [] e = refl
+all_known boundary ids same (Shallow id ∷ updates) e = all_known boundary ids same updates e
+all_known boundary ids same (Unshallow id ∷ updates) e =
+    taken_known (contains id_cmp boundary id) (has_id ids id) id (unknown_unshallow boundary updates) (list_all (is_known ids) updates)
+    (same id) e (all_known boundary ids same updates)
+
+known_all : (boundary : BTreeSet ObjectId) (ids : List ObjectId) → ((id : ObjectId) → contains id_cmp boundary id ≡ has_id ids id)
+    → (o : Option Outcome) → TakesKnown boundary o → KnowsAll ids o
+known_all boundary ids same None h = tt
+known_all boundary ids same (Some outcome) h = all_known boundary ids same outcome.last_response.shallow_updates h
+
+-- with an outcome, all that its last answer takes out is in the boundary
+pub known_of : (A B C D : Type 0) (came result : Result (Option Outcome) Error) (o : Option Outcome) (boundary : BTreeSet ObjectId)
+    (ids : List ObjectId) → (A × (result ≡ came) × B) ⊎ (C × IsReportIn result × D) → result ≡ Ok o
+    → ((id : ObjectId) → contains id_cmp boundary id ≡ has_id ids id) → IfOk came (TakesKnown boundary) → KnowsAll ids o
+known_of A B C D came result o boundary ids reported e same h =
+    known_all boundary ids same o (subst (λ (r : Result (Option Outcome) Error). IfOk r (TakesKnown boundary))
+    (came_of A B C D came result o reported e) h)

@@ -1,11 +1,12 @@
 -- What becomes of a shallow boundary (gitprotocol-pack, "Packfile Negotiation").
-use Rattle.std.specs.Prelude.{◌≡◌, Bool, true, false, not, if◌then◌else◌, List, [], ◌++◌, map, filter}
+use Rattle.std.specs.Prelude.{◌≡◌, Bool, true, false, not, if◌then◌else◌, List, [], ◌∷◌, ◌++◌, map, filter}
 use Rattle.std.specs.List.{list_any}
 use Rattle.std.specs.Ordering.{eq_by_cmp}
 use Rattle.gixp_hash.specs.ObjectId.{id_cmp}
 use Rattle.gixp_hash.specs.declared.object_id.ObjectId.{ObjectId}
 use Rattle.gixp_shallow.specs.declared.update.ShallowUpdate.{ShallowUpdate}
 use Rattle.gixp_shallow.specs.declared.update.ShallowUpdate.TheVariants.{Shallow, Unshallow}
+use Rattle.gixp_shallow.specs.Boundary.{boundary}
 use Rattle.gixp_client.specs.declared.boundary.Boundary.{Boundary}
 
 -- whether ids have an id
@@ -36,3 +37,8 @@ pub record IsLeftBoundary (ids : List ObjectId) (asked unasked : List ShallowUpd
 abbrev pub IsBoundaryAfter : Bool → List ObjectId → List ObjectId → Boundary → Type 0
 IsBoundaryAfter true before after b = IsLeftBoundary after (updates_between before after) [] b
 IsBoundaryAfter false before after b = IsLeftBoundary before [] (updates_between before after) b
+
+-- ids after updates; none leave them as they are
+abbrev pub ids_after : List ObjectId → List ShallowUpdate → List ObjectId
+ids_after ids [] = ids
+ids_after ids (update ∷ updates) = boundary ids (update ∷ updates)

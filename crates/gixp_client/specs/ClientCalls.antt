@@ -1,5 +1,5 @@
 -- What the calls of a client's session do: one handshake, ref maps over it, and fetches.
-use Rattle.std.specs.Prelude.{◌≡◌, ℕ, Bool, true, false, List, [], ◌∷◌, map, codes, Option, Some, None, Vec, Result, Ok, Err}
+use Rattle.std.specs.Prelude.{◌≡◌, ⊤, ℕ, Bool, true, false, List, [], ◌∷◌, map, codes, Option, Some, None, Vec, Result, Ok, Err}
 use Rattle.std.specs.declared.alloc.Global.{Global}
 use Rattle.gixp_packetline.specs.Reading.{Reading}
 use Rattle.gixp_wire.specs.Greeting.{Parameter}
@@ -32,7 +32,9 @@ use Rattle.gixp_fetch.specs.Fetch.{World, Parties}
 use Rattle.gixp_fetch.specs.Fetched.{FetchCall, Fetches, call_of, unlocked_world}
 use Rattle.gixp_fetch.specs.Mapped.{Knowledge}
 use Rattle.gixp_client.specs.ClientError.{IsToldOf, of_request}
+use Rattle.gixp_client.specs.Tables.{asked_table}
 use Rattle.gixp_client.specs.declared.error.Error.{Error}
+use Rattle.gixp_client.specs.declared.error.Error.TheVariants.{UnknownUnshallow}
 use Rattle.gixp_client.specs.declared.request.Request.{Request}
 use Rattle.gixp_client.specs.declared.state.State.{State}
 use Rattle.gixp_client.specs.declared.state.State.TheVariants.{AtStop, Ended, Broken}
@@ -73,11 +75,18 @@ pub record MapsInSession (request : Request) (agent : FeatureValue) (shaken : Ha
     (r : Result RefMap MapError) : Type 0 where
   pub context : Context
   pub asked : context_value context ≡ asked_specs request
-  pub obtains : Obtains git_table agent context shaken plain old new r
+  pub obtains : Obtains (asked_table request.wants_progress) agent context shaken plain old new r
 
--- what is told of a fetch: its outcome, or its refusal with nothing of the caller's in it
+-- what is told where a server takes an id out of the boundary that isn't in it
+abbrev pub IsUnknown : Error → Type 0
+IsUnknown (UnknownUnshallow id) = ⊤
+IsUnknown _ = ⊥
+
+-- what is told of a fetch: its outcome, unless the server takes what it can't out of the boundary, or its refusal with nothing of the
+-- caller's in it
 abbrev pub IsToldCame : {A X : Type 0} → Result (Option Outcome) (FetchError A X) → Result (Option Outcome) Error → Type 0
 IsToldCame (Ok o) (Ok t) = t ≡ o
+IsToldCame (Ok o) (Err e) = IsUnknown e
 IsToldCame (Err x) (Err e) = IsToldOf x e
 IsToldCame _ _ = ⊥
 
@@ -116,7 +125,7 @@ module _ {N I A S C P X : Type 0} (parties : Parties N I A S C P X) where
 -- what a fetch of a session is handed in
 abbrev pub session_call : Handshake → FeatureValue → Request → FetchCall
 session_call shaken agent request =
-    call_of git_table shaken agent request.tags (shallow_value request.shallow) request.rejects_shallow
+    call_of (asked_table request.wants_progress) shaken agent request.tags (shallow_value request.shallow) request.rejects_shallow
 
 -- what its negotiation knows
 abbrev pub session_knowledge : Request → Objects → LocalRefs → Knowledge

@@ -3,7 +3,7 @@ use Rattle.std.specs.Prelude.{◌≡◌, ◌⊎◌, Bool, true, List, Result, Er
 use Rattle.gixp_packetline.specs.Reading.{Reading}
 use Rattle.gixp_refs.specs.declared.handshake.Ref.{Ref}
 use Rattle.gixp_requests.specs.Feature.{FeatureValue}
-use Rattle.gixp_requests.specs.Command.{git_table}
+use Rattle.gixp_requests.specs.Command.{TableValue}
 use Rattle.gixp_refmap.specs.Listing.{Listing, listing}
 use Rattle.gixp_refmap.specs.Mapping.{joined_specs}
 use Rattle.gixp_refmap.specs.Values.{context_value}
@@ -14,6 +14,7 @@ use Rattle.gixp_refmap.specs.declared.refmap.map.RefMap.{RefMap}
 use Rattle.gixp_handshake.specs.declared.handshake.read.Handshake.{Handshake}
 use Rattle.gixp_handshake.specs.Obtain.{prefixes_if, MakesMap, FetchesList}
 use Rattle.gixp_client.specs.ClientCalls.{asked_specs}
+use Rattle.gixp_client.specs.Tables.{asked_table}
 use Rattle.gixp_client.specs.declared.request.Request.{Request}
 
 -- of these refs, and nothing was sent
@@ -25,13 +26,14 @@ pub record MapsRefsHere (request : Request) (shaken : Handshake) (refs : List Re
   pub maps : MakesMap shaken.capabilities context refs r
 
 -- the command that lists the refs of the prefixes of refspecs
-abbrev pub listing_for : FeatureValue → Handshake → Context → Listing
-listing_for agent shaken context =
-    listing git_table (prefixes_if true (joined_specs context.fetch_refspecs.items context.extra_refspecs.items)) shaken.capabilities agent
+abbrev pub listing_for : TableValue → FeatureValue → Handshake → Context → Listing
+listing_for table agent shaken context =
+    listing table (prefixes_if true (joined_specs context.fetch_refspecs.items context.extra_refspecs.items)) shaken.capabilities agent
 
 -- of the refs of the prefixes of these refspecs, which the server lists for them; or an allocation failed before, and nothing was sent
 pub record ListsForMap (request : Request) (agent : FeatureValue) (shaken : Handshake) (plain : Bool) (old new : Reading)
     (r : Result RefMap MapError) : Type 0 where
   pub context : Context
   pub asked : context_value context ≡ asked_specs request
-  pub lists : ((new ≡ old) × (r ≡ Err Memory)) ⊎ FetchesList (listing_for agent shaken context) context plain old new r
+  pub lists : ((new ≡ old) × (r ≡ Err Memory)) ⊎ FetchesList
+      (listing_for (asked_table request.wants_progress) agent shaken context) context plain old new r

@@ -1,8 +1,17 @@
 -- A filter that the first request of a fetch asks for (gitprotocol-v2, "fetch"; git-rev-list, "--filter").
-use Rattle.std.specs.Prelude.{if◌then◌else◌, List, ℕ, Option, Some, None, codes}
+use Rattle.std.specs.Prelude.{if◌then◌else◌, Bool, List, ℕ, Option, Some, None, codes}
 use Rattle.gixp_requests.specs.Arguments.{ArgumentsValue, can_use, asks_filter}
+use Rattle.gixp_requests.specs.Command.{git_table}
+use Rattle.gixp_requests.specs.Feature.{has_feature}
+use Rattle.gixp_requests.specs.Offers.{default_features}
+use Rattle.gixp_requests.specs.declared.command.Command.TheVariants.{Fetch}
+use Rattle.gixp_handshake.specs.declared.handshake.read.Handshake.{Handshake}
 
 -- a filter, if there is one, is asked for where the server offers it
 abbrev pub with_filter : Option (List ℕ) → ArgumentsValue → ArgumentsValue
 with_filter None a = a
 with_filter (Some filter) a = if can_use (codes "filter") a then asks_filter filter a else a
+
+-- a server offers one: as a word of its command under version 2, and as a capability before
+abbrev pub offers_filter : Handshake → Bool
+offers_filter shaken = has_feature (codes "filter") (default_features git_table Fetch shaken.server_protocol_version shaken.capabilities)

@@ -1,4 +1,6 @@
 pub mod Windows
+pub mod Tables
+pub mod Unshallowed
 pub mod Filters
 pub mod ClientError
 pub mod ClientCalls

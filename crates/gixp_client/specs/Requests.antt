@@ -22,6 +22,7 @@ pub record IsDefaultRequest (r : Request) : Type 0 where
   pub over_pipes : r.is_over_pipes ≡ true
   pub unfiltered : r.filter ≡ None
   pub stops : r.goes_on ≡ false
+  pub wants_progress : r.wants_progress ≡ true
 
 -- the value of a text is added, behind the other refspecs
 pub record AddsSpec (text : List ℕ) (old new : Request) : Type 0 where

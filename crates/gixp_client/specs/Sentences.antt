@@ -3,10 +3,11 @@ use Rattle.std.specs.Prelude.{◌++◌, ℕ, List, codes, Option, Some, None, st
 use Rattle.std.specs.Fmt.{decimal}
 use Rattle.std.specs.declared.io.ErrorKind.{ErrorKind}
 use Rattle.std.specs.declared.io.ErrorKind.TheVariants.{UnexpectedEof}
+use Rattle.gixp_hash.specs.Hex.{encode_lower}
 use Rattle.gixp_client.specs.ClientError.{said_in, place_of, kind_in}
 use Rattle.gixp_client.specs.declared.consumer.PackError.TheVariants as pack
 use Rattle.gixp_client.specs.declared.error.Error.{Error}
-use Rattle.gixp_client.specs.declared.error.Error.TheVariants.{UnsupportedListing, Unnegotiated, MissingFeature, ShallowServer, Pack, Reported, Over, Memory}
+use Rattle.gixp_client.specs.declared.error.Error.TheVariants.{UnsupportedListing, Unnegotiated, MissingFeature, ShallowServer, UnknownUnshallow, Pack, Reported, Over, Memory}
 
 -- where neither the server nor a read or write failed
 abbrev pub rest_sentence : Error → Option (List ℕ)
@@ -14,6 +15,8 @@ rest_sentence UnsupportedListing = Some (codes "the server doesn't list refs as 
 rest_sentence (Unnegotiated rounds) = Some (codes "no pack came after " ++ decimal rounds ++ codes " round(s) of the negotiation")
 rest_sentence (MissingFeature feature) = Some (codes "the server doesn't offer " ++ string_bytes feature)
 rest_sentence ShallowServer = Some (codes "the server's repository is shallow")
+rest_sentence (UnknownUnshallow id) = Some (codes "the server takes " ++ encode_lower id.bytes
+    ++ codes " out of the shallow boundary, which doesn't have it")
 rest_sentence (Reported message) = Some (codes "the server reported an error")
 rest_sentence Over = Some (codes "the session is over")
 rest_sentence Memory = Some (codes "out of memory")

@@ -10,7 +10,7 @@ use Rattle.gixp_response.specs.declared.fetch.response.error.Error.TheVariants.{
 use Rattle.gixp_fetch.specs.declared.options.Outcome.{Outcome}
 use Rattle.gixp_client.specs.ClientError.{said_in}
 use Rattle.gixp_client.specs.declared.error.Error.{Error}
-use Rattle.gixp_client.specs.declared.error.Error.TheVariants.{Refspec, UnsupportedListing, UnknownObjectFormat, Conflicts, Request, Answer, Unnegotiated, Objects, LocalRefs, MissingFeature, Reported, Memory}
+use Rattle.gixp_client.specs.declared.error.Error.TheVariants.{Refspec, UnsupportedListing, UnknownObjectFormat, Conflicts, Request, Answer, Unnegotiated, Objects, LocalRefs, MissingFeature, UnknownUnshallow, Reported, Memory}
 use Rattle.gixp_client.specs.declared.state.State.{State}
 use Rattle.gixp_client.specs.declared.state.State.TheVariants.{AtStop, Ended, Broken}
 
@@ -31,8 +31,9 @@ behind_answer (MissingServerCapability feature) = AtStop
 behind_answer _ = Broken
 
 -- behind a call that was refused otherwise than by the server's words. Nothing was sent where the server doesn't list refs or doesn't
--- offer what is asked for, or the local refs can't be read, which are read first. A list was read whole where it can't be mapped, and an
--- answer where no pack came after all rounds, or an object can't be read. Of anything else it isn't known how far it came.
+-- offer what is asked for, or the local refs can't be read, which are read first. A list was read whole where it can't be mapped, an
+-- answer where no pack came after all rounds, or an object can't be read, and the pack where the boundary doesn't have what the server
+-- takes out of it. Of anything else it isn't known how far it came.
 abbrev pub behind_unsaid : Protocol → Error → State
 behind_unsaid version (Refspec spec why) = AtStop
 behind_unsaid version UnsupportedListing = AtStop
@@ -43,6 +44,7 @@ behind_unsaid version (LocalRefs e) = AtStop
 behind_unsaid version (Request e) = behind_request e
 behind_unsaid version (Answer e) = behind_answer e
 behind_unsaid version (Unnegotiated rounds) = behind_answers version Ended
+behind_unsaid version (UnknownUnshallow id) = behind_answers version Ended
 behind_unsaid version (Objects e) = behind_answers version Broken
 behind_unsaid version _ = Broken
 

@@ -4,10 +4,10 @@ ghost use Rattle.std.specs.BTreeSet.{contains};
 ghost use Rattle.std.specs.Ordering.{eq_by_cmp};
 ghost use Rattle.gixp_hash.specs.ObjectId.{id_cmp};
 ghost use Rattle.gixp_hash.specs.declared.object_id.ObjectId.{ObjectId};
-ghost use Rattle.gixp_client.specs.Boundaries.{has_id, ids_beyond, updates_between};
+ghost use Rattle.gixp_client.specs.Boundaries.{has_id, ids_beyond, updates_between, ids_after};
 
 use gixp_hash::ObjectId;
-use gixp_shallow::ShallowUpdate;
+use gixp_shallow::{ShallowUpdate, new_boundary};
 use std::alloc::{AllocError, Global};
 use std::collections::BTreeSet;
 
@@ -37,6 +37,21 @@ impl Boundary {
             asked_for: Vec::new(alloc),
             unasked: Vec::new(alloc),
         })
+    }
+
+    /// The boundary with the updates that weren't asked for too, in order of the ids: for a caller who sees to it that the objects
+    /// behind it are there.
+    ///
+    /// # Errors
+    ///
+    /// An allocation failure alone.
+    pub fn with_unasked(&self, alloc: Global) -> Result<Vec<ObjectId>, AllocError>
+        ensures { IfOk result (λ ids. ids.items ≡ ids_after self.now.ids.items self.now.unasked.items) }
+    {
+        match self.unasked.as_slice() {
+            [] => Vec::from_slice(alloc, &self.ids),
+            [_, ..] => new_boundary(alloc, &self.ids, &self.unasked),
+        }
     }
 
     // What became of it, by whether a change was asked for.
@@ -72,8 +87,8 @@ fn insert_id(set: &mut BTreeSet<ObjectId>, id: ObjectId) -> Result<(), AllocErro
     Ok(())
 }
 
-// Ids as a set.
-fn set_of(alloc: Global, ids: &[ObjectId]) -> Result<BTreeSet<ObjectId>, AllocError>
+/// Ids as a set.
+pub(crate) fn set_of(alloc: Global, ids: &[ObjectId]) -> Result<BTreeSet<ObjectId>, AllocError>
     ensures { IfOk result (λ set. (id : ObjectId) → contains id_cmp set id ≡ has_id ids.now id) }
 {
     let mut set = BTreeSet::new(alloc);

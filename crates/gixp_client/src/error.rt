@@ -12,6 +12,7 @@ use gixp_capabilities::client;
 use gixp_fetch::consume::CopyError;
 use gixp_graph::{ObjectError, RefStoreError};
 use gixp_handshake::handshake;
+use gixp_hash::ObjectId;
 use gixp_matching::match_group::validate;
 use gixp_negotiate::negotiate;
 use gixp_packetline::{ServerMessage, read};
@@ -70,6 +71,12 @@ pub enum Error {
     },
     /// The server's repository is shallow, and the request rejects that.
     ShallowServer,
+    /// The server takes an id out of the shallow boundary that isn't in it (gitprotocol-pack, "Packfile Negotiation"): what has come is
+    /// to be thrown away.
+    UnknownUnshallow {
+        /// The id.
+        id: ObjectId,
+    },
     /// The pack wasn't taken: what has come of it is to be thrown away.
     Pack(PackError),
     /// What comes after the pack wasn't read.
@@ -169,6 +176,12 @@ impl Display for Rest<'_> {
             Error::LocalRefs(e) => write!(f, "the refs of the repository can't be read: {e:?}"),
             Error::MissingFeature { feature } => write!(f, "the server doesn't offer {feature}"),
             Error::ShallowServer => f.write_str("the server's repository is shallow"),
+            Error::UnknownUnshallow { id } => {
+                write!(
+                    f,
+                    "the server takes {id} out of the shallow boundary, which doesn't have it"
+                )
+            }
             Error::Pack(PackError::Refused(why)) => write!(f, "the pack is refused: {why}"),
             Error::Pack(e) => write!(f, "the pack can't be read: {e:?}"),
             Error::Rest(e) => write!(f, "what comes behind the pack can't be read: {e:?}"),

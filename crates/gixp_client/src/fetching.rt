@@ -7,9 +7,10 @@ ghost use Rattle.gixp_fetch.specs.FetchShallow.{shallow_value, is_change};
 ghost use Rattle.gixp_client.specs.Boundaries.{IsLeftBoundary, IsBoundaryAfter};
 ghost use Rattle.gixp_client.specs.ClientError.{IsUnsent};
 ghost use Rattle.gixp_client.specs.ClientCalls.{named_feature, client_feature, session_call, session_knowledge, FetchesMap, FetchesInSession};
+ghost use Rattle.gixp_client.specs.Unshallowed.{TakesKnown, KnowsAll};
 ghost use Rattle.gixp_client.specs.SessionStates.{behind_fetch, is_reported, IsReportIn, IsRefusedFetch};
 
-use crate::boundary::Boundary;
+use crate::boundary::{Boundary, set_of};
 use crate::error::Error;
 use crate::fetched::Fetched;
 use crate::listen::{Kept, Listener};
@@ -63,6 +64,7 @@ where
             (session_knowledge wanted.entry.request.now (F.contents wanted.entry.objects.now) (R.refs wanted.entry.refs.now))
             (T.reading self.old.transport.inner) store.old pack.old result (T.reading self.new.transport.inner) store.new pack.new }
         ensures state { self.new.state ≡ behind_fetch self.old.shaken.server_protocol_version result }
+        ensures known { IfOk result (TakesKnown wanted.entry.boundary.now) }
     {
         let version = self.shaken.server_protocol_version;
         let alloc = self.alloc;
@@ -96,7 +98,7 @@ where
     }
 
     /// Fetches what is mapped, as the request asks for it: the pack goes to its consumer, as a `CopyPack` of a writer. Where nothing
-    /// is mapped, nothing is sent.
+    /// is mapped, nothing is sent. A server that takes an id out of the boundary which isn't in it is refused, once the pack has come.
     ///
     /// # Errors
     ///
@@ -126,6 +128,7 @@ where
             (T.reading self.new.transport.inner) pack.new
             × IsBoundaryAfter (is_change (shallow_value request.now.shallow)) repository.entry.boundary.now after f.boundary)) }
         ensures stands { IfOk result (λ f. self.new.state ≡ behind_fetch self.old.shaken.server_protocol_version (Ok f.outcome)) }
+        ensures known { IfOk result (λ f. KnowsAll repository.entry.boundary.now f.outcome) }
         ensures refused { IfErr result (λ e. (IsUnsent e × (self.new ≡ self.old) × (pack.new ≡ pack.old))
             ⊎ ((told : Result (Option Outcome) Error) × (after : List Id) × FetchesInSession
             (parties_of ⟦<SessionNegotiation<'a, F, R, AnyNegotiator> as Negotiate>⟧.calls ⟦<ShallowMemory as ShallowStore>⟧.calls
@@ -171,6 +174,7 @@ where
             (T.reading self.new.transport.inner) pack.new
             × IsBoundaryAfter (is_change (shallow_value request.now.shallow)) repository.entry.boundary.now after f.boundary)) }
         ensures stands { IfOk result (λ f. self.new.state ≡ behind_fetch self.old.shaken.server_protocol_version (Ok f.outcome)) }
+        ensures known { IfOk result (λ f. KnowsAll repository.entry.boundary.now f.outcome) }
         ensures refused { IfErr result (λ e. (IsUnsent e × (self.new ≡ self.old) × (pack.new ≡ pack.old))
             ⊎ ((told : Result (Option Outcome) Error) × (after : List Id) × FetchesInSession
             (parties_of ⟦<SessionNegotiation<'a, F, R, N> as Negotiate>⟧.calls ⟦<ShallowMemory as ShallowStore>⟧.calls
@@ -195,6 +199,7 @@ where
         expect_filter(alloc, &self.shaken, request)?;
         let agent = client_name(alloc, &self.agent)?;
         let mut store = store_of(alloc, before)?;
+        let known = set_of(alloc, before)?;
         let Repository {
             objects,
             refs,
@@ -206,6 +211,7 @@ where
             refs,
             request,
             negotiator,
+            boundary: &known,
         };
         let came = self.carry_out(wanted, agent, &mut store, pack);
         let messages = self.transport.take_kept(alloc);

@@ -20,6 +20,8 @@ mod run;
 mod session;
 mod settle;
 mod state;
+mod tables;
+mod watched;
 mod windows;
 mod words;
 
@@ -38,4 +40,5 @@ pub use request::Request;
 pub use run::SessionNegotiation;
 pub use session::Session;
 pub use state::State;
+pub use watched::Watched;
 pub use windows::{MOST_HAVES, Windowed};

@@ -3,15 +3,19 @@ ghost use Rattle.std.specs.Prelude.{◌≡◌, IfOk, IfErr, OnOk, OnErr, map};
 ghost use Rattle.gixp_refspec.specs.RefSpec.{owned_value_of};
 ghost use Rattle.gixp_refmap.specs.Tags.{tags_asked};
 ghost use Rattle.gixp_refmap.specs.Values.{context_value};
+ghost use Rattle.gixp_requests.specs.Command.{table_of};
 ghost use Rattle.gixp_client.specs.ClientCalls.{some_spec};
+ghost use Rattle.gixp_client.specs.Tables.{asked_table};
 
 use crate::error::Error;
+use crate::tables::table_by;
 use bstr::{BStr, BString};
 use gixp_negotiators::Algorithm;
 use gixp_refmap::fetch::Tags;
 use gixp_refmap::refmap::init;
 use gixp_refspec::RefSpec;
 use gixp_refspec::parse::{Operation, parse};
+use gixp_requests::command::CommandTable;
 use gixp_shallow::Shallow;
 use std::alloc::{AllocError, Global};
 
@@ -36,6 +40,8 @@ pub struct Request {
     pub filter: Option<String>,
     /// Whether a fetch goes on though the server reports an error beside the pack (band 3). The default is false.
     pub goes_on: bool,
+    /// Whether the server is to say how far it came. Else it is asked not to, where it can be. The default is true.
+    pub wants_progress: bool,
 }
 
 impl Request {
@@ -56,6 +62,7 @@ impl Request {
             is_over_pipes: true,
             filter: None,
             goes_on: false,
+            wants_progress: true,
         }
     }
 
@@ -94,6 +101,13 @@ impl Request {
     {
         self.filter = Some(String::from_str(self.alloc, filter)?);
         Ok(())
+    }
+
+    // What is asked for of the server by itself.
+    pub(crate) fn table(&self) -> CommandTable
+        ensures { table_of result ≡ asked_table self.now.wants_progress }
+    {
+        table_by(self.wants_progress)
     }
 
     // The refspecs, and the refspec of the tags.

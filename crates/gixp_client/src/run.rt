@@ -1,13 +1,15 @@
 //! One fetch of a session.
-ghost use Rattle.std.specs.Prelude.{◌≡◌, ◌≤◌, None, string_bytes};
+ghost use Rattle.std.specs.Prelude.{◌≡◌, ◌≤◌, None, IfOk, string_bytes};
 ghost use Rattle.gixp_requests.specs.Feature.{feature_value};
 ghost use Rattle.gixp_fetch.specs.Fetch.{parties_of};
 ghost use Rattle.gixp_client.specs.ClientCalls.{named_feature, HoldsAndTells, FetchesMap, session_call, session_knowledge};
+ghost use Rattle.gixp_client.specs.Unshallowed.{TakesKnown};
 
 use crate::error::Error;
 use crate::over::Filtered;
 use crate::refusal::told;
 use crate::request::Request;
+use crate::watched::{Watched, known_alone};
 use crate::windows::{MOST_HAVES, Windowed};
 use gixp_fetch::consume::ConsumePack;
 use gixp_fetch::fetch::fetch;
@@ -15,22 +17,24 @@ use gixp_fetch::mapped::NegotiatesMap;
 use gixp_fetch::options::{Context, Options, Outcome};
 use gixp_graph::{Find, Graph, Negotiator, RefStore, Shared};
 use gixp_handshake::Handshake;
+use gixp_hash::ObjectId;
 use gixp_memory::NoAlternates;
 use gixp_negotiate::negotiate::Negotiate;
 use gixp_negotiate::negotiate::negotiation::{NegotiateContext, Negotiation};
 use gixp_packetline::Protocol;
 use gixp_progress::NestedProgress;
 use gixp_refmap::RefMap;
-use gixp_requests::command::{CommandTable, Feature};
+use gixp_requests::command::Feature;
 use gixp_shallow::{ShallowMemory, ShallowStore};
 use gixp_sidebands::{Interrupt, NeverInterrupt};
 use gixp_wire::Transport;
 use std::alloc::Global;
+use std::collections::BTreeSet;
 
 /// The negotiation of a session's fetch.
-pub type SessionNegotiation<'a, F, R, N> = Filtered<
+pub type SessionNegotiation<'a, F, R, N> = Watched<
     'a,
-    Windowed<Negotiation<'a, Shared<'a, F>, R, N, Shared<'a, F>, NoAlternates>>,
+    Filtered<'a, Windowed<Negotiation<'a, Shared<'a, F>, R, N, Shared<'a, F>, NoAlternates>>>,
 >;
 
 /// How many haves a request may have.
@@ -63,6 +67,8 @@ pub(crate) struct Wanted<'a, F, R, N> {
     pub(crate) refs: &'a mut R,
     pub(crate) request: &'a Request,
     pub(crate) negotiator: &'a mut N,
+    /// The shallow boundary, out of which the server may take what is in it.
+    pub(crate) boundary: &'a BTreeSet<ObjectId>,
 }
 
 /// The server of a fetch, and its progress reporter.
@@ -100,7 +106,7 @@ where
     let context = Context {
         handshake: shaken,
         transport,
-        table: &CommandTable::git(),
+        table: &request.table(),
     };
     let options = Options {
         shallow_file: store,
@@ -156,6 +162,7 @@ where
           refs = R.refs wanted.entry.refs.now;
         })
         (T.reading peer.entry.transport.now) store.old pack.old result (T.reading peer.exit.1.0.now) store.new pack.new }
+    ensures known { IfOk result (TakesKnown wanted.entry.boundary.now) }
 {
     let Wanted {
         map,
@@ -163,6 +170,7 @@ where
         refs,
         request,
         negotiator,
+        boundary,
     } = wanted;
     let most = most_haves(peer.shaken.server_protocol_version, request.is_over_pipes);
     let shared = Shared::new(objects);
@@ -176,6 +184,8 @@ where
     };
     let negotiation = Negotiation::new(context, map, &request.shallow, request.tags);
     let windowed = Windowed::new(negotiation, most);
-    let mut filtered = Filtered::new(windowed, request.filter.as_deref());
-    fetch_over(alloc, &mut filtered, agent, request, peer, store, pack)
+    let filtered = Filtered::new(windowed, request.filter.as_deref());
+    let mut watched = Watched::new(filtered, boundary);
+    let came = fetch_over(alloc, &mut watched, agent, request, peer, store, pack);
+    known_alone(came, watched.unknown(), boundary)
 }

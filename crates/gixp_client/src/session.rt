@@ -12,12 +12,14 @@ ghost use Rattle.gixp_handshake.specs.ObtainProgress.{TellsObtained};
 ghost use Rattle.gixp_handshake.specs.ShakeProgress.{TellsShake};
 ghost use Rattle.gixp_client.specs.ClientError.{of_list, of_init};
 ghost use Rattle.gixp_client.specs.ClientCalls.{client_feature, OpensSession, ListsInSession, GivesRefs, MapsInSession, ClosesSession};
+ghost use Rattle.gixp_client.specs.Filters.{offers_filter};
 ghost use Rattle.gixp_client.specs.SessionStates.{behind_refusal, behind_map};
 
 use crate::error::Error;
 use crate::heard::Heard;
 use crate::listen::Listener;
 use crate::request::Request;
+use crate::settle::can_filter;
 use crate::state::{State, behind_map, behind_refusal};
 use gixp_capabilities::Capabilities;
 use gixp_handshake::credentials::{self, Action};
@@ -155,6 +157,24 @@ impl<T: Transport + Drop, L: Listener + Drop, P: NestedProgress + Drop> Session<
         ensures { result.now ≡ self.now.shaken.capabilities }
     {
         &self.shaken.capabilities
+    }
+
+    /// Whether the server can leave out objects by a filter: a fetch whose request has one is refused else.
+    ///
+    /// # Errors
+    ///
+    /// An allocation failure alone.
+    pub fn can_filter(&self) -> Result<bool, AllocError>
+        ensures { IfOk result (λ can. can ≡ offers_filter self.now.shaken) }
+    {
+        can_filter(self.alloc, &self.shaken)
+    }
+
+    /// The listener, as the messages so far left it.
+    pub fn listener(&self) -> &L
+        ensures { result.now ≡ self.now.transport.listener }
+    {
+        &self.transport.listener
     }
 
     /// The progress reporter, as the calls so far left it.
@@ -299,7 +319,7 @@ impl<T: Transport + Drop, L: Listener + Drop, P: NestedProgress + Drop> Session<
         let made = obtain(
             self.alloc,
             &mut self.shaken,
-            &CommandTable::git(),
+            &request.table(),
             name,
             context,
             &mut self.progress,

@@ -2,6 +2,7 @@
 ghost use Rattle.std.specs.Prelude.{◌≡◌, ◌⊎◌, IfOk, IfErr, Ok, Err};
 ghost use Rattle.gixp_fetch.specs.FetchShallow.{shallow_value, is_change};
 ghost use Rattle.gixp_client.specs.ClientError.{IsUnsent};
+ghost use Rattle.gixp_client.specs.Filters.{offers_filter};
 ghost use Rattle.gixp_client.specs.Boundaries.{IsBoundaryAfter};
 ghost use Rattle.gixp_client.specs.SessionStates.{is_reported, IsReport};
 
@@ -28,6 +29,17 @@ pub(crate) fn store_of(alloc: Global, boundary: &[ObjectId]) -> Result<ShallowMe
     Ok(ShallowMemory::new(ids))
 }
 
+/// Whether the server can leave out objects by a filter.
+pub(crate) fn can_filter(alloc: Global, shaken: &Handshake) -> Result<bool, AllocError>
+    ensures { IfOk result (λ can. can ≡ offers_filter shaken.now) }
+{
+    let table = CommandTable::git();
+    let version = shaken.server_protocol_version;
+    let features = table.default_features(alloc, Command::Fetch, version, &shaken.capabilities)?;
+    let arguments = Arguments::new(alloc, &table, version, features)?;
+    Ok(arguments.can_use_filter())
+}
+
 /// `MissingFeature` for a filter where the server offers none.
 pub(crate) fn expect_filter(
     alloc: Global,
@@ -36,14 +48,7 @@ pub(crate) fn expect_filter(
 ) -> Result<(), Error>
     ensures { IfErr result IsUnsent }
 {
-    if request.filter.is_none() {
-        return Ok(());
-    }
-    let table = CommandTable::git();
-    let version = shaken.server_protocol_version;
-    let features = table.default_features(alloc, Command::Fetch, version, &shaken.capabilities)?;
-    let arguments = Arguments::new(alloc, &table, version, features)?;
-    if arguments.can_use_filter() {
+    if request.filter.is_none() || can_filter(alloc, shaken)? {
         Ok(())
     } else {
         Err(missing(alloc, "filter"))

@@ -61,6 +61,7 @@ fn behind_unsaid(version: Protocol, e: &Error) -> State
         Error::Request(e) => behind_request(e),
         Error::Answer(e) => behind_answer(e),
         Error::Unnegotiated { .. } => behind_answers(version, State::Ended),
+        Error::UnknownUnshallow { .. } => behind_answers(version, State::Ended),
         Error::Objects(_) => behind_answers(version, State::Broken),
         _ => State::Broken,
     }

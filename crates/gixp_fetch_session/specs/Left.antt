@@ -8,8 +8,10 @@ use Rattle.gix_protocol.specs.RefsError.{Error as ParseError}
 use Rattle.gix_protocol.specs.RefsError.TheVariants as parse
 use Rattle.gix_protocol.specs.HandshakeErrorType.{Error as ShakeError}
 use Rattle.gix_protocol.specs.HandshakeErrorType.TheVariants as shake
-use Rattle.gix_protocol.specs.ListErrorType.{Error as ListError}
-use Rattle.gix_protocol.specs.ListErrorType.TheVariants as list
+use Rattle.gix_protocol.specs.AnswerErrorType.{Error as AnswerError}
+use Rattle.gix_protocol.specs.AnswerErrorType.TheVariants as answer
+use Rattle.gix_protocol.specs.SessionErrorType.{Error}
+use Rattle.gix_protocol.specs.SessionErrorType.TheVariants.{Handshake, Refs, Request, Answer}
 
 -- the kinds of an end that is read, and of one that is written to
 abbrev pub is_gone : ErrorKind → Bool
@@ -34,9 +36,16 @@ is_handshake_cut (shake.Transport e) = is_client_gone e
 is_handshake_cut (shake.ParseRefs e) = is_list_cut e
 is_handshake_cut _ = false
 
--- within a list of refs
-abbrev pub is_listing_cut : ListError → Bool
-is_listing_cut (list.Io kind) = is_gone kind
-is_listing_cut (list.Transport e) = is_client_gone e
-is_listing_cut (list.Parse e) = is_list_cut e
-is_listing_cut _ = false
+-- within an answer
+abbrev pub is_answer_cut : AnswerError → Bool
+is_answer_cut (answer.Io kind) = is_gone kind
+is_answer_cut (answer.Transport e) = is_client_gone e
+is_answer_cut _ = false
+
+-- before it had said what it was asked for
+abbrev pub is_left : Error → Bool
+is_left (Handshake e) = is_handshake_cut e
+is_left (Refs e) = is_list_cut e
+is_left (Request e) = is_client_gone e
+is_left (Answer e) = is_answer_cut e
+is_left _ = false

@@ -1,7 +1,6 @@
 pub mod Received
-pub mod Watched
-pub mod Quiet
 pub mod Failures
+pub mod Asked
 pub mod SystemWords
 pub mod Left
 pub mod Reasons

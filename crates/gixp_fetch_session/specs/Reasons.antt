@@ -8,8 +8,8 @@ use Rattle.gix_protocol.specs.RefsError.{Error as ParseError}
 use Rattle.gix_protocol.specs.RefsError.TheVariants as parse
 use Rattle.gix_protocol.specs.HandshakeErrorType.{Error as ShakeError}
 use Rattle.gix_protocol.specs.HandshakeErrorType.TheVariants as shake
-use Rattle.gix_protocol.specs.ListErrorType.{Error as ListError}
-use Rattle.gix_protocol.specs.ListErrorType.TheVariants as list
+use Rattle.gix_protocol.specs.SessionErrorType.{Error}
+use Rattle.gix_protocol.specs.SessionErrorType.TheVariants.{Handshake, Refs, Request}
 
 -- what was read: a server's own error and an allocation failure have sentences of their own
 abbrev pub read_reason : ReadError → Option (List ℕ)
@@ -46,9 +46,9 @@ handshake_reason (shake.Transport e) = client_reason e
 handshake_reason (shake.ParseRefs e) = refs_reason e
 handshake_reason _ = None
 
--- a list of refs
-abbrev pub listing_reason : ListError → Option (List ℕ)
-listing_reason (list.Io kind) = Some (codes "the connection can't be read")
-listing_reason (list.Transport e) = client_reason e
-listing_reason (list.Parse e) = refs_reason e
-listing_reason _ = None
+-- a session
+abbrev pub session_reason : Error → Option (List ℕ)
+session_reason (Handshake e) = handshake_reason e
+session_reason (Refs e) = refs_reason e
+session_reason (Request e) = client_reason e
+session_reason _ = None

@@ -9,6 +9,7 @@ use Rattle.gixp_pack.specs.declared.check.PackSummary.{PackSummary}
 use Rattle.gixp_fetch_local.specs.declared.copy.StreamError.{StreamError}
 use Rattle.gixp_fetch_session.specs.declared.receive.ReceiveError.{ReceiveError}
 use Rattle.gixp_fetch_session.specs.declared.receive.ReceiveError.TheVariants.{Begin, Stream}
+use Rattle.gixp_fetch_session.specs.declared.receive.Unreceived.{Unreceived}
 use Rattle.gixp_fetch_session.specs.declared.receive.Whole.{Whole}
 use Rattle.gixp_fetch_local.specs.PackCopied.{CameNext, ChecksPack, copies_pack_reads}
 
@@ -60,6 +61,11 @@ module _ {P W : Type 0} (begins : P → W → P → Type 0) (gives_up : P → W 
       ([], record { content = nothing_passes start; ending = λ _. end-stays start.reading }, refl)
   receives_owes p q start end (Err (Stream e)) whole h =
       came_leaves start end (copies_pack_reads (contents h.1.first) (contents h.1.last) start end (Err e) h.1.copied)
+
+-- why a pack isn't received, without what tells it
+abbrev pub reason_of : Result Bool Unreceived → Result Bool ReceiveError
+reason_of (Ok finished) = Ok finished
+reason_of (Err e) = Err e.why
 
 -- a pack that was held whole is kept, and told of; where none was, nothing is done
 abbrev pub KeepsHeld : {P W : Type 0} → (P → W → P → Type 0) → Option (Whole W) → P → Option PackSummary → P → Type 0

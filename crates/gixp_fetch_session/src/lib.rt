@@ -7,24 +7,25 @@ ghost use Rattle.gixp_fetch_session.specs.Failures.{TellsRefused, unless_failed}
 mod ends;
 pub mod failure;
 mod kinds;
-mod quiet;
 pub mod receive;
 pub mod repository;
 mod sentence;
 pub mod session;
 pub mod shown;
 mod usage;
-mod watched;
 
 use crate::ends::{Source, Target};
 use crate::failure::Failure;
 use crate::receive::PackReceiver;
 use crate::repository::{Repository, write_boundary};
-use crate::session::{Asked, How, Session, Sink, connect};
+use crate::session::{
+    Asked, connect, fetch as fetch_over, map, open, refs, request_of, set_filter,
+};
 use crate::shown::Shown;
 use crate::usage::{USAGE, VERSION, print_refusal};
+use gix_protocol::client::{Fetched, Listener, Request, Session, Silent};
+use gix_protocol::fetch::RefMap;
 use gix_protocol::fetch::negotiate::{Graph, Noop, Shared};
-use gix_protocol::fetch::{Outcome, RefMap, ShallowMemory};
 use gix_protocol::transport::{Connection, NestedProgress, ObjectId, Transport};
 use gixp_fetch_local::listed::{ListedCommits, Refusal};
 use gixp_fetch_local::{
@@ -32,7 +33,7 @@ use gixp_fetch_local::{
     fetch_report, listing, missing_name,
 };
 use gixp_pack::PackSummary;
-use std::alloc::{AllocError, Global};
+use std::alloc::Global;
 use std::cell::Cell;
 use std::fs::{File, OpenOptions};
 use std::io::{BufReader, BufWriter, Input, Printer, StdinLock, Write};
@@ -115,13 +116,15 @@ fn list(rt: &HostRuntime, options: &Options<'_>, keeps_open: bool) -> Result<(),
     let alloc = rt.alloc();
     let transport = open_transport(rt, &options.server)?;
     let has_failed = Cell::new(false);
-    let mut shown = shown_of(rt, &options.output, &has_failed);
-    let mut session = Session::open(alloc, transport, options.server.agent, &mut shown)?;
-    let refs = session.refs(&mut shown)?;
-    if !keeps_open {
-        session.end(false);
+    let shown = shown_of(rt, &options.output, &has_failed);
+    let mut session = open(alloc, transport, options.server.agent, Silent, shown)?;
+    let text = listing(alloc, refs(alloc, &mut session)?)?;
+    if keeps_open {
+        let _ = session.into_transport();
+    } else {
+        drop(session);
     }
-    tell(rt, &options.output, &listing(alloc, &refs)?)
+    tell(rt, &options.output, &text)
 }
 
 // The failure of a fetch, where it may be for the text of the commits.
@@ -135,16 +138,15 @@ fn failure_of(alloc: Global, path: &str, refusal: Option<Refusal>, failure: Fail
     }
 }
 
-// Fetches what is mapped into a sink, and offers the commits of a text in its order.
-fn offer_in_order<T: Transport, P: PackPlace, S: NestedProgress>(
+// Fetches what is mapped, and offers the commits of a text in its order.
+fn offer_in_order<T: Transport + Drop, L: Listener + Drop, S: NestedProgress + Drop, P: PackPlace>(
     rt: &HostRuntime,
-    session: &mut Session<'_, T>,
+    session: &mut Session<T, L, S>,
     repository: &mut Repository,
     asked: Asked<'_>,
     path: &str,
-    sink: &mut Sink<P>,
-    shown: &mut S,
-) -> Result<Option<Outcome>, Failure>
+    pack: &mut PackReceiver<P>,
+) -> Result<Fetched, Failure>
 where
     S::SubProgress: Drop,
 {
@@ -152,93 +154,73 @@ where
     let file = File::open(rt, path).map_err(|e| Failure::of_file(alloc, path, e.kind()))?;
     let text = BufReader::new(alloc, file).map_err(|_| Failure::Memory)?;
     let mut negotiator = ListedCommits::new(alloc, text, repository.tips.take());
-    match session.fetch(repository, &mut negotiator, asked, sink, shown) {
-        Ok(outcome) => Ok(outcome),
+    match fetch_over(alloc, session, repository, &mut negotiator, asked, pack) {
+        Ok(fetched) => Ok(fetched),
         Err(e) => Err(failure_of(alloc, path, negotiator.refusal(), e)),
     }
 }
 
-/// Fetches what is mapped into a sink, by the negotiator that was chosen.
-pub fn negotiate<T: Transport, P: PackPlace, S: NestedProgress>(
+/// Fetches what is mapped, by the negotiator that was chosen.
+pub fn negotiate<T: Transport + Drop, L: Listener + Drop, S: NestedProgress + Drop, P: PackPlace>(
     rt: &HostRuntime,
-    session: &mut Session<'_, T>,
+    session: &mut Session<T, L, S>,
     repository: &mut Repository,
     asked: Asked<'_>,
-    commits: Option<&str>,
-    sink: &mut Sink<P>,
-    shown: &mut S,
-) -> Result<Option<Outcome>, Failure>
+    pack: &mut PackReceiver<P>,
+) -> Result<Fetched, Failure>
 where
     S::SubProgress: Drop,
 {
-    match (asked.wish.haves, commits) {
+    let alloc = rt.alloc();
+    match (asked.haves, asked.commits) {
         (Haves::By(algorithm), _) => {
-            let mut negotiator = algorithm.negotiator(rt.alloc());
-            session.fetch(repository, &mut negotiator, asked, sink, shown)
+            let mut negotiator = algorithm.negotiator(alloc);
+            fetch_over(alloc, session, repository, &mut negotiator, asked, pack)
         }
         (Haves::InOrder, Some(path)) => {
-            offer_in_order(rt, session, repository, asked, path, sink, shown)
+            offer_in_order(rt, session, repository, asked, path, pack)
         }
-        (Haves::InOrder, None) => session.fetch(repository, &mut Noop, asked, sink, shown),
+        (Haves::InOrder, None) => fetch_over(alloc, session, repository, &mut Noop, asked, pack),
     }
 }
 
 // Fetches what is mapped, and keeps the boundary and then the pack.
-fn take_pack<T: Transport>(
+fn take_pack<T: Transport + Drop>(
     rt: &HostRuntime,
-    session: &mut Session<'_, T>,
+    session: &mut Session<T, Silent, Shown<'_>>,
     repository: &mut Repository,
     asked: Asked<'_>,
-    options: &Options<'_>,
-    shown: &mut Shown<'_>,
+    path: &str,
+    shallow: Option<&str>,
 ) -> Result<Option<PackSummary>, Failure> {
     let alloc = rt.alloc();
     if asked.map.is_empty() {
-        session.end(false);
         return Ok(None);
     }
-    let place = PackFile::new(rt, alloc, asked.wish.pack)?;
-    let mut sink = Sink {
-        boundary: ShallowMemory::new(Vec::from_slice(alloc, &repository.boundary)?),
-        pack: PackReceiver::new(alloc, place),
-    };
-    let commits = options.files.commits;
-    let result = negotiate(rt, session, repository, asked, commits, &mut sink, shown);
-    if let Ok(outcome) = &result {
-        session.end(outcome.is_some());
-    }
-    let result = unless_failed(result, shown.has_failed.get());
-    match settle(
-        rt,
-        options.files.shallow,
-        &repository.boundary,
-        &sink.boundary,
-        result,
-    ) {
-        Ok(()) => sink
-            .pack
+    let mut pack = PackReceiver::new(alloc, PackFile::new(rt, alloc, path)?);
+    let came = negotiate(rt, session, repository, asked, &mut pack);
+    let came = unless_failed(came, session.progress().has_failed.get());
+    match settle(rt, shallow, &repository.boundary, came) {
+        Ok(()) => pack
             .keep()
-            .map_err(|e| Failure::of_file(alloc, asked.wish.pack, e.kind())),
+            .map_err(|e| Failure::of_file(alloc, path, e.kind())),
         Err(e) => {
-            sink.pack.give_up();
+            pack.give_up();
             Err(e)
         }
     }
 }
 
 /// What came of a fetch, unless the server reported an error beside it.
-pub fn unless_failed(
-    came: Result<Option<Outcome>, Failure>,
-    has_failed: bool,
-) -> Result<Option<Outcome>, Failure>
+pub fn unless_failed(came: Result<Fetched, Failure>, has_failed: bool) -> Result<Fetched, Failure>
     ensures { result ≡ unless_failed came has_failed }
 {
     match came {
-        Ok(outcome) => {
+        Ok(fetched) => {
             if has_failed {
                 return Err(Failure::ServerFailed);
             }
-            Ok(outcome)
+            Ok(fetched)
         }
         Err(e) => Err(e),
     }
@@ -249,26 +231,26 @@ fn settle(
     rt: &HostRuntime,
     path: Option<&str>,
     old: &[ObjectId],
-    boundary: &ShallowMemory,
-    outcome: Result<Option<Outcome>, Failure>,
+    came: Result<Fetched, Failure>,
 ) -> Result<(), Failure> {
-    outcome?;
-    write_boundary(rt, path, old, boundary)
+    let boundary = came?.boundary.with_unasked(rt.alloc())?;
+    write_boundary(rt, path, old, &boundary)
 }
 
-// How the server is asked.
-fn how_of(alloc: Global, options: &Options<'_>) -> Result<How, AllocError>
-    ensures filter { IfOk result (λ how. option_map string_bytes how.filter ≡ option_map (λ w. w.now) options.now.filter) }
-    ensures progress { IfOk result (λ how. how.wants_progress ≡ options.now.output.shows_progress) }
-{
-    let filter = match options.filter {
-        Some(spec) => Some(String::from_str(alloc, spec)?),
-        None => None,
+/// Has objects left out by a filter, if there is one, where the server can do that. Else the user is told that it can't, as git does.
+pub fn ask_filter<T: Transport + Drop, L: Listener + Drop, S: NestedProgress + Drop>(
+    rt: &HostRuntime,
+    session: &Session<T, L, S>,
+    request: &mut Request,
+    filter: Option<&str>,
+) -> Result<(), Failure> {
+    let Some(filter) = filter else {
+        return Ok(());
     };
-    Ok(How {
-        filter,
-        wants_progress: options.output.shows_progress,
-    })
+    if !set_filter(session, request, filter)? {
+        let _ = eprintln!(rt; "warning: filtering not recognized by server, ignoring");
+    }
+    Ok(())
 }
 
 // Fetches.
@@ -277,34 +259,27 @@ fn fetch(rt: &HostRuntime, options: &Options<'_>, wish: &Wish<'_>) -> Result<(),
     let mut repository = Repository::read(rt, &options.files, wish.haves)?;
     let transport = open_transport(rt, &options.server)?;
     let has_failed = Cell::new(false);
-    let mut shown = shown_of(rt, &options.output, &has_failed);
-    let mut session = Session::open(alloc, transport, options.server.agent, &mut shown)?;
-    let map = session.map(wish, &mut shown)?;
-    if options.filter.is_some() && !session.can_filter()? {
-        let _ = eprintln!(rt; "warning: filtering not recognized by server, ignoring");
-    }
+    let shown = shown_of(rt, &options.output, &has_failed);
+    let mut session = open(alloc, transport, options.server.agent, Silent, shown)?;
+    let mut request = request_of(alloc, wish, options.output.shows_progress)?;
+    let map = map(alloc, &mut session, &request)?;
+    ask_filter(rt, &session, &mut request, options.filter)?;
     if let Some(questions) = options.files.questions {
         repository.ask(rt, questions, &map)?;
     }
     if let Some(name) = missing_name(alloc, &map)? {
-        session.end(false);
         return Err(Failure::Missing { name });
     }
     let changes = changes_in(alloc, &map, &repository, options, wish)?;
-    let how = how_of(alloc, options)?;
     let asked = Asked {
         map: &map,
-        wish,
-        how: &how,
+        request: &request,
+        haves: wish.haves,
+        commits: options.files.commits,
     };
-    let pack = take_pack(
-        rt,
-        &mut session,
-        &mut repository,
-        asked,
-        options,
-        &mut shown,
-    )?;
+    let shallow = options.files.shallow;
+    let pack = take_pack(rt, &mut session, &mut repository, asked, wish.pack, shallow)?;
+    drop(session);
     tell(
         rt,
         &options.output,

@@ -1,12 +1,12 @@
 //! A pack that is checked while it comes, and kept if it is whole.
 ghost use Rattle.std.specs.Prelude.{◌≡◌, None, IfOk, OnErr};
 ghost use Rattle.gix_protocol.specs.Sidebands.{side};
-ghost use Rattle.gixp_fetch_session.specs.Received.{ReceivesPack, receives_owes, KeepsHeld, DropsHeld};
+ghost use Rattle.gixp_fetch_session.specs.Received.{ReceivesPack, receives_owes, reason_of, KeepsHeld, DropsHeld};
 
 use crate::kinds::words_of;
-use bstr::BStr;
+use gix_protocol::client::{Error, PackError};
 use gix_protocol::fetch::{ConsumePack, WithSidebands};
-use gix_protocol::transport::{ExtendedBufRead, Interrupt, Progress, ServerMessage};
+use gix_protocol::transport::{ExtendedBufRead, Interrupt, Progress};
 use gixp_fetch_local::{PackPlace, StreamError, copy_pack};
 use gixp_pack::PackSummary;
 use std::alloc::Global;
@@ -43,14 +43,22 @@ impl Display for ReceiveError {
     }
 }
 
-/// It keeps kinds alone, and so no message.
-impl ServerMessage for ReceiveError {
-    ghost use Rattle.std.specs.Prelude.{None};
+/// Why a pack isn't received, to be told by the client's error.
+#[derive(Debug, Drop)]
+pub struct Unreceived {
+    alloc: Global,
+    why: ReceiveError,
+}
 
-    ghost message = { λ _. None };
-
-    fn server_message(&self) -> Option<BStr<'_>> {
-        None
+impl From<Unreceived> for Error {
+    fn from(e: Unreceived) -> Error {
+        match e.why {
+            ReceiveError::Stream(StreamError::Memory) => Error::Memory,
+            why => match format!(in e.alloc; "{why}") {
+                Ok(why) => Error::Pack(PackError::Refused(why)),
+                Err(_) => Error::Memory,
+            },
+        }
     }
 }
 
@@ -82,6 +90,16 @@ impl<P: PackPlace> PackReceiver<P> {
             alloc,
             place,
             whole: None,
+        }
+    }
+
+    // Why it isn't received.
+    fn unreceived(&self, why: ReceiveError) -> Unreceived
+        ensures { result.why ≡ why }
+    {
+        Unreceived {
+            alloc: self.alloc,
+            why,
         }
     }
 
@@ -117,19 +135,19 @@ impl<P: PackPlace> PackReceiver<P> {
 }
 
 impl<P: PackPlace, N> ConsumePack<N> for PackReceiver<P> {
-    type Error = ReceiveError;
+    type Error = Unreceived;
 
-    ghost consumes = { λ c s p r d t q. ReceivesPack P.begins P.gives_up P.Writer.contents c.place s r d.whole d.place t };
+    ghost consumes = { λ c s p r d t q. ReceivesPack P.begins P.gives_up P.Writer.contents c.place s (reason_of r) d.whole d.place t };
 
     fn consume_pack<T: ExtendedBufRead, Q: Progress + Drop, I: Interrupt>(
         &mut self,
         reader: &mut WithSidebands<'_, T, Q, I>,
         _progress: &mut N,
-    ) -> Result<bool, ReceiveError> {
+    ) -> Result<bool, Unreceived> {
         self.whole = None;
         let mut writer = match self.place.begin() {
             Ok(writer) => writer,
-            Err(e) => return Err(ReceiveError::Begin(e.kind())),
+            Err(e) => return Err(self.unreceived(ReceiveError::Begin(e.kind()))),
         };
         match copy_pack(self.alloc, reader, &mut writer) {
             Ok(summary) => {
@@ -138,10 +156,10 @@ impl<P: PackPlace, N> ConsumePack<N> for PackReceiver<P> {
             }
             Err(e) => {
                 self.place.give_up(writer);
-                Err(ReceiveError::Stream(e))
+                Err(self.unreceived(ReceiveError::Stream(e)))
             }
         }
     }
 
-    ghost owes = { λ c s p r d t q h. receives_owes P.begins P.gives_up P.Writer.contents c.place d.place s t r d.whole h };
+    ghost owes = { λ c s p r d t q h. receives_owes P.begins P.gives_up P.Writer.contents c.place d.place s t (reason_of r) d.whole h };
 }

@@ -12,7 +12,7 @@ use crate::failure::Failure;
 use gix_protocol::fetch::negotiate::{
     Find, ObjectKind, RefStore, StoredObjects, StoredRefs, TextError,
 };
-use gix_protocol::fetch::{RefMap, ShallowMemory, shallow_ids, shallow_text};
+use gix_protocol::fetch::{RefMap, shallow_ids, shallow_text};
 use gix_protocol::transport::ObjectId;
 use gixp_fetch_local::{AskError, Files, Haves, Questions, Witness, named_ids};
 use std::alloc::Global;
@@ -206,16 +206,16 @@ pub fn write_boundary(
     rt: &HostRuntime,
     path: Option<&str>,
     old: &[ObjectId],
-    store: &ShallowMemory,
+    new: &[ObjectId],
 ) -> Result<(), Failure> {
     let Some(path) = path else {
         return Ok(());
     };
     let alloc = rt.alloc();
-    if store.ids() == old {
+    if new == old {
         return Ok(());
     }
-    let text = shallow_text(alloc, store.ids())?;
+    let text = shallow_text(alloc, new)?;
     let path = format!(in alloc; "{path}.new")?;
     fs::write(rt, path.as_str(), text.as_slice()).map_err(|e| Failure::of_file(
         alloc,

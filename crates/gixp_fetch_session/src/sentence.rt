@@ -1,15 +1,17 @@
 //! What an error of a connection is called, in place of the name of its kind.
 ghost use Rattle.std.specs.Prelude.{◌≡◌, option_map};
-ghost use Rattle.gixp_fetch_session.specs.Left.{is_gone, is_client_gone, is_list_cut, is_handshake_cut, is_listing_cut};
-ghost use Rattle.gixp_fetch_session.specs.Reasons.{read_reason, client_reason, refs_reason, handshake_reason, listing_reason};
+ghost use Rattle.gixp_fetch_session.specs.Left.{is_gone, is_client_gone, is_list_cut, is_handshake_cut, is_answer_cut, is_left};
+ghost use Rattle.gixp_fetch_session.specs.Reasons.{read_reason, client_reason, refs_reason, handshake_reason, session_reason};
 
+use gix_protocol::client::Error;
+use gix_protocol::fetch::response;
+use gix_protocol::handshake;
 use gix_protocol::handshake::refs::parse;
 use gix_protocol::transport::{client, read};
-use gix_protocol::{handshake, ls_refs};
 use std::io::ErrorKind;
 
-/// Whether a read or a write that failed with this kind found nobody at the other end.
-pub fn is_gone(kind: ErrorKind) -> bool
+// Whether a read or a write that failed with this kind found nobody at the other end.
+fn is_gone(kind: ErrorKind) -> bool
     ensures { result ≡ is_gone kind }
 {
     matches!(
@@ -38,8 +40,8 @@ fn is_list_cut(e: &parse::Error) -> bool
     }
 }
 
-/// Whether the server left within the handshake.
-pub fn is_handshake_cut(e: &handshake::Error) -> bool
+// Whether the server left within the handshake.
+fn is_handshake_cut(e: &handshake::Error) -> bool
     ensures { result ≡ is_handshake_cut e.now }
 {
     match e {
@@ -49,14 +51,26 @@ pub fn is_handshake_cut(e: &handshake::Error) -> bool
     }
 }
 
-/// Whether the server left within its list of refs.
-pub fn is_listing_cut(e: &ls_refs::Error) -> bool
-    ensures { result ≡ is_listing_cut e.now }
+// Whether an answer isn't whole.
+fn is_answer_cut(e: &response::Error) -> bool
+    ensures { result ≡ is_answer_cut e.now }
 {
     match e {
-        ls_refs::Error::Io(kind) => is_gone(*kind),
-        ls_refs::Error::Transport(e) => is_client_gone(e),
-        ls_refs::Error::Parse(e) => is_list_cut(e),
+        response::Error::Io(kind) => is_gone(*kind),
+        response::Error::Transport(e) => is_client_gone(e),
+        _ => false,
+    }
+}
+
+/// Whether the server left before it had said what it was asked for. A pack that ends early is told of by its consumer.
+pub fn is_left(e: &Error) -> bool
+    ensures { result ≡ is_left e.now }
+{
+    match e {
+        Error::Handshake(e) => is_handshake_cut(e),
+        Error::Refs(e) => is_list_cut(e),
+        Error::Request(e) => is_client_gone(e),
+        Error::Answer(e) => is_answer_cut(e),
         _ => false,
     }
 }
@@ -111,8 +125,8 @@ fn of_refs(e: &parse::Error) -> Option<&'static str>
     }
 }
 
-/// What is wrong in a handshake, where its error has no sentence of its own.
-pub fn of_handshake(e: &handshake::Error) -> Option<&'static str>
+// What is wrong in a handshake, where its error has no sentence of its own.
+fn of_handshake(e: &handshake::Error) -> Option<&'static str>
     ensures { option_map (λ w. w.now) result ≡ handshake_reason e.now }
 {
     match e {
@@ -122,14 +136,14 @@ pub fn of_handshake(e: &handshake::Error) -> Option<&'static str>
     }
 }
 
-/// What is wrong in a list of refs, where its error has no sentence of its own.
-pub fn of_listing(e: &ls_refs::Error) -> Option<&'static str>
-    ensures { option_map (λ w. w.now) result ≡ listing_reason e.now }
+/// What is wrong, where the error has no sentence of its own.
+pub fn sentence_of(e: &Error) -> Option<&'static str>
+    ensures { option_map (λ w. w.now) result ≡ session_reason e.now }
 {
     match e {
-        ls_refs::Error::Io(_) => Some("the connection can't be read"),
-        ls_refs::Error::Transport(e) => of_client(e),
-        ls_refs::Error::Parse(e) => of_refs(e),
+        Error::Handshake(e) => of_handshake(e),
+        Error::Refs(e) => of_refs(e),
+        Error::Request(e) => of_client(e),
         _ => None,
     }
 }

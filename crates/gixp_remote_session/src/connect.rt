@@ -4,11 +4,10 @@ use crate::setup::{variable, version_word};
 use crate::shell::{NOTHING, Shell, owned};
 use crate::trouble::Trouble;
 use crate::web::connect_stateless;
-use crate::wire::{Says, Shown, Wire};
+use crate::wire::{Says, Shown, Talk, Wire};
 use bstr::BString;
-use gix_protocol::client::Heard;
 use gix_protocol::transport::{Connection, Discard, Opening, Protocol};
-use gixp_fetch_session::session::Session;
+use gixp_fetch_session::session::open;
 use gixp_remote_rules::{
     Program, Request, Settings, Start, Task, Variant, first_word, here_words, is_allowed,
     is_from_user, probe_words, proxy_for, server_variables, server_words, variant_of, web_words,
@@ -278,9 +277,7 @@ fn open_wire<'a>(reach: Reach<'a>, is_quiet: bool) -> Result<Wire<'a>, Trouble> 
         Vec::new(alloc),
         opening_of(reach)?,
     )?;
-    let connection = Bounded::new(connection, reach.bounds);
-    let shown = Shown::new(reach.rt, reach.erases, reach.has_failed)?;
-    Ok(Heard::new(alloc, connection, shown))
+    Ok(Bounded::new(connection, reach.bounds))
 }
 
 // Starts the server.
@@ -298,12 +295,22 @@ pub(crate) fn connect<'a>(
     reach: Reach<'a>,
     shell: &mut Shell,
     is_quiet: bool,
-) -> Result<Session<'static, Wire<'a>>, Trouble> {
+) -> Result<Talk<'a>, Trouble> {
     check_policy(reach)?;
     shell.end(Task::Server)?;
     start_server(reach, shell)?;
     reach.has_failed.set(false);
     forget(reach.bounds);
     let wire = open_wire(reach, is_quiet)?;
-    Ok(Session::open(reach.rt.alloc(), wire, "gixp", &mut Discard)?)
+    let shown = Shown::new(reach.rt, reach.erases, reach.has_failed)?;
+    Ok(open(reach.rt.alloc(), wire, "gixp", shown, Discard)?)
+}
+
+/// Ends a session. A web server is told nothing of that, since it would be one more request.
+pub(crate) fn leave(reach: Reach<'_>, session: Talk<'_>) {
+    if reach.address.transport.is_web() {
+        let _ = session.into_transport();
+    } else {
+        drop(session);
+    }
 }

@@ -2,36 +2,38 @@
 use crate::boundary::{boundary_of, change_boundary, lock_boundary};
 use crate::bounded::forget;
 use crate::checks::checks_of;
-use crate::connect::{Reach, connect};
+use crate::connect::{Reach, connect, leave};
 use crate::history::shallow_of;
 use crate::local::Places;
-use crate::order::{Order, haves_for, how_of, known, list_commits, map_of, wish_of};
+use crate::order::{Order, filter_of, haves_for, known, list_commits, map_of, request_of};
 use crate::pack::{Came, IndexedPack, PackPlan, PackState, place};
 use crate::shell::Shell;
 use crate::trouble::Trouble;
-use crate::wire::Wire;
+use crate::wire::Talk;
 use bstr::BString;
-use gix_protocol::fetch::ShallowMemory;
-use gix_protocol::transport::{Discard, ObjectId, Protocol};
-use gixp_fetch_local::{Haves, PackPlace, Wish};
+use gix_protocol::client;
+use gix_protocol::fetch::Shallow;
+use gix_protocol::transport::{ObjectId, Protocol};
+use gixp_fetch_local::{Haves, PackPlace};
 use gixp_fetch_session::failure::Failure;
 use gixp_fetch_session::receive::PackReceiver;
 use gixp_fetch_session::repository::Repository;
-use gixp_fetch_session::session::{Asked, How, Session, Sink};
-use gixp_fetch_session::{negotiate, unless_failed};
+use gixp_fetch_session::session::Asked;
+use gixp_fetch_session::{ask_filter, negotiate, unless_failed};
 use gixp_remote_rules::{Boundary, Task, tells_closed};
 use std::alloc::Global;
 use std::io::ErrorKind;
 
 /// A session that may be there.
-pub(crate) type Open<'a> = Option<Session<'static, Wire<'a>>>;
+pub(crate) type Open<'a> = Option<Talk<'a>>;
 
 // How one fetch goes on, once it is known where the repository is.
 #[derive(Clone, Copy)]
-struct Plan<'a, 'b, 'c, 'd> {
+struct Plan<'a, 'b, 'c> {
     order: Order<'a, 'b>,
-    wish: &'c Wish<'d>,
-    how: &'c How,
+    shallow: &'c Shallow,
+    filter: Option<&'c str>,
+    haves: Haves,
     pack: &'c PackPlan,
     // Whether commits of other repositories are offered too, whose objects are borrowed.
     has_alternates: bool,
@@ -40,30 +42,18 @@ struct Plan<'a, 'b, 'c, 'd> {
 // Fetches over a session, and gives the new boundary.
 fn fetch_over<P: PackPlace + Drop>(
     reach: Reach<'_>,
-    session: &mut Session<'static, Wire<'_>>,
+    session: &mut Talk<'_>,
     asked: Asked<'_>,
     repository: &mut Repository,
     place: P,
 ) -> Result<Vec<ObjectId>, Failure> {
     let alloc = reach.rt.alloc();
-    let boundary = Vec::from_slice(alloc, &repository.boundary)?;
-    let mut sink = Sink {
-        boundary: ShallowMemory::new(boundary),
-        pack: PackReceiver::new(alloc, place),
-    };
-    let came = negotiate(
-        reach.rt,
-        session,
-        repository,
-        asked,
-        Some("commits"),
-        &mut sink,
-        &mut Discard,
-    );
+    let mut pack = PackReceiver::new(alloc, place);
+    let came = negotiate(reach.rt, session, repository, asked, &mut pack);
     match unless_failed(came, reach.has_failed.get()) {
-        Ok(_) => keep_pack(alloc, &mut sink),
+        Ok(fetched) => keep_pack(alloc, &mut pack, &fetched.boundary),
         Err(e) => {
-            sink.pack.give_up();
+            pack.give_up();
             Err(e)
         }
     }
@@ -78,41 +68,35 @@ fn refused(kind: ErrorKind) -> Failure {
 }
 
 // Waits until the pack is indexed that came, and gives the new boundary.
-fn keep_pack<P: PackPlace>(alloc: Global, sink: &mut Sink<P>) -> Result<Vec<ObjectId>, Failure> {
-    match sink.pack.keep() {
+fn keep_pack<P: PackPlace>(
+    alloc: Global,
+    pack: &mut PackReceiver<P>,
+    boundary: &client::Boundary,
+) -> Result<Vec<ObjectId>, Failure> {
+    match pack.keep() {
         Ok(_) => {}
         Err(e) => return Err(refused(e.kind())),
     }
-    Ok(Vec::from_slice(alloc, sink.boundary.ids())?)
-}
-
-// Tells the user that a filter is left out where the server has none, as git does.
-fn warn_of_filter(
-    reach: Reach<'_>,
-    session: &Session<'static, Wire<'_>>,
-    how: &How,
-) -> Result<(), Trouble> {
-    if how.filter.is_some() && !session.can_filter()? {
-        let _ = eprintln!(reach.rt; "warning: filtering not recognized by server, ignoring");
-    }
-    Ok(())
+    Ok(boundary.with_unasked(alloc)?)
 }
 
 // A fetch over one session, and what became of the pack.
 fn fetch_by(
-    plan: Plan<'_, '_, '_, '_>,
+    plan: Plan<'_, '_, '_>,
     shell: &mut Shell,
-    session: &mut Session<'static, Wire<'_>>,
+    session: &mut Talk<'_>,
     repository: &mut Repository,
 ) -> Result<Came, Trouble> {
     let order = plan.order;
     let rt = order.reach.rt;
-    warn_of_filter(order.reach, session, plan.how)?;
+    let mut request = request_of(rt.alloc(), order.choices, plan.shallow)?;
+    ask_filter(rt, session, &mut request, plan.filter)?;
     let map = map_of(rt.alloc(), order.ids)?;
     let asked = Asked {
         map: &map,
-        wish: &*plan.wish,
-        how: &*plan.how,
+        request: &request,
+        haves: plan.haves,
+        commits: Some("commits"),
     };
     let pack = plan.pack.copy(rt.alloc())?;
     if session.version() == Protocol::V2 {
@@ -139,7 +123,7 @@ fn was_left(reach: Reach<'_>, came: &Result<Came, Trouble>, shell: &Shell) -> bo
 
 // Fetches over the session that is there, or over a new one, also where the one that is there was left by the server.
 fn fetch_once_more<'a>(
-    plan: Plan<'a, '_, '_, '_>,
+    plan: Plan<'a, '_, '_>,
     shell: &mut Shell,
     open: &mut Open<'a>,
     repository: &mut Repository,
@@ -148,27 +132,24 @@ fn fetch_once_more<'a>(
     if let Some(mut session) = open.take() {
         let came = fetch_by(plan, shell, &mut session, repository);
         if !was_left(reach, &came, shell) {
-            return settle(session, open, came?);
+            settle(reach, session, open, came.is_ok());
+            return came;
         }
-        list_commits(plan.order, shell, plan.wish.haves, plan.has_alternates)?;
+        list_commits(plan.order, shell, plan.haves, plan.has_alternates)?;
     }
     let mut session = connect(reach, shell, plan.order.choices.is_quiet)?;
-    let came = fetch_by(plan, shell, &mut session, repository)?;
-    settle(session, open, came)
+    let came = fetch_by(plan, shell, &mut session, repository);
+    settle(reach, session, open, came.is_ok());
+    came
 }
 
-// Keeps a session of version 2, and ends any other.
-fn settle<'a>(
-    mut session: Session<'static, Wire<'a>>,
-    open: &mut Open<'a>,
-    came: Came,
-) -> Result<Came, Trouble> {
-    if session.version() == Protocol::V2 {
+// Keeps a session of version 2 over which all went well, and ends any other.
+fn settle<'a>(reach: Reach<'a>, session: Talk<'a>, open: &mut Open<'a>, is_well: bool) {
+    if is_well && session.version() == Protocol::V2 {
         *open = Some(session);
     } else {
-        session.end(came.kept.is_some());
+        leave(reach, session);
     }
-    Ok(came)
 }
 
 /// What is reported to git of a fetch.
@@ -182,7 +163,7 @@ pub(crate) struct Fetched {
 
 // Puts the pack and the boundary where git finds them.
 fn finish(
-    plan: Plan<'_, '_, '_, '_>,
+    plan: Plan<'_, '_, '_>,
     shell: &mut Shell,
     places: &Places,
     old: &[ObjectId],
@@ -230,15 +211,15 @@ pub(crate) fn fetch<'a>(
     let haves = haves_for(order, has_alternates);
     // git lists them while it answers questions
     list_commits(order, shell, haves, has_alternates)?;
-    let wish = wish_of(alloc, order.choices, shallow, haves);
     let mut repository = known(order, shell, &old, haves)?;
     let checks = checks_of(order, shell)?;
     let pack = PackPlan::new(rt, &places, folder, order.choices, &checks, &old)?;
-    let how = how_of(alloc, order.choices)?;
+    let filter = filter_of(alloc, order.choices)?;
     let plan = Plan {
         order,
-        wish: &wish,
-        how: &how,
+        shallow: &shallow,
+        filter: filter.as_deref(),
+        haves,
         pack: &pack,
         has_alternates,
     };

@@ -1,7 +1,9 @@
 //! What one fetch is for, and what is asked of the server and offered to it.
-ghost use Rattle.std.specs.Prelude.{◌≡◌, ◌&&◌, ◌||◌, not, IfOk, map, option_map, string_bytes};
+ghost use Rattle.std.specs.Prelude.{◌≡◌, ◌&&◌, ◌||◌, true, false, not, IfOk, map, option_map, string_bytes};
 ghost use Rattle.bstr.specs.Owned.{bstring_bytes};
 ghost use Rattle.gix_protocol.specs.Values.{mapping_value};
+ghost use Rattle.gixp_shallow.specs.Shallow.{shallow_value};
+ghost use Rattle.gix_protocol.specs.TagsType.TheVariants.{Included, None};
 ghost use Rattle.gixp_remote_session.specs.Wanted.{wanted};
 
 use crate::connect::Reach;
@@ -10,15 +12,15 @@ use crate::setup::{haves_of, variable};
 use crate::shell::{NOTHING, Shell};
 use crate::trouble::Trouble;
 use bstr::ByteSlice;
+use gix_protocol::client::Request as Asking;
 use gix_protocol::fetch::negotiate::Algorithm;
 use gix_protocol::fetch::refmap::{Mapping, Source, SpecIndex};
 use gix_protocol::fetch::{RefMap, Shallow, Tags};
 use gix_protocol::transport::{Kind, ObjectId};
-use gixp_fetch_local::{Haves, Wish};
+use gixp_fetch_local::Haves;
 use gixp_fetch_session::repository::Repository;
-use gixp_fetch_session::session::How;
 use gixp_remote_rules::{Choices, Program, Question, Request, Start, Task, listing_words};
-use std::alloc::Global;
+use std::alloc::{AllocError, Global};
 
 /// What a fetch is for.
 #[derive(Clone, Copy)]
@@ -51,34 +53,40 @@ pub(crate) fn map_of(alloc: Global, ids: &[ObjectId]) -> Result<RefMap, Trouble>
     })
 }
 
-/// How it is fetched.
-pub(crate) fn wish_of(
-    alloc: Global,
-    choices: &Choices,
-    shallow: Shallow,
-    haves: Haves,
-) -> Wish<'static>
-    ensures shallow { result.shallow ≡ shallow }
-    ensures rejects { result.rejects_shallow ≡ choices.now.rejects_shallow }
-    ensures haves { result.haves ≡ haves }
+// Which tags come along.
+fn tags_of(choices: &Choices) -> Tags
+    ensures followed { choices.now.follows_tags ≡ true → result ≡ Included }
+    ensures left { choices.now.follows_tags ≡ false → result ≡ None }
 {
-    let tags = if choices.follows_tags {
+    if choices.follows_tags {
         Tags::Included
     } else {
         Tags::None
-    };
-    Wish {
-        pack: "",
-        shallow,
-        tags,
-        rejects_shallow: choices.rejects_shallow,
-        haves,
-        specs: Vec::new(alloc),
     }
 }
 
-// The filter that git asks for.
-fn filter_of(alloc: Global, choices: &Choices) -> Result<Option<String>, Trouble>
+/// What the server is asked for, but for a filter. An error of its beside the pack is told behind whatever else fails, so the fetch
+/// goes on.
+pub(crate) fn request_of(
+    alloc: Global,
+    choices: &Choices,
+    shallow: &Shallow,
+) -> Result<Asking, AllocError>
+    ensures shallow { IfOk result (λ request. shallow_value request.shallow ≡ shallow_value shallow.now) }
+    ensures rejects { IfOk result (λ request. request.rejects_shallow ≡ choices.now.rejects_shallow) }
+    ensures progress { IfOk result (λ request. request.wants_progress ≡ (choices.now.shows_progress && not choices.now.is_quiet)) }
+{
+    let mut request = Asking::new(alloc);
+    request.tags = tags_of(choices);
+    request.shallow = shallow.clone()?;
+    request.rejects_shallow = choices.rejects_shallow;
+    request.goes_on = true;
+    request.wants_progress = choices.tells_progress();
+    Ok(request)
+}
+
+/// The filter that git asks for.
+pub(crate) fn filter_of(alloc: Global, choices: &Choices) -> Result<Option<String>, Trouble>
     ensures { IfOk result (λ filter. option_map string_bytes filter ≡ option_map bstring_bytes choices.now.filter) }
 {
     let Some(filter) = &choices.filter else {
@@ -88,17 +96,6 @@ fn filter_of(alloc: Global, choices: &Choices) -> Result<Option<String>, Trouble
         Ok(filter) => Ok(Some(String::from_str(alloc, filter)?)),
         Err(_) => Err(Trouble::of_word(alloc, "this filter is no UTF-8:", filter.as_bytes())),
     }
-}
-
-/// How the server is asked for it.
-pub(crate) fn how_of(alloc: Global, choices: &Choices) -> Result<How, Trouble>
-    ensures filter { IfOk result (λ how. option_map string_bytes how.filter ≡ option_map bstring_bytes choices.now.filter) }
-    ensures progress { IfOk result (λ how. how.wants_progress ≡ (choices.now.shows_progress && not choices.now.is_quiet)) }
-{
-    Ok(How {
-        filter: filter_of(alloc, choices)?,
-        wants_progress: choices.tells_progress(),
-    })
 }
 
 // Lets git list the commits, which are read as they are offered.

@@ -1,15 +1,14 @@
 //! The conversation with git.
 use crate::bounded::Bounds;
-use crate::connect::{Reach, connect};
+use crate::connect::{Reach, connect, leave};
 use crate::fetching::{Open, fetch};
-use crate::listing::refs_told;
+use crate::listing::{RefsTold, refs_told};
 use crate::order::Order;
 use crate::setup::{Given, read_given, settings_text, version_of};
 use crate::shell::{NOTHING, Shell};
 use crate::trouble::Trouble;
 use bstr::{BString, ByteSlice};
-use gix_protocol::handshake::Ref;
-use gix_protocol::transport::Discard;
+use gixp_fetch_session::session::refs;
 use gixp_remote_rules::{Conversation, Program, Request, Settings, Start, Step, Task, batch_told};
 use gixp_url::Address;
 use std::cell::{Cell, RefCell};
@@ -52,15 +51,18 @@ impl Helper<'_> {
         Ok(())
     }
 
-    // The refs of the server, over a session that stays. What is no server of git's, but answers, has none, as git has it.
-    fn refs(&mut self) -> Result<Vec<Ref>, Trouble> {
+    // What git is told of the refs of the server, over a session that stays. What is no server of git's, but answers, has none, as git
+    // has it.
+    fn refs(&mut self) -> Result<RefsTold, Trouble> {
+        let alloc = self.reach.rt.alloc();
+        let tells_format = self.talk.choices.tells_format;
         match connect(self.reach, &mut self.shell, self.talk.choices.is_quiet) {
             Ok(mut session) => {
-                let refs = session.refs(&mut Discard)?;
+                let told = refs_told(alloc, refs(alloc, &mut session)?, tells_format)?;
                 self.open = Some(session);
-                Ok(refs)
+                Ok(told)
             }
-            Err(Trouble::NoRefs) => Ok(Vec::new(self.reach.rt.alloc())),
+            Err(Trouble::NoRefs) => Ok(refs_told(alloc, &[], tells_format)?),
             Err(e) => Err(e),
         }
     }
@@ -68,8 +70,7 @@ impl Helper<'_> {
     // Lists the refs.
     fn list(&mut self) -> Result<(), Trouble> {
         self.watch()?;
-        let refs = self.refs()?;
-        let told = refs_told(self.reach.rt.alloc(), &refs, self.talk.choices.tells_format)?;
+        let told = self.refs()?;
         for name in &told.funny {
             let _ = eprintln!(self.reach.rt; "warning: ignoring ref with broken name {name:?}");
         }
@@ -134,13 +135,10 @@ impl Helper<'_> {
         Ok(())
     }
 
-    // Tells a server that waits that there is nothing more. To a web server that would be one more request.
+    // Ends the session.
     fn close(&mut self) {
-        if self.reach.address.transport.is_web() {
-            return;
-        }
-        if let Some(session) = &mut self.open {
-            session.end(false);
+        if let Some(session) = self.open.take() {
+            leave(self.reach, session);
         }
     }
 }

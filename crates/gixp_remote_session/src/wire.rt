@@ -3,17 +3,19 @@ ghost use Rattle.std.specs.Prelude.{◌≡◌, ◌++◌, ◌∷◌, [], codes, I
 
 use crate::bounded::Bounded;
 use bstr::BStr;
-use gix_protocol::client::{Heard, Listener, RemoteLines};
-use gix_protocol::transport::Connection;
+use gix_protocol::client::{Listener, RemoteLines, Session};
+use gix_protocol::transport::{Connection, Discard};
 use gixp_stateless::Answers;
 use std::cell::Cell;
 use std::fs::File;
 use std::io;
 use std::io::{BufReader, BufWriter, Read, Write};
 
-/// The transport over the two pipes of a server, whose words are shown as they come, and of whose lines is noted what they say of
-/// the boundary.
-pub(crate) type Wire<'a> = Heard<Bounded<'a, Connection<Says, BufWriter<File>>>, Shown<'a>>;
+/// The transport over the two pipes of a server, of whose lines is noted what they say of the boundary.
+pub(crate) type Wire<'a> = Bounded<'a, Connection<Says, BufWriter<File>>>;
+
+/// A session over them, in which the server's words are shown as they come.
+pub(crate) type Talk<'a> = Session<Wire<'a>, Shown<'a>, Discard>;
 
 /// What a server says.
 #[derive(Drop)]

@@ -1,13 +1,15 @@
--- The negotiation of a session's fetch is over its map.
+-- The negotiation of a session's fetch is over its map, and what is told of it is looked at once more.
 use Rattle.std.proofs.Common.{ap, ◌∙◌}
-use Rattle.gixp_client.proofs.RunLemmas.{same_knowledge}
+use Rattle.gixp_client.proofs.RunLemmas.{same_knowledge, told_checked}
 use Rattle.gixp_client.proofs.run.fetch_mapped.Goals as goal
 
 pub returns-clause-fetched : goal.returns-clause-fetched
 returns-clause-fetched g c =
     let n = c.new-negotiation.ensures in
-    let e = ap (λ w. w.negotiation) c.new-filtered.ensures.negotiation ∙ c.new-windowed.ensures.negotiation in record {
-      first = c.new-filtered.result;
+    let f = c.fetch_over-came.ensures.fetched in
+    let e = ap (λ w. w.negotiation.negotiation) c.new-watched.ensures.negotiation
+    ∙ (ap (λ w. w.negotiation) c.new-filtered.ensures.negotiation ∙ c.new-windowed.ensures.negotiation) in record {
+      first = c.new-watched.result;
       last = _;
       negotiates = ap (λ m. m.ref_map.now) e ∙ n.ref_map;
       knowing = same_knowledge _ _ _ _ _ _ _ _ _ _ (ap (λ m. m.tags) e ∙ n.tags) (ap (λ m. m.shallow.now) e ∙ n.shallow)
@@ -16,5 +18,9 @@ returns-clause-fetched g c =
           (ap (λ m. g.F.Find.contents m.context.objects.now.objects.now) e ∙ ap (λ x. g.F.Find.contents x.objects.now.objects.now) n.context
           ∙ ap g.F.Find.contents c.new-shared.ensures.objects)
           (ap (λ m. g.R.RefStore.refs m.context.refs.now) e ∙ ap (λ x. g.R.RefStore.refs x.refs.now) n.context);
-      holds = c.fetch_over.ensures.fetched;
+      holds = record {
+        came = f.came;
+        tells = told_checked _ _ _ _ f.came _ _ f.tells c.known_alone.ensures.checked;
+        holds = f.holds;
+      };
     }

@@ -11,6 +11,6 @@ returns-clause-fetched g c = record {
     interrupt' = _;
     progress = _;
     carries = as_session _ _ _ _ c.args.peer.shaken.now c.args.request.now _ _ _ _
-        c.git.ensures c.named.ensures c.fetch-came.ensures.fetched;
+        c.table.ensures c.named.ensures c.fetch-came.ensures.fetched;
   };
 }

@@ -1,7 +1,7 @@
 -- A fetch of a session, and what is told of it.
 use Rattle.std.proofs.Common.{ap, sym, inr, refl, ◌∙◌}
 use Rattle.gixp_client.proofs.RunLemmas.{in_session}
-use Rattle.gixp_client.proofs.SettleLemmas.{came_of, refused_of, stands_of}
+use Rattle.gixp_client.proofs.SettleLemmas.{came_of, refused_of, stands_of, known_of}
 use Rattle.gixp_client.proofs.session.Session.fetch_with.Goals as goal
 
 pub returns-in-Ok-clause-fetched : goal.returns-in-Ok-clause-fetched
@@ -18,6 +18,11 @@ returns-in-Ok-clause-fetched g c = inr (
 pub returns-in-Ok-clause-stands : goal.returns-in-Ok-clause-stands
 returns-in-Ok-clause-stands g c =
     stands_of _ _ _ _ _ _ _ _ c.unless_reported-came.ensures.reported c.in-Ok.ensures.outcome c.carry_out-came.ensures.state
+
+pub returns-in-Ok-clause-known : goal.returns-in-Ok-clause-known
+returns-in-Ok-clause-known g c =
+    known_of _ _ _ _ _ _ _ _ _ c.unless_reported-came.ensures.reported c.in-Ok.ensures.outcome c.in_ok-known.ensures
+    c.carry_out-came.ensures.known
 
 pub returns-clause-refused : goal.returns-clause-refused
 returns-clause-refused g c = inr (

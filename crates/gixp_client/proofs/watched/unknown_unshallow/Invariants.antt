@@ -1,0 +1,7 @@
+-- None was found so far.
+use Rattle.std.proofs.Common.{◌≡◌, drop}
+use Rattle.gixp_client.specs.Unshallowed.{unknown_unshallow}
+use Rattle.gixp_client.proofs.watched.unknown_unshallow.Given as goal
+
+abbrev pub invariant-loop-update : goal.invariant-loop-update
+invariant-loop-update l = unknown_unshallow l.boundary (drop l.update-index l.updates) ≡ unknown_unshallow l.boundary l.updates

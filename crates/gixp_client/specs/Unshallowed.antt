@@ -1,0 +1,57 @@
+-- Ids that a server takes out of a shallow boundary which doesn't have them (gitprotocol-pack, "Packfile Negotiation").
+use Rattle.std.specs.Prelude.{◌≡◌, ⊤, Bool, true, List, [], ◌∷◌, Option, Some, None, Result, Ok, Err, if◌then◌else◌}
+use Rattle.std.specs.List.{list_all}
+use Rattle.std.specs.Option.{option_map_or}
+use Rattle.std.specs.BTreeSet.{BTreeSet, contains}
+use Rattle.gixp_hash.specs.declared.object_id.ObjectId.{ObjectId}
+use Rattle.gixp_hash.specs.ObjectId.{id_cmp}
+use Rattle.gixp_shallow.specs.declared.update.ShallowUpdate.{ShallowUpdate}
+use Rattle.gixp_shallow.specs.declared.update.ShallowUpdate.TheVariants.{Shallow, Unshallow}
+use Rattle.gixp_response.specs.Answer.{AnswerValue}
+use Rattle.gixp_fetch.specs.declared.options.Outcome.{Outcome}
+use Rattle.gixp_client.specs.Boundaries.{has_id}
+use Rattle.gixp_client.specs.declared.error.Error.{Error}
+use Rattle.gixp_client.specs.declared.error.Error.TheVariants.{UnknownUnshallow}
+
+-- the id that an update takes out of the boundary, where it isn't in it
+abbrev pub unknown_id : BTreeSet ObjectId → ShallowUpdate → Option ObjectId
+unknown_id boundary (Shallow id) = None
+unknown_id boundary (Unshallow id) = if contains id_cmp boundary id then None else Some id
+
+-- the first of these
+abbrev pub unknown_unshallow : BTreeSet ObjectId → List ShallowUpdate → Option ObjectId
+unknown_unshallow boundary [] = None
+unknown_unshallow boundary (update ∷ updates) = option_map_or Some (unknown_id boundary update) (unknown_unshallow boundary updates)
+
+-- what was noted first, or else what an answer says
+abbrev pub noted : BTreeSet ObjectId → Option ObjectId → Option AnswerValue → Option ObjectId
+noted boundary (Some id) answer = Some id
+noted boundary None (Some answer) = unknown_unshallow boundary answer.shallow_updates
+noted boundary None None = None
+
+-- an outcome, unless its answer takes this out
+abbrev pub unless_taken : Outcome → Option ObjectId → Result (Option Outcome) Error
+unless_taken outcome None = Ok (Some outcome)
+unless_taken outcome (Some id) = Err (UnknownUnshallow id)
+
+-- what came of a fetch, unless an answer before the last took this out, or the last takes out another
+abbrev pub known_alone : BTreeSet ObjectId → Result (Option Outcome) Error → Option ObjectId → Result (Option Outcome) Error
+known_alone boundary (Err e) unknown = Err e
+known_alone boundary (Ok outcome) (Some id) = Err (UnknownUnshallow id)
+known_alone boundary (Ok None) None = Ok None
+known_alone boundary (Ok (Some outcome)) None =
+    unless_taken outcome (unknown_unshallow boundary outcome.last_response.shallow_updates)
+
+-- the last answer takes nothing out that isn't in the boundary
+abbrev pub TakesKnown : BTreeSet ObjectId → Option Outcome → Type 0
+TakesKnown boundary None = ⊤
+TakesKnown boundary (Some outcome) = unknown_unshallow boundary outcome.last_response.shallow_updates ≡ None
+
+-- the same by the ids of the boundary: what an update takes out is in it
+abbrev pub is_known : List ObjectId → ShallowUpdate → Bool
+is_known ids (Shallow id) = true
+is_known ids (Unshallow id) = has_id ids id
+
+abbrev pub KnowsAll : List ObjectId → Option Outcome → Type 0
+KnowsAll ids None = ⊤
+KnowsAll ids (Some outcome) = list_all (is_known ids) outcome.last_response.shallow_updates ≡ true

@@ -1,0 +1,183 @@
+//! A negotiation that looks at what the server says of the shallow boundary.
+ghost use Rattle.std.specs.Prelude.{◌≡◌, None, IfOk};
+ghost use Rattle.std.specs.Option.{option_copied};
+ghost use Rattle.gixp_client.specs.Unshallowed.{unknown_id, unknown_unshallow, noted, known_alone, TakesKnown};
+
+use crate::error::Error;
+use gixp_fetch::mapped::NegotiatesMap;
+use gixp_fetch::options::Outcome;
+use gixp_hash::ObjectId;
+use gixp_negotiate::negotiate::negotiation::PaysForHaves;
+use gixp_negotiate::negotiate::one_round::State;
+use gixp_negotiate::negotiate::{self, Action, Negotiate, Round};
+use gixp_requests::fetch::Arguments;
+use gixp_response::fetch::Response;
+use gixp_shallow::ShallowUpdate;
+use std::alloc::Global;
+use std::collections::BTreeSet;
+
+/// A negotiation that notes which id the answers take out of the shallow boundary though it isn't in it, as no server may (gitprotocol-pack,
+/// "Packfile Negotiation").
+#[derive(Drop)]
+pub struct Watched<'a, N> {
+    negotiation: N,
+    boundary: &'a BTreeSet<ObjectId>,
+    unknown: Option<ObjectId>,
+}
+
+// The id that an update takes out of the boundary, where it isn't in it.
+fn unknown_id(update: &ShallowUpdate, boundary: &BTreeSet<ObjectId>) -> Option<ObjectId>
+    ensures { result ≡ unknown_id boundary.now update.now }
+{
+    match update {
+        ShallowUpdate::Shallow(_) => None,
+        ShallowUpdate::Unshallow(id) => {
+            if boundary.contains(id) {
+                None
+            } else {
+                Some(*id)
+            }
+        }
+    }
+}
+
+// The first id that updates take out of the boundary though it isn't in it.
+fn unknown_unshallow(updates: &[ShallowUpdate], boundary: &BTreeSet<ObjectId>) -> Option<ObjectId>
+    ensures { result ≡ unknown_unshallow boundary.now updates.now }
+{
+    for update in updates {
+        if let Some(id) = unknown_id(update, boundary) {
+            return Some(id);
+        }
+    }
+    None
+}
+
+impl<'a, N> Watched<'a, N> {
+    /// The negotiation, by a repository with this boundary.
+    pub fn new(negotiation: N, boundary: &'a BTreeSet<ObjectId>) -> Watched<'a, N>
+        ensures negotiation { result.negotiation ≡ negotiation }
+        ensures boundary { result.boundary.now ≡ boundary.now }
+        ensures unknown { result.unknown ≡ None }
+    {
+        Watched {
+            negotiation,
+            boundary,
+            unknown: None,
+        }
+    }
+
+    /// The first id that an answer before the last took out of the boundary though it isn't in it.
+    pub fn unknown(&self) -> Option<ObjectId>
+        ensures { result ≡ self.now.unknown }
+    {
+        self.unknown
+    }
+
+    // Looks at an answer.
+    fn look(&mut self, answer: Option<&Response>)
+        ensures negotiation { self.new.negotiation ≡ self.old.negotiation }
+        ensures boundary { self.new.boundary ≡ self.old.boundary }
+        ensures unknown { self.new.unknown ≡ noted self.old.boundary.now self.old.unknown (option_copied answer.entry) }
+    {
+        if self.unknown.is_some() {
+            return;
+        }
+        if let Some(answer) = answer {
+            self.unknown = unknown_unshallow(answer.shallow_updates(), self.boundary);
+        }
+    }
+}
+
+impl<N: Negotiate> Negotiate for Watched<'_, N> {
+    type AlternatesError = N::AlternatesError;
+
+    ghost calls = { record {
+      count = λ w. N.calls.count w.negotiation;
+      marks = λ w action v. N.calls.marks w.negotiation action v.negotiation;
+      adds = λ w known a any b v. N.calls.adds w.negotiation known a any b v.negotiation;
+      goes = λ w s a p r last v t b. N.calls.goes w.negotiation s a p r last v.negotiation t b
+          × (v.boundary ≡ w.boundary) × (v.unknown ≡ noted w.boundary.now w.unknown p);
+      marking_fails = λ w e v. N.calls.marking_fails w.negotiation e v.negotiation;
+      adding_fails = λ w known a e b v. N.calls.adding_fails w.negotiation known a e b v.negotiation;
+      round_fails = λ w s a p e v t b. N.calls.round_fails w.negotiation s a p e v.negotiation t b;
+    } };
+
+    fn mark_complete_and_common_ref(
+        &mut self,
+        alloc: Global,
+    ) -> Result<Action, negotiate::Error<N::AlternatesError>> {
+        self.negotiation.mark_complete_and_common_ref(alloc)
+    }
+
+    fn add_wants(
+        &mut self,
+        arguments: &mut Arguments,
+        remote_ref_target_known: &[bool],
+    ) -> Result<bool, negotiate::Error<N::AlternatesError>> {
+        self.negotiation
+            .add_wants(arguments, remote_ref_target_known)
+    }
+
+    fn one_round(
+        &mut self,
+        state: &mut State,
+        arguments: &mut Arguments,
+        previous_response: Option<&Response>,
+    ) -> Result<(Round, bool), negotiate::Error<N::AlternatesError>> {
+        self.look(previous_response);
+        self.negotiation
+            .one_round(state, arguments, previous_response)
+    }
+
+    ghost goes_on = { λ w s a p r v t b h o. N.goes_on w.negotiation s a p r v.negotiation t b h o.0 };
+}
+
+impl<N: PaysForHaves> PaysForHaves for Watched<'_, N> {
+    ghost lawful = { record {
+      lowers = λ w s a p r d v t b o. N.lawful.lowers w.negotiation s a p r d v.negotiation t b o.0;
+      fills = λ w s a p r v t b o. N.lawful.fills w.negotiation s a p r v.negotiation t b o.0;
+    } };
+
+    ghost wide = { record {
+      wide = λ w s a p r v t b l o. N.wide.wide w.negotiation s a p r v.negotiation t b l o.0;
+    } };
+}
+
+impl<N: NegotiatesMap> NegotiatesMap for Watched<'_, N> {
+    ghost map_of = { λ w. N.map_of w.negotiation };
+
+    ghost knows = { λ w. N.knows w.negotiation };
+
+    ghost follows = { record {
+      decides = λ w action v h. N.follows.decides w.negotiation action v.negotiation h;
+      asks = λ w action v known a is_any b l h o.
+          N.follows.asks w.negotiation action v.negotiation known a is_any b l.negotiation h o;
+    } };
+}
+
+/// What came of a fetch, unless an answer before the last took this id out of the boundary, or the last takes out another that isn't
+/// in it.
+pub(crate) fn known_alone(
+    came: Result<Option<Outcome>, Error>,
+    unknown: Option<ObjectId>,
+    boundary: &BTreeSet<ObjectId>,
+) -> Result<Option<Outcome>, Error>
+    ensures checked { result ≡ known_alone boundary.now came unknown }
+    ensures known { IfOk result (TakesKnown boundary.now) }
+{
+    let outcome = match came {
+        Ok(outcome) => outcome,
+        Err(e) => return Err(e),
+    };
+    if let Some(id) = unknown {
+        return Err(Error::UnknownUnshallow { id });
+    }
+    let Some(outcome) = outcome else {
+        return Ok(None);
+    };
+    match unknown_unshallow(outcome.last_response.shallow_updates(), boundary) {
+        Some(id) => Err(Error::UnknownUnshallow { id }),
+        None => Ok(Some(outcome)),
+    }
+}
