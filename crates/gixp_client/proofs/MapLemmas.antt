@@ -8,8 +8,7 @@ use Rattle.gixp_refs.specs.declared.handshake.Ref.{Ref}
 use Rattle.gixp_requests.specs.Feature.{FeatureValue}
 use Rattle.gixp_requests.specs.Command.{TableValue, git_table}
 use Rattle.gixp_packetline.specs.declared.protocol.Protocol.{Protocol}
-use Rattle.gixp_refmap.specs.Listing.{Listing, listing, listing_of, Listed}
-use Rattle.gixp_refmap.specs.Mapping.{joined_specs}
+use Rattle.gixp_refmap.specs.Listing.{Listing, listing, Listed}
 use Rattle.gixp_refmap.specs.declared.refmap.init.Context.{Context}
 use Rattle.gixp_refmap.specs.declared.refmap.init.Error.{Error as MapError}
 use Rattle.gixp_refmap.specs.declared.refmap.init.Error.TheVariants.{Memory}
@@ -17,7 +16,7 @@ use Rattle.gixp_refmap.specs.declared.refmap.map.RefMap.{RefMap}
 use Rattle.gixp_handshake.specs.declared.handshake.read.Handshake.{Handshake}
 use Rattle.gixp_handshake.specs.declared.handshake.ref_map.ObtainRefMap.{ObtainRefMap}
 use Rattle.gixp_handshake.specs.declared.handshake.ref_map.ObtainRefMap.TheVariants.{Existing, LsRefsCommand}
-use Rattle.gixp_handshake.specs.Obtain.{prefixes_if, MakesMap, PreparesBy, ObtainsBy, FetchesList}
+use Rattle.gixp_handshake.specs.Obtain.{MakesMap, PreparesBy, ObtainsBy, FetchesList}
 use Rattle.gixp_client.specs.Tables.{asked_table}
 use Rattle.gixp_client.specs.ClientCalls.{ListsInSession, GivesRefs, MapsInSession}
 use Rattle.gixp_client.specs.SessionStates.{behind_map}

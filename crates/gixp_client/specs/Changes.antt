@@ -1,6 +1,6 @@
 -- What refspecs make of the local refs, by the refs of a server (git-fetch, "<refspec>", "--prune").
-use Rattle.std.specs.Prelude.{◌≡◌, ◌&&◌, ◌||◌, nat_eq, not, ℕ, Bool, true, false, if◌then◌else◌, List, [], ◌∷◌, ◌++◌, map, drop, length, Option, Some, None}
-use Rattle.std.specs.Option.{option_map, option_and_then, option_map_or}
+use Rattle.std.specs.Prelude.{◌&&◌, nat_eq, not, ℕ, Bool, false, if◌then◌else◌, List, [], ◌∷◌, ◌++◌, map, drop, length, Option, Some, None}
+use Rattle.std.specs.Option.{option_map, option_map_or}
 use Rattle.std.specs.Borrow.{Bor}
 use Rattle.std.specs.List.{list_any, filter_map, flat_map, starts_with, ends_with}
 use Rattle.std.specs.Str.{bytes_eq}

@@ -1,7 +1,7 @@
 -- What a client asks for of a server by itself, by whether the server's progress is wanted (gitprotocol-capabilities, "no-progress";
 -- gitprotocol-v2, "fetch").
 use Rattle.std.specs.Prelude.{Bool, true, false, [], ◌∷◌, ◌++◌, codes}
-use Rattle.gixp_requests.specs.Command.{TableValue, WordEntry, always, git_table}
+use Rattle.gixp_requests.specs.Command.{TableValue, always, git_table}
 
 -- the word for none stands behind the others
 abbrev pub quiet : TableValue → TableValue

@@ -1,7 +1,6 @@
 -- What was found, and what is to come.
-use Rattle.std.proofs.Common.{◌≡◌, ◌++◌, length, not}
-use Rattle.std.specs.List.{filter}
-use Rattle.gixp_client.specs.Boundaries.{has_id, ids_beyond}
+use Rattle.std.proofs.Common.{◌≡◌, ◌++◌, length}
+use Rattle.gixp_client.specs.Boundaries.{ids_beyond}
 use Rattle.gixp_client.proofs.boundary.ids_beyond.Given as goal
 
 abbrev pub invariant-loop-id : goal.invariant-loop-id

@@ -1,5 +1,5 @@
 -- Whatever is shown from here on, with the text to come, is shown from the beginning, with the whole text.
-use Rattle.std.proofs.Common.{◌≡◌, ℕ, Bool, List, Option, length}
+use Rattle.std.proofs.Common.{ℕ, Bool, List, Option, length}
 use Rattle.gixp_client.specs.Listening.{ShowsLines, after_text}
 use Rattle.gixp_client.proofs.listen.RemoteLines.show.Given as goal
 

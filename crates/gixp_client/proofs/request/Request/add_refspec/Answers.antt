@@ -1,5 +1,4 @@
 -- The value of the text, behind the others.
-use Rattle.std.proofs.Common.{◌≡◌}
 use Rattle.gixp_client.proofs.request.Request.add_refspec.Goals as goal
 
 pub returns-in_ok-push-in-Ok-clause-added : goal.returns-in_ok-push-in-Ok-clause-added
