@@ -1,3 +1,8 @@
 pub mod Received
 pub mod Failures
 pub mod Asked
+pub mod SystemWords
+pub mod Left
+pub mod Reasons
+pub mod Compared
+pub mod Tips

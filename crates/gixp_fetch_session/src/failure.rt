@@ -3,6 +3,7 @@ ghost use Rattle.std.specs.Prelude.{◌≡◌, None, option_map, IfOk};
 ghost use Rattle.std.specs.declared.io.ErrorKind.TheVariants.{OutOfMemory};
 ghost use Rattle.std.specs.Io.BufRead.{strip_last};
 ghost use Rattle.bstr.specs.Owned.{bstring_bytes};
+ghost use Rattle.gixp_fetch_session.specs.Compared.{TellsUpdate};
 ghost use Rattle.gixp_fetch_session.specs.Failures.{said_of, TellsStep, TellsStepText, TellsFile, TellsLine, is_said_by_git, speaker_of};
 ghost use Rattle.gixp_fetch_session.specs.declared.failure.Failure.TheVariants.{Memory};
 
@@ -151,7 +152,9 @@ impl Failure {
     }
 
     /// It can't be said what becomes of the local refs.
-    pub fn of_update(alloc: Global, error: update::Error) -> Failure {
+    pub fn of_update(alloc: Global, error: update::Error) -> Failure
+        ensures { TellsUpdate error result }
+    {
         if error == update::Error::Memory {
             return Failure::Memory;
         }

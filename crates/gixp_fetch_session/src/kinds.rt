@@ -1,8 +1,13 @@
 //! What an error of the system is called in a sentence.
+ghost use Rattle.std.specs.Prelude.{◌≡◌};
+ghost use Rattle.gixp_fetch_session.specs.SystemWords.{system_words};
+
 use std::io::ErrorKind;
 
 /// The words for a kind of error, as the C library has them.
-pub(crate) fn words_of(kind: ErrorKind) -> &'static str {
+pub(crate) fn words_of(kind: ErrorKind) -> &'static str
+    ensures { result.now ≡ system_words kind }
+{
     match kind {
         ErrorKind::NotFound => "No such file or directory",
         ErrorKind::PermissionDenied => "Permission denied",

@@ -1,6 +1,12 @@
 //! The repository that fetches, by the texts of the command line.
-ghost use Rattle.std.specs.Prelude.{◌≡◌, [], unwrap_or, option_map};
+ghost use Rattle.std.specs.Prelude.{◌≡◌, ◌&&◌, ◌||◌, ◌∷◌, [], unwrap_or, option_map, is_some, IfOk, OnOk};
+ghost use Rattle.std.specs.Ordering.{is_eq};
+ghost use Rattle.std.specs.BTreeSet.{contains};
+ghost use Rattle.gix_protocol.specs.ObjectId.{id_cmp};
+ghost use Rattle.gix_protocol.specs.ObjectIdType.{ObjectId};
+ghost use Rattle.gix_protocol.specs.Repository.{peeled_ids};
 ghost use Rattle.gixp_fetch_session.specs.Failures.{TellsTextError, TellsUnanswered};
+ghost use Rattle.gixp_fetch_session.specs.Tips.{may_be_commit, AddsTips, HasTips};
 
 use crate::failure::Failure;
 use gix_protocol::fetch::negotiate::{
@@ -76,21 +82,53 @@ fn objects_in(rt: &HostRuntime, files: &Files<'_>, haves: Haves) -> Result<Store
     Ok(objects)
 }
 
+// Whether an object isn't known to be another one than a commit.
+fn may_be_commit(kind: Option<ObjectKind>) -> bool
+    ensures { result ≡ may_be_commit kind }
+{
+    match kind {
+        Some(ObjectKind::Commit) | None => true,
+        Some(_) => false,
+    }
+}
+
+// Adds an id, where it is wanted.
+fn add_wanted(ids: &mut BTreeSet<ObjectId>, id: &ObjectId, is_wanted: bool) -> Result<(), Failure>
+    ensures { OnOk result ((other : ObjectId) → contains id_cmp ids.new other
+        ≡ (contains id_cmp ids.old other || (is_wanted && is_eq (id_cmp id.now other)))) }
+{
+    if is_wanted {
+        ids.insert(*id)?;
+    }
+    Ok(())
+}
+
+// Adds an object that refs lead to, unless it is known to be no commit.
+fn add_tip(
+    tips: &mut BTreeSet<ObjectId>,
+    objects: &StoredObjects,
+    id: &ObjectId,
+) -> Result<(), Failure>
+    ensures { OnOk result (AddsTips objects.now (id.now ∷ []) tips.old tips.new) }
+{
+    add_wanted(tips, id, may_be_commit(objects.find_kind(id)))
+}
+
 /// The commits that refs lead to, as far as it isn't known that they are none.
 pub fn tips_of(
     alloc: Global,
     refs: &mut StoredRefs,
     objects: &StoredObjects,
-) -> Result<BTreeSet<ObjectId>, Failure> {
+) -> Result<BTreeSet<ObjectId>, Failure>
+    ensures tips { IfOk result (HasTips objects.now (peeled_ids refs.old)) }
+    ensures refs { peeled_ids refs.new ≡ peeled_ids refs.old }
+{
     let Ok(ids) = refs.peeled(alloc) else {
         return Err(Failure::Memory);
     };
     let mut tips = BTreeSet::new(alloc);
-    for id in ids {
-        match objects.find_kind(&id) {
-            Some(ObjectKind::Commit) | None => tips.insert(id)?,
-            Some(_) => false,
-        };
+    for id in &ids {
+        add_tip(&mut tips, objects, id)?;
     }
     Ok(tips)
 }
@@ -107,7 +145,9 @@ fn refs_in(rt: &HostRuntime, path: Option<&str>) -> Result<StoredRefs, Failure> 
 
 impl Repository {
     /// Reads the texts, but not the text of the commits where they are to be offered in its order.
-    pub fn read(rt: &HostRuntime, files: &Files<'_>, haves: Haves) -> Result<Repository, Failure> {
+    pub fn read(rt: &HostRuntime, files: &Files<'_>, haves: Haves) -> Result<Repository, Failure>
+        ensures tips { IfOk result (λ r. is_some r.tips ≡ is_some files.now.refs) }
+    {
         let objects = objects_in(rt, files, haves)?;
         let mut refs = refs_in(rt, files.refs)?;
         let tips = match files.refs {

@@ -1,5 +1,5 @@
 //! What the server says of its progress, on standard error as git shows it.
-ghost use Rattle.std.specs.Prelude.{⊤, None};
+ghost use Rattle.std.specs.Prelude.{◌≡◌, ⊤, false, None};
 
 use crate::failure::front_of;
 use gix_protocol::transport::{NestedProgress, Progress};
@@ -68,7 +68,12 @@ pub struct Remote<'a> {
 
 impl Remote<'_> {
     // Ends the line that was begun.
-    fn end_line(&mut self) {
+    fn end_line(&mut self)
+        ensures open { self.new.is_open ≡ false }
+        ensures start { self.new.at_start ≡ false }
+        ensures progress { self.new.shows_progress ≡ self.old.shows_progress }
+        ensures max { self.new.max ≡ self.old.max }
+    {
         if self.is_open {
             let _ = eprintln!(self.rt; "");
         }

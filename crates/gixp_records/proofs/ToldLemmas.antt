@@ -31,11 +31,11 @@ length-records at [] = refl
 length-records at (x ∷ xs) = ap suc (length-records (at + length (local_bytes x)) xs)
 
 -- the name of the next one has room
-pub next-fits : (all : List Told) (i : ℕ) (d : Told) (first : List MappingRecord) (buffer : List ℕ) (new : List MappingRecord) (now : List ℕ)
-    (at : ℕ) (name : List ℕ) → WroteSome (map told_value all) i first buffer new now at → i < length all
+pub next-fits : (all : List Told) (i : ℕ) (d : Told) (first new : List MappingRecord) (buffer now : List ℕ) (at : ℕ) (name : List ℕ)
+    → WroteSome (map told_value all) i first buffer new now at → i < length all
     → length (local_names (map told_value all)) ≤ length buffer → name ≡ local_bytes (told_value (get_or all i d))
     → at + length name ≤ length now
-next-fits all i d first buffer new now at name w l h e =
+next-fits all i d first new buffer now at name w l h e =
     let told = map told_value all in
     let front : length (local_names (take i told)) + length (local_bytes (get_or told i (told_value d))) ≤ length (local_names told) =
     length-flat_map-take local_bytes told i (told_value d) (subst (λ n. i < n) (sym (length-map all told_value)) l) in
@@ -43,7 +43,7 @@ next-fits all i d first buffer new now at name w l h e =
     let long : length (local_bytes (get_or told i (told_value d))) ≡ length name =
     ap (λ t. length (local_bytes t)) same ∙ ap length (sym e) in
     let whole : length now ≡ length (local_names (take i told)) + (length buffer - at) = ap length w.names
-    ∙ length-append (local_names (take i told)) (drop at buffer) ∙ ap (λ n. length (local_names (take i told)) + n) (length-drop at buffer) in
+    ∙ length-append _ (drop at buffer) ∙ ap (λ n. length (local_names (take i told)) + n) (length-drop at buffer) in
     let place : at ≡ length (local_names (take i told)) = w.place in
     omega arith
 

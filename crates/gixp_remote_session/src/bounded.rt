@@ -1,6 +1,9 @@
 //! A transport that notes what the server says of the shallow boundary: that comes before a pack, and git that indexes the pack
 //! is to know it then.
-ghost use Rattle.std.specs.Prelude.{◌≡◌};
+ghost use Rattle.std.specs.Prelude.{◌≡◌, true, false, [], None, Ok, Err, IfOk, IfSome};
+ghost use Rattle.gix_protocol.specs.Boundary.{boundary};
+ghost use Rattle.gixp_remote_session.specs.Noted.{update_said, NotesLine};
+ghost use Rattle.gixp_remote_session.specs.declared.trouble.Trouble.TheVariants.{Memory};
 
 use crate::trouble::Trouble;
 use bstr::{BStr, ByteSlice};
@@ -24,7 +27,10 @@ pub(crate) struct Bounds {
 
 impl Bounds {
     /// Nothing is said.
-    pub(crate) fn new(alloc: Global) -> Bounds {
+    pub(crate) fn new(alloc: Global) -> Bounds
+        ensures updates { result.updates.items ≡ [] }
+        ensures cut { result.is_cut ≡ false }
+    {
         Bounds {
             updates: Vec::new(alloc),
             is_cut: false,
@@ -32,7 +38,9 @@ impl Bounds {
     }
 
     // Notes what a line says. Where all lines are on bands, it is on the first.
-    fn note(&mut self, line: &[u8]) {
+    fn note(&mut self, line: &[u8])
+        ensures { NotesLine (update_said line.now) self.old self.new }
+    {
         let text = line.strip_prefix(b"\x01").unwrap_or(line);
         let update = match bound_said(text.trim_end()) {
             Some((true, id)) => ShallowUpdate::Shallow(id),
@@ -49,7 +57,11 @@ impl Bounds {
         &self,
         alloc: Global,
         old: &[ObjectId],
-    ) -> Result<Option<Vec<ObjectId>>, Trouble> {
+    ) -> Result<Option<Vec<ObjectId>>, Trouble>
+        ensures cut { self.now.is_cut ≡ true → result ≡ Err Memory }
+        ensures nothing { self.now.is_cut ≡ false → self.now.updates.items ≡ [] → result ≡ Ok None }
+        ensures boundary { IfOk result (λ found. IfSome found (λ ids. ids.items ≡ boundary old.now self.now.updates.items)) }
+    {
         if self.is_cut {
             return Err(Trouble::Memory);
         }

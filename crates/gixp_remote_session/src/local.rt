@@ -1,4 +1,8 @@
 //! The repository that fetches, as git shows it.
+ghost use Rattle.std.specs.Prelude.{◌≡◌, ◌++◌, [], true, codes, is_some, option_map, Some, None, IfOk, string_bytes};
+ghost use Rattle.std.specs.FinMap as finite;
+ghost use Rattle.gixp_remote_session.specs.Troubles.{TellsOther};
+
 use crate::shell::Shell;
 use crate::trouble::Trouble;
 use bstr::ByteSlice;
@@ -23,7 +27,9 @@ pub(crate) struct Places {
 }
 
 // A path of a line.
-fn path_of(alloc: Global, line: Option<&[u8]>) -> Result<String, Trouble> {
+fn path_of(alloc: Global, line: Option<&[u8]>) -> Result<String, Trouble>
+    ensures { IfOk result (λ path. option_map (λ l. l.now) line.entry ≡ Some (string_bytes path)) }
+{
     match line {
         Some(line) => match line.to_str() {
             Ok(text) => Ok(String::from_str(alloc, text)?),
@@ -35,7 +41,9 @@ fn path_of(alloc: Global, line: Option<&[u8]>) -> Result<String, Trouble> {
 
 impl Places {
     /// Asks git for them.
-    pub(crate) fn ask(rt: &HostRuntime, shell: &mut Shell) -> Result<Places, Trouble> {
+    pub(crate) fn ask(rt: &HostRuntime, shell: &mut Shell) -> Result<Places, Trouble>
+        ensures { IfOk result (λ places. string_bytes places.shallow_lock ≡ string_bytes places.shallow ++ codes ".lock") }
+    {
         let told = shell.git(rt, Question::Places)?;
         let mut lines = told.text.as_slice().lines();
         let shallow = path_of(rt.alloc(), lines.next())?;
@@ -74,7 +82,9 @@ impl Places {
 }
 
 // What can't be read in a text of git's.
-fn unread(_e: TextError) -> Trouble {
+fn unread(_e: TextError) -> Trouble
+    ensures { TellsOther (codes "the repository can't be read") result }
+{
     Trouble::Other("the repository can't be read")
 }
 
@@ -101,7 +111,12 @@ fn objects_of(alloc: Global, text: &[u8]) -> Result<StoredObjects, Trouble> {
 }
 
 /// A repository that nothing is known of.
-pub(crate) fn new_repository(alloc: Global, boundary: Vec<ObjectId>) -> Repository {
+pub(crate) fn new_repository(alloc: Global, boundary: Vec<ObjectId>) -> Repository
+    ensures objects { result.objects ≡ finite.empty }
+    ensures refs { result.refs ≡ [] }
+    ensures tips { result.tips ≡ None }
+    ensures boundary { result.boundary ≡ boundary }
+{
     Repository {
         objects: StoredObjects::new(alloc),
         refs: StoredRefs::new(alloc),
@@ -115,7 +130,10 @@ pub(crate) fn repository(
     rt: &HostRuntime,
     shell: &mut Shell,
     boundary: Vec<ObjectId>,
-) -> Result<Repository, Trouble> {
+) -> Result<Repository, Trouble>
+    ensures tips { IfOk result (λ r. is_some r.tips ≡ true) }
+    ensures boundary { IfOk result (λ r. r.boundary ≡ boundary) }
+{
     let alloc = rt.alloc();
     let told = shell.git(rt, Question::Refs)?;
     if told.status > 1 {

@@ -1,5 +1,10 @@
 //! Where the pack goes: git indexes it in a folder for objects of its own, and it is put beside the others once it is wanted.
-ghost use Rattle.std.specs.Prelude.{◌≡◌, ⊤, true, false};
+ghost use Rattle.std.specs.Prelude.{◌≡◌, ⊤, true, false, map, codes, None, IfOk, IfSome, string_bytes};
+ghost use Rattle.bstr.specs.Owned.{bstring_bytes};
+ghost use Rattle.gixp_remote_rules.specs.Choosing.{chosen};
+ghost use Rattle.gixp_remote_rules.specs.Indexed.{pack_file};
+ghost use Rattle.gixp_remote_session.specs.Packs.{IsPlan, SamePlan, is_always_there};
+ghost use Rattle.gixp_remote_session.specs.Troubles.{kind_of};
 
 use crate::bounded::Bounds;
 use crate::local::Places;
@@ -63,7 +68,9 @@ fn start_git(shell: &mut Shell, variables: &[BString], words: &[BString]) -> Res
 }
 
 // Words once more.
-fn copied(alloc: Global, words: &[BString]) -> Result<Vec<BString>, Trouble> {
+fn copied(alloc: Global, words: &[BString]) -> Result<Vec<BString>, Trouble>
+    ensures { IfOk result (λ all. map bstring_bytes all.items ≡ map bstring_bytes words.now) }
+{
     let mut all = Vec::new(alloc);
     for word in words {
         all.push(word.clone()?)?;
@@ -73,7 +80,9 @@ fn copied(alloc: Global, words: &[BString]) -> Result<Vec<BString>, Trouble> {
 
 impl PackPlan {
     /// The same once more.
-    pub(crate) fn copy(&self, alloc: Global) -> Result<PackPlan, Trouble> {
+    pub(crate) fn copy(&self, alloc: Global) -> Result<PackPlan, Trouble>
+        ensures { IfOk result (SamePlan self.now) }
+    {
         Ok(PackPlan {
             folder: self.folder.clone()?,
             words: copied(alloc, &self.words)?,
@@ -92,7 +101,10 @@ impl PackPlan {
         choices: &Choices,
         checks: &[BString],
         old: &[ObjectId],
-    ) -> Result<PackPlan, Trouble> {
+    ) -> Result<PackPlan, Trouble>
+        ensures plan { IfOk result (IsPlan (string_bytes places.now.objects) name.now (chosen choices.now) (map bstring_bytes checks.now)) }
+        ensures old { IfOk result (λ p. p.old.items ≡ old.now) }
+    {
         let alloc = rt.alloc();
         let Ok(room) = name.to_str() else {
             return Err(Trouble::Other("the helper's folder is no UTF-8"));
@@ -168,7 +180,9 @@ pub(crate) struct Came {
 }
 
 // The kind of a trouble, for a call that reports kinds alone.
-fn kind_of(e: &Trouble) -> ErrorKind {
+fn kind_of(e: &Trouble) -> ErrorKind
+    ensures { result ≡ kind_of e.now }
+{
     match e {
         Trouble::Io(kind) => *kind,
         Trouble::Memory => ErrorKind::OutOfMemory,
@@ -209,7 +223,11 @@ impl<'a> IndexedPack<'a> {
         shell: &'a mut Shell,
         plan: PackPlan,
         bounds: &'a RefCell<Bounds>,
-    ) -> IndexedPack<'a> {
+    ) -> IndexedPack<'a>
+        ensures plan { result.plan ≡ plan }
+        ensures told { result.told ≡ None }
+        ensures bounded { result.is_bounded ≡ false }
+    {
         shell.pack = PackState::Unbegun;
         IndexedPack {
             rt,
@@ -251,7 +269,9 @@ impl<'a> IndexedPack<'a> {
     }
 
     // Waits until it is indexed.
-    fn finish(&mut self) -> Result<Kept, Trouble> {
+    fn finish(&mut self) -> Result<Kept, Trouble>
+        ensures { IfOk result (λ kept. kept.is_bounded ≡ self.old.is_bounded) }
+    {
         let mut text = Vec::new(self.rt.alloc());
         if let Some(mut told) = self.told.take() {
             told.read_to_end(&mut text)?;
@@ -302,7 +322,9 @@ impl PackPlace for IndexedPack<'_> {
 }
 
 // A path as files are opened by.
-fn path_of(path: &[u8]) -> Result<&str, Trouble> {
+fn path_of(path: &[u8]) -> Result<&str, Trouble>
+    ensures { IfOk result (λ p. p.now ≡ path.now) }
+{
     match path.to_str() {
         Ok(path) => Ok(path),
         Err(_) => Err(Trouble::Other("a path of the objects is no UTF-8")),
@@ -310,7 +332,9 @@ fn path_of(path: &[u8]) -> Result<&str, Trouble> {
 }
 
 // Whether every pack has a file of this kind.
-fn is_always_there(end: &[u8]) -> bool {
+fn is_always_there(end: &[u8]) -> bool
+    ensures { result ≡ is_always_there end.now }
+{
     end == b".pack".as_slice() || end == b".idx".as_slice()
 }
 
@@ -331,7 +355,9 @@ pub(crate) fn place(
     places: &Places,
     plan: &PackPlan,
     hash: &ObjectId,
-) -> Result<Option<BString>, Trouble> {
+) -> Result<Option<BString>, Trouble>
+    ensures { IfOk result (λ lock. IfSome lock (λ l. bstring_bytes l ≡ pack_file (string_bytes places.now.objects) hash.now (codes ".keep"))) }
+{
     let alloc = rt.alloc();
     let from = plan.folder.as_bytes();
     let to = places.objects.as_bytes();

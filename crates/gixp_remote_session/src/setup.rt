@@ -1,10 +1,12 @@
 //! What the helper begins with: the URL, variables and settings.
 ghost use Rattle.std.specs.Prelude.{◌≡◌};
 ghost use Rattle.std.specs.Option.{option_map};
+ghost use Rattle.gixp_remote_session.specs.UserChoices.{version_by, IsNamedHaves, haves_set};
 ghost use Rattle.gixp_remote_session.specs.Version.{protocol_of, version_word};
 
 use crate::shell::Shell;
 use crate::trouble::Trouble;
+use gix_protocol::fetch::negotiate::Algorithm;
 use gix_protocol::transport::Protocol;
 use gixp_fetch_local::Haves;
 use gixp_remote_rules::{Request, Settings, Task};
@@ -63,12 +65,20 @@ pub(crate) fn settings_text(rt: &HostRuntime, shell: &mut Shell) -> Result<Vec<u
 
 /// The version of the protocol that is asked for.
 pub(crate) fn version_of(rt: &HostRuntime, settings: &Settings) -> Protocol {
-    if let Some(word) = variable(rt, "GIXP_VERSION") {
-        return protocol_of(word.as_bytes());
+    let setting = settings.value(b"protocol.version");
+    match variable(rt, "GIXP_VERSION") {
+        Some(word) => version_by(Some(word.as_bytes()), setting),
+        None => version_by(None, setting),
     }
-    match settings.value(b"protocol.version") {
-        Some(word) => protocol_of(word),
-        None => Protocol::V2,
+}
+
+// The version that the variable names, or else the setting.
+fn version_by(variable: Option<&[u8]>, setting: Option<&[u8]>) -> Protocol
+    ensures { result ≡ version_by (option_map (λ w. w.now) variable.entry) (option_map (λ w. w.now) setting.entry) }
+{
+    match (variable, setting) {
+        (Some(word), _) | (None, Some(word)) => protocol_of(word),
+        (None, None) => Protocol::V2,
     }
 }
 
@@ -98,14 +108,27 @@ pub(crate) fn version_word(version: Protocol) -> Option<&'static [u8]>
 
 /// Who chooses the haves.
 pub(crate) fn haves_of(rt: &HostRuntime, settings: &Settings) -> Haves {
-    use gix_protocol::fetch::negotiate::Algorithm;
-    if let Some(word) = variable(rt, "GIXP_NEGOTIATOR") {
-        return match Algorithm::from_name(word.as_str()) {
-            Some(algorithm) => Haves::By(algorithm),
-            None => Haves::InOrder,
-        };
+    match variable(rt, "GIXP_NEGOTIATOR") {
+        Some(word) => named_haves(word.as_str()),
+        None => haves_set(settings.value(b"fetch.negotiationalgorithm")),
     }
-    match settings.value(b"fetch.negotiationalgorithm") {
+}
+
+// The algorithm of this name, or git's own order.
+fn named_haves(name: &str) -> Haves
+    ensures { IsNamedHaves name.now result }
+{
+    match Algorithm::from_name(name) {
+        Some(algorithm) => Haves::By(algorithm),
+        None => Haves::InOrder,
+    }
+}
+
+// Who the setting chooses.
+fn haves_set(setting: Option<&[u8]>) -> Haves
+    ensures { result ≡ haves_set (option_map (λ w. w.now) setting.entry) }
+{
+    match setting {
         Some(b"noop") => Haves::By(Algorithm::Noop),
         Some(b"skipping") => Haves::By(Algorithm::Skipping),
         _ => Haves::InOrder,

@@ -1,4 +1,7 @@
 //! Why the helper ends, and the sentence that says so.
+ghost use Rattle.std.specs.Prelude.{◌≡◌};
+ghost use Rattle.gixp_remote_session.specs.Troubles.{TellsWord, speaker_of};
+
 use crate::web::NO_VERSION_2;
 use bstr::BString;
 use gixp_fetch_session::failure::Failure;
@@ -65,7 +68,9 @@ impl From<io::Error> for Trouble {
 
 impl Trouble {
     /// Something about a word.
-    pub(crate) fn of_word(alloc: Global, why: &'static str, word: &[u8]) -> Trouble {
+    pub(crate) fn of_word(alloc: Global, why: &'static str, word: &[u8]) -> Trouble
+        ensures { TellsWord why.now word.now result }
+    {
         match BString::from_slice(alloc, word) {
             Ok(word) => Trouble::Word(why, word),
             Err(_) => Trouble::Memory,
@@ -73,7 +78,9 @@ impl Trouble {
     }
 
     /// Who says it.
-    pub(crate) fn speaker(&self) -> &'static str {
+    pub(crate) fn speaker(&self) -> &'static str
+        ensures { result.now ≡ speaker_of self.now }
+    {
         match self {
             Trouble::Fetch(e) if e.is_said_by_git() => "fatal",
             Trouble::Word(_, _) | Trouble::Url(_) | Trouble::Fatal(_) | Trouble::NoRefs => "fatal",

@@ -8,7 +8,8 @@ pub returns-in-Ok-Last : goal.returns-in-Ok-Last
 returns-in-Ok-Last c =
     let bytes = c.args.bytes.now in
     let came = rw c.in-Ok-Last.field-0-is at c.in-Ok-Last.ensures in
-    let so = c.loop-count.invariant in
+    let loop = c.loop-count in
+    let so = loop.invariant in
     rw c.in-Ok-Last.field-0-is (reads_last bytes c.args.opening.now (map (symref_at bytes) c.args.symrefs.now) c.args.from
-    c.loop-count.reach.place c.in-Ok-Last.next c.loop-count.count c.args.records.now c.loop-count.records c.in-Ok-Last.record c.loop-count-test.true so.rest so.within so.so_far
-    so.ending came.0 came.1 came.2 (length-set c.loop-count.records c.loop-count.count c.in-Ok-Last.record))
+    loop.reach.place c.in-Ok-Last.next loop.count c.args.records.now loop.records c.in-Ok-Last.record c.loop-count-test.true
+    so.rest so.within so.so_far so.ending came.0 came.1 came.2 (length-set loop.records loop.count c.in-Ok-Last.record))

@@ -4,7 +4,8 @@ use Rattle.gixp_records.proofs.told.write_all.Goals as goal
 
 pub put_name-requires : goal.put_name-requires
 put_name-requires c =
-    next-fits c.args.all.now c.loop-place.place _ _ _ _ _ _ _ c.loop-place.invariant (omega arith) c.requires.names c.local_bytes-name.ensures
+    let loop = c.loop-place in
+    next-fits c.args.all.now loop.place _ _ _ _ _ _ _ loop.invariant (omega arith) c.requires.names c.local_bytes-name.ensures
 
 pub loop-place-preserved : goal.loop-place-preserved
 loop-place-preserved c =

@@ -2,7 +2,7 @@
 use Rattle.std.proofs.Common.{◌≡◌, map}
 use Rattle.std.specs.Char.{to_ascii_lowercase}
 use Rattle.std.proofs.lemmas.Slice.Eq.{bytes_eq-Decides}
-use Rattle.gixp_remote_rules.proofs.TextLemmas.{same_test}
+use Rattle.gixp_remote_rules.proofs.WordLemmas.{same_test}
 use Rattle.gixp_remote_rules.proofs.text.is_word.Goals as goal
 
 pub returns : goal.returns
