@@ -27,11 +27,11 @@ abbrev pub ids_in : List ℕ → List ObjectId
 ids_in bytes = map id_from (first_chunks 20 (length bytes / 20) bytes)
 
 -- these ids, unless the bytes are no whole ids or an allocation failed
-abbrev pub ReadsIds : List ℕ → Result (Vec ObjectId Global) EngineError → Type 0
-ReadsIds bytes (Ok ids) = (length bytes % 20 ≡ 0) × (ids.items ≡ ids_in bytes)
-ReadsIds bytes (Err Lengths) = 0 < length bytes % 20
-ReadsIds bytes (Err Memory) = ⊤
-ReadsIds bytes (Err _) = ⊥
+abbrev pub HandsIds : List ℕ → Result (Vec ObjectId Global) EngineError → Type 0
+HandsIds bytes (Ok ids) = (length bytes % 20 ≡ 0) × (ids.items ≡ ids_in bytes)
+HandsIds bytes (Err Lengths) = 0 < length bytes % 20
+HandsIds bytes (Err Memory) = ⊤
+HandsIds bytes (Err _) = ⊥
 
 -- why a text has no refspecs
 abbrev pub refused_specs : SpecsRefused → EngineError
@@ -39,12 +39,12 @@ refused_specs (none.Spec e) = Spec e
 refused_specs none.Memory = Memory
 
 -- the refspecs of the lines of a text, and no others, unless a line is none or an allocation failed; an empty line is passed over
-abbrev pub ReadsSpecs : List ℕ → Result Context EngineError → Type 0
-ReadsSpecs text (Ok specs) = (specs_of_lines (text_lines text) ≡ Ok (map owned_value_of specs.fetch_refspecs.items))
+abbrev pub HandsSpecs : List ℕ → Result Context EngineError → Type 0
+HandsSpecs text (Ok specs) = (specs_of_lines (text_lines text) ≡ Ok (map owned_value_of specs.fetch_refspecs.items))
     × (specs.extra_refspecs.items ≡ [])
-ReadsSpecs text (Err (Spec e)) = specs_of_lines (text_lines text) ≡ Err e
-ReadsSpecs text (Err Memory) = ⊤
-ReadsSpecs text (Err _) = ⊥
+HandsSpecs text (Err (Spec e)) = specs_of_lines (text_lines text) ≡ Err e
+HandsSpecs text (Err Memory) = ⊤
+HandsSpecs text (Err _) = ⊥
 
 -- the answers that end at these places, the first of which begins at a place; none where the places are in no order, or the last of
 -- them isn't the end of the bytes
@@ -59,12 +59,12 @@ abbrev pub answer_in : List ℕ → Answer
 answer_in bytes = body (stream_pieces bytes)
 
 -- these answers, unless there are none or an allocation failed
-abbrev pub ReadsAnswers : List ℕ → List ℕ → Result (Vec Body Global) EngineError → Type 0
-ReadsAnswers bytes ends (Ok bodies) = (answers : List (List ℕ)) × (answers_between bytes 0 ends ≡ Some answers)
+abbrev pub HandsAnswers : List ℕ → List ℕ → Result (Vec Body Global) EngineError → Type 0
+HandsAnswers bytes ends (Ok bodies) = (answers : List (List ℕ)) × (answers_between bytes 0 ends ≡ Some answers)
     × (map answer_of bodies.items ≡ map answer_in answers)
-ReadsAnswers bytes ends (Err Lengths) = answers_between bytes 0 ends ≡ None
-ReadsAnswers bytes ends (Err Memory) = ⊤
-ReadsAnswers bytes ends (Err _) = ⊥
+HandsAnswers bytes ends (Err Lengths) = answers_between bytes 0 ends ≡ None
+HandsAnswers bytes ends (Err Memory) = ⊤
+HandsAnswers bytes ends (Err _) = ⊥
 
 -- these objects beside others, of no known kind
 abbrev pub objects_held : Objects → List ObjectId → Objects

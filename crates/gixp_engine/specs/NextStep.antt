@@ -77,10 +77,10 @@ module _ {O : Type 0} (contents : O → Objects)
     pub requests : sent ≡ new.held.sent
 
   -- the step by that session, unless the places cut no answers, or there is none, or an allocation failed
-  pub data NextStep (step : Result Step EngineError) : Type 0 where
-    uncut : answers_between bytes 0 ends ≡ None → step ≡ Err Lengths → NextStep step
-    unanswered : answers_between bytes 0 ends ≡ Some [] → step ≡ Err NoAnswer → NextStep step
-    unstored : step ≡ Err Memory → NextStep step
+  pub data IsNextStep (step : Result Step EngineError) : Type 0 where
+    uncut : answers_between bytes 0 ends ≡ None → step ≡ Err Lengths → IsNextStep step
+    unanswered : answers_between bytes 0 ends ≡ Some [] → step ≡ Err NoAnswer → IsNextStep step
+    unstored : step ≡ Err Memory → IsNextStep step
     stepped : (answers : List (List ℕ)) (sent : List (List ℕ)) (ended : Result (Option Protocol) EngineError)
         → answers_between bytes 0 ends ≡ Some answers → SessionOver answers sent ended → StepsTo bytes ends sent ended step
-        → NextStep step
+        → IsNextStep step

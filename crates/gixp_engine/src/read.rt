@@ -2,7 +2,7 @@
 ghost use Rattle.std.specs.Prelude.{◌≡◌, IfOk, map};
 ghost use Rattle.std.specs.FinMap as finite;
 ghost use Rattle.gixp_refspec.specs.RefSpec.{value_of, owned_value_of};
-ghost use Rattle.gixp_engine.specs.Handed.{ReadsIds, ReadsSpecs, ReadsAnswers, refused_specs, id_from, objects_held};
+ghost use Rattle.gixp_engine.specs.Handed.{HandsIds, HandsSpecs, HandsAnswers, refused_specs, id_from, objects_held};
 
 use crate::error::EngineError;
 use gixp_hash::ObjectId;
@@ -30,7 +30,7 @@ fn ids_from(alloc: Global, whole: &[[u8; 20]]) -> Result<Vec<ObjectId>, AllocErr
 ///
 /// `Lengths` where they are no whole ids, or `Memory`.
 pub fn ids_of(alloc: Global, bytes: &[u8]) -> Result<Vec<ObjectId>, EngineError>
-    ensures { ReadsIds bytes.now result }
+    ensures { HandsIds bytes.now result }
 {
     let (whole, rest) = bytes.as_chunks::<20>();
     if !rest.is_empty() {
@@ -69,7 +69,7 @@ fn refused_specs(e: SpecsRefused) -> EngineError
 ///
 /// `Spec` for the first line that is no refspec, or `Memory`.
 pub fn specs_of(alloc: Global, text: &[u8]) -> Result<Context, EngineError>
-    ensures { ReadsSpecs text.now result }
+    ensures { HandsSpecs text.now result }
 {
     let specs = match specs_in(alloc, text) {
         Ok(specs) => specs,
@@ -94,7 +94,7 @@ pub(crate) fn answers_of(
     bytes: &[u8],
     ends: &[usize],
 ) -> Result<Vec<Body>, EngineError>
-    ensures { ReadsAnswers bytes.now ends.now result }
+    ensures { HandsAnswers bytes.now ends.now result }
 {
     let mut answers = Vec::new(alloc);
     let mut start = 0;

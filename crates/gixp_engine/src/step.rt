@@ -4,7 +4,7 @@ ghost use Rattle.gixp_records.specs.Place.{RefusedFrom};
 ghost use Rattle.gixp_fetch.specs.Fetch.{parties_of};
 ghost use Rattle.gixp_fetch.specs.FetchShallow.{shallow_value};
 ghost use Rattle.gixp_engine.specs.Alone.{engine_call, FetchesAlone, OffersAlone};
-ghost use Rattle.gixp_engine.specs.NextStep.{start_of_last, BeginsPack, StepsTo, NextStep};
+ghost use Rattle.gixp_engine.specs.NextStep.{start_of_last, BeginsPack, StepsTo, IsNextStep};
 
 use crate::consumer::LeavePack;
 use crate::error::EngineError;
@@ -142,7 +142,7 @@ pub fn next_step(
     ends: &[usize],
     wishes: Wishes,
 ) -> Result<Step, EngineError>
-    ensures { NextStep ⟦<Shared<'static, StoredObjects> as Objects>⟧.contents
+    ensures { IsNextStep ⟦<Shared<'static, StoredObjects> as Objects>⟧.contents
         (λ objects m h old new r. FetchesAlone
         (parties_of ⟦<Negotiation<'static, Shared<'static, StoredObjects>, NoRefs, HaveList, NoObjects, AllocError> as Negotiate>⟧.calls
         ⟦<ShallowMemory as ShallowStore>⟧.calls ⟦<NeverInterrupt as Interrupt>⟧.says
