@@ -148,7 +148,8 @@ typedef struct gixp_step {
 
 /* What a client does next, from the answers so far: the first, which a server gives when it is asked for `git-upload-pack`, and the
  * answer to each request that this call wrote. They stand one after another in `answers`, and `ends` has the place at which each
- * ends. Of the last a beginning will do that reaches to the pack; of a shorter one GIXP_INCOMPLETE is returned.
+ * ends. Of the last a beginning will do that reaches to the pack; of a shorter one GIXP_INCOMPLETE is returned, but of an answer
+ * to a fetch under version 0 or 1, which may end without a pack, GIXP_BAD_FETCH + 1.
  *
  * With GIXP_NO_ROOM `length` is what the request needs. With GIXP_SERVER it is the length of the server's own words, which are in
  * `request` if that has room for them. */

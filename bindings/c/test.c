@@ -279,6 +279,8 @@ static void session(void)
     CHECK(next(answers, ends, 1, room, needed, &step) == GIXP_OK && step.kind == 1 && step.length == needed);
     CHECK(memcmp(room, "0014command=ls-refs\n", 20) == 0);
     CHECK(next(answers, ends, 2, room, 4096, &step) == GIXP_OK && step.kind == 1 && memcmp(room, "0012command=fetch\n", 18) == 0);
+    for (ends[1]--; ends[1] >= ends[0]; ends[1]--)
+        CHECK(next(answers, ends, 2, room, 4096, &step) == GIXP_INCOMPLETE);
     size_t len = strlen(SPEC);
     uint8_t *bytes = copy(GREETING, ends[0]), *spec = copy(SPEC, len), *ids = copy(LISTED, 40), *empty = copy("", 0);
     static const size_t wrong[][2] = {{19, 0}, {21, 20}, {20, 1}, {0, 39}};

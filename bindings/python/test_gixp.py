@@ -133,6 +133,7 @@ class Pieces(unittest.TestCase):
 class Sessions(unittest.TestCase):
     greeting = packet(b"version 2\n") + packet(b"ls-refs=unborn\n") + packet(b"fetch=shallow\n") + b"0000"
     listed = packet(b"%040x refs/heads/main\n" % 5) + b"0000"
+    advertised = packet(b"%040x HEAD\0multi_ack_detailed side-band-64k\n" % 5) + listed
 
     def session(self, *answers, **more):
         session = gixp.Session([b"refs/heads/*:refs/remotes/o/*"], **more)
@@ -158,6 +159,15 @@ class Sessions(unittest.TestCase):
             self.assertEqual(step, gixp.Pack(13))
         self.assertEqual(self.session(self.greeting, b"0000").step(), gixp.Nothing())
         self.assertEqual(self.session(self.greeting, self.listed, haves=[bytes(19) + b"\5"]).step(), gixp.Nothing())
+
+    def test_beginnings(self):
+        """Of each answer but its whole a beginning is told as one."""
+        pack = packet(b"acknowledgments\n") + packet(b"NAK\n") + packet(b"ready\n") + b"0001" + packet(b"packfile\n")
+        for before, answer in [((), self.greeting), ((), self.advertised), ((), packet(b"version 1\n") + self.advertised),
+                               ((self.greeting,), self.listed), ((self.greeting, self.listed), pack)]:
+            for end in range(len(answer)):
+                self.assertEqual(self.code(*before, answer[:end], haves=[b"\7" * 20]), 10, answer[:end])
+            self.session(*before, answer, haves=[b"\7" * 20]).step()
 
     def test_refused(self):
         self.assertEqual(self.code(), 30)
@@ -254,6 +264,9 @@ class Clones(unittest.TestCase):
             git("commit", "-qm", str(n), folder=work)
         git("tag", "-am", "one", "v1", folder=work)
         git("branch", "other", "HEAD~10", folder=work)
+        # More refs than one read takes.
+        lines = b"".join(b"create refs/heads/%s/%d HEAD\n" % (b"a" * 60, n) for n in range(1000))
+        git("update-ref", "--stdin", folder=work, input=lines)
         git("clone", "-q", "--bare", work, os.path.join(self.folder, "served.git"))
         self.server = http.server.ThreadingHTTPServer(("127.0.0.1", 0), Backend)
         self.server.root = self.folder

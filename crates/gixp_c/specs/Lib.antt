@@ -1,2 +1,4 @@
 pub mod Codes
+pub mod EngineCodes
 pub mod Exports
+pub mod NextExport

@@ -1,16 +1,20 @@
 //! The number of each outcome.
 ghost use Rattle.std.specs.Prelude.{◌≡◌, ◌<◌};
 ghost use Rattle.gixp_c.specs.Codes.{packet_code, line_code, refs_code, advertised_line_code, advertised_code, spec_code};
+ghost use Rattle.gixp_c.specs.EngineCodes.{cut_or, client_code, ref_code, list_code, answer_code, handshake_code, map_code, fetch_code, engine_code};
 
-use gix_protocol::fetch::{self, refmap, response};
-use gix_protocol::handshake;
-use gix_protocol::refspec::parse;
-use gix_protocol::transport::client;
+use gixp_capabilities::client;
 use gixp_engine::{EngineError, Left};
+use gixp_fetch::error::Error as FetchError;
+use gixp_handshake::handshake;
 use gixp_packetline::PacketError;
 use gixp_records::{
     AdvertisedLineRefused, AdvertisedRefused, LineRefused, PacketRefused, RefsRefused,
 };
+use gixp_refmap::{ls_refs, refmap};
+use gixp_refs::handshake::refs;
+use gixp_refspec::parse;
+use gixp_response::fetch::response;
 use std::alloc::AllocError;
 use std::io::ErrorKind;
 
@@ -25,6 +29,8 @@ pub(crate) const BAD_PLACE: u32 = 3;
 
 /// An allocation failed.
 pub(crate) const NO_MEMORY: u32 = 4;
+/// The bytes end before what is read does.
+const INCOMPLETE: u32 = 10;
 /// Two mappings go to one local name.
 pub(crate) const CONFLICT: u32 = 51;
 /// The server sent an error.
@@ -36,7 +42,7 @@ pub(crate) fn packet_code(e: PacketRefused) -> u32
     ensures high { 2 < result }
 {
     match e {
-        PacketRefused::Incomplete => 10,
+        PacketRefused::Incomplete => INCOMPLETE,
         PacketRefused::Malformed(PacketError::HexDecode) => 11,
         PacketRefused::Malformed(PacketError::DataLengthLimitExceeded) => 12,
         PacketRefused::Malformed(PacketError::DataIsEmpty) => 13,
@@ -110,66 +116,126 @@ pub(crate) fn spec_code(e: &parse::Error) -> u32
     }
 }
 
+// Of a read: that the bytes end is told as such, whatever was read.
+fn cut_or(kind: ErrorKind, code: u32) -> u32
+    ensures code { result ≡ cut_or kind code }
+    ensures high { 2 < code → 2 < result }
+{
+    match kind {
+        ErrorKind::UnexpectedEof => INCOMPLETE,
+        _ => code,
+    }
+}
+
+// Of the transport.
+fn client_code(e: &client::Error, code: u32) -> u32
+    ensures code { result ≡ client_code e.now code }
+    ensures high { 2 < code → 2 < result }
+{
+    match e {
+        client::Error::Io(kind) => cut_or(*kind, code),
+        _ => code,
+    }
+}
+
+// Of refs that are read.
+fn ref_code(e: &refs::parse::Error, code: u32) -> u32
+    ensures code { result ≡ ref_code e.now code }
+    ensures high { 2 < code → 2 < result }
+{
+    match e {
+        refs::parse::Error::Io(kind) => cut_or(*kind, code),
+        _ => code,
+    }
+}
+
+// Of a list of refs.
+fn list_code(e: &ls_refs::Error) -> u32
+    ensures code { result ≡ list_code e.now }
+    ensures high { 2 < result }
+{
+    match e {
+        ls_refs::Error::Io(kind) => cut_or(*kind, 52),
+        ls_refs::Error::Transport(e) => client_code(e, 52),
+        ls_refs::Error::Parse(e) => ref_code(e, 52),
+        _ => 52,
+    }
+}
+
+// Of an answer to a fetch.
+fn answer_code(e: &response::Error) -> u32
+    ensures code { result ≡ answer_code e.now }
+    ensures high { 2 < result }
+{
+    match e {
+        response::Error::Io(kind) => cut_or(*kind, 60),
+        response::Error::Transport(e) => client_code(e, 60),
+        _ => 60,
+    }
+}
+
 // Of a handshake.
 fn handshake_code(e: &handshake::Error) -> u32
-    ensures { 2 < result }
+    ensures code { result ≡ handshake_code e.now }
+    ensures high { 2 < result }
 {
     match e {
         handshake::Error::Credentials(_) => 40,
         handshake::Error::EmptyCredentials => 41,
         handshake::Error::InvalidCredentials { .. } => 42,
-        handshake::Error::Transport(client::Error::Io(ErrorKind::UnexpectedEof)) => 10,
-        handshake::Error::Transport(_) => 43,
+        handshake::Error::Transport(e) => client_code(e, 43),
         handshake::Error::TransportProtocolPolicyViolation { .. } => 44,
-        handshake::Error::ParseRefs(_) => 45,
-        handshake::Error::Memory => 4,
+        handshake::Error::ParseRefs(e) => ref_code(e, 45),
+        handshake::Error::Memory => NO_MEMORY,
     }
 }
 
 // Of a ref map.
-fn refs_map_code(e: &refmap::init::Error) -> u32
-    ensures { 2 < result }
+fn map_code(e: &refmap::init::Error) -> u32
+    ensures code { result ≡ map_code e.now }
+    ensures high { 2 < result }
 {
     match e {
         refmap::init::Error::UnknownObjectFormat { .. } => 50,
-        refmap::init::Error::MappingValidation(_) => 51,
-        refmap::init::Error::ListRefs(_) => 52,
-        refmap::init::Error::Memory => 4,
+        refmap::init::Error::MappingValidation(_) => CONFLICT,
+        refmap::init::Error::ListRefs(e) => list_code(e),
+        refmap::init::Error::Memory => NO_MEMORY,
     }
 }
 
 // Of a fetch.
-fn fetch_code(e: &fetch::Error<AllocError, Left>) -> u32
-    ensures { 2 < result }
+fn fetch_code(e: &FetchError<AllocError, Left>) -> u32
+    ensures code { result ≡ fetch_code e.now }
+    ensures high { 2 < result }
 {
     match e {
-        fetch::Error::FetchResponse(response::Error::Io(ErrorKind::UnexpectedEof)) => 10,
-        fetch::Error::FetchResponse(_) => 60,
-        fetch::Error::Negotiate(_) => 61,
-        fetch::Error::Client(_) => 62,
-        fetch::Error::MissingServerFeature { .. } => 63,
-        fetch::Error::WriteShallowFile(_) => 64,
-        fetch::Error::ReadShallowFile(_) => 65,
-        fetch::Error::LockShallowFile(_) => 66,
-        fetch::Error::RejectShallowRemote => 67,
-        fetch::Error::ConsumePack(_) => 68,
-        fetch::Error::ReadRemainingBytes(_) => 69,
-        fetch::Error::Memory => 4,
+        FetchError::FetchResponse(e) => answer_code(e),
+        FetchError::Negotiate(_) => 61,
+        FetchError::Client(e) => client_code(e, 62),
+        FetchError::MissingServerFeature { .. } => 63,
+        FetchError::WriteShallowFile(_) => 64,
+        FetchError::ReadShallowFile(_) => 65,
+        FetchError::LockShallowFile(_) => 66,
+        FetchError::RejectShallowRemote => 67,
+        FetchError::ConsumePack(_) => 68,
+        FetchError::ReadRemainingBytes(_) => 69,
+        FetchError::Memory => NO_MEMORY,
     }
 }
 
 // Of a session.
 pub(crate) fn engine_code(e: &EngineError) -> u32
-    ensures { 2 < result }
+    ensures code { result ≡ engine_code e.now }
+    ensures high { 2 < result }
 {
     match e {
         EngineError::Lengths => BAD_PLACE,
-        EngineError::Memory => 4,
+        EngineError::Memory => NO_MEMORY,
         EngineError::NoAnswer => 30,
         EngineError::TooManyAnswers => 31,
         EngineError::Spec(e) => spec_code(e),
         EngineError::Handshake(e) => handshake_code(e),
-        EngineError::Refs(e) => refs_map_code(e),
+        EngineError::Refs(e) => map_code(e),
         EngineError::Fetch(e) => fetch_code(e),
         EngineError::Pack(e) => packet_code(*e),
     }

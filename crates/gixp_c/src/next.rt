@@ -1,11 +1,24 @@
 //! The next request of a session.
-ghost use Rattle.std.specs.Prelude.{◌≡◌, ◌<◌, length};
+ghost use Rattle.std.specs.Prelude.{◌≡◌, ◌<◌, true, length};
+ghost use Rattle.gixp_shallow.specs.Shallow.{shallow_value};
+ghost use Rattle.gixp_fetch.specs.Fetch.{parties_of};
+ghost use Rattle.gixp_engine.specs.Alone.{engine_call, FetchesAlone, OffersAlone};
+ghost use Rattle.gixp_engine.specs.EngineMessage.{engine_message};
+ghost use Rattle.gixp_c.specs.NextExport.{depth_value, ReadsWishes, StepsAsTold, TellsEngineStep, TellsWords, ExportsNext};
 
 use crate::code::{NO_ROOM, OK, SERVER, engine_code};
 use crate::texts::copy_text;
-use gix_protocol::fetch::Shallow;
-use gixp_engine::{EngineError, Step, Wishes, ids_of, next_step, specs_of};
-use std::alloc::Global;
+use gixp_engine::{EngineError, LeavePack, Step, Wishes, ids_of, next_step, specs_of};
+use gixp_fetch::consume::ConsumePack;
+use gixp_graph::{NoObjects, NoRefs, Objects, Shared};
+use gixp_memory::StoredObjects;
+use gixp_negotiate::negotiate::Negotiate;
+use gixp_negotiate::negotiate::negotiation::Negotiation;
+use gixp_negotiators::HaveList;
+use gixp_progress::Discard;
+use gixp_shallow::{Shallow, ShallowMemory, ShallowStore};
+use gixp_sidebands::{Interrupt, NeverInterrupt};
+use std::alloc::{AllocError, Global};
 use std::num::NonZeroU32;
 
 /// What a client wants.
@@ -35,7 +48,9 @@ pub struct StepRecord {
 }
 
 // How much of the history a depth asks for.
-fn shallow_of(depth: u32) -> Shallow {
+fn shallow_of(depth: u32) -> Shallow
+    ensures { shallow_value result ≡ depth_value depth }
+{
     match NonZeroU32::new(depth) {
         Some(depth) => Shallow::DepthAtRemote(depth),
         None => Shallow::NoChange,
@@ -43,13 +58,26 @@ fn shallow_of(depth: u32) -> Shallow {
 }
 
 // What a client wants.
-fn wishes_of(alloc: Global, told: &WishesRecord<'_>) -> Result<Wishes, EngineError> {
-    Ok(Wishes {
-        specs: specs_of(alloc, told.specs)?,
-        haves: ids_of(alloc, told.haves)?,
-        shallow: shallow_of(told.depth),
-        boundary: ids_of(alloc, told.boundary)?,
-    })
+fn wishes_of(alloc: Global, told: &WishesRecord<'_>) -> Result<Wishes, EngineError>
+    ensures { ReadsWishes told.now result }
+{
+    let specs = match specs_of(alloc, told.specs) {
+        Ok(specs) => specs,
+        Err(e) => return Err(e),
+    };
+    let haves = match ids_of(alloc, told.haves) {
+        Ok(haves) => haves,
+        Err(e) => return Err(e),
+    };
+    match ids_of(alloc, told.boundary) {
+        Ok(boundary) => Ok(Wishes {
+            specs,
+            haves,
+            shallow: shallow_of(told.depth),
+            boundary,
+        }),
+        Err(e) => Err(e),
+    }
 }
 
 // What comes next.
@@ -57,13 +85,26 @@ fn step_of(
     alloc: Global,
     answers: &[u8],
     ends: &[usize],
-    wishes: &WishesRecord<'_>,
-) -> Result<Step, EngineError> {
-    next_step(alloc, answers, ends, wishes_of(alloc, wishes)?)
+    told: &WishesRecord<'_>,
+) -> Result<Step, EngineError>
+    ensures { StepsAsTold ⟦<Shared<'static, StoredObjects> as Objects>⟧.contents
+        (λ w objects m h old new r. FetchesAlone
+        (parties_of ⟦<Negotiation<'static, Shared<'static, StoredObjects>, NoRefs, HaveList, NoObjects, AllocError> as Negotiate>⟧.calls
+        ⟦<ShallowMemory as ShallowStore>⟧.calls ⟦<NeverInterrupt as Interrupt>⟧.says
+        ⟦<LeavePack as ConsumePack<Discard>>⟧.consumes true)
+        (OffersAlone objects w.haves.items m w.shallow) w.boundary.items
+        (engine_call h (shallow_value w.shallow)) old new r)
+        answers.now ends.now told.now result }
+{
+    match wishes_of(alloc, told) {
+        Ok(wishes) => next_step(alloc, answers, ends, wishes),
+        Err(e) => Err(e),
+    }
 }
 
 // Puts the step into the buffer and the record.
 fn tell_step(found: &Step, request: &mut [u8], step: &mut StepRecord) -> u32
+    ensures told { TellsEngineStep found.now request.old step.old result request.new step.new }
     ensures no_room { result ≡ 2 → (request.new ≡ request.old) × (step.new ≡ record step.old { length = step.new.length })
         × (length request.old < step.new.length) }
     ensures few { result < 3 }
@@ -99,6 +140,7 @@ fn tell_step(found: &Step, request: &mut [u8], step: &mut StepRecord) -> u32
 
 // Puts the server's own words into the buffer, if it has room for them, and returns the number.
 fn tell_refusal(e: &EngineError, request: &mut [u8], step: &mut StepRecord) -> u32
+    ensures told { TellsWords (engine_message e.now) e.now request.old step.old result request.new step.new }
     ensures code { 2 < result }
     ensures step { step.new ≡ record step.old { length = step.new.length } }
 {
@@ -132,6 +174,16 @@ pub extern "C" fn gixp_next(
     request: &mut [u8],
     step: &mut StepRecord,
 ) -> u32
+    ensures next { ExportsNext
+        (StepsAsTold ⟦<Shared<'static, StoredObjects> as Objects>⟧.contents
+        (λ w objects m h old new r. FetchesAlone
+        (parties_of ⟦<Negotiation<'static, Shared<'static, StoredObjects>, NoRefs, HaveList, NoObjects, AllocError> as Negotiate>⟧.calls
+        ⟦<ShallowMemory as ShallowStore>⟧.calls ⟦<NeverInterrupt as Interrupt>⟧.says
+        ⟦<LeavePack as ConsumePack<Discard>>⟧.consumes true)
+        (OffersAlone objects w.haves.items m w.shallow) w.boundary.items
+        (engine_call h (shallow_value w.shallow)) old new r)
+        answers.now ends.now wishes.now)
+        request.old step.old result request.new step.new }
     ensures no_room { result ≡ 2 → (request.new ≡ request.old) × (length request.old < step.new.length) }
     ensures refused { 2 < result → step.new ≡ record step.old { length = step.new.length } }
 {

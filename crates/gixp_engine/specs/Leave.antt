@@ -2,7 +2,7 @@
 use Rattle.std.specs.Prelude.{◌≡◌, ℕ, List, [], ◌++◌, Option, Some, None, IfSome}
 use Rattle.std.proofs.Common.{refl, sym, subst}
 use Rattle.gixp_packetline.specs.Pieces.{Pieces}
-use Rattle.gixp_sidebands.specs.Bands.{Side, IsFirstOf, side_content, side_reading, Passes, KeepsEnd, end_left}
+use Rattle.gixp_sidebands.specs.Bands.{Side, IsFirstOf, side_content, side_reading, end_left}
 use Rattle.gixp_fetch.specs.Receive.{ReadsOn}
 
 -- nothing came next, and all is still to come

@@ -1,1 +1,5 @@
+pub mod Alone
+pub mod EngineMessage
+pub mod Handed
 pub mod Leave
+pub mod NextStep

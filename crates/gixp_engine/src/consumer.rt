@@ -3,8 +3,11 @@ ghost use Rattle.std.specs.Prelude.{◌≡◌, Ok, false};
 ghost use Rattle.gixp_engine.specs.Leave.{leaves_owes};
 
 use bstr::BStr;
-use gix_protocol::fetch::{ConsumePack, WithSidebands};
-use gix_protocol::transport::{ExtendedBufRead, Interrupt, Progress, ServerMessage};
+use gixp_fetch::WithSidebands;
+use gixp_fetch::consume::ConsumePack;
+use gixp_packetline::{ExtendedBufRead, ServerMessage};
+use gixp_progress::Progress;
+use gixp_sidebands::Interrupt;
 
 /// Reads nothing of a pack, and lets nothing be read after it.
 #[derive(Clone, Copy, Debug)]

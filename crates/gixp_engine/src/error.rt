@@ -1,11 +1,17 @@
 //! Why there is no next request.
+ghost use Rattle.std.specs.Prelude.{◌≡◌};
+ghost use Rattle.std.specs.Option.{option_map};
+ghost use Rattle.bstr.specs.BStr.{bstr_bytes};
+ghost use Rattle.gixp_engine.specs.EngineMessage.{engine_message};
+
 use crate::consumer::Left;
 use bstr::BStr;
-use gix_protocol::fetch::{self, refmap};
-use gix_protocol::handshake;
-use gix_protocol::refspec::parse;
-use gix_protocol::transport::ServerMessage;
+use gixp_fetch::error::Error as FetchError;
+use gixp_handshake::handshake;
+use gixp_packetline::ServerMessage;
 use gixp_records::PacketRefused;
+use gixp_refmap::refmap;
+use gixp_refspec::parse;
 use std::alloc::{AllocError, AllocFailed};
 use thiserror::Error as DeriveError;
 
@@ -32,7 +38,7 @@ pub enum EngineError {
     Refs(refmap::init::Error),
     /// The fetch failed.
     #[error("{0}")]
-    Fetch(fetch::Error<AllocError, Left>),
+    Fetch(FetchError<AllocError, Left>),
     /// The pack doesn't begin in what is there of the last answer.
     #[error("no pack begins")]
     Pack(PacketRefused),
@@ -65,7 +71,9 @@ impl<T: Drop> From<AllocFailed<T>> for EngineError {
 
 impl EngineError {
     /// The server's own words, where it is those.
-    pub fn server_message(&self) -> Option<BStr<'_>> {
+    pub fn server_message(&self) -> Option<BStr<'_>>
+        ensures { option_map bstr_bytes result ≡ engine_message self.now }
+    {
         match self {
             EngineError::Handshake(e) => e.server_message(),
             EngineError::Refs(e) => e.server_message(),

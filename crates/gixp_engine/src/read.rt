@@ -1,23 +1,22 @@
 //! What a caller hands in, as values.
+ghost use Rattle.std.specs.Prelude.{◌≡◌, IfOk, map};
+ghost use Rattle.std.specs.FinMap as finite;
+ghost use Rattle.gixp_refspec.specs.RefSpec.{value_of, owned_value_of};
+ghost use Rattle.gixp_engine.specs.Handed.{HandsIds, HandsSpecs, HandsAnswers, refused_specs, id_from, objects_held};
 
 use crate::error::EngineError;
-use bstr::BStr;
-use gix_protocol::fetch::refmap::init::Context;
-use gix_protocol::refspec::RefSpec;
-use gix_protocol::refspec::parse::{Operation, parse};
-use gix_protocol::transport::{Body, ObjectId};
-use std::alloc::Global;
+use gixp_hash::ObjectId;
+use gixp_memory::StoredObjects;
+use gixp_records::{SpecsRefused, specs_in};
+use gixp_refmap::refmap::init::Context;
+use gixp_refspec::{RefSpec, RefSpecRef};
+use gixp_wire::Body;
+use std::alloc::{AllocError, Global};
 
-/// The ids of twenty bytes each, one after another.
-///
-/// # Errors
-///
-/// `Lengths` where they are no whole ids, or `Memory`.
-pub fn ids_of(alloc: Global, bytes: &[u8]) -> Result<Vec<ObjectId>, EngineError> {
-    let (whole, rest) = bytes.as_chunks::<20>();
-    if !rest.is_empty() {
-        return Err(EngineError::Lengths);
-    }
+// The ids of these bytes.
+fn ids_from(alloc: Global, whole: &[[u8; 20]]) -> Result<Vec<ObjectId>, AllocError>
+    ensures { IfOk result (λ ids. ids.items ≡ map id_from whole.now) }
+{
     let mut ids = Vec::new(alloc);
     for id in whole {
         ids.push(ObjectId { bytes: *id })?;
@@ -25,11 +24,42 @@ pub fn ids_of(alloc: Global, bytes: &[u8]) -> Result<Vec<ObjectId>, EngineError>
     Ok(ids)
 }
 
-// The refspec of a text.
-fn spec_of(alloc: Global, text: &[u8]) -> Result<RefSpec, EngineError> {
-    match parse(BStr::new(text), Operation::Fetch) {
-        Ok(spec) => Ok(spec.to_owned(alloc)?),
-        Err(e) => Err(EngineError::Spec(e)),
+/// The ids of twenty bytes each, one after another.
+///
+/// # Errors
+///
+/// `Lengths` where they are no whole ids, or `Memory`.
+pub fn ids_of(alloc: Global, bytes: &[u8]) -> Result<Vec<ObjectId>, EngineError>
+    ensures { HandsIds bytes.now result }
+{
+    let (whole, rest) = bytes.as_chunks::<20>();
+    if !rest.is_empty() {
+        return Err(EngineError::Lengths);
+    }
+    match ids_from(alloc, whole) {
+        Ok(ids) => Ok(ids),
+        Err(_) => Err(EngineError::Memory),
+    }
+}
+
+// Refspecs with texts of their own.
+fn owned_specs(alloc: Global, specs: &[RefSpecRef<'_>]) -> Result<Vec<RefSpec>, AllocError>
+    ensures { IfOk result (λ owned. map owned_value_of owned.items ≡ map value_of specs.now) }
+{
+    let mut owned = Vec::new(alloc);
+    for spec in specs {
+        owned.push(spec.to_owned(alloc)?)?;
+    }
+    Ok(owned)
+}
+
+// Why a text has no refspecs.
+fn refused_specs(e: SpecsRefused) -> EngineError
+    ensures { result ≡ refused_specs e }
+{
+    match e {
+        SpecsRefused::Spec(e) => EngineError::Spec(e),
+        SpecsRefused::Memory => EngineError::Memory,
     }
 }
 
@@ -38,17 +68,20 @@ fn spec_of(alloc: Global, text: &[u8]) -> Result<RefSpec, EngineError> {
 /// # Errors
 ///
 /// `Spec` for the first line that is no refspec, or `Memory`.
-pub fn specs_of(alloc: Global, text: &[u8]) -> Result<Context, EngineError> {
-    let mut specs = Vec::new(alloc);
-    for line in text.split(|byte| *byte == b'\n') {
-        if !line.is_empty() {
-            specs.push(spec_of(alloc, line)?)?;
-        }
+pub fn specs_of(alloc: Global, text: &[u8]) -> Result<Context, EngineError>
+    ensures { HandsSpecs text.now result }
+{
+    let specs = match specs_in(alloc, text) {
+        Ok(specs) => specs,
+        Err(e) => return Err(refused_specs(e)),
+    };
+    match owned_specs(alloc, &specs) {
+        Ok(fetch_refspecs) => Ok(Context {
+            fetch_refspecs,
+            extra_refspecs: Vec::new(alloc),
+        }),
+        Err(_) => Err(EngineError::Memory),
     }
-    Ok(Context {
-        fetch_refspecs: specs,
-        extra_refspecs: Vec::new(alloc),
-    })
 }
 
 /// The answers that end at these places, one after another.
@@ -56,7 +89,13 @@ pub fn specs_of(alloc: Global, text: &[u8]) -> Result<Context, EngineError> {
 /// # Errors
 ///
 /// `Lengths` where the places are in no order, or the last isn't the end of the bytes; or `Memory`.
-pub fn answers_of(alloc: Global, bytes: &[u8], ends: &[usize]) -> Result<Vec<Body>, EngineError> {
+pub(crate) fn answers_of(
+    alloc: Global,
+    bytes: &[u8],
+    ends: &[usize],
+) -> Result<Vec<Body>, EngineError>
+    ensures { HandsAnswers bytes.now ends.now result }
+{
     let mut answers = Vec::new(alloc);
     let mut start = 0;
     for end in ends {
@@ -70,4 +109,15 @@ pub fn answers_of(alloc: Global, bytes: &[u8], ends: &[usize]) -> Result<Vec<Bod
         return Err(EngineError::Lengths);
     }
     Ok(answers)
+}
+
+/// The objects that are there: their kinds aren't known.
+pub(crate) fn objects_of(alloc: Global, haves: &[ObjectId]) -> Result<StoredObjects, AllocError>
+    ensures { IfOk result (λ objects. objects ≡ objects_held finite.empty haves.now) }
+{
+    let mut objects = StoredObjects::new(alloc);
+    for id in haves {
+        objects.add_id(*id)?;
+    }
+    Ok(objects)
 }

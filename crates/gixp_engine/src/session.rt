@@ -1,29 +1,49 @@
 //! A session over the answers so far.
-ghost use Rattle.std.specs.Prelude.{◌≡◌, None, Ok};
+ghost use Rattle.std.specs.Prelude.{◌≡◌, None, Ok, IfOk};
+ghost use Rattle.gixp_requests.specs.Feature.{feature_value};
+ghost use Rattle.gixp_handshake.specs.Taken.{without_refs};
+ghost use Rattle.gixp_fetch.specs.Fetch.{parties_of};
+ghost use Rattle.gixp_fetch.specs.FetchShallow.{shallow_value};
+ghost use Rattle.gixp_engine.specs.Alone.{engine_agent, engine_call, end_of_fetch, ShakesAlone, MapsAlone, CarriesAlone, FetchesAlone, OffersAlone, EngineSession};
 
 use crate::consumer::{LeavePack, Left};
 use crate::error::EngineError;
 use crate::step::Wishes;
-use gix_protocol::command::{CommandTable, Feature};
-use gix_protocol::credentials::{self, Action};
-use gix_protocol::fetch::negotiate::{
-    Graph, HaveList, Negotiate, NegotiateContext, Negotiation, NoObjects, NoRefs, Objects, Shared,
-    StoredObjects,
-};
-use gix_protocol::fetch::refmap::init;
-use gix_protocol::fetch::{self, Outcome, RefMap, Shallow, ShallowMemory, Tags};
-use gix_protocol::handshake::{self, obtain_mappings};
-use gix_protocol::transport::{Discard, NeverInterrupt, ObjectId, Protocol, Service, Transport};
-use gix_protocol::{Handshake, agent_feature};
+use gixp_fetch::consume::ConsumePack;
+use gixp_fetch::error::Error as FetchError;
+use gixp_fetch::fetch::fetch;
+use gixp_fetch::options::{Context, Options, Outcome};
+use gixp_graph::{Graph, NoObjects, NoRefs, Objects};
+use gixp_handshake::Handshake;
+use gixp_handshake::credentials::{self, Action};
+use gixp_handshake::handshake::{self, obtain_mappings};
+use gixp_hash::ObjectId;
+use gixp_negotiate::negotiate::Negotiate;
+use gixp_negotiate::negotiate::negotiation::{NegotiateContext, Negotiation};
+use gixp_negotiators::HaveList;
+use gixp_packetline::Protocol;
+use gixp_progress::Discard;
+use gixp_refmap::RefMap;
+use gixp_refmap::fetch::Tags;
+use gixp_refmap::refmap::init;
+use gixp_requests::agent_feature;
+use gixp_requests::command::CommandTable;
+use gixp_shallow::{Shallow, ShallowMemory, ShallowStore};
+use gixp_sidebands::{Interrupt, NeverInterrupt};
+use gixp_wire::{Feature, Service, Transport};
 use std::alloc::{AllocError, Global};
 
 // How the client names itself.
-fn engine_feature(alloc: Global) -> Result<Feature, AllocError> {
+fn engine_feature(alloc: Global) -> Result<Feature, AllocError>
+    ensures { IfOk result (λ f. feature_value f ≡ engine_agent) }
+{
     agent_feature(alloc, "git/gixp")
 }
 
 // A handshake without an account.
-fn greet<T: Transport>(alloc: Global, transport: &mut T) -> Result<Handshake, handshake::Error> {
+fn greet<T: Transport>(alloc: Global, transport: &mut T) -> Result<Handshake, handshake::Error>
+    ensures { ShakesAlone T.is_plain (T.reading transport.old) (T.reading transport.new) result }
+{
     let mut quiet = Discard;
     handshake::handshake(
         alloc,
@@ -43,7 +63,10 @@ fn map_refs<T: Transport>(
     handshake: &mut Handshake,
     context: init::Context,
     transport: &mut T,
-) -> Result<RefMap, init::Error> {
+) -> Result<RefMap, init::Error>
+    ensures map { MapsAlone context handshake.old T.is_plain (T.reading transport.old) (T.reading transport.new) result }
+    ensures handshake { IfOk result (λ _. handshake.new ≡ without_refs handshake.old) }
+{
     let agent = engine_feature(alloc)?;
     let mut quiet = Discard;
     let table = CommandTable::git();
@@ -56,42 +79,43 @@ fn map_refs<T: Transport>(
 fn fetch_over<N: Negotiate, T: Transport>(
     alloc: Global,
     negotiation: &mut N,
+    agent: Feature,
     handshake: &mut Handshake,
     transport: &mut T,
     shallow: &Shallow,
     boundary: &mut ShallowMemory,
-) -> Result<Option<Outcome>, fetch::Error<N::AlternatesError, Left>> {
-    let agent = engine_feature(alloc)?;
-    let context = fetch::Context {
+) -> Result<Option<Outcome>, FetchError<N::AlternatesError, Left>>
+    requires { feature_value agent ≡ engine_agent }
+    ensures { CarriesAlone
+        (parties_of N.calls ⟦<ShallowMemory as ShallowStore>⟧.calls ⟦<NeverInterrupt as Interrupt>⟧.says
+        ⟦<LeavePack as ConsumePack<Discard>>⟧.consumes T.is_plain)
+        (engine_call handshake.old (shallow_value shallow.now)) negotiation.old (T.reading transport.old) boundary.old result
+        negotiation.new (T.reading transport.new) boundary.new }
+{
+    let mut leave = LeavePack;
+    let mut quiet = Discard;
+    let mut never = NeverInterrupt;
+    let context = Context {
         handshake,
         transport,
         table: &CommandTable::git(),
     };
-    let options = fetch::Options {
+    let options = Options {
         shallow_file: boundary,
         shallow,
         tags: Tags::None,
         reject_shallow_remote: false,
     };
-    fetch::fetch(
+    fetch(
         alloc,
         negotiation,
-        &mut LeavePack,
-        &mut Discard,
-        &mut NeverInterrupt,
+        &mut leave,
+        &mut quiet,
+        &mut never,
         agent,
         context,
         options,
     )
-}
-
-// The objects that are there: their kinds aren't known.
-fn objects_of(alloc: Global, haves: &[ObjectId]) -> Result<StoredObjects, AllocError> {
-    let mut objects = StoredObjects::new(alloc);
-    for id in haves {
-        objects.add_id(*id)?;
-    }
-    Ok(objects)
 }
 
 // What the caller has: ids of objects, and the boundary.
@@ -102,15 +126,25 @@ struct Here {
 }
 
 // The fetch of what is mapped and isn't there. All that the context borrows but the objects is a local here.
-fn fetch_mapped<O: Objects, T: Transport>(
+fn fetch_mapped<'a, O: Objects, T: Transport>(
     alloc: Global,
-    objects: &O,
-    map: &RefMap,
+    objects: &'a O,
+    map: &'a RefMap,
     here: Here,
-    shallow: &Shallow,
+    shallow: &'a Shallow,
     handshake: &mut Handshake,
     transport: &mut T,
-) -> Result<Option<Outcome>, fetch::Error<AllocError, Left>> {
+) -> Result<Option<Outcome>, FetchError<AllocError, Left>>
+    ensures { FetchesAlone
+        (parties_of ⟦<Negotiation<'a, O, NoRefs, HaveList, NoObjects, AllocError> as Negotiate>⟧.calls
+        ⟦<ShallowMemory as ShallowStore>⟧.calls ⟦<NeverInterrupt as Interrupt>⟧.says
+        ⟦<LeavePack as ConsumePack<Discard>>⟧.consumes T.is_plain)
+        (OffersAlone objects.now here.haves.items map.now shallow.now) here.boundary.items
+        (engine_call handshake.old (shallow_value shallow.now)) (T.reading transport.old) (T.reading transport.new) result }
+{
+    let Ok(agent) = engine_feature(alloc) else {
+        return Err(FetchError::Memory);
+    };
     let mut graph = Graph::new(alloc, NoObjects);
     let mut negotiator = HaveList::new(here.haves);
     let mut refs = NoRefs;
@@ -126,6 +160,7 @@ fn fetch_mapped<O: Objects, T: Transport>(
     fetch_over(
         alloc,
         &mut negotiation,
+        agent,
         handshake,
         transport,
         shallow,
@@ -133,12 +168,36 @@ fn fetch_mapped<O: Objects, T: Transport>(
     )
 }
 
+// How a session ends by its fetch.
+fn end_of(
+    version: Protocol,
+    fetched: Result<Option<Outcome>, FetchError<AllocError, Left>>,
+) -> Result<Option<Protocol>, EngineError>
+    ensures { result ≡ end_of_fetch version fetched }
+{
+    match fetched {
+        Ok(Some(_)) => Ok(Some(version)),
+        Ok(None) => Ok(None),
+        Err(e) => Err(EngineError::Fetch(e)),
+    }
+}
+
 /// A session up to its pack, and the version under which one comes; none where nothing is to be asked for.
-pub(crate) fn run<T: Transport>(
+pub(crate) fn run<'a, O: Objects, T: Transport>(
     alloc: Global,
+    objects: &'a O,
     wishes: Wishes,
     transport: &mut T,
-) -> Result<Option<Protocol>, EngineError> {
+) -> Result<Option<Protocol>, EngineError>
+    ensures { EngineSession
+        (λ m h old new r. FetchesAlone
+        (parties_of ⟦<Negotiation<'a, O, NoRefs, HaveList, NoObjects, AllocError> as Negotiate>⟧.calls
+        ⟦<ShallowMemory as ShallowStore>⟧.calls ⟦<NeverInterrupt as Interrupt>⟧.says
+        ⟦<LeavePack as ConsumePack<Discard>>⟧.consumes T.is_plain)
+        (OffersAlone objects.now wishes.haves.items m wishes.shallow) wishes.boundary.items
+        (engine_call h (shallow_value wishes.shallow)) old new r)
+        wishes.specs T.is_plain (T.reading transport.old) (T.reading transport.new) result }
+{
     let Wishes {
         specs,
         haves,
@@ -156,19 +215,16 @@ pub(crate) fn run<T: Transport>(
     if map.is_empty() {
         return Ok(None);
     }
-    let objects = objects_of(alloc, &haves)?;
+    let version = handshake.server_protocol_version;
     let here = Here { haves, boundary };
-    match fetch_mapped(
+    let fetched = fetch_mapped(
         alloc,
-        &Shared::new(&objects),
+        objects,
         &map,
         here,
         &shallow,
         &mut handshake,
         transport,
-    ) {
-        Ok(Some(_)) => Ok(Some(handshake.server_protocol_version)),
-        Ok(None) => Ok(None),
-        Err(e) => Err(EngineError::Fetch(e)),
-    }
+    );
+    end_of(version, fetched)
 }

@@ -1,16 +1,31 @@
 //! The next request of a session.
+ghost use Rattle.std.specs.Prelude.{◌≡◌, ◌<◌, ◌≤◌, ◌+◌, ℕ, true, List, length, map, vec_items, Ok, MatchResult};
+ghost use Rattle.gixp_records.specs.Place.{RefusedFrom};
+ghost use Rattle.gixp_fetch.specs.Fetch.{parties_of};
+ghost use Rattle.gixp_fetch.specs.FetchShallow.{shallow_value};
+ghost use Rattle.gixp_engine.specs.Alone.{engine_call, FetchesAlone, OffersAlone};
+ghost use Rattle.gixp_engine.specs.NextStep.{start_of_last, BeginsPack, StepsTo, IsNextStep};
 
-ghost use Rattle.std.specs.Prelude.{◌≤◌, length};
-
+use crate::consumer::LeavePack;
 use crate::error::EngineError;
-use crate::read::answers_of;
+use crate::read::{answers_of, objects_of};
 use crate::session::run;
 use bstr::BString;
-use gix_protocol::fetch::Shallow;
-use gix_protocol::fetch::refmap::init::Context;
-use gix_protocol::transport::{Bodies, ObjectId, Protocol};
-use gixp_records::{behind_header, behind_told};
-use std::alloc::Global;
+use gixp_fetch::consume::ConsumePack;
+use gixp_graph::{NoObjects, NoRefs, Objects, Shared};
+use gixp_hash::ObjectId;
+use gixp_memory::StoredObjects;
+use gixp_negotiate::negotiate::Negotiate;
+use gixp_negotiate::negotiate::negotiation::Negotiation;
+use gixp_negotiators::HaveList;
+use gixp_packetline::Protocol;
+use gixp_progress::Discard;
+use gixp_records::{PacketRefused, behind_header, behind_told};
+use gixp_refmap::refmap::init::Context;
+use gixp_shallow::{Shallow, ShallowMemory, ShallowStore};
+use gixp_sidebands::{Interrupt, NeverInterrupt};
+use gixp_wire::Bodies;
+use std::alloc::{AllocError, Global};
 
 /// What a client wants.
 #[derive(Drop)]
@@ -37,26 +52,80 @@ pub enum Step {
 }
 
 // Where the pack begins in the bytes from the start of the last answer on.
-fn pack_place(bytes: &[u8], start: usize, version: Protocol) -> Result<usize, EngineError>
+fn pack_place(bytes: &[u8], start: usize, version: Protocol) -> Result<usize, PacketRefused>
     requires { start ≤ length bytes.now }
+    ensures { MatchResult result (BeginsPack version bytes.now start) (RefusedFrom bytes.now start) }
 {
-    let place = match version {
+    match version {
         Protocol::V2 => behind_header(bytes, start),
         Protocol::V1 | Protocol::V0 => behind_told(bytes, start),
-    };
-    match place {
-        Ok(place) => Ok(place),
-        Err(e) => Err(EngineError::Pack(e)),
     }
 }
 
 // Where the last answer begins.
-fn start_of_last(bytes: &[u8], ends: &[usize]) -> usize
-    ensures { result ≤ length bytes.now }
+fn start_of_last(ends: &[usize]) -> usize
+    ensures { result ≡ start_of_last ends.now }
 {
-    match ends {
-        [.., start, _] if *start <= bytes.len() => *start,
-        _ => 0,
+    match ends.len().checked_sub(2) {
+        Some(place) => ends[place],
+        None => 0,
+    }
+}
+
+// The step behind a session whose requests all have an answer.
+fn step_behind(bytes: &[u8], ends: &[usize], pack: Option<Protocol>) -> Result<Step, EngineError>
+    requires { start_of_last ends.now ≤ length bytes.now }
+    ensures { (sent : List (List ℕ)) → length sent + 1 ≡ length ends.now → StepsTo bytes.now ends.now sent (Ok pack) result }
+{
+    let Some(version) = pack else {
+        return Ok(Step::Nothing);
+    };
+    match pack_place(bytes, start_of_last(ends), version) {
+        Ok(place) => Ok(Step::Pack(place)),
+        Err(e) => Err(EngineError::Pack(e)),
+    }
+}
+
+// The step behind a session of so many requests, fewer than there are answers.
+fn step_unasked(
+    bytes: &[u8],
+    ends: &[usize],
+    requests: usize,
+    ended: Result<Option<Protocol>, EngineError>,
+) -> Result<Step, EngineError>
+    requires fewer { requests < length ends.now }
+    requires within { start_of_last ends.now ≤ length bytes.now }
+    ensures { (sent : List (List ℕ)) → length sent ≡ requests → StepsTo bytes.now ends.now sent ended result }
+{
+    match ended {
+        Ok(pack) => {
+            if requests + 1 < ends.len() {
+                return Err(EngineError::TooManyAnswers);
+            }
+            step_behind(bytes, ends, pack)
+        }
+        Err(e) => Err(e),
+    }
+}
+
+// The step by the requests of a session and how it ended.
+fn step_of(
+    alloc: Global,
+    bytes: &[u8],
+    ends: &[usize],
+    sent: &[Vec<u8>],
+    ended: Result<Option<Protocol>, EngineError>,
+) -> Result<Step, EngineError>
+    requires some { 0 < length ends.now }
+    requires within { start_of_last ends.now ≤ length bytes.now }
+    ensures { StepsTo bytes.now ends.now (map vec_items sent.now) ended result }
+{
+    let Some(request) = sent.get(ends.len() - 1) else {
+        return step_unasked(bytes, ends, sent.len(), ended);
+    };
+    match Vec::from_slice(alloc, request) {
+        Ok(request) => Ok(Step::Request(request)),
+        Err(_) => Err(EngineError::Memory),
     }
 }
 
@@ -72,32 +141,30 @@ pub fn next_step(
     bytes: &[u8],
     ends: &[usize],
     wishes: Wishes,
-) -> Result<Step, EngineError> {
-    let answers = answers_of(alloc, bytes, ends)?;
-    let Some(last) = ends.len().checked_sub(1) else {
+) -> Result<Step, EngineError>
+    ensures { IsNextStep ⟦<Shared<'static, StoredObjects> as Objects>⟧.contents
+        (λ objects m h old new r. FetchesAlone
+        (parties_of ⟦<Negotiation<'static, Shared<'static, StoredObjects>, NoRefs, HaveList, NoObjects, AllocError> as Negotiate>⟧.calls
+        ⟦<ShallowMemory as ShallowStore>⟧.calls ⟦<NeverInterrupt as Interrupt>⟧.says
+        ⟦<LeavePack as ConsumePack<Discard>>⟧.consumes true)
+        (OffersAlone objects wishes.haves.items m wishes.shallow) wishes.boundary.items
+        (engine_call h (shallow_value wishes.shallow)) old new r)
+        bytes.now ends.now wishes result }
+{
+    let answers = match answers_of(alloc, bytes, ends) {
+        Ok(answers) => answers,
+        Err(e) => return Err(e),
+    };
+    if ends.is_empty() {
         return Err(EngineError::NoAnswer);
+    }
+    let Ok(here) = objects_of(alloc, &wishes.haves) else {
+        return Err(EngineError::Memory);
     };
     let url = BString::new(Vec::new(alloc));
-    let mut transport = Bodies::new(alloc, answers, url, Vec::new(alloc))?;
-    let ended = run(alloc, wishes, &mut transport);
-    let sent = transport.sent();
-    if let Some(request) = sent.get(last) {
-        return Ok(Step::Request(request.clone()?));
-    }
-    match ended {
-        Ok(pack) => {
-            if sent.len() != last {
-                return Err(EngineError::TooManyAnswers);
-            }
-            match pack {
-                Some(version) => Ok(Step::Pack(pack_place(
-                    bytes,
-                    start_of_last(bytes, ends),
-                    version,
-                )?)),
-                None => Ok(Step::Nothing),
-            }
-        }
-        Err(e) => Err(e),
-    }
+    let Ok(mut transport) = Bodies::new(alloc, answers, url, Vec::new(alloc)) else {
+        return Err(EngineError::Memory);
+    };
+    let ended = run(alloc, &Shared::new(&here), wishes, &mut transport);
+    step_of(alloc, bytes, ends, transport.sent(), ended)
 }

@@ -1,0 +1,48 @@
+-- The steps of a session without an account.
+use Rattle.std.proofs.Common.{◌≡◌, ◌∙◌, ◌↔◌, true, false, Bool, IsTrue, [], Option, Result, Ok, ap, subst}
+use Rattle.std.specs.declared.alloc.AllocError.{AllocError}
+use Rattle.gixp_packetline.specs.declared.protocol.Protocol.{Protocol}
+use Rattle.gixp_packetline.specs.Reading.{Reading}
+use Rattle.gixp_requests.specs.Command.{TableValue, git_table}
+use Rattle.gixp_requests.specs.Feature.{FeatureValue}
+use Rattle.gixp_refmap.specs.declared.fetch.Tags.TheVariants as tags
+use Rattle.gixp_refmap.specs.declared.refmap.init.Context.{Context}
+use Rattle.gixp_refmap.specs.declared.refmap.map.RefMap.{RefMap}
+use Rattle.gixp_handshake.specs.declared.handshake.read.Handshake.{Handshake}
+use Rattle.gixp_handshake.specs.Taken.{without_refs}
+use Rattle.gixp_fetch.specs.declared.error.Error.{Error as FetchError}
+use Rattle.gixp_fetch.specs.declared.options.Outcome.{Outcome}
+use Rattle.gixp_fetch.specs.FetchShallow.{ShallowValue}
+use Rattle.gixp_fetch.specs.Fetch.{World, Parties}
+use Rattle.gixp_fetch.specs.Fetched.{Fetches, call_of}
+use Rattle.gixp_engine.specs.declared.consumer.Left.{Left}
+use Rattle.gixp_engine.specs.declared.error.EngineError.{EngineError}
+use Rattle.gixp_engine.specs.Alone.{engine_agent, engine_call, end_of_fetch, CarriesCall, ShakesAlone, MapsAlone, EngineSession, fetched}
+
+-- what the engine hands in is its table and its name
+pub carries-call : {N I A S C P X : Type 0} (parties : Parties N I A S C P X) (first : World N I S C)
+    (r : Result (Option Outcome) (FetchError A X)) (last : World N I S C) (progress : P) (h : Handshake) (shallow : ShallowValue)
+    (table : TableValue) (agent : FeatureValue) → table ≡ git_table → agent ≡ engine_agent
+    → Fetches parties (call_of table h agent tags.None shallow false) first r last progress
+    → CarriesCall parties (engine_call h shallow) first r last progress
+carries-call parties first r last progress h shallow table agent e f it = record {
+  fetched =
+      subst (λ t. Fetches parties (call_of t h engine_agent tags.None shallow false) first r last progress) e
+      (subst (λ a. Fetches parties (call_of table h a tags.None shallow false) first r last progress) f it);
+}
+
+module _ (Receives : RefMap → Handshake → Reading → Reading → Result (Option Outcome) (FetchError AllocError Left) → Type 0) where
+  -- all three steps
+  pub session-ran : (context : Context) (plain : Bool) (old mid behind new : Reading) (h k : Handshake) (m : RefMap)
+      (r : Result (Option Outcome) (FetchError AllocError Left)) (ended : Result (Option Protocol) EngineError)
+      → ShakesAlone plain old mid (Ok h) → MapsAlone context h plain mid behind (Ok m) → k ≡ without_refs h
+      → (m.mappings.items ≡ [] → ⊥) → Receives m k behind new r → ended ≡ end_of_fetch k.server_protocol_version r
+      → EngineSession Receives context plain old new ended
+  session-ran context plain old mid behind new h k m r ended s l e some f q =
+      fetched h mid behind m r s l some (subst (λ x. Receives m x behind new r) e f)
+      (q ∙ ap (λ (x : Handshake). end_of_fetch x.server_protocol_version r) e)
+
+-- a test that fails refutes what it tells
+pub untold : (b : Bool) {P : Type 0} → IsTrue b ↔ P → b ≡ false → P → ⊥
+untold true iff f p = absurd cc
+untold false iff f p = let t : IsTrue false = iff.1 p in absurd cc

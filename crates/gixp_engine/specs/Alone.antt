@@ -1,0 +1,120 @@
+-- A session without an account: a handshake, the ref map of the server's refs, and a fetch of what is mapped, whose pack is left.
+use Rattle.std.specs.Prelude.{◌≡◌, ◌⊎◌, ⊤, false, List, [], ◌∷◌, codes, Option, Some, None, Result, Ok, Err, IfOk, IsOk, Bool}
+use Rattle.std.specs.FinMap as finite
+use Rattle.std.specs.declared.alloc.AllocError.{AllocError}
+use Rattle.gixp_hash.specs.declared.object_id.ObjectId.{ObjectId}
+use Rattle.gixp_packetline.specs.declared.protocol.Protocol.{Protocol}
+use Rattle.gixp_packetline.specs.Reading.{Reading}
+use Rattle.gixp_wire.specs.declared.service.Service.TheVariants.{UploadPack}
+use Rattle.gixp_requests.specs.Feature.{FeatureValue}
+use Rattle.gixp_requests.specs.Command.{git_table}
+use Rattle.gixp_graph.specs.GraphData.{graph_of}
+use Rattle.gixp_graph.specs.declared.empty.NoObjects.{NoObjects}
+use Rattle.gixp_graph.specs.declared.empty.NoRefs.{NoRefs}
+use Rattle.gixp_shallow.specs.declared.shallow.Shallow.{Shallow}
+use Rattle.gixp_shallow.specs.declared.store.memory.ShallowMemory.{ShallowMemory}
+use Rattle.gixp_negotiate.specs.declared.negotiate.negotiation.Negotiation.{Negotiation}
+use Rattle.gixp_refmap.specs.declared.fetch.Tags.TheVariants as tags
+use Rattle.gixp_refmap.specs.declared.refmap.init.Context.{Context}
+use Rattle.gixp_refmap.specs.declared.refmap.init.Error.{Error as MapError}
+use Rattle.gixp_refmap.specs.declared.refmap.init.Error.TheVariants as map
+use Rattle.gixp_refmap.specs.declared.refmap.map.RefMap.{RefMap}
+use Rattle.gixp_handshake.specs.declared.handshake.error.Error.{Error as HandshakeError}
+use Rattle.gixp_handshake.specs.declared.handshake.read.Handshake.{Handshake}
+use Rattle.gixp_handshake.specs.Shake.{CredentialCall, CompletesHandshake}
+use Rattle.gixp_handshake.specs.Taken.{without_refs}
+use Rattle.gixp_handshake.specs.Obtain.{ObtainsMappings}
+use Rattle.gixp_fetch.specs.declared.error.Error.{Error as FetchError}
+use Rattle.gixp_fetch.specs.declared.error.Error.TheVariants as fetch
+use Rattle.gixp_fetch.specs.declared.options.Outcome.{Outcome}
+use Rattle.gixp_fetch.specs.FetchShallow.{ShallowValue}
+use Rattle.gixp_fetch.specs.Fetch.{World, Parties}
+use Rattle.gixp_fetch.specs.Fetched.{FetchCall, Fetches, call_of, unlocked_world}
+use Rattle.gixp_engine.specs.declared.consumer.Left.{Left}
+use Rattle.gixp_engine.specs.declared.error.EngineError.{EngineError}
+use Rattle.gixp_engine.specs.declared.error.EngineError.TheVariants.{Handshake as Unshaken, Refs as Unmapped, Fetch as Unfetched}
+
+-- how the client names itself
+abbrev pub engine_agent : FeatureValue
+engine_agent = record { name = codes "agent"; value = Some (codes "git/gixp") }
+
+-- whoever was asked for an account had none
+abbrev pub HaveNoAccount : List CredentialCall → Type 0
+HaveNoAccount [] = ⊤
+HaveNoAccount (t ∷ ts) = (t.answer ≡ Ok None) × HaveNoAccount ts
+
+-- a handshake without an account
+pub record ShakesAlone (plain : Bool) (old new : Reading) (r : Result Handshake HandshakeError) : Type 0 where
+  pub calls : List CredentialCall
+  pub unanswered : HaveNoAccount calls
+  pub shakes : CompletesHandshake UploadPack [] plain old new calls r
+
+-- the ref map of the server, which is asked for the refspecs' prefixes; or an allocation failed before
+abbrev pub MapsAlone : Context → Handshake → Bool → Reading → Reading → Result RefMap MapError → Type 0
+MapsAlone context h plain old new r = ObtainsMappings git_table engine_agent context h plain old new r
+    ⊎ ((new ≡ old) × (r ≡ Err map.Memory))
+
+-- what a fetch is handed in: no tags come but those that are mapped
+abbrev pub engine_call : Handshake → ShallowValue → FetchCall
+engine_call h shallow = call_of git_table h engine_agent tags.None shallow false
+
+-- a negotiation over these objects and this ref map that offers these haves, in their order. It knows of no commits, no refs and no
+-- alternates
+pub record OffersAlone {O : Type 0} (here : O) (offered : List ObjectId) (made : RefMap) (asked : Shallow)
+    (n : Negotiation O NoRefs (List ObjectId) NoObjects AllocError) : Type 0 where
+  pub objects : n.context.objects.now ≡ here
+  pub graph : n.context.graph.now.graph ≡ graph_of finite.empty finite.empty
+  pub haves : n.context.negotiator.now ≡ offered
+  pub mapped : n.ref_map.now ≡ made
+  pub shallow : n.shallow.now ≡ asked
+  pub tags : n.tags ≡ tags.None
+  pub opened : IsOk n.context.alternates
+  pub lent : IfOk n.context.alternates (λ a. a.now ≡ [])
+
+-- a boundary of these commits, whose lock nobody has
+pub record HoldsAlone (boundary : List ObjectId) (store : ShallowMemory) : Type 0 where
+  pub ids : store.ids.items ≡ boundary
+  pub unlocked : store.locked ≡ false
+
+-- a fetch
+pub record CarriesCall {N I A S C P X : Type 0} (parties : Parties N I A S C P X) (call : FetchCall) (first : World N I S C)
+    (r : Result (Option Outcome) (FetchError A X)) (last : World N I S C) (progress : P) : Type 0 where
+  pub fetched : Fetches parties call first r last progress
+
+module _ {N I A C P X : Type 0} (parties : Parties N I A ShallowMemory C P X) where
+  -- one that asks some interrupt and leaves its pack to some consumer, with no lock before or after it
+  pub record CarriesAlone (call : FetchCall) (first : N) (old : Reading) (store : ShallowMemory)
+      (r : Result (Option Outcome) (FetchError A X)) (last : N) (new : Reading) (store' : ShallowMemory) : Type 0 where
+    pub interrupt : I
+    pub consumer : C
+    pub interrupt' : I
+    pub consumer' : C
+    pub progress : P
+    pub carries : CarriesCall parties call (unlocked_world first old interrupt store consumer) r
+        (unlocked_world last new interrupt' store' consumer') progress
+
+  -- one over such a negotiation and such a boundary; or an allocation failed before
+  pub data FetchesAlone (Offers : N → Type 0) (boundary : List ObjectId) (call : FetchCall) (old new : Reading)
+      (r : Result (Option Outcome) (FetchError A X)) : Type 0 where
+    carried : (first last : N) (store store' : ShallowMemory) → Offers first → HoldsAlone boundary store
+        → CarriesAlone call first old store r last new store' → FetchesAlone Offers boundary call old new r
+    uncarried : new ≡ old → r ≡ Err fetch.Memory → FetchesAlone Offers boundary call old new r
+
+-- how a session ends by its fetch: the version under which a pack comes, none where there was nothing to ask for, or why it failed
+abbrev pub end_of_fetch : Protocol → Result (Option Outcome) (FetchError AllocError Left) → Result (Option Protocol) EngineError
+end_of_fetch version (Ok (Some outcome)) = Ok (Some version)
+end_of_fetch version (Ok None) = Ok None
+end_of_fetch version (Err e) = Err (Unfetched e)
+
+module _ (Receives : RefMap → Handshake → Reading → Reading → Result (Option Outcome) (FetchError AllocError Left) → Type 0)
+    (context : Context) (plain : Bool) (old : Reading) where
+  -- a session up to its pack: its handshake was refused, or its ref map was, or nothing is mapped, or what is mapped was fetched
+  pub data EngineSession (new : Reading) (ended : Result (Option Protocol) EngineError) : Type 0 where
+    unshaken : (e : HandshakeError) → ShakesAlone plain old new (Err e) → ended ≡ Err (Unshaken e) → EngineSession new ended
+    unmapped : (h : Handshake) (mid : Reading) (e : MapError) → ShakesAlone plain old mid (Ok h)
+        → MapsAlone context h plain mid new (Err e) → ended ≡ Err (Unmapped e) → EngineSession new ended
+    empty : (h : Handshake) (mid : Reading) (m : RefMap) → ShakesAlone plain old mid (Ok h)
+        → MapsAlone context h plain mid new (Ok m) → m.mappings.items ≡ [] → ended ≡ Ok None → EngineSession new ended
+    fetched : (h : Handshake) (mid behind : Reading) (m : RefMap) (r : Result (Option Outcome) (FetchError AllocError Left))
+        → ShakesAlone plain old mid (Ok h) → MapsAlone context h plain mid behind (Ok m) → (m.mappings.items ≡ [] → ⊥)
+        → Receives m (without_refs h) behind new r → ended ≡ end_of_fetch h.server_protocol_version r → EngineSession new ended
