@@ -86,7 +86,5 @@ pub extern "C" fn gixp_error_text(code: u32, buffer: &mut [u8], len: &mut usize)
     ensures told { result ≡ 0 → (text : List ℕ) × (length text ≡ len.new) × (buffer.new ≡ text ++ drop (length text) buffer.old) }
     ensures no_room { result ≡ 2 → (buffer.new ≡ buffer.old) × (length buffer.old < len.new) }
 {
-    let text = text_of(code).as_bytes();
-    *len = text.len();
-    if copy_text(text, buffer) { OK } else { NO_ROOM }
+    put_text(text_of(code).as_bytes(), buffer, len)
 }

@@ -54,7 +54,8 @@ pub answers-more : (bytes ends : List ℕ) (i at end : ℕ) (taken : List (List 
 answers-more bytes ends i at end taken so h k l = record {
   split = so.split ∙ ap (λ x. before_answers taken (answers_between bytes at x)) (drop_more ends i end h)
       ∙ ap (before_answers taken) (by_test (nat_le at (get_or ends i end) && nat_le (get_or ends i end) (length bytes)) _ None
-      (in_order at (get_or ends i end) (length bytes) k l)) ∙ one_more taken _ (answers_between bytes (get_or ends i end) (drop (i + 1) ends));
+      (in_order at (get_or ends i end) (length bytes) k l))
+      ∙ one_more taken _ (answers_between bytes (get_or ends i end) (drop (i + 1) ends));
 }
 
 -- the next place is out of order
