@@ -1,5 +1,5 @@
 -- Lines of a text of commits, one after the other.
-use Rattle.std.proofs.Common.{◌≡◌, ◌⊎◌, inl, inr, ⊎_elim, ◌∙◌, ◌+◌, ◌-◌, ◌<◌, ◌≤◌, ℕ, ℤ, Bool, true, false, cond, zero, suc, List, [], ◌∷◌, ◌++◌, length, drop, Option, Some, None, refl, ap, subst, sym, arith, append_assoc, append-nil, true≢false}
+use Rattle.std.proofs.Common.{◌≡◌, ◌⊎◌, inl, inr, ⊎_elim, ◌∙◌, ◌+◌, ◌-◌, ◌<◌, ℕ, ℤ, Bool, true, false, cond, zero, suc, List, [], ◌∷◌, ◌++◌, length, drop, Option, Some, None, refl, ap, subst, sym, arith, append_assoc, append-nil, true≢false}
 use Rattle.std.specs.Prelude.{All, IfSome, not, option_map, option_and_then, unwrap_or, is_some, slice_get}
 use Rattle.std.specs.List.{Contains}
 use lib.Dec.{eqb}

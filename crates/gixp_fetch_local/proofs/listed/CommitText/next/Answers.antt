@@ -1,6 +1,6 @@
 -- One line more.
-use Rattle.std.proofs.Common.{◌∙◌, refl, sym, subst, arith, inl, inr}
-use Rattle.gixp_fetch_local.proofs.ListedLemmas.{ReadsOne, passed_none, passed_more, offered, nothing_at_end, nothing_awaited, commit_there}
+use Rattle.std.proofs.Common.{◌∙◌, refl, arith}
+use Rattle.gixp_fetch_local.proofs.ListedLemmas.{ReadsOne, passed_none, passed_more, offered, commit_there}
 use Rattle.gixp_fetch_local.proofs.listed.CommitText.next.Goals as goal
 
 pub lines-init : goal.lines-init
