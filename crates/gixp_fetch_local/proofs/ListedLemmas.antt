@@ -10,6 +10,7 @@ use Rattle.std.specs.FinMap.{get-insert}
 use Rattle.std.specs.Io.BufRead.{strip_last, take_through, drop_through, DropsThrough}
 use Rattle.std.specs.Io.KnownBytes.{IsAtEnd}
 use Rattle.std.proofs.lemmas.List.Elements.{All-weaker, All-nil, All-cons, All-append, Contains-push, Contains-push_cases}
+use Rattle.std.proofs.lemmas.List.{length-append}
 use Rattle.std.proofs.lemmas.Option.{none-some}
 use Rattle.gixp_hash.specs.declared.object_id.ObjectId.{ObjectId}
 use Rattle.gixp_hash.specs.ObjectId.{id_cmp}
@@ -22,6 +23,7 @@ use Rattle.gixp_updates.specs.Ancestors.{IsReachedFrom}
 use Rattle.gixp_text.specs.Lines.{text_lines, line_words}
 use Rattle.gixp_memory.specs.Text.{after_lines, BeginsUnread}
 use Rattle.gixp_memory.specs.Repository.{named_id, named_ids, seconds, commit_of_words, commit_line, with_commit}
+use Rattle.gixp_fetch_local.specs.declared.listed.CommitText.{CommitText}
 use Rattle.gixp_fetch_local.specs.declared.known.KnownCommits.{KnownCommits}
 use Rattle.gixp_fetch_local.specs.Known.{parents_of, is_awaited, KeepsIds, HasIdsOf, IsNoted, LosesNone, AreAwaitedOrKnown, AwaitsNone}
 use Rattle.gixp_fetch_local.specs.SharedCommits.{IsSharedBut, IsSharedWhole, SharesSome}
@@ -246,17 +248,19 @@ shares_behind old mid new id r c l h =
       noted = loses_none_trans old mid new l h.noted;
     }
 
--- lines were passed over so far
-pub record PassedSoFar (before : Option (List ℕ)) (old : KnownCommits) (now : Option (List ℕ)) (known : KnownCommits) : Type 0 where
+-- lines were passed over so far, and are spent
+pub record PassedSoFar {R : Type 0} (remaining : R → Option (List ℕ)) (old now : CommitText R) : Type 0 where
   pub lines : List (List ℕ)
-  pub read : ReadsTextLines before lines now
-  pub passes : PassesLines old lines known
+  pub read : ReadsTextLines (remaining old.text) lines (remaining now.text)
+  pub passes : PassesLines old.known lines now.known
+  pub spent : now.left + length lines ≡ old.left
 
-pub passed_none : (text : Option (List ℕ)) (known : KnownCommits) → PassedSoFar text known text known
-passed_none text known = record {
+pub passed_none : {R : Type 0} (remaining : R → Option (List ℕ)) (now : CommitText R) → PassedSoFar remaining now now
+passed_none remaining now = record {
   lines = [];
-  read = reads_none text;
-  passes = record { added = refl; passed = All-nil (IsCommonLine known.common); noted = λ _ n. n; whole = λ h. h };
+  read = reads_none (remaining now.text);
+  passes = record { added = refl; passed = All-nil (IsCommonLine now.known.common); noted = λ _ n. n; whole = λ h. h };
+  spent = omega arith;
 }
 
 after_more : (lines : List (List ℕ)) (line : List ℕ) (s mid new : Objects) → after_lines commit_line s lines ≡ Some mid
@@ -275,47 +279,69 @@ after_more (x ∷ xs) line s mid new h k = at (commit_line s x) h (λ t g. after
 still_common : (a b : BTreeSet ObjectId) → KeepsIds a b → (lines : List (List ℕ)) → All (IsCommonLine a) lines → All (IsCommonLine b) lines
 still_common a b keeps lines h = All-weaker (IsCommonLine a) (IsCommonLine b) (λ line k. (k.0, k.1, keeps k.0 k.2)) lines h
 
-module _ (before now after : Option (List ℕ)) (old known mid new : KnownCommits) (id : ObjectId) (h : PassedSoFar before old now known)
-    (r : ReadsCommit now known id after mid) (c : mid.common ≡ known.common) (w : mid.awaited ≡ known.awaited)
-    (s : SharesSome mid id new) where
-  keeps_all : KeepsIds known.common new.common
-  keeps_all q e = s.keeps q (subst (λ l. contains id_cmp l q ≡ true) (sym c) e)
+-- a line that is read is spent
+pub record ReadsOne {R : Type 0} (remaining : R → Option (List ℕ)) (now mid new : CommitText R) (id : ObjectId) : Type 0 where
+  pub read : ReadsCommit (remaining now.text) now.known id (remaining mid.text) mid.known
+  pub common : mid.known.common ≡ now.known.common
+  pub awaited : mid.known.awaited ≡ now.known.awaited
+  pub shares : SharesSome mid.known id new.known
+  pub text : new.text ≡ mid.text
+  pub left : new.left + 1 ≡ now.left
 
-  added_all : after_lines commit_line old.read (h.lines ++ r.line ∷ []) ≡ Some new.read
-  added_all = after_more h.lines r.line old.read known.read new.read h.passes.added (r.added ∙ ap Some (sym s.read))
+module _ {R : Type 0} (remaining : R → Option (List ℕ)) (old now mid new : CommitText R) (id : ObjectId)
+    (h : PassedSoFar remaining old now) (r : ReadsOne remaining now mid new id) where
+  abbrev line : List ℕ
+  line = r.read.line
 
-  noted_all : LosesNone old new
-  noted_all = loses_none_trans old known new h.passes.noted
-      (loses_none_trans known mid new (commit_noted now after known mid id r c w) s.noted)
+  keeps_all : KeepsIds now.known.common new.known.common
+  keeps_all q e = r.shares.keeps q (subst (λ l. contains id_cmp l q ≡ true) (sym r.common) e)
 
-  whole_all : (IsSharedBut mid.read mid.common (id ∷ []) → IsSharedWhole new.read new.common) → IsSharedWhole old.read old.common
-      → IsSharedWhole new.read new.common
-  whole_all k x = k (commit_shared now after known mid id r c (h.passes.whole x))
+  read_all : ReadsTextLines (remaining old.text) (h.lines ++ line ∷ []) (remaining new.text)
+  read_all = subst (λ t. ReadsTextLines (remaining old.text) (h.lines ++ line ∷ []) (remaining t)) (sym r.text)
+      (reads_more (remaining old.text) (remaining now.text) (remaining mid.text) h.lines (line ∷ []) h.read r.read.read)
 
-  pub passed_more : (IsSharedBut mid.read mid.common (id ∷ []) → IsSharedWhole new.read new.common) → contains id_cmp new.common id ≡ true
-      → PassedSoFar before old after new
+  added_all : after_lines commit_line old.known.read (h.lines ++ line ∷ []) ≡ Some new.known.read
+  added_all = after_more h.lines line old.known.read now.known.read new.known.read h.passes.added
+      (r.read.added ∙ ap Some (sym r.shares.read))
+
+  noted_all : LosesNone old.known new.known
+  noted_all = loses_none_trans old.known now.known new.known h.passes.noted (loses_none_trans now.known mid.known new.known
+      (commit_noted (remaining now.text) (remaining mid.text) now.known mid.known id r.read r.common r.awaited) r.shares.noted)
+
+  whole_all : (IsSharedBut mid.known.read mid.known.common (id ∷ []) → IsSharedWhole new.known.read new.known.common)
+      → IsSharedWhole old.known.read old.known.common → IsSharedWhole new.known.read new.known.common
+  whole_all k x = k (commit_shared (remaining now.text) (remaining mid.text) now.known mid.known id r.read r.common (h.passes.whole x))
+
+  spent_all : new.left + length (h.lines ++ line ∷ []) ≡ old.left
+  spent_all = omega (arith, h.spent, r.left, length-append h.lines (line ∷ []))
+
+  pub passed_more : (IsSharedBut mid.known.read mid.known.common (id ∷ []) → IsSharedWhole new.known.read new.known.common)
+      → contains id_cmp new.known.common id ≡ true → PassedSoFar remaining old new
   passed_more k there = record {
-    lines = h.lines ++ r.line ∷ [];
-    read = reads_more before now after h.lines (r.line ∷ []) h.read r.read;
+    lines = h.lines ++ line ∷ [];
+    read = read_all;
     passes = record {
       added = added_all;
-      passed = All-append (IsCommonLine new.common) h.lines (r.line ∷ [])
-          (still_common known.common new.common keeps_all h.lines h.passes.passed)
-          (All-cons (IsCommonLine new.common) r.line [] (id, r.named, there) (All-nil (IsCommonLine new.common)));
+      passed = All-append (IsCommonLine new.known.common) h.lines (line ∷ [])
+          (still_common now.known.common new.known.common keeps_all h.lines h.passes.passed)
+          (All-cons (IsCommonLine new.known.common) line [] (id, r.read.named, there) (All-nil (IsCommonLine new.known.common)));
       noted = noted_all;
       whole = whole_all k;
     };
+    spent = spent_all;
   }
 
-  pub offered : (IsSharedBut mid.read mid.common (id ∷ []) → IsSharedWhole new.read new.common) → IsUncommon new.common id
-      → AreAwaitedOrKnown new.read new.common new.awaited (parents_of new.read id) → OffersCommit before old id after new
+  pub offered : (IsSharedBut mid.known.read mid.known.common (id ∷ []) → IsSharedWhole new.known.read new.known.common)
+      → IsUncommon new.known.common id → AreAwaitedOrKnown new.known.read new.known.common new.known.awaited (parents_of new.known.read id)
+      → OffersCommit remaining old id new
   offered k lacks awaits = record {
     earlier = h.lines;
-    line = r.line;
-    read = reads_more before now after h.lines (r.line ∷ []) h.read r.read;
+    line = line;
+    read = read_all;
+    spent = omega (arith, h.spent, r.left);
     added = added_all;
-    passed = still_common known.common new.common keeps_all h.lines h.passes.passed;
-    named = r.named;
+    passed = still_common now.known.common new.known.common keeps_all h.lines h.passes.passed;
+    named = r.read.named;
     uncommon = lacks;
     awaits = awaits;
     noted = noted_all;
@@ -323,17 +349,25 @@ module _ (before now after : Option (List ℕ)) (old known mid new : KnownCommit
   }
 
 -- no line is left
-pub nothing_at_end : (before now : Option (List ℕ)) (old known new : KnownCommits) (left : ℕ) → PassedSoFar before old now known
-    → IsAtEnd now → new ≡ known → OffersNothing before old left new
-nothing_at_end before now old known new left h e is =
+pub nothing_at_end : {R : Type 0} (remaining : R → Option (List ℕ)) (old now new : CommitText R) → PassedSoFar remaining old now
+    → IsAtEnd (remaining now.text) → new.known ≡ now.known → new.left + 1 ≡ now.left → OffersNothing remaining old new
+nothing_at_end remaining old now new h e is l =
     record {
       lines = h.lines;
-      passes = subst (PassesLines old h.lines) (sym is) h.passes;
-      over = inl
-          (reads_all before now h.lines h.read e);
+      passes = subst (PassesLines old.known h.lines) (sym is) h.passes;
+      over = inl (reads_all (remaining old.text) (remaining now.text) h.lines h.read e);
+      lowers = omega (arith, h.spent, l);
+      spent = omega (arith, h.spent, l);
     }
 
 -- nothing is awaited
-pub nothing_awaited : (before now : Option (List ℕ)) (old known : KnownCommits) (left : ℕ) → PassedSoFar before old now known
-    → AwaitsNone known.awaited ⊎ (left ≡ 0) → OffersNothing before old left known
-nothing_awaited before now old known left h o = record { lines = h.lines; passes = h.passes; over = inr o }
+pub nothing_awaited : {R : Type 0} (remaining : R → Option (List ℕ)) (old now : CommitText R) → PassedSoFar remaining old now
+    → AwaitsNone now.known.awaited ⊎ (now.left ≡ 0) → OffersNothing remaining old now
+nothing_awaited remaining old now h o =
+    record {
+      lines = h.lines;
+      passes = h.passes;
+      over = inr o;
+      lowers = omega (arith, h.spent);
+      spent = omega (arith, h.spent);
+    }

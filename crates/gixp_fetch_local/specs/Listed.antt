@@ -1,5 +1,5 @@
 -- A negotiator that offers the commits of a text, in its order.
-use Rattle.std.specs.Prelude.{◌≡◌, ◌<◌, ◌≤◌, ◌⊎◌, ℕ, List, [], ◌∷◌, ◌++◌, Option, Some, None, true, false, All, IfSome, slice_get, option_and_then}
+use Rattle.std.specs.Prelude.{◌≡◌, ◌+◌, ◌≤◌, ◌⊎◌, ℕ, suc, length, List, [], ◌∷◌, ◌++◌, Option, Some, None, true, false, All, IfSome, slice_get, option_and_then}
 use Rattle.std.specs.BTreeSet.{BTreeSet, contains}
 use Rattle.std.specs.Io.BufRead.{strip_last}
 use Rattle.gixp_hash.specs.declared.object_id.ObjectId.{ObjectId}
@@ -64,32 +64,34 @@ pub record PassesLines (old : KnownCommits) (lines : List (List ℕ)) (new : Kno
   pub whole : IsSharedWhole old.read old.common → IsSharedWhole new.read new.common
 
 -- a commit is offered: that of the first line of the text of which it isn't known that the server has it. Its parents are awaited
--- from then on, unless they are read, or the server has them
-pub record OffersCommit (before : Option (List ℕ)) (old : KnownCommits) (id : ObjectId) (after : Option (List ℕ))
-    (new : KnownCommits) : Type 0 where
+-- from then on, unless they are read, or the server has them. Of the lines that may be read still, those that were are spent
+pub record OffersCommit {R : Type 0} (remaining : R → Option (List ℕ)) (old : CommitText R) (id : ObjectId) (new : CommitText R)
+    : Type 0 where
   pub earlier : List (List ℕ)
   pub line : List ℕ
-  pub read : ReadsTextLines before (earlier ++ line ∷ []) after
-  pub added : after_lines commit_line old.read (earlier ++ line ∷ []) ≡ Some new.read
-  pub passed : All (IsCommonLine new.common) earlier
+  pub read : ReadsTextLines (remaining old.text) (earlier ++ line ∷ []) (remaining new.text)
+  pub spent : new.left + suc (length earlier) ≡ old.left
+  pub added : after_lines commit_line old.known.read (earlier ++ line ∷ []) ≡ Some new.known.read
+  pub passed : All (IsCommonLine new.known.common) earlier
   pub named : id_in line ≡ Some id
-  pub uncommon : IsUncommon new.common id
-  pub awaits : AreAwaitedOrKnown new.read new.common new.awaited (parents_of new.read id)
-  pub noted : LosesNone old new
-  pub whole : IsSharedWhole old.read old.common → IsSharedWhole new.read new.common
+  pub uncommon : IsUncommon new.known.common id
+  pub awaits : AreAwaitedOrKnown new.known.read new.known.common new.known.awaited (parents_of new.known.read id)
+  pub noted : LosesNone old.known new.known
+  pub whole : IsSharedWhole old.known.read old.known.common → IsSharedWhole new.known.read new.known.common
 
--- nothing is offered: the text has no line but those that were passed over, or nothing is awaited any longer. (Or more lines were
--- read than are counted.)
-pub record OffersNothing (before : Option (List ℕ)) (old : KnownCommits) (left : ℕ) (new : KnownCommits) : Type 0 where
+-- nothing is offered: the text has no line but those that were passed over, or nothing is awaited any longer. (Or so many lines
+-- were read as ever may be.) Those that were read are spent, and one more at most, for the end
+pub record OffersNothing {R : Type 0} (remaining : R → Option (List ℕ)) (old new : CommitText R) : Type 0 where
   pub lines : List (List ℕ)
-  pub passes : PassesLines old lines new
-  pub over : HasLines before lines ⊎ (AwaitsNone new.awaited ⊎ (left ≡ 0))
+  pub passes : PassesLines old.known lines new.known
+  pub over : HasLines (remaining old.text) lines ⊎ (AwaitsNone new.known.awaited ⊎ (new.left ≡ 0))
+  pub lowers : new.left ≤ old.left
+  pub spent : old.left ≤ new.left + suc (length lines)
 
 -- what a call for an offer does where it doesn't fail
 abbrev pub OffersNext : {R : Type 0} → (R → Option (List ℕ)) → CommitText R → Option ObjectId → CommitText R → Type 0
-OffersNext remaining old (Some id) new =
-    OffersCommit (remaining old.text) old.known id (remaining new.text) new.known × (new.left < old.left)
-OffersNext remaining old None new = OffersNothing (remaining old.text) old.known new.left new.known × (new.left ≤ old.left)
+OffersNext remaining old (Some id) new = OffersCommit remaining old id new
+OffersNext remaining old None new = OffersNothing remaining old new
 
 -- ---- refusals
 

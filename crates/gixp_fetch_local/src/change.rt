@@ -1,7 +1,10 @@
 //! What becomes of each local ref, in a word, as far as the refs and the commits before a fetch say.
-ghost use Rattle.std.specs.Prelude.{◌≡◌, [], IfOk, map};
+ghost use Rattle.std.specs.Prelude.{◌≡◌, [], None, IfOk, map};
 ghost use Rattle.std.specs.List.{zip};
+ghost use Rattle.gixp_graph.specs.Object.{commit_at};
 ghost use Rattle.gixp_updates.specs.Modes.{is_among};
+ghost use Rattle.gixp_updates.specs.UpdateError.{Consults};
+ghost use Rattle.gixp_updates.specs.Limits.{KeepsLimitOfEach};
 ghost use Rattle.gixp_fetch_local.specs.Changes.{unseen_change, change_by, change_of, change_in, AreChanges};
 
 use gixp_graph::{Graph, Objects, RefStore};
@@ -102,7 +105,7 @@ pub fn changes<R: RefStore, O: Objects, P: Objects>(
     graph: &mut Graph<P>,
     tags: Tags,
 ) -> Result<Vec<Option<Change>>, Error>
-    ensures { IfOk result (λ changes. AreChanges
+    ensures changes { IfOk result (λ changes. AreChanges
         (record {
           refs = R.refs refs.now;
           objects = O.contents objects.now;
@@ -110,6 +113,9 @@ pub fn changes<R: RefStore, O: Objects, P: Objects>(
           is_checked_out = is_among [];
         })
         tags map.now.refspecs.items map.now.extra_refspecs.items map.now.mappings.items changes.items) }
+    ensures consults { Consults None result graph.old graph.new }
+    ensures limited { KeepsLimitOfEach (commit_at graph.old.graph.objects) map.now.mappings.items None result graph.old.asked
+        graph.new.asked }
 {
     let options = Options {
         tags,

@@ -318,9 +318,9 @@ impl<R: BufRead> Negotiator for ListedCommits<R> {
         }
     }
 
-    ghost offer_lowers = { λ n g id m h r. r.0.1 };
+    ghost offer_lowers = { λ n g id m h r. Prim.omega (arith, r.0.spent) };
 
-    ghost none_keeps = { λ n g m h r. r.0.1 };
+    ghost none_keeps = { λ n g m h r. r.0.lowers };
 
     ghost learning_keeps = { λ n g id m h r. Prim.omega (arith, r.0.left) };
 }

@@ -1,4 +1,4 @@
--- No more lines may be read than before, no refusal is noted yet, and the lines that were read were passed over.
+-- No more lines may be read than before, no refusal is noted yet, and the lines that were read were passed over, and are spent.
 use Rattle.std.proofs.Common.{◌≡◌, ◌≤◌}
 use Rattle.gixp_fetch_local.proofs.ListedLemmas.{PassedSoFar}
 use Rattle.gixp_fetch_local.proofs.listed.CommitText.next.Given as goal
@@ -7,7 +7,7 @@ abbrev pub invariant-lines : goal.invariant-lines
 invariant-lines g l = record {
   left : l.self.left ≤ l.fn.self.left;
   refusal : l.self.refusal ≡ l.fn.self.refusal;
-  passed : PassedSoFar (g.R.Read.remaining l.fn.self.text) l.fn.self.known (g.R.Read.remaining l.self.text) l.self.known;
+  passed : PassedSoFar g.R.Read.remaining l.fn.self l.self;
 }
 
 abbrev pub decreases-lines : goal.decreases-lines
