@@ -10,7 +10,6 @@ pub mod Missing
 pub mod Choices
 pub mod Refusals
 pub mod Screened
-pub mod Unshallowed
 pub mod Known
 pub mod SharedCommits
 pub mod Listed

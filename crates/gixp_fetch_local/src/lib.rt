@@ -14,7 +14,6 @@ mod options;
 mod place;
 mod report;
 mod screen;
-mod unshallowed;
 
 pub use ask::{AskError, Witness, named_ids};
 pub use change::{Change, changes};
@@ -25,4 +24,3 @@ pub use options::{Files, Haves, OptionError, Options, Output, Questions, Server,
 pub use place::{PackFile, PackPlace};
 pub use report::{listing, report as fetch_report};
 pub use screen::screened;
-pub use unshallowed::unknown_unshallow;

@@ -1,7 +1,0 @@
--- None was found so far.
-use Rattle.std.proofs.Common.{◌≡◌, drop}
-use Rattle.gixp_fetch_local.specs.Unshallowed.{unknown_unshallow}
-use Rattle.gixp_fetch_local.proofs.unshallowed.unknown_unshallow.Given as goal
-
-abbrev pub invariant-loop-update : goal.invariant-loop-update
-invariant-loop-update l = unknown_unshallow l.boundary (drop l.update-index l.updates) ≡ unknown_unshallow l.boundary l.updates
