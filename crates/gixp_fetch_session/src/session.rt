@@ -4,7 +4,8 @@ ghost use Rattle.std.specs.Prelude.{◌≡◌, ◌≤◌, ◌<◌, Ok, IfOk, IfS
 ghost use Rattle.std.specs.Option.{option_map};
 ghost use Rattle.bstr.specs.Owned.{bstring_bytes};
 ghost use Rattle.gix_protocol.specs.Filters.{offers_filter};
-ghost use Rattle.gixp_fetch_session.specs.Asked.{SetsFilterIf};
+ghost use Rattle.gix_protocol.specs.Shallow.{shallow_value};
+ghost use Rattle.gixp_fetch_session.specs.Asked.{AreSpecsOf, SetsFilterIf};
 
 use crate::failure::{Failure, Step};
 use crate::receive::PackReceiver;
@@ -77,12 +78,15 @@ pub fn connect<R: Read + Drop, W: Write + Drop>(
 /// What the server is asked for, but for a filter. An error of its beside the pack is told behind whatever else fails, so the fetch
 /// goes on.
 pub fn request_of(alloc: Global, wish: &Wish<'_>, wants_progress: bool) -> Result<Request, Failure>
+    ensures specs { IfOk result (λ request. AreSpecsOf wish.now.specs.items request.refspecs.items) }
     ensures tags { IfOk result (λ request. request.tags ≡ wish.now.tags) }
+    ensures shallow { IfOk result (λ request. shallow_value request.shallow ≡ shallow_value wish.now.shallow) }
     ensures rejects { IfOk result (λ request. request.rejects_shallow ≡ wish.now.rejects_shallow) }
+    ensures goes_on { IfOk result (λ request. request.goes_on ≡ true) }
     ensures progress { IfOk result (λ request. request.wants_progress ≡ wants_progress) }
 {
     let mut request = Request::new(alloc);
-    for text in &wish.specs {
+    'specs: for text in &wish.specs {
         request
             .add_refspec(text.as_bytes())
             .map_err(|e| failure_of(alloc, Step::Refspec, &e))?;
