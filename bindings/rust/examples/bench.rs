@@ -1,7 +1,6 @@
 //! Times the refs of an answer against a plain parser that makes the same values, and the steps of a session with many rounds:
 //! `cargo run --release --example bench -- refs FILE [RUNS]`, `.. -- rounds REFS ROUNDS`. `bench/languages.py` runs it.
 use gixp::{refs, Id, Ref, Session, Step};
-use std::time::Instant;
 
 fn digit(byte: u8) -> Option<u8> {
     match byte {
@@ -74,10 +73,16 @@ fn weigh(sum: u64, found: Ref<'_>) -> u64 {
     sum.wrapping_mul(31).wrapping_add(id + found.name().len() as u64)
 }
 
-fn time(mut run: impl FnMut() -> u64) -> (f64, u64) {
-    let start = Instant::now();
-    let sum = run();
-    (start.elapsed().as_secs_f64(), sum)
+/// The seconds that this process has run on a processor, as Linux says.
+fn processor_time() -> f64 {
+    let said = std::fs::read_to_string("/proc/self/schedstat").unwrap();
+    said.split(' ').next().unwrap().parse::<f64>().unwrap() / 1e9
+}
+
+fn time<T>(run: impl FnOnce() -> T) -> (f64, T) {
+    let start = processor_time();
+    let found = run();
+    (processor_time() - start, found)
 }
 
 fn time_refs(answer: &[u8], runs: usize) {
@@ -100,23 +105,35 @@ fn packet(text: &str) -> String {
     format!("{:04x}{text}", text.len() + 4)
 }
 
-/// A session of version 2 whose server acknowledges nothing, so that each round offers more haves, until the pack comes.
-fn time_rounds(count: usize, rounds: usize) {
-    let id = |n: usize| format!("{n:040x}");
+/// Forty digits of no order, as of an id.
+fn digits(n: u64) -> String {
+    let mut state = n;
+    let mut next = || {
+        state = state.wrapping_add(0x9e37_79b9_7f4a_7c15);
+        let mut z = state;
+        z = (z ^ (z >> 30)).wrapping_mul(0xbf58_476d_1ce4_e5b9);
+        z = (z ^ (z >> 27)).wrapping_mul(0x94d0_49bb_1331_11eb);
+        z ^ (z >> 31)
+    };
+    format!("{:016x}{:016x}{:08x}", next(), next(), next() as u32)
+}
+
+/// A session of version 2 whose server acknowledges nothing, so that each round offers more haves, until the pack comes: the seconds
+/// of all steps, and of the last.
+fn session(refs: u64, haves: u64, rounds: usize) -> (f64, f64) {
     let greeting = ["version 2\n", "ls-refs=unborn\n", "fetch=shallow\n"].map(packet).concat() + "0000";
-    let listed: String = (0..count).map(|n| packet(&format!("{} refs/heads/{n}\n", id(n)))).collect();
+    let listed: String = (0..refs).map(|n| packet(&format!("{} refs/heads/{n}\n", digits(n)))).collect();
     let mut session = Session::new(["refs/heads/*:refs/remotes/o/*"]);
-    for n in 0..1 << 16 {
-        session.have(Id::from_hex(id(1 << 40 | n).as_bytes()).unwrap());
+    for n in 0..haves {
+        session.have(Id::from_hex(digits(1 << 40 | n).as_bytes()).unwrap());
     }
     session.answer(greeting.as_bytes()).answer((listed + "0000").as_bytes());
     let none = ["acknowledgments\n", "NAK\n"].map(packet).concat() + "0000";
     let pack = ["acknowledgments\n", "NAK\n", "ready\n"].map(packet).concat() + "0001" + &packet("packfile\n");
     let (mut all, mut last) = (0.0, 0.0);
     for round in 1.. {
-        let start = Instant::now();
-        let step = session.step().unwrap();
-        last = start.elapsed().as_secs_f64();
+        let (seconds, step) = time(|| session.step().unwrap());
+        last = seconds;
         all += last;
         match step {
             Step::Request(_) if round < rounds => drop(session.answer(none.as_bytes())),
@@ -124,7 +141,23 @@ fn time_rounds(count: usize, rounds: usize) {
             _ => break,
         }
     }
+    (all, last)
+}
+
+/// The steps of a session, beside the last one, and what that takes for the refs, for the haves and for the rounds after the first.
+fn time_rounds(refs: u64, rounds: usize) {
+    const HAVES: u64 = 1 << 16;
+    let mut times = [f64::MAX; 4];
+    for _ in 0..5 {
+        let (all, last) = session(refs, HAVES, rounds);
+        let found = [all, last, session(refs, 0, 1).1, session(refs, HAVES, 1).1];
+        times.iter_mut().zip(found).for_each(|(time, found)| *time = time.min(found));
+    }
+    let [all, last, bare, one] = times;
+    let share = |seconds: f64| 100.0 * seconds / last;
     println!("{rounds} rounds: {:.1} ms in all, {:.1} ms for the last step, {:.1} times", all * 1e3, last * 1e3, all / last);
+    let [refs, haves, later] = [bare, one - bare, last - one].map(share);
+    println!("of the last step {refs:.0} % for the refs, {haves:.0} % for the haves, {later:.0} % for later rounds");
 }
 
 fn main() {
@@ -132,7 +165,7 @@ fn main() {
     let number = |n: usize, other: usize| words.get(n).map_or(other, |word| word.parse().unwrap());
     match words.get(1).map(String::as_str) {
         Some("refs") => time_refs(&std::fs::read(&words[2]).unwrap(), number(3, 5)),
-        Some("rounds") => time_rounds(number(2, 100_000), number(3, 10)),
+        Some("rounds") => time_rounds(number(2, 100_000) as u64, number(3, 10)),
         _ => eprintln!("usage: bench refs FILE [RUNS] | rounds [REFS [ROUNDS]]"),
     }
 }
