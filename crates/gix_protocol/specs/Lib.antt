@@ -316,6 +316,7 @@ pub use Rattle.gixp_client.specs.ClientPromise
 pub use Rattle.gixp_client.specs.Filters
 pub use Rattle.gixp_client.specs.Heard
 pub use Rattle.gixp_client.specs.Listening
+pub use Rattle.gixp_client.specs.Reasons
 pub use Rattle.gixp_client.specs.Requests
 pub use Rattle.gixp_client.specs.Sentences
 pub use Rattle.gixp_client.specs.ServerWords

@@ -6,6 +6,7 @@ pub mod ClientError
 pub mod ClientCalls
 pub mod SessionStates
 pub mod ServerWords
+pub mod Reasons
 pub mod Sentences
 pub mod ClientMaps
 pub mod ClientPromise

@@ -5,11 +5,12 @@ use Rattle.std.specs.declared.io.ErrorKind.{ErrorKind}
 use Rattle.std.specs.declared.io.ErrorKind.TheVariants.{UnexpectedEof}
 use Rattle.gixp_hash.specs.Hex.{encode_lower}
 use Rattle.gixp_client.specs.ClientError.{said_in, place_of, kind_in}
+use Rattle.gixp_client.specs.Reasons.{reason}
 use Rattle.gixp_client.specs.declared.consumer.PackError.TheVariants as pack
 use Rattle.gixp_client.specs.declared.error.Error.{Error}
 use Rattle.gixp_client.specs.declared.error.Error.TheVariants.{UnsupportedListing, Unnegotiated, MissingFeature, ShallowServer, UnknownUnshallow, Pack, Reported, Over, Memory}
 
--- where neither the server nor a read or write failed
+-- where neither the server nor a read or write failed, and nothing is wrong with what came
 abbrev pub rest_sentence : Error → Option (List ℕ)
 rest_sentence UnsupportedListing = Some (codes "the server doesn't list refs as it is asked to")
 rest_sentence (Unnegotiated rounds) = Some (codes "no pack came after " ++ decimal rounds ++ codes " round(s) of the negotiation")
@@ -22,11 +23,16 @@ rest_sentence Over = Some (codes "the session is over")
 rest_sentence Memory = Some (codes "out of memory")
 rest_sentence _ = None
 
+-- where something is wrong with what came, that is said
+abbrev pub reason_sentence : Error → Option (List ℕ) → Option (List ℕ)
+reason_sentence e (Some why) = Some why
+reason_sentence e None = rest_sentence e
+
 -- where a read or write failed with this kind, if one did
 abbrev pub kind_sentence : Error → Option ErrorKind → Option (List ℕ)
 kind_sentence e (Some UnexpectedEof) = Some (codes "the connection ended within " ++ place_of e)
 kind_sentence e (Some _) = None
-kind_sentence e None = rest_sentence e
+kind_sentence e None = reason_sentence e (reason e)
 
 -- a pack that can't be written
 abbrev pub unsaid_sentence : Error → Option (List ℕ)

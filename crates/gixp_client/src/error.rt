@@ -3,8 +3,12 @@ ghost use Rattle.std.specs.Prelude.{◌≡◌};
 ghost use Rattle.std.specs.Option.{option_map};
 ghost use Rattle.bstr.specs.BStr.{bstr_bytes};
 ghost use Rattle.gixp_client.specs.ClientError.{said_in, place_of, kind_in, of_shake, of_refs, of_list, of_init, of_request, of_negotiation, of_refused_pack};
+ghost use Rattle.gixp_client.specs.Reasons.{reason};
 
 use crate::consumer::PackError;
+use crate::reason::{
+    answer_reason, client_reason, handshake_reason, pack_reason, read_reason, refs_reason,
+};
 use crate::refusal::{answer_kind, client_kind, pack_kind, parse_kind};
 use crate::words::Words;
 use bstr::{BStr, BString};
@@ -139,9 +143,25 @@ impl Error {
             _ => None,
         }
     }
+
+    /// What is wrong with the connection, or with what came over it, as `protocol error: the server sent what is no packet line`.
+    /// None where the server says why, where what came is shown, as a line that is no ref, and where the error is of another kind.
+    pub fn reason(&self) -> Option<&'static str>
+        ensures { option_map (λ w. w.now) result ≡ reason self.now }
+    {
+        match self {
+            Error::Handshake(e) => handshake_reason(e),
+            Error::Refs(e) => refs_reason(e),
+            Error::Request(e) => client_reason(e),
+            Error::Answer(e) => answer_reason(e),
+            Error::Pack(e) => pack_reason(e),
+            Error::Rest(e) => read_reason(e),
+            _ => None,
+        }
+    }
 }
 
-// What is said of an error where neither the server nor a read or write failed.
+// What is said of an error where neither the server nor a read or write failed, and nothing is wrong with what came.
 #[derive(Drop)]
 struct Rest<'a> {
     error: &'a Error,
@@ -212,7 +232,10 @@ impl Display for Error {
                 write!(f, "the connection ended within {}", self.place())
             }
             Some(kind) => write!(f, "the connection failed within {}: {kind:?}", self.place()),
-            None => Rest { error: self }.fmt(f),
+            None => match self.reason() {
+                Some(why) => f.write_str(why),
+                None => Rest { error: self }.fmt(f),
+            },
         }
     }
 }

@@ -13,6 +13,7 @@ mod listen;
 mod once;
 mod over;
 mod pipes;
+mod reason;
 mod refusal;
 mod repository;
 mod request;

@@ -3,6 +3,5 @@ pub mod Failures
 pub mod Asked
 pub mod SystemWords
 pub mod Left
-pub mod Reasons
 pub mod Compared
 pub mod Tips

@@ -7,9 +7,9 @@ ghost use Rattle.gixp_fetch_session.specs.Failures.{TellsRefused, unless_failed}
 mod ends;
 pub mod failure;
 mod kinds;
+mod left;
 pub mod receive;
 pub mod repository;
-mod sentence;
 pub mod session;
 pub mod shown;
 mod usage;

@@ -8,9 +8,9 @@ ghost use Rattle.gix_protocol.specs.Shallow.{shallow_value};
 ghost use Rattle.gixp_fetch_session.specs.Asked.{AreSpecsOf, SetsFilterIf};
 
 use crate::failure::{Failure, Step};
+use crate::left::is_left;
 use crate::receive::PackReceiver;
 use crate::repository::Repository;
-use crate::sentence::{is_left, sentence_of};
 use bstr::BString;
 use gix_protocol::client::{self, Error, Fetched, Listener, PackError, Request, Session};
 use gix_protocol::fetch::RefMap;
@@ -133,7 +133,7 @@ fn failure_of(alloc: Global, step: Step, error: &Error) -> Failure {
             _ => Failure::HungUp,
         };
     }
-    if let Some(why) = sentence_of(error) {
+    if let Some(why) = error.reason() {
         return Failure::of_text(alloc, step, why);
     }
     match error {

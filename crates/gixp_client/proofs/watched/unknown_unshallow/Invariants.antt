@@ -1,4 +1,4 @@
--- None was found so far.
+-- The updates that are left have the same first one that takes out what isn't there.
 use Rattle.std.proofs.Common.{◌≡◌, drop}
 use Rattle.gixp_client.specs.Unshallowed.{unknown_unshallow}
 use Rattle.gixp_client.proofs.watched.unknown_unshallow.Given as goal
