@@ -1,5 +1,5 @@
 #!/usr/bin/env python3
-"""Makes docs/REFERENCE.md: every public name of gix_protocol, with its path and its signature, without contracts.
+"""Makes docs/REFERENCE.md: every public name of gix_protocol, with its path, its signature and its traits, without contracts.
 
 Usage: reference.py [--write]
 
@@ -15,7 +15,7 @@ CRATES = TOP / "crates"
 REFERENCE = TOP / "docs" / "REFERENCE.md"
 HEAD = """# Reference
 
-Every public name of `gix_protocol`, with its path and its signature. Contracts and comments stand with the function, in the file that is named. `scripts/reference.py --write` makes this page.
+Every public name of `gix_protocol`, with its path and its signature; `impl` has the traits of a type, but `From`. Contracts and comments stand with the function, in the file that is named. `scripts/reference.py --write` makes this page.
 """
 QUOTING = "README.md", "docs/USING.md"
 ITEM = r"pub (?:const )?(?:fn|struct|enum|trait|type|const) {name}\b"
@@ -134,6 +134,22 @@ def implementing(crate, path, name):
             yield text
 
 
+def traits_of(crate, path, name, front):
+    """The traits of a type, but `From`, whose lines of attributes end the text in front of it."""
+    found = set()
+    for line in reversed(front.rstrip("\n").split("\n")):
+        if not line.startswith("#["):
+            break
+        derived = re.match(r"#\[derive\((.*)\)\]", line)
+        found.update(it.strip() for it in derived[1].split(",")) if derived else None
+    brings = re.compile(rf"(?m)^use {crate}::[^;]*\b{name}\b[^;]*;")
+    above = (it.read_text() for it in sorted(CRATES.glob("*/src/**/*.rt")) if CRATES / crate not in it.parents)
+    for text in [*implementing(crate, path, name), *filter(brings.search, above)]:
+        for head in re.finditer(rf"(?m)^impl(?:<[^{{]*?>)? ([\w:]+)(?:<[^{{]*?>)? for {name}\b", text):
+            found.add(head[1].rpartition("::")[2])
+    return sorted(found - {"From"})
+
+
 def described(crate, module, name):
     """The lines that describe an item."""
     text, path = text_of(crate, module)
@@ -144,6 +160,9 @@ def described(crate, module, name):
         yield cut(line.split("=", 1)[0] if kind == "const" else line)
         return
     yield cut(text[found.start() :])
+    traits = traits_of(crate, path, name, text[: found.start()]) if kind in ("struct", "enum") else []
+    if traits:
+        yield f"    impl {', '.join(traits)}"
     if text[found.end() :].split("\n", 1)[0].rstrip().endswith("{") or "{" in text[found.start() :].split("\n\n", 1)[0].split(";", 1)[0]:
         body = block(text, found.start())
         if kind == "struct":
