@@ -5,7 +5,6 @@ use Rattle.bstr.specs.Owned.{bstring_bytes}
 use Rattle.bstr.specs.declared.bstring.BString.{BString}
 use Rattle.gixp_remote_rules.specs.Choosing.{Chosen}
 use Rattle.gixp_remote_rules.specs.Programs.{index_words, object_variables}
-use Rattle.gixp_remote_session.specs.declared.local.Places.{Places}
 use Rattle.gixp_remote_session.specs.declared.pack.PackPlan.{PackPlan}
 
 -- the folder that stands beside the objects and has this name, and the file of the boundary in it

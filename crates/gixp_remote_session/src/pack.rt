@@ -386,7 +386,8 @@ pub(crate) fn place(
     plan: &PackPlan,
     hash: &ObjectId,
 ) -> Result<Option<BString>, Trouble>
-    ensures { IfOk result (λ lock. IfSome lock (λ l. bstring_bytes l ≡ pack_file (string_bytes places.now.objects) hash.now (codes ".keep"))) }
+    ensures { IfOk result (λ lock. IfSome lock (λ l. bstring_bytes l
+        ≡ pack_file (string_bytes places.now.objects) hash.now (codes ".keep"))) }
 {
     let alloc = rt.alloc();
     let from = plan.folder.as_bytes();

@@ -18,6 +18,8 @@ returns-clause-plan c =
     let shallow : string_bytes c.in_ok-shallow.shallow ≡ pack_boundary objects name =
     c.in_ok-shallow.ensures ∙ ap (λ p. p ++ codes "/shallow") (c.as_str-2.ensures.value ∙ folder)
     in
+    let choices = chosen c.args.choices.now in
+    let checks = map bstring_bytes c.args.checks.now in
     let more = option_map {T = Bor (List ℕ)} {U = List ℕ} (λ m. m.now) c.match-more.more in
     record {
       folder = folder;
@@ -25,7 +27,7 @@ returns-clause-plan c =
       words = c.in_ok-words.ensures;
       bounded =
           c.in_ok-bounded_words.ensures
-          ∙ ap (λ p. index_words name (Some p) (chosen c.args.choices.now) (map bstring_bytes c.args.checks.now)) (c.as_bytes.ensures.value ∙ shallow);
+          ∙ ap (λ p. index_words name (Some p) choices checks) (c.as_bytes.ensures.value ∙ shallow);
       more = more;
       variables =
           c.in_ok-variables.ensures
