@@ -2,6 +2,8 @@
 //! is to know it then.
 ghost use Rattle.std.specs.Prelude.{◌≡◌, true, false, [], None, Ok, Err, IfOk, IfSome};
 ghost use Rattle.gix_protocol.specs.Boundary.{boundary};
+ghost use Rattle.std.specs.Option.{option_map};
+ghost use Rattle.gixp_remote_session.specs.Noted.{without_band, update_said, update_value, NotesOne, NotesLine};
 ghost use Rattle.gixp_remote_session.specs.declared.trouble.Trouble.TheVariants.{Memory};
 
 use crate::trouble::Trouble;
@@ -36,16 +38,23 @@ impl Bounds {
         }
     }
 
-    // Notes what a line says. Where all lines are on bands, it is on the first.
-    fn note(&mut self, line: &[u8]) {
-        let text = line.strip_prefix(b"\x01").unwrap_or(line);
-        let update = match bound_said(text.trim_end()) {
-            Some((true, id)) => ShallowUpdate::Shallow(id),
-            Some((false, id)) => ShallowUpdate::Unshallow(id),
-            None => return,
-        };
-        if self.updates.push(update).is_err() {
-            self.is_cut = true;
+    // Notes what a line says.
+    fn note(&mut self, line: &[u8])
+        ensures { NotesLine (update_said line.now) self.old self.new }
+    {
+        match update_of(line) {
+            Some(update) => self.add(update),
+            None => {}
+        }
+    }
+
+    // Notes one more.
+    fn add(&mut self, update: ShallowUpdate)
+        ensures { NotesOne (update_value update) self.old self.new }
+    {
+        match self.updates.push(update) {
+            Ok(()) => {}
+            Err(_) => self.is_cut = true,
         }
     }
 
@@ -66,6 +75,27 @@ impl Bounds {
             return Ok(None);
         }
         Ok(Some(new_boundary(alloc, old, &self.updates)?))
+    }
+}
+
+// A line without its band: where all lines are on bands, this one is on the first.
+fn without_band(line: &[u8]) -> &[u8]
+    ensures { result.now ≡ without_band line.now }
+{
+    match line.strip_prefix(b"\x01") {
+        Some(text) => text,
+        None => line,
+    }
+}
+
+// What a line says of the boundary.
+fn update_of(line: &[u8]) -> Option<ShallowUpdate>
+    ensures { option_map update_value result ≡ update_said line.now }
+{
+    match bound_said(without_band(line).trim_end()) {
+        Some((true, id)) => Some(ShallowUpdate::Shallow(id)),
+        Some((false, id)) => Some(ShallowUpdate::Unshallow(id)),
+        None => None,
     }
 }
 

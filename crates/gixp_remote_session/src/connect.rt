@@ -1,4 +1,8 @@
 //! The words that reach a server, and the session with it.
+ghost use Rattle.std.specs.Prelude.{◌≡◌, ◌↔◌, IfOk, IsOk, IsSome, Some};
+ghost use Rattle.std.specs.Option.{option_map};
+ghost use Rattle.bstr.specs.Owned.{bstring_bytes};
+
 use crate::bounded::{Bounded, Bounds, forget};
 use crate::setup::{variable, version_word};
 use crate::shell::{NOTHING, Shell, owned};
@@ -119,7 +123,9 @@ fn probe(
 }
 
 // The port that the URL names.
-fn port_of(reach: Reach<'_>) -> Option<&[u8]> {
+fn port_of(reach: Reach<'_>) -> Option<&[u8]>
+    ensures { option_map (λ p. p.now) result ≡ option_map bstring_bytes reach.entry.address.now.port }
+{
     match &reach.address.port {
         Some(port) => Some(port.as_bytes()),
         None => None,
@@ -127,7 +133,10 @@ fn port_of(reach: Reach<'_>) -> Option<&[u8]> {
 }
 
 // The words of ssh, unless it takes no port and there is one.
-fn taken(words: Option<Vec<BString>>) -> Result<Vec<BString>, Trouble> {
+fn taken(words: Option<Vec<BString>>) -> Result<Vec<BString>, Trouble>
+    ensures taken { IfOk result (λ those. words ≡ Some those) }
+    ensures none { IsOk result ↔ IsSome words }
+{
     match words {
         Some(words) => Ok(words),
         None => Err(Trouble::Other("ssh variant 'simple' does not support setting port")),

@@ -1,4 +1,10 @@
 //! How much of the history is wanted.
+ghost use Rattle.std.specs.Prelude.{◌≡◌, ◌∷◌, [], ◌++◌, map, is_some, IfOk, OnOk};
+ghost use Rattle.bstr.specs.Owned.{bstring_bytes};
+ghost use Rattle.gix_protocol.specs.PartialName.{name_bytes};
+ghost use Rattle.gix_protocol.specs.Shallow.{shallow_value};
+ghost use Rattle.gixp_remote_session.specs.History.{IsPart, IsWished};
+
 use crate::shell::Shell;
 use crate::trouble::Trouble;
 use bstr::{BString, ByteSlice};
@@ -25,24 +31,34 @@ fn seconds_of(rt: &HostRuntime, shell: &mut Shell, since: &[u8]) -> Result<i64, 
     }
 }
 
+// A name more.
+fn add_name(alloc: Global, names: &mut Vec<PartialName>, word: &[u8]) -> Result<(), Trouble>
+    ensures { OnOk result (map name_bytes names.new.items ≡ map name_bytes names.old.items ++ word.now ∷ []) }
+{
+    match PartialName::new(BString::from_slice(alloc, word)?) {
+        Ok(name) => {
+            names.push(name)?;
+            Ok(())
+        }
+        Err(_) => Err(Trouble::of_word(alloc, "this is no name of a ref:", word)),
+    }
+}
+
 // The names whose commits aren't wanted.
-fn names_of(alloc: Global, words: &[BString]) -> Result<Vec<PartialName>, Trouble> {
+fn names_of(alloc: Global, words: &[BString]) -> Result<Vec<PartialName>, Trouble>
+    ensures { IfOk result (λ names. map name_bytes names.items ≡ map bstring_bytes words.now) }
+{
     let mut names = Vec::new(alloc);
     for word in words {
-        match PartialName::new(word.clone()?) {
-            Ok(name) => names.push(name)?,
-            Err(_) => return Err(Trouble::of_word(
-                alloc,
-                "this is no name of a ref:",
-                word.as_bytes(),
-            )),
-        }
+        add_name(alloc, &mut names, word.as_bytes())?;
     }
     Ok(names)
 }
 
 // What a time and names leave.
-fn cut(rt: &HostRuntime, shell: &mut Shell, choices: &Choices) -> Result<Shallow, Trouble> {
+fn cut(rt: &HostRuntime, shell: &mut Shell, choices: &Choices) -> Result<Shallow, Trouble>
+    ensures { IfOk result (λ s. IsPart choices.now.excluded.items (is_some choices.now.since) (shallow_value s)) }
+{
     let since_cutoff = match &choices.since {
         Some(since) => Some(seconds_of(rt, shell, since.as_bytes())?),
         None => None,
@@ -64,7 +80,10 @@ pub(crate) fn shallow_of(
     rt: &HostRuntime,
     shell: &mut Shell,
     choices: &Choices,
-) -> Result<Shallow, Trouble> {
+) -> Result<Shallow, Trouble>
+    ensures { IfOk result (λ s. IsWished choices.now.depth choices.now.is_relative choices.now.excluded.items
+        (is_some choices.now.since) (shallow_value s)) }
+{
     match choices.depth {
         Depth::All => Ok(Shallow::undo()),
         Depth::Commits(count) => match NonZeroU32::new(count) {

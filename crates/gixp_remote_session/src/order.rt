@@ -4,6 +4,8 @@ ghost use Rattle.bstr.specs.Owned.{bstring_bytes};
 ghost use Rattle.gix_protocol.specs.Values.{mapping_value};
 ghost use Rattle.gixp_shallow.specs.Shallow.{shallow_value};
 ghost use Rattle.gix_protocol.specs.TagsType.TheVariants.{Included, None};
+ghost use Rattle.gix_protocol.specs.AlgorithmType.TheVariants.{Noop};
+ghost use Rattle.gixp_fetch_local.specs.declared.options.Haves.TheVariants.{By};
 ghost use Rattle.gixp_remote_session.specs.Wanted.{wanted};
 
 use crate::connect::Reach;
@@ -130,7 +132,10 @@ fn offers_commits(choices: &Choices, has_alternates: bool) -> bool
 }
 
 /// Who chooses the haves, if any.
-pub(crate) fn haves_for(order: Order<'_, '_>, has_alternates: bool) -> Haves {
+pub(crate) fn haves_for(order: Order<'_, '_>, has_alternates: bool) -> Haves
+    ensures none { (not order.entry.choices.now.is_refetch && (not order.entry.choices.now.is_cloning || has_alternates)) ≡ false
+        → result ≡ By Noop }
+{
     if offers_commits(order.choices, has_alternates) {
         haves_of(order.reach.rt, order.reach.settings)
     } else {

@@ -1,6 +1,9 @@
 //! Where the pack goes: git indexes it in a folder for objects of its own, and it is put beside the others once it is wanted.
-ghost use Rattle.std.specs.Prelude.{◌≡◌, ⊤, true, false, IfOk};
-ghost use Rattle.gixp_remote_session.specs.Packs.{is_always_there};
+ghost use Rattle.std.specs.Prelude.{◌≡◌, ⊤, ◌∷◌, [], ◌++◌, true, false, map, codes, None, IfOk, IfSome, OnOk, string_bytes};
+ghost use Rattle.bstr.specs.Owned.{bstring_bytes};
+ghost use Rattle.gixp_remote_rules.specs.Choosing.{chosen};
+ghost use Rattle.gixp_remote_rules.specs.Indexed.{pack_file};
+ghost use Rattle.gixp_remote_session.specs.Packs.{pack_folder, IsPlan, SamePlan, is_always_there};
 ghost use Rattle.gixp_remote_session.specs.Troubles.{kind_of};
 
 use crate::bounded::Bounds;
@@ -64,18 +67,54 @@ fn start_git(shell: &mut Shell, variables: &[BString], words: &[BString]) -> Res
     Ok(())
 }
 
+// A word more.
+fn add_word(alloc: Global, words: &mut Vec<BString>, word: &[u8]) -> Result<(), Trouble>
+    ensures { OnOk result (map bstring_bytes words.new.items ≡ map bstring_bytes words.old.items ++ word.now ∷ []) }
+{
+    words.push(BString::from_slice(alloc, word)?)?;
+    Ok(())
+}
+
 // Words once more.
-fn copied(alloc: Global, words: &[BString]) -> Result<Vec<BString>, Trouble> {
+fn copied(alloc: Global, words: &[BString]) -> Result<Vec<BString>, Trouble>
+    ensures { IfOk result (λ all. map bstring_bytes all.items ≡ map bstring_bytes words.now) }
+{
     let mut all = Vec::new(alloc);
     for word in words {
-        all.push(word.clone()?)?;
+        add_word(alloc, &mut all, word.as_bytes())?;
     }
     Ok(all)
 }
 
+// The name of the helper's folder, as files are opened by.
+fn room_of(name: &[u8]) -> Result<&str, Trouble>
+    ensures { IfOk result (λ r. r.now ≡ name.now) }
+{
+    match name.to_str() {
+        Ok(room) => Ok(room),
+        Err(_) => Err(Trouble::Other("the helper's folder is no UTF-8")),
+    }
+}
+
+// The folder beside the objects that has this name.
+fn folder_beside(alloc: Global, objects: &str, room: &str) -> Result<String, Trouble>
+    ensures { IfOk result (λ f. string_bytes f ≡ pack_folder objects.now room.now) }
+{
+    Ok(format!(in alloc; "{objects}/tmp_objdir-{room}")?)
+}
+
+// The file of the boundary in it.
+fn boundary_in(alloc: Global, folder: &str) -> Result<String, Trouble>
+    ensures { IfOk result (λ f. string_bytes f ≡ folder.now ++ codes "/shallow") }
+{
+    Ok(format!(in alloc; "{folder}/shallow")?)
+}
+
 impl PackPlan {
     /// The same once more.
-    pub(crate) fn copy(&self, alloc: Global) -> Result<PackPlan, Trouble> {
+    pub(crate) fn copy(&self, alloc: Global) -> Result<PackPlan, Trouble>
+        ensures { IfOk result (SamePlan self.now) }
+    {
         Ok(PackPlan {
             folder: self.folder.clone()?,
             words: copied(alloc, &self.words)?,
@@ -95,14 +134,13 @@ impl PackPlan {
         checks: &[BString],
         old: &[ObjectId],
     ) -> Result<PackPlan, Trouble>
+        ensures plan { IfOk result (IsPlan (string_bytes places.now.objects) name.now (chosen choices.now) (map bstring_bytes checks.now)) }
         ensures old { IfOk result (λ p. p.old.items ≡ old.now) }
     {
         let alloc = rt.alloc();
-        let Ok(room) = name.to_str() else {
-            return Err(Trouble::Other("the helper's folder is no UTF-8"));
-        };
-        let folder = format!(in alloc; "{}/tmp_objdir-{room}", places.objects)?;
-        let shallow = format!(in alloc; "{folder}/shallow")?;
+        let room = room_of(name)?;
+        let folder = folder_beside(alloc, places.objects.as_str(), room)?;
+        let shallow = boundary_in(alloc, folder.as_str())?;
         let words = index_words(alloc, name, None, choices, checks)?;
         let bounded_words = index_words(alloc, name, Some(shallow.as_bytes()), choices, checks)?;
         let more = variable(rt, "GIT_ALTERNATE_OBJECT_DIRECTORIES");
@@ -215,7 +253,11 @@ impl<'a> IndexedPack<'a> {
         shell: &'a mut Shell,
         plan: PackPlan,
         bounds: &'a RefCell<Bounds>,
-    ) -> IndexedPack<'a> {
+    ) -> IndexedPack<'a>
+        ensures plan { result.plan ≡ plan }
+        ensures told { result.told ≡ None }
+        ensures bounded { result.is_bounded ≡ false }
+    {
         shell.pack = PackState::Unbegun;
         IndexedPack {
             rt,
@@ -257,7 +299,9 @@ impl<'a> IndexedPack<'a> {
     }
 
     // Waits until it is indexed.
-    fn finish(&mut self) -> Result<Kept, Trouble> {
+    fn finish(&mut self) -> Result<Kept, Trouble>
+        ensures { IfOk result (λ kept. kept.is_bounded ≡ self.old.is_bounded) }
+    {
         let mut text = Vec::new(self.rt.alloc());
         if let Some(mut told) = self.told.take() {
             told.read_to_end(&mut text)?;
@@ -341,7 +385,10 @@ pub(crate) fn place(
     places: &Places,
     plan: &PackPlan,
     hash: &ObjectId,
-) -> Result<Option<BString>, Trouble> {
+) -> Result<Option<BString>, Trouble>
+    ensures { IfOk result (λ lock. IfSome lock (λ l. bstring_bytes l
+        ≡ pack_file (string_bytes places.now.objects) hash.now (codes ".keep"))) }
+{
     let alloc = rt.alloc();
     let from = plan.folder.as_bytes();
     let to = places.objects.as_bytes();

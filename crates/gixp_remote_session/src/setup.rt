@@ -1,7 +1,7 @@
 //! What the helper begins with: the URL, variables and settings.
 ghost use Rattle.std.specs.Prelude.{◌≡◌};
 ghost use Rattle.std.specs.Option.{option_map};
-ghost use Rattle.gixp_remote_session.specs.UserChoices.{version_by, IsNamedHaves};
+ghost use Rattle.gixp_remote_session.specs.UserChoices.{version_by, IsNamedHaves, haves_set};
 ghost use Rattle.gixp_remote_session.specs.Version.{protocol_of, version_word};
 
 use crate::shell::Shell;
@@ -125,10 +125,17 @@ fn named_haves(name: &str) -> Haves
 }
 
 // Who the setting chooses.
-fn haves_set(setting: Option<&[u8]>) -> Haves {
-    match setting {
-        Some(b"noop") => Haves::By(Algorithm::Noop),
-        Some(b"skipping") => Haves::By(Algorithm::Skipping),
-        _ => Haves::InOrder,
+fn haves_set(setting: Option<&[u8]>) -> Haves
+    ensures { result ≡ haves_set (option_map (λ w. w.now) setting.entry) }
+{
+    let Some(text) = setting else {
+        return Haves::InOrder;
+    };
+    if text == b"noop".as_slice() {
+        Haves::By(Algorithm::Noop)
+    } else if text == b"skipping".as_slice() {
+        Haves::By(Algorithm::Skipping)
+    } else {
+        Haves::InOrder
     }
 }
