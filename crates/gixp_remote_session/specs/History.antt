@@ -1,5 +1,5 @@
 -- How much of the history a fetch asks for, by what git's options choose (gitremote-helpers, "option depth").
-use Rattle.std.specs.Prelude.{◌≡◌, ◌≢◌, ◌==◌, ℕ, ⊤, Bool, true, false, if◌then◌else◌, List, [], map, Option, is_some}
+use Rattle.std.specs.Prelude.{◌≡◌, ◌≢◌, ◌==◌, ℕ, Bool, true, false, if◌then◌else◌, List, [], map, is_some}
 use Rattle.bstr.specs.Owned.{bstring_bytes}
 use Rattle.bstr.specs.declared.bstring.BString.{BString}
 use Rattle.gix_protocol.specs.Shallow.{ShallowValue, no_change, at_remote, deepens, since, excludes}

@@ -2,7 +2,6 @@
 use Rattle.std.specs.Prelude.{◌≡◌, ◌||◌, ℕ, Bool, List, ◌++◌, map, codes, Option, Some, None, string_bytes}
 use Rattle.std.specs.Str.{bytes_eq}
 use Rattle.bstr.specs.Owned.{bstring_bytes}
-use Rattle.bstr.specs.declared.bstring.BString.{BString}
 use Rattle.gixp_remote_rules.specs.Choosing.{Chosen}
 use Rattle.gixp_remote_rules.specs.Programs.{index_words, object_variables}
 use Rattle.gixp_remote_session.specs.declared.pack.PackPlan.{PackPlan}

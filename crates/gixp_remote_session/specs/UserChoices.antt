@@ -1,5 +1,5 @@
 -- What the user chooses by a variable, or else by a setting.
-use Rattle.std.specs.Prelude.{◌≡◌, ℕ, if◌then◌else◌, List, codes, Option, Some, None}
+use Rattle.std.specs.Prelude.{ℕ, if◌then◌else◌, List, codes, Option, Some, None}
 use Rattle.std.specs.Str.{bytes_eq}
 use Rattle.gix_protocol.specs.ProtocolType.{Protocol}
 use Rattle.gix_protocol.specs.ProtocolType.TheVariants.{V2}
