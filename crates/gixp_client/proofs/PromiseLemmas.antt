@@ -22,11 +22,13 @@ use Rattle.gixp_client.specs.ClientCalls.{OpensSession, MapsInSession, FetchesIn
 use Rattle.gixp_client.specs.ClientPromise.{IsOneRun}
 use Rattle.gixp_client.specs.declared.error.Error.{Error}
 use Rattle.gixp_client.specs.declared.request.Request.{Request}
+use Rattle.gixp_client.specs.declared.watched.Watched.{Watched}
 
 -- a handshake, a ref map of it and a fetch of what is mapped, with what the law promises
-pub one_run : {N I A C P X : Type 0} (parties : Parties N I A ShallowMemory C P X) (map_of : N → RefMap) (knows : N → Knowledge)
-    → ((call : FetchCall) (context : Context) (start : Reading) (made : RefMap) (old : World N I ShallowMemory C)
-    (came : Result (Option Outcome) (FetchError A X)) (new : World N I ShallowMemory C) (progress : P)
+pub one_run : {N I A C P X : Type 0} (parties : Parties (Watched N) I A ShallowMemory C P X) (map_of : Watched N → RefMap)
+    (knows : Watched N → Knowledge)
+    → ((call : FetchCall) (context : Context) (start : Reading) (made : RefMap) (old : World (Watched N) I ShallowMemory C)
+    (came : Result (Option Outcome) (FetchError A X)) (new : World (Watched N) I ShallowMemory C) (progress : P)
     (run : Run parties map_of knows call context start made old came new progress)
     → Promise parties map_of knows call context start made old came new progress run)
     → (parameters : List Parameter) (agent : FeatureValue) (request : Request) (start shaken middle : Reading)
@@ -41,9 +43,9 @@ pub one_run : {N I A C P X : Type 0} (parties : Parties N I A ShallowMemory C P 
 one_run parties map_of knows promises parameters agent request start shaken middle handshake kept made known
     boundary boundary' consumer told new
     consumer' opens maps keeps fetched =
-    let f = fetched.fetches in let h = f.holds.holds in
+    let f = fetched.fetches in let h = f.holds in
     let run : Run parties map_of knows (session_call kept agent request) maps.context start made
-    (unlocked_world f.first middle h.interrupt fetched.store consumer) f.holds.came
+    (unlocked_world f.first middle h.interrupt fetched.store consumer) f.came
     (unlocked_world f.last new h.interrupt' fetched.store' consumer') h.progress = record {
       service = UploadPack;
       parameters = parameters;
@@ -71,14 +73,15 @@ one_run parties map_of knows promises parameters agent request start shaken midd
       store' = fetched.store';
       before = fetched.before;
       progress = h.progress;
-      came = f.holds.came;
-      tells = f.holds.tells;
+      came = f.came;
+      tells = f.tells;
       run = run;
       promise = promises _ _ _ _ _ _ _ _ run;
     }
 
 -- the same by the name of the client, which the session holds
-pub named_run : {N I A C P X : Type 0} (parties : Parties N I A ShallowMemory C P X) (map_of : N → RefMap) (knows : N → Knowledge)
+pub named_run : {N I A C P X : Type 0} (parties : Parties (Watched N) I A ShallowMemory C P X) (map_of : Watched N → RefMap)
+    (knows : Watched N → Knowledge)
     → ((parameters : List Parameter) (agent : FeatureValue) (request : Request) (start shaken middle : Reading)
     (handshake kept : Handshake) (made : RefMap) (known : Knowledge) (boundary boundary' : List ObjectId) (consumer : C)
     (told : Result (Option Outcome) Error) (new : Reading) (consumer' : C)

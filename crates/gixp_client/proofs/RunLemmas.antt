@@ -1,7 +1,11 @@
 -- What a session hands to the calls below.
-use Rattle.std.proofs.Common.{◌≡◌, Bool, List, Option, Some, None, Result, Ok, Err, subst, sym, ap, ◌∙◌}
+use Rattle.std.proofs.Common.{◌≡◌, Bool, List, [], ◌∷◌, Option, Some, None, Result, Ok, Err, refl, subst, sym, ap, ◌∙◌}
+use Rattle.std.specs.Prelude.{if◌then◌else◌}
+use Rattle.std.specs.Option.{option_map_or}
 use Rattle.gixp_hash.specs.declared.object_id.ObjectId.{ObjectId}
 use Rattle.gixp_shallow.specs.declared.store.memory.ShallowMemory.{ShallowMemory}
+use Rattle.gixp_shallow.specs.declared.update.ShallowUpdate.{ShallowUpdate}
+use Rattle.gixp_shallow.specs.declared.update.ShallowUpdate.TheVariants.{Shallow as ShallowId, Unshallow}
 use Rattle.gixp_client.specs.declared.error.Error.{Error}
 use Rattle.gixp_packetline.specs.Reading.{Reading}
 use Rattle.gixp_graph.specs.Object.{Objects}
@@ -21,11 +25,12 @@ use Rattle.gixp_fetch.specs.FetchShallow.{shallow_value}
 use Rattle.gixp_fetch.specs.Fetch.{World, Parties}
 use Rattle.gixp_fetch.specs.Fetched.{Fetches, call_of}
 use Rattle.gixp_fetch.specs.Mapped.{Knowledge}
-use Rattle.std.specs.BTreeSet.{BTreeSet}
 use Rattle.gixp_client.specs.Tables.{asked_table}
-use Rattle.gixp_client.specs.Unshallowed.{unknown_unshallow, unless_taken, known_alone}
-use Rattle.gixp_client.specs.ClientCalls.{session_call, IsToldCame, CarriesFetch, FetchesMap, FetchesInSession}
+use Rattle.gixp_client.specs.Boundaries.{has_id}
+use Rattle.gixp_client.specs.Unshallowed.{unknown_id, unknown_unshallow, unless_taken, known_alone}
+use Rattle.gixp_client.specs.ClientCalls.{session_call, TellsKnown, CarriesFetch, HoldsFetch, FetchesMap, FetchesInSession}
 use Rattle.gixp_client.specs.declared.request.Request.{Request}
+use Rattle.gixp_client.specs.declared.watched.Watched.{Watched}
 
 -- a fetch with these parts is one with those of the session
 pub as_session : {N I S A C P X : Type 0} (parties : Parties N I A S C P X) (table : TableValue) (agent name : FeatureValue)
@@ -61,51 +66,65 @@ same_knowledge t u s r o p e f l m a b c d g =
     ∙ ap (λ (x : Objects). record { tags = u; shallow = r; commits = p; existing = x; refs = l }) d
     ∙ ap (λ (x : LocalRefs). record { tags = u; shallow = r; commits = p; existing = f; refs = x }) g
 
+-- an update, looked at by two tests of the boundary that say the same
+unknown_alike : (f g : ObjectId → Bool) → ((id : ObjectId) → f id ≡ g id) → (update : ShallowUpdate)
+    → unknown_id f update ≡ unknown_id g update
+unknown_alike f g same (ShallowId id) = refl
+unknown_alike f g same (Unshallow id) = ap (λ (x : Bool). let o : Option ObjectId = if x then None else Some id in o) (same id)
+
+unshallow_alike : (f g : ObjectId → Bool) → ((id : ObjectId) → f id ≡ g id) → (updates : List ShallowUpdate)
+    → unknown_unshallow f updates ≡ unknown_unshallow g updates
+unshallow_alike f g same [] = refl
+unshallow_alike f g same (update ∷ updates) =
+    ap (λ (x : Option ObjectId). option_map_or Some x (unknown_unshallow f updates)) (unknown_alike f g same update)
+    ∙ ap (λ (x : Option ObjectId). option_map_or Some (unknown_id g update) x) (unshallow_alike f g same updates)
+
+alone_alike : (f g : ObjectId → Bool) → ((id : ObjectId) → f id ≡ g id) → (owned : Result (Option Outcome) Error)
+    → (unknown : Option ObjectId) → known_alone f owned unknown ≡ known_alone g owned unknown
+alone_alike f g same (Err e) unknown = refl
+alone_alike f g same (Ok o) (Some id) = refl
+alone_alike f g same (Ok None) None = refl
+alone_alike f g same (Ok (Some outcome)) None =
+    ap (unless_taken outcome) (unshallow_alike f g same outcome.last_response.shallow_updates)
+
+-- what is told of a fetch, by two tests of the boundary that say the same
+tells_alike : {N A X : Type 0} (f g : ObjectId → Bool) (first last : Watched N) (came : Result (Option Outcome) (FetchError A X))
+    (told told' : Result (Option Outcome) Error) → ((id : ObjectId) → f id ≡ g id) → told ≡ told'
+    → TellsKnown f first last came told → TellsKnown g first last came told'
+tells_alike f g first last came told told' same e t = record {
+  watches = λ id. t.watches id ∙ same id;
+  unnoted = t.unnoted;
+  owned = t.owned;
+  owns = t.owns;
+  tells = sym e ∙ t.tells ∙ alone_alike f g same t.owned last.unknown;
+}
+
 -- a fetch from this boundary, as it is told
-pub in_session : {N I A C P X : Type 0} (parties : Parties N I A ShallowMemory C P X) (map_of : N → RefMap) (knows : N → Knowledge)
-    (shaken : Handshake) (request : Request) (made : RefMap) (known : Knowledge) (boundary boundary' : List ObjectId)
-    (old : Reading) (consumer : C)
+pub in_session : {N I A C P X : Type 0} (parties : Parties (Watched N) I A ShallowMemory C P X) (map_of : Watched N → RefMap)
+    (knows : Watched N → Knowledge) (shaken : Handshake) (request : Request) (made : RefMap) (known : Knowledge)
+    (is_in : ObjectId → Bool) (boundary boundary' : List ObjectId) (old : Reading) (consumer : C)
     (told told' : Result (Option Outcome) Error) (new new' : Reading) (consumer' : C) (store store' : ShallowMemory)
     (name name' : FeatureValue) → store.ids.items ≡ boundary → store'.ids.items ≡ boundary' → name ≡ name' → told ≡ told' → new ≡ new'
-    → FetchesMap parties map_of knows (session_call shaken name request) made known old store consumer told new store' consumer'
+    → ((id : ObjectId) → is_in id ≡ has_id boundary id)
+    → FetchesMap parties map_of knows (session_call shaken name request) made known is_in old store consumer told new store' consumer'
     → FetchesInSession parties map_of knows (session_call shaken name' request) made known boundary boundary' old
     consumer told' new' consumer'
-in_session parties map_of knows shaken request made known boundary boundary' old consumer told told' new new' consumer' store store'
-    name name'
-    before after named tells stands f = record {
+in_session parties map_of knows shaken request made known is_in boundary boundary' old consumer told told' new new' consumer' store store'
+    name name' before after named tells stands same f = record {
       store = store;
       store' = store';
       before = before;
       after = after;
-      fetches =
-          subst (λ (x : Reading). FetchesMap parties map_of knows (session_call shaken name' request) made known old store consumer told' x
-          store' consumer') stands (subst (λ (x : Result (Option Outcome) Error). FetchesMap parties map_of knows
-          (session_call shaken name' request) made known old store consumer x new store' consumer') tells
-          (subst (λ (x : FeatureValue). FetchesMap parties map_of knows (session_call shaken x request) made known old store consumer
-          told new
-          store' consumer') named f));
+      fetches = record {
+        first = f.first;
+        last = f.last;
+        negotiates = f.negotiates;
+        knowing = f.knowing;
+        came = f.came;
+        tells = tells_alike is_in (has_id boundary) f.first f.last f.came told told' same tells f.tells;
+        holds =
+            subst (λ (x : Reading). HoldsFetch parties (session_call shaken name' request) f.first old store consumer f.came f.last x
+            store' consumer') stands (subst (λ (x : FeatureValue). HoldsFetch parties (session_call shaken x request) f.first old store
+            consumer f.came f.last new store' consumer') named f.holds);
+      };
     }
-
--- an outcome that may be refused for what its answer takes out of the boundary
-told_unless : (A X : Type 0) (o : Option Outcome) (outcome : Outcome) (taken : Option ObjectId) → Some outcome ≡ o
-    → IsToldCame {A = A} {X = X} (Ok o) (unless_taken outcome taken)
-told_unless A X o outcome None h = h
-told_unless A X o outcome (Some id) h = tt
-
-told_alone : (A X : Type 0) (boundary : BTreeSet ObjectId) (unknown : Option ObjectId)
-    (came : Result (Option Outcome) (FetchError A X)) (told : Result (Option Outcome) Error)
-    → IsToldCame came told → IsToldCame came (known_alone boundary told unknown)
-told_alone A X boundary unknown (Ok o) (Err e) h = h
-told_alone A X boundary unknown (Err x) (Err e) h = h
-told_alone A X boundary unknown (Err x) (Ok t) h = absurd h
-told_alone A X boundary (Some id) (Ok o) (Ok t) h = tt
-told_alone A X boundary None (Ok o) (Ok None) h = h
-told_alone A X boundary None (Ok o) (Ok (Some outcome)) h =
-    told_unless A X o outcome (unknown_unshallow boundary outcome.last_response.shallow_updates) h
-
--- what is told of a fetch, once it is looked at what the server takes out of the boundary
-pub told_checked : (A X : Type 0) (boundary : BTreeSet ObjectId) (unknown : Option ObjectId)
-    (came : Result (Option Outcome) (FetchError A X)) (told result : Result (Option Outcome) Error)
-    → IsToldCame came told → result ≡ known_alone boundary told unknown → IsToldCame came result
-told_checked A X boundary unknown came told result h e =
-    subst (λ (r : Result (Option Outcome) Error). IsToldCame came r) (sym e) (told_alone A X boundary unknown came told h)

@@ -3,8 +3,6 @@ use Rattle.std.proofs.Common.{rules, ◌≡◌, ◌⊎◌, ◌∙◌, refl, sym,
 use Rattle.std.specs.Prelude.{IfOk, ◌&&◌, if◌then◌else◌}
 use Rattle.std.specs.Option.{option_map_or}
 use Rattle.std.specs.List.{list_all}
-use Rattle.std.specs.BTreeSet.{BTreeSet, contains}
-use Rattle.gixp_hash.specs.ObjectId.{id_cmp}
 use Rattle.gixp_hash.specs.declared.object_id.ObjectId.{ObjectId}
 use Rattle.gixp_shallow.specs.declared.update.ShallowUpdate.{ShallowUpdate}
 use Rattle.gixp_shallow.specs.declared.update.ShallowUpdate.TheVariants.{Shallow, Unshallow}
@@ -52,23 +50,23 @@ taken_known true known id rest others h e k = subst (λ (x : Bool). (x && others
 taken_known false known id rest others h e k = search (rules, e)
 
 -- all that updates take out is in the boundary, where its ids are those of the set
-pub all_known : (boundary : BTreeSet ObjectId) (ids : List ObjectId) → ((id : ObjectId) → contains id_cmp boundary id ≡ has_id ids id)
-    → (updates : List ShallowUpdate) → unknown_unshallow boundary updates ≡ None → list_all (is_known ids) updates ≡ true
-all_known boundary ids same [] e = refl
-all_known boundary ids same (Shallow id ∷ updates) e = all_known boundary ids same updates e
-all_known boundary ids same (Unshallow id ∷ updates) e =
-    taken_known (contains id_cmp boundary id) (has_id ids id) id (unknown_unshallow boundary updates) (list_all (is_known ids) updates)
-    (same id) e (all_known boundary ids same updates)
+pub all_known : (is_in : ObjectId → Bool) (ids : List ObjectId) → ((id : ObjectId) → is_in id ≡ has_id ids id)
+    → (updates : List ShallowUpdate) → unknown_unshallow is_in updates ≡ None → list_all (is_known ids) updates ≡ true
+all_known is_in ids same [] e = refl
+all_known is_in ids same (Shallow id ∷ updates) e = all_known is_in ids same updates e
+all_known is_in ids same (Unshallow id ∷ updates) e =
+    taken_known (is_in id) (has_id ids id) id (unknown_unshallow is_in updates) (list_all (is_known ids) updates)
+    (same id) e (all_known is_in ids same updates)
 
-known_all : (boundary : BTreeSet ObjectId) (ids : List ObjectId) → ((id : ObjectId) → contains id_cmp boundary id ≡ has_id ids id)
-    → (o : Option Outcome) → TakesKnown boundary o → KnowsAll ids o
-known_all boundary ids same None h = tt
-known_all boundary ids same (Some outcome) h = all_known boundary ids same outcome.last_response.shallow_updates h
+known_all : (is_in : ObjectId → Bool) (ids : List ObjectId) → ((id : ObjectId) → is_in id ≡ has_id ids id)
+    → (o : Option Outcome) → TakesKnown is_in o → KnowsAll ids o
+known_all is_in ids same None h = tt
+known_all is_in ids same (Some outcome) h = all_known is_in ids same outcome.last_response.shallow_updates h
 
 -- with an outcome, all that its last answer takes out is in the boundary
-pub known_of : (A B C D : Type 0) (came result : Result (Option Outcome) Error) (o : Option Outcome) (boundary : BTreeSet ObjectId)
+pub known_of : (A B C D : Type 0) (came result : Result (Option Outcome) Error) (o : Option Outcome) (is_in : ObjectId → Bool)
     (ids : List ObjectId) → (A × (result ≡ came) × B) ⊎ (C × IsReportIn result × D) → result ≡ Ok o
-    → ((id : ObjectId) → contains id_cmp boundary id ≡ has_id ids id) → IfOk came (TakesKnown boundary) → KnowsAll ids o
-known_of A B C D came result o boundary ids reported e same h =
-    known_all boundary ids same o (subst (λ (r : Result (Option Outcome) Error). IfOk r (TakesKnown boundary))
+    → ((id : ObjectId) → is_in id ≡ has_id ids id) → IfOk came (TakesKnown is_in) → KnowsAll ids o
+known_of A B C D came result o is_in ids reported e same h =
+    known_all is_in ids same o (subst (λ (r : Result (Option Outcome) Error). IfOk r (TakesKnown is_in))
     (came_of A B C D came result o reported e) h)

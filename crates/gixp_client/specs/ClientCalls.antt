@@ -1,10 +1,12 @@
 -- What the calls of a client's session do: one handshake, ref maps over it, and fetches.
-use Rattle.std.specs.Prelude.{◌≡◌, ⊤, ℕ, Bool, List, [], ◌∷◌, map, codes, Option, Some, None, Vec, Result, Ok, Err}
+use Rattle.std.specs.Prelude.{◌≡◌, ℕ, Bool, List, [], ◌∷◌, map, codes, Option, Some, None, Vec, Result, Ok, Err}
+use Rattle.std.specs.BTreeSet.{contains}
 use Rattle.std.specs.declared.alloc.Global.{Global}
 use Rattle.gixp_packetline.specs.Reading.{Reading}
 use Rattle.gixp_wire.specs.Greeting.{Parameter}
 use Rattle.gixp_wire.specs.declared.service.Service.TheVariants.{UploadPack}
 use Rattle.gixp_hash.specs.declared.object_id.ObjectId.{ObjectId}
+use Rattle.gixp_hash.specs.ObjectId.{id_cmp}
 use Rattle.gixp_requests.specs.Feature.{FeatureValue}
 use Rattle.gixp_requests.specs.Command.{git_table, agent_feature}
 use Rattle.gixp_refspec.specs.Spec.{Spec}
@@ -31,13 +33,15 @@ use Rattle.gixp_fetch.specs.declared.error.Error.{Error as FetchError}
 use Rattle.gixp_fetch.specs.Fetch.{World, Parties}
 use Rattle.gixp_fetch.specs.Fetched.{FetchCall, Fetches, call_of, unlocked_world}
 use Rattle.gixp_fetch.specs.Mapped.{Knowledge}
+use Rattle.gixp_client.specs.Boundaries.{has_id}
+use Rattle.gixp_client.specs.Unshallowed.{known_alone}
 use Rattle.gixp_client.specs.ClientError.{IsToldOf, of_request}
 use Rattle.gixp_client.specs.Tables.{asked_table}
 use Rattle.gixp_client.specs.declared.error.Error.{Error}
-use Rattle.gixp_client.specs.declared.error.Error.TheVariants.{UnknownUnshallow}
 use Rattle.gixp_client.specs.declared.request.Request.{Request}
 use Rattle.gixp_client.specs.declared.state.State.{State}
 use Rattle.gixp_client.specs.declared.state.State.TheVariants.{AtStop, Ended, Broken}
+use Rattle.gixp_client.specs.declared.watched.Watched.{Watched}
 
 -- the feature that names a client by this text
 abbrev pub named_feature : List ℕ → FeatureValue
@@ -77,18 +81,21 @@ pub record MapsInSession (request : Request) (agent : FeatureValue) (shaken : Ha
   pub asked : context_value context ≡ asked_specs request
   pub obtains : Obtains (asked_table request.wants_progress) agent context shaken plain old new r
 
--- what is told where a server takes an id out of the boundary that isn't in it
-abbrev pub IsUnknown : Error → Type 0
-IsUnknown (UnknownUnshallow id) = ⊤
-IsUnknown _ = ⊥
-
--- what is told of a fetch: its outcome, unless the server takes what it can't out of the boundary, or its refusal with nothing of the
--- caller's in it
+-- what came of a fetch, with nothing of the caller's in it
 abbrev pub IsToldCame : {A X : Type 0} → Result (Option Outcome) (FetchError A X) → Result (Option Outcome) Error → Type 0
 IsToldCame (Ok o) (Ok t) = t ≡ o
-IsToldCame (Ok o) (Err e) = IsUnknown e
 IsToldCame (Err x) (Err e) = IsToldOf x e
 IsToldCame _ _ = ⊥
+
+-- what is told of a fetch that came to this, by a negotiation that notes what the answers take out of this boundary: the first id that
+-- isn't in it, where the fetch came and there is one, and else what came
+pub record TellsKnown {N A X : Type 0} (is_in : ObjectId → Bool) (first last : Watched N) (came : Result (Option Outcome) (FetchError A X))
+    (told : Result (Option Outcome) Error) : Type 0 where
+  pub watches : (id : ObjectId) → contains id_cmp first.boundary.now id ≡ is_in id
+  pub unnoted : first.unknown ≡ None
+  pub owned : Result (Option Outcome) Error
+  pub owns : IsToldCame came owned
+  pub tells : told ≡ known_alone is_in owned last.unknown
 
 module _ {N I A S C P X : Type 0} (parties : Parties N I A S C P X) where
   -- a fetch
@@ -105,22 +112,25 @@ module _ {N I A S C P X : Type 0} (parties : Parties N I A S C P X) where
     pub carries : CarriesFetch call (unlocked_world negotiate old interrupt store consumer) came
         (unlocked_world negotiate' new interrupt' store' consumer') progress
 
-  -- one of which this is told
+  -- one of which this came, with nothing of the caller's in it
   pub record HoldsAndTells (call : FetchCall) (negotiate : N) (old : Reading) (store : S) (consumer : C)
       (told : Result (Option Outcome) Error) (negotiate' : N) (new : Reading) (store' : S) (consumer' : C) : Type 0 where
     pub came : Result (Option Outcome) (FetchError A X)
     pub tells : IsToldCame came told
     pub holds : HoldsFetch call negotiate old store consumer came negotiate' new store' consumer'
 
-  module _ (map_of : N → RefMap) (knows : N → Knowledge) where
-    -- one whose negotiation is over this map, and knows this beside it
-    pub record FetchesMap (call : FetchCall) (made : RefMap) (known : Knowledge) (old : Reading) (store : S) (consumer : C)
-        (told : Result (Option Outcome) Error) (new : Reading) (store' : S) (consumer' : C) : Type 0 where
-      pub first : N
-      pub last : N
-      pub negotiates : map_of first ≡ made
-      pub knowing : knows first ≡ known
-      pub holds : HoldsAndTells call first old store consumer told last new store' consumer'
+module _ {N I S A C P X : Type 0} (parties : Parties (Watched N) I A S C P X) (map_of : Watched N → RefMap)
+    (knows : Watched N → Knowledge) where
+  -- one whose negotiation is over this map, knows this beside it, and notes what is taken out of this boundary
+  pub record FetchesMap (call : FetchCall) (made : RefMap) (known : Knowledge) (is_in : ObjectId → Bool) (old : Reading) (store : S)
+      (consumer : C) (told : Result (Option Outcome) Error) (new : Reading) (store' : S) (consumer' : C) : Type 0 where
+    pub first : Watched N
+    pub last : Watched N
+    pub negotiates : map_of first ≡ made
+    pub knowing : knows first ≡ known
+    pub came : Result (Option Outcome) (FetchError A X)
+    pub tells : TellsKnown is_in first last came told
+    pub holds : HoldsFetch parties call first old store consumer came last new store' consumer'
 
 -- what a fetch of a session is handed in
 abbrev pub session_call : Handshake → FeatureValue → Request → FetchCall
@@ -132,7 +142,8 @@ abbrev pub session_knowledge : Request → Objects → LocalRefs → Knowledge
 session_knowledge request objects refs =
     record { tags = request.tags; shallow = request.shallow; commits = objects; existing = objects; refs = refs }
 
-module _ {N I A C P X : Type 0} (parties : Parties N I A ShallowMemory C P X) (map_of : N → RefMap) (knows : N → Knowledge) where
+module _ {N I A C P X : Type 0} (parties : Parties (Watched N) I A ShallowMemory C P X) (map_of : Watched N → RefMap)
+    (knows : Watched N → Knowledge) where
   -- a fetch of a session, from this boundary to that one
   pub record FetchesInSession (call : FetchCall) (made : RefMap) (known : Knowledge) (boundary boundary' : List ObjectId) (old : Reading)
       (consumer : C) (told : Result (Option Outcome) Error) (new : Reading) (consumer' : C) : Type 0 where
@@ -140,7 +151,7 @@ module _ {N I A C P X : Type 0} (parties : Parties N I A ShallowMemory C P X) (m
     pub store' : ShallowMemory
     pub before : store.ids.items ≡ boundary
     pub after : store'.ids.items ≡ boundary'
-    pub fetches : FetchesMap parties map_of knows call made known old store consumer told new store' consumer'
+    pub fetches : FetchesMap parties map_of knows call made known (has_id boundary) old store consumer told new store' consumer'
 
 -- the end, as it is told
 abbrev pub IsToldEnd : Result (Unit {0}) ClientError → Result (Unit {0}) Error → Type 0

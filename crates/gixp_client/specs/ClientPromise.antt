@@ -14,11 +14,14 @@ use Rattle.gixp_fetch.specs.Fetch.{Parties}
 use Rattle.gixp_fetch.specs.Fetched.{unlocked_world}
 use Rattle.gixp_fetch.specs.Mapped.{Knowledge}
 use Rattle.gixp_fetch.specs.Headline.{Run, Promise}
-use Rattle.gixp_client.specs.ClientCalls.{asked_specs, session_call, IsToldCame}
+use Rattle.gixp_client.specs.Boundaries.{has_id}
+use Rattle.gixp_client.specs.ClientCalls.{asked_specs, session_call, TellsKnown}
 use Rattle.gixp_client.specs.declared.error.Error.{Error}
 use Rattle.gixp_client.specs.declared.request.Request.{Request}
+use Rattle.gixp_client.specs.declared.watched.Watched.{Watched}
 
-module _ {N I A C P X : Type 0} (parties : Parties N I A ShallowMemory C P X) (map_of : N → RefMap) (knows : N → Knowledge) where
+module _ {N I A C P X : Type 0} (parties : Parties (Watched N) I A ShallowMemory C P X) (map_of : Watched N → RefMap)
+    (knows : Watched N → Knowledge) where
   -- a session from where its transport was first, up to the fetch of which this is told: one run of the law, and what is true of it
   pub record IsOneRun (agent : FeatureValue) (request : Request) (start : Reading) (made : RefMap) (known : Knowledge)
       (boundary : List ObjectId) (consumer : C) (told : Result (Option Outcome) Error) (new : Reading) (consumer' : C) : Type 0 where
@@ -26,8 +29,8 @@ module _ {N I A C P X : Type 0} (parties : Parties N I A ShallowMemory C P X) (m
     pub asked : context_value context ≡ asked_specs request
     pub shaken : Handshake
     pub middle : Reading
-    pub first : N
-    pub last : N
+    pub first : Watched N
+    pub last : Watched N
     pub knowing : knows first ≡ known
     pub interrupt : I
     pub interrupt' : I
@@ -36,7 +39,7 @@ module _ {N I A C P X : Type 0} (parties : Parties N I A ShallowMemory C P X) (m
     pub before : store.ids.items ≡ boundary
     pub progress : P
     pub came : Result (Option Outcome) (FetchError A X)
-    pub tells : IsToldCame came told
+    pub tells : TellsKnown (has_id boundary) first last came told
     pub run : Run parties map_of knows (session_call shaken agent request) context start made
         (unlocked_world first middle interrupt store consumer) came (unlocked_world last new interrupt' store' consumer') progress
     pub promise : Promise parties map_of knows (session_call shaken agent request) context start made

@@ -2,9 +2,7 @@
 use Rattle.std.specs.Prelude.{◌≡◌, ⊤, Bool, true, List, [], ◌∷◌, Option, Some, None, Result, Ok, Err, if◌then◌else◌}
 use Rattle.std.specs.List.{list_all}
 use Rattle.std.specs.Option.{option_map_or}
-use Rattle.std.specs.BTreeSet.{BTreeSet, contains}
 use Rattle.gixp_hash.specs.declared.object_id.ObjectId.{ObjectId}
-use Rattle.gixp_hash.specs.ObjectId.{id_cmp}
 use Rattle.gixp_shallow.specs.declared.update.ShallowUpdate.{ShallowUpdate}
 use Rattle.gixp_shallow.specs.declared.update.ShallowUpdate.TheVariants.{Shallow, Unshallow}
 use Rattle.gixp_response.specs.Answer.{AnswerValue}
@@ -14,20 +12,20 @@ use Rattle.gixp_client.specs.declared.error.Error.{Error}
 use Rattle.gixp_client.specs.declared.error.Error.TheVariants.{UnknownUnshallow}
 
 -- the id that an update takes out of the boundary, where it isn't in it
-abbrev pub unknown_id : BTreeSet ObjectId → ShallowUpdate → Option ObjectId
-unknown_id boundary (Shallow id) = None
-unknown_id boundary (Unshallow id) = if contains id_cmp boundary id then None else Some id
+abbrev pub unknown_id : (ObjectId → Bool) → ShallowUpdate → Option ObjectId
+unknown_id is_in (Shallow id) = None
+unknown_id is_in (Unshallow id) = if is_in id then None else Some id
 
 -- the first of these
-abbrev pub unknown_unshallow : BTreeSet ObjectId → List ShallowUpdate → Option ObjectId
-unknown_unshallow boundary [] = None
-unknown_unshallow boundary (update ∷ updates) = option_map_or Some (unknown_id boundary update) (unknown_unshallow boundary updates)
+abbrev pub unknown_unshallow : (ObjectId → Bool) → List ShallowUpdate → Option ObjectId
+unknown_unshallow is_in [] = None
+unknown_unshallow is_in (update ∷ updates) = option_map_or Some (unknown_id is_in update) (unknown_unshallow is_in updates)
 
 -- what was noted first, or else what an answer says
-abbrev pub noted : BTreeSet ObjectId → Option ObjectId → Option AnswerValue → Option ObjectId
-noted boundary (Some id) answer = Some id
-noted boundary None (Some answer) = unknown_unshallow boundary answer.shallow_updates
-noted boundary None None = None
+abbrev pub noted : (ObjectId → Bool) → Option ObjectId → Option AnswerValue → Option ObjectId
+noted is_in (Some id) answer = Some id
+noted is_in None (Some answer) = unknown_unshallow is_in answer.shallow_updates
+noted is_in None None = None
 
 -- an outcome, unless its answer takes this out
 abbrev pub unless_taken : Outcome → Option ObjectId → Result (Option Outcome) Error
@@ -35,17 +33,17 @@ unless_taken outcome None = Ok (Some outcome)
 unless_taken outcome (Some id) = Err (UnknownUnshallow id)
 
 -- what came of a fetch, unless an answer before the last took this out, or the last takes out another
-abbrev pub known_alone : BTreeSet ObjectId → Result (Option Outcome) Error → Option ObjectId → Result (Option Outcome) Error
-known_alone boundary (Err e) unknown = Err e
-known_alone boundary (Ok outcome) (Some id) = Err (UnknownUnshallow id)
-known_alone boundary (Ok None) None = Ok None
-known_alone boundary (Ok (Some outcome)) None =
-    unless_taken outcome (unknown_unshallow boundary outcome.last_response.shallow_updates)
+abbrev pub known_alone : (ObjectId → Bool) → Result (Option Outcome) Error → Option ObjectId → Result (Option Outcome) Error
+known_alone is_in (Err e) unknown = Err e
+known_alone is_in (Ok outcome) (Some id) = Err (UnknownUnshallow id)
+known_alone is_in (Ok None) None = Ok None
+known_alone is_in (Ok (Some outcome)) None =
+    unless_taken outcome (unknown_unshallow is_in outcome.last_response.shallow_updates)
 
 -- the last answer takes nothing out that isn't in the boundary
-abbrev pub TakesKnown : BTreeSet ObjectId → Option Outcome → Type 0
-TakesKnown boundary None = ⊤
-TakesKnown boundary (Some outcome) = unknown_unshallow boundary outcome.last_response.shallow_updates ≡ None
+abbrev pub TakesKnown : (ObjectId → Bool) → Option Outcome → Type 0
+TakesKnown is_in None = ⊤
+TakesKnown is_in (Some outcome) = unknown_unshallow is_in outcome.last_response.shallow_updates ≡ None
 
 -- the same by the ids of the boundary: what an update takes out is in it
 abbrev pub is_known : List ObjectId → ShallowUpdate → Bool

@@ -1,5 +1,7 @@
 //! The fetches of a session.
 ghost use Rattle.std.specs.Prelude.{◌≡◌, ◌≢◌, ◌⊎◌, true, false, [], List, None, Ok, Err, IfOk, IfErr, Option, Result, string_bytes};
+ghost use Rattle.std.specs.BTreeSet.{contains};
+ghost use Rattle.gixp_hash.specs.ObjectId.{id_cmp};
 ghost use Rattle.gixp_hash.specs.declared.object_id.ObjectId.{ObjectId as Id};
 ghost use Rattle.gixp_fetch.specs.declared.options.Outcome.{Outcome};
 ghost use Rattle.gixp_fetch.specs.Fetch.{parties_of};
@@ -62,9 +64,10 @@ where
             ⟦<SessionNegotiation<'a, F, R, N> as NegotiatesMap>⟧.map_of ⟦<SessionNegotiation<'a, F, R, N> as NegotiatesMap>⟧.knows
             (session_call self.old.shaken (named_feature (string_bytes agent)) wanted.entry.request.now) wanted.entry.map.now
             (session_knowledge wanted.entry.request.now (F.contents wanted.entry.objects.now) (R.refs wanted.entry.refs.now))
+            (contains id_cmp wanted.entry.boundary.now)
             (T.reading self.old.transport.inner) store.old pack.old result (T.reading self.new.transport.inner) store.new pack.new }
         ensures state { self.new.state ≡ behind_fetch self.old.shaken.server_protocol_version result }
-        ensures known { IfOk result (TakesKnown wanted.entry.boundary.now) }
+        ensures known { IfOk result (TakesKnown (contains id_cmp wanted.entry.boundary.now)) }
     {
         let version = self.shaken.server_protocol_version;
         let alloc = self.alloc;

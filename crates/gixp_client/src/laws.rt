@@ -18,6 +18,7 @@ ghost use Rattle.gixp_client.specs.ClientPromise.{IsOneRun};
 ghost use Rattle.gixp_client.specs.declared.error.Error.{Error};
 ghost use Rattle.gixp_client.specs.declared.request.Request.{Request};
 
+use crate::watched::Watched;
 use gixp_fetch::consume::ConsumePack;
 use gixp_fetch::laws::headline;
 use gixp_fetch::mapped::NegotiatesMap;
@@ -29,19 +30,22 @@ use gixp_sidebands::Interrupt;
 /// A session that was opened, a ref map of it, and a fetch of what is mapped are one run of the law
 /// [`headline`](gixp_fetch::laws::headline), with all that it promises: the clauses `refs`, `mappings`, `requests`, `few`, `pack`.
 /// Of the handshake nothing but its refs may have changed in between.
-pub fn sessions_are_runs<N: PaysForHaves + NegotiatesMap, I: Interrupt, P, C: ConsumePack<P>>()
+pub fn sessions_are_runs<'a, N: PaysForHaves + NegotiatesMap, I: Interrupt, P, C: ConsumePack<P>>()
     ensures { (plain : Bool) (parameters : List Parameter) (agent : FeatureValue) (request : Request) (start shaken middle : Reading)
         (handshake kept : Handshake) (made : RefMap) (known : Knowledge) (boundary after : List ObjectId) (consumer : C)
         (told : Result (Option Outcome) Error) (new : Reading) (consumer' : C)
         → OpensSession parameters plain start shaken handshake
         → MapsInSession request agent handshake plain shaken middle (Ok made)
         → kept ≡ record handshake { refs = kept.refs }
-        → FetchesInSession (parties_of N.calls ⟦<ShallowMemory as ShallowStore>⟧.calls I.says C.consumes plain) N.map_of N.knows
-        (session_call kept agent request) made known boundary after middle consumer told new consumer'
-        → IsOneRun (parties_of N.calls ⟦<ShallowMemory as ShallowStore>⟧.calls I.says C.consumes plain) N.map_of N.knows
-        agent request start made known boundary consumer told new consumer' }
+        → FetchesInSession
+        (parties_of ⟦<Watched<'a, N> as Negotiate>⟧.calls ⟦<ShallowMemory as ShallowStore>⟧.calls I.says C.consumes plain)
+        ⟦<Watched<'a, N> as NegotiatesMap>⟧.map_of ⟦<Watched<'a, N> as NegotiatesMap>⟧.knows (session_call kept agent request)
+        made known boundary after middle consumer told new consumer'
+        → IsOneRun (parties_of ⟦<Watched<'a, N> as Negotiate>⟧.calls ⟦<ShallowMemory as ShallowStore>⟧.calls I.says C.consumes plain)
+        ⟦<Watched<'a, N> as NegotiatesMap>⟧.map_of ⟦<Watched<'a, N> as NegotiatesMap>⟧.knows agent request start made known boundary
+        consumer told new consumer' }
 {
-    headline::<N, ShallowMemory, I, P, C>();
+    headline::<Watched<'a, N>, ShallowMemory, I, P, C>();
 }
 
 /// A ref map of a session is made of the refs that are here, where they are, and nothing is sent for it; else the server lists the

@@ -38,7 +38,7 @@ pub use over::Filtered;
 pub use pipes::over_streams;
 pub use repository::Repository;
 pub use request::Request;
-pub use run::SessionNegotiation;
+pub use run::{FilteredNegotiation, SessionNegotiation};
 pub use session::Session;
 pub use state::State;
 pub use watched::Watched;

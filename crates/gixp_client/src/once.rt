@@ -11,7 +11,7 @@ use crate::laws::sessions_are_runs;
 use crate::listen::Listener;
 use crate::repository::Repository;
 use crate::request::Request;
-use crate::run::SessionNegotiation;
+use crate::run::{FilteredNegotiation, SessionNegotiation};
 use crate::session::Session;
 use gixp_fetch::consume::ConsumePack;
 use gixp_fetch::mapped::NegotiatesMap;
@@ -62,7 +62,7 @@ where
     let mut session = Session::open(alloc, transport, agent, listener)?;
     let map = session.map(request)?;
     let fetched = session.fetch(&map, repository, request, pack)?;
-    sessions_are_runs::<SessionNegotiation<'a, F, R, AnyNegotiator>, NeverInterrupt, Discard, C>();
+    sessions_are_runs::<FilteredNegotiation<'a, F, R, AnyNegotiator>, NeverInterrupt, Discard, C>();
     let _ = session.close();
     Ok((map, fetched))
 }

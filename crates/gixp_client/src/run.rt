@@ -1,5 +1,7 @@
 //! One fetch of a session.
 ghost use Rattle.std.specs.Prelude.{◌≡◌, ◌≢◌, ◌≤◌, true, false, None, IfOk, string_bytes};
+ghost use Rattle.std.specs.BTreeSet.{contains};
+ghost use Rattle.gixp_hash.specs.ObjectId.{id_cmp};
 ghost use Rattle.gixp_packetline.specs.declared.protocol.Protocol.TheVariants.{V2};
 ghost use Rattle.gixp_requests.specs.Feature.{feature_value};
 ghost use Rattle.gixp_fetch.specs.Fetch.{parties_of};
@@ -32,11 +34,14 @@ use gixp_wire::Transport;
 use std::alloc::Global;
 use std::collections::BTreeSet;
 
-/// The negotiation of a session's fetch.
-pub type SessionNegotiation<'a, F, R, N> = Watched<
+/// The negotiation of a session's fetch, but for what looks at the boundary.
+pub type FilteredNegotiation<'a, F, R, N> = Filtered<
     'a,
-    Filtered<'a, Windowed<Negotiation<'a, Shared<'a, F>, R, N, Shared<'a, F>, NoAlternates>>>,
+    Windowed<Negotiation<'a, Shared<'a, F>, R, N, Shared<'a, F>, NoAlternates>>,
 >;
+
+/// The negotiation of a session's fetch.
+pub type SessionNegotiation<'a, F, R, N> = Watched<'a, FilteredNegotiation<'a, F, R, N>>;
 
 /// How many haves a request may have.
 pub(crate) fn most_haves(version: Protocol, is_over_pipes: bool) -> usize
@@ -165,8 +170,9 @@ where
           existing = F.contents wanted.entry.objects.now;
           refs = R.refs wanted.entry.refs.now;
         })
+        (contains id_cmp wanted.entry.boundary.now)
         (T.reading peer.entry.transport.now) store.old pack.old result (T.reading peer.exit.1.0.now) store.new pack.new }
-    ensures known { IfOk result (TakesKnown wanted.entry.boundary.now) }
+    ensures known { IfOk result (TakesKnown (contains id_cmp wanted.entry.boundary.now)) }
 {
     let Wanted {
         map,

@@ -1,6 +1,8 @@
 //! A negotiation that looks at what the server says of the shallow boundary.
 ghost use Rattle.std.specs.Prelude.{◌≡◌, None, IfOk};
 ghost use Rattle.std.specs.Option.{option_copied};
+ghost use Rattle.std.specs.BTreeSet.{contains};
+ghost use Rattle.gixp_hash.specs.ObjectId.{id_cmp};
 ghost use Rattle.gixp_client.specs.Unshallowed.{unknown_id, unknown_unshallow, noted, known_alone, TakesKnown};
 
 use crate::error::Error;
@@ -27,7 +29,7 @@ pub struct Watched<'a, N> {
 
 // The id that an update takes out of the boundary, where it isn't in it.
 fn unknown_id(update: &ShallowUpdate, boundary: &BTreeSet<ObjectId>) -> Option<ObjectId>
-    ensures { result ≡ unknown_id boundary.now update.now }
+    ensures { result ≡ unknown_id (contains id_cmp boundary.now) update.now }
 {
     match update {
         ShallowUpdate::Shallow(_) => None,
@@ -43,7 +45,7 @@ fn unknown_id(update: &ShallowUpdate, boundary: &BTreeSet<ObjectId>) -> Option<O
 
 // The first id that updates take out of the boundary though it isn't in it.
 fn unknown_unshallow(updates: &[ShallowUpdate], boundary: &BTreeSet<ObjectId>) -> Option<ObjectId>
-    ensures { result ≡ unknown_unshallow boundary.now updates.now }
+    ensures { result ≡ unknown_unshallow (contains id_cmp boundary.now) updates.now }
 {
     for update in updates {
         if let Some(id) = unknown_id(update, boundary) {
@@ -78,7 +80,8 @@ impl<'a, N> Watched<'a, N> {
     fn look(&mut self, answer: Option<&Response>)
         ensures negotiation { self.new.negotiation ≡ self.old.negotiation }
         ensures boundary { self.new.boundary ≡ self.old.boundary }
-        ensures unknown { self.new.unknown ≡ noted self.old.boundary.now self.old.unknown (option_copied answer.entry) }
+        ensures unknown { self.new.unknown
+            ≡ noted (contains id_cmp self.old.boundary.now) self.old.unknown (option_copied answer.entry) }
     {
         if self.unknown.is_some() {
             return;
@@ -94,10 +97,11 @@ impl<N: Negotiate> Negotiate for Watched<'_, N> {
 
     ghost calls = { record {
       count = λ w. N.calls.count w.negotiation;
-      marks = λ w action v. N.calls.marks w.negotiation action v.negotiation;
-      adds = λ w known a any b v. N.calls.adds w.negotiation known a any b v.negotiation;
+      marks = λ w action v. N.calls.marks w.negotiation action v.negotiation × (v.boundary ≡ w.boundary) × (v.unknown ≡ w.unknown);
+      adds = λ w known a any b v. N.calls.adds w.negotiation known a any b v.negotiation
+          × (v.boundary ≡ w.boundary) × (v.unknown ≡ w.unknown);
       goes = λ w s a p r last v t b. N.calls.goes w.negotiation s a p r last v.negotiation t b
-          × (v.boundary ≡ w.boundary) × (v.unknown ≡ noted w.boundary.now w.unknown p);
+          × (v.boundary ≡ w.boundary) × (v.unknown ≡ noted (contains id_cmp w.boundary.now) w.unknown p);
       marking_fails = λ w e v. N.calls.marking_fails w.negotiation e v.negotiation;
       adding_fails = λ w known a e b v. N.calls.adding_fails w.negotiation known a e b v.negotiation;
       round_fails = λ w s a p e v t b. N.calls.round_fails w.negotiation s a p e v.negotiation t b;
@@ -150,9 +154,9 @@ impl<N: NegotiatesMap> NegotiatesMap for Watched<'_, N> {
     ghost knows = { λ w. N.knows w.negotiation };
 
     ghost follows = { record {
-      decides = λ w action v h. N.follows.decides w.negotiation action v.negotiation h;
+      decides = λ w action v h. N.follows.decides w.negotiation action v.negotiation h.0;
       asks = λ w action v known a is_any b l h o.
-          N.follows.asks w.negotiation action v.negotiation known a is_any b l.negotiation h o;
+          N.follows.asks w.negotiation action v.negotiation known a is_any b l.negotiation h.0 o.0;
     } };
 }
 
@@ -163,8 +167,8 @@ pub(crate) fn known_alone(
     unknown: Option<ObjectId>,
     boundary: &BTreeSet<ObjectId>,
 ) -> Result<Option<Outcome>, Error>
-    ensures checked { result ≡ known_alone boundary.now came unknown }
-    ensures known { IfOk result (TakesKnown boundary.now) }
+    ensures checked { result ≡ known_alone (contains id_cmp boundary.now) came unknown }
+    ensures known { IfOk result (TakesKnown (contains id_cmp boundary.now)) }
 {
     let outcome = match came {
         Ok(outcome) => outcome,

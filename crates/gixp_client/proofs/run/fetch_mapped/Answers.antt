@@ -1,6 +1,9 @@
 -- The negotiation of a session's fetch is over its map, and what is told of it is looked at once more.
 use Rattle.std.proofs.Common.{ap, ◌∙◌}
-use Rattle.gixp_client.proofs.RunLemmas.{same_knowledge, told_checked}
+use Rattle.std.specs.BTreeSet.{contains}
+use Rattle.gixp_client.specs.Unshallowed.{known_alone}
+use Rattle.gixp_hash.specs.ObjectId.{id_cmp}
+use Rattle.gixp_client.proofs.RunLemmas.{same_knowledge}
 use Rattle.gixp_client.proofs.run.fetch_mapped.Goals as goal
 
 pub returns-clause-fetched : goal.returns-clause-fetched
@@ -18,9 +21,13 @@ returns-clause-fetched g c =
           (ap (λ m. g.F.Find.contents m.context.objects.now.objects.now) e ∙ ap (λ x. g.F.Find.contents x.objects.now.objects.now) n.context
           ∙ ap g.F.Find.contents c.new-shared.ensures.objects)
           (ap (λ m. g.R.RefStore.refs m.context.refs.now) e ∙ ap (λ x. g.R.RefStore.refs x.refs.now) n.context);
-      holds = record {
-        came = f.came;
-        tells = told_checked _ _ _ _ f.came _ _ f.tells c.known_alone.ensures.checked;
-        holds = f.holds;
+      came = f.came;
+      tells = record {
+        watches = λ id. ap (λ b. contains id_cmp b id) c.new-watched.ensures.boundary;
+        unnoted = c.new-watched.ensures.unknown;
+        owned = c.fetch_over-came.result;
+        owns = f.tells;
+        tells = c.known_alone.ensures.checked ∙ ap (known_alone _ _) c.unknown.ensures;
       };
+      holds = f.holds;
     }

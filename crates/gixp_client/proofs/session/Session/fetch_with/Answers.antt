@@ -7,10 +7,11 @@ use Rattle.gixp_client.proofs.session.Session.fetch_with.Goals as goal
 pub returns-in-Ok-clause-fetched : goal.returns-in-Ok-clause-fetched
 returns-in-Ok-clause-fetched g c = inr (
   c.ids-after.result.now,
-  in_session _ _ _ c.args.self.now.shaken c.args.request.now _ _ _ _ _ _ _ _ _ _ _ _ _ _ _
+  in_session _ _ _ c.args.self.now.shaken c.args.request.now _ _ _ _ _ _ _ _ _ _ _ _ _ _ _ _
       c.in_ok-store.ensures (sym c.ids-after.ensures) c.in_ok-agent.ensures
       (came_of _ _ _ _ _ _ _ c.unless_reported-came.ensures.reported c.in-Ok.ensures.outcome)
       (ap g.T.ExtendedBufRead.reading (sym (c.unless_reported-came.ensures.transport ∙ c.take_kept-messages.ensures)))
+      c.in_ok-known.ensures
       c.carry_out-came.ensures.fetched,
   c.in-Ok.ensures.boundary,
 )
@@ -28,9 +29,10 @@ pub returns-clause-refused : goal.returns-clause-refused
 returns-clause-refused g c = inr (
   c.carry_out-came.result,
   c.ids-after.result.now,
-  in_session _ _ _ c.args.self.now.shaken c.args.request.now _ _ _ _ _ _ _ _ _ _ _ _ _ _ _
+  in_session _ _ _ c.args.self.now.shaken c.args.request.now _ _ _ _ _ _ _ _ _ _ _ _ _ _ _ _
       c.in_ok-store.ensures (sym c.ids-after.ensures) c.in_ok-agent.ensures refl
       (ap g.T.ExtendedBufRead.reading (sym (c.unless_reported-came.ensures.transport ∙ c.take_kept-messages.ensures)))
+      c.in_ok-known.ensures
       c.carry_out-came.ensures.fetched,
   refused_of _ _ _ _ _ _ _ _ c.unless_reported-came.ensures.reported c.in-Err.ensures.refused c.carry_out-came.ensures.state,
 )
