@@ -1,0 +1,4 @@
+mod WebLemmas
+mod ListLemmas
+mod BoundaryLemmas
+mod ShownLemmas

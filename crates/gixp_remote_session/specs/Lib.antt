@@ -6,3 +6,7 @@ pub mod Noted
 pub mod History
 pub mod UserChoices
 pub mod Packs
+pub mod WebServer
+pub mod ShownRefs
+pub mod Boundaries
+pub mod Leaving

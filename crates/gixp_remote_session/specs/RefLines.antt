@@ -1,9 +1,15 @@
 -- What git is told of the refs of a server, a line for each (gitremote-helpers, "list").
-use Rattle.std.specs.Prelude.{ℕ, ◌==◌, ◌&&◌, not, nat_lt, Bool, true, false, List, ◌∷◌, [], ◌++◌, length, codes, Option, Some, None}
-use Rattle.std.specs.List.{list_all}
+use Rattle.std.specs.Prelude.{ℕ, ◌==◌, ◌&&◌, not, nat_lt, Bool, true, false, List, ◌∷◌, [], ◌++◌, length, flat_map, codes, if◌then◌else◌, Option, Some, None}
+use Rattle.std.specs.List.{list_all, list_any}
 use Rattle.std.specs.Option.{option_map}
+use Rattle.std.specs.Str.{bytes_eq}
+use Rattle.std.specs.Borrow.{Bor}
+use Rattle.std.specs.BTreeSet.{BTreeSet, contains_by}
+use Rattle.std.specs.Ordering.{nat_cmp}
+use Rattle.std.specs.Cmp.Lexicographic.{slice_cmp}
 use Rattle.bstr.specs.Owned.{bstring_bytes}
 use Rattle.gix_protocol.specs.Hex.{encode_lower}
+use Rattle.gix_protocol.specs.Ref.{unpacked_name}
 use Rattle.gix_protocol.specs.RefType.{Ref}
 use Rattle.gix_protocol.specs.RefType.TheVariants.{Direct, Peeled, Symbolic, Unborn}
 
@@ -36,3 +42,37 @@ ref_lines true (Symbolic name target tag object) = symbolic_line (bstring_bytes 
 ref_lines false (Symbolic name target tag object) =
     object_lines (bstring_bytes name) (option_map (λ t. t.bytes) tag) object.bytes
 ref_lines by_target (Unborn name target) = []
+
+-- a set has this text
+abbrev pub has_text : BTreeSet (Bor (List ℕ)) → List ℕ → Bool
+has_text names text = contains_by (λ key. slice_cmp nat_cmp text key.now) names
+
+-- a ref of this name holds an object itself
+abbrev pub holds : List ℕ → Ref → Bool
+holds text (Direct name object) = bytes_eq text (bstring_bytes name)
+holds text (Peeled name tag object) = bytes_eq text (bstring_bytes name)
+holds text _ = false
+
+-- the target of a symbolic ref is one of these names
+abbrev pub is_by_target : (List ℕ → Bool) → Ref → Bool
+is_by_target held (Symbolic name target tag object) = held (bstring_bytes target)
+is_by_target held _ = false
+
+-- the lines of a ref whose name fits them, by the names that hold an object themselves
+abbrev pub fitting_lines : (List ℕ → Bool) → Ref → List ℕ
+fitting_lines held r = if is_plain (unpacked_name r) then ref_lines (is_by_target held r) r else []
+
+-- the name of a ref, where it doesn't
+abbrev pub funny_name : Ref → List (List ℕ)
+funny_name r = if is_plain (unpacked_name r) then [] else unpacked_name r ∷ []
+
+abbrev pub is_held : List Ref → List ℕ → Bool
+is_held refs text = list_any (holds text) refs
+
+-- the hash function, where git asks for it (gitremote-helpers, "option object-format")
+abbrev pub format_line : Bool → List ℕ
+format_line is_asked = if is_asked then codes ":object-format sha1\n" else []
+
+-- all lines of some refs, and the empty one that ends them
+abbrev pub list_text : Bool → List Ref → List ℕ
+list_text is_asked refs = format_line is_asked ++ (flat_map (fitting_lines (is_held refs)) refs ++ codes "\n")

@@ -1,4 +1,8 @@
 //! What becomes of the shallow boundary, under git's own lock (gitrepository-layout, "shallow").
+ghost use Rattle.std.specs.Prelude.{◌≡◌, ◌++◌, option_map, IfOk};
+ghost use Rattle.gixp_remote_rules.specs.Taken.{boundary_value};
+ghost use Rattle.gixp_remote_session.specs.Boundaries.{boundary_then, ChangesTo};
+
 use crate::checks::here;
 use crate::local::Places;
 use crate::order::Order;
@@ -9,7 +13,7 @@ use bstr::BString;
 use gix_protocol::fetch::shallow_text;
 use gix_protocol::transport::ObjectId;
 use gixp_remote_rules::{Boundary, Request, Taking, added, boundary_after, taking_of};
-use std::alloc::Global;
+use std::alloc::{AllocError, Global};
 use std::collections::BTreeSet;
 use std::fs;
 
@@ -81,20 +85,49 @@ fn write_boundary(
     }
 }
 
+// These ids, where they aren't the old boundary.
+fn replaced(
+    alloc: Global,
+    ids: &[ObjectId],
+    old: &[ObjectId],
+) -> Result<Option<Vec<ObjectId>>, AllocError>
+    ensures { IfOk result (λ new. ChangesTo old.now ids.now (option_map (λ v. v.items) new)) }
+{
+    if ids == old {
+        Ok(None)
+    } else {
+        Ok(Some(Vec::from_slice(alloc, ids)?))
+    }
+}
+
+// The old boundary and more ids, where there are any.
+fn grown(
+    alloc: Global,
+    old: &[ObjectId],
+    more: &[ObjectId],
+) -> Result<Option<Vec<ObjectId>>, AllocError>
+    ensures { IfOk result (λ new. ChangesTo old.now (old.now ++ more.now) (option_map (λ v. v.items) new)) }
+{
+    if more.is_empty() {
+        return Ok(None);
+    }
+    let mut ids = Vec::from_slice(alloc, old)?;
+    ids.extend_from_slice(more)?;
+    Ok(Some(ids))
+}
+
 // The new boundary, where it isn't the old one.
 fn changed(
     alloc: Global,
     boundary: &Boundary,
     old: &[ObjectId],
-) -> Result<Option<Vec<ObjectId>>, Trouble> {
+) -> Result<Option<Vec<ObjectId>>, AllocError>
+    ensures { IfOk result (λ new. ChangesTo old.now (boundary_then old.now (boundary_value boundary.now)) (option_map (λ v. v.items) new)) }
+{
     match boundary {
-        Boundary::Becomes(ids) if ids.as_slice() != old => Ok(Some(Vec::from_slice(alloc, ids)?)),
-        Boundary::Grows(more) if !more.is_empty() => {
-            let mut ids = Vec::from_slice(alloc, old)?;
-            ids.extend_from_slice(more)?;
-            Ok(Some(ids))
-        }
-        _ => Ok(None),
+        Boundary::Becomes(ids) => replaced(alloc, ids, old),
+        Boundary::Grows(more) => grown(alloc, old, more),
+        Boundary::Stays | Boundary::Refused(_) => Ok(None),
     }
 }
 

@@ -1,10 +1,13 @@
 //! The words that reach a server, and the session with it.
-ghost use Rattle.std.specs.Prelude.{◌≡◌, ◌↔◌, IfOk, IsOk, IsSome, Some};
+ghost use Rattle.std.specs.Prelude.{◌≡◌, ◌≢◌, ◌↔◌, IfOk, IsOk, IsSome, Ok, Some};
 ghost use Rattle.std.specs.Option.{option_map};
 ghost use Rattle.bstr.specs.Owned.{bstring_bytes};
+ghost use Rattle.gixp_remote_rules.specs.declared.ssh.Variant.TheVariants.{Auto};
+ghost use Rattle.gixp_remote_session.specs.UserChoices.{IsProbed};
 
 use crate::bounded::{Bounded, Bounds, forget};
-use crate::setup::{variable, version_word};
+use crate::chosen::{check_allowed, opening_by, probed, ssh_by, variant_by};
+use crate::setup::{bytes_of, variable, version_word};
 use crate::shell::{NOTHING, Shell, owned};
 use crate::trouble::Trouble;
 use crate::web::connect_stateless;
@@ -13,11 +16,12 @@ use bstr::BString;
 use gix_protocol::transport::{Connection, Discard, Opening, Protocol};
 use gixp_fetch_session::session::open;
 use gixp_remote_rules::{
-    Program, Request, Settings, Start, Task, Variant, first_word, here_words, is_allowed,
-    is_from_user, probe_words, proxy_for, server_variables, server_words, variant_of, web_words,
+    Program, Request, Settings, Start, Task, Variant, here_words, probe_words, proxy_for,
+    server_variables, server_words, web_words,
 };
 use gixp_stateless::Answers;
 use gixp_url::{Address, Transport};
+use std::alloc::AllocError;
 use std::cell::{Cell, RefCell};
 use std::fs::{File, OpenOptions};
 use std::io::{BufReader, BufWriter};
@@ -41,38 +45,28 @@ pub(crate) struct Reach<'a> {
 
 // Refuses a transport that the user doesn't allow.
 fn check_policy(reach: Reach<'_>) -> Result<(), Trouble> {
-    let alloc = reach.rt.alloc();
-    let name = reach.address.transport.name().as_bytes();
+    let transport = reach.address.transport.name().as_bytes();
     let list = variable(reach.rt, "GIT_ALLOW_PROTOCOL");
-    let list = match &list {
-        Some(list) => Some(list.as_bytes()),
-        None => None,
-    };
-    let named = variable(reach.rt, "GIT_PROTOCOL_FROM_USER");
-    let named = match &named {
-        Some(word) => Some(word.as_bytes()),
-        None => None,
-    };
-    match is_allowed(alloc, name, reach.settings, list, is_from_user(named))? {
-        Some(true) => Ok(()),
-        Some(false) => Err(Trouble::of_word(alloc, "this transport is not allowed:", name)),
-        None => Err(Trouble::of_word(alloc, "unknown value for the policy of the protocol", name)),
-    }
+    let from_user = variable(reach.rt, "GIT_PROTOCOL_FROM_USER");
+    check_allowed(
+        reach.rt.alloc(),
+        transport,
+        reach.settings,
+        bytes_of(&list),
+        bytes_of(&from_user),
+    )
 }
 
 // The user's command for ssh, and whether a shell reads it.
-fn ssh_program(reach: Reach<'_>) -> Result<(Vec<u8>, Program), Trouble> {
-    let alloc = reach.rt.alloc();
-    if let Some(text) = variable(reach.rt, "GIT_SSH_COMMAND") {
-        return Ok((Vec::from_slice(alloc, text.as_bytes())?, Program::Shell));
-    }
-    if let Some(text) = reach.settings.value(b"core.sshcommand") {
-        return Ok((Vec::from_slice(alloc, text)?, Program::Shell));
-    }
-    match variable(reach.rt, "GIT_SSH") {
-        Some(text) => Ok((Vec::from_slice(alloc, text.as_bytes())?, Program::Command)),
-        None => Ok((Vec::from_slice(alloc, b"ssh")?, Program::Command)),
-    }
+fn ssh_program(reach: Reach<'_>) -> Result<(Vec<u8>, Program), AllocError> {
+    let command = variable(reach.rt, "GIT_SSH_COMMAND");
+    let program = variable(reach.rt, "GIT_SSH");
+    ssh_by(
+        reach.rt.alloc(),
+        bytes_of(&command),
+        reach.settings.value(b"core.sshcommand"),
+        bytes_of(&program),
+    )
 }
 
 // The kind of ssh.
@@ -83,17 +77,28 @@ fn ssh_variant(
     program: Program,
 ) -> Result<Variant, Trouble> {
     let named = variable(reach.rt, "GIT_SSH_VARIANT");
-    let chosen = match &named {
-        Some(word) => Some(word.as_bytes()),
-        None => reach.settings.value(b"ssh.variant"),
-    };
-    let name = match program {
-        Program::Shell => first_word(command),
-        _ => command,
-    };
-    match variant_of(chosen, name) {
+    let setting = reach.settings.value(b"ssh.variant");
+    let variant = variant_by(bytes_of(&named), setting, program, command);
+    unless_auto(reach, shell, command, program, variant)
+}
+
+// The kind that is known, or else what the program shows of itself.
+fn unless_auto(
+    reach: Reach<'_>,
+    shell: &mut Shell,
+    command: &[u8],
+    program: Program,
+    variant: Variant,
+) -> Result<Variant, Trouble>
+    ensures known { variant ≢ Auto → result ≡ Ok variant }
+    ensures probed { variant ≡ Auto → IfOk result IsProbed }
+{
+    match variant {
         Variant::Auto => probe(reach, shell, command, program),
-        variant => Ok(variant),
+        Variant::Simple => Ok(Variant::Simple),
+        Variant::Ssh => Ok(Variant::Ssh),
+        Variant::Plink => Ok(Variant::Plink),
+        Variant::TortoisePlink => Ok(Variant::TortoisePlink),
     }
 }
 
@@ -103,7 +108,9 @@ fn probe(
     shell: &mut Shell,
     command: &[u8],
     program: Program,
-) -> Result<Variant, Trouble> {
+) -> Result<Variant, Trouble>
+    ensures { IfOk result IsProbed }
+{
     let host = reach.address.host.as_bytes();
     let sends_version = version_word(reach.version).is_some();
     let words = probe_words(
@@ -115,11 +122,7 @@ fn probe(
     )?;
     let words = taken(words)?;
     let told = shell.tell(reach.rt, Task::Probe, program, NOTHING, &[], &words)?;
-    if told.status == 0 {
-        Ok(Variant::Ssh)
-    } else {
-        Ok(Variant::Simple)
-    }
+    Ok(probed(told.status))
 }
 
 // The port that the URL names.
@@ -172,11 +175,8 @@ fn start_socket(reach: Reach<'_>, shell: &mut Shell) -> Result<(), Trouble> {
     let port = port_of(reach).unwrap_or(b"9418");
     let host = reach.address.host.as_bytes();
     let chosen = variable(reach.rt, "GIT_PROXY_COMMAND");
-    let chosen = match &chosen {
-        Some(command) => Some(command.as_bytes()),
-        None => None,
-    };
-    match proxy_for(reach.settings, chosen, reach.address.authority.as_bytes()) {
+    let authority = reach.address.authority.as_bytes();
+    match proxy_for(reach.settings, bytes_of(&chosen), authority) {
         Some(command) => {
             let words = owned(alloc, &[command, host, port])?;
             start(reach, shell, Program::Command, &words)
@@ -238,19 +238,9 @@ fn start_with(
 }
 
 // What is sent first to a server that listens.
-fn opening_of(reach: Reach<'_>) -> Result<Option<Opening>, Trouble> {
-    let alloc = reach.rt.alloc();
-    if reach.address.transport != Transport::Git {
-        return Ok(None);
-    }
-    let host = match variable(reach.rt, "GIT_OVERRIDE_VIRTUAL_HOST") {
-        Some(host) => BString::from_slice(alloc, host.as_bytes())?,
-        None => reach.address.authority.clone()?,
-    };
-    Ok(Some(Opening {
-        path: reach.address.path.clone()?,
-        host: Some(host),
-    }))
+fn opening_of(reach: Reach<'_>) -> Result<Option<Opening>, AllocError> {
+    let host = variable(reach.rt, "GIT_OVERRIDE_VIRTUAL_HOST");
+    opening_by(reach.rt.alloc(), reach.address, bytes_of(&host))
 }
 
 // What a server says, over the pipe from it.

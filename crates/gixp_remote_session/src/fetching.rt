@@ -1,4 +1,7 @@
 //! One fetch of objects by their ids.
+ghost use Rattle.std.specs.Prelude.{◌≡◌};
+ghost use Rattle.gixp_remote_session.specs.Leaving.{was_left};
+
 use crate::boundary::{boundary_of, change_boundary, lock_boundary};
 use crate::bounded::forget;
 use crate::checks::checks_of;
@@ -112,12 +115,14 @@ fn fetch_by(
 }
 
 // Whether a fetch failed since the server had left, before a pack came. A web server is asked anew by each request.
-fn was_left(reach: Reach<'_>, came: &Result<Came, Trouble>, shell: &Shell) -> bool {
+fn was_left(reach: Reach<'_>, came: &Result<Came, Trouble>, shell: &Shell) -> bool
+    ensures { result ≡ was_left came.now shell.now.pack reach.entry.address.now.transport }
+{
     match came {
-        Err(Trouble::Fetch(Failure::HungUp)) => {
-            shell.pack == PackState::Unbegun && !reach.address.transport.is_web()
+        Ok(_) => false,
+        Err(e) => {
+            e.is_hang_up() && shell.pack == PackState::Unbegun && !reach.address.transport.is_web()
         }
-        _ => false,
     }
 }
 

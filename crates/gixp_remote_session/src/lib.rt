@@ -4,6 +4,7 @@
 mod boundary;
 mod bounded;
 mod checks;
+mod chosen;
 mod connect;
 mod fetching;
 mod history;

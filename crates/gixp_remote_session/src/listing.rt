@@ -1,14 +1,17 @@
 //! The refs of a server, as git reads them from a remote helper.
-ghost use Rattle.std.specs.Prelude.{◌≡◌, ◌++◌, OnOk};
+ghost use Rattle.std.specs.Prelude.{◌≡◌, ◌||◌, ◌∷◌, [], ◌++◌, ℕ, List, flat_map, map, IfOk, OnOk};
 ghost use Rattle.std.specs.List.{list_all};
 ghost use Rattle.std.specs.Option.{option_map};
+ghost use Rattle.std.specs.Str.{bytes_eq};
 ghost use Rattle.bstr.specs.Owned.{bstring_bytes};
 ghost use Rattle.gixp_remote_session.specs.RefLines.{is_plain, is_plain_byte, id_line, symbolic_line, object_lines, ref_lines};
+ghost use Rattle.gixp_remote_session.specs.RefLines.{has_text, holds, is_held, is_by_target, fitting_lines, funny_name, format_line, list_text};
 
 use bstr::BString;
 use gix_protocol::handshake::Ref;
 use gix_protocol::transport::ObjectId;
 use std::alloc::{AllocError, Global};
+use std::collections::BTreeSet;
 
 // Whether a byte is neither a blank nor a control character.
 fn is_plain_byte(byte: u8) -> bool
@@ -53,18 +56,33 @@ fn append_symbolic(text: &mut Vec<u8>, target: &[u8], name: &[u8]) -> Result<(),
     text.extend_from_slice(b"\n")
 }
 
-// The names of the refs that hold an object themselves, in order.
-fn holders(alloc: Global, refs: &[Ref]) -> Result<Vec<BString>, AllocError> {
-    let mut names = Vec::new(alloc);
-    for found in refs {
-        match found {
-            Ref::Peeled { full_ref_name, .. } | Ref::Direct { full_ref_name, .. } => {
-                names.push(full_ref_name.clone()?)?;
-            }
-            Ref::Symbolic { .. } | Ref::Unborn { .. } => {}
-        }
+// Adds a name to a set.
+fn add_text<'r>(names: &mut BTreeSet<&'r [u8]>, name: &'r [u8]) -> Result<(), AllocError>
+    ensures { OnOk result ((text : List ℕ) → has_text names.new text ≡ (has_text names.old text || bytes_eq text name.now)) }
+{
+    names.insert(name)?;
+    Ok(())
+}
+
+// Adds the name of a ref that holds an object itself.
+fn add_holder<'r>(names: &mut BTreeSet<&'r [u8]>, found: &'r Ref) -> Result<(), AllocError>
+    ensures { OnOk result ((text : List ℕ) → has_text names.new text ≡ (has_text names.old text || holds text found.now)) }
+{
+    match found {
+        Ref::Direct { full_ref_name, .. } => add_text(names, full_ref_name.as_bytes()),
+        Ref::Peeled { full_ref_name, .. } => add_text(names, full_ref_name.as_bytes()),
+        Ref::Symbolic { .. } | Ref::Unborn { .. } => Ok(()),
     }
-    names.sort()?;
+}
+
+// The names of the refs that hold an object themselves.
+fn holders(alloc: Global, refs: &[Ref]) -> Result<BTreeSet<&[u8]>, AllocError>
+    ensures { IfOk result (λ names. (text : List ℕ) → has_text names text ≡ is_held refs.now text) }
+{
+    let mut names = BTreeSet::new(alloc);
+    'refs: for found in refs {
+        add_holder(&mut names, found)?;
+    }
     Ok(names)
 }
 
@@ -117,9 +135,11 @@ fn append_ref(text: &mut Vec<u8>, found: &Ref, by_target: bool) -> Result<(), Al
 }
 
 // Whether a symbolic ref's target holds an object itself.
-fn is_held(found: &Ref, holders: &[BString]) -> bool {
+fn is_by_target(found: &Ref, holders: &BTreeSet<&[u8]>) -> bool
+    ensures { result ≡ is_by_target (has_text holders.now) found.now }
+{
     match found {
-        Ref::Symbolic { target, .. } => holders.binary_search(target).is_ok(),
+        Ref::Symbolic { target, .. } => holders.contains(target.as_bytes()),
         Ref::Direct { .. } | Ref::Peeled { .. } | Ref::Unborn { .. } => false,
     }
 }
@@ -133,25 +153,59 @@ pub(crate) struct RefsTold {
     pub(crate) funny: Vec<BString>,
 }
 
+// Adds the name of a ref.
+fn add_name(alloc: Global, names: &mut Vec<BString>, name: &[u8]) -> Result<(), AllocError>
+    ensures { OnOk result (map bstring_bytes names.new.items ≡ map bstring_bytes names.old.items ++ name.now ∷ []) }
+{
+    names.push(BString::from_slice(alloc, name)?)?;
+    Ok(())
+}
+
+// Adds the lines of a ref, or its name to those that are left out.
+fn tell_ref(
+    alloc: Global,
+    told: &mut RefsTold,
+    found: &Ref,
+    holders: &BTreeSet<&[u8]>,
+) -> Result<(), AllocError>
+    ensures text { OnOk result (told.new.text.items ≡ told.old.text.items ++ fitting_lines (has_text holders.now) found.now) }
+    ensures funny { OnOk result (map bstring_bytes told.new.funny.items ≡ map bstring_bytes told.old.funny.items ++ funny_name found.now) }
+{
+    if is_plain(found.name().as_bytes()) {
+        append_ref(&mut told.text, found, is_by_target(found, holders))
+    } else {
+        add_name(alloc, &mut told.funny, found.name().as_bytes())
+    }
+}
+
+// The line of the hash function, where git asks for it.
+fn format_line(alloc: Global, tells_format: bool) -> Result<Vec<u8>, AllocError>
+    ensures { IfOk result (λ text. text.items ≡ format_line tells_format) }
+{
+    if tells_format {
+        Vec::from_slice(alloc, b":object-format sha1\n")
+    } else {
+        Ok(Vec::new(alloc))
+    }
+}
+
 /// The lines of the refs, with the hash function where git asks for it, and the empty line after them.
 pub(crate) fn refs_told(
     alloc: Global,
     refs: &[Ref],
     tells_format: bool,
-) -> Result<RefsTold, AllocError> {
+) -> Result<RefsTold, AllocError>
+    ensures text { IfOk result (λ told. told.text.items ≡ list_text tells_format refs.now) }
+    ensures funny { IfOk result (λ told. map bstring_bytes told.funny.items ≡ flat_map funny_name refs.now) }
+{
     let holders = holders(alloc, refs)?;
-    let mut text = Vec::new(alloc);
-    let mut funny = Vec::new(alloc);
-    if tells_format {
-        text.extend_from_slice(b":object-format sha1\n")?;
+    let mut told = RefsTold {
+        text: format_line(alloc, tells_format)?,
+        funny: Vec::new(alloc),
+    };
+    'refs: for found in refs {
+        tell_ref(alloc, &mut told, found, &holders)?;
     }
-    for found in refs {
-        if is_plain(found.name().as_bytes()) {
-            append_ref(&mut text, found, is_held(found, &holders))?;
-        } else {
-            funny.push(BString::from_slice(alloc, found.name().as_bytes())?)?;
-        }
-    }
-    text.extend_from_slice(b"\n")?;
-    Ok(RefsTold { text, funny })
+    told.text.extend_from_slice(b"\n")?;
+    Ok(told)
 }

@@ -1,17 +1,20 @@
 //! The repository that fetches, as git shows it.
-ghost use Rattle.std.specs.Prelude.{◌≡◌, ◌++◌, [], true, codes, is_some, option_map, Some, None, IfOk, string_bytes};
+ghost use Rattle.std.specs.Prelude.{◌≡◌, ◌<◌, ◌==◌, ◌++◌, [], length, map, true, codes, is_some, option_map, Some, None, IfOk, IfErr, IfSome, MatchResult, string_bytes};
 ghost use Rattle.std.specs.FinMap as finite;
+ghost use Rattle.std.specs.List.{slice_split, position};
+ghost use Rattle.bstr.specs.BStr.{bstr_bytes};
+ghost use Rattle.gixp_remote_session.specs.ShownRefs.{id_and_name, shown_in, objects_shown, IsUnshown, with_shown, kind_shown};
 ghost use Rattle.gixp_remote_session.specs.Troubles.{TellsOther};
 
 use crate::shell::Shell;
 use crate::trouble::Trouble;
-use bstr::ByteSlice;
+use bstr::{BStr, ByteSlice};
 use gix_protocol::fetch::negotiate::{ObjectKind, StoredObjects, StoredRefs, TextError};
 use gix_protocol::fetch::shallow_ids;
 use gix_protocol::transport::ObjectId;
 use gixp_fetch_session::repository::{Repository, tips_of};
 use gixp_remote_rules::Question;
-use std::alloc::Global;
+use std::alloc::{AllocError, Global};
 use std::fs;
 use std::io::ErrorKind;
 
@@ -88,24 +91,76 @@ fn unread(_e: TextError) -> Trouble
     Trouble::Other("the repository can't be read")
 }
 
+// The lines of a text, without their ends.
+fn lines_of(alloc: Global, text: &[u8]) -> Result<Vec<BStr<'_>>, AllocError>
+    ensures { IfOk result (λ lines. map bstr_bytes lines.items ≡ slice_split (λ b. b == 10) text.now) }
+{
+    text.split(|b| *b == b'\n').map(BStr::new).collect(alloc)
+}
+
+// Where the first blank stands.
+fn blank_in(line: &[u8]) -> Option<usize>
+    ensures place { result ≡ position (λ b. b == 32) line.now }
+    ensures within { IfSome result (λ at. at < length line.now) }
+{
+    line.iter().position(|b| *b == b' ')
+}
+
+// What stands before the first blank of a line, and the name behind it.
+fn id_and_name(line: &[u8]) -> Option<(&[u8], &[u8])>
+    ensures { option_map (λ shown. (shown.0.now, shown.1.now)) result ≡ id_and_name line.now }
+{
+    match blank_in(line) {
+        Some(at) => Some((&line[..at], &line[at + 1..])),
+        None => None,
+    }
+}
+
+// The kind of an object, by whether it is a tag.
+fn kind_of(is_tag: bool) -> ObjectKind
+    ensures { result ≡ kind_shown is_tag }
+{
+    if is_tag {
+        ObjectKind::Tag
+    } else {
+        ObjectKind::Commit
+    }
+}
+
+// Adds the object of a line, by whether it is a tag.
+fn add_shown(
+    objects: &mut StoredObjects,
+    shown: (&[u8], &[u8]),
+    is_tag: bool,
+) -> Result<(), Trouble>
+    ensures { MatchResult result (λ _. with_shown objects.old (shown.entry.0.now, shown.entry.1.now) is_tag ≡ Some objects.new)
+        (IsUnshown (with_shown objects.old (shown.entry.0.now, shown.entry.1.now) is_tag)) }
+{
+    match ObjectId::from_hex(shown.0) {
+        Ok(id) => {
+            objects.add(id, kind_of(is_tag))?;
+            Ok(())
+        }
+        Err(_) => Err(Trouble::Other("the repository can't be read")),
+    }
+}
+
 // The objects that refs hold, by the lines of `git show-ref -d`: after a tag comes the object that it leads to.
-fn objects_of(alloc: Global, text: &[u8]) -> Result<StoredObjects, Trouble> {
+fn objects_of(alloc: Global, text: &[u8]) -> Result<StoredObjects, Trouble>
+    ensures shown { IfOk result (λ objects. objects_shown (shown_in text.now) ≡ Some objects) }
+    ensures unshown { IfErr result (IsUnshown (objects_shown (shown_in text.now))) }
+{
+    let mut lines = lines_of(alloc, text)?;
     let mut objects = StoredObjects::new(alloc);
-    let mut behind_tag = false;
-    for line in text.rsplit(|b| *b == b'\n') {
-        let Some((id, name)) = line.split_once_str(b" ") else {
+    let mut is_tag = false;
+    'lines: while let Some(line) = lines.pop() {
+        let Some(shown) = id_and_name(line.as_bytes()) else {
             continue;
         };
-        let Ok(id) = ObjectId::from_hex(id) else {
-            return Err(Trouble::Other("the repository can't be read"));
-        };
-        let kind = if behind_tag {
-            ObjectKind::Tag
-        } else {
-            ObjectKind::Commit
-        };
-        objects.add(id, kind)?;
-        behind_tag = name.ends_with(b"^{}");
+        match add_shown(&mut objects, shown, is_tag) {
+            Ok(()) => is_tag = shown.1.ends_with(b"^{}"),
+            Err(e) => return Err(e),
+        }
     }
     Ok(objects)
 }

@@ -10,7 +10,7 @@ ghost use Rattle.gixp_remote_session.specs.Wanted.{wanted};
 
 use crate::connect::Reach;
 use crate::local::{new_repository, repository};
-use crate::setup::{haves_of, variable};
+use crate::setup::{bytes_of, haves_of, variable};
 use crate::shell::{NOTHING, Shell};
 use crate::trouble::Trouble;
 use bstr::ByteSlice;
@@ -108,11 +108,7 @@ fn start_listing(
 ) -> Result<(), Trouble> {
     let alloc = order.reach.rt.alloc();
     let most = variable(order.reach.rt, "GIXP_COMMITS");
-    let most = match &most {
-        Some(most) => Some(most.as_bytes()),
-        None => None,
-    };
-    let words = listing_words(alloc, has_alternates, most)?;
+    let words = listing_words(alloc, has_alternates, bytes_of(&most))?;
     shell.ask(&Request::Start(Start {
         task: Task::Listing,
         program: Program::Git,

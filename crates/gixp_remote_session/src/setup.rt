@@ -1,5 +1,5 @@
 //! What the helper begins with: the URL, variables and settings.
-ghost use Rattle.std.specs.Prelude.{◌≡◌};
+ghost use Rattle.std.specs.Prelude.{◌≡◌, string_bytes};
 ghost use Rattle.std.specs.Option.{option_map};
 ghost use Rattle.gixp_remote_session.specs.UserChoices.{version_by, IsNamedHaves, haves_set};
 ghost use Rattle.gixp_remote_session.specs.Version.{protocol_of, version_word};
@@ -17,6 +17,16 @@ pub(crate) fn variable(rt: &HostRuntime, name: &str) -> Option<String> {
     match env::var(rt, name) {
         Ok(value) => Some(value),
         Err(_) => None,
+    }
+}
+
+/// Its bytes.
+pub(crate) fn bytes_of(value: &Option<String>) -> Option<&[u8]>
+    ensures { option_map (λ b. b.now) result ≡ option_map string_bytes value.now }
+{
+    match value {
+        Some(value) => Some(value.as_bytes()),
+        None => None,
     }
 }
 
@@ -65,11 +75,8 @@ pub(crate) fn settings_text(rt: &HostRuntime, shell: &mut Shell) -> Result<Vec<u
 
 /// The version of the protocol that is asked for.
 pub(crate) fn version_of(rt: &HostRuntime, settings: &Settings) -> Protocol {
-    let setting = settings.value(b"protocol.version");
-    match variable(rt, "GIXP_VERSION") {
-        Some(word) => version_by(Some(word.as_bytes()), setting),
-        None => version_by(None, setting),
-    }
+    let word = variable(rt, "GIXP_VERSION");
+    version_by(bytes_of(&word), settings.value(b"protocol.version"))
 }
 
 // The version that the variable names, or else the setting.

@@ -1,6 +1,8 @@
 //! Why the helper ends, and the sentence that says so.
 ghost use Rattle.std.specs.Prelude.{◌≡◌};
-ghost use Rattle.gixp_remote_session.specs.Troubles.{TellsWord, speaker_of};
+ghost use Rattle.std.specs.IoError.{error_kind};
+ghost use Rattle.gixp_remote_session.specs.Troubles.{TellsWord, speaker_of, is_hang_up};
+ghost use Rattle.gixp_remote_session.specs.declared.trouble.Trouble.TheVariants as trouble;
 
 use crate::web::NO_VERSION_2;
 use bstr::BString;
@@ -37,30 +39,40 @@ pub(crate) enum Trouble {
 }
 
 impl From<AllocError> for Trouble {
+    ghost from_gives = { λ _ e. e ≡ trouble.Memory };
+
     fn from(_e: AllocError) -> Trouble {
         Trouble::Memory
     }
 }
 
 impl<T: Drop> From<AllocFailed<T>> for Trouble {
+    ghost from_gives = { λ _ e. e ≡ trouble.Memory };
+
     fn from(_e: AllocFailed<T>) -> Trouble {
         Trouble::Memory
     }
 }
 
 impl From<Failure> for Trouble {
+    ghost from_gives = { λ failure e. e ≡ trouble.Fetch failure };
+
     fn from(e: Failure) -> Trouble {
         Trouble::Fetch(e)
     }
 }
 
 impl From<UrlError> for Trouble {
+    ghost from_gives = { λ error e. e ≡ trouble.Url error };
+
     fn from(e: UrlError) -> Trouble {
         Trouble::Url(e)
     }
 }
 
 impl From<io::Error> for Trouble {
+    ghost from_gives = { λ error e. e ≡ trouble.Io (error_kind error) };
+
     fn from(e: io::Error) -> Trouble {
         Trouble::Io(e.kind())
     }
@@ -74,6 +86,16 @@ impl Trouble {
         match BString::from_slice(alloc, word) {
             Ok(word) => Trouble::Word(why, word),
             Err(_) => Trouble::Memory,
+        }
+    }
+
+    /// Whether the server ended the connection within a step.
+    pub(crate) fn is_hang_up(&self) -> bool
+        ensures { result ≡ is_hang_up self.now }
+    {
+        match self {
+            Trouble::Fetch(Failure::HungUp) => true,
+            _ => false,
         }
     }
 

@@ -1,5 +1,12 @@
 //! A web server, by git's own program for it (gitremote-helpers, "stateless-connect"): that has TLS, proxies, cookies, redirects and
 //! accounts, and carries requests and answers of version 2.
+ghost use Rattle.std.specs.Prelude.{◌≡◌, [], true, Some, None, Err, IfOk, IfErr, OnOk, IfSome, MatchResult};
+ghost use Rattle.std.specs.Io.BufRead.{DropsThrough};
+ghost use Rattle.std.specs.Io.KnownBytes.{Appends};
+ghost use Rattle.gixp_remote_session.specs.WebServer.{without_end, reply_in, has_reply, IsUnheard, by_list, list_outcome, web_outcome, TellsOutcome};
+ghost use Rattle.gixp_remote_session.specs.WebServer.{option_asked, connect_asked, WasAsked, has_replied, behind_option, behind_replies};
+ghost use Rattle.gixp_remote_session.specs.declared.trouble.Trouble.TheVariants.{Told};
+
 use crate::trouble::Trouble;
 use std::alloc::Global;
 use std::io::{BufRead, Write};
@@ -8,15 +15,27 @@ use std::io::{BufRead, Write};
 pub(crate) const NO_VERSION_2: &str =
     "the server doesn't speak version 2 of the protocol, and over HTTP no other is spoken here";
 
-// A line that the program answers. Where it ended instead, it said why.
-fn reply<R: BufRead>(alloc: Global, from: &mut R) -> Result<Vec<u8>, Trouble> {
+// A line without its end. Where it has none, the program ended, and said why.
+fn whole(line: Vec<u8>) -> Result<Vec<u8>, Trouble>
+    ensures { MatchResult result (λ front. without_end line.items ≡ Some front.items)
+        (λ e. (e ≡ Told) × (without_end line.items ≡ None)) }
+{
+    let mut line = line;
+    match line.pop() {
+        Some(b'\n') => Ok(line),
+        _ => Err(Trouble::Told),
+    }
+}
+
+// A line that the program answers, without its end.
+fn reply<R: BufRead>(alloc: Global, from: &mut R) -> Result<Vec<u8>, Trouble>
+    ensures line { IfOk result (λ line. IfSome (R.remaining from.old) (λ bytes. reply_in bytes ≡ Some line.items)) }
+    ensures rest { OnOk result (DropsThrough (R.remaining from.old) (R.remaining from.new) 10) }
+    ensures unheard { IfErr result (IsUnheard has_reply (R.remaining from.old)) }
+{
     let mut line = Vec::new(alloc);
     from.read_until(b'\n', &mut line)?;
-    if line.pop() == Some(b'\n') {
-        Ok(line)
-    } else {
-        Err(Trouble::Told)
-    }
+    whole(line)
 }
 
 // Says a line, and hears the answer.
@@ -25,10 +44,55 @@ fn ask<R: BufRead, W: Write>(
     from: &mut R,
     to: &mut W,
     line: &[u8],
-) -> Result<Vec<u8>, Trouble> {
+) -> Result<Vec<u8>, Trouble>
+    ensures asked { OnOk result (Appends (W.contents to.old) (W.contents to.new) line.now) }
+    ensures line { IfOk result (λ answer. IfSome (R.remaining from.old) (λ bytes. reply_in bytes ≡ Some answer.items)) }
+    ensures rest { OnOk result (DropsThrough (R.remaining from.old) (R.remaining from.new) 10) }
+    ensures unheard { IfErr result (IsUnheard has_reply (R.remaining from.old)) }
+{
     to.write_all(line)?;
     to.flush()?;
     reply(alloc, from)
+}
+
+// Lets the program tell the user no more than git does.
+fn set_verbosity<R: BufRead, W: Write>(
+    alloc: Global,
+    from: &mut R,
+    to: &mut W,
+    is_quiet: bool,
+) -> Result<(), Trouble>
+    ensures asked { OnOk result (Appends (W.contents to.old) (W.contents to.new) (option_asked is_quiet)) }
+    ensures heard { OnOk result (IfSome (R.remaining from.old) (λ bytes. has_replied is_quiet bytes ≡ true)) }
+    ensures rest { OnOk result (IfSome (R.remaining from.old) (λ bytes. R.remaining from.new ≡ Some (behind_option is_quiet bytes))) }
+    ensures unheard { IfErr result (IsUnheard (has_replied is_quiet) (R.remaining from.old)) }
+{
+    if is_quiet {
+        ask(alloc, from, to, b"option verbosity 0\n")?;
+    }
+    Ok(())
+}
+
+// Why no requests are carried, by the first line of a list of refs.
+fn refusal_by(line: &[u8]) -> Trouble
+    ensures { TellsOutcome (λ _. by_list (Some line.now)) (Some []) (Err result) }
+{
+    if line.is_empty() {
+        Trouble::NoRefs
+    } else {
+        Trouble::Fatal(NO_VERSION_2)
+    }
+}
+
+// Why no requests are carried: of a server that speaks another version, the program lists the refs itself.
+fn refusal<R: BufRead, W: Write>(alloc: Global, from: &mut R, to: &mut W) -> Trouble
+    ensures outcome { TellsOutcome list_outcome (R.remaining from.old) (Err result) }
+    ensures asked { WasAsked [] (W.contents to.old) (W.contents to.new) (Err result) }
+{
+    match ask(alloc, from, to, b"list\n") {
+        Ok(line) => refusal_by(&line),
+        Err(e) => e,
+    }
 }
 
 /// Has the program carry requests to the server: an empty line says that it does.
@@ -37,18 +101,16 @@ pub(crate) fn connect_stateless<R: BufRead, W: Write>(
     from: &mut R,
     to: &mut W,
     is_quiet: bool,
-) -> Result<(), Trouble> {
-    if is_quiet {
-        ask(alloc, from, to, b"option verbosity 0\n")?;
-    }
-    let answer = ask(alloc, from, to, b"stateless-connect git-upload-pack\n")?;
-    if answer.is_empty() {
-        return Ok(());
-    }
-    // of a server that doesn't, it lists the refs itself: an empty line ends them
-    if ask(alloc, from, to, b"list\n")?.is_empty() {
-        Err(Trouble::NoRefs)
+) -> Result<(), Trouble>
+    ensures outcome { TellsOutcome (web_outcome is_quiet) (R.remaining from.old) result }
+    ensures asked { WasAsked (connect_asked is_quiet) (W.contents to.old) (W.contents to.new) result }
+    ensures rest { OnOk result (IfSome (R.remaining from.old) (λ bytes. R.remaining from.new ≡ Some (behind_replies is_quiet bytes))) }
+{
+    set_verbosity(alloc, from, to, is_quiet)?;
+    let line = ask(alloc, from, to, b"stateless-connect git-upload-pack\n")?;
+    if line.is_empty() {
+        Ok(())
     } else {
-        Err(Trouble::Fatal(NO_VERSION_2))
+        Err(refusal(alloc, from, to))
     }
 }

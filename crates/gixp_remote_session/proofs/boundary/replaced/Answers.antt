@@ -1,0 +1,13 @@
+-- Whether the ids are those of the old boundary.
+use Rattle.std.proofs.Common.{◌∙◌, sym}
+use Rattle.gixp_remote_session.proofs.BoundaryLemmas.{same_ids}
+use Rattle.gixp_remote_session.proofs.boundary.replaced.Goals as goal
+
+pub returns-then-eq : goal.returns-then-eq
+returns-then-eq c = (same_ids c.args.ids.now c.args.old.now c.eq.result c.eq.ensures).0 c.if-eq.true
+
+pub returns-in_ok-from_slice : goal.returns-in_ok-from_slice
+returns-in_ok-from_slice c =
+    let made = c.in_ok-from_slice.ensures.items in
+    let tells = same_ids c.args.ids.now c.args.old.now c.eq.result c.eq.ensures in
+    (made, λ e. let t = tells.1 (sym made ∙ e) in let f = c.if-eq.false in cc)
